@@ -1,0 +1,3 @@
+pub mod Value
+pub mod Constants
+pub mod ValueExamples
