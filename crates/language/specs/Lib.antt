@@ -1,3 +1,12 @@
 pub mod Value
 pub mod Constants
 pub mod ValueExamples
+pub mod Characters
+pub mod Kinds
+pub mod Words
+pub mod Scan
+pub mod Lines
+pub mod WordStage
+pub mod WordExamples
+pub mod Tree
+pub mod Grammar

@@ -1,0 +1,90 @@
+-- Words, columns and their faults, computed.
+use mathlib.Core.Bool.{true, false}
+use mathlib.Core.List.{List, [], _∷_}
+use mathlib.Core.Option.{none, some}
+use mathlib.Core.Path.{_≡_, refl}
+use Prim.Native.Nat.{ℕ}
+use lib.ListN.{replicate}
+use Rattle.language.specs.Characters.{classOf, digitWorth, folded, member, symbols}
+use Rattle.language.specs.Constants.{bareConstant, bareLargest, bareLength, binaryConstant, decimalConstant, digitsAfter, leftJustified, rightJustified}
+use Rattle.language.specs.Kinds.{delayedSign, gotoSign, registerWord, sumSign}
+use Rattle.language.specs.Lines.{longLines, longestLine, passes, widthAfter}
+use Rattle.language.specs.Scan.{bareAt, binaryAt, bytes, commentAt, constantAt, decimalAt, digitBits, digitsOf, itemAt, longestName, nameAt, reservedAmong, reservedWords, same, span, spelledSymbols, symbolAmong, written}
+use Rattle.language.specs.Value.{longest, value}
+use Rattle.language.specs.WordStage.{before, least, scan, scanFrom, wordFault, wordFaults}
+use Rattle.language.specs.Words.{Word, constant, fault, name, position, sign}
+
+-- What the examples see through.
+unfoldable pub words-open : Unit {0}
+unfolding bytes classOf digitWorth folded member symbols bareConstant bareLargest bareLength binaryConstant decimalConstant digitsAfter leftJustified rightJustified longLines longestLine passes widthAfter bareAt binaryAt commentAt constantAt decimalAt digitBits digitsOf itemAt longestName nameAt reservedAmong reservedWords same span spelledSymbols symbolAmong longest before least scan scanFrom wordFault wordFaults
+words-open = tt
+
+-- `A<-B` always has the word `<-`, and letters match without regard to case.
+arrow : scan (bytes "a<-B") .words ≡ name (bytes "A") (position 0) ∷ sign delayedSign (position 1) ∷ name (bytes "B") (position 3) ∷ []
+unfolding words-open
+arrow = refl
+
+-- A reserved word in either case; a comment ends a word, and the line ends a comment.
+reserved : scan (bytes "Reg\"x\"ister reGister\"REGISTER\n(+)") .words
+    ≡ name (bytes "REG") (position 0) ∷ name (bytes "ISTER") (position 6) ∷ sign registerWord (position 12) ∷ sign sumSign (position 30) ∷ []
+unfolding words-open
+reserved = refl
+
+-- `8B102` is `8B10` and then `2`; `12AB` is `12` and then `AB`.
+split-digits : scan (bytes "8B102 12AB") .words
+    ≡ constant (written false (value 8 2)) (position 0) ∷ constant (written true (value 16 2)) (position 4) ∷ constant (written true (value 16 12)) (position 6) ∷ name (bytes "AB") (position 8) ∷ []
+unfolding words-open
+split-digits = refl
+
+-- Refusal 5: no digit after the base, length 0 or above 256, a bare value above 65,535.
+no-digit : wordFault (bytes "A 1DO") ≡ some (fault (position 2) 5)
+unfolding words-open
+no-digit = refl
+
+no-period : wordFault (bytes "8D.5") ≡ some (fault (position 0) 5)
+unfolding words-open
+no-period = refl
+
+length-zero : wordFault (bytes " 0D1") ≡ some (fault (position 1) 5)
+unfolding words-open
+length-zero = refl
+
+length-257 : wordFault (bytes "256D1 257D1") ≡ some (fault (position 6) 5)
+unfolding words-open
+length-257 = refl
+
+bare-65536 : wordFault (bytes "65535 65536") ≡ some (fault (position 6) 5)
+unfolding words-open
+bare-65536 = refl
+
+-- Refusal 2: a character that is not allowed; inside a comment every byte is.
+not-allowed : wordFault (bytes "A \"!\"\n!") ≡ some (fault (position 6) 2)
+unfolding words-open
+not-allowed = refl
+
+-- A tab at column 129 passes column 132, one at column 128 does not.
+tab-129 : longLines 128 7 (9 ∷ []) ≡ fault (position 7) 2 ∷ []
+unfolding words-open
+tab-129 = refl
+
+tab-128 : longLines 127 7 (9 ∷ []) ≡ []
+unfolding words-open
+tab-128 = refl
+
+-- 132 columns and CR LF are a line; a lone CR takes a column.
+line-end : longLines 132 7 (13 ∷ 10 ∷ []) ≡ []
+unfolding words-open
+line-end = refl
+
+lone-return : longLines 132 7 (13 ∷ 32 ∷ []) ≡ fault (position 7) 2 ∷ []
+unfolding words-open
+lone-return = refl
+
+-- A name of 133 letters is refused as 4, one of 132 is not; the least place answers, and at one place the least number.
+name-133 : wordFault (replicate 132 65) ≡ none
+unfolding words-open
+name-133 = refl
+
+name-132 : wordFault (32 ∷ replicate 133 65) ≡ some (fault (position 1) 4)
+unfolding words-open
+name-132 = refl
