@@ -1,106 +1,15 @@
--- The grammar: the manual's Appendix B as 01 narrows it ("The language taken"). `Is n ws t`: the words ws are an n, and t is its tree. A constructor for each rule.
-use mathlib.Core.Bool.{Bool, true, false, _||_}
+-- The grammar: the manual's Appendix B as 01 narrows it. `Is n ws t`: the words ws are an n, and t is its tree. A constructor for each rule, no parser.
+use mathlib.Core.Bool.{true}
 use mathlib.Core.List.{List, [], _∷_, _++_}
 use mathlib.Core.Option.{Option, none, some}
 use mathlib.Core.Path.{_≡_}
 use Prim.Native.Nat.{ℕ}
-use lib.Dec.{eqb}
-use Rattle.language.specs.Constants.{bareConstant}
-use Rattle.language.specs.Kinds.{atLeastSign, atMostSign, atSign, callSign, caseWord, closeBracket, closeParen, colon, comma, conWord, controlWord, delayedSign, differenceSign, doWord, dollar, elseWord, endCaseWord, endIfWord, endWord, equalSign, equalsSign, exclusiveSign, extWord, gotoSign, greaterSign, hash, headWord, ifWord, inputWord, lessSign, memoryWord, minus, openBracket, openParen, operationWord, period, plus, redWord, registerWord, returnWord, slash, star, sumSign, tailWord, terminalWord, thenWord}
-use Rattle.language.specs.Tree.{Actions, Declaration, Ends, Expression, Extent, Function, Kind, Label, Left, Name, Operation, State, StateValue, Text, binary, choice, computed, constant, cut, firstArm, fromInput, given, input, memory, nextArm, one, part, pair, plain, prefix, register, row, sequencing, table, two, unspecified, whole, wordPart}
+use Rattle.language.specs.Kinds.{atSign, callSign, caseWord, closeBracket, closeParen, colon, comma, conWord, controlWord, differenceSign, doWord, dollar, elseWord, endCaseWord, endIfWord, equalSign, exclusiveSign, gotoSign, hash, ifWord, inputWord, memoryWord, minus, openBracket, openParen, operationWord, plus, redWord, registerWord, returnWord, slash, star, terminalWord, thenWord}
+use Rattle.language.specs.Notions.{AtMostOne, Notion, Section, Tree, actionList, actions, adjustment, arithmetic, arms, betweenSubscripts, booleanExp, chain, complement, controlSection, declaration, declared, dimensions, dollarOption, ending, ends, endsSection, expression, expressionArms, extent, facilities, facility, facilityOf, firstPlace, inOperation, inState, isArithmetic, isCut, isReduction, isRelation, isStore, label, left, leftSide, memoryOption, memorySection, memorySpec, memorySpecs, minterm, moreArms, nothing, oneBound, operationDefs, operationOf, operationSection, operations, optionalEnding, pairOf, product, range, reduction, reference, registerSection, registerSpec, registerSpecs, relation, rest, stateDef, stateDefs, stateLabel, stateOf, states, term, terminalOption, terminalSection, terminalSpec, terminalSpecs, text, wholeText}
 use Rattle.language.specs.Tree as T
+use Rattle.language.specs.Tree.{Actions, Declaration, Ends, Expression, Extent, Label, Left, Name, Operation, State, StateValue, binary, choice, computed, constant, cut, firstArm, fromInput, given, input, memory, nextArm, one, pair, part, plain, prefix, register, row, sequencing, table, two, unspecified, whole, wordPart}
 use Rattle.language.specs.Words as W
 use Rattle.language.specs.Words.{Constant, Position, Word, sign}
-
--- What a notion of the grammar has for a tree.
-pub data Tree : Type 0 where
-  expression : Expression → Tree
-  left : Left → Tree
-  actions : Actions → Tree
-  ends : Ends → Tree
-  extent : Extent → Tree
-  function : Function → Tree
-  facility : Declaration → Tree
-  facilities : List Declaration → Tree
-  declared : List Declaration → List Declaration → List Declaration → Tree
-  operations : List Operation → Tree
-  label : Option Label → Option StateValue → Tree
-  states : List State → Tree
-  text : Text → Tree
-  nothing : Tree
-
--- Actions stand in an operation or in a state.
-pub data Section : Type 0 where
-  inOperation inState : Section
-
--- The notions, in the manual's words.
-pub data Notion : Type 0 where
-  reference booleanExp minterm product complement chain reduction adjustment relation arithmetic term expressionArms : Notion
-  range dimensions : Notion
-  leftSide : Notion
-  actionList rest arms moreArms : Section → Notion
-  registerSpec memorySpec terminalSpec registerSpecs memorySpecs terminalSpecs : Notion
-  registerSection memorySection terminalSection memoryOption terminalOption declaration : Notion
-  operationDefs operationSection : Notion
-  stateLabel stateDef stateDefs controlSection : Notion
-  ending optionalEnding dollarOption wholeText : Notion
-
--- ---- The words that a rule has a choice of.
-
-abbrev pub isRelation : ℕ → Bool
-isRelation k = eqb k equalsSign || eqb k hash || eqb k lessSign || eqb k greaterSign || eqb k atMostSign || eqb k atLeastSign
-
-abbrev pub isArithmetic : ℕ → Bool
-isArithmetic k = eqb k sumSign || eqb k differenceSign
-
-abbrev pub isReduction : ℕ → Bool
-isReduction k = eqb k plus || eqb k star || eqb k exclusiveSign || eqb k sumSign
-
-abbrev pub isCut : ℕ → Bool
-isCut k = eqb k headWord || eqb k tailWord || eqb k extWord
-
-abbrev pub isStore : ℕ → Bool
-isStore k = eqb k delayedSign || eqb k equalSign
-
-abbrev pub endsSection : ℕ → Bool
-endsSection k = eqb k period || eqb k endWord
-
-abbrev pub betweenSubscripts : Position → Position → List Word
-betweenSubscripts p q = sign closeBracket p ∷ sign openBracket q ∷ []
-
-abbrev pub pairOf : Constant → Position → Constant → Position → Ends
-pairOf c p d q = record { first = c; firstAt = p; last = d; lastAt = q }
-
--- A first bound that is left out is one (the manual, 4.1); it is never at fault.
-abbrev pub oneBound : Constant
-oneBound = record { bare = true; value = bareConstant (1 ∷ []) }
-
-abbrev pub facilityOf : Kind → Name → Position → Extent → Function → Declaration
-facilityOf k n p x f = record { kind = k; name = n; at = p; extent = x; function = f }
-
--- A terminal is plain, input or computed, by its function.
-abbrev pub terminalKind : Function → Kind
-terminalKind unspecified = plain
-terminalKind fromInput = input
-terminalKind (given p e) = computed
-
-abbrev pub operationOf : Name → Position → Actions → Operation
-operationOf n p a = record { name = n; at = p; body = a }
-
-abbrev pub stateOf : Position → Option Label → Option StateValue → Actions → State
-stateOf p l v a = record { at = p; label = l; value = v; actions = a }
-
-abbrev pub firstPlace : List Word → Position → Position
-firstPlace [] p = p
-firstPlace (w ∷ ws) p = W.wordAt w
-
--- A terminal with a function has at most one dimension.
-abbrev pub AtMostOne : Extent → Type 0
-AtMostOne T.single = Unit {0}
-AtMostOne (row x) = Unit {0}
-AtMostOne (table x y) = ⊥
-
--- ---- The rules.
 
 pub data Is : Notion → List Word → Tree → Type 0 where
   -- identifier-ref (5.1.1); X[e][e] and X[e][c:d] stand for X[e,e] and X[e,c:d]

@@ -9,4 +9,11 @@ pub mod Lines
 pub mod WordStage
 pub mod WordExamples
 pub mod Tree
+pub mod Notions
 pub mod Grammar
+pub mod Building
+pub mod Declaring
+pub mod Machine
+pub mod Ways
+pub mod Sections
+pub mod GrammarExamples

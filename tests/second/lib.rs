@@ -1,0 +1,34 @@
+//! A second simulator for DDL-P, written from the papers alone: reading a
+//! text in its stages, opening a run, carrying out cycles.
+
+mod actions;
+pub mod bytes;
+pub mod description;
+pub mod evaluate;
+mod expressions;
+mod grammar;
+mod lengths;
+pub mod refusal;
+mod rules;
+pub mod step;
+pub mod trace;
+pub mod value;
+pub mod words;
+mod work;
+
+pub use bytes::store_bytes;
+pub use description::Description;
+pub use refusal::Refusal;
+pub use step::{cycle, cycle_bytes, open, Outcome, Run};
+
+const TEXT: usize = 32_768;
+
+/// The stages in turn; the earliest with a fault answers.
+pub fn read(text: &[u8]) -> Result<Description, Refusal> {
+    if text.len() > TEXT {
+        return Err(refusal::refusal(1, 0));
+    }
+    let words = words::words(text)?;
+    let outline = grammar::outline(&words, text.len())?;
+    rules::description(outline)
+}
