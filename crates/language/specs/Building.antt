@@ -5,6 +5,7 @@ use mathlib.Core.Option.{Option, none, some}
 use Prim.Native.Nat.{ℕ}
 use lib.ListN.{drop, getD}
 use Rattle.language.specs.Notions.{facilityOf, oneBound, pairOf}
+use Rattle.language.specs.Steps.{Step}
 use Rattle.language.specs.Tree as T
 use Rattle.language.specs.Tree.{Actions, Declaration, Ends, Expression, Extent, Function, Kind, Label, Left, Name, Operation, State, StateValue, Text}
 use Rattle.language.specs.Value.{value}
@@ -26,10 +27,6 @@ emptyText = record { registers = []; memories = []; terminals = []; operations =
 
 abbrev pub nothingBuilt : Built
 nothingBuilt = record { words = []; expressions = []; lefts = []; lists = []; ends = []; extents = []; states = []; text = emptyText }
-
--- A step of building: it sees where the next word stands.
-abbrev pub Step : Type 0
-Step = Position → Built → Built
 
 -- ---- What stands in a row; a row that is too short has these, which no step of a text meets.
 
@@ -103,44 +100,44 @@ madeOf m n e b = withWords (withExpressions b (e ∷ drop m (b .expressions))) (
 
 -- ---- Expressions.
 
-abbrev pub makeConstant : Step
+abbrev pub makeConstant : Step Built
 makeConstant p b = madeOf 0 1 (T.constant (constantOf (wordNo 0 b)) (wordAt (wordNo 0 b))) b
 
-abbrev pub makeWhole : Step
+abbrev pub makeWhole : Step Built
 makeWhole p b = madeOf 0 1 (T.whole (nameOf (wordNo 0 b)) (wordAt (wordNo 0 b))) b
 
-abbrev pub makeOne : Step
+abbrev pub makeOne : Step Built
 makeOne p b = madeOf 1 1 (T.one (nameOf (wordNo 0 b)) (wordAt (wordNo 0 b)) (expressionNo 0 b)) b
 
 -- The last two words kept, as ends.
 abbrev pub endsKept : Built → Ends
 endsKept b = pairOf (constantOf (wordNo 1 b)) (wordAt (wordNo 1 b)) (constantOf (wordNo 0 b)) (wordAt (wordNo 0 b))
 
-abbrev pub makePart : Step
+abbrev pub makePart : Step Built
 makePart p b = madeOf 0 3 (T.part (nameOf (wordNo 2 b)) (wordAt (wordNo 2 b)) (endsKept b)) b
 
-abbrev pub makeTwo : Step
+abbrev pub makeTwo : Step Built
 makeTwo p b = madeOf 2 1 (T.two (nameOf (wordNo 0 b)) (wordAt (wordNo 0 b)) (expressionNo 1 b) (expressionNo 0 b)) b
 
-abbrev pub makeWordPart : Step
+abbrev pub makeWordPart : Step Built
 makeWordPart p b = madeOf 1 3 (T.wordPart (nameOf (wordNo 2 b)) (wordAt (wordNo 2 b)) (expressionNo 0 b) (endsKept b)) b
 
-abbrev pub makeBinary : Step
+abbrev pub makeBinary : Step Built
 makeBinary p b = madeOf 2 1 (T.binary (kindOf (wordNo 0 b)) (wordAt (wordNo 0 b)) (expressionNo 1 b) (expressionNo 0 b)) b
 
-abbrev pub makePrefix : Step
+abbrev pub makePrefix : Step Built
 makePrefix p b = madeOf 1 1 (T.prefix (kindOf (wordNo 0 b)) (wordAt (wordNo 0 b)) (expressionNo 0 b)) b
 
-abbrev pub makeCut : Step
+abbrev pub makeCut : Step Built
 makeCut p b = madeOf 1 2 (T.cut (kindOf (wordNo 1 b)) (wordAt (wordNo 1 b)) (expressionNo 0 b) (constantOf (wordNo 0 b))) b
 
-abbrev pub makeFirstArm : Step
+abbrev pub makeFirstArm : Step Built
 makeFirstArm p b = madeOf 1 0 (T.firstArm (expressionNo 0 b)) b
 
-abbrev pub makeNextArm : Step
+abbrev pub makeNextArm : Step Built
 makeNextArm p b = madeOf 2 0 (T.nextArm (expressionNo 1 b) (expressionNo 0 b)) b
 
-abbrev pub makeChoice : Step
+abbrev pub makeChoice : Step Built
 makeChoice p b = madeOf 2 1 (T.choice (wordAt (wordNo 0 b)) (expressionNo 1 b) (expressionNo 0 b)) b
 
 -- ---- Actions. An action goes to the end of the last list.
@@ -168,47 +165,47 @@ dropWords n b = withWords b (drop n (b .words))
 abbrev pub dropExpressions : ℕ → Built → Built
 dropExpressions n b = withExpressions b (drop n (b .expressions))
 
-abbrev pub beginList : Step
+abbrev pub beginList : Step Built
 beginList p b = withLists b (T.done ∷ b .lists)
 
-abbrev pub makeSingle : Step
+abbrev pub makeSingle : Step Built
 makeSingle p b = dropExpressions 1 (withLefts b (T.single (expressionNo 0 b) ∷ b .lefts))
 
-abbrev pub makePair : Step
+abbrev pub makePair : Step Built
 makePair p b = dropExpressions 2 (withLefts b (T.pair (expressionNo 1 b) (expressionNo 0 b) ∷ b .lefts))
 
-abbrev pub makeStore : Step
+abbrev pub makeStore : Step Built
 makeStore p b =
     dropWords 1 (dropExpressions 1 (withLefts
     (putAction 0 (T.store (kindOf (wordNo 0 b)) (wordAt (wordNo 0 b)) (getD (b .lefts) 0 (T.single noExpression)) (expressionNo 0 b) T.done) b)
     (drop 1 (b .lefts))))
 
-abbrev pub makeSet : Step
+abbrev pub makeSet : Step Built
 makeSet p b = dropWords 1 (dropExpressions 1 (putAction 0 (T.set (wordAt (wordNo 0 b)) (expressionNo 0 b) T.done) b))
 
-abbrev pub makePerform : Step
+abbrev pub makePerform : Step Built
 makePerform p b = dropWords 1 (putAction 0 (T.perform (nameOf (wordNo 0 b)) (wordAt (wordNo 0 b)) T.done) b)
 
-abbrev pub makeGoto : Step
+abbrev pub makeGoto : Step Built
 makeGoto p b = dropWords 1 (putAction 0 (T.goto (nameOf (wordNo 0 b)) (wordAt (wordNo 0 b)) T.done) b)
 
-abbrev pub makeCall : Step
+abbrev pub makeCall : Step Built
 makeCall p b = dropWords 1 (putAction 0 (T.call (nameOf (wordNo 0 b)) (wordAt (wordNo 0 b)) T.done) b)
 
-abbrev pub makeReturn : Step
+abbrev pub makeReturn : Step Built
 makeReturn p b = dropWords 1 (putAction 0 (T.return (wordAt (wordNo 0 b)) T.done) b)
 
-abbrev pub makeWhen : Step
+abbrev pub makeWhen : Step Built
 makeWhen p b = dropWords 1 (dropExpressions 1 (putAction 1 (T.when (wordAt (wordNo 0 b)) (expressionNo 0 b) (listNo 0 b) T.done) b))
 
 -- IF with ELSE: its two lists are the arms.
-abbrev pub makeIf : Step
+abbrev pub makeIf : Step Built
 makeIf p b =
     dropWords 1 (dropExpressions 1
     (putAction 2 (T.choose (wordAt (wordNo 0 b)) (expressionNo 0 b) (T.arm (listNo 1 b) (T.arm (listNo 0 b) T.done)) T.done) b))
 
-abbrev pub makeArm : Step
+abbrev pub makeArm : Step Built
 makeArm p b = putAction 1 (T.arm (listNo 0 b) T.done) b
 
-abbrev pub makeChoose : Step
+abbrev pub makeChoose : Step Built
 makeChoose p b = dropWords 1 (dropExpressions 1 (putAction 1 (T.choose (wordAt (wordNo 0 b)) (expressionNo 0 b) (listNo 0 b) T.done) b))

@@ -6,20 +6,20 @@ use mathlib.Core.Path.{_≡_, refl}
 use Prim.Native.Nat.{ℕ}
 use Prim.Native.String.{String}
 use lib.ListN.{length}
-use Rattle.language.specs.Building.{expressionNo, joined, listNo, wordNo}
+use Rattle.language.specs.Building.{Built, expressionNo, joined, listNo, wordNo}
 use Rattle.language.specs.Machine.{Parsed, choose, deepest, feed, finish, mostCounted, mostFacilities, mostOperations, mostStates, parsed, refused, run, tallied, withinCeilings}
 use Rattle.language.specs.Scan.{bytes}
-use Rattle.language.specs.Sections.{parse, ruleOf}
+use Rattle.language.specs.Sections.{parse, parseWith, ruleOf}
 use Rattle.language.specs.WordExamples.{words-open}
 use Rattle.language.specs.WordStage.{scan}
 use Rattle.language.specs.Words.{Fault, fault, position}
 
 unfoldable pub grammar-open : Unit {0}
-unfolding words-open expressionNo joined listNo wordNo choose deepest feed finish mostCounted mostFacilities mostOperations mostStates run tallied withinCeilings parse ruleOf
+unfolding words-open expressionNo joined listNo wordNo choose deepest feed finish mostCounted mostFacilities mostOperations mostStates run tallied withinCeilings parse parseWith ruleOf
 grammar-open = tt
 
 -- The fault of the stage of grammar, of a text whose words are right.
-abbrev pub faultIn : Parsed → Option Fault
+abbrev pub faultIn : Parsed Built → Option Fault
 faultIn (parsed t) = none
 faultIn (refused f) = some f
 

@@ -11,9 +11,12 @@ pub mod WordExamples
 pub mod Tree
 pub mod Notions
 pub mod Grammar
+pub mod Steps
 pub mod Building
 pub mod Declaring
 pub mod Machine
+pub mod Alternatives
 pub mod Ways
 pub mod Sections
+pub mod Ceilings
 pub mod GrammarExamples

@@ -4,10 +4,10 @@ use mathlib.Core.List.{List, [], _∷_, _++_}
 use Prim.Native.Nat.{ℕ, suc, _+_, _-_}
 use lib.Dec.{eqb, leb}
 use lib.ListN.{drop}
-use Rattle.language.specs.Building.{Built, Step, keepWord, nameOf, nothingBuilt, wordNo}
+use Rattle.language.specs.Building.{nameOf}
 use Rattle.language.specs.Kinds.{aName}
 use Rattle.language.specs.Scan.{same}
-use Rattle.language.specs.Tree.{Text}
+use Rattle.language.specs.Steps.{Step, Steps}
 use Rattle.language.specs.Words.{Fault, Position, Word, fault, kindOf, position, wordAt}
 
 -- ---- Ceilings of this stage.
@@ -93,136 +93,136 @@ pub data Ask : Type 0 where
   sections afterRegisters afterMemories afterTerminals control dollarOption : Ask
 
 -- What may still come: a word of a kind, one that is kept, the declared name once more, what a notion asks for; and steps that take no word: a node is built, or a prefix operator's operand ends.
-pub data Sym : Type 0 where
-  word : ℕ → Bearing → Sym
-  keep : ℕ → Sym
-  again : Sym
-  ask : Ask → Sym
-  make : Step → Sym
-  ease : Sym
+pub data Sym (B : Type 0) : Type 0 where
+  word : ℕ → Bearing → Sym B
+  keep : ℕ → Sym B
+  again : Sym B
+  ask : Ask → Sym B
+  make : Step B → Sym B
+  ease : Sym B
 
 -- A way in which a notion may begin: the word; a step to take before it; whether it is kept; what it counts as; how it nests; whether it stands instead of the next symbol; and what then comes.
-pub record Alternative : Type 0 where
+pub record Alternative (B : Type 0) : Type 0 where
   pub on : ℕ
-  pub first : Step
+  pub first : Step B
   pub kept : Bool
   pub tallies : List Tally
   pub bearing : Bearing
   pub instead : Bool
-  pub to : List Sym
+  pub to : List (Sym B)
 
 -- What becomes of a notion where the word begins none of its ways: it must come; it may be left out with a step; or it may be left out and the word kept last counts as an operand or action.
-pub data Without : Type 0 where
-  must : Without
-  may : Step → Without
-  operand : Step → Without
+pub data Without (B : Type 0) : Type 0 where
+  must : Without B
+  may : Step B → Without B
+  operand : Step B → Without B
 
-pub record Rule : Type 0 where
-  pub ways : List Alternative
-  pub without : Without
+pub record Rule (B : Type 0) : Type 0 where
+  pub ways : List (Alternative B)
+  pub without : Without B
 
 -- ---- One word.
 
-pub record Reading : Type 0 where
-  pub built : Built
+-- What has been read: what was built of it, and the counts.
+pub record Reading (B : Type 0) : Type 0 where
+  pub built : B
   pub counts : Counts
 
-pub data Fed : Type 0 where
-  took : List Sym → Reading → Fed
-  wrong : Fault → Fed
+pub data Fed (B : Type 0) : Type 0 where
+  took : List (Sym B) → Reading B → Fed B
+  wrong : Fault → Fed B
 
-abbrev pub reading : Built → Counts → Reading
-reading b c = record { built = b; counts = c }
+-- What the whole text gives.
+pub data Parsed (B : Type 0) : Type 0 where
+  parsed : B → Parsed B
+  refused : Fault → Parsed B
 
 abbrev pub bears : Bearing → ℕ → ℕ
 bears level n = n
 bears opens n = suc n
 bears closes n = n - 1
 
--- The word at p is taken with these counts, unless one passes its ceiling.
-abbrev pub taken : Position → List Sym → Built → Counts → Fed
-taken p K b c = cond (withinCeilings c) (took K (reading b c)) (wrong (fault p 10))
+module _ {B : Type 0} (S : Steps B) where
+  abbrev pub reading : B → Counts → Reading B
+  reading b c = record { built = b; counts = c }
 
-abbrev pub keptIf : Bool → Word → Built → Built
-keptIf true w b = keepWord w b
-keptIf false w b = b
+  -- The word at p is taken with these counts, unless one passes its ceiling.
+  abbrev pub taken : Position → List (Sym B) → B → Counts → Fed B
+  taken p K b c = cond (withinCeilings c) (took K (reading b c)) (wrong (fault p 10))
 
-abbrev pub takeWay : Alternative → Word → List Sym → Reading → Fed
-takeWay a w K r =
-    taken (wordAt w) (a .to ++ cond (a .instead) (drop 1 K) K) (keptIf (a .kept) w (a .first (wordAt w) (r .built)))
-    (nested (bears (a .bearing) (r .counts .nesting)) (tallied (a .tallies) (r .counts)))
+  abbrev pub keptIf : Bool → Word → B → B
+  keptIf true w b = S .keepWord w b
+  keptIf false w b = b
 
-unfoldable pub choose : List Alternative → Word → List Sym → Reading → Fed → Fed
-choose [] w K r other = other
-choose (a ∷ rest) w K r other =
-    let next = choose rest w K r other in
-    let here = takeWay a w K r in
-    cond (eqb (kindOf w) (a .on)) here next
+  abbrev pub takeWay : Alternative B → Word → List (Sym B) → Reading B → Fed B
+  takeWay a w K r =
+      taken (wordAt w) (a .to ++ cond (a .instead) (drop 1 K) K) (keptIf (a .kept) w (a .first (wordAt w) (r .built)))
+      (nested (bears (a .bearing) (r .counts .nesting)) (tallied (a .tallies) (r .counts)))
 
-abbrev pub stuck : Word → Fed
-stuck w = wrong (fault (wordAt w) 3)
+  -- The first way that begins with the word, or else `other`.
+  unfoldable pub choose : List (Alternative B) → Word → List (Sym B) → Reading B → Fed B → Fed B
+  choose [] w K r other = other
+  choose (a ∷ rest) w K r other =
+      let next = choose rest w K r other in
+      let here = takeWay a w K r in
+      cond (eqb (kindOf w) (a .on)) here next
 
--- The word kept last counts.
-abbrev pub countKept : Reading → Counts
-countKept r = more counted (r .counts)
+  abbrev pub stuck : Word → Fed B
+  stuck w = wrong (fault (wordAt w) 3)
 
--- What becomes of a notion that is left out before w; `on` is how it goes on.
-abbrev pub leave : Without → Word → Reading → (Reading → Fed) → Fed
-leave must w r on = stuck w
-leave (may f) w r on = on (reading (f (wordAt w) (r .built)) (r .counts))
-leave (operand f) w r on =
-    let here = on (reading (f (wordAt w) (r .built)) (countKept r)) in
-    cond (withinCeilings (countKept r)) here (wrong (fault (wordAt (wordNo 0 (r .built))) 10))
+  -- The word kept last counts.
+  abbrev pub countKept : Reading B → Counts
+  countKept r = more counted (r .counts)
 
--- The name that the declaration at hand has: it was kept before the `=`.
-abbrev pub declaredName : Reading → List ℕ
-declaredName r = nameOf (wordNo 1 (r .built))
+  abbrev pub keptAt : Reading B → Position
+  keptAt r = wordAt (S .lastWord (r .built))
 
--- The text ended, at this place.
-pub data Parsed : Type 0 where
-  parsed : Text → Parsed
-  refused : Fault → Parsed
+  -- What becomes of a notion that is left out before w; `on` is how it goes on.
+  abbrev pub leave : Without B → Word → Reading B → (Reading B → Fed B) → Fed B
+  leave must w r on = stuck w
+  leave (may f) w r on = on (reading (f (wordAt w) (r .built)) (r .counts))
+  leave (operand f) w r on =
+      let here = on (reading (f (wordAt w) (r .built)) (countKept r)) in
+      cond (withinCeilings (countKept r)) here (wrong (fault (keptAt r) 10))
 
-abbrev pub leaveAtEnd : Without → ℕ → Reading → (Reading → Parsed) → Parsed
-leaveAtEnd must end r on = refused (fault (position end) 3)
-leaveAtEnd (may f) end r on = on (reading (f (position end) (r .built)) (r .counts))
-leaveAtEnd (operand f) end r on =
-    let here = on (reading (f (position end) (r .built)) (countKept r)) in
-    cond (withinCeilings (countKept r)) here (refused (fault (wordAt (wordNo 0 (r .built))) 10))
+  -- The same where the text ended.
+  abbrev pub leaveAtEnd : Without B → ℕ → Reading B → (Reading B → Parsed B) → Parsed B
+  leaveAtEnd must end r on = refused (fault (position end) 3)
+  leaveAtEnd (may f) end r on = on (reading (f (position end) (r .built)) (r .counts))
+  leaveAtEnd (operand f) end r on =
+      let here = on (reading (f (position end) (r .built)) (countKept r)) in
+      cond (withinCeilings (countKept r)) here (refused (fault (keptAt r) 10))
 
-module _ (rules : Ask → Rule) where
-  unfoldable pub feed : List Sym → Word → Reading → Fed
-  feed [] w r = stuck w
-  feed (word k b ∷ K) w r =
-      let here = taken (wordAt w) K (r .built) (nested (bears b (r .counts .nesting)) (r .counts)) in
-      cond (eqb (kindOf w) k) here (stuck w)
-  feed (keep k ∷ K) w r =
-      let here = took K (reading (keepWord w (r .built)) (r .counts)) in
-      cond (eqb (kindOf w) k) here (stuck w)
-  feed (again ∷ K) w r = cond (both (eqb (kindOf w) aName) (same (nameOf w) (declaredName r))) (took K r) (stuck w)
-  feed (make f ∷ K) w r = feed K w (reading (f (wordAt w) (r .built)) (r .counts))
-  feed (ease ∷ K) w r = feed K w (reading (r .built) (nested (r .counts .nesting - 1) (r .counts)))
-  feed (ask n ∷ K) w r =
-      let other = leave (rules n .without) w r (λ q. feed K w q) in
-      choose (rules n .ways) w K r other
+  module _ (rules : Ask → Rule B) where
+    unfoldable pub feed : List (Sym B) → Word → Reading B → Fed B
+    feed [] w r = stuck w
+    feed (word k b ∷ K) w r =
+        let here = taken (wordAt w) K (r .built) (nested (bears b (r .counts .nesting)) (r .counts)) in
+        cond (eqb (kindOf w) k) here (stuck w)
+    feed (keep k ∷ K) w r =
+        let here = took K (reading (S .keepWord w (r .built)) (r .counts)) in
+        cond (eqb (kindOf w) k) here (stuck w)
+    feed (again ∷ K) w r = cond (both (eqb (kindOf w) aName) (same (nameOf w) (S .declaredName (r .built)))) (took K r) (stuck w)
+    feed (make f ∷ K) w r = feed K w (reading (f (wordAt w) (r .built)) (r .counts))
+    feed (ease ∷ K) w r = feed K w (reading (r .built) (nested (r .counts .nesting - 1) (r .counts)))
+    feed (ask n ∷ K) w r =
+        let other = leave (rules n .without) w r (λ q. feed K w q) in
+        choose (rules n .ways) w K r other
 
-  unfoldable pub finish : List Sym → ℕ → Reading → Parsed
-  finish [] end r = parsed (r .built .text)
-  finish (word k b ∷ K) end r = refused (fault (position end) 3)
-  finish (keep k ∷ K) end r = refused (fault (position end) 3)
-  finish (again ∷ K) end r = refused (fault (position end) 3)
-  finish (make f ∷ K) end r = finish K end (reading (f (position end) (r .built)) (r .counts))
-  finish (ease ∷ K) end r = finish K end (reading (r .built) (nested (r .counts .nesting - 1) (r .counts)))
-  finish (ask n ∷ K) end r = leaveAtEnd (rules n .without) end r (λ q. finish K end q)
+    unfoldable pub finish : List (Sym B) → ℕ → Reading B → Parsed B
+    finish [] end r = parsed (r .built)
+    finish (word k b ∷ K) end r = refused (fault (position end) 3)
+    finish (keep k ∷ K) end r = refused (fault (position end) 3)
+    finish (again ∷ K) end r = refused (fault (position end) 3)
+    finish (make f ∷ K) end r = finish K end (reading (f (position end) (r .built)) (r .counts))
+    finish (ease ∷ K) end r = finish K end (reading (r .built) (nested (r .counts .nesting - 1) (r .counts)))
+    finish (ask n ∷ K) end r = leaveAtEnd (rules n .without) end r (λ q. finish K end q)
 
-  abbrev pub after : Fed → (List Sym → Reading → Parsed) → Parsed
-  after (took K r) on = on K r
-  after (wrong f) on = refused f
+    abbrev pub after : Fed B → (List (Sym B) → Reading B → Parsed B) → Parsed B
+    after (took K r) on = on K r
+    after (wrong f) on = refused f
 
-  -- The words of a text of `end` bytes, from a stack on.
-  unfoldable pub run : List Sym → List Word → ℕ → Reading → Parsed
-  run K [] end r = finish K end r
-  run K (w ∷ ws) end r = after (feed K w r) (λ L q. run L ws end q)
-
-abbrev pub atStart : Reading
-atStart = reading nothingBuilt noCounts
+    -- The words of a text of `end` bytes, from a stack on.
+    unfoldable pub run : List (Sym B) → List Word → ℕ → Reading B → Parsed B
+    run K [] end r = finish K end r
+    run K (w ∷ ws) end r = after (feed K w r) (λ L q. run L ws end q)

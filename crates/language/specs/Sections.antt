@@ -2,144 +2,146 @@
 use mathlib.Core.Bool.{true, false}
 use mathlib.Core.List.{List, [], _∷_, _++_, map}
 use Prim.Native.Nat.{ℕ}
-use Rattle.language.specs.Building.{beginList, makeConstant, makeNextArm, makeOne, makePart, makePerform, makeWhole, makeWordPart}
-use Rattle.language.specs.Declaring.{beginAtName, beginLabelled, beginUnlabelled, beginValued, makeBoth, makeComputed, makeInput, makeLast, makeMemory, makeNoDimension, makeOperation, makePlain, makeRegister, makeRow, makeSequencing, makeTable}
 use Rattle.language.specs.Kinds.{aConstant, aName, closeBracket, closeParen, colon, comma, controlWord, doWord, dollar, endWord, equalSign, hash, inputWord, memoryWord, openBracket, openParen, operationWord, period, registerWord, terminalWord}
-use Rattle.language.specs.Machine.{Alternative, Ask, Parsed, Rule, Sym, adjustment, afterConstant, afterMemories, afterRegisters, afterSecondConstant, afterSubscript, afterTerminals, again, andTail, arithmetic, arithmeticTail, ask, atStart, complement, conTail, control, cutTail, dimensionRest, dimensions, dollarOption, exclusiveTail, expression, facility, firstName, functionOf, keep, leftRest, level, make, may, memoryMore, memorySpec, minterm, moreArms, must, opens, operand, operandRest, operation, operationAction, operationArms, operationIfRest, operationMore, operationName, operationSpec, operationsMore, orTail, product, rangeRest, reduction, registerMore, registerSpec, relationTail, run, second, secondOption, secondEnd, secondRest, sections, sequencingSpec, setSign, state, stateAction, stateArms, stateBody, stateIfRest, stateMore, stateName, stateRest, stateStart, statesMore, storeSign, subscript, subscripts, term, terminalDimensions, terminalFunction, terminalMore, terminalRest, terminalSpec, word}
-use Rattle.language.specs.Ways.{adjustmentWays, afterStep, afterSubscriptWays, andWays, arithmeticTailWays, arithmeticWays, armWays, closing, colonInstead, complementWays, conWays, cutWays, endState, enter, exclusiveWays, expressionWays, followed, ifRestWays, kept, lead, leftWays, mintermWays, noStep, operationActionWays, operationList, orWays, plainWord, productWays, reductionWays, relationWays, restWays, secondEndWays, setWay, shut, signedStateWays, stateList, stateNameWays, storeWays, subscriptWays, termWays, way}
+use Rattle.language.specs.Alternatives.{afterStep, always, closing, enter, followed, kept, lead, noStep, optional, plainWord, shut, way}
+use Rattle.language.specs.Building.{Built, nothingBuilt}
+use Rattle.language.specs.Declaring.{treeSteps}
+use Rattle.language.specs.Machine.{noCounts, run, Alternative, Ask, Parsed, Rule, Sym, adjustment, afterConstant, afterMemories, afterRegisters, afterSecondConstant, afterSubscript, afterTerminals, again, andTail, arithmetic, arithmeticTail, ask, complement, conTail, control, cutTail, dimensionRest, dimensions, dollarOption, exclusiveTail, expression, facility, firstName, functionOf, keep, leftRest, level, make, may, memoryMore, memorySpec, minterm, moreArms, opens, operand, operandRest, operation, operationAction, operationArms, operationIfRest, operationMore, operationName, operationSpec, operationsMore, orTail, product, rangeRest, reduction, registerMore, registerSpec, relationTail, second, secondOption, secondEnd, secondRest, sections, sequencingSpec, setSign, state, stateAction, stateArms, stateBody, stateIfRest, stateMore, stateName, stateRest, stateStart, statesMore, storeSign, subscript, subscripts, term, terminalDimensions, terminalFunction, terminalMore, terminalRest, terminalSpec, word}
+use Rattle.language.specs.Ways.{adjustmentWays, afterSubscriptWays, andWays, arithmeticTailWays, arithmeticWays, armWays, colonInstead, complementWays, conWays, cutWays, endState, exclusiveWays, expressionWays, ifRestWays, leftWays, mintermWays, operationActionWays, operationList, orWays, productWays, reductionWays, relationWays, restWays, secondEndWays, setWay, signedStateWays, stateList, stateNameWays, storeWays, subscriptWays, termWays}
 use Rattle.language.specs.Words.{Word}
+use Rattle.language.specs.Steps.{Steps}
 
--- ---- Declarations (the manual, 4 and 6).
+module _ {B : Type 0} (S : Steps B) where
+  -- ---- Declarations (the manual, 4 and 6).
 
-abbrev facilityName : List Sym → Alternative
-facilityName to = way aName noStep true (facility ∷ []) level false to
+  abbrev facilityName : List (Sym B) → Alternative B
+  facilityName to = way aName noStep true (facility ∷ []) level false to
 
--- A declaration list goes on with a comma or ends with a period or END.
-abbrev moreWays : Ask → Ask → List Alternative
-moreWays spec more = lead comma (ask spec ∷ ask more ∷ []) ∷ lead period [] ∷ lead endWord [] ∷ []
+  -- A declaration list goes on with a comma or ends with a period or END.
+  abbrev moreWays : Ask → Ask → List (Alternative B)
+  moreWays spec more = lead comma (ask spec ∷ ask more ∷ []) ∷ lead period [] ∷ lead endWord [] ∷ []
 
-abbrev endingWays : List Sym → List Alternative
-endingWays to = lead period to ∷ lead endWord to ∷ []
+  abbrev endingWays : List (Sym B) → List (Alternative B)
+  endingWays to = lead period to ∷ lead endWord to ∷ []
 
-abbrev registerWay : Alternative
-registerWay = lead registerWord (ask registerSpec ∷ ask registerMore ∷ ask afterRegisters ∷ [])
+  abbrev registerWay : Alternative B
+  registerWay = lead registerWord (ask registerSpec ∷ ask registerMore ∷ ask afterRegisters ∷ [])
 
-abbrev memoryWay : Alternative
-memoryWay = lead memoryWord (ask memorySpec ∷ ask memoryMore ∷ ask afterMemories ∷ [])
+  abbrev memoryWay : Alternative B
+  memoryWay = lead memoryWord (ask memorySpec ∷ ask memoryMore ∷ ask afterMemories ∷ [])
 
-abbrev terminalWay : Alternative
-terminalWay = lead terminalWord (ask terminalSpec ∷ ask terminalMore ∷ ask afterTerminals ∷ [])
+  abbrev terminalWay : Alternative B
+  terminalWay = lead terminalWord (ask terminalSpec ∷ ask terminalMore ∷ ask afterTerminals ∷ [])
 
-abbrev operationWay : Alternative
-operationWay = lead operationWord (ask operationSpec ∷ ask operationsMore ∷ [])
+  abbrev operationWay : Alternative B
+  operationWay = lead operationWord (ask operationSpec ∷ ask operationsMore ∷ [])
 
-abbrev controlWay : Alternative
-controlWay = lead controlWord (ask stateStart ∷ ask statesMore ∷ ask dollarOption ∷ [])
+  abbrev controlWay : Alternative B
+  controlWay = lead controlWord (ask stateStart ∷ ask statesMore ∷ ask dollarOption ∷ [])
 
-abbrev afterTerminalWays : List Alternative
-afterTerminalWays = operationWay ∷ controlWay ∷ []
+  abbrev afterTerminalWays : List (Alternative B)
+  afterTerminalWays = operationWay ∷ controlWay ∷ []
 
--- T = INPUT ( c , T )
-abbrev inputWay : Alternative
-inputWay =
-    lead inputWord (word openParen opens ∷ plainWord aConstant ∷ plainWord comma ∷ again ∷ closing closeParen ∷ make makeInput ∷ [])
+  -- T = INPUT ( c , T )
+  abbrev inputWay : Alternative B
+  inputWay =
+      lead inputWord (word openParen opens ∷ plainWord aConstant ∷ plainWord comma ∷ again ∷ closing closeParen ∷ make S.makeInput ∷ [])
 
--- ---- States (the manual, 8.1). A state's first word counts it.
+  -- ---- States (the manual, 8.1). A state's first word counts it.
 
-abbrev stateActionWays : List Alternative
-stateActionWays = kept aName (ask stateName ∷ []) ∷ signedStateWays
+  abbrev stateActionWays : List (Alternative B)
+  stateActionWays = kept aName (ask stateName ∷ []) ∷ signedStateWays S
 
-abbrev labelledWays : List Alternative
-labelledWays = map (afterStep beginList []) (endState ∷ map (followed (ask stateRest ∷ [])) stateActionWays)
+  abbrev labelledWays : List (Alternative B)
+  labelledWays = map (afterStep S.beginActions []) ((endState S) ∷ map (followed (ask stateRest ∷ [])) stateActionWays)
 
-abbrev stateStartWays : List Alternative
-stateStartWays =
-    way aName noStep true (state ∷ []) level false (ask firstName ∷ ask stateRest ∷ [])
-    ∷ map (afterStep (λ p b. beginList p (beginUnlabelled p b)) (state ∷ [])) (endState ∷ map (followed (ask stateRest ∷ [])) signedStateWays)
+  abbrev stateStartWays : List (Alternative B)
+  stateStartWays =
+      way aName noStep true (state ∷ []) level false (ask firstName ∷ ask stateRest ∷ [])
+      ∷ map (afterStep (λ p b. S.beginActions p (S.beginUnlabelled p b)) (state ∷ [])) ((endState S) ∷ map (followed (ask stateRest ∷ [])) (signedStateWays S))
 
--- After a state's first word that is a name: a label, with or without a value, or the state's first action.
-abbrev firstNameWays : List Alternative
-firstNameWays =
-    way colon noStep false [] level true (make beginLabelled ∷ ask stateBody ∷ [])
-    ∷ way openParen noStep false [] opens true (keep aConstant ∷ closing closeParen ∷ plainWord colon ∷ make beginValued ∷ ask stateBody ∷ [])
-    ∷ map (afterStep beginAtName []) stateNameWays
+  -- After a state's first word that is a name: a label, with or without a value, or the state's first action.
+  abbrev firstNameWays : List (Alternative B)
+  firstNameWays =
+      way colon noStep false [] level true (make S.beginLabelled ∷ ask stateBody ∷ [])
+      ∷ way openParen noStep false [] opens true (keep aConstant ∷ closing closeParen ∷ plainWord colon ∷ make S.beginValued ∷ ask stateBody ∷ [])
+      ∷ map (afterStep S.beginAtName []) (stateNameWays S)
 
--- ---- The table.
+  -- ---- The table.
 
-abbrev always : List Alternative → Rule
-always ws = record { ways = ws; without = must }
+  unfoldable pub ruleOf : Ask → Rule B
+  ruleOf expression = always (expressionWays S (termWays S))
+  ruleOf minterm = always (mintermWays S (termWays S))
+  ruleOf product = always (productWays S (termWays S))
+  ruleOf complement = always (complementWays S (termWays S))
+  ruleOf reduction = always (reductionWays S (termWays S))
+  ruleOf adjustment = always (adjustmentWays S (termWays S))
+  ruleOf arithmetic = always (arithmeticWays S (termWays S))
+  ruleOf term = always (termWays S)
+  ruleOf orTail = optional (orWays S)
+  ruleOf exclusiveTail = optional (exclusiveWays S)
+  ruleOf andTail = optional (andWays S)
+  ruleOf conTail = optional (conWays S)
+  ruleOf cutTail = optional (cutWays S)
+  ruleOf relationTail = optional (relationWays S)
+  ruleOf arithmeticTail = optional (arithmeticTailWays S)
+  ruleOf moreArms = optional (lead doWord (ask expression ∷ make S.makeNextArm ∷ ask moreArms ∷ []) ∷ [])
+  ruleOf subscripts = record { ways = enter openBracket (ask subscript ∷ []) ∷ []; without = may S.makeWhole }
+  ruleOf subscript = always (subscriptWays S afterConstant operandRest (ask afterSubscript ∷ []))
+  ruleOf afterConstant = record { ways = colonInstead S (keep aConstant ∷ closing closeBracket ∷ make S.makePart ∷ []) ∷ []; without = operand S.makeConstant }
+  ruleOf operandRest = always (restWays S (afterSubscriptWays S) afterSubscript)
+  ruleOf afterSubscript = always (afterSubscriptWays S)
+  ruleOf secondOption = record { ways = enter openBracket (ask second ∷ []) ∷ []; without = may S.makeOne }
+  ruleOf second = always (subscriptWays S afterSecondConstant secondRest (ask secondEnd ∷ []))
+  ruleOf afterSecondConstant = record { ways = colonInstead S (keep aConstant ∷ closing closeBracket ∷ make S.makeWordPart ∷ []) ∷ []; without = operand S.makeConstant }
+  ruleOf secondRest = always (restWays S (secondEndWays S) secondEnd)
+  ruleOf secondEnd = always (secondEndWays S)
+  ruleOf operationAction = always (operationActionWays S)
+  ruleOf stateAction = always stateActionWays
+  ruleOf operationMore = optional (lead comma (ask operationAction ∷ ask operationMore ∷ []) ∷ [])
+  ruleOf stateRest = always (lead comma (ask stateAction ∷ ask stateRest ∷ []) ∷ endState S ∷ [])
+  ruleOf stateMore = optional (lead comma (ask stateAction ∷ ask stateMore ∷ []) ∷ [])
+  ruleOf operationName = record { ways = enter openBracket (ask subscript ∷ ask leftRest ∷ []) ∷ map (afterStep S.makeWhole []) (leftWays S); without = operand S.makePerform }
+  ruleOf stateName = record { ways = stateNameWays S; without = operand S.makePerform }
+  ruleOf leftRest = always (leftWays S)
+  ruleOf storeSign = always (storeWays S)
+  ruleOf setSign = always ((setWay S) ∷ [])
+  ruleOf operationIfRest = always (ifRestWays S (operationList S))
+  ruleOf stateIfRest = always (ifRestWays S (stateList S))
+  ruleOf operationArms = optional (armWays S (operationList S) operationArms)
+  ruleOf stateArms = optional (armWays S (stateList S) stateArms)
+  ruleOf dimensions = record { ways = enter openBracket (keep aConstant ∷ ask rangeRest ∷ ask dimensionRest ∷ []) ∷ []; without = may S.makeNoDimension }
+  ruleOf rangeRest = record { ways = lead colon (keep aConstant ∷ make S.makeBoth ∷ []) ∷ []; without = may S.makeLast }
+  ruleOf dimensionRest = always (shut closeBracket (make S.makeRow ∷ []) ∷ lead comma (keep aConstant ∷ ask rangeRest ∷ closing closeBracket ∷ make S.makeTable ∷ []) ∷ [])
+  ruleOf registerSpec = always (facilityName (ask dimensions ∷ make S.makeRegister ∷ []) ∷ lead hash (ask sequencingSpec ∷ []) ∷ [])
+  ruleOf sequencingSpec = always (facilityName (ask dimensions ∷ make S.makeSequencing ∷ []) ∷ [])
+  ruleOf memorySpec = always (facilityName (ask dimensions ∷ make S.makeMemory ∷ []) ∷ [])
+  ruleOf terminalSpec = always (facilityName (ask terminalDimensions ∷ []) ∷ [])
+  ruleOf registerMore = always (moreWays registerSpec registerMore)
+  ruleOf memoryMore = always (moreWays memorySpec memoryMore)
+  ruleOf terminalMore = always (moreWays terminalSpec terminalMore)
+  ruleOf terminalDimensions = record { ways = enter openBracket (keep aConstant ∷ ask rangeRest ∷ ask terminalRest ∷ []) ∷ afterStep S.makeNoDimension [] (kept equalSign (ask functionOf ∷ [])) ∷ []; without = may (λ p b. S.makePlain p (S.makeNoDimension p b)) }
+  ruleOf terminalRest = always (shut closeBracket (make S.makeRow ∷ ask terminalFunction ∷ []) ∷ lead comma (keep aConstant ∷ ask rangeRest ∷ closing closeBracket ∷ make S.makeTable ∷ make S.makePlain ∷ []) ∷ [])
+  ruleOf terminalFunction = record { ways = kept equalSign (ask functionOf ∷ []) ∷ []; without = may S.makePlain }
+  ruleOf functionOf = always (inputWay ∷ map (followed (make S.makeComputed ∷ [])) (expressionWays S (termWays S)))
+  ruleOf operationSpec = always (way aName noStep true (operation ∷ []) level false (plainWord equalSign ∷ word openBracket opens ∷ (operationList S S.beginBody ++ closing closeBracket ∷ make S.makeOperation ∷ [])) ∷ [])
+  ruleOf operationsMore = always (lead comma (ask operationSpec ∷ ask operationsMore ∷ []) ∷ controlWay ∷ endingWays (ask control ∷ []))
+  ruleOf stateStart = always stateStartWays
+  ruleOf firstName = record { ways = firstNameWays; without = operand (λ p b. S.makePerform p (S.beginAtName p b)) }
+  ruleOf stateBody = always labelledWays
+  ruleOf statesMore = always (map (followed (ask statesMore ∷ [])) stateStartWays ++ endingWays [])
+  ruleOf sections = always (registerWay ∷ memoryWay ∷ terminalWay ∷ [])
+  ruleOf afterRegisters = always (memoryWay ∷ terminalWay ∷ afterTerminalWays)
+  ruleOf afterMemories = always (terminalWay ∷ afterTerminalWays)
+  ruleOf afterTerminals = always afterTerminalWays
+  ruleOf control = always (controlWay ∷ [])
+  ruleOf dollarOption = optional (lead dollar [] ∷ [])
 
-abbrev optional : List Alternative → Rule
-optional ws = record { ways = ws; without = may noStep }
+  -- The stage of grammar with these steps, on the words of a text of `end` bytes.
+  unfoldable pub parseWith : B → List Word → ℕ → Parsed B
+  parseWith start ws end = run S ruleOf (ask sections ∷ []) ws end (record { built = start; counts = noCounts })
 
-unfoldable pub ruleOf : Ask → Rule
-ruleOf expression = always (expressionWays termWays)
-ruleOf minterm = always (mintermWays termWays)
-ruleOf product = always (productWays termWays)
-ruleOf complement = always (complementWays termWays)
-ruleOf reduction = always (reductionWays termWays)
-ruleOf adjustment = always (adjustmentWays termWays)
-ruleOf arithmetic = always (arithmeticWays termWays)
-ruleOf term = always termWays
-ruleOf orTail = optional orWays
-ruleOf exclusiveTail = optional exclusiveWays
-ruleOf andTail = optional andWays
-ruleOf conTail = optional conWays
-ruleOf cutTail = optional cutWays
-ruleOf relationTail = optional relationWays
-ruleOf arithmeticTail = optional arithmeticTailWays
-ruleOf moreArms = optional (lead doWord (ask expression ∷ make makeNextArm ∷ ask moreArms ∷ []) ∷ [])
-ruleOf subscripts = record { ways = enter openBracket (ask subscript ∷ []) ∷ []; without = may makeWhole }
-ruleOf subscript = always (subscriptWays afterConstant operandRest (ask afterSubscript ∷ []))
-ruleOf afterConstant = record { ways = colonInstead (keep aConstant ∷ closing closeBracket ∷ make makePart ∷ []) ∷ []; without = operand makeConstant }
-ruleOf operandRest = always (restWays afterSubscriptWays afterSubscript)
-ruleOf afterSubscript = always afterSubscriptWays
-ruleOf secondOption = record { ways = enter openBracket (ask second ∷ []) ∷ []; without = may makeOne }
-ruleOf second = always (subscriptWays afterSecondConstant secondRest (ask secondEnd ∷ []))
-ruleOf afterSecondConstant = record { ways = colonInstead (keep aConstant ∷ closing closeBracket ∷ make makeWordPart ∷ []) ∷ []; without = operand makeConstant }
-ruleOf secondRest = always (restWays secondEndWays secondEnd)
-ruleOf secondEnd = always secondEndWays
-ruleOf operationAction = always operationActionWays
-ruleOf stateAction = always stateActionWays
-ruleOf operationMore = optional (lead comma (ask operationAction ∷ ask operationMore ∷ []) ∷ [])
-ruleOf stateRest = always (lead comma (ask stateAction ∷ ask stateRest ∷ []) ∷ endState ∷ [])
-ruleOf stateMore = optional (lead comma (ask stateAction ∷ ask stateMore ∷ []) ∷ [])
-ruleOf operationName = record { ways = enter openBracket (ask subscript ∷ ask leftRest ∷ []) ∷ map (afterStep makeWhole []) leftWays; without = operand makePerform }
-ruleOf stateName = record { ways = stateNameWays; without = operand makePerform }
-ruleOf leftRest = always leftWays
-ruleOf storeSign = always storeWays
-ruleOf setSign = always (setWay ∷ [])
-ruleOf operationIfRest = always (ifRestWays operationList)
-ruleOf stateIfRest = always (ifRestWays stateList)
-ruleOf operationArms = optional (armWays operationList operationArms)
-ruleOf stateArms = optional (armWays stateList stateArms)
-ruleOf dimensions = record { ways = enter openBracket (keep aConstant ∷ ask rangeRest ∷ ask dimensionRest ∷ []) ∷ []; without = may makeNoDimension }
-ruleOf rangeRest = record { ways = lead colon (keep aConstant ∷ make makeBoth ∷ []) ∷ []; without = may makeLast }
-ruleOf dimensionRest = always (shut closeBracket (make makeRow ∷ []) ∷ lead comma (keep aConstant ∷ ask rangeRest ∷ closing closeBracket ∷ make makeTable ∷ []) ∷ [])
-ruleOf registerSpec = always (facilityName (ask dimensions ∷ make makeRegister ∷ []) ∷ lead hash (ask sequencingSpec ∷ []) ∷ [])
-ruleOf sequencingSpec = always (facilityName (ask dimensions ∷ make makeSequencing ∷ []) ∷ [])
-ruleOf memorySpec = always (facilityName (ask dimensions ∷ make makeMemory ∷ []) ∷ [])
-ruleOf terminalSpec = always (facilityName (ask terminalDimensions ∷ []) ∷ [])
-ruleOf registerMore = always (moreWays registerSpec registerMore)
-ruleOf memoryMore = always (moreWays memorySpec memoryMore)
-ruleOf terminalMore = always (moreWays terminalSpec terminalMore)
-ruleOf terminalDimensions = record { ways = enter openBracket (keep aConstant ∷ ask rangeRest ∷ ask terminalRest ∷ []) ∷ afterStep makeNoDimension [] (kept equalSign (ask functionOf ∷ [])) ∷ []; without = may (λ p b. makePlain p (makeNoDimension p b)) }
-ruleOf terminalRest = always (shut closeBracket (make makeRow ∷ ask terminalFunction ∷ []) ∷ lead comma (keep aConstant ∷ ask rangeRest ∷ closing closeBracket ∷ make makeTable ∷ make makePlain ∷ []) ∷ [])
-ruleOf terminalFunction = record { ways = kept equalSign (ask functionOf ∷ []) ∷ []; without = may makePlain }
-ruleOf functionOf = always (inputWay ∷ map (followed (make makeComputed ∷ [])) (expressionWays termWays))
-ruleOf operationSpec = always (way aName noStep true (operation ∷ []) level false (plainWord equalSign ∷ word openBracket opens ∷ (operationList ++ closing closeBracket ∷ make makeOperation ∷ [])) ∷ [])
-ruleOf operationsMore = always (lead comma (ask operationSpec ∷ ask operationsMore ∷ []) ∷ controlWay ∷ endingWays (ask control ∷ []))
-ruleOf stateStart = always stateStartWays
-ruleOf firstName = record { ways = firstNameWays; without = operand (λ p b. makePerform p (beginAtName p b)) }
-ruleOf stateBody = always labelledWays
-ruleOf statesMore = always (map (followed (ask statesMore ∷ [])) stateStartWays ++ endingWays [])
-ruleOf sections = always (registerWay ∷ memoryWay ∷ terminalWay ∷ [])
-ruleOf afterRegisters = always (memoryWay ∷ terminalWay ∷ afterTerminalWays)
-ruleOf afterMemories = always (terminalWay ∷ afterTerminalWays)
-ruleOf afterTerminals = always afterTerminalWays
-ruleOf control = always (controlWay ∷ [])
-ruleOf dollarOption = optional (lead dollar [] ∷ [])
-
--- The stage of grammar, on the words of a text of `end` bytes.
-unfoldable pub parse : List Word → ℕ → Parsed
-parse ws end = run ruleOf (ask sections ∷ []) ws end atStart
+-- The stage of grammar: the tree of a text, or its first fault.
+unfoldable pub parse : List Word → ℕ → Parsed Built
+unfolding parseWith
+parse ws end = parseWith treeSteps nothingBuilt ws end

@@ -1,213 +1,167 @@
 -- The machine's rules: for each notion the words with which it may begin, and what then comes. They follow the grammar rule by rule.
-use mathlib.Core.Bool.{Bool, true, false}
+use mathlib.Core.Bool.{true, false}
 use mathlib.Core.List.{List, [], _∷_, _++_, map}
 use Prim.Native.Nat.{ℕ}
-use Rattle.language.specs.Building.{Step, beginList, makeArm, makeBinary, makeCall, makeChoice, makeChoose, makeConstant, makeCut, makeFirstArm, makeGoto, makeIf, makeNextArm, makePair, makePrefix, makeReturn, makeSet, makeSingle, makeStore, makeTwo, makeWhen, makeWhole}
-use Rattle.language.specs.Declaring.{makeState}
+use Rattle.language.specs.Alternatives.{afterStep, closing, counts, countsOpening, each, enter, followed, kept, lead, noStep, plainWord, shut, way}
 use Rattle.language.specs.Kinds.{aConstant, aName, atLeastSign, atMostSign, atSign, callSign, caseWord, closeBracket, closeParen, colon, comma, conWord, delayedSign, differenceSign, doWord, elseWord, endCaseWord, endIfWord, equalSign, equalsSign, exclusiveSign, extWord, gotoSign, greaterSign, hash, headWord, ifWord, lessSign, minus, openBracket, openParen, plus, redWord, returnWord, slash, star, sumSign, tailWord, thenWord}
-use Rattle.language.specs.Machine.{Alternative, Ask, Bearing, Sym, Tally, adjustment, andTail, arithmetic, arithmeticTail, ask, closes, complement, conTail, counted, cutTail, ease, exclusiveTail, expression, keep, level, make, may, minterm, moreArms, opens, operand, operationAction, operationArms, operationIfRest, operationMore, operationName, orTail, product, reduction, relationTail, second, secondOption, setSign, state, stateAction, stateArms, stateIfRest, stateMore, storeSign, subscript, subscripts, term, word}
+use Rattle.language.specs.Machine.{Alternative, Ask, Sym, adjustment, andTail, arithmetic, arithmeticTail, ask, complement, conTail, counted, cutTail, ease, exclusiveTail, expression, keep, level, make, may, minterm, moreArms, operand, operationAction, operationArms, operationIfRest, operationMore, operationName, orTail, product, reduction, relationTail, second, secondOption, setSign, state, stateAction, stateArms, stateIfRest, stateMore, storeSign, subscript, subscripts, term}
+use Rattle.language.specs.Steps.{Step, Steps}
 
--- ---- Kinds of alternatives.
+module _ {B : Type 0} (S : Steps B) where
+  -- ---- Expressions (the manual, 5.1 and 5.2).
 
-abbrev pub noStep : Step
-noStep p b = b
+  -- What a term begins with, but for a constant.
+  abbrev pub otherTermWays : List (Alternative B)
+  otherTermWays =
+      counts aName (ask subscripts ∷ [])
+      ∷ enter openParen (ask expression ∷ closing closeParen ∷ [])
+      ∷ countsOpening ifWord
+      (ask expression ∷ plainWord thenWord ∷ ask expression ∷ make S.makeFirstArm ∷ plainWord elseWord ∷ ask expression ∷ make S.makeNextArm ∷ closing endIfWord ∷ make S.makeChoice ∷ [])
+      ∷ countsOpening caseWord
+      (ask expression ∷ plainWord doWord ∷ ask expression ∷ make S.makeFirstArm ∷ plainWord doWord ∷ ask expression ∷ make S.makeNextArm ∷ ask moreArms ∷ closing endCaseWord ∷ make S.makeChoice ∷ [])
+      ∷ []
 
-abbrev pub way : ℕ → Step → Bool → List Tally → Bearing → Bool → List Sym → Alternative
-way k f kept ts b i to = record { on = k; first = f; kept = kept; tallies = ts; bearing = b; instead = i; to = to }
+  abbrev pub termWays : List (Alternative B)
+  termWays = counts aConstant (make S.makeConstant ∷ []) ∷ otherTermWays
 
--- A word that only leads on.
-abbrev pub lead : ℕ → List Sym → Alternative
-lead k to = way k noStep false [] level false to
+  -- Each level, over the ways in which its terms may begin.
+  abbrev pub arithmeticWays : List (Alternative B) → List (Alternative B)
+  arithmeticWays terms =
+      countsOpening differenceSign (ask term ∷ make S.makePrefix ∷ ease ∷ ask arithmeticTail ∷ [])
+      ∷ map (followed (ask arithmeticTail ∷ [])) terms
 
--- An opening or closing word.
-abbrev pub enter : ℕ → List Sym → Alternative
-enter k to = way k noStep false [] opens false to
+  abbrev pub adjustmentWays : List (Alternative B) → List (Alternative B)
+  adjustmentWays terms = map (followed (ask relationTail ∷ ask cutTail ∷ [])) (arithmeticWays terms)
 
-abbrev pub shut : ℕ → List Sym → Alternative
-shut k to = way k noStep false [] closes false to
+  abbrev pub reductionWays : List (Alternative B) → List (Alternative B)
+  reductionWays terms =
+      each (plus ∷ star ∷ exclusiveSign ∷ sumSign ∷ []) (λ k. countsOpening k (plainWord redWord ∷ ask adjustment ∷ make S.makePrefix ∷ ease ∷ []))
+      ++ adjustmentWays terms
 
--- A word that is kept for its node; one that counts; one that counts and opens.
-abbrev pub kept : ℕ → List Sym → Alternative
-kept k to = way k noStep true [] level false to
+  abbrev pub complementWays : List (Alternative B) → List (Alternative B)
+  complementWays terms =
+      countsOpening minus (ask reduction ∷ ask conTail ∷ make S.makePrefix ∷ ease ∷ [])
+      ∷ map (followed (ask conTail ∷ [])) (reductionWays terms)
 
-abbrev pub counts : ℕ → List Sym → Alternative
-counts k to = way k noStep true (counted ∷ []) level false to
+  abbrev pub productWays : List (Alternative B) → List (Alternative B)
+  productWays terms = map (followed (ask andTail ∷ [])) (complementWays terms)
 
-abbrev pub countsOpening : ℕ → List Sym → Alternative
-countsOpening k to = way k noStep true (counted ∷ []) opens false to
+  abbrev pub mintermWays : List (Alternative B) → List (Alternative B)
+  mintermWays terms = map (followed (ask exclusiveTail ∷ [])) (productWays terms)
 
--- What is then still to come, after an alternative's own.
-abbrev pub followed : List Sym → Alternative → Alternative
-followed more a = way (a .on) (a .first) (a .kept) (a .tallies) (a .bearing) (a .instead) (a .to ++ more)
+  abbrev pub expressionWays : List (Alternative B) → List (Alternative B)
+  expressionWays terms = map (followed (ask orTail ∷ [])) (mintermWays terms)
 
--- A step before the word, and what it counts as besides.
-abbrev pub afterStep : Step → List Tally → Alternative → Alternative
-afterStep f ts a = way (a .on) (λ p b. a .first p (f p b)) (a .kept) (ts ++ a .tallies) (a .bearing) (a .instead) (a .to)
+  -- An operator of a level, its right operand, and more of the same level.
+  abbrev pub operatorWay : Ask → Ask → ℕ → Alternative B
+  operatorWay right tail k = counts k (ask right ∷ make S.makeBinary ∷ ask tail ∷ [])
 
-abbrev pub each : List ℕ → (ℕ → Alternative) → List Alternative
-each ks f = map f ks
+  abbrev pub orWays : List (Alternative B)
+  orWays = operatorWay minterm orTail plus ∷ []
 
-abbrev pub closing : ℕ → Sym
-closing k = word k closes
+  abbrev pub exclusiveWays : List (Alternative B)
+  exclusiveWays = operatorWay product exclusiveTail exclusiveSign ∷ []
 
-abbrev pub plainWord : ℕ → Sym
-plainWord k = word k level
+  abbrev pub andWays : List (Alternative B)
+  andWays = operatorWay complement andTail star ∷ []
 
--- ---- Expressions (the manual, 5.1 and 5.2).
+  abbrev pub conWays : List (Alternative B)
+  conWays = operatorWay reduction conTail conWord ∷ []
 
-abbrev pub relations : List ℕ
-relations = equalsSign ∷ hash ∷ lessSign ∷ greaterSign ∷ atMostSign ∷ atLeastSign ∷ []
+  abbrev pub cutWays : List (Alternative B)
+  cutWays = each (headWord ∷ tailWord ∷ extWord ∷ []) (λ k. counts k (keep aConstant ∷ make S.makeCut ∷ ask cutTail ∷ []))
 
--- What a term begins with, but for a constant.
-abbrev pub otherTermWays : List Alternative
-otherTermWays =
-    counts aName (ask subscripts ∷ [])
-    ∷ enter openParen (ask expression ∷ closing closeParen ∷ [])
-    ∷ countsOpening ifWord
-      (ask expression ∷ plainWord thenWord ∷ ask expression ∷ make makeFirstArm ∷ plainWord elseWord ∷ ask expression ∷ make makeNextArm ∷ closing endIfWord ∷ make makeChoice ∷ [])
-    ∷ countsOpening caseWord
-      (ask expression ∷ plainWord doWord ∷ ask expression ∷ make makeFirstArm ∷ plainWord doWord ∷ ask expression ∷ make makeNextArm ∷ ask moreArms ∷ closing endCaseWord ∷ make makeChoice ∷ [])
-    ∷ []
+  abbrev pub relationWays : List (Alternative B)
+  relationWays = each (equalsSign ∷ hash ∷ lessSign ∷ greaterSign ∷ atMostSign ∷ atLeastSign ∷ []) (λ k. counts k (ask arithmetic ∷ make S.makeBinary ∷ []))
 
-abbrev pub termWays : List Alternative
-termWays = counts aConstant (make makeConstant ∷ []) ∷ otherTermWays
+  abbrev pub arithmeticTailWays : List (Alternative B)
+  arithmeticTailWays = each (sumSign ∷ differenceSign ∷ []) (operatorWay term arithmeticTail)
 
--- Each level, over the ways in which its terms may begin.
-abbrev pub arithmeticWays : List Alternative → List Alternative
-arithmeticWays terms =
-    countsOpening differenceSign (ask term ∷ make makePrefix ∷ ease ∷ ask arithmeticTail ∷ [])
-    ∷ map (followed (ask arithmeticTail ∷ [])) terms
+  -- ---- References (the manual, 5.1.1).
 
-abbrev pub adjustmentWays : List Alternative → List Alternative
-adjustmentWays terms = map (followed (ask relationTail ∷ ask cutTail ∷ [])) (arithmeticWays terms)
+  -- The ways on after an operand that begins an expression, when `end` comes after the expression.
+  abbrev pub restWays : List (Alternative B) → Ask → List (Alternative B)
+  restWays endWays end =
+      map (followed (ask relationTail ∷ ask cutTail ∷ ask conTail ∷ ask andTail ∷ ask exclusiveTail ∷ ask orTail ∷ ask end ∷ [])) arithmeticTailWays
+      ++ map (followed (ask cutTail ∷ ask conTail ∷ ask andTail ∷ ask exclusiveTail ∷ ask orTail ∷ ask end ∷ [])) relationWays
+      ++ map (followed (ask conTail ∷ ask andTail ∷ ask exclusiveTail ∷ ask orTail ∷ ask end ∷ [])) cutWays
+      ++ map (followed (ask andTail ∷ ask exclusiveTail ∷ ask orTail ∷ ask end ∷ [])) conWays
+      ++ map (followed (ask exclusiveTail ∷ ask orTail ∷ ask end ∷ [])) andWays
+      ++ map (followed (ask orTail ∷ ask end ∷ [])) exclusiveWays
+      ++ map (followed (ask end ∷ [])) orWays
+      ++ endWays
 
-abbrev pub reductionWays : List Alternative → List Alternative
-reductionWays terms =
-    each (plus ∷ star ∷ exclusiveSign ∷ sumSign ∷ []) (λ k. countsOpening k (plainWord redWord ∷ ask adjustment ∷ make makePrefix ∷ ease ∷ []))
-    ++ adjustmentWays terms
+  abbrev pub afterSubscriptWays : List (Alternative B)
+  afterSubscriptWays = shut closeBracket (ask secondOption ∷ []) ∷ lead comma (ask second ∷ []) ∷ []
 
-abbrev pub complementWays : List Alternative → List Alternative
-complementWays terms =
-    countsOpening minus (ask reduction ∷ ask conTail ∷ make makePrefix ∷ ease ∷ [])
-    ∷ map (followed (ask conTail ∷ [])) (reductionWays terms)
+  abbrev pub secondEndWays : List (Alternative B)
+  secondEndWays = shut closeBracket (make S.makeTwo ∷ []) ∷ []
 
-abbrev pub productWays : List Alternative → List Alternative
-productWays terms = map (followed (ask andTail ∷ [])) (complementWays terms)
+  -- A part's colon stands in the place of the rest of an expression.
+  abbrev pub colonInstead : List (Sym B) → Alternative B
+  colonInstead to = way colon noStep false [] level true to
 
-abbrev pub mintermWays : List Alternative → List Alternative
-mintermWays terms = map (followed (ask exclusiveTail ∷ [])) (productWays terms)
+  -- Behind `[` or `,`: a constant waits for what follows it; any other expression goes on to `end`.
+  abbrev pub subscriptWays : Ask → Ask → List (Sym B) → List (Alternative B)
+  subscriptWays waits on end =
+      kept aConstant (ask waits ∷ ask on ∷ [])
+      ∷ map (followed end) (expressionWays otherTermWays)
 
-abbrev pub expressionWays : List Alternative → List Alternative
-expressionWays terms = map (followed (ask orTail ∷ [])) (mintermWays terms)
+  -- ---- Actions (the manual, 7.1 and 8.2).
 
--- An operator of a level, its right operand, and more of the same level.
-abbrev pub operatorWay : Ask → Ask → ℕ → Alternative
-operatorWay right tail k = counts k (ask right ∷ make makeBinary ∷ ask tail ∷ [])
+  -- A list of actions, which begins with a step.
+  abbrev pub operationList : Step B → List (Sym B)
+  operationList begin = make begin ∷ ask operationAction ∷ ask operationMore ∷ []
 
-abbrev pub orWays : List Alternative
-orWays = operatorWay minterm orTail plus ∷ []
+  abbrev pub stateList : Step B → List (Sym B)
+  stateList begin = make begin ∷ ask stateAction ∷ ask stateMore ∷ []
 
-abbrev pub exclusiveWays : List Alternative
-exclusiveWays = operatorWay product exclusiveTail exclusiveSign ∷ []
+  abbrev pub ifWay : (Step B → List (Sym B)) → Ask → Alternative B
+  ifWay list ifRest = countsOpening ifWord (ask expression ∷ plainWord thenWord ∷ (list S.beginThen ++ ask ifRest ∷ []))
 
-abbrev pub andWays : List Alternative
-andWays = operatorWay complement andTail star ∷ []
+  abbrev pub caseWay : (Step B → List (Sym B)) → Ask → Alternative B
+  caseWay list arms =
+      countsOpening caseWord
+      (ask expression ∷ make S.beginArms ∷ plainWord doWord ∷ (list S.beginArm ++ make S.makeArm ∷ ask arms ∷ closing endCaseWord ∷ make S.makeChoose ∷ []))
 
-abbrev pub conWays : List Alternative
-conWays = operatorWay reduction conTail conWord ∷ []
+  abbrev pub ifRestWays : (Step B → List (Sym B)) → List (Alternative B)
+  ifRestWays list = shut endIfWord (make S.makeWhen ∷ []) ∷ lead elseWord (list S.beginElse ++ closing endIfWord ∷ make S.makeIf ∷ []) ∷ []
 
-abbrev pub cutWays : List Alternative
-cutWays = each (headWord ∷ tailWord ∷ extWord ∷ []) (λ k. counts k (keep aConstant ∷ make makeCut ∷ ask cutTail ∷ []))
+  abbrev pub armWays : (Step B → List (Sym B)) → Ask → List (Alternative B)
+  armWays list arms = lead doWord (list S.beginArm ++ make S.makeArm ∷ ask arms ∷ []) ∷ []
 
-abbrev pub relationWays : List Alternative
-relationWays = each relations (λ k. counts k (ask arithmetic ∷ make makeBinary ∷ []))
+  abbrev pub storeWays : List (Alternative B)
+  storeWays = each (delayedSign ∷ equalSign ∷ []) (λ k. counts k (ask expression ∷ make S.makeStore ∷ []))
 
-abbrev pub arithmeticTailWays : List Alternative
-arithmeticTailWays = each (sumSign ∷ differenceSign ∷ []) (operatorWay term arithmeticTail)
+  abbrev pub setWay : Alternative B
+  setWay = counts atSign (make S.makeSet ∷ [])
 
--- ---- References (the manual, 5.1.1).
+  -- Two references joined by CON, and then a store's sign.
+  abbrev pub pairWay : Alternative B
+  pairWay = lead conWord (keep aName ∷ ask subscripts ∷ make S.makePair ∷ ask storeSign ∷ [])
 
--- The ways on after an operand that begins an expression, when `end` comes after the expression.
-abbrev pub restWays : List Alternative → Ask → List Alternative
-restWays endWays end =
-    map (followed (ask relationTail ∷ ask cutTail ∷ ask conTail ∷ ask andTail ∷ ask exclusiveTail ∷ ask orTail ∷ ask end ∷ [])) arithmeticTailWays
-    ++ map (followed (ask cutTail ∷ ask conTail ∷ ask andTail ∷ ask exclusiveTail ∷ ask orTail ∷ ask end ∷ [])) relationWays
-    ++ map (followed (ask conTail ∷ ask andTail ∷ ask exclusiveTail ∷ ask orTail ∷ ask end ∷ [])) cutWays
-    ++ map (followed (ask andTail ∷ ask exclusiveTail ∷ ask orTail ∷ ask end ∷ [])) conWays
-    ++ map (followed (ask exclusiveTail ∷ ask orTail ∷ ask end ∷ [])) andWays
-    ++ map (followed (ask orTail ∷ ask end ∷ [])) exclusiveWays
-    ++ map (followed (ask end ∷ [])) orWays
-    ++ endWays
+  abbrev pub leftWays : List (Alternative B)
+  leftWays = pairWay ∷ setWay ∷ map (afterStep S.makeSingle []) storeWays
 
-abbrev pub afterSubscriptWays : List Alternative
-afterSubscriptWays = shut closeBracket (ask secondOption ∷ []) ∷ lead comma (ask second ∷ []) ∷ []
+  abbrev pub operationActionWays : List (Alternative B)
+  operationActionWays =
+      kept aName (ask operationName ∷ [])
+      ∷ ifWay operationList operationIfRest
+      ∷ caseWay operationList operationArms
+      ∷ []
 
-abbrev pub secondEndWays : List Alternative
-secondEndWays = shut closeBracket (make makeTwo ∷ []) ∷ []
+  -- In a state, but for a name.
+  abbrev pub signedStateWays : List (Alternative B)
+  signedStateWays =
+      way gotoSign noStep false (counted ∷ []) level false (keep aName ∷ make S.makeGoto ∷ [])
+      ∷ way callSign noStep false (counted ∷ []) level false (keep aName ∷ make S.makeCall ∷ [])
+      ∷ counts returnWord (make S.makeReturn ∷ [])
+      ∷ ifWay stateList stateIfRest
+      ∷ caseWay stateList stateArms
+      ∷ []
 
--- A part's colon stands in the place of the rest of an expression.
-abbrev pub colonInstead : List Sym → Alternative
-colonInstead to = way colon noStep false [] level true to
+  abbrev pub stateNameWays : List (Alternative B)
+  stateNameWays = enter openBracket (ask subscript ∷ ask setSign ∷ []) ∷ afterStep S.makeWhole [] setWay ∷ []
 
--- Behind `[` or `,`: a constant waits for what follows it; any other expression goes on to `end`.
-abbrev pub subscriptWays : Ask → Ask → List Sym → List Alternative
-subscriptWays waits on end =
-    kept aConstant (ask waits ∷ ask on ∷ [])
-    ∷ map (followed end) (expressionWays otherTermWays)
-
--- ---- Actions (the manual, 7.1 and 8.2).
-
-abbrev pub operationList : List Sym
-operationList = make beginList ∷ ask operationAction ∷ ask operationMore ∷ []
-
-abbrev pub stateList : List Sym
-stateList = make beginList ∷ ask stateAction ∷ ask stateMore ∷ []
-
-abbrev pub ifWay : List Sym → Ask → Alternative
-ifWay list ifRest = countsOpening ifWord (ask expression ∷ plainWord thenWord ∷ (list ++ ask ifRest ∷ []))
-
-abbrev pub caseWay : List Sym → Ask → Alternative
-caseWay list arms =
-    countsOpening caseWord (ask expression ∷ make beginList ∷ plainWord doWord ∷ (list ++ make makeArm ∷ ask arms ∷ closing endCaseWord ∷ make makeChoose ∷ []))
-
-abbrev pub ifRestWays : List Sym → List Alternative
-ifRestWays list = shut endIfWord (make makeWhen ∷ []) ∷ lead elseWord (list ++ closing endIfWord ∷ make makeIf ∷ []) ∷ []
-
-abbrev pub armWays : List Sym → Ask → List Alternative
-armWays list arms = lead doWord (list ++ make makeArm ∷ ask arms ∷ []) ∷ []
-
-abbrev pub storeWays : List Alternative
-storeWays = each (delayedSign ∷ equalSign ∷ []) (λ k. counts k (ask expression ∷ make makeStore ∷ []))
-
-abbrev pub setWay : Alternative
-setWay = counts atSign (make makeSet ∷ [])
-
--- Two references joined by CON, and then a store's sign.
-abbrev pub pairWay : Alternative
-pairWay = lead conWord (keep aName ∷ ask subscripts ∷ make makePair ∷ ask storeSign ∷ [])
-
-abbrev pub leftWays : List Alternative
-leftWays = pairWay ∷ setWay ∷ map (afterStep makeSingle []) storeWays
-
-abbrev pub operationActionWays : List Alternative
-operationActionWays =
-    kept aName (ask operationName ∷ [])
-    ∷ ifWay operationList operationIfRest
-    ∷ caseWay operationList operationArms
-    ∷ []
-
--- In a state, but for a name.
-abbrev pub signedStateWays : List Alternative
-signedStateWays =
-    way gotoSign noStep false (counted ∷ []) level false (keep aName ∷ make makeGoto ∷ [])
-    ∷ way callSign noStep false (counted ∷ []) level false (keep aName ∷ make makeCall ∷ [])
-    ∷ counts returnWord (make makeReturn ∷ [])
-    ∷ ifWay stateList stateIfRest
-    ∷ caseWay stateList stateArms
-    ∷ []
-
-abbrev pub stateNameWays : List Alternative
-stateNameWays = enter openBracket (ask subscript ∷ ask setSign ∷ []) ∷ afterStep makeWhole [] setWay ∷ []
-
-abbrev pub endState : Alternative
-endState = lead slash (make makeState ∷ [])
+  abbrev pub endState : Alternative B
+  endState = lead slash (make S.makeState ∷ [])
