@@ -142,13 +142,14 @@ bears level n = n
 bears opens n = suc n
 bears closes n = n - 1
 
-module _ {B : Type 0} (S : Steps B) where
-  abbrev pub reading : B → Counts → Reading B
-  reading b c = record { built = b; counts = c }
+abbrev pub reading : {B : Type 0} → B → Counts → Reading B
+reading b c = record { built = b; counts = c }
 
+-- The machine over some steps; `fits` says whether counts are within the ceilings.
+module _ {B : Type 0} (S : Steps B) (fits : Counts → Bool) where
   -- The word at p is taken with these counts, unless one passes its ceiling.
   abbrev pub taken : Position → List (Sym B) → B → Counts → Fed B
-  taken p K b c = cond (withinCeilings c) (took K (reading b c)) (wrong (fault p 10))
+  taken p K b c = cond (fits c) (took K (reading b c)) (wrong (fault p 10))
 
   abbrev pub keptIf : Bool → Word → B → B
   keptIf true w b = S .keepWord w b
@@ -183,7 +184,7 @@ module _ {B : Type 0} (S : Steps B) where
   leave (may f) w r on = on (reading (f (wordAt w) (r .built)) (r .counts))
   leave (operand f) w r on =
       let here = on (reading (f (wordAt w) (r .built)) (countKept r)) in
-      cond (withinCeilings (countKept r)) here (wrong (fault (keptAt r) 10))
+      cond (fits (countKept r)) here (wrong (fault (keptAt r) 10))
 
   -- The same where the text ended.
   abbrev pub leaveAtEnd : Without B → ℕ → Reading B → (Reading B → Parsed B) → Parsed B
@@ -191,7 +192,7 @@ module _ {B : Type 0} (S : Steps B) where
   leaveAtEnd (may f) end r on = on (reading (f (position end) (r .built)) (r .counts))
   leaveAtEnd (operand f) end r on =
       let here = on (reading (f (position end) (r .built)) (countKept r)) in
-      cond (withinCeilings (countKept r)) here (refused (fault (keptAt r) 10))
+      cond (fits (countKept r)) here (refused (fault (keptAt r) 10))
 
   module _ (rules : Ask → Rule B) where
     unfoldable pub feed : List (Sym B) → Word → Reading B → Fed B

@@ -1,12 +1,12 @@
 -- The machine's rules for declarations, states and sections, and the table of all of them.
-use mathlib.Core.Bool.{true, false}
+use mathlib.Core.Bool.{Bool, true, false}
 use mathlib.Core.List.{List, [], _∷_, _++_, map}
 use Prim.Native.Nat.{ℕ}
 use Rattle.language.specs.Kinds.{aConstant, aName, closeBracket, closeParen, colon, comma, controlWord, doWord, dollar, endWord, equalSign, hash, inputWord, memoryWord, openBracket, openParen, operationWord, period, registerWord, terminalWord}
 use Rattle.language.specs.Alternatives.{afterStep, always, closing, enter, followed, kept, lead, noStep, optional, plainWord, shut, way}
 use Rattle.language.specs.Building.{Built, nothingBuilt}
 use Rattle.language.specs.Declaring.{treeSteps}
-use Rattle.language.specs.Machine.{noCounts, run, Alternative, Ask, Parsed, Rule, Sym, adjustment, afterConstant, afterMemories, afterRegisters, afterSecondConstant, afterSubscript, afterTerminals, again, andTail, arithmetic, arithmeticTail, ask, complement, conTail, control, cutTail, dimensionRest, dimensions, dollarOption, exclusiveTail, expression, facility, firstName, functionOf, keep, leftRest, level, make, may, memoryMore, memorySpec, minterm, moreArms, opens, operand, operandRest, operation, operationAction, operationArms, operationIfRest, operationMore, operationName, operationSpec, operationsMore, orTail, product, rangeRest, reduction, registerMore, registerSpec, relationTail, second, secondOption, secondEnd, secondRest, sections, sequencingSpec, setSign, state, stateAction, stateArms, stateBody, stateIfRest, stateMore, stateName, stateRest, stateStart, statesMore, storeSign, subscript, subscripts, term, terminalDimensions, terminalFunction, terminalMore, terminalRest, terminalSpec, word}
+use Rattle.language.specs.Machine.{Counts, noCounts, run, Alternative, Ask, Parsed, Rule, Sym, adjustment, afterConstant, afterMemories, afterRegisters, afterSecondConstant, afterSubscript, afterTerminals, again, andTail, arithmetic, arithmeticTail, ask, complement, conTail, control, cutTail, dimensionRest, dimensions, dollarOption, exclusiveTail, expression, facility, firstName, functionOf, keep, leftRest, level, make, may, memoryMore, memorySpec, minterm, moreArms, opens, operand, operandRest, operation, operationAction, operationArms, operationIfRest, operationMore, operationName, operationSpec, operationsMore, orTail, product, rangeRest, reduction, registerMore, registerSpec, relationTail, second, secondOption, secondEnd, secondRest, sections, sequencingSpec, setSign, state, stateAction, stateArms, stateBody, stateIfRest, stateMore, stateName, stateRest, stateStart, statesMore, storeSign, subscript, subscripts, term, terminalDimensions, terminalFunction, terminalMore, terminalRest, terminalSpec, word, withinCeilings}
 use Rattle.language.specs.Ways.{adjustmentWays, afterSubscriptWays, andWays, arithmeticTailWays, arithmeticWays, armWays, colonInstead, complementWays, conWays, cutWays, endState, exclusiveWays, expressionWays, ifRestWays, leftWays, mintermWays, operationActionWays, operationList, orWays, productWays, reductionWays, relationWays, restWays, secondEndWays, setWay, signedStateWays, stateList, stateNameWays, storeWays, subscriptWays, termWays}
 use Rattle.language.specs.Words.{Word}
 use Rattle.language.specs.Steps.{Steps}
@@ -138,10 +138,10 @@ module _ {B : Type 0} (S : Steps B) where
   ruleOf dollarOption = optional (lead dollar [] ∷ [])
 
   -- The stage of grammar with these steps, on the words of a text of `end` bytes.
-  unfoldable pub parseWith : B → List Word → ℕ → Parsed B
-  parseWith start ws end = run S ruleOf (ask sections ∷ []) ws end (record { built = start; counts = noCounts })
+  unfoldable pub parseWith : (Counts → Bool) → B → List Word → ℕ → Parsed B
+  parseWith fits start ws end = run S fits ruleOf (ask sections ∷ []) ws end (record { built = start; counts = noCounts })
 
 -- The stage of grammar: the tree of a text, or its first fault.
 unfoldable pub parse : List Word → ℕ → Parsed Built
 unfolding parseWith
-parse ws end = parseWith treeSteps nothingBuilt ws end
+parse ws end = parseWith treeSteps withinCeilings nothingBuilt ws end
