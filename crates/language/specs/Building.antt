@@ -1,15 +1,15 @@
 -- What a parser has built so far, and the steps by which it builds the tree: each takes what it needs from the tops of the rows and puts the node there.
-use mathlib.Core.Bool.{Bool, true, false, cond}
-use mathlib.Core.List.{List, [], _∷_, _++_}
-use mathlib.Core.Option.{Option, none, some}
+use mathlib.Core.Bool.{true}
+use mathlib.Core.List.{List, [], _∷_}
+use mathlib.Core.Option.{none}
 use Prim.Native.Nat.{ℕ}
 use lib.ListN.{drop, getD}
-use Rattle.language.specs.Notions.{facilityOf, oneBound, pairOf}
+use Rattle.language.specs.Notions.{pairOf}
 use Rattle.language.specs.Steps.{Step}
 use Rattle.language.specs.Tree as T
-use Rattle.language.specs.Tree.{Actions, Declaration, Ends, Expression, Extent, Function, Kind, Label, Left, Name, Operation, State, StateValue, Text}
+use Rattle.language.specs.Tree.{Actions, Ends, Expression, Extent, Left, Name, State, Text}
 use Rattle.language.specs.Value.{value}
-use Rattle.language.specs.Words.{Constant, Position, Word, constant, kindOf, name, position, sign, wordAt}
+use Rattle.language.specs.Words.{Constant, Word, constant, kindOf, name, position, sign, wordAt}
 
 -- Rows, the latest first: words kept, and nodes that wait for their owner. A state waits with its place, label and value.
 pub record Built : Type 0 where

@@ -1,6 +1,5 @@
 -- The counted words of a tree (01, "Ceilings"): operators, operands and actions. A conditional counts one; a count after HEAD, TAIL, EXT, a part's ends and a store's left side do not count, but expressions in its subscripts do.
 use mathlib.Core.List.{List, [], _∷_}
-use mathlib.Core.Option.{Option}
 use Prim.Native.Nat.{ℕ, suc, _+_, _≤_}
 use lib.ListN.{length}
 use Rattle.language.specs.Machine.{mostCounted, mostFacilities, mostOperations, mostStates}

@@ -1,8 +1,8 @@
 -- Characters (the manual, 2.1; 01, "The language taken": outside comments the manual's characters save code 136 octal, and space, tab, CR, LF).
-use mathlib.Core.Bool.{Bool, true, false, cond, _||_, _&&_}
+use mathlib.Core.Bool.{Bool, false, cond, _||_, _&&_}
 use mathlib.Core.List.{List, [], _∷_}
 use Prim.Native.Nat.{ℕ, _+_, _-_, _<_}
-use lib.Dec.{eqb, leb, ltb}
+use lib.Dec.{eqb, leb}
 
 -- lo <= b <= hi
 abbrev pub within : ℕ → ℕ → ℕ → Bool

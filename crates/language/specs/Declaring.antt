@@ -1,14 +1,14 @@
 -- The steps that build declarations, operations and states.
-use mathlib.Core.List.{List, [], _∷_, _++_}
-use mathlib.Core.Option.{Option, none, some}
+use mathlib.Core.List.{[], _∷_, _++_}
+use mathlib.Core.Option.{none, some}
 use Prim.Native.Nat.{ℕ}
 use lib.ListN.{drop, getD}
-use Rattle.language.specs.Building.{Built, beginList, keepWord, makeConstant, makeWhole, makeOne, makePart, makeTwo, makeWordPart, makeBinary, makePrefix, makeCut, makeFirstArm, makeNextArm, makeChoice, makeSingle, makePair, makeStore, makeSet, makePerform, makeGoto, makeCall, makeReturn, makeWhen, makeIf, makeArm, makeChoose, constantOf, dropExpressions, dropWords, endsKept, expressionNo, listNo, nameOf, noEnds, withEnds, withExtents, withLists, withStates, withText, withWords, wordNo}
-use Rattle.language.specs.Notions.{facilityOf, oneBound, pairOf, terminalKind}
+use Rattle.language.specs.Building.{Built, beginList, keepWord, makeConstant, makeWhole, makeOne, makePart, makeTwo, makeWordPart, makeBinary, makePrefix, makeCut, makeFirstArm, makeNextArm, makeChoice, makeSingle, makePair, makeStore, makeSet, makePerform, makeGoto, makeCall, makeReturn, makeWhen, makeIf, makeArm, makeChoose, constantOf, dropExpressions, dropWords, endsKept, expressionNo, listNo, nameOf, noEnds, withEnds, withExtents, withLists, withStates, withText, wordNo}
+use Rattle.language.specs.Notions.{facilityOf, oneBound, pairOf}
 use Rattle.language.specs.Steps.{Step, Steps}
 use Rattle.language.specs.Tree as T
-use Rattle.language.specs.Tree.{Declaration, Ends, Extent, Function, Kind, Operation, State, Text}
-use Rattle.language.specs.Words.{Position, wordAt}
+use Rattle.language.specs.Tree.{Declaration, Function, Kind, Operation, State, Text}
+use Rattle.language.specs.Words.{wordAt}
 
 -- ---- Bounds.
 

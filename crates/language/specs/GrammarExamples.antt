@@ -1,9 +1,6 @@
 -- The stage of grammar, computed: precedence, what 01 leaves out refused at its word, ceilings.
-use mathlib.Core.Bool.{true, false}
-use mathlib.Core.List.{List, [], _∷_, _++_}
 use mathlib.Core.Option.{Option, none, some}
 use mathlib.Core.Path.{_≡_, refl}
-use Prim.Native.Nat.{ℕ}
 use Prim.Native.String.{String}
 use lib.ListN.{length}
 use Rattle.language.specs.Building.{Built, expressionNo, joined, listNo, wordNo}

@@ -1,5 +1,5 @@
 -- Lines and columns (01, "Words" and refusal 2): a line ends at LF, alone or after CR; a tab moves to the next column of the form 8k + 1; a line has at most 132 columns.
-use mathlib.Core.Bool.{Bool, true, false, cond, _&&_}
+use mathlib.Core.Bool.{Bool, cond, _&&_}
 use mathlib.Core.List.{List, [], _∷_}
 use Prim.Native.Nat.{ℕ, suc, _+_, _*_, _/_}
 use lib.Dec.{eqb, leb, ltb}

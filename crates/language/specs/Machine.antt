@@ -1,7 +1,7 @@
 -- The stage of grammar as a machine: a stack of what may still come, fed one word after the other. It gives the tree, or the first word at fault: 3 where no legal text goes on with it, 10 where it passes a ceiling (01, "Ceilings").
 use mathlib.Core.Bool.{Bool, true, false, cond}
 use mathlib.Core.List.{List, [], _∷_, _++_}
-use Prim.Native.Nat.{ℕ, suc, _+_, _-_}
+use Prim.Native.Nat.{ℕ, suc, _-_}
 use lib.Dec.{eqb, leb}
 use lib.ListN.{drop}
 use Rattle.language.specs.Building.{nameOf}

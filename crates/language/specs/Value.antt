@@ -2,7 +2,6 @@
 -- A value is a length in bits and a number. Each operator has a rule for the length and a rule for the number, each with its own name.
 -- m and n are the operands' lengths, x and y their numbers.
 use mathlib.Core.Bool.{Bool, true, false, cond}
-use mathlib.Core.List.{List, [], _∷_}
 use Prim.Native.Nat.{ℕ, zero, suc, _+_, _-_, _*_, _/_, _%_, _^_, max}
 use lib.Bits.{bitAnd, bitOr, bitXor}
 use lib.Count.{ones}

@@ -1,8 +1,8 @@
 -- The manual's constants and operators (2.3 and 5.3), computed; subtraction as 01 has it.
 use mathlib.Core.Bool.{true, false}
-use mathlib.Core.List.{List, [], _∷_}
+use mathlib.Core.List.{[], _∷_}
 use mathlib.Core.Path.{_≡_, refl}
-use Rattle.language.specs.Value.{value, made, none, fit, longest, sum, sumLength, difference, differenceLength, differenceNumber, negation, negationLength, equal, unequal, less, greater, atLeast, related, relationLength, complement, complementLength, complementNumber, conjunction, exclusive, disjunction, logicalLength, join, joinLength, extended, repeatLength, repeated, head, tail, cutLength, orReduction, andReduction, exclusiveReduction, sumReduction, reductionLength, countLength, part, replaced}
+use Rattle.language.specs.Value.{value, made, none, fit, longest, sum, sumLength, difference, differenceLength, differenceNumber, negation, negationLength, equal, unequal, greater, atLeast, related, relationLength, complement, complementLength, complementNumber, conjunction, exclusive, disjunction, logicalLength, join, joinLength, extended, repeatLength, repeated, head, tail, cutLength, orReduction, andReduction, exclusiveReduction, sumReduction, reductionLength, countLength, part, replaced}
 use Rattle.language.specs.Constants.{binaryConstant, decimalConstant, bareConstant, bareLength, digitsAfter, rightJustified, leftJustified}
 use lib.Count.{ones, onesIn}
 

@@ -1,18 +1,17 @@
 -- Words, columns and their faults, computed.
 use mathlib.Core.Bool.{true, false}
-use mathlib.Core.List.{List, [], _∷_}
+use mathlib.Core.List.{[], _∷_}
 use mathlib.Core.Option.{none, some}
 use mathlib.Core.Path.{_≡_, refl}
-use Prim.Native.Nat.{ℕ}
 use lib.ListN.{replicate}
 use Rattle.language.specs.Characters.{classOf, digitWorth, folded, member, symbols}
 use Rattle.language.specs.Constants.{bareConstant, bareLargest, bareLength, binaryConstant, decimalConstant, digitsAfter, leftJustified, rightJustified}
-use Rattle.language.specs.Kinds.{delayedSign, gotoSign, registerWord, sumSign}
+use Rattle.language.specs.Kinds.{delayedSign, registerWord, sumSign}
 use Rattle.language.specs.Lines.{longLines, longestLine, passes, widthAfter}
 use Rattle.language.specs.Scan.{bareAt, binaryAt, bytes, commentAt, constantAt, decimalAt, digitBits, digitsOf, itemAt, longestName, nameAt, reservedAmong, reservedWords, same, span, spelledSymbols, symbolAmong, written}
 use Rattle.language.specs.Value.{longest, value}
 use Rattle.language.specs.WordStage.{before, least, scan, scanFrom, wordFault, wordFaults}
-use Rattle.language.specs.Words.{Word, constant, fault, name, position, sign}
+use Rattle.language.specs.Words.{constant, fault, name, position, sign}
 
 -- What the examples see through.
 unfoldable pub words-open : Unit {0}

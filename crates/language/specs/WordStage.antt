@@ -1,12 +1,12 @@
 -- The stage of words (01, "Refusal numbers"): the words of a whole text with their places, the faults of words and lines, and which one answers.
-use mathlib.Core.Bool.{Bool, true, false, cond, _||_, _&&_}
+use mathlib.Core.Bool.{Bool, cond, _||_, _&&_}
 use mathlib.Core.List.{List, [], _∷_, _++_}
 use mathlib.Core.Option.{Option, none, some}
 use Prim.Native.Nat.{ℕ, zero, suc, _+_}
 use lib.Dec.{eqb, ltb}
 use lib.ListN.{drop, length}
 use Rattle.language.specs.Lines.{longLines}
-use Rattle.language.specs.Scan.{Found, Item, constant, gap, itemAt, named, sign, wrong}
+use Rattle.language.specs.Scan.{Item, constant, gap, itemAt, named, sign, wrong}
 use Rattle.language.specs.Words as W
 use Rattle.language.specs.Words.{Fault, Position, Word, fault, position}
 

@@ -1,0 +1,61 @@
+-- Judging (01, "Refusal numbers"): what has a part at fault has no further fault of its own.
+use mathlib.Core.Bool.{Bool, true, false, cond}
+use mathlib.Core.List.{List, [], _∷_, _++_}
+use Prim.Native.Nat.{ℕ}
+use lib.Dec.{eqb, leb, ltb}
+use Rattle.language.specs.Value.{longest}
+use Rattle.language.specs.Words.{Fault, Position, fault}
+
+-- What is known of an expression without fault: its length; its work (01, "Ceilings"); and, of a list of arms, how many there are, none of an expression proper. Arms of different lengths have the length 0.
+pub record Worth : Type 0 where
+  pub length : ℕ
+  pub arms : ℕ
+  pub work : ℕ
+
+pub data Judged : Type 0 where
+  fine : Worth → Judged
+  faulty : List Fault → Judged
+
+abbrev pub worth : ℕ → ℕ → ℕ → Judged
+worth l a w = fine (record { length = l; arms = a; work = w })
+
+abbrev pub faultsOf : Judged → List Fault
+faultsOf (fine w) = []
+faultsOf (faulty fs) = fs
+
+abbrev pub refuse : Position → ℕ → Judged
+refuse p n = faulty (fault p n ∷ [])
+
+-- With one part, and with two.
+abbrev pub given : Judged → (Worth → Judged) → Judged
+given (fine w) on = on w
+given (faulty fs) on = faulty fs
+
+abbrev pub givenBoth : Judged → Judged → (Worth → Worth → Judged) → Judged
+givenBoth (fine v) (fine w) on = on v w
+givenBoth (fine v) (faulty gs) on = faulty gs
+givenBoth (faulty fs) (fine w) on = faulty fs
+givenBoth (faulty fs) (faulty gs) on = faulty (fs ++ gs)
+
+-- An expression proper, and not a list of arms; the other way round. No text has the one where the other belongs.
+unfoldable pub proper : Position → Judged → Judged
+proper p (fine w) = cond (eqb (w .arms) 0) (fine w) (refuse p 3)
+proper p (faulty fs) = faulty fs
+
+unfoldable pub armList : Position → Judged → Judged
+armList p (fine w) = cond (eqb (w .arms) 0) (refuse p 3) (fine w)
+armList p (faulty fs) = faulty fs
+
+-- A length from 1 to 256, or refusal 7 at a place.
+unfoldable pub sized : Position → ℕ → ℕ → Judged
+unfolding longest
+sized p l w = cond (ltb 0 l) (cond (leb l longest) (worth l 0 w) (refuse p 7)) (refuse p 7)
+
+-- One fault where a test fails.
+abbrev pub unless : Bool → Position → ℕ → List Fault
+unless true p n = []
+unless false p n = fault p n ∷ []
+
+abbrev pub both : Bool → Bool → Bool
+both true b = b
+both false b = false

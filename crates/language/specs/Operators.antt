@@ -1,0 +1,59 @@
+-- The operators by the kinds of their words: how long a result is, and what it is. A length of 0 stands for a broken rule (01, "Lengths").
+use mathlib.Core.Bool.{cond, _||_}
+use Prim.Native.Nat.{ℕ}
+use lib.Dec.{eqb}
+use Rattle.language.specs.Kinds.{atLeastSign, atMostSign, conWord, differenceSign, equalsSign, exclusiveSign, extWord, greaterSign, hash, headWord, lessSign, minus, plus, star, sumSign, tailWord}
+use Rattle.language.specs.Notions.{isRelation}
+use Rattle.language.specs.Value.{Made, Value, andReduction, atLeast, atMost, complement, complementLength, conjunction, countLength, cutLength, difference, differenceLength, disjunction, equal, exclusive, exclusiveReduction, extended, greater, head, join, joinLength, less, logicalLength, negation, negationLength, none, orReduction, reductionLength, relationLength, repeatLength, sum, sumLength, sumReduction, tail, unequal}
+
+-- An operand of m bits on the left, one of n bits on the right.
+unfoldable pub binaryLength : ℕ → ℕ → ℕ → ℕ
+binaryLength k m n =
+    cond (eqb k sumSign) (sumLength m n)
+    (cond (eqb k differenceSign) (differenceLength m n)
+    (cond (eqb k conWord) (joinLength m n)
+    (cond (eqb k plus || eqb k star || eqb k exclusiveSign) (logicalLength m n)
+    (cond (isRelation k) relationLength 0))))
+
+unfoldable pub prefixLength : ℕ → ℕ → ℕ
+prefixLength k m =
+    cond (eqb k minus) (complementLength m)
+    (cond (eqb k differenceSign) (negationLength m)
+    (cond (eqb k sumSign) countLength
+    (cond (eqb k plus || eqb k star || eqb k exclusiveSign) reductionLength 0)))
+
+-- HEAD, TAIL and EXT with a count c.
+unfoldable pub cutLengthOf : ℕ → ℕ → ℕ → ℕ
+cutLengthOf k m c =
+    cond (eqb k headWord || eqb k tailWord) (cutLength m c)
+    (cond (eqb k extWord) (repeatLength m c) 0)
+
+unfoldable pub binaryOf : ℕ → Value → Value → Made
+binaryOf k x y =
+    cond (eqb k sumSign) (sum x y)
+    (cond (eqb k differenceSign) (difference x y)
+    (cond (eqb k conWord) (join x y)
+    (cond (eqb k plus) (disjunction x y)
+    (cond (eqb k star) (conjunction x y)
+    (cond (eqb k exclusiveSign) (exclusive x y)
+    (cond (eqb k equalsSign) (equal x y)
+    (cond (eqb k hash) (unequal x y)
+    (cond (eqb k lessSign) (less x y)
+    (cond (eqb k greaterSign) (greater x y)
+    (cond (eqb k atMostSign) (atMost x y)
+    (cond (eqb k atLeastSign) (atLeast x y) none)))))))))))
+
+unfoldable pub prefixOf : ℕ → Value → Made
+prefixOf k x =
+    cond (eqb k minus) (complement x)
+    (cond (eqb k differenceSign) (negation x)
+    (cond (eqb k plus) (orReduction x)
+    (cond (eqb k star) (andReduction x)
+    (cond (eqb k exclusiveSign) (exclusiveReduction x)
+    (cond (eqb k sumSign) (sumReduction x) none)))))
+
+unfoldable pub cutOf : ℕ → Value → ℕ → Made
+cutOf k x c =
+    cond (eqb k headWord) (head x c)
+    (cond (eqb k tailWord) (tail x c)
+    (cond (eqb k extWord) (extended x c) none))

@@ -1,0 +1,178 @@
+-- One cycle (01, "One cycle") on the words of the store. The stops are tested in 01's order: S7; S1 and S8 when met; then S2, S4, S3, S6, S5.
+use mathlib.Core.Bool.{Bool, true, false, cond, _||_}
+use mathlib.Core.List.{List, []}
+use mathlib.Core.Option.{Option, none, some}
+use Prim.Native.Nat.{ℕ, zero, suc, _+_, _-_}
+use lib.Dec.{eqb, leb, ltb}
+use lib.ListN.{getD, length, replicate, set}
+use Rattle.language.specs.Acting.{Doing, Ran, runActions, went}
+use Rattle.language.specs.Description.{Description, State, constantValue, nodeAt, sequencingOf, stateAt}
+use Rattle.language.specs.Judging.{both}
+use Rattle.language.specs.Meaning.{Stuck, noState, noStateValue}
+use Rattle.language.specs.Store.{Held, Words, begin, conflicts, held, landAll, numbers, setWord, wordOf}
+use Rattle.language.specs.Value.{bit}
+
+-- ---- The run record: state, cycle number, and the return states held, up to 16, unused ones zero.
+
+pub record Record : Type 0 where
+  pub state : ℕ
+  pub cycle : ℕ
+  pub held : ℕ
+  pub returns : List ℕ
+
+unfoldable pub mostReturns : ℕ
+mostReturns = 16
+
+unfoldable pub lastCycle : ℕ
+lastCycle = 4294967295
+
+-- ---- The stops, as one list.
+
+abbrev pub outsideBounds : ℕ
+outsideBounds = 1
+
+abbrev pub twoNextStates : ℕ
+twoNextStates = 2
+
+abbrev pub valueUnborne : ℕ
+valueUnborne = 3
+
+abbrev pub nothingToReturn : ℕ
+nothingToReturn = 4
+
+abbrev pub tooManyCalls : ℕ
+tooManyCalls = 5
+
+abbrev pub noNextState : ℕ
+noNextState = 6
+
+abbrev pub lastCycleReached : ℕ
+lastCycleReached = 7
+
+abbrev pub noArm : ℕ
+noArm = 8
+
+-- What a cycle gives: the words and the record after it with the conflict count; a stop; or nothing.
+pub data Outcome : Type 0 where
+  completed : Words → Record → ℕ → Outcome
+  stopped : ℕ → Outcome
+  stuck : Stuck → Outcome
+
+module _ (d : Description) where
+  -- ---- State values.
+
+  abbrev pub numberAt : Option ℕ → Option ℕ
+  numberAt none = none
+  numberAt (some n) = some (constantValue (nodeAt d n) .number)
+
+  -- The value that a state bears.
+  unfoldable pub stateNumber : ℕ → Option ℕ
+  stateNumber s = numberAt (stateAt d s .value)
+
+  abbrev pub bears : Option ℕ → ℕ → Bool
+  bears none x = false
+  bears (some y) x = eqb x y
+
+  -- The first of k states from n on that bears x.
+  unfoldable pub bearer : ℕ → ℕ → ℕ → Option ℕ
+  bearer zero n x = none
+  bearer (suc k) n x =
+      let later = bearer k (suc n) x in
+      cond (bears (stateNumber n) x) (some n) later
+
+  abbrev pub stateCount : ℕ
+  stateCount = length (d .states)
+
+  -- The sequencing register's value in a store.
+  abbrev pub registerValue : Option ℕ → Words → ℕ
+  registerValue none s = 0
+  registerValue (some f) s = wordOf s f 0
+
+  -- The state whose value the sequencing register has.
+  abbrev pub sequencedState : Words → Option ℕ
+  sequencedState s = bearer stateCount 0 (registerValue (sequencingOf d) s)
+
+  -- The sequencing register takes the value of the state entered.
+  abbrev pub setRegister : Option ℕ → Option ℕ → Words → Option Words
+  setRegister none v s = some s
+  setRegister (some f) none s = none
+  setRegister (some f) (some x) s = some (setWord s f 0 x)
+
+  -- ---- The next state.
+
+  module _ (r : Record) (c : Doing Held) where
+    -- ->, RETURN, and delayed stores to the sequencing register, which together count once.
+    abbrev pub plainCount : ℕ
+    plainCount = length (c .gotos) + c .returns + bit (c .sequenced)
+
+    abbrev pub landed : Words
+    landed = landAll d (c .store .words) (c .store .waits)
+
+    abbrev pub returnsLeft : ℕ
+    returnsLeft = cond (ltb 0 (c .returns)) (r .held - 1) (r .held)
+
+    -- The returns after any RETURN has taken its own off.
+    abbrev pub popped : List ℕ
+    popped = cond (ltb 0 (c .returns)) (set (r .returns) (r .held - 1) 0) (r .returns)
+
+    abbrev pub orZero : Option ℕ → ℕ
+    orZero none = 0
+    orZero (some n) = n
+
+    unfoldable pub plainNext : ℕ
+    plainNext =
+        cond (ltb 0 (length (c .gotos))) (getD (c .gotos) 0 0)
+        (cond (ltb 0 (c .returns)) (getD (r .returns) (r .held - 1) 0)
+        (cond (c .sequenced) (orZero (sequencedState landed)) (r .state + 1)))
+
+    abbrev pub isNone : Option ℕ → Bool
+    isNone none = true
+    isNone (some n) = false
+
+    -- The first stop after the actions, if any.
+    unfoldable pub stopAfter : Option ℕ
+    stopAfter =
+        cond (leb 2 plainCount || leb 2 (length (c .calls))) (some twoNextStates)
+        (cond (both (ltb 0 (c .returns)) (eqb (r .held) 0)) (some nothingToReturn)
+        (cond (both (c .sequenced) (isNone (sequencedState landed))) (some valueUnborne)
+        (cond (both (eqb plainCount 0) (leb stateCount (r .state + 1))) (some noNextState)
+        (cond (both (ltb 0 (length (c .calls))) (leb mostReturns returnsLeft)) (some tooManyCalls) none))))
+
+    -- => T puts the plain next state on the returns and goes to T.
+    unfoldable pub nextRecord : Record
+    nextRecord =
+        cond (ltb 0 (length (c .calls)))
+        (record { state = getD (c .calls) 0 0; cycle = suc (r .cycle); held = suc returnsLeft; returns = set popped returnsLeft plainNext })
+        (record { state = plainNext; cycle = suc (r .cycle); held = returnsLeft; returns = popped })
+
+    abbrev pub entered : Option Words → Outcome
+    entered none = stuck noStateValue
+    entered (some s) = completed s nextRecord (conflicts [] (c .store .waits))
+
+    abbrev pub orStopped : Option ℕ → Outcome
+    orStopped none = entered (setRegister (sequencingOf d) (stateNumber (nextRecord .state)) landed)
+    orStopped (some n) = stopped n
+
+    unfoldable pub finished : Outcome
+    finished = orStopped stopAfter
+
+  abbrev pub afterActions : Record → Ran Held → Outcome
+  afterActions r (went c) = finished r c
+  afterActions r (Ran.stopped n) = stopped n
+  afterActions r (Ran.stuck s) = stuck s
+
+  abbrev pub nothingDone : Words → Doing Held
+  nothingDone s = record { store = held s []; gotos = []; returns = 0; calls = []; sequenced = false }
+
+  -- A cycle with these input words.
+  unfoldable pub step : Words → Record → Words → Outcome
+  step s r ins =
+      let run = runActions (numbers d) d (stateAt d (r .state) .actions) (nothingDone (begin (d .facilities) s ins)) in
+      let done = afterActions r run in
+      cond (leb lastCycle (r .cycle)) (stopped lastCycleReached)
+      (cond (ltb (r .state) stateCount) done (stuck noState))
+
+  -- ---- Opening: everything zero, the first state, cycle 0, and the sequencing register set.
+
+  abbrev pub openRecord : Record
+  openRecord = record { state = 0; cycle = 0; held = 0; returns = replicate mostReturns 0 }
