@@ -46,3 +46,6 @@ pub mod Reading
 pub mod RecordBytes
 pub mod Calls
 pub mod Lookups
+pub mod Trace
+pub mod Computing
+pub mod Cases
