@@ -49,3 +49,6 @@ pub mod Lookups
 pub mod Trace
 pub mod Computing
 pub mod Cases
+pub mod ImageExamples
+pub mod RefusalExamples
+pub mod RunExamples
