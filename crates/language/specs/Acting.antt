@@ -11,6 +11,7 @@ use Rattle.language.specs.Kinds.{delayedSign}
 use Rattle.language.specs.Meaning.{Answer, Located, Place, Stores, Stuck, Write, armNumber, evalAt, evalBelow, is, noOperation, noState, notOneBit, notStorable, placeOf, runsOver, sidesDiffer, stops, wrongRecord}
 use Rattle.language.specs.Recursion.{below}
 use Rattle.language.specs.References.{Reference, referenceOf}
+use Rattle.language.specs.Stops.{noArm}
 use Rattle.language.specs.Storing.{isPlain, mayStore}
 use Rattle.language.specs.Value.{Value}
 
@@ -163,7 +164,7 @@ module _ {X : Type 0} (S : Stores X) (d : Description) where
       inArm x (some r) c = onward (ev (r .count) (r .first) c) (passing x)
 
       abbrev pub armChosen : ℕ → Option ℕ → Doing X → Ran X
-      armChosen x none c = stopped 8
+      armChosen x none c = stopped noArm
       armChosen x (some k) c = inArm x (armAt (k - 1) (i + 1) x) c
 
       -- IF without ELSE: one takes the arm, zero takes nothing.

@@ -26,6 +26,7 @@ use Rattle.language.specs.Rules as Rules
 use Rattle.language.specs.Encode as Encode
 use Rattle.language.specs.Decode as Decode
 use Rattle.language.specs.Canonical as Canonical
+use Rattle.language.specs.Order as Order
 use Rattle.language.specs.Image as Image
 use Rattle.language.specs.Meaning as Meaning
 use Rattle.language.specs.Acting as Acting
@@ -39,5 +40,5 @@ use Rattle.language.specs.Trace as Trace
 use lib.Count as Count
 
 unfoldable pub computing : Unit {0}
-unfolding Count.ones Count.onesIn Value.longest Value.fit Value.sumLength Value.differenceLength Value.negationLength Value.relationLength Value.complementLength Value.logicalLength Value.joinLength Value.repeatLength Value.cutLength Value.reductionLength Value.countLength Value.differenceNumber Value.complementNumber Value.repeated Value.sum Value.difference Value.negation Value.related Value.equal Value.unequal Value.less Value.greater Value.atMost Value.atLeast Value.complement Value.conjunction Value.exclusive Value.disjunction Value.join Value.extended Value.head Value.tail Value.orReduction Value.andReduction Value.exclusiveReduction Value.sumReduction Value.part Value.replaced Constants.digitsAfter Constants.rightJustified Constants.leftJustified Constants.binaryConstant Constants.decimalConstant Constants.bareLength Constants.bareConstant Constants.bareLargest Characters.member Characters.folded Characters.symbols Characters.classOf Characters.digitWorth Scan.bytes Scan.same Scan.span Scan.reservedWords Scan.reservedAmong Scan.longestName Scan.nameAt Scan.digitBits Scan.digitsOf Scan.binaryAt Scan.decimalAt Scan.bareAt Scan.constantAt Scan.spelledSymbols Scan.symbolAmong Scan.commentAt Scan.itemAt Lines.longestLine Lines.widthAfter Lines.passes Lines.longLines WordStage.before WordStage.least WordStage.scanFrom WordStage.scan WordStage.wordsFrom WordStage.wordFaults WordStage.wordFault Building.wordNo Building.expressionNo Building.listNo Building.joined Machine.mostFacilities Machine.mostOperations Machine.mostStates Machine.mostCounted Machine.deepest Machine.tallied Machine.withinCeilings Machine.choose Machine.feed Machine.finish Machine.run Sections.ruleOf Sections.parseWith Sections.parse Ceilings.countedExpression Ceilings.countedActions Ceilings.countedTerminals Ceilings.countedOperations Ceilings.countedStates Ceilings.countedWords Recursion.below Description.spanOf Description.inBounds Description.fromFirst Description.wordLength Description.wordCount Description.digitLength Description.furtherDigits Description.facilityAt Description.nodeAt Description.actionAt Description.operationAt Description.stateAt Description.sequencingFrom Description.sequencingOf Description.nodePlace Description.actionPlace Description.facilityPlace Description.operationPlace Description.statePlace Naming.numberOf Naming.meaning Describe.constantSize Describe.expressionSize Describe.expressionsIn Describe.actionsIn Describe.armsOf Describe.armsIn Describe.digitsAbove Describe.constantNodes Describe.nodesOf Describe.nodesIn Describe.actionsOf DescribeText.facilitiesOf DescribeText.facilityNodes DescribeText.facilitySize DescribeText.operationsOf DescribeText.operationNodes DescribeText.operationActions DescribeText.operationExpressions DescribeText.operationRecords DescribeText.stateConstant DescribeText.statesOf DescribeText.stateNodes DescribeText.stateActions DescribeText.describe Operators.binaryLength Operators.prefixLength Operators.cutLengthOf Operators.binaryOf Operators.prefixOf Operators.cutOf Judging.proper Judging.armList Judging.sized References.rightCount References.takenLength References.sameDirection ReferenceRules.boundFaults ReferenceRules.directionFaults ReferenceRules.subscriptsJudged ReferenceRules.referenceJudged Expressions.longestSelector Expressions.selects Expressions.ownWork Expressions.evenly Expressions.judgeNode Expressions.judgeBelow Expressions.judgeAt Expressions.leftAt Storing.mayStore ActionRules.kindAt ActionRules.simpleJudged ActionRules.listJudged ActionRules.armsJudged ActionRules.runBelow ActionRules.runJudged ActionRules.operationBelow ActionRules.operationJudged Layout.wordBytes Layout.facilityBytes Layout.placeIn Layout.storeSizeOf Layout.storeSize Layout.bytesOf Layout.numberAfter Layout.wordToBytes Layout.wordFromBytes Layout.noSpareBits Rules.largestBound Rules.largestStore Rules.mostWork Rules.declared Rules.nameFaults Rules.boundsFaults Rules.sequencingRight Rules.facilityFaults Rules.facilitiesFaults Rules.operationsFaults Rules.repeated Rules.stateFaults Rules.statesFaults Rules.sequencingLength Rules.faults Encode.little Encode.facilityRecord Encode.facilityRecords Encode.operationRecord Encode.nodeBytes Encode.actionBytes Encode.stateRecord Encode.concat Encode.nameBytes Encode.encode Decode.numberAt Decode.kindOf Decode.facilityOf Decode.digitsMarked Decode.digitsBefore Decode.constantAt Decode.operatorOf Decode.plainNode Decode.nodeOf Decode.actionWith Decode.actionOf Decode.facilitiesAt Decode.operationsAt Decode.statesAt Decode.namesLength Decode.upTo Decode.decode Canonical.digitsStand Canonical.constantStart Canonical.startNode Canonical.startBelow Canonical.startAt Canonical.treesEnd Canonical.facilityRoots Canonical.runRoots Canonical.operationRoots Canonical.stateRoots Canonical.treesRight Canonical.operationsEnd Canonical.statesEnd Canonical.runsRight Canonical.facilityRight Canonical.facilitiesRight Canonical.nameParts Canonical.nameRight Canonical.all Canonical.total Canonical.countedRecords Canonical.countsRight Canonical.canonical Image.legalForm Image.passes Meaning.located Meaning.armNumber Meaning.placeOf Meaning.armBack Meaning.evalNode Meaning.evalBelow Meaning.evalAt Acting.side Acting.putAll Acting.landing Acting.storing Acting.simple Acting.armAt Acting.listAct Acting.listBelow Acting.runList Acting.operationBelow Acting.runActions Store.wordOf Store.setWord Store.loadPart Store.putPart Store.putParts Store.landAll Store.meet Store.meetsAny Store.anyMeets Store.conflicts Store.wordsFrom Store.wordsTo Store.fromBytes Store.toBytes Store.allNarrow Store.narrow Store.zeroWords Store.inputsOf Store.begin Step.mostReturns Step.lastCycle Step.stateNumber Step.bearer Step.plainNext Step.stopAfter Step.nextRecord Step.finished Step.step Reading.filled Reading.longestText Reading.restOf Reading.readText Reading.read RecordBytes.openMark RecordBytes.fours RecordBytes.recordBytes RecordBytes.returnsFrom RecordBytes.recordFrom RecordBytes.returnsSound RecordBytes.sound RecordBytes.marked Calls.openRefusal Calls.openWords Calls.open′ Calls.stimulusSize Calls.roomy Calls.soundBytes Calls.wellFormed Calls.cycleRefusal Calls.cycle Calls.allWellFormed Calls.runRefusal Calls.cycles Calls.run Lookups.facilityPart Lookups.statePart Lookups.facilityName Lookups.stateName Lookups.facility Trace.decimalFrom Trace.bits Trace.facilitiesLine Trace.cycleLine Trace.bitsNumber Trace.lineWords Trace.runLines Trace.traceImage Trace.trace
+unfolding Count.ones Count.onesIn Value.longest Value.fit Value.sumLength Value.differenceLength Value.negationLength Value.relationLength Value.complementLength Value.logicalLength Value.joinLength Value.repeatLength Value.cutLength Value.reductionLength Value.countLength Value.differenceNumber Value.complementNumber Value.repeated Value.sum Value.difference Value.negation Value.related Value.equal Value.unequal Value.less Value.greater Value.atMost Value.atLeast Value.complement Value.conjunction Value.exclusive Value.disjunction Value.join Value.extended Value.head Value.tail Value.orReduction Value.andReduction Value.exclusiveReduction Value.sumReduction Value.part Value.replaced Constants.digitsAfter Constants.rightJustified Constants.leftJustified Constants.binaryConstant Constants.decimalConstant Constants.bareLength Constants.bareConstant Constants.bareLargest Characters.member Characters.folded Characters.symbols Characters.classOf Characters.digitWorth Scan.bytes Scan.same Scan.span Scan.reservedWords Scan.reservedAmong Scan.longestName Scan.nameAt Scan.digitBits Scan.digitsOf Scan.binaryAt Scan.decimalAt Scan.bareAt Scan.constantAt Scan.spelledSymbols Scan.symbolAmong Scan.commentAt Scan.itemAt Lines.longestLine Lines.widthAfter Lines.passes Lines.longLines WordStage.before WordStage.least WordStage.scanFrom WordStage.scan WordStage.wordsFrom WordStage.wordFaults WordStage.wordFault Building.wordNo Building.expressionNo Building.listNo Building.joined Machine.mostFacilities Machine.mostOperations Machine.mostStates Machine.mostCounted Machine.deepest Machine.tallied Machine.withinCeilings Machine.choose Machine.feed Machine.finish Machine.run Sections.ruleOf Sections.parseWith Sections.parse Ceilings.countedExpression Ceilings.countedActions Ceilings.countedTerminals Ceilings.countedOperations Ceilings.countedStates Ceilings.countedWords Recursion.below Description.spanOf Description.inBounds Description.fromFirst Description.wordLength Description.wordCount Description.digitLength Description.furtherDigits Description.facilityAt Description.nodeAt Description.actionAt Description.operationAt Description.stateAt Description.sequencingFrom Description.sequencingOf Description.nodePlace Description.actionPlace Description.facilityPlace Description.operationPlace Description.statePlace Naming.numberOf Naming.meaning Describe.constantSize Describe.expressionSize Describe.expressionsIn Describe.actionsIn Describe.armsOf Describe.armsIn Describe.digitsAbove Describe.constantNodes Describe.nodesOf Describe.nodesIn Describe.actionsOf DescribeText.facilitiesOf DescribeText.facilityNodes DescribeText.facilitySize DescribeText.operationsOf DescribeText.operationNodes DescribeText.operationActions DescribeText.operationExpressions DescribeText.operationRecords DescribeText.stateConstant DescribeText.statesOf DescribeText.stateNodes DescribeText.stateActions DescribeText.describe Operators.binaryLength Operators.prefixLength Operators.cutLengthOf Operators.binaryOf Operators.prefixOf Operators.cutOf Judging.proper Judging.armList Judging.sized References.rightCount References.takenLength References.sameDirection ReferenceRules.boundFaults ReferenceRules.directionFaults ReferenceRules.subscriptsJudged ReferenceRules.referenceJudged Expressions.longestSelector Expressions.selects Expressions.ownWork Expressions.evenly Expressions.judgeNode Expressions.judgeBelow Expressions.judgeAt Expressions.leftAt Storing.mayStore ActionRules.kindAt ActionRules.simpleJudged ActionRules.listJudged ActionRules.armsJudged ActionRules.runBelow ActionRules.runJudged ActionRules.operationBelow ActionRules.operationJudged Layout.wordBytes Layout.facilityBytes Layout.placeIn Layout.storeSizeOf Layout.storeSize Layout.bytesOf Layout.numberAfter Layout.wordToBytes Layout.wordFromBytes Layout.noSpareBits Rules.largestBound Rules.largestStore Rules.mostWork Rules.declared Rules.nameFaults Rules.boundsFaults Rules.sequencingRight Rules.facilityFaults Rules.facilitiesFaults Rules.operationsFaults Rules.repeated Rules.stateFaults Rules.statesFaults Rules.sequencingLength Rules.faults Encode.little Encode.facilityRecord Encode.facilityRecords Encode.operationRecord Encode.nodeBytes Encode.actionBytes Encode.stateRecord Encode.concat Encode.nameBytes Encode.encode Decode.numberAt Decode.kindOf Decode.facilityOf Decode.digitsMarked Decode.digitsBefore Decode.constantAt Decode.operatorOf Decode.plainNode Decode.nodeOf Decode.actionWith Decode.actionOf Decode.facilitiesAt Decode.operationsAt Decode.statesAt Decode.namesLength Decode.upTo Decode.decode Order.digitsStand Order.constantStart Order.startNode Order.startBelow Order.startAt Order.treesEnd Order.facilityRoots Order.runRoots Order.operationRoots Order.stateRoots Order.treesRight Order.operationsEnd Order.statesEnd Order.runsRight Canonical.facilityRight Canonical.facilitiesRight Canonical.nameParts Canonical.nameRight Canonical.all Canonical.total Canonical.countedRecords Canonical.countsRight Canonical.canonical Image.legalForm Image.passes Meaning.located Meaning.armNumber Meaning.placeOf Meaning.armBack Meaning.evalNode Meaning.evalBelow Meaning.evalAt Acting.side Acting.putAll Acting.landing Acting.storing Acting.simple Acting.armAt Acting.listAct Acting.listBelow Acting.runList Acting.operationBelow Acting.runActions Store.wordOf Store.setWord Store.loadPart Store.putPart Store.putParts Store.landAll Store.meet Store.meetsAny Store.anyMeets Store.conflicts Store.wordsFrom Store.wordsTo Store.fromBytes Store.toBytes Store.allNarrow Store.narrow Store.zeroWords Store.inputsOf Store.begin Step.mostReturns Step.lastCycle Step.stateNumber Step.bearer Step.plainNext Step.stopAfter Step.nextRecord Step.finished Step.step Reading.filled Reading.longestText Reading.restOf Reading.readText Reading.read RecordBytes.openMark RecordBytes.fours RecordBytes.recordBytes RecordBytes.returnsFrom RecordBytes.recordFrom RecordBytes.returnsSound RecordBytes.sound RecordBytes.marked Calls.openRefusal Calls.openWords Calls.open′ Calls.stimulusSize Calls.roomy Calls.soundBytes Calls.wellFormed Calls.cycleRefusal Calls.cycle Calls.allWellFormed Calls.runRefusal Calls.cycles Calls.run Lookups.facilityPart Lookups.statePart Lookups.facilityName Lookups.stateName Lookups.facility Trace.decimalFrom Trace.bits Trace.facilitiesLine Trace.cycleLine Trace.bitsNumber Trace.lineWords Trace.runLines Trace.traceImage Trace.trace
 computing = tt

@@ -12,6 +12,7 @@ use Rattle.language.specs.Operators.{binaryOf, cutOf, prefixOf}
 use Rattle.language.specs.Recursion.{below}
 use Rattle.language.specs.References as R
 use Rattle.language.specs.References.{Reference, Subscripts, part, rightCount, sameDirection, two, whole, wordPart}
+use Rattle.language.specs.Stops.{noArm, outsideBounds}
 use Rattle.language.specs.Value as Value
 use Rattle.language.specs.Value.{Made, Value, longest, made, value}
 
@@ -76,7 +77,7 @@ pub data Located : Type 0 where
 
 -- S1: a computed subscript outside its bounds. `on` goes on with how far it is from the first bound.
 abbrev pub subscript : Answer → Bounds → (ℕ → Located) → Located
-subscript (is v) b on = cond (inBounds b (v .number)) (on (fromFirst b (v .number))) (Located.stops 1)
+subscript (is v) b on = cond (inBounds b (v .number)) (on (fromFirst b (v .number))) (Located.stops outsideBounds)
 subscript (stops n) b on = Located.stops n
 subscript (stuck s) b on = Located.stuck s
 
@@ -165,7 +166,7 @@ module _ {X : Type 0} (S : Stores X) (d : Description) (x : X) where
 
   -- S8: a CASE value without an arm.
   abbrev pub chosen : (ℕ → Answer) → ℕ → ℕ → Option ℕ → Answer
-  chosen ev a n none = stops 8
+  chosen ev a n none = stops noArm
   chosen ev a n (some k) = armWorth ev (armBack d (n - k) a)
 
   unfoldable pub evalNode : (ℕ → Answer) → Node → Answer

@@ -9,6 +9,7 @@ use Rattle.language.specs.Acting.{Doing, Ran, runActions, went}
 use Rattle.language.specs.Description.{Description, State, constantValue, nodeAt, sequencingOf, stateAt}
 use Rattle.language.specs.Judging.{both}
 use Rattle.language.specs.Meaning.{Stuck, noState, noStateValue}
+use Rattle.language.specs.Stops.{lastCycleReached, noNextState, nothingToReturn, tooManyCalls, twoNextStates, valueUnborne}
 use Rattle.language.specs.Store.{Held, Words, begin, conflicts, held, landAll, numbers, setWord, wordOf}
 use Rattle.language.specs.Value.{bit}
 
@@ -25,32 +26,6 @@ mostReturns = 16
 
 unfoldable pub lastCycle : ℕ
 lastCycle = 4294967295
-
--- ---- The stops, as one list.
-
-abbrev pub outsideBounds : ℕ
-outsideBounds = 1
-
-abbrev pub twoNextStates : ℕ
-twoNextStates = 2
-
-abbrev pub valueUnborne : ℕ
-valueUnborne = 3
-
-abbrev pub nothingToReturn : ℕ
-nothingToReturn = 4
-
-abbrev pub tooManyCalls : ℕ
-tooManyCalls = 5
-
-abbrev pub noNextState : ℕ
-noNextState = 6
-
-abbrev pub lastCycleReached : ℕ
-lastCycleReached = 7
-
-abbrev pub noArm : ℕ
-noArm = 8
 
 -- What a cycle gives: the words and the record after it with the conflict count; a stop; or nothing.
 pub data Outcome : Type 0 where
