@@ -7,10 +7,9 @@ use lib.Dec.{eqb, leb, ltb}
 use lib.ListN.{length}
 use Rattle.language.specs.Description as D
 use Rattle.language.specs.Description.{Action, Description, Places, Run, actionAt, actionPlace, facilityAt, nodeAt, operationAt}
-use Rattle.language.specs.Expressions.{expressionAt, leftAt, ownWork, selects}
-use Rattle.language.specs.Judging.{Judged, Worth, both, given, givenBoth, refuse, unless, worth}
+use Rattle.language.specs.Expressions.{expressionAt, leftAt, ownWork, selects, terminalBelow}
+use Rattle.language.specs.Judging.{Judged, Worth, both, given, givenBoth, orFaulty, refuse, unless, worth}
 use Rattle.language.specs.Recursion.{below}
-use Rattle.language.specs.ReferenceRules.{orFaulty}
 use Rattle.language.specs.References.{Reference, referenceOf}
 use Rattle.language.specs.Storing.{isPlain, mayStore}
 use Rattle.language.specs.Tree.{Kind, computed}
@@ -34,14 +33,14 @@ module _ (d : Description) (p : Places) (inState : Bool) (works : ℕ → Judged
   everything = length (d .facilities)
 
   abbrev pub side : ℕ → Judged
-  side n = leftAt d p everything n
+  side n = leftAt d p (terminalBelow d p everything) everything n
 
   abbrev pub right : ℕ → Judged
-  right n = expressionAt d p everything n
+  right n = expressionAt d p (terminalBelow d p everything) everything n
 
   abbrev pub stored : Bool → Position → Worth → Worth → Judged
   stored allowed at v w =
-      orFaulty d p (unless (eqb (v .length) (w .length)) at 7 ++ unless allowed at 8) (worth 1 0 (ownWork + v .work + w .work))
+      orFaulty (unless (eqb (v .length) (w .length)) at 7 ++ unless allowed at 8) (worth 1 0 (ownWork + v .work + w .work))
 
   -- Two references on the left have their lengths together.
   abbrev pub sides : ℕ → ℕ → Judged
@@ -60,7 +59,7 @@ module _ (d : Description) (p : Places) (inState : Bool) (works : ℕ → Judged
   simpleJudged at (D.storePair k l m r) =
       onlyIn notInState at (givenBoth (sides l m) (right r) (stored (both (mayStore k (kindAt d l)) (mayStore k (kindAt d m))) at))
   simpleJudged at (D.set l) =
-      given (side l) (λ v. orFaulty d p (unless (both (isPlain (kindAt d l)) (eqb (v .length) 1)) at 8) (worth 1 0 (ownWork + v .work)))
+      given (side l) (λ v. orFaulty (unless (both (isPlain (kindAt d l)) (eqb (v .length) 1)) at 8) (worth 1 0 (ownWork + v .work)))
   simpleJudged at (D.perform o) = given (works o) (λ v. worth 1 0 (ownWork + v .work))
   simpleJudged at (D.goto s) = onlyIn inState at (cond (ltb s (length (d .states))) (worth 1 0 ownWork) (refuse at 4))
   simpleJudged at (D.call s) = onlyIn inState at (cond (ltb s (length (d .states))) (worth 1 0 ownWork) (refuse at 4))

@@ -4,7 +4,7 @@ use mathlib.Core.Option.{Option, none, some}
 use Prim.Native.Nat.{ℕ, suc, _+_, _^_}
 use lib.Dec.{eqb, leb}
 use Rattle.language.specs.Description as D
-use Rattle.language.specs.Description.{Description, Node, NodePlaces, Places, nodeAt, nodePlace}
+use Rattle.language.specs.Description.{Description, Node, NodePlaces, Places, facilityAt, nodeAt, nodePlace}
 use Rattle.language.specs.Judging.{Judged, Worth, armList, both, given, givenBoth, proper, refuse, sized, worth}
 use Rattle.language.specs.Operators.{binaryLength, cutLengthOf, prefixLength}
 use Rattle.language.specs.Recursion.{below}
@@ -30,13 +30,14 @@ ownWork = 1
 unfoldable pub evenly : ℕ → ℕ → ℕ
 evenly m n = cond (eqb m n) m 0
 
-module _ (d : Description) (p : Places) (known : ℕ) where
+-- `known` facilities may be named; `terminals` judges the expressions of computed ones.
+module _ (d : Description) (p : Places) (terminals : ℕ → Judged) (known : ℕ) where
   abbrev pub properAt : (ℕ → Judged) → ℕ → Judged
   properAt ev a = proper (nodePlace p a .at) (ev a)
 
   abbrev pub operandAt : (ℕ → Judged) → NodePlaces → Option Reference → Judged
   operandAt ev at none = refuse (at .at) 4
-  operandAt ev at (some r) = referenceJudged d p ev ownWork known r at
+  operandAt ev at (some r) = referenceJudged d p terminals ev ownWork known r at
 
   abbrev pub choiceJudged : Position → ℕ → Worth → Worth → Judged
   choiceJudged at n c a =
@@ -80,7 +81,19 @@ module _ (d : Description) (p : Places) (known : ℕ) where
 
   abbrev pub leftOf : ℕ → Option Reference → Judged
   leftOf n none = refuse (nodePlace p n .at) 4
-  leftOf n (some r) = referenceJudged d p (judgeBelow n) 0 known r (nodePlace p n)
+  leftOf n (some r) = referenceJudged d p terminals (judgeBelow n) 0 known r (nodePlace p n)
 
   unfoldable pub leftAt : ℕ → Judged
   leftAt n = leftOf n (referenceOf (nodeAt d n))
+
+-- ---- Computed terminals: each names only facilities before it.
+
+module _ (d : Description) (p : Places) where
+  abbrev pub terminalStep : (ℕ → Judged) → ℕ → Judged
+  terminalStep ev n = expressionAt d p ev n (facilityAt d n .expression)
+
+  unfoldable pub terminalBelow : ℕ → ℕ → Judged
+  terminalBelow = below (refuse D.nowhere 4) terminalStep
+
+  unfoldable pub terminalJudged : ℕ → Judged
+  terminalJudged n = terminalStep (terminalBelow n) n

@@ -59,3 +59,8 @@ unless false p n = fault p n ∷ []
 abbrev pub both : Bool → Bool → Bool
 both true b = b
 both false b = false
+
+-- Faults of parts, and else what comes after them.
+abbrev pub orFaulty : List Fault → Judged → Judged
+orFaulty [] j = j
+orFaulty (x ∷ xs) j = faulty (x ∷ xs)

@@ -5,11 +5,12 @@ use mathlib.Core.Option.{Option, none, some}
 use Prim.Native.Nat.{ℕ, _+_}
 use lib.Dec.{eqb, ltb}
 use Rattle.language.specs.Description.{Bounds, Description, Facility, NodePlaces, Places, facilityAt, inBounds, isComputed, nodeAt, nodePlace}
-use Rattle.language.specs.Judging.{Judged, Worth, faulty, faultsOf, givenBoth, proper, refuse, sized, unless, worth}
+use Rattle.language.specs.Judging.{Judged, Worth, faultsOf, givenBoth, orFaulty, proper, refuse, sized, unless, worth}
 use Rattle.language.specs.References.{Reference, Subscripts, constantOf, one, part, rightCount, sameDirection, takenLength, two, whole, wordPart}
 use Rattle.language.specs.Words.{Fault, Position}
 
-module _ (d : Description) (p : Places) where
+-- `terminals` judges the expression of a computed terminal that may be named.
+module _ (d : Description) (p : Places) (terminals : ℕ → Judged) where
   -- A subscript that is one constant lies within the bounds.
   abbrev pub constantFaults : Bounds → Position → Option ℕ → List Fault
   constantFaults b at none = []
@@ -52,19 +53,15 @@ module _ (d : Description) (p : Places) where
   subscriptsJudged ev (wordPart e b) = subscriptWorth ev e
 
   -- A computed terminal adds its expression's work.
-  abbrev pub computedWork : (ℕ → Judged) → Facility → Judged
-  computedWork ev f = cond (isComputed (f .kind)) (ev (f .expression)) (worth 1 0 0)
-
-  abbrev pub orFaulty : List Fault → Judged → Judged
-  orFaulty [] j = j
-  orFaulty (x ∷ xs) j = faulty (x ∷ xs)
+  abbrev pub computedWork : ℕ → Facility → Judged
+  computedWork n f = cond (isComputed (f .kind)) (terminals n) (worth 1 0 0)
 
   -- A reference with the right number of subscripts; `own` is its own work.
-  abbrev pub countedRight : (ℕ → Judged) → ℕ → Facility → Subscripts → NodePlaces → Judged
-  countedRight ev own f s at =
+  abbrev pub countedRight : (ℕ → Judged) → ℕ → ℕ → Facility → Subscripts → NodePlaces → Judged
+  countedRight ev own n f s at =
       orFaulty (faultsOf (subscriptsJudged ev s) ++ boundFaults f s at)
       (orFaulty (directionFaults f s at)
-      (givenBoth (subscriptsJudged ev s) (computedWork ev f) (λ v w. sized (at .at) (takenLength f s) (own + v .work + w .work))))
+      (givenBoth (subscriptsJudged ev s) (computedWork n f) (λ v w. sized (at .at) (takenLength f s) (own + v .work + w .work))))
 
   abbrev pub countedWrong : (ℕ → Judged) → Subscripts → NodePlaces → Judged
   countedWrong ev s at = orFaulty (faultsOf (subscriptsJudged ev s)) (refuse (at .at) 6)
@@ -74,5 +71,5 @@ module _ (d : Description) (p : Places) where
   referenceJudged ev own known r at =
       let f = facilityAt d (r .facility) in
       cond (ltb (r .facility) known)
-      (cond (rightCount (f .dimensions) (r .subscripts)) (countedRight ev own f (r .subscripts) at) (countedWrong ev (r .subscripts) at))
+      (cond (rightCount (f .dimensions) (r .subscripts)) (countedRight ev own (r .facility) f (r .subscripts) at) (countedWrong ev (r .subscripts) at))
       (refuse (at .at) 4)

@@ -8,7 +8,7 @@ use lib.ListN.{length}
 use Rattle.language.specs.ActionRules.{operationBelow, operationJudged, runJudged}
 use Rattle.language.specs.Description as D
 use Rattle.language.specs.Description.{Description, Facility, FacilityPlaces, Places, State, StatePlaces, constantValue, facilityAt, facilityPlace, isComputed, isSequencing, nodeAt, sequencingOf, statePlace, wordLength}
-use Rattle.language.specs.Expressions.{expressionAt}
+use Rattle.language.specs.Expressions.{terminalJudged}
 use Rattle.language.specs.Judging.{Judged, both, faultsOf, faulty, fine, unless}
 use Rattle.language.specs.Layout.{facilityBytes}
 use Rattle.language.specs.Scan.{same}
@@ -74,7 +74,7 @@ module _ (d : Description) (p : Places) where
   facilityFaults n another before f at =
       unless (cond (isSequencing (f .kind)) (sequencingRight another f) true) (at .name) 9
       ++ (unless (leb (before + facilityBytes f) largestStore) (at .name) 10
-      ++ cond (isComputed (f .kind)) (sameLength (wordLength f) (at .equals) (expressionAt d p n (f .expression))) [])
+      ++ cond (isComputed (f .kind)) (sameLength (wordLength f) (at .equals) (terminalJudged d p n)) [])
 
   -- A declaration with a bound too large has no further fault.
   abbrev pub orElse : List Fault → List Fault → List Fault
