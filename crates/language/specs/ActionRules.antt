@@ -6,7 +6,7 @@ use Prim.Native.Nat.{ℕ, _+_, _-_}
 use lib.Dec.{eqb, leb, ltb}
 use lib.ListN.{length}
 use Rattle.language.specs.Description as D
-use Rattle.language.specs.Description.{Action, Description, Places, Run, actionAt, actionPlace, facilityAt, nodeAt, operationAt}
+use Rattle.language.specs.Description.{Action, Description, Places, Run, actionAt, actionPlace, facilityAt, nodeAt, operationAt, stateAt}
 use Rattle.language.specs.Expressions.{expressionAt, leftAt, ownWork, selects, terminalBelow}
 use Rattle.language.specs.Judging.{Judged, Worth, both, given, givenBoth, orFaulty, refuse, unless, worth}
 use Rattle.language.specs.Recursion.{below}
@@ -54,6 +54,10 @@ module _ (d : Description) (p : Places) (inState : Bool) (works : ℕ → Judged
   abbrev pub notInState : Bool
   notInState = cond inState false true
 
+  -- A state is gone to by its name, so an unnamed one is not.
+  abbrev pub toState : Position → ℕ → Judged
+  toState at s = cond (ltb 0 (length (stateAt d s .name))) (worth 1 0 ownWork) (refuse at 4)
+
   unfoldable pub simpleJudged : Position → Action → Judged
   simpleJudged at (D.store k l r) = onlyIn notInState at (givenBoth (side l) (right r) (stored (mayStore k (kindAt d l)) at))
   simpleJudged at (D.storePair k l m r) =
@@ -61,8 +65,8 @@ module _ (d : Description) (p : Places) (inState : Bool) (works : ℕ → Judged
   simpleJudged at (D.set l) =
       given (side l) (λ v. orFaulty (unless (both (isPlain (kindAt d l)) (eqb (v .length) 1)) at 8) (worth 1 0 (ownWork + v .work)))
   simpleJudged at (D.perform o) = given (works o) (λ v. worth 1 0 (ownWork + v .work))
-  simpleJudged at (D.goto s) = onlyIn inState at (cond (ltb s (length (d .states))) (worth 1 0 ownWork) (refuse at 4))
-  simpleJudged at (D.call s) = onlyIn inState at (cond (ltb s (length (d .states))) (worth 1 0 ownWork) (refuse at 4))
+  simpleJudged at (D.goto s) = onlyIn inState at (toState at s)
+  simpleJudged at (D.call s) = onlyIn inState at (toState at s)
   simpleJudged at D.return = onlyIn inState at (worth 1 0 ownWork)
   simpleJudged at (D.when c x) = refuse at 3
   simpleJudged at (D.choose c n x) = refuse at 3

@@ -61,7 +61,7 @@ rules = tt
 
 -- The image in bytes, and which images pass.
 unfoldable pub image : Unit {0}
-unfolding Encode.little Encode.facilityRecord Encode.facilityRecords Encode.operationRecord Encode.nodeBytes Encode.actionBytes Encode.stateRecord Encode.concat Encode.nameBytes Encode.encode Decode.numberAt Decode.kindOf Decode.facilityOf Decode.digitsMarked Decode.digitsBefore Decode.constantAt Decode.operatorOf Decode.plainNode Decode.nodeOf Decode.actionWith Decode.actionOf Decode.facilitiesAt Decode.operationsAt Decode.statesAt Decode.namesLength Decode.upTo Decode.decode Order.digitsStand Order.constantStart Order.startNode Order.startBelow Order.startAt Order.treesEnd Order.facilityRoots Order.runRoots Order.operationRoots Order.stateRoots Order.treesRight Order.operationsEnd Order.statesEnd Order.runsRight Canonical.facilityRight Canonical.facilitiesRight Canonical.nameParts Canonical.nameRight Canonical.all Canonical.total Canonical.countedRecords Canonical.countsRight Canonical.canonical Image.legalForm Image.passes
+unfolding Encode.little Encode.facilityRecord Encode.facilityRecords Encode.operationRecord Encode.nodeBytes Encode.actionBytes Encode.stateRecord Encode.concat Encode.nameBytes Encode.sectionsOf Encode.imageOf Encode.encode Decode.numberAt Decode.kindOf Decode.facilityOf Decode.digitsMarked Decode.digitsBefore Decode.constantAt Decode.operatorOf Decode.plainNode Decode.nodeOf Decode.actionWith Decode.actionOf Decode.facilitiesAt Decode.operationsAt Decode.statesAt Decode.namesLength Decode.upTo Decode.described Decode.sectionsIn Decode.decode Order.digitsStand Order.constantStart Order.startNode Order.startBelow Order.startAt Order.treesEnd Order.facilityRoots Order.runRoots Order.operationRoots Order.stateRoots Order.treesRight Order.operationsEnd Order.statesEnd Order.runsRight Canonical.facilityRight Canonical.facilitiesRight Canonical.nameParts Canonical.nameRight Canonical.all Canonical.total Canonical.countedRecords Canonical.countsRight Canonical.canonical Image.legalForm Image.passes
 image = tt
 
 -- A cycle: expressions, actions, the store, the next state.

@@ -3,11 +3,11 @@ use mathlib.Core.Bool.{Bool, true, false, cond}
 use mathlib.Core.List.{List, [], _∷_}
 use mathlib.Core.Option.{Option, none, some}
 use Prim.Native.Nat.{ℕ, zero, suc, _+_, _-_, _*_, _/_, _%_, _^_}
-use lib.Dec.{eqb}
-use lib.ListN.{drop, getD, take}
+use lib.Dec.{eqb, leb}
+use lib.ListN.{drop, getD, length, take}
 use Rattle.language.specs.Description as D
 use Rattle.language.specs.Description.{Action, Bounds, Description, Facility, Node, Operation, Run, State, bounds, digitLength, furtherDigits, isComputed}
-use Rattle.language.specs.Encode.{actionSize, facilitySize, noValue, nodeSize, operationSize, stateSize}
+use Rattle.language.specs.Encode.{Sections, actionSize, facilitySize, noValue, nodeSize, operationSize, stateSize}
 use Rattle.language.specs.Kinds.{delayedSign, equalSign}
 use Rattle.language.specs.Tree.{Kind, Name, computed, input, memory, plain, register, sequencing}
 use Rattle.language.specs.Value.{value}
@@ -89,14 +89,16 @@ plainNode mark x a b c =
     (pick (eqb mark 9) (D.nextArm a b)
     (pick (eqb mark 10) (D.choice a b c) (operatorOf mark a b))))))))
 
--- Record n of a section of expressions.
+-- Record n of a section of expressions; a record that is not whole is broken.
 unfoldable pub nodeOf : List ℕ → ℕ → Node
 nodeOf s n =
     let at = nodeSize * n in
     let mark = getD s at 0 in
+    let node =
     pick (eqb mark 1) (constantAt n s)
     (pick (eqb mark 2) (D.more (numberAt 6 (at + 2) s))
-    (plainNode mark (getD s (at + 1) 0) (halfAt (at + 2) s) (halfAt (at + 4) s) (halfAt (at + 6) s)))
+    (plainNode mark (getD s (at + 1) 0) (halfAt (at + 2) s) (halfAt (at + 4) s) (halfAt (at + 6) s))) in
+    pick (leb (at + nodeSize) (length s)) node D.Node.broken
 
 unfoldable pub actionWith : ℕ → ℕ → ℕ → ℕ → Action
 actionWith mark a b c =
@@ -116,7 +118,8 @@ actionWith mark a b c =
 unfoldable pub actionOf : List ℕ → ℕ → Action
 actionOf s n =
     let at = actionSize * n in
-    actionWith (getD s at 0) (halfAt (at + 1) s) (halfAt (at + 3) s) (halfAt (at + 5) s)
+    let action = actionWith (getD s at 0) (halfAt (at + 1) s) (halfAt (at + 3) s) (halfAt (at + 5) s) in
+    pick (leb (at + actionSize) (length s)) action D.Action.broken
 
 abbrev pub runAt : ℕ → List ℕ → Run
 runAt at s = record { first = halfAt at s; count = halfAt (at + 2) s }
@@ -154,27 +157,40 @@ unfoldable pub upTo : {A : Type 0} → (ℕ → A) → ℕ → ℕ → List A
 upTo f i zero = []
 upTo f i (suc n) = f i ∷ upTo f (suc i) n
 
--- The section number k of an image: its count and its bytes.
+-- What sections describe; a section has as many records as its bytes allow.
+unfoldable pub described : Sections → Description
+described x =
+    let facilities : ℕ = length (x .facilities) / facilitySize in
+    let operations : ℕ = length (x .operations) / operationSize in
+    let second : List ℕ = drop (namesLength facilities 2 facilitySize (x .facilities)) (x .names) in
+    let third : List ℕ = drop (namesLength operations 0 operationSize (x .operations)) second in
+    record {
+      facilities = facilitiesAt facilities 0 (x .facilities) (x .names);
+      operations = operationsAt operations 0 (x .operations) second;
+      expressions = upTo (nodeOf (x .expressions)) 0 (length (x .expressions) / nodeSize);
+      actions = upTo (actionOf (x .actions)) 0 (length (x .actions) / actionSize);
+      states = statesAt (length (x .states) / stateSize) 0 (x .states) third;
+    }
+
+-- The count and offset of section number k in the header, and its bytes.
 abbrev pub countOf : ℕ → List ℕ → ℕ
 countOf k s = numberAt 4 (4 + 8 * k) s
 
 abbrev pub offsetOf : ℕ → List ℕ → ℕ
 offsetOf k s = numberAt 4 (8 + 8 * k) s
 
-abbrev pub sectionOf : ℕ → ℕ → List ℕ → List ℕ
-sectionOf k size s = take (size * countOf k s) (drop (offsetOf k s) s)
+abbrev pub sectionAt : ℕ → ℕ → List ℕ → List ℕ
+sectionAt k size s = take (size * countOf k s) (drop (offsetOf k s) s)
+
+unfoldable pub sectionsIn : List ℕ → Sections
+sectionsIn s = record {
+  facilities = sectionAt 0 facilitySize s;
+  operations = sectionAt 1 operationSize s;
+  expressions = sectionAt 2 nodeSize s;
+  actions = sectionAt 3 actionSize s;
+  states = sectionAt 4 stateSize s;
+  names = sectionAt 5 1 s;
+}
 
 unfoldable pub decode : List ℕ → Description
-decode s =
-    let facilities : List ℕ = sectionOf 0 facilitySize s in
-    let operations : List ℕ = sectionOf 1 operationSize s in
-    let names : List ℕ = sectionOf 5 1 s in
-    let second : List ℕ = drop (namesLength (countOf 0 s) 2 facilitySize facilities) names in
-    let third : List ℕ = drop (namesLength (countOf 1 s) 0 operationSize operations) second in
-    record {
-      facilities = facilitiesAt (countOf 0 s) 0 facilities names;
-      operations = operationsAt (countOf 1 s) 0 operations second;
-      expressions = upTo (nodeOf (sectionOf 2 nodeSize s)) 0 (countOf 2 s);
-      actions = upTo (actionOf (sectionOf 3 actionSize s)) 0 (countOf 3 s);
-      states = statesAt (countOf 4 s) 0 (sectionOf 4 stateSize s) third;
-    }
+decode s = described (sectionsIn s)

@@ -135,29 +135,47 @@ unfoldable pub nameBytes : Description → List ℕ
 unfolding concat
 nameBytes d = concat (λ f. f .name) (d .facilities) ++ (concat (λ o. o .name) (d .operations) ++ concat (λ s. s .name) (d .states))
 
--- ---- The whole.
+-- ---- The whole: the sections, and the image that they make.
 
-abbrev pub section : ℕ → ℕ → List ℕ
-section count offset = four count ++ four offset
+pub record Sections : Type 0 where
+  pub facilities : List ℕ
+  pub operations : List ℕ
+  pub expressions : List ℕ
+  pub actions : List ℕ
+  pub states : List ℕ
+  pub names : List ℕ
+
+unfoldable pub sectionsOf : Description → Sections
+unfolding concat
+sectionsOf d = record {
+  facilities = facilityRecords 0 (d .facilities);
+  operations = concat operationRecord (d .operations);
+  expressions = concat nodeBytes (d .expressions);
+  actions = concat actionBytes (d .actions);
+  states = concat stateRecord (d .states);
+  names = nameBytes d;
+}
+
+-- Count and offset of a section of records of a size.
+abbrev pub entry : ℕ → ℕ → List ℕ → List ℕ
+entry offset size s = four (length s / size) ++ four offset
+
+-- The header of an image with these sections, and the sections in order without gaps.
+unfoldable pub imageOf : Sections → List ℕ
+imageOf x =
+    let o : ℕ = headerSize + length (x .facilities) in
+    let e : ℕ = o + length (x .operations) in
+    let a : ℕ = e + length (x .expressions) in
+    let s : ℕ = a + length (x .actions) in
+    let n : ℕ = s + length (x .states) in
+    four (n + length (x .names))
+    ++ (entry headerSize facilitySize (x .facilities)
+    ++ (entry o operationSize (x .operations)
+    ++ (entry e nodeSize (x .expressions)
+    ++ (entry a actionSize (x .actions)
+    ++ (entry s stateSize (x .states)
+    ++ (entry n 1 (x .names)
+    ++ (x .facilities ++ (x .operations ++ (x .expressions ++ (x .actions ++ (x .states ++ x .names)))))))))))
 
 unfoldable pub encode : Description → List ℕ
-unfolding concat
-encode d =
-    let names : List ℕ = nameBytes d in
-    let o : ℕ = headerSize + facilitySize * length (d .facilities) in
-    let e : ℕ = o + operationSize * length (d .operations) in
-    let a : ℕ = e + nodeSize * length (d .expressions) in
-    let s : ℕ = a + actionSize * length (d .actions) in
-    let n : ℕ = s + stateSize * length (d .states) in
-    four (n + length names)
-    ++ (section (length (d .facilities)) headerSize
-    ++ (section (length (d .operations)) o
-    ++ (section (length (d .expressions)) e
-    ++ (section (length (d .actions)) a
-    ++ (section (length (d .states)) s
-    ++ (section (length names) n
-    ++ (facilityRecords 0 (d .facilities)
-    ++ (concat operationRecord (d .operations)
-    ++ (concat nodeBytes (d .expressions)
-    ++ (concat actionBytes (d .actions)
-    ++ (concat stateRecord (d .states) ++ names)))))))))))
+encode d = imageOf (sectionsOf d)
