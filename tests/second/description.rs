@@ -150,6 +150,14 @@ pub enum Meaning {
     State(usize),
 }
 
+impl Meaning {
+    pub fn number(self) -> usize {
+        match self {
+            Meaning::Facility(number) | Meaning::Operation(number) | Meaning::State(number) => number,
+        }
+    }
+}
+
 /// A legal description: the outline, what its names mean, each facility's
 /// shape, the sequencing register and the states' values for it.
 #[derive(Clone, Debug)]
@@ -167,12 +175,17 @@ impl Description {
         !matches!(self.outline.facilities[facility].kind, Kind::Computed { .. })
     }
 
+    /// Where a facility's first word stands in the store.
+    pub fn store_place(&self, facility: usize) -> Option<usize> {
+        let before = (0..facility).filter(|&number| self.is_stored(number));
+        let place = before.map(|number| self.shapes[number].bytes()).sum();
+        self.is_stored(facility).then_some(place)
+    }
+
     /// The number that a name bears among its kind. Where a name stands
     /// says what kind it is of, since the description is legal.
     pub fn number(&self, name: &Name) -> usize {
-        match self.meanings[&name.text] {
-            Meaning::Facility(number) | Meaning::Operation(number) | Meaning::State(number) => number,
-        }
+        self.meanings[&name.text].number()
     }
 
     /// The numbers of the input terminals, as declared.
@@ -207,7 +220,11 @@ pub struct Shape(pub Vec<Bounds>);
 
 impl Shape {
     pub fn words(&self) -> usize {
-        if self.0.len() == 2 { self.0[0].size() } else { 1 }
+        if self.0.len() == 2 {
+            self.0[0].size()
+        } else {
+            1
+        }
     }
 
     pub fn bits(&self) -> usize {

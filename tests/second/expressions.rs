@@ -20,14 +20,9 @@ const RELATIONS: [(&str, Infix); 6] = [
     ("<=", Infix::AtMost),
 ];
 const ARITHMETIC: [(&str, Infix); 2] = [("(+)", Infix::Sum), ("(-)", Infix::Difference)];
-const REDUCTIONS: [(&str, Prefix); 4] = [
-    ("+", Prefix::ReduceOr),
-    ("*", Prefix::ReduceAnd),
-    ("[+]", Prefix::ReduceXor),
-    ("(+)", Prefix::ReduceSum),
-];
-const COUNTED: [(&str, Counted); 3] =
-    [("HEAD", Counted::Head), ("TAIL", Counted::Tail), ("EXT", Counted::Extend)];
+const REDUCTIONS: [(&str, Prefix); 4] =
+    [("+", Prefix::ReduceOr), ("*", Prefix::ReduceAnd), ("[+]", Prefix::ReduceXor), ("(+)", Prefix::ReduceSum)];
+const COUNTED: [(&str, Counted); 3] = [("HEAD", Counted::Head), ("TAIL", Counted::Tail), ("EXT", Counted::Extend)];
 
 impl Grammar<'_> {
     pub fn expression(&mut self) -> Read {

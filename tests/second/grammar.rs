@@ -60,7 +60,11 @@ impl<'a> Grammar<'a> {
     }
 
     pub fn take(&mut self, sign: &str) -> Result<Place, Refusal> {
-        if self.sees(sign) { Ok(self.step()) } else { self.misplaced() }
+        if self.sees(sign) {
+            Ok(self.step())
+        } else {
+            self.misplaced()
+        }
     }
 
     pub fn take_name(&mut self) -> Result<Name, Refusal> {
@@ -83,7 +87,11 @@ impl<'a> Grammar<'a> {
 // The ceilings.
 impl Grammar<'_> {
     fn within(reached: usize, ceiling: usize, place: Place) -> Result<(), Refusal> {
-        if reached <= ceiling { Ok(()) } else { Err(refusal(10, place)) }
+        if reached <= ceiling {
+            Ok(())
+        } else {
+            Err(refusal(10, place))
+        }
     }
 
     /// One more operator, operand or action.
@@ -136,7 +144,11 @@ impl Grammar<'_> {
                 self.facility_section(section, &mut facilities)?;
             }
         }
-        if facilities.is_empty() { self.misplaced() } else { Ok(facilities) }
+        if facilities.is_empty() {
+            self.misplaced()
+        } else {
+            Ok(facilities)
+        }
     }
 
     fn facility_section(&mut self, section: &str, facilities: &mut Vec<Facility>) -> Result<(), Refusal> {

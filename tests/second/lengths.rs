@@ -1,23 +1,11 @@
 //! The last stage's rules for references, expressions and actions.
 
 use crate::description::*;
-use crate::rules::{Length, Rules, VALUE};
 use crate::refusal::Place;
+use crate::rules::{Length, Rules, VALUE};
 
 /// What an action answers when none of its parts, nor itself, is at fault.
 type Sound = Option<()>;
-
-fn facility(meaning: Meaning) -> Option<usize> {
-    if let Meaning::Facility(number) = meaning { Some(number) } else { None }
-}
-
-fn operation(meaning: Meaning) -> Option<usize> {
-    if let Meaning::Operation(number) = meaning { Some(number) } else { None }
-}
-
-fn state(meaning: Meaning) -> Option<usize> {
-    if let Meaning::State(number) = meaning { Some(number) } else { None }
-}
 
 // Expressions.
 impl Rules<'_> {
@@ -95,7 +83,7 @@ fn arms_fit(choice: Choice, condition: usize, arms: usize) -> bool {
 // References.
 impl Rules<'_> {
     fn reference(&mut self, reference: &Reference) -> Length {
-        let number = self.known(&reference.name, facility);
+        let number = self.known(&reference.name, Meaning::Facility);
         let shape = number.and_then(|number| self.shapes[number].clone());
         let fits = shape.as_ref().is_some_and(|shape| count_fits(reference, shape));
         let mut sound = true;
@@ -172,8 +160,8 @@ impl Rules<'_> {
         match action {
             Action::Store { left, sign, delayed, right } => self.store(left, *sign, *delayed, right),
             Action::Set { left, sign } => self.set(left, *sign),
-            Action::Operation(name) => self.known(name, operation).map(|_| ()),
-            Action::Goto(name) | Action::Call(name) => self.known(name, state).map(|_| ()),
+            Action::Operation(name) => self.known(name, Meaning::Operation).map(|_| ()),
+            Action::Goto(name) | Action::Call(name) => self.known(name, Meaning::State).map(|_| ()),
             Action::Return => Some(()),
             Action::Conditional(conditional) => self.conditional_action(conditional),
         }
@@ -204,8 +192,10 @@ impl Rules<'_> {
     }
 
     fn kind(&self, reference: &Reference) -> Option<&Kind> {
-        let meaning = self.meanings.get(&reference.name.text).copied();
-        meaning.and_then(facility).map(|number| &self.outline.facilities[number].kind)
+        match self.meanings.get(&reference.name.text) {
+            Some(Meaning::Facility(number)) => Some(&self.outline.facilities[*number].kind),
+            _ => None,
+        }
     }
 
     fn may_store(&self, reference: &Reference, delayed: bool) -> bool {

@@ -10,8 +10,10 @@ mod grammar;
 mod lengths;
 pub mod refusal;
 mod rules;
+pub mod sound;
 pub mod step;
 pub mod trace;
+pub mod trials;
 pub mod value;
 pub mod words;
 mod work;
@@ -19,6 +21,7 @@ mod work;
 pub use bytes::store_bytes;
 pub use description::Description;
 pub use refusal::Refusal;
+pub use sound::resume;
 pub use step::{cycle, cycle_bytes, open, Outcome, Run};
 
 const TEXT: usize = 32_768;

@@ -1,17 +1,54 @@
-//! The command line: the trace program over `run.ddl` and standard input.
+//! The command line: the trace program over `run.ddl` and standard input; with
+//! `--random SEED COUNT` the self-check; with `--text SEED` a text, and with
+//! `--input SEED LINES` input lines for `run.ddl`, to hold another simulator
+//! against this one.
 
+use second::trials::{check::check, supply};
+use std::env;
 use std::fs;
 use std::io::{self, Read, Write};
 use std::process::ExitCode;
 
 fn main() -> ExitCode {
-    match traced() {
+    let arguments: Vec<String> = env::args().skip(1).collect();
+    let done = match &arguments[..] {
+        [] => traced().map_err(|error| error.to_string()),
+        [mode, seed, count] if mode == "--random" => checked(seed, count),
+        [mode, seed] if mode == "--text" => supplied(seed, None),
+        [mode, seed, lines] if mode == "--input" => supplied(seed, Some(lines)),
+        _ => Err("usage: second [--random SEED COUNT | --text SEED | --input SEED LINES]".to_string()),
+    };
+    match done {
         Ok(()) => ExitCode::SUCCESS,
         Err(error) => {
             eprintln!("second: {error}");
             ExitCode::FAILURE
         }
     }
+}
+
+fn number(word: &str) -> Result<u64, String> {
+    word.parse().map_err(|_| format!("{word} is no number"))
+}
+
+fn checked(seed: &str, count: &str) -> Result<(), String> {
+    match check(number(seed)?, number(count)?) {
+        true => Ok(()),
+        false => Err("the self-check failed".to_string()),
+    }
+}
+
+/// A text, or as many input lines for the one that stands in `run.ddl`.
+fn supplied(seed: &str, lines: Option<&String>) -> Result<(), String> {
+    let seed = number(seed)?;
+    let made = match lines {
+        None => supply::text(seed),
+        Some(lines) => {
+            let text = fs::read("run.ddl").map_err(|error| error.to_string())?;
+            supply::input(&text, seed, number(lines)? as usize)
+        }
+    };
+    io::stdout().write_all(&made).map_err(|error| error.to_string())
 }
 
 fn traced() -> io::Result<()> {

@@ -58,18 +58,19 @@ impl Rules<'_> {
         }
     }
 
-    /// What a name means if it is of the kind asked for.
-    pub fn known(&mut self, name: &Name, kind: fn(Meaning) -> Option<usize>) -> Option<usize> {
-        let found = self.meanings.get(&name.text).copied().and_then(kind);
+    /// The number of what a name means, if it is of the kind asked for.
+    pub fn known(&mut self, name: &Name, kind: fn(usize) -> Meaning) -> Option<usize> {
+        let meaning = self.meanings.get(&name.text).copied();
+        let found = meaning.filter(|meaning| kind(meaning.number()) == *meaning);
         if found.is_none() {
             self.fault(4, name.place);
         }
-        found
+        found.map(Meaning::number)
     }
 }
 
 // Facilities.
-impl<'a> Rules<'a> {
+impl Rules<'_> {
     fn facilities(&mut self) {
         let mut store = 0;
         let outline = self.outline;
@@ -112,7 +113,7 @@ impl<'a> Rules<'a> {
         Some(number)
     }
 
-    fn computed(&mut self, sign: Place, expression: &'a Expression, shape: Option<&Shape>) {
+    fn computed(&mut self, sign: Place, expression: &Expression, shape: Option<&Shape>) {
         if let (Some(length), Some(shape)) = (self.length(expression), shape) {
             if length != shape.bits() {
                 self.fault(7, sign);

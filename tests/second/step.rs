@@ -6,7 +6,7 @@ use crate::evaluate::{Bitplace, Stop, Store, Values};
 use crate::value::Bits;
 use std::collections::HashSet;
 
-const RETURNS: usize = 16;
+pub const RETURNS: usize = 16;
 
 /// The store and the record's fields.
 #[derive(Clone, Debug, PartialEq, Eq)]
@@ -178,7 +178,8 @@ impl<'a> Execution<'a> {
 // The end of the cycle: S2, S4, S3, S6, S5 in this order.
 impl Execution<'_> {
     fn next_state(&mut self, run: &Run) -> Result<(usize, Vec<usize>), Stop> {
-        let sequenced = self.delayed.iter().any(|(place, _)| Some(place.facility) == self.values.description.sequencing);
+        let sequenced =
+            self.delayed.iter().any(|(place, _)| Some(place.facility) == self.values.description.sequencing);
         if self.gotos.len() + self.returns + sequenced as usize > 1 || self.calls.len() > 1 {
             return Err(Stop(2));
         }
@@ -210,6 +211,10 @@ impl Execution<'_> {
 
     fn below(&self, state: usize) -> Result<usize, Stop> {
         let states = self.values.description.outline.states.len();
-        if state + 1 < states { Ok(state + 1) } else { Err(Stop(6)) }
+        if state + 1 < states {
+            Ok(state + 1)
+        } else {
+            Err(Stop(6))
+        }
     }
 }

@@ -32,9 +32,7 @@ impl Bits {
 
     /// The unsigned number; `usize::MAX` stands for anything larger.
     pub fn number(&self) -> usize {
-        self.0.iter().fold(0, |number: usize, &bit| {
-            number.saturating_mul(2).saturating_add(bit as usize)
-        })
+        self.0.iter().fold(0, |number: usize, &bit| number.saturating_mul(2).saturating_add(bit as usize))
     }
 
     /// The same number in `length` bits: zeroes added or bits dropped on the left.

@@ -14,14 +14,38 @@ const SIGNS: [&str; 28] = [
 ];
 
 pub const RESERVED: [&str; 23] = [
-    "CASE", "DO", "ENDCASE", "IF", "THEN", "ELSE", "ENDIF", "END", "CON", "RED", "EXT", "HEAD", "TAIL", "TIME",
-    "INPUT", "OUTPUT", "LEVEL", "RETURN", "REGISTER", "MEMORY", "TERMINAL", "OPERATION", "CONTROL",
+    "CASE",
+    "DO",
+    "ENDCASE",
+    "IF",
+    "THEN",
+    "ELSE",
+    "ENDIF",
+    "END",
+    "CON",
+    "RED",
+    "EXT",
+    "HEAD",
+    "TAIL",
+    "TIME",
+    "INPUT",
+    "OUTPUT",
+    "LEVEL",
+    "RETURN",
+    "REGISTER",
+    "MEMORY",
+    "TERMINAL",
+    "OPERATION",
+    "CONTROL",
 ];
 
 #[derive(Clone, Debug, PartialEq, Eq)]
 pub enum Word {
     Name(String),
-    Constant { value: Bits, bare: bool },
+    Constant {
+        value: Bits,
+        bare: bool,
+    },
     /// A reserved word, or a sign of one or more characters.
     Sign(&'static str),
 }
