@@ -1,0 +1,4 @@
+pub mod Tests
+pub mod Fits
+pub mod Plain
+pub mod OneAnswer
