@@ -12,39 +12,40 @@ pub record Worth : Type 0 where
   pub arms : ℕ
   pub work : ℕ
 
+-- Fine, or at fault: then there is a first fault.
 pub data Judged : Type 0 where
   fine : Worth → Judged
-  faulty : List Fault → Judged
+  faulty : Fault → List Fault → Judged
 
 abbrev pub worth : ℕ → ℕ → ℕ → Judged
 worth l a w = fine (record { length = l; arms = a; work = w })
 
 abbrev pub faultsOf : Judged → List Fault
 faultsOf (fine w) = []
-faultsOf (faulty fs) = fs
+faultsOf (faulty f fs) = f ∷ fs
 
 abbrev pub refuse : Position → ℕ → Judged
-refuse p n = faulty (fault p n ∷ [])
+refuse p n = faulty (fault p n) []
 
 -- With one part, and with two.
 abbrev pub given : Judged → (Worth → Judged) → Judged
 given (fine w) on = on w
-given (faulty fs) on = faulty fs
+given (faulty f fs) on = faulty f fs
 
 abbrev pub givenBoth : Judged → Judged → (Worth → Worth → Judged) → Judged
 givenBoth (fine v) (fine w) on = on v w
-givenBoth (fine v) (faulty gs) on = faulty gs
-givenBoth (faulty fs) (fine w) on = faulty fs
-givenBoth (faulty fs) (faulty gs) on = faulty (fs ++ gs)
+givenBoth (fine v) (faulty g gs) on = faulty g gs
+givenBoth (faulty f fs) (fine w) on = faulty f fs
+givenBoth (faulty f fs) (faulty g gs) on = faulty f (fs ++ g ∷ gs)
 
 -- An expression proper, and not a list of arms; the other way round. No text has the one where the other belongs.
 unfoldable pub proper : Position → Judged → Judged
 proper p (fine w) = cond (eqb (w .arms) 0) (fine w) (refuse p 3)
-proper p (faulty fs) = faulty fs
+proper p (faulty f fs) = faulty f fs
 
 unfoldable pub armList : Position → Judged → Judged
 armList p (fine w) = cond (eqb (w .arms) 0) (refuse p 3) (fine w)
-armList p (faulty fs) = faulty fs
+armList p (faulty f fs) = faulty f fs
 
 -- A length from 1 to 256, or refusal 7 at a place.
 unfoldable pub sized : Position → ℕ → ℕ → Judged
@@ -63,4 +64,4 @@ both false b = false
 -- Faults of parts, and else what comes after them.
 abbrev pub orFaulty : List Fault → Judged → Judged
 orFaulty [] j = j
-orFaulty (x ∷ xs) j = faulty (x ∷ xs)
+orFaulty (x ∷ xs) j = faulty x xs

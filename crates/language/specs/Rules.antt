@@ -67,7 +67,7 @@ module _ (d : Description) (p : Places) where
   -- A computed terminal and its expression are equally long (7).
   abbrev pub sameLength : ℕ → Position → Judged → List Fault
   sameLength l at (fine w) = unless (eqb l (w .length)) at 7
-  sameLength l at (faulty fs) = fs
+  sameLength l at (faulty f fs) = f ∷ fs
 
   -- Facility n; `another` sequencing register came before, and `before` bytes of the store.
   unfoldable pub facilityFaults : ℕ → Bool → ℕ → Facility → FacilityPlaces → List Fault
@@ -123,7 +123,7 @@ module _ (d : Description) (p : Places) where
   -- The state's own faults: a value that is missing, work that is too much.
   abbrev pub ownFaults : Option ℕ → Position → State → Judged → List Fault
   ownFaults l at s (fine w) = unless (cond (missing l (s .value)) false true) at 9 ++ unless (leb (w .work) mostWork) at 10
-  ownFaults l at s (faulty fs) = fs
+  ownFaults l at s (faulty f fs) = f ∷ fs
 
   abbrev pub operationCount : ℕ
   operationCount = length (d .operations)
