@@ -1,0 +1,38 @@
+-- What holds of the definitions alone. Read NeverStuck, AnyRun, StopOrder, StuckReached, Kept and LandsTogether; the rest leads to them.
+
+-- ---- What no fault means, part by part.
+pub mod Judged
+pub mod Operators
+pub mod Gives
+pub mod InBounds
+pub mod Finds
+pub mod Starts
+-- ---- An expression without fault has a value of the length worked out before, or meets S1; actions without fault are carried out to the end, or meet S1.
+pub mod Evaluates
+pub mod Terminals
+pub mod Executes
+pub mod Lists
+-- ---- A description in legal form.
+pub mod Ordered
+pub mod LegalForm
+pub mod Acts
+pub mod StateValues
+-- ---- The store and the record stay sound.
+pub mod Fitting
+pub mod NextState
+pub mod Cycle
+pub mod Soundness
+-- ---- Never stuck; any run; every stop in 01's order; every way to be stuck is reached by an image that does not pass.
+pub mod NeverStuck
+pub mod AnyRun
+pub mod StopOrder
+pub mod StuckReached
+-- ---- Two kinds of store that stand for each other go through every list of actions alike, whatever the image.
+pub mod PlaceFound
+pub mod SameValues
+pub mod SameActions
+pub mod SameRuns
+-- ---- What no store names is kept; delayed stores land together.
+pub mod BitsKept
+pub mod Kept
+pub mod LandsTogether
