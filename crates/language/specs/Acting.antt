@@ -43,6 +43,34 @@ onPlace (Located.at p) on = on p
 onPlace (Located.stops n) on = stopped n
 onPlace (Located.stuck s) on = stuck s
 
+-- ---- Arms.
+
+-- The arm `back` arms after the one at record i, where m records are left: its first action's number and how many it has.
+abbrev pub armSize : Action → Option ℕ
+armSize (D.store k l r) = none
+armSize (D.storePair k l m r) = none
+armSize (D.set l) = none
+armSize (D.perform o) = none
+armSize (D.goto s) = none
+armSize (D.call s) = none
+armSize D.return = none
+armSize (D.when e x) = none
+armSize (D.choose e n x) = none
+armSize (D.arm x) = some x
+armSize D.Action.broken = none
+
+abbrev pub armOr : ℕ → ℕ → (ℕ → ℕ → Option Run) → Option ℕ → Option Run
+armOr i m on none = none
+armOr i m on (some x) = cond (ltb x m) (on (i + 1 + x) (m - (x + 1))) none
+
+abbrev pub armRun : ℕ → ℕ → Option ℕ → Option Run
+armRun i m none = none
+armRun i m (some x) = cond (ltb x m) (some (record { first = i + 1; count = x })) none
+
+unfoldable pub armAt : Description → ℕ → ℕ → ℕ → Option Run
+armAt d zero i m = armRun i m (armSize (actionAt d i))
+armAt d (suc back) i m = armOr i m (armAt d back) (armSize (actionAt d i))
+
 module _ {X : Type 0} (S : Stores X) (d : Description) where
   abbrev pub withStore : X → Bool → Doing X → Doing X
   withStore x q c = record { store = x; gotos = c .gotos; returns = c .returns; calls = c .calls; sequenced = c .sequenced || q }
@@ -127,32 +155,6 @@ module _ {X : Type 0} (S : Stores X) (d : Description) where
 
   -- ---- Lists: k records from i on. `ev` executes fewer.
 
-  -- The arm `back` arms after the one at record i, where m records are left: its first action's number and how many it has.
-  abbrev pub armSize : Action → Option ℕ
-  armSize (D.store k l r) = none
-  armSize (D.storePair k l m r) = none
-  armSize (D.set l) = none
-  armSize (D.perform o) = none
-  armSize (D.goto s) = none
-  armSize (D.call s) = none
-  armSize D.return = none
-  armSize (D.when e x) = none
-  armSize (D.choose e n x) = none
-  armSize (D.arm x) = some x
-  armSize D.Action.broken = none
-
-  abbrev pub armOr : ℕ → ℕ → (ℕ → ℕ → Option Run) → Option ℕ → Option Run
-  armOr i m on none = none
-  armOr i m on (some x) = cond (ltb x m) (on (i + 1 + x) (m - (x + 1))) none
-
-  abbrev pub armRun : ℕ → ℕ → Option ℕ → Option Run
-  armRun i m none = none
-  armRun i m (some x) = cond (ltb x m) (some (record { first = i + 1; count = x })) none
-
-  unfoldable pub armAt : ℕ → ℕ → ℕ → Option Run
-  armAt zero i m = armRun i m (armSize (actionAt d i))
-  armAt (suc back) i m = armOr i m (armAt back) (armSize (actionAt d i))
-
   module _ (perform : ℕ → Doing X → Ran X) where
     module _ (ev : ℕ → ℕ → Doing X → Ran X) (m i : ℕ) where
       -- The conditional's x records are passed over.
@@ -165,12 +167,12 @@ module _ {X : Type 0} (S : Stores X) (d : Description) where
 
       abbrev pub armChosen : ℕ → Option ℕ → Doing X → Ran X
       armChosen x none c = stopped noArm
-      armChosen x (some k) c = inArm x (armAt (k - 1) (i + 1) x) c
+      armChosen x (some k) c = inArm x (armAt d (k - 1) (i + 1) x) c
 
       -- IF without ELSE: one takes the arm, zero takes nothing.
       abbrev pub whenWorth : ℕ → Value → Doing X → Ran X
       whenWorth x v c =
-          cond (eqb (v .length) 1) (cond (eqb (v .number) 0) (passing x c) (inArm x (armAt 0 (i + 1) x) c)) (stuck notOneBit)
+          cond (eqb (v .length) 1) (cond (eqb (v .number) 0) (passing x c) (inArm x (armAt d 0 (i + 1) x) c)) (stuck notOneBit)
 
       abbrev pub plainly : Action → Doing X → Ran X
       plainly a c = onward (simple perform a c) (ev m (i + 1))

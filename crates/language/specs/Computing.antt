@@ -41,7 +41,7 @@ use lib.Count as Count
 
 -- Values and constants (the manual, 2.3 and 5.3).
 unfoldable pub values : Unit {0}
-unfolding Count.ones Count.onesIn Value.longest Value.fit Value.sumLength Value.differenceLength Value.negationLength Value.relationLength Value.complementLength Value.logicalLength Value.joinLength Value.repeatLength Value.cutLength Value.reductionLength Value.countLength Value.differenceNumber Value.complementNumber Value.repeated Value.sum Value.difference Value.negation Value.related Value.equal Value.unequal Value.less Value.greater Value.atMost Value.atLeast Value.complement Value.conjunction Value.exclusive Value.disjunction Value.join Value.extended Value.head Value.tail Value.orReduction Value.andReduction Value.exclusiveReduction Value.sumReduction Value.part Value.replaced Constants.digitsAfter Constants.rightJustified Constants.leftJustified Constants.binaryConstant Constants.decimalConstant Constants.bareLength Constants.bareConstant Constants.bareLargest
+unfolding Count.ones Count.onesIn Value.longest Value.fit Value.sumLength Value.differenceLength Value.negationLength Value.relationLength Value.complementLength Value.logicalLength Value.joinLength Value.repeatLength Value.cutLength Value.reductionLength Value.countLength Value.differenceNumber Value.complementNumber Value.repeated Value.sum Value.difference Value.negation Value.related Value.equal Value.unequal Value.less Value.greater Value.atMost Value.atLeast Value.complement Value.conjunction Value.exclusive Value.disjunction Value.join Value.extended Value.head Value.tail Value.orReduction Value.andReduction Value.exclusiveReduction Value.sumReduction Value.partLength Value.part Value.replaced Constants.digitsAfter Constants.rightJustified Constants.leftJustified Constants.binaryConstant Constants.decimalConstant Constants.bareLength Constants.bareConstant Constants.bareLargest
 values = tt
 
 -- From bytes to words (the manual, 2).

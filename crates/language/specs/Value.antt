@@ -77,6 +77,10 @@ reductionLength = 1
 unfoldable pub countLength : ℕ
 countLength = 16
 
+-- A part of `count` bits from the bit `from` on lies within m bits.
+unfoldable pub partLength : ℕ → ℕ → ℕ → ℕ
+partLength m from count = cond (leb (from + count) m) count 0
+
 -- ---- Numbers (the manual, 5.3).
 
 -- x - y modulo 2 to the length l (01, "Lengths").
@@ -169,8 +173,8 @@ sumReduction x = fit countLength (ones (x .number))
 
 -- `count` bits of x from the bit `from` on.
 unfoldable pub part : Value → ℕ → ℕ → Made
-part x from count =
-    fit (cond (leb (from + count) (x .length)) count 0) (x .number / 2 ^ (x .length - (from + count)))
+unfolding partLength
+part x from count = fit (partLength (x .length) from count) (x .number / 2 ^ (x .length - (from + count)))
 
 -- The number w with the c bits above the lowest `low` ones replaced by v's low bits.
 unfoldable pub replaced : ℕ → ℕ → ℕ → ℕ → ℕ

@@ -71,7 +71,7 @@ module _ {X : Type 0} (S : Stores X) (d : Description) (p : Places) (Inv : X →
     -- The run of an arm: found, shorter, and judged fine.
     pub record ArmRun (j i k : ℕ) : Type 0 where
       pub run : Run
-      pub found : A.armAt S d j i k ≡ some run
+      pub found : A.armAt d j i k ≡ some run
       pub shorter : run .count < k
       pub worth′ : Worth
       pub judged-fine : judged (run .count) (run .first) actions ≡ fine worth′
@@ -140,7 +140,7 @@ module _ {X : Type 0} (S : Stores X) (d : Description) (p : Places) (Inv : X →
               tested false j e = faulty-fine e
 
       arm-good : (x j : ℕ) {w v : Worth} (c : Doing X) → x ≤ m → ev x (i + 1) arms ≡ fine w → j < w .arms → ev (m - x) (i + 1 + x) actions ≡ fine v → Set c
-          → Good (A.inArm S d perform EV m i x (A.armAt S d j (i + 1) x) c)
+          → Good (A.inArm S d perform EV m i x (A.armAt d j (i + 1) x) c)
       arm-good x j c l e h r s =
           let y = ih x (omega arith) .as-arms (i + 1) (sym (judged-lt (suc m) x (i + 1) arms (omega arith)) ∙ e) j h in
           let q : y .run .count < suc m = omega (arith, y .shorter) in

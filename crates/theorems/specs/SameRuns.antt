@@ -41,21 +41,19 @@ module _ {X Y : Type 0} (S : Stores X) (T : Stores Y) (d : Description) (R : X �
       arm-alike x (some r) c e h = Actions.onward-alike S T d R joins _ _ (evs (r .count) (r .first) c e h) (passing-alike x)
 
       chosen-alike : (x : ℕ) (k : Option ℕ) → Onward (armChosen S d perform ev m i x k) (armChosen T d perform′ ev′ m i x k)
-      unfolding armAt
       chosen-alike x none c e h = Actions.stop
-      chosen-alike x (some k) c e h = go (armAt S d (k - 1) (i + 1) x)
+      chosen-alike x (some k) c e h = go (armAt d (k - 1) (i + 1) x)
         where
           go : (r : Option Run) → Alike (inArm S d perform ev m i x r c) (inArm T d perform′ ev′ m i x r e)
           go r = arm-alike x r c e h
 
       when-alike : (x : ℕ) (v : Value) → Onward (whenWorth S d perform ev m i x v) (whenWorth T d perform′ ev′ m i x v)
-      unfolding armAt
       when-alike x v c e h = go (eqb (v .length) 1) (eqb (v .number) 0)
         where
-          go : (a b : Bool) → Alike (cond a (cond b (passing S d perform ev m i x c) (inArm S d perform ev m i x (armAt S d 0 (i + 1) x) c)) (Ran.stuck notOneBit))
-              (cond a (cond b (passing T d perform′ ev′ m i x e) (inArm T d perform′ ev′ m i x (armAt T d 0 (i + 1) x) e)) (Ran.stuck notOneBit))
+          go : (a b : Bool) → Alike (cond a (cond b (passing S d perform ev m i x c) (inArm S d perform ev m i x (armAt d 0 (i + 1) x) c)) (Ran.stuck notOneBit))
+              (cond a (cond b (passing T d perform′ ev′ m i x e) (inArm T d perform′ ev′ m i x (armAt d 0 (i + 1) x) e)) (Ran.stuck notOneBit))
           go true true = passing-alike x c e h
-          go true false = arm-alike x (armAt S d 0 (i + 1) x) c e h
+          go true false = arm-alike x (armAt d 0 (i + 1) x) c e h
           go false b = Actions.stick
 
       plainly-alike : (a : Action) → Onward (plainly S d perform ev m i a) (plainly T d perform′ ev′ m i a)

@@ -2,7 +2,7 @@
 use mathlib.Core.Bool.{Bool, false, cond}
 use mathlib.Core.List.{[], _∷_}
 use mathlib.Core.Path.{_≡_}
-use Prim.Native.Nat.{ℕ, _+_}
+use Prim.Native.Nat.{ℕ}
 use lib.Dec.{leb, ltb}
 use Rattle.language.specs.Value as L
 use Rattle.limbs.specs.Limbs.{number}
@@ -28,7 +28,3 @@ pub record Means (r : Made) (m : L.Made) : Type 0 where
 -- A length that a value may have.
 unfoldable pub allowed : ℕ → Bool
 allowed l = cond (ltb 0 l) (leb l L.longest) false
-
--- The length of `count` bits from the bit `from` on, of m; 0 stands for a broken rule.
-unfoldable pub partLength : ℕ → ℕ → ℕ → ℕ
-partLength m from count = cond (leb (from + count) m) count 0

@@ -1,9 +1,9 @@
 // The rules for lengths, one function each. A length is a u16, and what a rule gives is a u32, where nothing overflows.
 ghost use mathlib.Core.Path.{_≡_};
 ghost use Prim.Native.Nat.{max, _-_, _<_};
-ghost use Rattle.language.specs.Value.{sumLength, differenceLength, negationLength, relationLength, complementLength, logicalLength, joinLength, repeatLength, cutLength, reductionLength, countLength};
+ghost use Rattle.language.specs.Value.{sumLength, differenceLength, negationLength, relationLength, complementLength, logicalLength, joinLength, repeatLength, cutLength, reductionLength, countLength, partLength};
 ghost use Rattle.language.specs.Constants.{bareLength};
-ghost use Rattle.value.specs.Meaning.{allowed as Allowed, partLength};
+ghost use Rattle.value.specs.Meaning.{allowed as Allowed};
 
 // The longest value.
 pub const LONGEST: u32 = 256;

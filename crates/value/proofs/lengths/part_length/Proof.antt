@@ -3,7 +3,7 @@ use mathlib.Core.Path.{sym, ap}
 use mathlib.Core.Bool.{Bool, cond}
 use Prim.Native.Nat.{_+_}
 use borrow.Author.Tests.{le-leb, lt-leb}
-use Rattle.value.specs.Meaning.{partLength}
+use Rattle.language.specs.Value.{partLength}
 use borrow.Author.Needs.{needs}
 use Rattle.value.proofs.lengths.part_length.Statement.{statement}
 use Rattle.value.proofs.lengths.part_length.Tie as tie

@@ -1,8 +1,7 @@
 use mathlib.Core.Path.{ap, _∙_}
 use Prim.Native.Nat.{ℕ, _/_, _^_}
-use Rattle.language.specs.Value.{part}
+use Rattle.language.specs.Value.{part, partLength}
 use Rattle.limbs.specs.Limbs.{number}
-use Rattle.value.specs.Meaning.{partLength}
 use Rattle.value.proofs.Fits.{means-fit}
 use borrow.Author.Needs.{needs}
 use Rattle.value.proofs.parts.part.Statement.{statement}
