@@ -1,0 +1,4 @@
+pub mod Table
+pub mod ByClass
+pub mod Counting
+pub mod Matching

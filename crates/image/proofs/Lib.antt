@@ -1,0 +1,7 @@
+pub mod DeclarationBack
+pub mod DeclarationLaws
+pub mod DescribedLaws
+pub mod HeaderLaws
+pub mod ImageLaws
+pub mod NameLaws
+pub mod WrittenDeclarations

@@ -1,0 +1,10 @@
+pub mod ActionBack
+pub mod ActionLaws
+pub mod ByteLaws
+pub mod ConstantLaws
+pub mod DigitLaws
+pub mod DigitsWritten
+pub mod NodeBack
+pub mod NodeLaws
+pub mod NumberLaws
+pub mod WrittenNodes

@@ -1,0 +1,27 @@
+use mathlib.Core.Path.{sym, ap, _∙_}
+use Prim.Native.Nat.{ℕ, _%_, _^_}
+use borrow.Author.Needs.{needs}
+use lib.Pow.{low}
+use Rattle.limbs.specs.Limbs.{cat, four, number}
+use Rattle.records.proofs.DigitLaws.{low-digit}
+use Rattle.records.proofs.constants.digit_of.Statement.{statement}
+use Rattle.records.proofs.constants.digit_of.Tie as tie
+
+mul-right : tie.Need-mul-right
+mul-right c = search needs
+
+right-requires : tie.Need-right-requires
+right-requires c κs = search needs
+
+taken-requires : tie.Need-taken-requires
+taken-requires c κs = search needs
+
+returns : tie.Need-returns
+unfolding four
+returns c =
+    let a = c .before .taken .result in
+    ap (λ (n : ℕ). n % 2 ^ 48) (sym (low (cat (cat (a .l3) (a .l2)) (a .l1)) 64 (search needs)) ∙ ap (λ (n : ℕ). n % 2 ^ 64) (c .before .taken .ensures))
+    ∙ low-digit (number (c .before .before .right .result)) ∙ ap (λ (n : ℕ). n % 2 ^ 48) (c .before .before .right .ensures)
+
+pub digit-of-spec : {M : Type 1} → statement M
+digit-of-spec = tie.close (tie.spec mul-right right-requires taken-requires returns)

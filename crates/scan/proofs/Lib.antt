@@ -1,0 +1,5 @@
+pub mod Letters
+pub mod Lookup
+pub mod OneByOne
+pub mod Based
+pub mod Begin

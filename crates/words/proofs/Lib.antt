@@ -1,0 +1,4 @@
+pub mod Sizes
+pub mod Walk
+pub mod Least
+pub mod Widths
