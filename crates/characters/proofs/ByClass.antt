@@ -1,4 +1,4 @@
--- What the class of a byte tells. Assumes nothing.
+-- What the class of a byte tells.
 use mathlib.Core.Bool.{Bool, true, false, cond, _||_}
 use mathlib.Core.Path.{_≡_, refl, sym, _∙_, ap}
 use Prim.Native.Nat.{ℕ, _≤_}

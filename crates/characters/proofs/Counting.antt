@@ -1,4 +1,4 @@
--- A run is counted byte by byte: one step, and its two ways to stop. Assumes nothing.
+-- A run is counted byte by byte: one step, and its two ways to stop.
 use mathlib.Core.Bool.{Bool, true, false, cond}
 use mathlib.Core.List.{List, [], _∷_}
 use mathlib.Core.Path.{_≡_}

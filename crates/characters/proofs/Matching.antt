@@ -1,4 +1,4 @@
--- Two parts of a text are compared from the front, in capitals. Assumes nothing.
+-- Two parts of a text are compared from the front, in capitals.
 use mathlib.Core.Bool.{Bool, true, false, _&&_}
 use mathlib.Core.List.{List, [], _∷_, map}
 use mathlib.Core.Path.{_≡_, _∙_, ap, sym, refl}

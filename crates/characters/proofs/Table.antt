@@ -1,4 +1,4 @@
--- A table's rule: a table that computes to the values of a function has them at each of its entries. Assumes nothing.
+-- A table's rule: a table that computes to the values of a function has them at each of its entries.
 use mathlib.Core.Bool.{Bool, true, false, _&&_, false≢true}
 use mathlib.Core.List.{List, [], _∷_}
 use mathlib.Core.Path.{_≡_, _∙_, ap, sym, refl}

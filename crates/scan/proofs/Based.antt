@@ -1,4 +1,4 @@
--- A constant of the code is that of the language. Assumes nothing.
+-- A constant of the code is that of the language.
 use mathlib.Core.Bool.{Bool, true, false, cond}
 use mathlib.Core.List.{List, map}
 use mathlib.Core.Path.{_≡_, _∙_, ap, ap₂, sym, refl}

@@ -1,4 +1,4 @@
--- The item at the start of a text: a name, a comment, and which it is by its class. Assumes nothing.
+-- The item at the start of a text: a name, a comment, and which it is by its class.
 use mathlib.Core.Bool.{cond}
 use mathlib.Core.List.{List, [], _∷_, map}
 use mathlib.Core.Path.{_≡_, _∙_, ap, sym, refl}

@@ -1,4 +1,4 @@
--- Comparing bytes that are no letters, case does not matter. Assumes nothing.
+-- Comparing bytes that are no letters, case does not matter.
 use mathlib.Core.Bool.{Bool, true, false, cond, not, _||_, _&&_, false≢true}
 use mathlib.Core.List.{List, [], _∷_, map}
 use mathlib.Core.Path.{_≡_, _∙_, ap₂, sym, refl}

@@ -1,4 +1,4 @@
--- The tables hold the language's symbols and reserved words, and are searched row by row. Assumes nothing.
+-- The tables hold the language's symbols and reserved words, and are searched row by row.
 use mathlib.Core.Bool.{Bool, true, false, _&&_}
 use mathlib.Core.List.{List, map}
 use mathlib.Core.Path.{_≡_, _∙_, ap, sym, refl}

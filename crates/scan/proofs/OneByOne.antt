@@ -1,4 +1,4 @@
--- The digits of a constant, one after the other: what is held at the end. Assumes nothing.
+-- The digits of a constant, one after the other: what is held at the end.
 use mathlib.Core.Bool.{Bool, true, false, cond}
 use mathlib.Core.List.{List, [], _∷_, map}
 use mathlib.Core.Path.{_≡_, _∙_, ap, sym, refl, subst}

@@ -1,4 +1,4 @@
--- The least of some faults. Assumes nothing.
+-- The least of some faults.
 use mathlib.Core.Bool.{Bool, true, false, cond, _||_, _&&_, false≢true}
 use mathlib.Core.List.{List, [], _∷_, _++_}
 use mathlib.Core.Logic.{_⊎_, inl, inr}

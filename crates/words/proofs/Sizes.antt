@@ -1,4 +1,4 @@
--- Every item takes a byte or more and ends within its text. Assumes nothing.
+-- Every item takes a byte or more and ends within its text.
 use mathlib.Core.Bool.{Bool, true, false, cond, _&&_, false≢true}
 use mathlib.Core.List.{List, [], _∷_}
 use mathlib.Core.Path.{_≡_, _∙_, ap, sym, refl}

@@ -1,4 +1,4 @@
--- A text is walked item by item: what is found from a place on. Assumes nothing.
+-- A text is walked item by item: what is found from a place on.
 use mathlib.Core.Bool.{true, false, false≢true}
 use mathlib.Core.List.{List, [], _∷_, map}
 use mathlib.Core.Option.{none, some}

@@ -1,4 +1,4 @@
--- Lines are measured byte by byte. Assumes nothing.
+-- Lines are measured byte by byte.
 use mathlib.Core.Bool.{Bool, true, false, cond}
 use mathlib.Core.List.{List, [], _∷_}
 use mathlib.Core.Option.{none, some}
