@@ -1,4 +1,5 @@
 pub mod DeclarationBack
+pub mod DeclarationKept
 pub mod DeclarationLaws
 pub mod DescribedLaws
 pub mod HeaderLaws

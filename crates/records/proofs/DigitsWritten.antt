@@ -1,9 +1,9 @@
 -- The further digits of a wide constant, written before its own record, give its number back.
 use mathlib.Core.Bool.{true}
 use mathlib.Core.List.{List}
-use mathlib.Core.Path.{_≡_, refl, sym, ap, ap₂, _∙_}
+use mathlib.Core.Path.{_≡_, refl, ap, _∙_}
 use Prim.Native.Nat.{ℕ, zero, suc, _+_, _-_, _*_, _/_, _%_, _^_, _<_, _≤_}
-use native.Mathlib.Nat.{div-add-mod', lt-of-lt-of-le, mod-eq-of-lt, mod-one, mul-comm}
+use native.Mathlib.Nat.{lt-of-lt-of-le, mod-eq-of-lt, mod-one}
 use native.Mathlib.Omega.{arith}
 use borrow.Author.Tests.{eq-eqb}
 use lib.ListN.{getD}
