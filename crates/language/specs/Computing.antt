@@ -56,7 +56,7 @@ grammar = tt
 
 -- From a tree to records, and the rules that they must keep.
 unfoldable pub rules : Unit {0}
-unfolding Recursion.below Description.spanOf Description.inBounds Description.fromFirst Description.wordLength Description.wordCount Description.digitLength Description.furtherDigits Description.facilityAt Description.nodeAt Description.actionAt Description.operationAt Description.stateAt Description.sequencingFrom Description.sequencingOf Description.nodePlace Description.actionPlace Description.facilityPlace Description.operationPlace Description.statePlace Naming.numberOf Naming.meaning Describe.constantSize Describe.expressionSize Describe.expressionsIn Describe.actionsIn Describe.armsOf Describe.armsIn Describe.digitsAbove Describe.constantNodes Describe.nodesOf Describe.nodesIn Describe.actionsOf DescribeText.facilitiesOf DescribeText.facilityNodes DescribeText.facilitySize DescribeText.operationsOf DescribeText.operationNodes DescribeText.operationActions DescribeText.operationExpressions DescribeText.operationRecords DescribeText.stateConstant DescribeText.statesOf DescribeText.stateNodes DescribeText.stateActions DescribeText.describe Operators.binaryLength Operators.prefixLength Operators.cutLengthOf Operators.binaryOf Operators.prefixOf Operators.cutOf Judging.proper Judging.armList Judging.sized References.rightCount References.takenLength References.sameDirection ReferenceRules.boundFaults ReferenceRules.directionFaults ReferenceRules.subscriptsJudged ReferenceRules.referenceJudged Expressions.longestSelector Expressions.selects Expressions.ownWork Expressions.evenly Expressions.judgeNode Expressions.judgeBelow Expressions.judgeAt Expressions.leftAt Expressions.terminalBelow Expressions.terminalJudged Storing.mayStore ActionRules.kindAt ActionRules.simpleJudged ActionRules.listJudged ActionRules.armsJudged ActionRules.runBelow ActionRules.runJudged ActionRules.operationBelow ActionRules.operationJudged Layout.wordBytes Layout.facilityBytes Layout.placeIn Layout.storeSizeOf Layout.storeSize Layout.bytesOf Layout.numberAfter Layout.wordToBytes Layout.wordFromBytes Layout.noSpareBits Rules.largestBound Rules.largestStore Rules.mostWork Rules.declared Rules.nameFaults Rules.boundsFaults Rules.sequencingRight Rules.facilityFaults Rules.facilitiesFaults Rules.operationsFaults Rules.repeated Rules.stateFaults Rules.statesFaults Rules.sequencingLength Rules.faults
+unfolding Recursion.below Description.spanOf Description.inBounds Description.fromFirst Description.wordLength Description.wordCount Description.digitLength Description.furtherDigits Description.facilityAt Description.nodeAt Description.actionAt Description.operationAt Description.stateAt Description.sequencingFrom Description.sequencingOf Description.nodePlace Description.actionPlace Description.facilityPlace Description.operationPlace Description.statePlace Naming.numberOf Naming.meaning Describe.bound Describe.count Describe.constantSize Describe.expressionSize Describe.expressionsIn Describe.actionsIn Describe.armsOf Describe.armsIn Describe.digitsAbove Describe.constantNodes Describe.nodesOf Describe.nodesIn Describe.actionsOf DescribeText.facilitiesOf DescribeText.facilityNodes DescribeText.facilitySize DescribeText.operationsOf DescribeText.operationNodes DescribeText.operationActions DescribeText.operationExpressions DescribeText.operationRecords DescribeText.stateConstant DescribeText.statesOf DescribeText.stateNodes DescribeText.stateActions DescribeText.describe Operators.binaryLength Operators.prefixLength Operators.cutLengthOf Operators.binaryOf Operators.prefixOf Operators.cutOf Judging.proper Judging.armList Judging.sized References.rightCount References.takenLength References.sameDirection ReferenceRules.boundFaults ReferenceRules.directionFaults ReferenceRules.subscriptsJudged ReferenceRules.referenceJudged Expressions.longestSelector Expressions.selects Expressions.ownWork Expressions.evenly Expressions.judgeNode Expressions.judgeBelow Expressions.judgeAt Expressions.leftAt Expressions.terminalBelow Expressions.terminalJudged Storing.mayStore ActionRules.kindAt ActionRules.simpleJudged ActionRules.listJudged ActionRules.armsJudged ActionRules.runBelow ActionRules.runJudged ActionRules.operationBelow ActionRules.operationJudged Layout.wordBytes Layout.facilityBytes Layout.placeIn Layout.storeSizeOf Layout.storeSize Layout.bytesOf Layout.numberAfter Layout.wordToBytes Layout.wordFromBytes Layout.noSpareBits Rules.largestBound Rules.largestStore Rules.mostWork Rules.declared Rules.nameFaults Rules.boundsFaults Rules.sequencingRight Rules.facilityFaults Rules.facilitiesFaults Rules.operationsFaults Rules.repeated Rules.stateFaults Rules.statesFaults Rules.sequencingLength Rules.faults
 rules = tt
 
 -- The image in bytes, and which images pass.

@@ -1,6 +1,6 @@
 -- From a tree to a description: records in the order of the text, an expression's parts before it, a conditional before its arms; names resolved.
 use mathlib.Core.List.{List, [], _∷_, _++_}
-use Prim.Native.Nat.{ℕ, zero, suc, _+_, _-_, _*_, _/_, _%_, _^_}
+use Prim.Native.Nat.{ℕ, zero, suc, _+_, _-_, _*_, _/_, _%_, _^_, min}
 use lib.ListN.{length}
 use Rattle.language.specs.Description.{Action, Bounds, Node, NodePlaces, bounds, digitLength, furtherDigits, nodePlaces}
 use Rattle.language.specs.Description as D
@@ -21,8 +21,15 @@ noted n p = record { node = n; places = nodePlaces p }
 abbrev pub notedPart : Node → Position → Ends → Noted
 notedPart n p x = record { node = n; places = record { at = p; first = x .firstAt; last = x .lastAt } }
 
+-- No rule tells bounds and ends of parts above 65,535 apart, nor counts above 256: 65,536 and 65,535 stand for what is more.
+unfoldable pub bound : ℕ → ℕ
+bound n = min n 65536
+
+unfoldable pub count : ℕ → ℕ
+count n = min n 65535
+
 abbrev pub boundsOf : Ends → Bounds
-boundsOf x = bounds (x .first .value .number) (x .last .value .number)
+boundsOf x = bounds (bound (x .first .value .number)) (bound (x .last .value .number))
 
 -- ---- How many records things take.
 
@@ -133,7 +140,7 @@ module _ (s : Scope) where
       let next = base + expressionSize e in
       nodesOf base e ++ (nodesOf next g ++ noted (D.binary k (lastOf base (expressionSize e)) (lastOf next (expressionSize g))) p ∷ [])
   nodesOf base (T.prefix k p e) = nodesOf base e ++ noted (D.prefix k (lastOf base (expressionSize e))) p ∷ []
-  nodesOf base (T.cut k p e c) = nodesOf base e ++ noted (D.cut k (lastOf base (expressionSize e)) (c .value .number)) p ∷ []
+  nodesOf base (T.cut k p e c) = nodesOf base e ++ noted (D.cut k (lastOf base (expressionSize e)) (count (c .value .number))) p ∷ []
   nodesOf base (T.choice p e g) =
       let next = base + expressionSize e in
       nodesOf base e ++ (nodesOf next g ++ noted (D.choice (lastOf base (expressionSize e)) (lastOf next (expressionSize g)) (armsOf g)) p ∷ [])

@@ -1,0 +1,1 @@
+// The places of words in bytes, beside the records that they belong to.
