@@ -5,7 +5,7 @@ use mathlib.Core.Option.{Option, none, some}
 use mathlib.Core.Path.{_≡_, refl, sym, ap, subst, _∙_}
 use native.Mathlib.Omega.{arith}
 use Prim.Native.Nat.{ℕ, zero, suc, _+_, _≤_, _<_}
-use borrow.Author.Tests.{eqb-true, ltb-true, ltb-false, eqb-false}
+use borrow.Author.Tests.{eqb-true, leb-true, ltb-true, ltb-false, eqb-false}
 use lib.Dec.{eqb, leb, ltb}
 use lib.ListN.{List·getD-eq-default, getD, length}
 use Rattle.language.specs.ActionRules.{operationBelow, operationJudged, runJudged}
@@ -19,7 +19,7 @@ use Rattle.language.specs.Layout.{facilityBytes}
 use Rattle.language.specs.Machine.{mostFacilities, mostOperations, mostStates}
 use Rattle.language.specs.Order.{actionRoots, endsAt, facilityRoots, operationRoots, operationsEnd, runRoots, runsRight, startAt, stateRoots, statesEnd, treesEnd, treesRight, valueRoot, ending}
 use Rattle.language.specs.Rules as Rules
-use Rattle.language.specs.Rules.{boundsFaults, largestStore, sequencingRight, facilitiesFaults, facilityFaults, faults, missing, nameFaults, namePlaces, namesOf, operationsFaults, orElse, ownFaults, sameLength, sequencingLength, stateFaults, statesFaults, valueFaults}
+use Rattle.language.specs.Rules.{boundsFaults, largestStore, mostWork, sequencingRight, facilitiesFaults, facilityFaults, faults, missing, nameFaults, namePlaces, namesOf, operationsFaults, orElse, ownFaults, sameLength, sequencingLength, stateFaults, statesFaults, valueFaults}
 use Rattle.language.specs.Words.{Fault, Position}
 use Rattle.theorems.specs.Judged.{append-none-left, append-none-right, unless-none}
 use Rattle.theorems.specs.Ordered.{InOrder, Split, in-order, operations-order, order-left, order-right, states-order, trees-split}
@@ -98,6 +98,7 @@ module _ (d : Description) (p : Places) where
   pub record Right (l : Option ℕ) (before : List ℕ) (at : StatePlaces) (s : State) : Type 0 where
     pub run-worth : Worth
     pub run-fine : runOf s ≡ fine run-worth
+    pub little-work : run-worth .work ≤ mostWork
     pub there : missing d p l (s .value) ≡ false
     pub value-right : valueFaults d p l before (at .value) (s .value) ≡ []
 
@@ -110,6 +111,7 @@ module _ (d : Description) (p : Places) where
       record {
         run-worth = w;
         run-fine = q;
+        little-work = leb-true (w .work) mostWork (unless-none (leb (w .work) mostWork) (at .at) 10 (append-none-right (unless (cond (missing d p l (s .value)) false true) (at .at) 9) _ e));
         there = not-false (missing d p l (s .value)) (unless-none (cond (missing d p l (s .value)) false true) (at .at) 9 (append-none-left _ _ e));
         value-right = v;
       }

@@ -16,6 +16,9 @@ pub mod Lists
 pub mod Ordered
 pub mod LegalForm
 pub mod Acts
+pub mod FewStores
+pub mod FewInLists
+pub mod FewConflicts
 pub mod StateValues
 -- ---- The store and the record stay sound.
 pub mod Fitting
