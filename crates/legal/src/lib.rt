@@ -1,0 +1,1 @@
+// What a legal text gives is in legal form: definitions and theorems alone.
