@@ -2,3 +2,8 @@
 pub mod Alike
 pub mod ExpressionsAlike
 pub mod FaultsAlike
+pub mod Tidy
+pub mod TidyTexts
+pub mod Declared
+pub mod Sizes
+pub mod Runs
