@@ -7,3 +7,7 @@ pub mod TidyTexts
 pub mod Declared
 pub mod Sizes
 pub mod Runs
+pub mod Counted
+pub mod WithinCounts
+pub mod Starts
+pub mod Trees
