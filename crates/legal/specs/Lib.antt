@@ -11,3 +11,5 @@ pub mod Counted
 pub mod WithinCounts
 pub mod Starts
 pub mod Trees
+pub mod Roots
+pub mod ListRoots

@@ -31,10 +31,10 @@ use Rattle.theorems.specs.Judged.{arms-fine, both-fine, clean-fine, faulty-fine
 module _ (d : Description) where
   -- ---- Where a record with one part begins, and one with two.
 
-  root-one : (base m : ℕ) (xs : List Noted) (n : Noted) → length xs ≡ m → Stand d base (xs ++ n ∷ []) → nodeAt d (base + m) ≡ n .node
+  pub root-one : (base m : ℕ) (xs : List Noted) (n : Noted) → length xs ≡ m → Stand d base (xs ++ n ∷ []) → nodeAt d (base + m) ≡ n .node
   root-one base m xs n e h = stand-right d base xs (n ∷ []) h (base + m) (omega (arith, e)) .0
 
-  root-two : (base m k : ℕ) (xs ys : List Noted) (n : Noted) → length xs ≡ m → length ys ≡ k → Stand d base (xs ++ (ys ++ n ∷ [])) → nodeAt d (base + m + k) ≡ n .node
+  pub root-two : (base m k : ℕ) (xs ys : List Noted) (n : Noted) → length xs ≡ m → length ys ≡ k → Stand d base (xs ++ (ys ++ n ∷ [])) → nodeAt d (base + m + k) ≡ n .node
   root-two base m k xs ys n e f h = root-one (base + m) k ys n f (stand-right d base xs (ys ++ n ∷ []) h (base + m) (omega (arith, e)))
 
   one-start : (base m : ℕ) (R : Node) → 0 < m → startAt d (lastOf base m) ≡ some base → nodeAt d (base + m) ≡ R
@@ -55,7 +55,7 @@ module _ (d : Description) where
   module _ (p : Places) (terms : ℕ → Judged) (known : ℕ) (s : Scope) where
     -- ---- What is judged fine, of a record's parts.
 
-    abbrev judged : ℕ → Judged
+    abbrev pub judged : ℕ → Judged
     judged n = judgeAt d p terms known n
 
     below-fine : (n a : ℕ) {w : Worth} → a < n → judgeBelow d p terms known n a ≡ fine w → judged a ≡ fine w
@@ -70,7 +70,7 @@ module _ (d : Description) where
     node-fine n m R e f h = rw (e, f) at h
 
     -- A reference's subscripts are fine.
-    subscripts-fine : (ev : ℕ → Judged) (own : ℕ) (r : Reference) (at : NodePlaces) {w : Worth} → referenceJudged d p terms ev own known r at ≡ fine w
+    pub subscripts-fine : (ev : ℕ → Judged) (own : ℕ) (r : Reference) (at : NodePlaces) {w : Worth} → referenceJudged d p terms ev own known r at ≡ fine w
         → (v : Worth) × (subscriptsJudged d p terms ev (r .subscripts) ≡ fine v)
     unfolding referenceJudged
     subscripts-fine ev own r at {w} e = go (ltb (r .facility) known) (rightCount (facilityAt d (r .facility) .dimensions) (r .subscripts)) e
@@ -98,34 +98,34 @@ module _ (d : Description) where
 
     -- ---- Expressions.
 
-    abbrev Starts : ℕ → ℕ → Type 0
+    abbrev pub Starts : ℕ → ℕ → Type 0
     Starts base m = (w : Worth) → judged (lastOf base m) ≡ fine w → startAt d (lastOf base m) ≡ some base
 
-    last-so : (base m : ℕ) → lastOf base (m + 1) ≡ base + m
+    pub last-so : (base m : ℕ) → lastOf base (m + 1) ≡ base + m
     last-so base m = omega arith
 
-    last-two : (base m k : ℕ) → lastOf base (m + k + 1) ≡ base + m + k
+    pub last-two : (base m k : ℕ) → lastOf base (m + k + 1) ≡ base + m + k
     last-two base m k = omega arith
 
     -- Each kind of root, from its parts.
-    reference-one : (base m k : ℕ) → 0 < m → nodeAt d (base + m) ≡ D.one k (lastOf base m) → Starts base m
+    pub reference-one : (base m k : ℕ) → 0 < m → nodeAt d (base + m) ≡ D.one k (lastOf base m) → Starts base m
         → (v : Worth) × (subscriptsJudged d p terms (judgeBelow d p terms known (base + m)) (R.one (lastOf base m)) ≡ fine v) → startAt d (lastOf base (m + 1)) ≡ some base
     unfolding subscriptsJudged startNode
     reference-one base m k l e h f = one-start base m _ l (h _ (proper-below (base + m) (lastOf base m) (omega arith) (f .1))) e (λ start. refl)
 
-    reference-word-part : (base m k : ℕ) (b : Bounds) → 0 < m → nodeAt d (base + m) ≡ D.wordPart k (lastOf base m) b → Starts base m
+    pub reference-word-part : (base m k : ℕ) (b : Bounds) → 0 < m → nodeAt d (base + m) ≡ D.wordPart k (lastOf base m) b → Starts base m
         → (v : Worth) × (subscriptsJudged d p terms (judgeBelow d p terms known (base + m)) (wordPart (lastOf base m) b) ≡ fine v) → startAt d (lastOf base (m + 1)) ≡ some base
     unfolding subscriptsJudged startNode
     reference-word-part base m k b l e h f = one-start base m _ l (h _ (proper-below (base + m) (lastOf base m) (omega arith) (f .1))) e (λ start. refl)
 
-    reference-two : (base m n k : ℕ) → 0 < m → 0 < n → nodeAt d (base + m + n) ≡ D.two k (lastOf base m) (lastOf (base + m) n) → Starts base m → Starts (base + m) n
+    pub reference-two : (base m n k : ℕ) → 0 < m → 0 < n → nodeAt d (base + m + n) ≡ D.two k (lastOf base m) (lastOf (base + m) n) → Starts base m → Starts (base + m) n
         → (v : Worth) × (subscriptsJudged d p terms (judgeBelow d p terms known (base + m + n)) (two (lastOf base m) (lastOf (base + m) n)) ≡ fine v) → startAt d (lastOf base (m + n + 1)) ≡ some base
     unfolding subscriptsJudged startNode
     reference-two base m n k l i e h g f =
         let y = both-fine _ _ _ (f .1) in
         two-start base m n _ l i (h _ (proper-below (base + m + n) (lastOf base m) (omega arith) (y .left))) (g _ (proper-below (base + m + n) (lastOf (base + m) n) (omega arith) (y .right))) e (λ start. refl)
 
-    leaf-start : (base : ℕ) (R : Node) → nodeAt d base ≡ R → ((start : ℕ → Option ℕ) → startNode d start base R ≡ some base) → startAt d (lastOf base 1) ≡ some base
+    pub leaf-start : (base : ℕ) (R : Node) → nodeAt d base ≡ R → ((start : ℕ → Option ℕ) → startNode d start base R ≡ some base) → startAt d (lastOf base 1) ≡ some base
     unfolding startAt
     leaf-start base R e k = let z : base + 1 - 1 ≡ base = omega arith in rw (z, e) (k (startBelow d base))
 
