@@ -13,3 +13,4 @@ pub mod Starts
 pub mod Trees
 pub mod Roots
 pub mod ListRoots
+pub mod InOrder

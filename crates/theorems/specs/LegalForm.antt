@@ -168,6 +168,34 @@ beyond : (d : Description) (i : ℕ) → length (d .actions) ≤ i → actionAt 
 unfolding actionAt
 beyond d i l = List·getD-eq-default (d .actions) D.Action.broken l
 
+-- What a description without fault has, whatever its form.
+module _ (d : Description) (none-there : faults d noPlaces ≡ []) where
+  names-none : nameFaults [] (namesOf d) (namePlaces noPlaces) ++ (facilitiesFaults d noPlaces 0 false 0 (d .facilities) ++ (operationsFaults d noPlaces (length (d .operations)) 0 ++ statesFaults d noPlaces (sequencingLength d noPlaces) [] 0 (d .states))) ≡ []
+  unfolding faults
+  names-none = none-there
+
+  after-names : facilitiesFaults d noPlaces 0 false 0 (d .facilities) ++ (operationsFaults d noPlaces (length (d .operations)) 0 ++ statesFaults d noPlaces (sequencingLength d noPlaces) [] 0 (d .states)) ≡ []
+  after-names = append-none-right (nameFaults [] (namesOf d) (namePlaces noPlaces)) _ names-none
+
+  after-facilities : operationsFaults d noPlaces (length (d .operations)) 0 ++ statesFaults d noPlaces (sequencingLength d noPlaces) [] 0 (d .states) ≡ []
+  after-facilities = append-none-right (facilitiesFaults d noPlaces 0 false 0 (d .facilities)) _ after-names
+
+  pub terminals-fine : (f : ℕ) → f < length (d .facilities) → isComputed (facilityAt d f .kind) ≡ true → (w : Worth) × (terminalJudged d noPlaces f ≡ fine w) × (wordLength (facilityAt d f) ≡ w .length)
+  unfolding facilityAt
+  terminals-fine f l c =
+      let y = facility-none d noPlaces (d .facilities) 0 f false 0 (append-none-left _ _ after-names) l in
+      let z : 0 + f ≡ f = omega arith in
+      terminal-fine d noPlaces f (y .0) (y .1 .0) (facilityAt d f) (facilityPlace noPlaces f) (rw z at (y .1 .1)) c
+
+  pub operations-fine : (o : ℕ) → o < length (d .operations) → (w : Worth) × (operationJudged d noPlaces o ≡ fine w)
+  operations-fine o l =
+      let z : 0 + o ≡ o = omega arith in
+      rw z at (operation-fine d noPlaces (length (d .operations)) 0 o (append-none-left _ _ after-facilities) l)
+
+  pub states-fine : (s : ℕ) → s < length (d .states) → (b : List ℕ) × ((at : StatePlaces) × Right d noPlaces (sequencingLength d noPlaces) b at (stateAt d s))
+  unfolding stateAt
+  states-fine s l = states-right d noPlaces (d .states) (sequencingLength d noPlaces) [] 0 s (append-none-right (operationsFaults d noPlaces (length (d .operations)) 0) _ after-facilities) l
+
 module _ (d : Description) (h : legalForm d ≡ true) where
   canonical-so : canonical d ≡ true
   unfolding legalForm
@@ -228,32 +256,6 @@ module _ (d : Description) (h : legalForm d ≡ true) where
           no-action : length (d .actions) ≤ i → actionAt d i ≡ D.Action.broken
           no-action l = beyond d i l
 
-  names-none : nameFaults [] (namesOf d) (namePlaces noPlaces) ++ (facilitiesFaults d noPlaces 0 false 0 (d .facilities) ++ (operationsFaults d noPlaces (length (d .operations)) 0 ++ statesFaults d noPlaces (sequencingLength d noPlaces) [] 0 (d .states))) ≡ []
-  unfolding faults
-  names-none = no-faults
-
-  after-names : facilitiesFaults d noPlaces 0 false 0 (d .facilities) ++ (operationsFaults d noPlaces (length (d .operations)) 0 ++ statesFaults d noPlaces (sequencingLength d noPlaces) [] 0 (d .states)) ≡ []
-  after-names = append-none-right (nameFaults [] (namesOf d) (namePlaces noPlaces)) _ names-none
-
-  after-facilities : operationsFaults d noPlaces (length (d .operations)) 0 ++ statesFaults d noPlaces (sequencingLength d noPlaces) [] 0 (d .states) ≡ []
-  after-facilities = append-none-right (facilitiesFaults d noPlaces 0 false 0 (d .facilities)) _ after-names
-
-  terminals-fine : (f : ℕ) → f < length (d .facilities) → isComputed (facilityAt d f .kind) ≡ true → (w : Worth) × (terminalJudged d noPlaces f ≡ fine w) × (wordLength (facilityAt d f) ≡ w .length)
-  unfolding facilityAt
-  terminals-fine f l c =
-      let y = facility-none d noPlaces (d .facilities) 0 f false 0 (append-none-left _ _ after-names) l in
-      let z : 0 + f ≡ f = omega arith in
-      terminal-fine d noPlaces f (y .0) (y .1 .0) (facilityAt d f) (facilityPlace noPlaces f) (rw z at (y .1 .1)) c
-
-  operations-fine : (o : ℕ) → o < length (d .operations) → (w : Worth) × (operationJudged d noPlaces o ≡ fine w)
-  operations-fine o l =
-      let z : 0 + o ≡ o = omega arith in
-      rw z at (operation-fine d noPlaces (length (d .operations)) 0 o (append-none-left _ _ after-facilities) l)
-
-  states-fine : (s : ℕ) → s < length (d .states) → (b : List ℕ) × ((at : StatePlaces) × Right d noPlaces (sequencingLength d noPlaces) b at (stateAt d s))
-  unfolding stateAt
-  states-fine s l = states-right d noPlaces (d .states) (sequencingLength d noPlaces) [] 0 s (append-none-right (operationsFaults d noPlaces (length (d .operations)) 0) _ after-facilities) l
-
   values-so : (s n : ℕ) → s < length (d .states) → stateAt d s .value ≡ some n → (m : ℕ) × (startAt d n ≡ some m)
   unfolding stateAt
   values-so s n l e =
@@ -272,9 +274,9 @@ module _ (d : Description) (h : legalForm d ≡ true) where
     base = split .middle;
     terminals-order = split .left;
     actions-order = actions-in-order;
-    terminals = terminals-fine;
-    operations = operations-fine;
-    states = states-fine;
+    terminals = terminals-fine d no-faults;
+    operations = operations-fine d no-faults;
+    states = states-fine d no-faults;
     values = values-so;
     some-state = some-state-so;
   }
