@@ -1,24 +1,21 @@
 -- The records of a text count no more than its words do, left sides and states' values apart. Assumes nothing.
 use mathlib.Core.List.{List, [], _∷_, _++_, map}
-use mathlib.Core.Option.{Option, none, some}
-use mathlib.Core.Path.{_≡_, refl, ap, _∙_}
+use mathlib.Core.Option.{none}
+use mathlib.Core.Path.{_≡_, refl}
 use native.Mathlib.Omega.{arith}
 use Prim.Native.Nat.{ℕ, zero, suc, _+_, _-_, _≤_}
-use lib.ListN.{length}
-use Rattle.language.specs.Canonical.{actionCount, countedRecords, leftCount, nodeCount, total, valueCount}
-use Rattle.language.specs.Ceilings.{countedActions, countedExpression, countedFunction, countedLeft, countedOperations, countedReference, countedStates, countedTerminals, countedWords}
+use Rattle.language.specs.Canonical.{actionCount, leftCount, nodeCount, total}
+use Rattle.language.specs.Ceilings.{countedActions, countedExpression, countedLeft, countedReference}
 use Rattle.language.specs.Describe as B
 use Rattle.language.specs.Describe.{Noted, NotedAction, actionsOf, constantNodes, digitsAbove, expressionSize, expressionsIn, leftNodes, leftSize, nodesIn, nodesOf, storeOf}
-use Rattle.language.specs.DescribeText as X
-use Rattle.language.specs.DescribeText.{describe, facilityNodes, functionNodes, functionSize, operationActions, operationNodes, stateActions, stateNodes, stateSize, statesOf, valueNodes, valueNumber, valueSize}
 use Rattle.language.specs.Description as D
 use Rattle.language.specs.Description.{Action, Node, furtherDigits}
 use Rattle.language.specs.Naming.{Meaning, Scope, facility, meaning, ofFacility, ofOperation, ofState, operation, state, unknown}
 use Rattle.language.specs.Tree as T
-use Rattle.language.specs.Tree.{Actions, Declaration, Expression, Function, Left, Name, Operation, State, StateValue, Text}
+use Rattle.language.specs.Tree.{Actions, Expression, Left}
 use Rattle.language.specs.Value.{Value}
 use Rattle.language.specs.Words.{Position}
-use Rattle.legal.specs.Tidy.{ActionsTidy, DeclarationsTidy, LeftTidy, OperationsTidy, ReferenceTidy, StatesTidy}
+use Rattle.legal.specs.Tidy.{ActionsTidy, LeftTidy, ReferenceTidy}
 
 -- What noted records and actions count.
 abbrev pub nodes : List Noted → ℕ

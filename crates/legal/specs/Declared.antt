@@ -1,5 +1,5 @@
 -- The facilities, names and labels of a tidy text are right. Assumes nothing.
-use mathlib.Core.Bool.{Bool, true, false, cond}
+use mathlib.Core.Bool.{Bool, true, cond}
 use mathlib.Core.List.{List, [], _∷_, _++_}
 use mathlib.Core.Option.{Option, none, some}
 use mathlib.Core.Path.{_≡_, ap, refl}
@@ -7,13 +7,13 @@ use native.Mathlib.Omega.{arith}
 use Prim.Native.Nat.{ℕ, _+_, _≤_}
 use borrow.Author.Tests.{le-leb}
 use lib.Dec.{leb}
-use Rattle.language.specs.Canonical.{all, facilitiesRight, facilityRight, labelRight, mostDimensions, nameRight, noBounds, rankOf}
+use Rattle.language.specs.Canonical.{all, facilitiesRight, facilityRight, labelRight, mostDimensions, nameRight, noBounds}
 use Rattle.language.specs.DescribeText.{bitBounds, dimensionsOf, facilitiesOf, facilityOf, functionSize, labelOf, operationsOf, stateSize, statesOf, valueNumber, wordBounds}
 use Rattle.language.specs.Describe.{actionsIn}
 use Rattle.language.specs.Judging.{both}
 use Rattle.language.specs.Tree as T
 use Rattle.language.specs.Tree.{Declaration, Extent, Function, Kind, Label, Name, Operation, State, StateValue}
-use Rattle.legal.specs.Tidy.{DeclarationTidy, DeclarationsTidy, LabelTidy, OperationsTidy, StatesTidy, Suits}
+use Rattle.legal.specs.Tidy.{DeclarationsTidy, LabelTidy, OperationsTidy, StatesTidy, Suits}
 
 pub both-so : {a b : Bool} → a ≡ true → b ≡ true → both a b ≡ true
 both-so p q = rw p q

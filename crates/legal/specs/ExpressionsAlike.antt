@@ -1,6 +1,4 @@
 -- Expressions, references and computed terminals are judged alike whatever the places. Assumes nothing.
-use mathlib.Core.Bool.{Bool, cond}
-use mathlib.Core.List.{[]}
 use mathlib.Core.Option.{Option, none, some}
 use Prim.Native.Nat.{ℕ, _+_}
 use lib.Dec.{eqb, ltb}
@@ -8,7 +6,7 @@ use Rattle.language.specs.Description as D
 use Rattle.language.specs.Description.{Bounds, Description, Facility, Node, NodePlaces, Places, facilityAt, inBounds, isComputed, nodeAt, nodePlace}
 use Rattle.language.specs.Expressions as E
 use Rattle.language.specs.Expressions.{judgeNode, ownWork, selects}
-use Rattle.language.specs.Judging.{Judged, Worth, both}
+use Rattle.language.specs.Judging.{Judged, both}
 use Rattle.language.specs.ReferenceRules as RR
 use Rattle.language.specs.ReferenceRules.{boundFaults, directionFaults, referenceJudged, subscriptsJudged}
 use Rattle.language.specs.References as R

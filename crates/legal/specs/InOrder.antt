@@ -1,69 +1,73 @@
 -- The expressions of a legal text stand in order: trees one after the other, to the last record. Assumes nothing.
 use mathlib.Core.Bool.{Bool, true, false, cond}
-use mathlib.Core.List.{List, [], _∷_, _++_, map}
+use mathlib.Core.List.{List, [], _∷_, _++_}
 use mathlib.Core.Option.{Option, none, some}
-use mathlib.Core.Path.{_≡_, refl, sym, ap, _∙_}
+use mathlib.Core.Path.{_≡_, refl, ap, _∙_}
 use native.Mathlib.Omega.{arith}
-use Prim.Native.Nat.{ℕ, zero, suc, _+_, _^_, _≤_, _<_}
-use borrow.Author.Tests.{eq-eqb, ltb-true}
+use Prim.Native.Nat.{ℕ, suc, _+_, _^_, _≤_, _<_}
+use borrow.Author.Tests.{ltb-true}
 use lib.Dec.{eqb, ltb}
-use lib.ListN.{getD, length, length-append, length-map}
+use lib.ListN.{length}
 use Rattle.language.specs.ActionRules as J
 use Rattle.language.specs.ActionRules.{operationBelow, operationJudged, runJudged}
-use Rattle.language.specs.Describe.{Noted, NotedAction, actionsIn, actionsOf, constantNodes, constantSize, expressionSize, expressionsIn, lastOf, nodesIn, nodesOf}
+use Rattle.language.specs.Describe.{actionsIn, actionsOf, constantSize, expressionSize, expressionsIn, lastOf, nodesIn, nodesOf}
 use Rattle.language.specs.DescribeText as X
-use Rattle.language.specs.DescribeText.{describe, facilitiesOf, facilityNodes, facilityOf, facilitySize, functionNodes, functionSize, operationActions, operationExpressions, operationNodes, operationRecords, operationScope, operationsOf, stateActions, stateConstant, stateNodes, stateSize, statesOf, valueNodes, valueNumber, valueSize}
+use Rattle.language.specs.DescribeText.{facilitiesOf, facilityNodes, facilityOf, facilitySize, functionNodes, functionSize, operationActions, operationExpressions, operationNodes, operationScope, operationsOf, stateActions, stateConstant, stateNodes, stateSize, statesOf, valueNodes, valueNumber, valueSize}
 use Rattle.language.specs.Description as D
-use Rattle.language.specs.Description.{Description, Facility, Operation, State, actionAt, facilityAt, nodeAt, nodePlace, noPlaces, operationAt, stateAt}
+use Rattle.language.specs.Description.{Description, Facility, Operation, State, facilityAt, nodePlace, noPlaces, operationAt, stateAt}
 use Rattle.language.specs.Expressions.{judgeAt, terminalBelow, terminalJudged}
 use Rattle.language.specs.Image.{ConstantRight}
-use Rattle.language.specs.Judging.{Judged, Worth, fine, refuse}
+use Rattle.language.specs.Judging.{Worth, fine, refuse}
 use Rattle.language.specs.Naming.{Scope}
-use Rattle.language.specs.Order.{endsAt, facilityRoots, functionRoot, operationRoots, runRoots, startAt, stateRoots, treesEnd, treesRight, valueRoot}
+use Rattle.language.specs.Order.{facilityRoots, functionRoot, operationRoots, runRoots, startAt, stateRoots, treesEnd, valueRoot}
 use Rattle.language.specs.Rules.{faults}
 use Rattle.language.specs.Tree as T
-use Rattle.language.specs.Tree.{Declaration, Extent, Function, Kind, Name, StateValue, Text}
-use Rattle.language.specs.Value.{Value, value}
+use Rattle.language.specs.Tree.{Declaration, Function, Kind, Name, StateValue}
+use Rattle.language.specs.Value.{value}
 use Rattle.language.specs.Words.{Constant}
 use Rattle.legal.specs.ListRoots.{follows}
 use Rattle.legal.specs.Roots.{StandActions, actions-left, actions-right, tree-then, trees-join}
-use Rattle.legal.specs.Runs.{stateRecords}
-use Rattle.legal.specs.Sizes.{actions-size, constant-size, function-size, in-size, value-size}
+use Rattle.legal.specs.Sizes.{actions-size, function-size, in-size, value-size}
 use Rattle.legal.specs.Starts.{Stand, constant-starts, some-records, stand-left, stand-right}
-use Rattle.legal.specs.Tidy.{DeclarationTidy, DeclarationsTidy, ExpressionTidy, FunctionTidy, LabelTidy, OperationsTidy, StatesTidy, Suits, TextTidy}
+use Rattle.legal.specs.Tidy.{DeclarationsTidy, ExpressionTidy, FunctionTidy, LabelTidy, OperationsTidy, StatesTidy, Suits}
 use Rattle.legal.specs.Trees.{expression-starts}
 use Rattle.theorems.specs.Judged.{faulty-fine, proper-fine}
 use Rattle.theorems.specs.LegalForm.{operations-fine, states-fine, terminals-fine}
 
 -- Declarations whose functions suit them.
-abbrev Suited : List Declaration → Type 0
+abbrev pub Suited : List Declaration → Type 0
 Suited [] = Unit {0}
 Suited (d ∷ ds) = (Suits (d .kind) (d .extent) (d .function) × FunctionTidy (d .function)) × Suited ds
 
-suited : (r : ℕ) (ds es : List Declaration) → DeclarationsTidy r ds → Suited es → Suited (ds ++ es)
+pub suited : (r : ℕ) (ds es : List Declaration) → DeclarationsTidy r ds → Suited es → Suited (ds ++ es)
 suited r [] es h k = k
 suited r (d ∷ ds) es h k = ((h .0 .suits, h .0 .function-tidy), suited r ds es (h .1) k)
 
-last-suited : (r : ℕ) (ds : List Declaration) → DeclarationsTidy r ds → Suited ds
+pub last-suited : (r : ℕ) (ds : List Declaration) → DeclarationsTidy r ds → Suited ds
 last-suited r [] h = tt
 last-suited r (d ∷ ds) h = ((h .0 .suits, h .0 .function-tidy), last-suited r ds (h .1))
+
+-- The expression records of states.
+unfoldable pub stateExpressions : Option ℕ → List T.State → ℕ
+stateExpressions l [] = 0
+stateExpressions l (s ∷ ss) = stateSize l s + stateExpressions l ss
 
 module _ (d : Description) (faultless : faults d noPlaces ≡ []) where
   -- ---- What stands at the numbers of a section.
 
-  abbrev Facilities : ℕ → List Facility → Type 0
+  abbrev pub Facilities : ℕ → List Facility → Type 0
   Facilities n [] = Unit {0}
   Facilities n (f ∷ fs) = ((facilityAt d n ≡ f) × (n < length (d .facilities))) × Facilities (suc n) fs
 
-  abbrev Operations : ℕ → List Operation → Type 0
+  abbrev pub Operations : ℕ → List Operation → Type 0
   Operations n [] = Unit {0}
   Operations n (o ∷ os) = ((operationAt d n ≡ o) × (n < length (d .operations))) × Operations (suc n) os
 
-  abbrev States : ℕ → List State → Type 0
+  abbrev pub States : ℕ → List State → Type 0
   States n [] = Unit {0}
   States n (s ∷ ss) = ((stateAt d n ≡ s) × (n < length (d .states))) × States (suc n) ss
 
-  abbrev Ends : ℕ → ℕ → List ℕ → Type 0
+  abbrev pub Ends : ℕ → ℕ → List ℕ → Type 0
   Ends at m rs = treesEnd d at rs ≡ some m
 
   -- ---- Computed terminals.
@@ -117,7 +121,7 @@ module _ (d : Description) (faultless : faults d noPlaces ≡ []) where
           let z : facilityOf base x .expression ≡ lastOf base (expressionSize e) = ap (X.functionNumber base) j in
           rw z (one-root base (expressionSize e) rs (some-records e) b (terminal-starts n base before (facilityOf base x) e u q l (rw i refl) z k))
 
-  facilities-end : (n base : ℕ) (before : List Name) (ds : List Declaration) → Suited ds → Facilities n (facilitiesOf base ds) → base + facilitySize ds ≤ length (d .expressions)
+  pub facilities-end : (n base : ℕ) (before : List Name) (ds : List Declaration) → Suited ds → Facilities n (facilitiesOf base ds) → base + facilitySize ds ≤ length (d .expressions)
       → Stand d base (facilityNodes before base ds) → Ends base (base + facilitySize ds) (facilityRoots d (facilitiesOf base ds))
   unfolding facilitiesOf facilityNodes facilitySize facilityRoots treesEnd
   facilities-end n base before [] h f l k = let z : base ≡ base + 0 = omega arith in ap some z
@@ -141,7 +145,7 @@ module _ (d : Description) (faultless : faults d noPlaces ≡ []) where
       go true k = faulty-fine k
       go false k = k
 
-  operations-end : (n base a : ℕ) (facilities before : List Name) (os : List T.Operation) → OperationsTidy os → Operations n (operationsOf a os) → base + operationExpressions os ≤ length (d .expressions)
+  pub operations-end : (n base a : ℕ) (facilities before : List Name) (os : List T.Operation) → OperationsTidy os → Operations n (operationsOf a os) → base + operationExpressions os ≤ length (d .expressions)
       → Stand d base (operationNodes facilities before base os) → StandActions d a (operationActions facilities before base os) → Ends base (base + operationExpressions os) (operationRoots d (operationsOf a os))
   unfolding operationsOf operationNodes operationActions operationExpressions operationRoots treesEnd
   operations-end n base a facilities before [] h f l k x = let z : base ≡ base + 0 = omega arith in ap some z
@@ -179,16 +183,12 @@ module _ (d : Description) (faultless : faults d noPlaces ≡ []) where
   value-roots l base (some x) (some v) rs h k b =
       one-root base (constantSize (stateConstant l (v .constant))) rs (omega arith) b (constant-starts d base (stateConstant l (v .constant)) (v .at) (constant-fits l (v .constant) (h .1)) k)
 
-  stateExpressions : Option ℕ → List T.State → ℕ
-  stateExpressions l [] = 0
-  stateExpressions l (s ∷ ss) = stateSize l s + stateExpressions l ss
-
   run-fine : (n : ℕ) (s : State) → stateAt d n ≡ s → n < length (d .states)
       → (w : Worth) × (J.runStep d noPlaces true (operationBelow d noPlaces (length (d .operations))) (J.runBelow d noPlaces true (operationBelow d noPlaces (length (d .operations))) (s .actions .count)) (s .actions .count) (s .actions .first) J.actions ≡ fine w)
   unfolding runJudged
   run-fine n s q l = let y = states-fine d faultless n l .1 .1 in (y .run-worth, rw q at (y .run-fine))
 
-  states-end : (l : Option ℕ) (scope : Scope) (n base a : ℕ) (ss : List T.State) → StatesTidy ss → States n (statesOf l base a ss) → base + stateExpressions l ss ≤ length (d .expressions)
+  pub states-end : (l : Option ℕ) (scope : Scope) (n base a : ℕ) (ss : List T.State) → StatesTidy ss → States n (statesOf l base a ss) → base + stateExpressions l ss ≤ length (d .expressions)
       → Stand d base (stateNodes l scope base ss) → StandActions d a (stateActions l scope base ss) → Ends base (base + stateExpressions l ss) (stateRoots d (statesOf l base a ss))
   unfolding statesOf stateNodes stateActions stateRoots treesEnd stateExpressions
   states-end l scope n base a [] h f b k x = let z : base ≡ base + 0 = omega arith in ap some z

@@ -4,18 +4,17 @@ use mathlib.Core.List.{List, [], _∷_, _++_}
 use mathlib.Core.Option.{some}
 use mathlib.Core.Path.{_≡_, refl, sym, ap, _∙_}
 use native.Mathlib.Omega.{arith}
-use Prim.Native.Nat.{ℕ, zero, suc, _+_, _-_, _≤_, _<_}
+use Prim.Native.Nat.{ℕ, suc, _+_, _-_, _≤_, _<_}
 use borrow.Author.Tests.{leb-true}
 use lib.Dec.{eqb, eqb·suc-zero, leb}
 use lib.ListN.{length}
 use Rattle.language.specs.ActionRules as J
 use Rattle.language.specs.ActionRules.{Shape, actions, arms, simpleJudged}
-use Rattle.language.specs.Describe.{NotedAction, actionsIn, actionsOf, armsIn, expressionSize, expressionsIn, lastOf, leftNodes, leftSize, nodesIn, nodesOf, storeOf}
+use Rattle.language.specs.Describe.{actionsIn, actionsOf, armsIn, expressionSize, expressionsIn, lastOf, leftNodes, leftSize, nodesIn, nodesOf, storeOf}
 use Rattle.language.specs.Description as D
 use Rattle.language.specs.Description.{Action, Description, Places, actionAt, actionPlace, nodePlace}
 use Rattle.language.specs.Expressions.{judgeAt, selects}
 use Rattle.language.specs.Judging.{Judged, Worth, both, fine, givenBoth, refuse, worth}
-use Rattle.language.specs.Kinds.{delayedSign}
 use Rattle.language.specs.Naming.{Meaning, Scope, facility, meaning, ofOperation, ofState, operation, state, unknown}
 use Rattle.language.specs.Order.{actionRoots, runRoots, treesEnd}
 use Rattle.language.specs.Recursion.{below-lt}
@@ -247,10 +246,12 @@ module _ (d : Description) (p : Places) (s : Scope) (inState : Bool) (works : �
       let second = base + expressionSize x in
       let m : second + expressionSize x′ + expressionSize e ≡ base + (expressionSize x + expressionSize x′ + expressionSize e) = omega arith in
       let v : base + (expressionSize x + expressionSize x′) ≡ second + expressionSize x′ = omega arith in
-      let right : Stand d (second + expressionSize x′) (nodesOf s (second + expressionSize x′) e) = rw v at b in
-      (reference-then base x _ (h .0) (stand-left d base (nodesOf s base x) _ a) (omega arith) (u .left)
-      ∙ reference-then second x′ _ (h .1) (stand-right d base (nodesOf s base x) _ a second (let o = nodes-size s base x in omega (arith, o))) (omega arith) (u .right)
-      ∙ expression-then (second + expressionSize x′) e rs g right (omega arith) (z .right) ∙ ap (λ (o : ℕ). treesEnd d o rs) m, (y .rest, y .rest-fine))
+      let right : Stand d (second + expressionSize x′) (nodesOf s (second + expressionSize x′) e) = rw v at b in (
+        reference-then base x _ (h .0) (stand-left d base (nodesOf s base x) _ a) (omega arith) (u .left)
+            ∙ reference-then second x′ _ (h .1) (stand-right d base (nodesOf s base x) _ a second (let o = nodes-size s base x in omega (arith, o))) (omega arith) (u .right)
+            ∙ expression-then (second + expressionSize x′) e rs g right (omega arith) (z .right) ∙ ap (λ (o : ℕ). treesEnd d o rs) m,
+        (y .rest, y .rest-fine),
+      )
 
   -- A conditional: its condition, then `x` records that hold its arms, then the list after it.
   conditional-roots : (e : Expression) (l a : Actions) → Follows a → (b : Action) (base i x : ℕ) → ExpressionTidy e → ActionsTidy a

@@ -2,34 +2,32 @@
 use mathlib.Core.Bool.{Bool, true, false, cond}
 use mathlib.Core.List.{List, [], _∷_, _++_}
 use mathlib.Core.Option.{Option, none, some}
-use mathlib.Core.Path.{_≡_, refl, sym, ap, _∙_}
+use mathlib.Core.Path.{_≡_, refl, ap, _∙_}
 use native.Mathlib.Omega.{arith}
-use Prim.Native.Nat.{ℕ, zero, suc, _+_, _-_, _≤_, _<_}
-use borrow.Author.Tests.{eq-eqb, leb-true, lt-ltb}
-use lib.Dec.{eqb, eqb·suc-zero, leb, ltb}
+use Prim.Native.Nat.{ℕ, zero, suc, _+_, _-_, _<_}
+use borrow.Author.Tests.{eq-eqb, lt-ltb}
+use lib.Dec.{eqb, ltb}
 use lib.ListN.{length}
-use Rattle.language.specs.ActionRules as J
-use Rattle.language.specs.ActionRules.{Shape, actions, arms, simpleJudged}
+use Rattle.language.specs.ActionRules.{actions}
 use Rattle.language.specs.Describe as B
-use Rattle.language.specs.Describe.{Noted, NotedAction, actionsIn, actionsOf, armsIn, expressionSize, expressionsIn, lastOf, leftNodes, leftSize, nodesIn, nodesOf, storeOf}
+use Rattle.language.specs.Describe.{NotedAction, expressionSize, lastOf, nodesOf}
 use Rattle.language.specs.Description as D
-use Rattle.language.specs.Description.{Action, Description, Node, Places, actionAt, actionPlace, nodeAt, nodePlace}
+use Rattle.language.specs.Description.{Description, Node, Places, actionAt, nodeAt}
 use Rattle.language.specs.Expressions as E
 use Rattle.language.specs.Expressions.{leftAt, terminalBelow}
-use Rattle.language.specs.Judging.{Judged, Worth, both, fine, givenBoth, refuse, worth}
-use Rattle.language.specs.Naming.{Meaning, Scope, facility, meaning, ofFacility, ofOperation, ofState, operation, state, unknown}
+use Rattle.language.specs.Judging.{Judged, Worth, both, fine}
+use Rattle.language.specs.Naming.{Meaning, Scope, facility, meaning, ofFacility, operation, state, unknown}
 use Rattle.language.specs.Order.{actionRoots, ending, runRoots, startAt, startNode, treesEnd}
-use Rattle.language.specs.Recursion.{below-lt}
 use Rattle.language.specs.References as R
-use Rattle.language.specs.References.{Reference, referenceOf, two, wordPart}
+use Rattle.language.specs.References.{referenceOf, two, wordPart}
 use Rattle.language.specs.Tree as T
 use Rattle.language.specs.Tree.{Actions, Expression, Left}
-use Rattle.legal.specs.Sizes.{actions-size, in-size, left-size, nodes-size}
+use Rattle.legal.specs.Sizes.{nodes-size}
 use Rattle.legal.specs.Starts.{Stand, some-records, stand-left, stand-right}
-use Rattle.legal.specs.Tidy.{ActionsTidy, ExpressionTidy, LeftTidy, ReferenceTidy}
+use Rattle.legal.specs.Tidy.{ReferenceTidy}
 use Rattle.legal.specs.Trees as Y
 use Rattle.legal.specs.Trees.{expression-starts, leaf-start, reference-one, reference-two, reference-word-part, root-one, root-two, subscripts-fine}
-use Rattle.theorems.specs.Judged.{both-fine, faulty-fine, given-fine, proper-fine}
+use Rattle.theorems.specs.Judged.{faulty-fine}
 
 module _ (d : Description) where
   -- ---- Trees that follow each other.

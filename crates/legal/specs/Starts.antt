@@ -1,21 +1,20 @@
 -- Where records stand in a description as a tree gives them, each expression judged fine is a tree in order: it begins at its first record. Assumes nothing.
-use mathlib.Core.Bool.{Bool, true, false, cond}
+use mathlib.Core.Bool.{Bool, true, false}
 use mathlib.Core.List.{List, [], _∷_, _++_}
-use mathlib.Core.Option.{Option, none, some}
+use mathlib.Core.Option.{some}
 use mathlib.Core.Path.{_≡_, refl, sym, ap, _∙_}
 use native.Mathlib.Nat.{div-div-eq-div-mul, div-one}
 use native.Mathlib.Omega.{arith}
 use Prim.Native.Nat.{ℕ, zero, suc, _+_, _-_, _*_, _/_, _%_, _^_, _≤_, _<_}
 use borrow.Author.Tests.{eq-eqb, lt-ltb}
-use lib.Dec.{eqb, ltb}
 use lib.ListN.{length}
 use lib.Pow.{pow-add}
 use Rattle.language.specs.Describe as B
-use Rattle.language.specs.Describe.{Noted, constantNodes, constantSize, digitsAbove, expressionSize, lastOf, nodesOf}
+use Rattle.language.specs.Describe.{Noted, constantNodes, constantSize, digitsAbove, expressionSize, lastOf}
 use Rattle.language.specs.Description as D
 use Rattle.language.specs.Description.{Description, Node, digitLength, furtherDigits, nodeAt}
 use Rattle.language.specs.Judging.{both}
-use Rattle.language.specs.Order.{constantStart, digitsStand, ending, isDigit48, justBefore, startAt, startBelow, startNode, twoBefore}
+use Rattle.language.specs.Order.{constantStart, digitsStand, isDigit48, justBefore, startAt, startBelow, startNode, twoBefore}
 use Rattle.language.specs.Tree as T
 use Rattle.language.specs.Tree.{Expression}
 use Rattle.language.specs.Value.{Value}

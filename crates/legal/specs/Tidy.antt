@@ -2,18 +2,13 @@
 use mathlib.Core.Bool.{true}
 use mathlib.Core.List.{List, [], _∷_, _++_}
 use mathlib.Core.Option.{Option, none, some}
-use mathlib.Core.Path.{_≡_, refl}
+use mathlib.Core.Path.{_≡_}
 use Prim.Native.Nat.{ℕ, _+_}
 use Rattle.language.specs.Canonical.{nameRight, rankOf}
-use Rattle.language.specs.Grammar as G
-use Rattle.language.specs.Grammar.{Is}
-use Rattle.language.specs.Image.{ConstantRight, WordRight, WordsRight}
-use Rattle.language.specs.Kinds.{closeBracket, openBracket}
-use Rattle.language.specs.Notions as N
-use Rattle.language.specs.Notions.{AtMostOne, Notion, Tree, terminalKind}
+use Rattle.language.specs.Image.{ConstantRight, WordsRight}
+use Rattle.language.specs.Notions.{AtMostOne}
 use Rattle.language.specs.Tree as T
 use Rattle.language.specs.Tree.{Actions, Declaration, Expression, Extent, Function, Kind, Label, Left, Operation, State, StateValue, Text}
-use Rattle.language.specs.Words as W
 use Rattle.language.specs.Words.{Word}
 
 -- Every constant of an expression fits its length.

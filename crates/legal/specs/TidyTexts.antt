@@ -1,20 +1,13 @@
 -- The grammar's derivations give tidy trees, where the words are right: by induction, a line for each rule. Assumes nothing.
-use mathlib.Core.Bool.{true}
 use mathlib.Core.List.{List, [], _∷_, _++_}
-use mathlib.Core.Option.{none, some}
 use mathlib.Core.Path.{_≡_, refl}
 use native.Mathlib.Omega.{arith}
 use Prim.Native.Nat.{ℕ}
-use Rattle.language.specs.Canonical.{nameRight}
 use Rattle.language.specs.Grammar as G
 use Rattle.language.specs.Grammar.{Is}
 use Rattle.language.specs.Image.{WordsRight}
-use Rattle.language.specs.Kinds.{closeBracket, openBracket}
 use Rattle.language.specs.Notions as N
 use Rattle.language.specs.Notions.{Notion, Tree}
-use Rattle.language.specs.Tree as T
-use Rattle.language.specs.Tree.{Declaration, State, Text}
-use Rattle.language.specs.Words as W
 use Rattle.language.specs.Words.{Word}
 use Rattle.legal.specs.Tidy.{ActionsTidy, DeclarationTidy, DeclarationsTidy, ExpressionTidy, LabelTidy, LeftTidy, OperationsTidy, ReferenceTidy, StatesTidy, TextTidy, reference-tidy, words-left, words-right}
 

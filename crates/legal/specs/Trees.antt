@@ -1,10 +1,10 @@
 -- Expressions and left sides that are judged fine are trees in order. Assumes nothing.
 use mathlib.Core.Bool.{Bool, true, false, cond}
 use mathlib.Core.List.{List, [], _∷_, _++_}
-use mathlib.Core.Option.{Option, none, some}
-use mathlib.Core.Path.{_≡_, refl, sym, ap, _∙_}
+use mathlib.Core.Option.{Option, some}
+use mathlib.Core.Path.{_≡_, refl, sym, _∙_}
 use native.Mathlib.Omega.{arith}
-use Prim.Native.Nat.{ℕ, suc, _+_, _-_, _≤_, _<_}
+use Prim.Native.Nat.{ℕ, _+_, _-_, _<_}
 use lib.Dec.{ltb}
 use lib.ListN.{length}
 use Rattle.language.specs.Describe as B
@@ -12,7 +12,7 @@ use Rattle.language.specs.Describe.{Noted, expressionSize, lastOf, nodesOf}
 use Rattle.language.specs.Description as D
 use Rattle.language.specs.Description.{Bounds, Description, Node, NodePlaces, Places, facilityAt, nodeAt, nodePlace}
 use Rattle.language.specs.Expressions as E
-use Rattle.language.specs.Expressions.{judgeAt, judgeBelow, judgeNode, judgeStep, leftAt}
+use Rattle.language.specs.Expressions.{judgeAt, judgeBelow, judgeNode, judgeStep}
 use Rattle.language.specs.Judging.{Judged, Worth, faultsOf, fine, refuse}
 use Rattle.language.specs.Naming.{Meaning, Scope, facility, meaning, ofFacility, operation, state, unknown}
 use Rattle.language.specs.Order.{justBefore, startAt, startBelow, startNode, twoBefore}
@@ -20,12 +20,12 @@ use Rattle.language.specs.Recursion.{below-lt}
 use Rattle.language.specs.ReferenceRules as RR
 use Rattle.language.specs.ReferenceRules.{boundFaults, directionFaults, referenceJudged, subscriptsJudged}
 use Rattle.language.specs.References as R
-use Rattle.language.specs.References.{Reference, Subscripts, part, referenceOf, rightCount, two, whole, wordPart}
+use Rattle.language.specs.References.{Reference, part, rightCount, two, wordPart}
 use Rattle.language.specs.Tree as T
 use Rattle.language.specs.Tree.{Expression}
 use Rattle.legal.specs.Sizes.{nodes-size}
 use Rattle.legal.specs.Starts.{Stand, constant-starts, one-part, some-records, stand-left, stand-right, two-parts}
-use Rattle.legal.specs.Tidy.{ExpressionTidy, ReferenceTidy}
+use Rattle.legal.specs.Tidy.{ExpressionTidy}
 use Rattle.theorems.specs.Judged.{arms-fine, both-fine, clean-fine, faulty-fine, given-fine, proper-fine}
 
 module _ (d : Description) where

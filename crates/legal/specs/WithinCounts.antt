@@ -2,13 +2,13 @@
 use mathlib.Core.Bool.{true}
 use mathlib.Core.List.{List, [], _∷_, _++_, map}
 use mathlib.Core.Option.{Option, none, some}
-use mathlib.Core.Path.{_≡_, refl, ap, _∙_}
+use mathlib.Core.Path.{_≡_, refl}
 use native.Mathlib.Omega.{arith}
-use Prim.Native.Nat.{ℕ, zero, suc, _+_, _-_, _≤_, _<_}
+use Prim.Native.Nat.{ℕ, _+_, _-_, _≤_, _<_}
 use borrow.Author.Tests.{le-leb, lt-ltb}
 use lib.ListN.{length, length-append}
 use Rattle.language.specs.Canonical.{countedRecords, countsRight, rankOf, total, valueCount}
-use Rattle.language.specs.Ceilings.{WithinCeilings, countedActions, countedFunction, countedOperations, countedStates, countedTerminals, countedWords}
+use Rattle.language.specs.Ceilings.{WithinCeilings, countedFunction, countedOperations, countedStates, countedTerminals, countedWords}
 use Rattle.language.specs.Describe.{Noted, NotedAction, actionsIn, actionsOf, expressionsIn, nodesIn}
 use Rattle.language.specs.DescribeText as X
 use Rattle.language.specs.DescribeText.{describe, facilitiesOf, facilityNodes, functionNodes, functionSize, operationActions, operationNodes, operationScope, operationsOf, stateActions, stateConstant, stateNodes, stateSize, statesOf, valueNodes, valueNumber, valueSize}
@@ -71,10 +71,14 @@ operations-counted facilities before base (o ∷ os) h =
     let s = operationScope facilities before in
     let next = base + expressionsIn (o .body) in
     let more = before ++ o .name ∷ [] in
-    omega (arith, actions-counted s base (o .body) (h .0 .1), operations-counted facilities more next os (h .1),
-    nodes-append (nodesIn s base (o .body)) (operationNodes facilities more next os),
-    acts-append (actionsOf s base (o .body)) (operationActions facilities more next os),
-    lefts-append (actionsOf s base (o .body)) (operationActions facilities more next os))
+    omega (
+      arith,
+      actions-counted s base (o .body) (h .0 .1),
+      operations-counted facilities more next os (h .1),
+      nodes-append (nodesIn s base (o .body)) (operationNodes facilities more next os),
+      acts-append (actionsOf s base (o .body)) (operationActions facilities more next os),
+      lefts-append (actionsOf s base (o .body)) (operationActions facilities more next os),
+    )
 
 abbrev oneIf : Option StateValue → ℕ
 oneIf none = 0
@@ -97,12 +101,17 @@ states-counted l scope base a (s ∷ ss) h =
     let next = base + stateSize l s in
     let rest = stateNodes l scope next ss in
     let own : valueCount (record { name = X.labelOf (s .label); value = valueNumber base l (s .value); actions = X.runOf a (actionsIn (s .actions)) }) ≡ oneIf (s .value) = value-so (s .value) in
-    omega (arith, own, actions-counted scope from (s .actions) (h .0 .1), states-counted l scope next (a + actionsIn (s .actions)) ss (h .1),
-    value-counted l (s .value),
-    nodes-append (valueNodes l (s .value)) (nodesIn scope from (s .actions) ++ rest),
-    nodes-append (nodesIn scope from (s .actions)) rest,
-    acts-append (actionsOf scope from (s .actions)) (stateActions l scope next ss),
-    lefts-append (actionsOf scope from (s .actions)) (stateActions l scope next ss))
+    omega (
+      arith,
+      own,
+      actions-counted scope from (s .actions) (h .0 .1),
+      states-counted l scope next (a + actionsIn (s .actions)) ss (h .1),
+      value-counted l (s .value),
+      nodes-append (valueNodes l (s .value)) (nodesIn scope from (s .actions) ++ rest),
+      nodes-append (nodesIn scope from (s .actions)) rest,
+      acts-append (actionsOf scope from (s .actions)) (stateActions l scope next ss),
+      lefts-append (actionsOf scope from (s .actions)) (stateActions l scope next ss),
+    )
   where
     value-so : (v : Option StateValue) → valueCount (record { name = X.labelOf (s .label); value = valueNumber base l v; actions = X.runOf a (actionsIn (s .actions)) }) ≡ oneIf v
     value-so none = refl
@@ -130,21 +139,31 @@ module _ (t : Text) (h : TextTidy t) (w : WithinCeilings t) (l : Option ℕ) (sc
 
   terminals-alone : countedTerminals (declarationsOf t) ≡ countedTerminals (t .terminals)
   terminals-alone =
-      omega (arith, terminals-append (t .registers) (t .memories ++ t .terminals), terminals-append (t .memories) (t .terminals),
-      no-functions 0 (t .registers) (omega arith) (h .registers), no-functions 1 (t .memories) (omega arith) (h .memories))
+      omega (
+        arith,
+        terminals-append (t .registers) (t .memories ++ t .terminals),
+        terminals-append (t .memories) (t .terminals),
+        no-functions 0 (t .registers) (omega arith) (h .registers),
+        no-functions 1 (t .memories) (omega arith) (h .memories),
+      )
 
   all-counted : nodes expressionNodes + acts allActions - (lefts allActions + total valueCount (statesOf l second a (t .states))) ≤ mostCounted
   unfolding values countedWords
   all-counted =
       let os = operationActions (namesIn t) [] first (t .operations) in
       let ss = stateActions l scope second (t .states) in
-      omega (arith, w .counted, terminals-alone,
-      facilities-counted [] 0 (declarationsOf t),
-      operations-counted (namesIn t) [] first (t .operations) (h .operations),
-      states-counted l scope second a (t .states) (h .states),
-      nodes-append (facilityNodes [] 0 (declarationsOf t)) (operationNodes (namesIn t) [] first (t .operations) ++ stateNodes l scope second (t .states)),
-      nodes-append (operationNodes (namesIn t) [] first (t .operations)) (stateNodes l scope second (t .states)),
-      acts-append os ss, lefts-append os ss)
+      omega (
+        arith,
+        w .counted,
+        terminals-alone,
+        facilities-counted [] 0 (declarationsOf t),
+        operations-counted (namesIn t) [] first (t .operations) (h .operations),
+        states-counted l scope second a (t .states) (h .states),
+        nodes-append (facilityNodes [] 0 (declarationsOf t)) (operationNodes (namesIn t) [] first (t .operations) ++ stateNodes l scope second (t .states)),
+        nodes-append (operationNodes (namesIn t) [] first (t .operations)) (stateNodes l scope second (t .states)),
+        acts-append os ss,
+        lefts-append os ss,
+      )
 
   facilities-number : length (facilitiesOf 0 (declarationsOf t)) ≡ length (t .registers) + length (t .memories) + length (t .terminals)
   facilities-number =
