@@ -8,6 +8,7 @@ pub mod FaultsAlike
 pub mod Tidy
 pub mod TidyTexts
 pub mod Declared
+pub mod RightWords
 -- ---- Records, runs and counts of a tree.
 pub mod Sizes
 pub mod Runs

@@ -1,0 +1,3 @@
+-- What reading accepts and refuses.
+pub mod Least
+pub mod ReadsExactly

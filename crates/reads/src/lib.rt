@@ -1,0 +1,1 @@
+// What reading accepts and refuses: theorems over the definitions alone.
