@@ -150,6 +150,7 @@ pub record Legal (d : Description) : Type 0 where
   pub states : (s : ℕ) → s < length (d .states) → (b : List ℕ) × ((at : StatePlaces) × Right d noPlaces (sequencingLength d noPlaces) b at (stateAt d s))
   pub values : (s n : ℕ) → s < length (d .states) → stateAt d s .value ≡ some n → (m : ℕ) × (startAt d n ≡ some m)
   pub some-state : 0 < length (d .states)
+  pub few-states : length (d .states) ≤ mostStates
 
 -- The value of a state stands in order.
 value-order : (d : Description) (at m : ℕ) (ss : List State) (i n : ℕ) → InOrder d at m (stateRoots d ss) → i < length ss
@@ -269,6 +270,12 @@ module _ (d : Description) (h : legalForm d ≡ true) where
       (left-of (ltb 0 (length (d .states))) _
       (right-of (leb (length (d .states)) mostStates) _ (right-of (leb (length (d .operations)) mostOperations) _ (right-of (leb (length (d .facilities)) mostFacilities) _ counts-so))))
 
+  few-states-so : length (d .states) ≤ mostStates
+  unfolding countsRight
+  few-states-so =
+      leb-true (length (d .states)) mostStates
+      (left-of (leb (length (d .states)) mostStates) _ (right-of (leb (length (d .operations)) mostOperations) _ (right-of (leb (length (d .facilities)) mostFacilities) _ counts-so)))
+
   pub legal : Legal d
   legal = record {
     base = split .middle;
@@ -279,4 +286,5 @@ module _ (d : Description) (h : legalForm d ≡ true) where
     states = states-fine d no-faults;
     values = values-so;
     some-state = some-state-so;
+    few-states = few-states-so;
   }

@@ -37,7 +37,7 @@ legal-image image e =
     whole false x q = absurd (let z : _≡_ {A = ℕ} 0 1 = cc in omega arith)
 
 -- A refusal that does not come: its test was passed.
-not-first : (b : Bool) (n : ℕ) (later : Option ℕ) → first (not b) n later ≡ none → (b ≡ true) × (later ≡ none)
+pub not-first : (b : Bool) (n : ℕ) (later : Option ℕ) → first (not b) n later ≡ none → (b ≡ true) × (later ≡ none)
 not-first true n later e = (refl, e)
 not-first false n later e = absurd (let z : _≡_ {A = ℕ} 0 1 = cc in omega arith)
 

@@ -1,0 +1,5 @@
+-- A cycle leaves store and record sound, to the byte.
+pub mod RecordBack
+pub mod StoreBack
+pub mod StaysSound
+pub mod AnyRun
