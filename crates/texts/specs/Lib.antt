@@ -1,0 +1,6 @@
+-- Every description in legal form is that of a legal text.
+pub mod Derivations
+pub mod Constants
+pub mod Placed
+pub mod References
+pub mod Rebuilt
