@@ -30,7 +30,7 @@ use Rattle.legal.specs.Trees.{expression-starts}
 use Rattle.theorems.specs.Judged.{both-fine, faulty-fine, given-fine, proper-fine}
 
 module _ (d : Description) (p : Places) (s : Scope) (inState : Bool) (works : ℕ → Judged) where
-  abbrev judged : ℕ → ℕ → Shape → Judged
+  abbrev pub judged : ℕ → ℕ → Shape → Judged
   judged k i t = J.runStep d p inState works (J.runBelow d p inState works k) k i t
 
   judged-lt : (k a i : ℕ) (t : Shape) → a < k → J.runBelow d p inState works k a i t ≡ judged a i t
@@ -61,17 +61,17 @@ module _ (d : Description) (p : Places) (s : Scope) (inState : Bool) (works : �
   abbrev Ends : ℕ → ℕ → List ℕ → Type 0
   Ends at m rs = treesEnd d at rs ≡ some m
 
-  only-fine : (b : Bool) (at : Position) (j : Judged) {w : Worth} → J.onlyIn d p inState works b at j ≡ fine w → j ≡ fine w
+  pub only-fine : (b : Bool) (at : Position) (j : Judged) {w : Worth} → J.onlyIn d p inState works b at j ≡ fine w → j ≡ fine w
   only-fine true at j e = e
   only-fine false at j e = faulty-fine e
 
   -- A list of one record more, by its first record.
-  first-fine : (m i : ℕ) (a : Action) {w : Worth} → actionAt d i ≡ a → judged (suc m) i actions ≡ fine w → J.listJudged d p inState works (J.runBelow d p inState works (suc m)) m i a ≡ fine w
+  pub first-fine : (m i : ℕ) (a : Action) {w : Worth} → actionAt d i ≡ a → judged (suc m) i actions ≡ fine w → J.listJudged d p inState works (J.runBelow d p inState works (suc m)) m i a ≡ fine w
   first-fine m i a e h =
       let z : suc m - 1 ≡ m = omega arith in
       rw (z, eqb·suc-zero m, e) at h
 
-  first-arm : (m i : ℕ) (a : Action) {w : Worth} → actionAt d i ≡ a → judged (suc m) i arms ≡ fine w → J.armsJudged d p inState works (J.runBelow d p inState works (suc m)) m i a ≡ fine w
+  pub first-arm : (m i : ℕ) (a : Action) {w : Worth} → actionAt d i ≡ a → judged (suc m) i arms ≡ fine w → J.armsJudged d p inState works (J.runBelow d p inState works (suc m)) m i a ≡ fine w
   first-arm m i a e h =
       let z : suc m - 1 ≡ m = omega arith in
       rw (z, eqb·suc-zero m, e) at h
@@ -83,7 +83,7 @@ module _ (d : Description) (p : Places) (s : Scope) (inState : Bool) (works : �
     pub rest : Worth
     pub rest-fine : judged m (i + 1) actions ≡ fine rest
 
-  plain-fine : (m i : ℕ) (a : Action) {w : Worth} → actionAt d i ≡ a → J.plainly d p inState works (J.runBelow d p inState works (suc m)) m i ≡ fine w → Plain m i a
+  pub plain-fine : (m i : ℕ) (a : Action) {w : Worth} → actionAt d i ≡ a → J.plainly d p inState works (J.runBelow d p inState works (suc m)) m i ≡ fine w → Plain m i a
   plain-fine m i a e h =
       let y = both-fine (simpleJudged d p inState works (actionPlace p i) (actionAt d i)) (J.runBelow d p inState works (suc m) m (i + 1) actions) _ h in
       record {
@@ -94,7 +94,7 @@ module _ (d : Description) (p : Places) (s : Scope) (inState : Bool) (works : �
       }
 
   -- A conditional: its condition, its x records as arms, and the list after them.
-  pub record Held (m i c x : ℕ) : Type 0 where
+  pub record Held (m i c x : ℕ) (test : Worth → Worth → Bool) : Type 0 where
     pub fits : x ≤ m
     pub condition : Worth
     pub condition-fine : J.right d p inState works c ≡ fine condition
@@ -102,9 +102,10 @@ module _ (d : Description) (p : Places) (s : Scope) (inState : Bool) (works : �
     pub inner-fine : judged x (i + 1) arms ≡ fine inner
     pub rest : Worth
     pub rest-fine : judged (m - x) (i + 1 + x) actions ≡ fine rest
+    pub holds : test condition inner ≡ true
 
-  held : (m i c x : ℕ) (test : Worth → Worth → Bool) {w : Worth}
-      → J.holding d p inState works (J.runBelow d p inState works (suc m)) m i x (J.conditional d p inState works (actionPlace p i) (J.right d p inState works c) (J.runBelow d p inState works (suc m) x (i + 1) arms) test) ≡ fine w → Held m i c x
+  pub held : (m i c x : ℕ) (test : Worth → Worth → Bool) {w : Worth}
+      → J.holding d p inState works (J.runBelow d p inState works (suc m)) m i x (J.conditional d p inState works (actionPlace p i) (J.right d p inState works c) (J.runBelow d p inState works (suc m) x (i + 1) arms) test) ≡ fine w → Held m i c x test
   held m i c x test {w} e = go (leb x m) refl e
     where
       ev : ℕ → ℕ → Shape → Judged
@@ -112,7 +113,7 @@ module _ (d : Description) (p : Places) (s : Scope) (inState : Bool) (works : �
 
       go : (b : Bool) → leb x m ≡ b
           → cond b (givenBoth (J.conditional d p inState works (actionPlace p i) (J.right d p inState works c) (ev x (i + 1) arms) test) (ev (m - x) (i + 1 + x) actions) (J.allWork d p inState works)) (refuse D.nowhere 3) ≡ fine w
-          → Held m i c x
+          → Held m i c x test
       go false q k = faulty-fine k
       go true q k =
           let l : x ≤ m = leb-true x m q in
@@ -126,32 +127,45 @@ module _ (d : Description) (p : Places) (s : Scope) (inState : Bool) (works : �
             inner-fine = sym (judged-lt (suc m) x (i + 1) arms (omega arith)) ∙ z .right;
             rest = y .v;
             rest-fine = sym (judged-lt (suc m) (m - x) (i + 1 + x) actions (omega arith)) ∙ y .right;
+            holds = tested (test (z .u) (z .v)) _ (z .own);
           }
+        where
+          tested : (t : Bool) (j : Judged) {v : Worth} → cond t j (refuse (actionPlace p i) 7) ≡ fine v → t ≡ true
+          tested true j e = refl
+          tested false j e = faulty-fine e
 
-  -- An arm: its own list, and the arms after it.
-  pub record Arm (m i x : ℕ) : Type 0 where
+  -- An arm: its own list, which is not empty, and the arms after it.
+  pub record Arm (m i x : ℕ) (w : Worth) : Type 0 where
+    pub some-actions : 1 ≤ x
+    pub fits : x ≤ m
     pub own : Worth
     pub own-fine : judged x (i + 1) actions ≡ fine own
     pub rest : Worth
     pub rest-fine : judged (m - x) (i + 1 + x) arms ≡ fine rest
+    pub count : w .arms ≡ rest .arms + 1
 
-  arm-fine : (m i x : ℕ) {w : Worth} → J.armAfter d p inState works (J.runBelow d p inState works (suc m)) m i x ≡ fine w → Arm m i x
-  arm-fine m i x {w} e = go (leb 1 x) (leb x m) refl e
+  pub arm-fine : (m i x : ℕ) {w : Worth} → J.armAfter d p inState works (J.runBelow d p inState works (suc m)) m i x ≡ fine w → Arm m i x w
+  arm-fine m i x {w} e = go (leb 1 x) refl (leb x m) refl e
     where
       ev : ℕ → ℕ → Shape → Judged
       ev = J.runBelow d p inState works (suc m)
 
-      go : (a b : Bool) → leb x m ≡ b → cond (both a b) (givenBoth (ev x (i + 1) actions) (ev (m - x) (i + 1 + x) arms) (λ v w. worth 1 (w .arms + 1) (v .work + w .work))) (refuse D.nowhere 3) ≡ fine w → Arm m i x
-      go false b q k = faulty-fine k
-      go true false q k = faulty-fine k
-      go true true q k =
+      go : (a : Bool) → leb 1 x ≡ a → (b : Bool) → leb x m ≡ b → cond (both a b) (givenBoth (ev x (i + 1) actions) (ev (m - x) (i + 1 + x) arms) (λ v w. worth 1 (w .arms + 1) (v .work + w .work))) (refuse D.nowhere 3) ≡ fine w → Arm m i x w
+      go false r b q k = faulty-fine k
+      go true r false q k = faulty-fine k
+      go true r true q k =
           let l : x ≤ m = leb-true x m q in
           let y = both-fine (ev x (i + 1) actions) (ev (m - x) (i + 1 + x) arms) (λ v w. worth 1 (w .arms + 1) (v .work + w .work)) k in
+          let own : worth 1 (y .v .arms + 1) (y .u .work + y .v .work) ≡ fine w = y .own in
+          let n : y .v .arms + 1 ≡ w .arms = cc in
           record {
+            some-actions = leb-true 1 x r;
+            fits = l;
             own = y .u;
             own-fine = sym (judged-lt (suc m) x (i + 1) actions (omega arith)) ∙ y .left;
             rest = y .v;
             rest-fine = sym (judged-lt (suc m) (m - x) (i + 1 + x) arms (omega arith)) ∙ y .right;
+            count = sym n;
           }
 
   -- ---- The roots of a list.
@@ -258,11 +272,11 @@ module _ (d : Description) (p : Places) (s : Scope) (inState : Bool) (works : �
       → actionRoots d b ≡ lastOf base (expressionSize e) ∷ [] → actionAt d i ≡ b
       → Stand d base (nodesOf s base e) → Stand d (base + expressionSize e + expressionsIn l) (nodesIn s (base + expressionSize e + expressionsIn l) a)
       → StandActions d (suc i + x) (actionsOf s (base + expressionSize e + expressionsIn l) a) → base + (expressionSize e + expressionsIn l + expressionsIn a) ≤ length (d .expressions)
-      → Held (x + actionsIn a) i (lastOf base (expressionSize e)) x
+      → (test : Worth → Worth → Bool) → Held (x + actionsIn a) i (lastOf base (expressionSize e)) x test
       → Ends (base + expressionSize e) (base + expressionSize e + expressionsIn l) (runRoots d x (suc i))
       → Ends base (base + (expressionSize e + expressionsIn l + expressionsIn a)) (runRoots d (suc (x + actionsIn a)) i)
   unfolding runRoots
-  conditional-roots e l a follows b base i x g h r q n k o f y inner =
+  conditional-roots e l a follows b base i x g h r q n k o f test y inner =
       let at = base + expressionSize e in
       let m : x + actionsIn a - x ≡ actionsIn a = omega arith in
       let u : i + 1 + x ≡ suc i + x = omega arith in
@@ -316,7 +330,7 @@ module _ (d : Description) (p : Places) (s : Scope) (inState : Bool) (works : �
       let own : judged m (suc (suc i)) actions ≡ fine (arm .own) = rw two at (arm .own-fine) in
       conditional-roots e b a (follows a) _ base i (suc m) (h .0) (h .1 .1) refl (x .0) (stand-left d base (nodesOf s base e) _ k)
       (stand-right d at (nodesIn s at b) _ nodes (at + expressionsIn b) (let z = in-size s at b in omega (arith, z)))
-      (actions-right d (suc (suc i)) (actionsOf s at b) _ (x .1 .1) (suc i + suc m) (let z = actions-size s at b in omega (arith, z))) (omega arith) y
+      (actions-right d (suc (suc i)) (actionsOf s at b) _ (x .1 .1) (suc i + suc m) (let z = actions-size s at b in omega (arith, z))) (omega arith) (λ v w. both (eqb (v .length) 1) (eqb (w .arms) 1)) y
       (rw (x .1 .0) (follows b at (suc (suc i)) actions _ (h .1 .0) (stand-left d at (nodesIn s at b) _ nodes) (actions-left d (suc (suc i)) (actionsOf s at b) _ (x .1 .1)) (omega arith) own))
     where
       arm-at : {b′ : Action} → actionAt d (suc i) ≡ b′ → actionAt d (i + 1) ≡ b′
@@ -331,7 +345,7 @@ module _ (d : Description) (p : Places) (s : Scope) (inState : Bool) (works : �
       let inner : judged m (suc i) arms ≡ fine (y .inner) = rw one at (y .inner-fine) in
       conditional-roots e b a (follows a) _ base i m (h .0) (h .1 .1) refl (x .0) (stand-left d base (nodesOf s base e) _ k)
       (stand-right d at (nodesIn s at b) _ nodes (at + expressionsIn b) (let z = in-size s at b in omega (arith, z)))
-      (actions-right d (suc i) (actionsOf s at b) _ (x .1) (suc i + m) (let z = actions-size s at b in omega (arith, z))) (omega arith) y
+      (actions-right d (suc i) (actionsOf s at b) _ (x .1) (suc i + m) (let z = actions-size s at b in omega (arith, z))) (omega arith) (λ v w. both (selects (v .length) (armsIn b)) (eqb (w .arms) (armsIn b))) y
       (follows b at (suc i) arms _ (h .1 .0) (stand-left d at (nodesIn s at b) _ nodes) (actions-left d (suc i) (actionsOf s at b) _ (x .1)) (omega arith) inner)
   follows (T.arm b a) base i actions w h k x l j =
       no-action i (actionsIn b) (plain-fine (actionsIn b + actionsIn a) i (D.arm (actionsIn b)) (x .0) (first-fine (actionsIn b + actionsIn a) i (D.arm (actionsIn b)) (x .0) j) .own-fine)

@@ -4,3 +4,4 @@ pub mod Constants
 pub mod Placed
 pub mod References
 pub mod Rebuilt
+pub mod Lists

@@ -20,7 +20,7 @@ module _ (d : Description) (sc : Scope) where
     pub stands : Stand d s (nodesOf sc s t)
     pub counted : nodes (nodesOf sc s t) ≡ countedExpression t
 
-  stand-append : (s at : ℕ) (xs ys : List Noted) → Stand d s xs → at ≡ s + length xs → Stand d at ys → Stand d s (xs ++ ys)
+  pub stand-append : (s at : ℕ) (xs ys : List Noted) → Stand d s xs → at ≡ s + length xs → Stand d at ys → Stand d s (xs ++ ys)
   stand-append s at [] ys h e k = let z : at ≡ s = omega (arith, e) in rw z at k
   stand-append s at (x ∷ xs) ys h e k = (h .0, stand-append (suc s) at xs ys (h .1) (omega (arith, e)) k)
 

@@ -10,7 +10,7 @@ use borrow.Author.Tests.{eqb-true}
 use lib.Dec.{eqb, leb, ltb}
 use lib.Pow.{pow-pos}
 use Rattle.language.specs.Canonical.{nameRight, nodeCount}
-use Rattle.language.specs.Ceilings.{countedExpression}
+use Rattle.language.specs.Ceilings.{countedExpression, countedReference}
 use Rattle.language.specs.Describe as B
 use Rattle.language.specs.Describe.{Noted, armsOf, boundsOf, constantSize, expressionSize, lastOf, nodesOf, noted, notedPart}
 use Rattle.language.specs.Description as D
@@ -83,6 +83,7 @@ module _ (d : Description) (sc : Scope) (known : ℕ) (knows : Knows d sc known)
     pub depth : ℕ
     pub derived : (h : ℕ) → depth ≤ h → Is N.reference h words (expression tree)
     pub arms-so : armsOf tree ≡ 0
+    pub reference-counts : countedExpression tree ≡ suc (countedReference tree)
 
   term-of : {n s : ℕ} → Referred n s → Rebuilt n s 0
   term-of x = record { tree = x .tree; placed = x .placed; words = x .words; right = x .right; depth = x .depth; derived = λ h l. G.term-reference (x .derived h l); arms-so = x .arms-so }
@@ -162,16 +163,16 @@ module _ (d : Description) (sc : Scope) (known : ℕ) (knows : Knows d sc known)
 
   one-reference : (n a s : ℕ) (X : Rebuilt a s 0) (t : Expression) (R : Noted) → a + 1 ≡ n → nodeAt d n ≡ R .node → nodesOf sc s t ≡ nodesOf sc s (X .tree) ++ R ∷ []
       → expressionSize t ≡ expressionSize (X .tree) + 1 → countedExpression t ≡ countedExpression (X .tree) + nodeCount (R .node)
-      → (ws : List Word) → WordsRight ws → (m : ℕ) → ((h : ℕ) → m ≤ h → Is N.reference h ws (expression t)) → armsOf t ≡ 0 → Referred n s
-  one-reference n a s X t R l q e z c ws w m x y =
-      record { tree = t; placed = behind-one d sc n a s (X .tree) t R l (X .placed) q e z c; words = ws; right = w; depth = m; derived = x; arms-so = y }
+      → (ws : List Word) → WordsRight ws → (m : ℕ) → ((h : ℕ) → m ≤ h → Is N.reference h ws (expression t)) → armsOf t ≡ 0 → countedExpression t ≡ suc (countedReference t) → Referred n s
+  one-reference n a s X t R l q e z c ws w m x y f =
+      record { tree = t; placed = behind-one d sc n a s (X .tree) t R l (X .placed) q e z c; words = ws; right = w; depth = m; derived = x; arms-so = y; reference-counts = f }
 
   two-reference : (n a b m s : ℕ) (X : Rebuilt a s 0) (Y : Rebuilt b m 0) (t : Expression) (R : Noted) → b + 1 ≡ n → a + 1 ≡ m → nodeAt d n ≡ R .node
       → nodesOf sc s t ≡ nodesOf sc s (X .tree) ++ (nodesOf sc (s + expressionSize (X .tree)) (Y .tree) ++ R ∷ []) → expressionSize t ≡ expressionSize (X .tree) + expressionSize (Y .tree) + 1
       → countedExpression t ≡ countedExpression (X .tree) + countedExpression (Y .tree) + nodeCount (R .node)
-      → (ws : List Word) → WordsRight ws → (o : ℕ) → ((h : ℕ) → o ≤ h → Is N.reference h ws (expression t)) → armsOf t ≡ 0 → Referred n s
-  two-reference n a b m s X Y t R l g q e z c ws w o x y =
-      record { tree = t; placed = behind-two d sc n a b m s (X .tree) (Y .tree) t R l g (X .placed) (Y .placed) q e z c; words = ws; right = w; depth = o; derived = x; arms-so = y }
+      → (ws : List Word) → WordsRight ws → (o : ℕ) → ((h : ℕ) → o ≤ h → Is N.reference h ws (expression t)) → armsOf t ≡ 0 → countedExpression t ≡ suc (countedReference t) → Referred n s
+  two-reference n a b m s X Y t R l g q e z c ws w o x y f =
+      record { tree = t; placed = behind-two d sc n a b m s (X .tree) (Y .tree) t R l g (X .placed) (Y .placed) q e z c; words = ws; right = w; depth = o; derived = x; arms-so = y; reference-counts = f }
 
   whole-built : (n s f own : ℕ) {w : Worth} → nodeAt d n ≡ D.whole f → Refer n own f (whole) w → Begins n s (D.whole f) → Referred n s
   unfolding judgeNode startNode nodesOf expressionSize countedExpression armsOf
@@ -186,6 +187,7 @@ module _ (d : Description) (sc : Scope) (known : ℕ) (knows : Knows d sc known)
         depth = 0;
         derived = λ h l. G.ref-whole;
         arms-so = refl;
+        reference-counts = refl;
       })
 
   one-built : (n s f a own : ℕ) {w : Worth} → Below n → nodeAt d n ≡ D.one f a → Refer n own f (R.one a) w → Begins n s (D.one f a) → Referred n s
@@ -198,7 +200,7 @@ module _ (d : Description) (sc : Scope) (known : ℕ) (knows : Knows d sc known)
       (one-reference n a s X (T.one (nameOf f) here (X .tree)) (noted (D.one f a) here) (b .last) q
       (rw (means-so f (λ g. D.one g (lastOf s (expressionSize (X .tree)))) (r .known-here), l) refl) refl (omega arith)
       (W.name (nameOf f) here ∷ sign openBracket here ∷ (X .words ++ sign closeBracket here ∷ [])) (knows .right f (r .known-here), (tt, words-both (X .words) _ (X .right) (tt, tt))) (suc (X .depth))
-      (λ h k. shallower h k (λ g i. G.ref-one here (of-term (X .derived g i)))) refl)
+      (λ h k. shallower h k (λ g i. G.ref-one here (of-term (X .derived g i)))) refl refl)
 
   -- Ends of a part that take 16 bits.
 
@@ -232,6 +234,7 @@ module _ (d : Description) (sc : Scope) (known : ℕ) (knows : Knows d sc known)
         depth = 1;
         derived = λ h l. shallower h l (λ g i. G.ref-part);
         arms-so = refl;
+        reference-counts = refl;
       })
 
   word-part-built : (n s f a own : ℕ) (b : Bounds) {w : Worth} → Below n → nodeAt d n ≡ D.wordPart f a b → Refer n own f (wordPart a b) w → Begins n s (D.wordPart f a b) → Referred n s
@@ -246,7 +249,7 @@ module _ (d : Description) (sc : Scope) (known : ℕ) (knows : Knows d sc known)
       (rw (means-so f (λ g. D.wordPart g (lastOf s (expressionSize (X .tree))) (boundsOf (endsOf b))) (r .known-here), l, x .same) refl) refl (omega arith)
       (W.name (nameOf f) here ∷ sign openBracket here ∷ (X .words ++ sign comma here ∷ W.constant (small (b .first)) here ∷ sign colon here ∷ W.constant (small (b .last)) here ∷ sign closeBracket here ∷ []))
       (knows .right f (r .known-here), (tt, words-both (X .words) _ (X .right) (tt, (x .first, (tt, (x .last, (tt, tt))))))) (suc (X .depth))
-      (λ h k. shallower h k (λ g i. G.ref-word-part here here here (of-term (X .derived g i)))) refl)
+      (λ h k. shallower h k (λ g i. G.ref-word-part here here here (of-term (X .derived g i)))) refl refl)
 
   -- ---- Records with two parts.
 
@@ -278,7 +281,7 @@ module _ (d : Description) (sc : Scope) (known : ℕ) (knows : Knows d sc known)
       (rw (means-so f (λ g. D.two g (lastOf s (expressionSize (X .tree))) (lastOf (s + expressionSize (X .tree)) (expressionSize (Y .tree)))) (r .known-here), l, at, k) refl) refl (omega arith)
       (W.name (nameOf f) here ∷ sign openBracket here ∷ (X .words ++ sign comma here ∷ (Y .words ++ sign closeBracket here ∷ [])))
       (knows .right f (r .known-here), (tt, words-both (X .words) _ (X .right) (tt, words-both (Y .words) _ (Y .right) (tt, tt)))) (suc (max (X .depth) (Y .depth)))
-      (λ h i. shallower h i (λ g p. G.ref-two here here (of-term (X .derived g (deeper-left (X .depth) (Y .depth) g p))) (of-term (Y .derived g (deeper-right (X .depth) (Y .depth) g p))))) refl)
+      (λ h i. shallower h i (λ g p. G.ref-two here here (of-term (X .derived g (deeper-left (X .depth) (Y .depth) g p))) (of-term (Y .derived g (deeper-right (X .depth) (Y .depth) g p))))) refl refl)
 
   -- An expression proper has at least one bit.
 
