@@ -5,3 +5,6 @@ pub mod Placed
 pub mod References
 pub mod Rebuilt
 pub mod Lists
+pub mod Names
+pub mod Declarations
+pub mod Facilities
