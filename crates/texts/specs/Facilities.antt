@@ -46,24 +46,24 @@ use Rattle.theorems.specs.Ordered.{tree-first, trees-split}
 
 -- ---- Lists.
 
-getD-take : (xs : List Name) (n i : ℕ) → i < n → getD (take n xs) i [] ≡ getD xs i []
+pub getD-take : (xs : List Name) (n i : ℕ) → i < n → getD (take n xs) i [] ≡ getD xs i []
 getD-take xs zero i l = absurd (omega arith)
 getD-take [] (suc n) i l = refl
 getD-take (x ∷ xs) (suc n) zero l = refl
 getD-take (x ∷ xs) (suc n) (suc i) l = getD-take xs n i (omega arith)
 
-take-take : (xs : List Name) (n i : ℕ) → i < n → take i (take n xs) ≡ take i xs
+pub take-take : (xs : List Name) (n i : ℕ) → i < n → take i (take n xs) ≡ take i xs
 take-take xs n zero l = refl
 take-take xs zero (suc i) l = absurd (omega arith)
 take-take [] (suc n) (suc i) l = refl
 take-take (x ∷ xs) (suc n) (suc i) l = ap (λ (ys : List Name). x ∷ ys) (take-take xs n i (omega arith))
 
-take-more : (xs : List Name) (n : ℕ) → n < length xs → take n xs ++ getD xs n [] ∷ [] ≡ take (suc n) xs
+pub take-more : (xs : List Name) (n : ℕ) → n < length xs → take n xs ++ getD xs n [] ∷ [] ≡ take (suc n) xs
 take-more [] n l = absurd (omega arith)
 take-more (x ∷ xs) zero l = refl
 take-more (x ∷ xs) (suc n) l = ap (λ (ys : List Name). x ∷ ys) (take-more xs n (omega arith))
 
-empty-wrong : nameRight [] ≡ true → ⊥
+pub empty-wrong : nameRight [] ≡ true → ⊥
 unfolding nameRight
 empty-wrong e = let z : _≡_ {A = ℕ} 0 1 = cc in omega arith
 

@@ -8,3 +8,4 @@ pub mod Lists
 pub mod Names
 pub mod Declarations
 pub mod Facilities
+pub mod Operations

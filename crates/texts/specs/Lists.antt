@@ -355,7 +355,7 @@ module _ (d : Description) (sc : Scope) (knows : Knows d sc (length (d .faciliti
   opened zero l k = absurd (omega arith)
   opened (suc h) l k = k h (omega arith)
 
-  acting-append : (i at : ℕ) (xs ys : List B.NotedAction) → StandActions d i xs → at ≡ i + length xs → StandActions d at ys → StandActions d i (xs ++ ys)
+  pub acting-append : (i at : ℕ) (xs ys : List B.NotedAction) → StandActions d i xs → at ≡ i + length xs → StandActions d at ys → StandActions d i (xs ++ ys)
   acting-append i at [] ys h e k = let z : at ≡ i = omega (arith, e) in rw z at k
   acting-append i at (x ∷ xs) ys h e k = (h .0, acting-append (suc i) at xs ys (h .1) (omega (arith, e)) k)
 

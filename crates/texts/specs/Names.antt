@@ -106,12 +106,12 @@ means-state sc i l f o h =
 
 -- ---- Names of three sections one after the other.
 
-take-front : (xs ys : List Name) (i : ℕ) → i < length xs → (take i (xs ++ ys) ≡ take i xs) × (getD (xs ++ ys) i [] ≡ getD xs i [])
+pub take-front : (xs ys : List Name) (i : ℕ) → i < length xs → (take i (xs ++ ys) ≡ take i xs) × (getD (xs ++ ys) i [] ≡ getD xs i [])
 take-front [] ys i l = absurd (omega arith)
 take-front (x ∷ xs) ys zero l = (refl, refl)
 take-front (x ∷ xs) ys (suc i) l = let y = take-front xs ys i (omega arith) in (ap (λ (s : List Name). x ∷ s) (y .0), y .1)
 
-take-behind : (xs ys : List Name) (i : ℕ) → (take (length xs + i) (xs ++ ys) ≡ xs ++ take i ys) × (getD (xs ++ ys) (length xs + i) [] ≡ getD ys i [])
+pub take-behind : (xs ys : List Name) (i : ℕ) → (take (length xs + i) (xs ++ ys) ≡ xs ++ take i ys) × (getD (xs ++ ys) (length xs + i) [] ≡ getD ys i [])
 take-behind [] ys i = rw (zero-and i) (refl, refl)
 take-behind (x ∷ xs) ys i =
     let z : length (x ∷ xs) + i ≡ suc (length xs + i) = omega arith in
