@@ -9,3 +9,4 @@ pub mod Names
 pub mod Declarations
 pub mod Facilities
 pub mod Operations
+pub mod States
