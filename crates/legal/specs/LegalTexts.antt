@@ -67,7 +67,7 @@ module _ (d : Description) where
 
 -- ---- How many expression records the sections have.
 
-facilities-nodes : (before : List Name) (base : ℕ) (ds : List Declaration) → length (facilityNodes before base ds) ≡ facilitySize ds
+pub facilities-nodes : (before : List Name) (base : ℕ) (ds : List Declaration) → length (facilityNodes before base ds) ≡ facilitySize ds
 unfolding facilityNodes facilitySize
 facilities-nodes before base [] = refl
 facilities-nodes before base (d ∷ ds) =
@@ -75,7 +75,7 @@ facilities-nodes before base (d ∷ ds) =
     let next = base + functionSize (d .function) in
     omega (arith, length-append (X.functionNodes s base (d .function)) (facilityNodes (before ++ d .name ∷ []) next ds), function-size s base (d .function), facilities-nodes (before ++ d .name ∷ []) next ds)
 
-operations-nodes : (facilities before : List Name) (base : ℕ) (os : List T.Operation) → length (operationNodes facilities before base os) ≡ operationExpressions os
+pub operations-nodes : (facilities before : List Name) (base : ℕ) (os : List T.Operation) → length (operationNodes facilities before base os) ≡ operationExpressions os
 unfolding operationNodes operationExpressions
 operations-nodes facilities before base [] = refl
 operations-nodes facilities before base (o ∷ os) =
@@ -83,7 +83,7 @@ operations-nodes facilities before base (o ∷ os) =
     let next = base + expressionsIn (o .body) in
     omega (arith, length-append (nodesIn s base (o .body)) (operationNodes facilities (before ++ o .name ∷ []) next os), in-size s base (o .body), operations-nodes facilities (before ++ o .name ∷ []) next os)
 
-states-nodes : (l : Option ℕ) (scope : Scope) (base : ℕ) (ss : List T.State) → length (stateNodes l scope base ss) ≡ stateExpressions l ss
+pub states-nodes : (l : Option ℕ) (scope : Scope) (base : ℕ) (ss : List T.State) → length (stateNodes l scope base ss) ≡ stateExpressions l ss
 unfolding stateNodes stateExpressions
 states-nodes l scope base [] = refl
 states-nodes l scope base (s ∷ ss) =

@@ -1,11 +1,11 @@
 -- The words of every text are right: names in capitals that are no reserved words, constants that fit their lengths. Assumes nothing.
 use mathlib.Core.Bool.{Bool, true, false, cond, _||_, _&&_}
 use mathlib.Core.List.{List, [], _∷_, map}
-use mathlib.Core.Path.{_≡_, refl, sym, ap, _∙_}
-use native.Mathlib.Nat.{div-lt-iff-lt-mul, mod-lt, mul-assoc, mul-le-mul-right, mul-suc, suc-mul}
+use mathlib.Core.Path.{_≡_, refl}
+use native.Mathlib.Nat.{mod-lt, mul-le-mul-right, mul-suc, suc-mul}
 use native.Mathlib.Omega.{arith}
-use Prim.Native.Nat.{ℕ, zero, suc, _+_, _-_, _*_, _/_, _%_, _^_, _≤_, _<_}
-use borrow.Author.Tests.{eqb-true, leb-true, leb-false, le-leb, ltb-true}
+use Prim.Native.Nat.{ℕ, zero, suc, _+_, _-_, _*_, _/_, _^_, _≤_, _<_}
+use borrow.Author.Tests.{leb-true, leb-false, le-leb, ltb-true}
 use lib.Dec.{eqb, leb, ltb}
 use lib.ListN.{drop, getD, length, take}
 use lib.Pow.{pow-add, pow-pos, shl-lt, shr-lt}
@@ -13,10 +13,9 @@ use Rattle.language.specs.Canonical.{isCapital, nameParts, nameRight}
 use Rattle.language.specs.Characters.{blankClass, classOf, digitClass, digitWorth, folded, isBlank, isDigit, isLetter, letterClass, member, quote, quoteClass, symbolClass, symbols, within}
 use Rattle.language.specs.Constants.{bareConstant, bareLargest, bareLength, binaryConstant, decimalConstant, digitsAfter, digitsNumber, leftJustified, rightJustified}
 use Rattle.language.specs.Image.{ConstantRight, WordsRight}
-use Rattle.language.specs.Judging.{both}
 use Rattle.language.specs.Scan as S
 use Rattle.language.specs.Scan.{Found, Item, bareAt, basedItem, binaryAt, commentAt, constantAt, decimalAt, digitBits, digitsOf, isDecimalBase, isDigitOf, isNamePart, itemAt, longestName, nameAt, nameItem, reservedKind, same, span, spelledSymbols, symbolAmong, written}
-use Rattle.language.specs.Value.{Value, longest, value}
+use Rattle.language.specs.Value.{Value, longest}
 use Rattle.language.specs.WordStage.{Scanned, noted, scan, scanFrom}
 use Rattle.language.specs.Words.{Constant, Position, position}
 use Rattle.legal.specs.Declared.{both-so}

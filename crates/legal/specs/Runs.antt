@@ -20,7 +20,7 @@ unfoldable pub stateRecords : List State → ℕ
 stateRecords [] = 0
 stateRecords (s ∷ ss) = actionsIn (s .actions) + stateRecords ss
 
-operations-end : (d : Description) (at : ℕ) (os : List Operation) → operationsEnd d at (operationsOf at os) ≡ some (at + operationRecords os)
+pub operations-end : (d : Description) (at : ℕ) (os : List Operation) → operationsEnd d at (operationsOf at os) ≡ some (at + operationRecords os)
 unfolding operationsEnd operationsOf operationRecords
 operations-end d at [] = ap some (let z : at ≡ at + 0 = omega arith in z)
 operations-end d at (o ∷ os) =
@@ -28,7 +28,7 @@ operations-end d at (o ∷ os) =
     let z : at + n + operationRecords os ≡ at + (n + operationRecords os) = omega arith in
     rw (eq-eqb at at refl) (operations-end d (at + n) os ∙ ap some z)
 
-states-end : (d : Description) (l : Option ℕ) (base at : ℕ) (ss : List State) → statesEnd d at (statesOf l base at ss) ≡ some (at + stateRecords ss)
+pub states-end : (d : Description) (l : Option ℕ) (base at : ℕ) (ss : List State) → statesEnd d at (statesOf l base at ss) ≡ some (at + stateRecords ss)
 unfolding statesEnd statesOf stateRecords
 states-end d l base at [] = ap some (let z : at ≡ at + 0 = omega arith in z)
 states-end d l base at (s ∷ ss) =

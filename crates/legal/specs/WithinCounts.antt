@@ -129,6 +129,17 @@ declarationsOf t = t .registers ++ (t .memories ++ t .terminals)
 abbrev pub namesIn : Text → List Name
 namesIn t = map (λ d. d .name) (declarationsOf t)
 
+-- Only terminals have expressions.
+pub terminals-alone : (t : Text) → TextTidy t → countedTerminals (declarationsOf t) ≡ countedTerminals (t .terminals)
+terminals-alone t h =
+    omega (
+      arith,
+      terminals-append (t .registers) (t .memories ++ t .terminals),
+      terminals-append (t .memories) (t .terminals),
+      no-functions 0 (t .registers) (omega arith) (h .registers),
+      no-functions 1 (t .memories) (omega arith) (h .memories),
+    )
+
 -- What the pieces of a text count together, whatever its scopes and where its pieces begin.
 module _ (t : Text) (h : TextTidy t) (w : WithinCeilings t) (l : Option ℕ) (scope : Scope) (first second a : ℕ) where
   abbrev expressionNodes : List Noted
@@ -136,16 +147,6 @@ module _ (t : Text) (h : TextTidy t) (w : WithinCeilings t) (l : Option ℕ) (sc
 
   abbrev allActions : List NotedAction
   allActions = operationActions (namesIn t) [] first (t .operations) ++ stateActions l scope second (t .states)
-
-  terminals-alone : countedTerminals (declarationsOf t) ≡ countedTerminals (t .terminals)
-  terminals-alone =
-      omega (
-        arith,
-        terminals-append (t .registers) (t .memories ++ t .terminals),
-        terminals-append (t .memories) (t .terminals),
-        no-functions 0 (t .registers) (omega arith) (h .registers),
-        no-functions 1 (t .memories) (omega arith) (h .memories),
-      )
 
   all-counted : nodes expressionNodes + acts allActions - (lefts allActions + total valueCount (statesOf l second a (t .states))) ≤ mostCounted
   unfolding values countedWords
@@ -155,7 +156,7 @@ module _ (t : Text) (h : TextTidy t) (w : WithinCeilings t) (l : Option ℕ) (sc
       omega (
         arith,
         w .counted,
-        terminals-alone,
+        terminals-alone t h,
         facilities-counted [] 0 (declarationsOf t),
         operations-counted (namesIn t) [] first (t .operations) (h .operations),
         states-counted l scope second a (t .states) (h .states),

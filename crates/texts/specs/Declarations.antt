@@ -1,22 +1,21 @@
 -- A facility of the right form is that of a declaration, and there are words for it. Assumes nothing.
 use mathlib.Core.Bool.{Bool, true, false, cond}
 use mathlib.Core.List.{List, [], _∷_, _++_}
-use mathlib.Core.Path.{_≡_, refl, sym, ap, subst, _∙_}
+use mathlib.Core.Path.{_≡_, refl, sym, subst, _∙_}
 use native.Mathlib.Omega.{arith}
-use Prim.Native.Nat.{ℕ, zero, suc, _+_, _-_, _≤_, _<_, max}
+use Prim.Native.Nat.{ℕ, zero, suc, _+_, _-_, _≤_, max}
 use borrow.Author.Tests.{eqb-true, leb-true}
 use lib.Dec.{eqb, leb}
 use Rattle.language.specs.Canonical.{facilityRight, mostDimensions, nameRight, noBounds, rankOf, total}
 use Rattle.language.specs.Ceilings.{countedFunction}
-use Rattle.language.specs.Describe.{boundsOf, expressionSize, lastOf}
+use Rattle.language.specs.Describe.{boundsOf, expressionSize}
 use Rattle.language.specs.DescribeText.{functionNodes, functionSize}
-use Rattle.language.specs.Description as D
-use Rattle.language.specs.Description.{Bounds, Description, Facility, bounds, isComputed}
+use Rattle.language.specs.Description.{Bounds, Description, Facility, bounds}
 use Rattle.language.specs.Grammar as G
 use Rattle.language.specs.Grammar.{Is}
-use Rattle.language.specs.Image.{ConstantRight, WordsRight}
+use Rattle.language.specs.Image.{WordsRight}
 use Rattle.language.specs.Judging.{Judged, both}
-use Rattle.language.specs.Kinds.{closeBracket, closeParen, colon, comma, equalSign, hash, inputWord, openBracket, openParen}
+use Rattle.language.specs.Kinds.{closeBracket, closeParen, colon, comma, equalSign, inputWord, openBracket, openParen}
 use Rattle.language.specs.Naming.{Scope}
 use Rattle.language.specs.Notions as N
 use Rattle.language.specs.Notions.{AtMostOne, Notion, extent, facility, pairOf}
@@ -28,7 +27,6 @@ use Rattle.language.specs.Words.{Word, sign}
 use Rattle.legal.specs.Counted.{nodes}
 use Rattle.legal.specs.Starts.{Stand}
 use Rattle.texts.specs.Derivations.{here, of-term}
-use Rattle.texts.specs.Placed.{Placed}
 use Rattle.texts.specs.Rebuilt.{Knows, Rebuilt, words-both}
 use Rattle.texts.specs.References.{Small, bound-same, small, small-right}
 

@@ -3,15 +3,14 @@ use mathlib.Core.Bool.{Bool, true, false, cond, _||_}
 use mathlib.Core.List.{List, [], _∷_, _++_}
 use mathlib.Core.Path.{_≡_, refl}
 use native.Mathlib.Omega.{arith}
-use Prim.Native.Nat.{ℕ, suc, _≤_, _<_}
+use Prim.Native.Nat.{ℕ, suc, _≤_}
 use borrow.Author.Tests.{eqb-true}
 use lib.Dec.{eqb}
 use Rattle.language.specs.Grammar as G
 use Rattle.language.specs.Grammar.{Is}
-use Rattle.language.specs.Image.{ConstantRight, WordRight, WordsRight}
 use Rattle.language.specs.Kinds.{closeParen, conWord, differenceSign, exclusiveSign, extWord, headWord, minus, openParen, plus, redWord, star, sumSign, tailWord}
 use Rattle.language.specs.Notions as N
-use Rattle.language.specs.Notions.{Notion, Tree, expression, isArithmetic, isCut, isReduction, isRelation}
+use Rattle.language.specs.Notions.{Tree, expression, isArithmetic, isCut, isReduction, isRelation}
 use Rattle.language.specs.Operators.{binaryLength, cutLengthOf, prefixLength}
 use Rattle.language.specs.Tree as T
 use Rattle.language.specs.Tree.{Expression}

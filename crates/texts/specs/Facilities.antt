@@ -1,26 +1,23 @@
 -- The facilities of a description in legal form are those of declarations, section by section. Assumes nothing.
-use mathlib.Core.Bool.{Bool, true, false, cond, _||_}
+use mathlib.Core.Bool.{true, false}
 use mathlib.Core.List.{List, [], _∷_, _++_, map}
-use mathlib.Core.Option.{Option, none, some}
+use mathlib.Core.Option.{Option, some}
 use mathlib.Core.Path.{_≡_, refl, sym, ap, subst, _∙_}
 use native.Mathlib.Omega.{arith}
 use Prim.Native.Nat.{ℕ, zero, suc, _+_, _≤_, _<_, max}
 use borrow.Author.Tests.{leb-true}
 use lib.Dec.{leb}
-use lib.ListN.{List·getD-map, getD, length, length-append, length-map, length-take, take}
-use Rattle.language.specs.Canonical.{all, facilitiesRight, facilityRight, mostDimensions, nameRight, rankOf, total}
-use Rattle.language.specs.Ceilings.{countedFunction, countedTerminals}
-use Rattle.language.specs.Describe.{Noted, expressionSize}
-use Rattle.language.specs.DescribeText as X
+use lib.ListN.{List·getD-map, getD, length, length-map, length-take, take}
+use Rattle.language.specs.Canonical.{facilitiesRight, facilityRight, mostDimensions, nameRight, rankOf, total}
+use Rattle.language.specs.Ceilings.{countedTerminals}
 use Rattle.language.specs.DescribeText.{facilitiesOf, facilityNodes, facilitySize, functionNodes, functionSize}
 use Rattle.language.specs.Description as D
-use Rattle.language.specs.Description.{Bounds, Description, Facility, facilityAt, isComputed, nodePlace, noPlaces}
+use Rattle.language.specs.Description.{Description, Facility, facilityAt, isComputed, nodePlace, noPlaces}
 use Rattle.language.specs.Expressions as E
 use Rattle.language.specs.Expressions.{terminalBelow, terminalJudged}
 use Rattle.language.specs.Grammar as G
 use Rattle.language.specs.Grammar.{Is}
 use Rattle.language.specs.Image.{WordsRight}
-use Rattle.language.specs.Judging.{Judged, Worth, both, fine}
 use Rattle.language.specs.Kinds.{comma, hash}
 use Rattle.language.specs.Naming.{Scope}
 use Rattle.language.specs.Notions as N
@@ -36,13 +33,13 @@ use Rattle.legal.specs.Sizes.{function-size}
 use Rattle.legal.specs.Starts.{Stand}
 use Rattle.texts.specs.Declarations.{Declares, Dimensioned, both-left, both-right, computed-declares, dimensioned, input-declares, plain-declares, specOf}
 use Rattle.texts.specs.Derivations.{here}
-use Rattle.texts.specs.Names.{Apart, Once, means-facility, once-front}
+use Rattle.texts.specs.Names.{Apart, Once, means-facility}
 use Rattle.texts.specs.Placed.{stand-append}
 use Rattle.texts.specs.Rebuilt.{Knows, Rebuilt, rebuilt, words-both}
 use Rattle.texts.specs.References.{Small}
 use Rattle.theorems.specs.Judged.{proper-fine}
 use Rattle.theorems.specs.LegalForm.{terminals-fine}
-use Rattle.theorems.specs.Ordered.{tree-first, trees-split}
+use Rattle.theorems.specs.Ordered.{tree-first}
 
 -- ---- Lists.
 

@@ -1,12 +1,19 @@
--- Every description in legal form is that of a legal text.
+-- Every description in legal form is that of a legal text. Read FromDescriptions; the rest leads to it.
+
+-- ---- Expressions.
 pub mod Derivations
 pub mod Constants
 pub mod Placed
 pub mod References
 pub mod Rebuilt
+-- ---- Lists of actions.
 pub mod Lists
+-- ---- Names and sections.
 pub mod Names
 pub mod Declarations
 pub mod Facilities
 pub mod Operations
 pub mod States
+pub mod Words
+-- ---- All of it.
+pub mod FromDescriptions

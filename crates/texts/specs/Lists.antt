@@ -1,51 +1,47 @@
 -- Every list of actions that is judged fine and stands in order is that of a tree, and there are words for the tree. Assumes nothing.
 use mathlib.Core.Bool.{Bool, true, false, cond}
 use mathlib.Core.List.{List, [], _∷_, _++_}
-use mathlib.Core.Option.{Option, none, some}
+use mathlib.Core.Option.{none, some}
 use mathlib.Core.Path.{_≡_, refl, sym, ap, subst, _∙_}
 use native.Mathlib.Omega.{arith}
 use Prim.Native.Nat.{ℕ, zero, suc, _+_, _-_, _^_, _≤_, _<_, max}
-use borrow.Author.Tests.{eqb-true, leb-true, ltb-true}
-use lib.Dec.{eqb, eqb·suc-zero, leb, ltb}
+use borrow.Author.Tests.{eqb-true, ltb-true}
+use lib.Dec.{eqb, leb, ltb}
 use lib.ListN.{length, length-append}
 use lib.Pow.{pow-pos}
 use Rattle.language.specs.ActionRules as J
 use Rattle.language.specs.ActionRules.{Shape, actions, arms, kindAt, simpleJudged}
 use Rattle.language.specs.Canonical.{actionCount, leftCount, nameRight, total}
-use Rattle.language.specs.Ceilings.{countedActions, countedExpression, countedLeft, countedReference}
+use Rattle.language.specs.Ceilings.{countedActions, countedExpression, countedReference}
 use Rattle.language.specs.Describe as B
-use Rattle.language.specs.Describe.{actionsIn, actionsOf, armsIn, expressionSize, expressionsIn, lastOf, leftNodes, nodesIn, nodesOf, storeOf}
+use Rattle.language.specs.Describe.{actionsIn, actionsOf, armsIn, expressionSize, expressionsIn, nodesIn, nodesOf}
 use Rattle.language.specs.Description as D
 use Rattle.language.specs.Description.{Action, Description, actionAt, actionPlace, nodePlace, noPlaces, operationAt, stateAt}
 use Rattle.language.specs.Expressions as E
-use Rattle.language.specs.Expressions.{expressionAt, leftAt, ownWork, selects, terminalBelow}
+use Rattle.language.specs.Expressions.{ownWork, selects, terminalBelow}
 use Rattle.language.specs.Grammar as G
 use Rattle.language.specs.Grammar.{Is}
 use Rattle.language.specs.Image.{WordsRight}
-use Rattle.language.specs.Judging.{Judged, Worth, both, fine, givenBoth, refuse, unless, worth}
+use Rattle.language.specs.Judging.{Judged, Worth, both, fine, refuse, unless, worth}
 use Rattle.language.specs.Kinds.{atSign, callSign, caseWord, comma, conWord, delayedSign, doWord, endCaseWord, endIfWord, equalSign, gotoSign, ifWord, returnWord, thenWord}
-use Rattle.language.specs.Naming.{Scope, meaning, ofOperation, ofState, operation, state}
-use Rattle.language.specs.Naming as Naming
+use Rattle.language.specs.Naming.{Scope, meaning, operation, state}
 use Rattle.language.specs.Notions as N
-use Rattle.language.specs.Notions.{Section, expression, isStore}
+use Rattle.language.specs.Notions.{Section, isStore}
 use Rattle.language.specs.Order.{actionRoots, runRoots, startAt, treesEnd}
-use Rattle.language.specs.Recursion.{below-lt}
-use Rattle.language.specs.Storing.{isPlain, mayStore, takesDelayed, takesImmediate}
+use Rattle.language.specs.Storing.{mayStore, takesDelayed, takesImmediate}
 use Rattle.language.specs.Tree as T
-use Rattle.language.specs.Tree.{Actions, Expression, Kind, Left, Name}
+use Rattle.language.specs.Tree.{Actions, Kind}
 use Rattle.language.specs.Words as W
 use Rattle.language.specs.Words.{Position, Word, sign}
 use Rattle.legal.specs.Counted.{acts, acts-append, lefts, lefts-append, nodes, nodes-append}
-use Rattle.legal.specs.ListRoots as Q
 use Rattle.legal.specs.ListRoots.{Arm, Held, Plain, arm-fine, first-arm, first-fine, held, only-fine, plain-fine}
 use Rattle.legal.specs.Roots.{StandActions, roots-join}
 use Rattle.legal.specs.Sizes.{actions-size, in-size, nodes-size}
 use Rattle.legal.specs.Starts.{Stand}
 use Rattle.texts.specs.Derivations.{here, of-term}
-use Rattle.texts.specs.Placed.{Placed, last-record, stand-append}
-use Rattle.texts.specs.Rebuilt as R
+use Rattle.texts.specs.Placed.{last-record, stand-append}
 use Rattle.texts.specs.Rebuilt.{Knows, Rebuilt, Referred, rebuilt, referred, words-both}
-use Rattle.theorems.specs.Judged.{append-none-left, append-none-right, both-fine, clean-fine, faulty-fine, given-fine, proper-fine, unless-none}
+use Rattle.theorems.specs.Judged.{append-none-right, both-fine, clean-fine, faulty-fine, given-fine, proper-fine, unless-none}
 use Rattle.theorems.specs.Ordered.{tree-first, trees-split}
 
 abbrev pub sectionOf : Bool → Section

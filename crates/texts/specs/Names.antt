@@ -1,16 +1,15 @@
 -- Names without fault are declared once, so each means what bears it. Assumes nothing.
-use mathlib.Core.Bool.{Bool, true, false, cond, _||_, _&&_}
-use mathlib.Core.List.{List, [], _∷_, _++_, map}
-use mathlib.Core.Option.{Option, none, some}
-use mathlib.Core.Path.{_≡_, refl, sym, ap, _∙_}
+use mathlib.Core.Bool.{Bool, true, false, cond, _||_}
+use mathlib.Core.List.{List, [], _∷_, _++_}
+use mathlib.Core.Option.{none, some}
+use mathlib.Core.Path.{_≡_, refl, ap, _∙_}
 use native.Mathlib.Omega.{arith}
 use Prim.Native.Nat.{ℕ, zero, suc, _+_, _<_}
 use borrow.Author.Tests.{eq-eqb}
-use lib.Dec.{eqb}
 use lib.ListN.{getD, length, length-append, take}
 use Rattle.language.specs.Description.{nowhere}
 use Rattle.language.specs.Judging.{unless}
-use Rattle.language.specs.Naming.{Meaning, Scope, facility, meaning, numberOf, operation, orElse, state, unknown}
+use Rattle.language.specs.Naming.{Scope, facility, meaning, numberOf, operation, state}
 use Rattle.language.specs.Rules.{declared, nameFaults, twice}
 use Rattle.language.specs.Scan.{same}
 use Rattle.language.specs.Tree.{Name}

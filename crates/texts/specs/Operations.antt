@@ -5,14 +5,14 @@ use mathlib.Core.Option.{Option, none, some}
 use mathlib.Core.Path.{_≡_, refl, sym, ap, subst, _∙_}
 use native.Mathlib.Omega.{arith}
 use Prim.Native.Nat.{ℕ, zero, suc, _+_, _≤_, _<_, max}
-use borrow.Author.Tests.{eqb-true, eqb-false, ltb-true, ltb-false}
+use borrow.Author.Tests.{eqb-true, ltb-true, ltb-false}
 use lib.Dec.{eqb, eqb·suc-zero, ltb}
 use lib.ListN.{List·getD-map, getD, length, length-append, length-map, length-take, take}
 use Rattle.language.specs.ActionRules as J
 use Rattle.language.specs.ActionRules.{operationBelow, operationJudged, runJudged}
 use Rattle.language.specs.Canonical.{all, nameRight, total}
 use Rattle.language.specs.Ceilings.{countedOperations}
-use Rattle.language.specs.Describe.{Noted, actionsIn, actionsOf, expressionsIn, nodesIn}
+use Rattle.language.specs.Describe.{actionsIn, actionsOf, expressionsIn, nodesIn}
 use Rattle.language.specs.DescribeText as X
 use Rattle.language.specs.DescribeText.{operationActions, operationExpressions, operationNodes, operationScope, operationsOf}
 use Rattle.language.specs.Description as D
@@ -20,7 +20,7 @@ use Rattle.language.specs.Description.{Description, Facility, Operation, facili
 use Rattle.language.specs.Grammar as G
 use Rattle.language.specs.Grammar.{Is}
 use Rattle.language.specs.Image.{WordsRight}
-use Rattle.language.specs.Judging.{Judged, Worth, both, fine, refuse}
+use Rattle.language.specs.Judging.{Worth, fine, refuse}
 use Rattle.language.specs.Kinds.{closeBracket, comma, equalSign, openBracket}
 use Rattle.language.specs.Naming.{Scope, meaning, operation}
 use Rattle.language.specs.Notions as N
@@ -36,10 +36,8 @@ use Rattle.legal.specs.Counted.{acts, acts-append, lefts, lefts-append, nodes, 
 use Rattle.legal.specs.Roots.{StandActions}
 use Rattle.legal.specs.Sizes.{actions-size, in-size}
 use Rattle.legal.specs.Starts.{Stand}
-use Rattle.texts.specs.Declarations.{both-left, both-right}
 use Rattle.texts.specs.Derivations.{here}
 use Rattle.texts.specs.Facilities.{Some, empty-wrong, getD-take, take-more, take-take}
-use Rattle.texts.specs.Lists as L
 use Rattle.texts.specs.Lists.{Listed, Names, acting-append, listed}
 use Rattle.texts.specs.Names.{Apart, Once, apart-left, apart-right, means-facility, means-operation, once-behind, once-front, take-front}
 use Rattle.texts.specs.Placed.{stand-append}
@@ -78,8 +76,8 @@ module _ (d : Description) (none-there : faults d noPlaces ≡ [])
     unfolding Once
     knows-all os ss = record {
       means = λ f l. let n = length-map (d .facilities) (λ (x : Facility). x .name) in
-      let o = once-front facilityNames (operationNames ++ later) once f (omega (arith, n, l)) (rw (facility-name f) (some-letters (facilityAt d f .name) (facility-names f l))) in
-      let y = means-facility (record { facilities = facilityNames; operations = os; states = ss }) f (omega (arith, n, l)) o in rw (facility-name f) at y;
+          let o = once-front facilityNames (operationNames ++ later) once f (omega (arith, n, l)) (rw (facility-name f) (some-letters (facilityAt d f .name) (facility-names f l))) in
+          let y = means-facility (record { facilities = facilityNames; operations = os; states = ss }) f (omega (arith, n, l)) o in rw (facility-name f) at y;
       right = facility-names;
       bits = bits;
     }

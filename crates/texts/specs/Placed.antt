@@ -1,9 +1,9 @@
 -- A tree whose records stand in a description: from where on, how many, and what they count. Trees of one part and of two. Assumes nothing.
 use mathlib.Core.List.{List, [], _∷_, _++_}
-use mathlib.Core.Path.{_≡_, refl, sym, ap, _∙_}
+use mathlib.Core.Path.{_≡_, sym, _∙_}
 use native.Mathlib.Omega.{arith}
-use Prim.Native.Nat.{ℕ, suc, _+_, _≤_}
-use lib.ListN.{length, length-append}
+use Prim.Native.Nat.{ℕ, suc, _+_}
+use lib.ListN.{length}
 use Rattle.language.specs.Canonical.{nodeCount, total}
 use Rattle.language.specs.Ceilings.{countedExpression}
 use Rattle.language.specs.Describe.{Noted, expressionSize, lastOf, nodesOf}

@@ -1,36 +1,35 @@
 -- Every expression that is judged fine and stands in order is that of a tree, and there are words for the tree: operands in parentheses. Assumes nothing.
 use mathlib.Core.Bool.{Bool, true, false, cond, _||_}
 use mathlib.Core.List.{List, [], _∷_, _++_}
-use mathlib.Core.Option.{Option, none, some}
+use mathlib.Core.Option.{some}
 use mathlib.Core.Path.{_≡_, refl, sym, ap, subst, _∙_}
 use native.Mathlib.Nat.{pow-suc}
 use native.Mathlib.Omega.{arith}
 use Prim.Native.Nat.{ℕ, zero, suc, _+_, _^_, _≤_, _<_, max}
 use borrow.Author.Tests.{eqb-true}
-use lib.Dec.{eqb, leb, ltb}
+use lib.Dec.{eqb, leb}
 use lib.Pow.{pow-pos}
 use Rattle.language.specs.Canonical.{nameRight, nodeCount}
 use Rattle.language.specs.Ceilings.{countedExpression, countedReference}
-use Rattle.language.specs.Describe as B
-use Rattle.language.specs.Describe.{Noted, armsOf, boundsOf, constantSize, expressionSize, lastOf, nodesOf, noted, notedPart}
+use Rattle.language.specs.Describe.{Noted, armsOf, boundsOf, expressionSize, lastOf, nodesOf, noted, notedPart}
 use Rattle.language.specs.Description as D
-use Rattle.language.specs.Description.{Bounds, Description, Node, Places, bounds, facilityAt, inBounds, nodeAt, nodePlace, noPlaces}
+use Rattle.language.specs.Description.{Bounds, Description, Node, facilityAt, inBounds, nodeAt, nodePlace, noPlaces}
 use Rattle.language.specs.Expressions as E
 use Rattle.language.specs.Expressions.{judgeAt, judgeBelow, judgeNode, selects}
 use Rattle.language.specs.Grammar as G
 use Rattle.language.specs.Grammar.{Is}
 use Rattle.language.specs.Image.{ConstantRight, WordsRight}
-use Rattle.language.specs.Judging.{Judged, Worth, armList, both, faultsOf, fine, refuse, sized, unless, worth}
-use Rattle.language.specs.Kinds.{caseWord, closeBracket, closeParen, colon, comma, doWord, endCaseWord, minus, differenceSign, openBracket, openParen, redWord}
+use Rattle.language.specs.Judging.{Judged, Worth, armList, both, fine, refuse, sized, unless, worth}
+use Rattle.language.specs.Kinds.{caseWord, closeBracket, colon, comma, doWord, endCaseWord, minus, differenceSign, openBracket, redWord}
 use Rattle.language.specs.Naming.{Meaning, Scope, facility, meaning, ofFacility}
 use Rattle.language.specs.Notions as N
 use Rattle.language.specs.Notions.{expression, pairOf}
 use Rattle.language.specs.Operators.{binaryLength, cutLengthOf, prefixLength}
 use Rattle.language.specs.Order.{startAt, startBelow, startNode}
 use Rattle.language.specs.Recursion.{below-lt}
-use Rattle.language.specs.ReferenceRules.{boundFaults, countedRight, countedWrong, directionFaults, referenceJudged, subscriptFaults, subscriptsJudged}
+use Rattle.language.specs.ReferenceRules.{boundFaults, referenceJudged, subscriptFaults, subscriptsJudged}
 use Rattle.language.specs.References as R
-use Rattle.language.specs.References.{Reference, part, referTo, two, whole, wordPart}
+use Rattle.language.specs.References.{part, referTo, two, whole, wordPart}
 use Rattle.language.specs.Tree as T
 use Rattle.language.specs.Tree.{Ends, Expression, Name}
 use Rattle.language.specs.Words as W
@@ -39,10 +38,9 @@ use Rattle.language.specs.Value.{Value, longest}
 use Rattle.legal.specs.Counted.{constant-count}
 use Rattle.texts.specs.Constants.{constant-stands}
 use Rattle.texts.specs.Derivations.{binary-term, binaryWords, cut-term, cutWords, here, of-term, prefix-term, prefixBegins, prefixWords}
-use Rattle.texts.specs.Placed as P
 use Rattle.texts.specs.Placed.{Placed, behind-one, behind-two, last-record, leaf}
 use Rattle.texts.specs.References.{Small, bound-same, count-same, count-small, in-small, refers, small, small-right}
-use Rattle.theorems.specs.Judged.{Two, append-none-left, append-none-right, arms-fine, both-fine, clean-fine, faulty-fine, given-fine, proper-fine, sized-fine, unless-none}
+use Rattle.theorems.specs.Judged.{Two, append-none-left, append-none-right, arms-fine, both-fine, faulty-fine, given-fine, proper-fine, sized-fine, unless-none}
 use Rattle.theorems.specs.Starts.{one-before, start-le, start-lt, two-before}
 
 pub words-both : (us vs : List Word) → WordsRight us → WordsRight vs → WordsRight (us ++ vs)
@@ -228,7 +226,7 @@ module _ (d : Description) (sc : Scope) (known : ℕ) (knows : Knows d sc known)
       subst (λ (m : ℕ). Referred n m) z (record {
         tree = T.part (nameOf f) here (endsOf b);
         placed = leaf d sc n (T.part (nameOf f) here (endsOf b)) (notedPart (D.part f b) here (endsOf b)) q
-        (rw (means-so f (λ g. D.part g (boundsOf (endsOf b))) (r .known-here), x .same) refl) refl refl;
+            (rw (means-so f (λ g. D.part g (boundsOf (endsOf b))) (r .known-here), x .same) refl) refl refl;
         words = W.name (nameOf f) here ∷ sign openBracket here ∷ W.constant (small (b .first)) here ∷ sign colon here ∷ W.constant (small (b .last)) here ∷ sign closeBracket here ∷ [];
         right = (knows .right f (r .known-here), (tt, (x .first, (tt, (x .last, (tt, tt))))));
         depth = 1;

@@ -1,14 +1,13 @@
 -- What a reference without fault says of its facility, its subscripts and its constant ends. Assumes nothing.
 use mathlib.Core.Bool.{Bool, true, false, cond, _||_}
-use mathlib.Core.List.{List, [], _++_}
+use mathlib.Core.List.{[], _++_}
 use mathlib.Core.Path.{_≡_, ap, refl}
 use native.Mathlib.Nat.{mul-le-mul-right}
 use native.Mathlib.Omega.{arith}
-use Prim.Native.Nat.{ℕ, _*_, _≤_, _<_, _^_, min}
+use Prim.Native.Nat.{ℕ, _*_, _≤_, _<_}
 use borrow.Author.Tests.{leb-true, ltb-true}
 use lib.Dec.{eqb, leb, ltb}
 use Rattle.language.specs.Describe.{bound, count}
-use Rattle.language.specs.Description as D
 use Rattle.language.specs.Description.{Bounds, Description, Facility, NodePlaces, Places, facilityAt, inBounds}
 use Rattle.language.specs.Image.{ConstantRight}
 use Rattle.language.specs.Judging.{Judged, Worth, faultsOf, fine, refuse}

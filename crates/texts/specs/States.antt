@@ -10,22 +10,22 @@ use lib.Dec.{eqb, ltb}
 use lib.ListN.{List·getD-map, getD, length, length-append, length-map, take}
 use Rattle.language.specs.ActionRules as J
 use Rattle.language.specs.ActionRules.{operationBelow, runJudged}
-use Rattle.language.specs.Canonical.{all, labelRight, nameRight, total, valueCount}
+use Rattle.language.specs.Canonical.{labelRight, nameRight, total, valueCount}
 use Rattle.language.specs.Ceilings.{countedStates}
-use Rattle.language.specs.Describe.{Noted, actionsIn, actionsOf, constantNodes, constantSize, expressionsIn, lastOf, nodesIn}
+use Rattle.language.specs.Describe.{actionsIn, actionsOf, constantSize, expressionsIn, nodesIn}
 use Rattle.language.specs.DescribeText as X
-use Rattle.language.specs.DescribeText.{labelOf, stateActions, stateNodes, stateSize, statesOf, valueNodes, valueNumber, valueSize}
+use Rattle.language.specs.DescribeText.{labelOf, stateActions, stateNodes, statesOf, valueNodes, valueNumber, valueSize}
 use Rattle.language.specs.Description as D
-use Rattle.language.specs.Description.{Description, Facility, Node, Operation, State, constantValue, facilityAt, nodeAt, noPlaces, operationAt, stateAt}
+use Rattle.language.specs.Description.{Description, Node, Operation, State, constantValue, facilityAt, nodeAt, noPlaces, operationAt, stateAt}
 use Rattle.language.specs.Grammar as G
 use Rattle.language.specs.Grammar.{Is}
 use Rattle.language.specs.Image.{ConstantRight, WordsRight}
-use Rattle.language.specs.Judging.{Judged, Worth, both, fine, unless}
+use Rattle.language.specs.Judging.{Worth, both, fine}
 use Rattle.language.specs.Kinds.{closeParen, colon, openParen, slash}
 use Rattle.language.specs.Naming.{Scope, meaning, operation, state}
 use Rattle.language.specs.Notions as N
 use Rattle.language.specs.Notions.{firstPlace, states}
-use Rattle.language.specs.Order.{runRoots, startAt, startBelow, startNode, stateRoots, statesEnd, treesEnd, valueRoot}
+use Rattle.language.specs.Order.{runRoots, startAt, startNode, stateRoots, statesEnd, treesEnd, valueRoot}
 use Rattle.language.specs.Recursion.{below-ge}
 use Rattle.language.specs.Rules as Rules
 use Rattle.language.specs.Rules.{faults, sequencingLength, valueFaults}
@@ -40,9 +40,9 @@ use Rattle.legal.specs.Roots.{StandActions}
 use Rattle.legal.specs.Sizes.{actions-size, in-size, value-size}
 use Rattle.legal.specs.Starts.{Stand}
 use Rattle.texts.specs.Constants.{constant-stands}
-use Rattle.texts.specs.Declarations.{both-left, both-right}
+use Rattle.texts.specs.Declarations.{both-left}
 use Rattle.texts.specs.Derivations.{here}
-use Rattle.texts.specs.Facilities.{Some, empty-wrong}
+use Rattle.texts.specs.Facilities.{Some}
 use Rattle.texts.specs.Lists.{Listed, Names, acting-append, listed}
 use Rattle.texts.specs.Names.{Apart, Once, apart-left, apart-right, means-operation, means-state, once-behind, take-behind}
 use Rattle.texts.specs.Operations as O
