@@ -1,0 +1,4 @@
+pub mod Back
+pub mod Names
+pub mod Rows
+pub mod Running
