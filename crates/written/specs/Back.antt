@@ -202,7 +202,7 @@ module _ (d : Description) (r : InRange d) where
   facility-names : (n : ℕ) → n ≤ length (d .facilities) → namesLength n 2 13 facilitiesOf ≡ namesOf (λ f. f .name) (take n (d .facilities))
   unfolding facilityAt
   facility-names n h =
-      lengths-say (λ f. f .name) (d .facilities) facilitiesOf 2 13 n noFacility h
+      lengths-say (λ f. length (f .name)) (d .facilities) facilitiesOf 2 13 n noFacility h
       (λ i g. let e : 2 + 13 * i ≡ 13 * i + 2 = omega arith in rw e (facility-byte i (omega arith)))
 
   facility-name : (n : ℕ) → n < length (d .facilities) → named (facilityPart facilitiesOf n) (nameBytes d) ≡ facilityAt d n .name
@@ -249,7 +249,7 @@ module _ (d : Description) (r : InRange d) where
   operation-names : (n : ℕ) → n ≤ length (d .operations) → namesLength n 0 5 operationsOf ≡ namesOf (λ o. o .name) (take n (d .operations))
   unfolding operationAt
   operation-names n h =
-      lengths-say (λ o. o .name) (d .operations) operationsOf 0 5 n noOperation h
+      lengths-say (λ o. length (o .name)) (d .operations) operationsOf 0 5 n noOperation h
       (λ i g. let e : 0 + 5 * i ≡ 5 * i = omega arith in rw e (operation-byte i (omega arith)))
 
   operation-name : (n : ℕ) → n < length (d .operations)
@@ -307,7 +307,7 @@ module _ (d : Description) (r : InRange d) where
   state-names : (n : ℕ) → n ≤ length (d .states) → namesLength n 0 7 statesOf ≡ namesOf (λ s. s .name) (take n (d .states))
   unfolding stateAt
   state-names n h =
-      lengths-say (λ s. s .name) (d .states) statesOf 0 7 n noState h
+      lengths-say (λ s. length (s .name)) (d .states) statesOf 0 7 n noState h
       (λ i g. let e : 0 + 7 * i ≡ 7 * i = omega arith in rw e (state-byte i (omega arith)))
 
   state-name : (n : ℕ) → n < length (d .states)

@@ -1,3 +1,4 @@
+pub mod Again
 pub mod Back
 pub mod Names
 pub mod Rows
