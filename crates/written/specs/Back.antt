@@ -14,7 +14,7 @@ use Rattle.language.specs.Canonical.{total}
 use Rattle.language.specs.Decode.{described, namesLength, nodeOf, numberAt}
 use Rattle.language.specs.Description as D
 use Rattle.language.specs.Description.{Action, Description, Facility, Node, Operation, State, actionAt, digitLength, facilityAt, furtherDigits, noFacility, noRun, nodeAt, operationAt, stateAt}
-use Rattle.language.specs.Encode.{Sections, actionBytes, concat, facilityRecord, facilityRecords, little, nameBytes, nodeBytes, operationRecord, sectionsOf, stateRecord}
+use Rattle.language.specs.Encode.{Sections, actionBytes, concat, encode, facilityRecord, facilityRecords, little, nameBytes, nodeBytes, operationRecord, sectionsOf, stateRecord}
 use Rattle.language.specs.Judging.{both}
 use Rattle.language.specs.Layout.{placeIn}
 use Rattle.language.specs.Order.{digitsStand, isDigit48}
@@ -76,6 +76,7 @@ pub record InRange (d : Description) : Type 0 where
   pub expressions : (n : ℕ) → n < length (d .expressions) → NodeInRange d n (nodeAt d n)
   pub actions : (n : ℕ) → n < length (d .actions) → A.Fits (actionAt d n)
   pub states : (n : ℕ) → n < length (d .states) → StateInRange (stateAt d n)
+  pub whole : length (encode d) < 2 ^ 32
 
 -- ---- Digits.
 
