@@ -1,0 +1,16 @@
+-- Where records in order end: one step after the other.
+use mathlib.Core.List.{List}
+use mathlib.Core.Option.{Option, none, some}
+use Prim.Native.Nat.{ℕ}
+use Rattle.language.specs.Description.{Description}
+use Rattle.language.specs.Order.{ending, treesEnd}
+use Rattle.order.specs.declared.edges.Edge.{Edge}
+use Rattle.order.specs.declared.edges.Edge.the-variants as E
+
+abbrev pub edge : Edge → Option ℕ
+edge (E.At n) = some n
+edge E.None = none
+
+-- Trees one after the other from an edge on.
+unfoldable pub after : Description → Option ℕ → List ℕ → Option ℕ
+after d e rs = ending e (λ n. treesEnd d n rs)
