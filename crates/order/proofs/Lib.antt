@@ -1,1 +1,4 @@
+pub mod DeclaredLaws
+pub mod RunLaws
 pub mod StartLaws
+pub mod TreeLaws

@@ -1,5 +1,5 @@
 -- Sections whose records are right are those that are written of what they describe.
-use mathlib.Core.List.{List, [], _++_}
+use mathlib.Core.List.{List, []}
 use mathlib.Core.Option.{none}
 use mathlib.Core.Path.{_≡_, refl, sym, ap, ap₂, _∙_}
 use Prim.Native.Nat.{ℕ, zero, suc, _+_, _*_, _/_, _%_, _<_, _≤_}
@@ -17,12 +17,12 @@ use Rattle.records.proofs.ActionLaws.{action-length}
 use Rattle.records.proofs.WrittenNodes.{node-length}
 use Rattle.image.proofs.DeclarationBack.{operation-right, state-right}
 use Rattle.image.proofs.DeclarationLaws.{name-first, name-whole}
-use Rattle.image.proofs.DescribedLaws.{action-described, actions-count, expressions-count, facilities-count, facility-described, node-described, operation-described, operations-count, state-described, states-count}
+use Rattle.image.proofs.DescribedLaws.{action-described, actions-count, expressions-count, facilities-count, node-described, operation-described, operations-count, state-described, states-count}
 use Rattle.image.proofs.WrittenDeclarations.{operation-length, state-length}
-use Rattle.image.specs.Declarations.{facilityIn, nameLengthIn, operationIn, stateIn}
+use Rattle.image.specs.Declarations.{nameLengthIn}
 use Rattle.image.specs.Names.{facilityPart, named, operationPart, statePart}
 use Rattle.written.specs.Names.{bytes-most, facilities-names, lengths-say, operations-names, states-names}
-use Rattle.written.specs.Rows.{facilities-are, facilities-at, facilities-length, row-at, row-is, row-length}
+use Rattle.written.specs.Rows.{facilities-are, facilities-at, row-at, row-is}
 use Rattle.written.specs.Running.{stands}
 
 -- The bytes of a slice.

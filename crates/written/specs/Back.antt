@@ -1,20 +1,18 @@
 -- A description whose records are in range is read back from the sections that are written of it.
 use mathlib.Core.Bool.{Bool, true, false, true≢false}
-use mathlib.Core.List.{List, [], _∷_, _++_, append-nil}
+use mathlib.Core.List.{List, [], _++_, append-nil}
 use mathlib.Core.Option.{none}
-use mathlib.Core.Path.{_≡_, refl, sym, ap, ap₂, _∙_}
+use mathlib.Core.Path.{_≡_, refl, sym, ap, _∙_}
 use Prim.Native.Nat.{ℕ, zero, suc, _+_, _*_, _/_, _%_, _^_, _<_, _≤_}
 use native.Mathlib.Nat.{mod-eq-of-lt, mod-lt}
 use native.Mathlib.Omega.{arith}
 use borrow.Author.Tests.{eqb-true}
-use lib.Dec.{eqb}
-use lib.ListN.{drop, getD, length, take, length-append}
+use lib.ListN.{getD, length, take}
 use lib.Seq.{drop-at, drop-drop, ext-getD, take-length}
-use Rattle.language.specs.Canonical.{total}
 use Rattle.language.specs.Decode.{described, namesLength, nodeOf, numberAt}
 use Rattle.language.specs.Description as D
 use Rattle.language.specs.Description.{Action, Description, Facility, Node, Operation, State, actionAt, digitLength, facilityAt, furtherDigits, noFacility, noRun, nodeAt, operationAt, stateAt}
-use Rattle.language.specs.Encode.{Sections, actionBytes, concat, encode, facilityRecord, facilityRecords, little, nameBytes, nodeBytes, operationRecord, sectionsOf, stateRecord}
+use Rattle.language.specs.Encode.{actionBytes, concat, encode, facilityRecord, facilityRecords, nameBytes, nodeBytes, operationRecord, sectionsOf, stateRecord}
 use Rattle.language.specs.Judging.{both}
 use Rattle.language.specs.Layout.{placeIn}
 use Rattle.language.specs.Order.{digitsStand, isDigit48}
@@ -29,7 +27,7 @@ use Rattle.image.proofs.DeclarationBack.{FacilityFits, ValueFits, facility-back
 use Rattle.image.proofs.DeclarationLaws.{name-first, name-whole}
 use Rattle.image.proofs.DescribedLaws.{action-described, actions-count, expressions-count, facilities-count, facility-described, node-described, operation-described, operations-count, state-described, states-count}
 use Rattle.image.proofs.WrittenDeclarations.{facility-length, operation-length, state-length}
-use Rattle.image.specs.Declarations.{facilityIn, nameLengthIn, operationIn, stateIn}
+use Rattle.image.specs.Declarations.{facilityIn, operationIn, stateIn}
 use Rattle.image.specs.Names.{facilityPart, named, operationPart, statePart}
 use Rattle.written.specs.Names.{lengths-say, name-cut, names-length, namesOf}
 use Rattle.written.specs.Rows.{facilities-at, facilities-length, row-at, row-length}

@@ -1,17 +1,16 @@
 -- The check is exact: those images pass that begin with what is written of a description in legal form.
-use mathlib.Core.Bool.{Bool, true, false}
+use mathlib.Core.Bool.{true}
 use mathlib.Core.List.{List}
-use mathlib.Core.Path.{_≡_, sym, ap, _∙_}
-use Prim.Native.Nat.{ℕ, _≤_, _<_}
+use mathlib.Core.Path.{_≡_, sym, _∙_}
+use Prim.Native.Nat.{ℕ}
 use native.Mathlib.Omega.{arith}
 use lib.ListN.{length, take}
 use Rattle.language.specs.Decode.{decode}
 use Rattle.language.specs.Description.{Description}
 use Rattle.language.specs.Encode.{encode}
 use Rattle.language.specs.Image.{legalForm, passes, totalLength}
-use Rattle.image.proofs.ImageLaws.{right-parts}
 use Rattle.written.specs.Back.{InRange}
-use Rattle.written.specs.Whole.{both-left, both-right, bytes-of, bytes-parts, bytesRight, decode-written, encode-long, long-enough, passes-parts, right-header, total-written, whole-right}
+use Rattle.written.specs.Whole.{both-left, both-right, bytes-of, bytes-parts, bytesRight, decode-written, encode-long, long-enough, passes-parts, total-written, whole-right}
 
 -- An image begins with what is written of a description.
 pub record Begins (image : List ℕ) (d : Description) : Type 0 where

@@ -1,26 +1,23 @@
 -- Whole images: what an image of a description is read as, and when the bytes of an image are those of what it describes.
 use mathlib.Core.Bool.{Bool, true, false, cond, true≢false}
-use mathlib.Core.List.{List, [], _++_}
+use mathlib.Core.List.{List, _++_}
 use mathlib.Core.Path.{_≡_, refl, sym, ap, _∙_}
-use Prim.Native.Nat.{ℕ, _+_, _*_, _^_, _<_, _≤_}
+use Prim.Native.Nat.{ℕ, _^_, _<_, _≤_}
 use native.Mathlib.Omega.{arith}
-use borrow.Author.Tests.{eqb-true, le-leb, leb-false, leb-true, lt-leb}
-use lib.Dec.{eqb, leb}
+use borrow.Author.Tests.{le-leb, leb-true}
+use lib.Dec.{leb}
 use lib.ListN.{length, take, length-append, length-take}
-use lib.Seq.{length-take-le, take-all, take-at, take-take}
-use Rattle.language.specs.Canonical.{canonical}
-use Rattle.language.specs.Decode.{decode, described, numberAt, sectionsIn}
-use Rattle.language.specs.Description.{Description, noPlaces}
-use Rattle.language.specs.Encode.{Sections, actionBytes, concat, encode, imageOf, nameBytes, nodeBytes, operationRecord, sectionsOf, stateRecord}
+use lib.Seq.{length-take-le, take-at, take-take}
+use Rattle.language.specs.Decode.{decode, described, sectionsIn}
+use Rattle.language.specs.Description.{Description}
+use Rattle.language.specs.Encode.{Sections, actionBytes, encode, imageOf, nameBytes, nodeBytes, operationRecord, sectionsOf, stateRecord}
 use Rattle.language.specs.Image.{legalForm, passes, totalLength}
 use Rattle.language.specs.Judging.{both}
 use Rattle.language.specs.RecordBytes.{fours}
-use Rattle.language.specs.Rules.{faults}
 use Rattle.language.specs.Scan.{same}
 use Rattle.records.proofs.ActionLaws.{action-length}
 use Rattle.records.proofs.ByteLaws.{same-of, same-true}
 use Rattle.records.proofs.WrittenNodes.{node-length}
-use Rattle.image.proofs.DescribedLaws.{actions-count, expressions-count, facilities-count, operations-count, states-count}
 use Rattle.image.proofs.HeaderLaws.{header-bytes}
 use Rattle.image.proofs.ImageLaws.{Sized, bodyOf, header-complete, header-sized, header-sound, image-header, right-parts, sections-found, total-below}
 use Rattle.image.proofs.WrittenDeclarations.{operation-length, state-length}

@@ -1,5 +1,4 @@
 use mathlib.Core.Path.{sym, ap, _∙_}
-use native.Mathlib.Omega.{arith}
 use Prim.Native.Nat.{_+_, _*_}
 use borrow.Author.Needs.{needs}
 use borrow.Author.Tests.{eq-eqb, ne-eqb}
@@ -61,138 +60,102 @@ start-calls t = (node-at-reads.Asked, node-at-reads.Learnt, shape-of-reads.Asked
 abbrev two-before-calls : ℕ → two-before-lts.Claims
 two-before-calls t = (before-below t, before.Post)
 
--- src/starts.rt:62:8
 before-add-if1 :
     (t : ℕ) → before-lts.Need-add-if1 (before-calls t) (before-at t) before.Post
 before-add-if1 t c = search needs
 
--- src/starts.rt:63:9
 before-returns :
     (t : ℕ) → before-lts.Need-returns (before-calls t) (before-at t) before.Post
 before-returns t c =
     λ d h. rw (ne-eqb _ _ (c .if1 .taken))
 
-
--- src/starts.rt:65:5
 before-start-requires :
     (t : ℕ) → before-lts.Need-start-requires (before-calls t) (before-at t) before.Post
 before-start-requires t c κs = search needs
 
--- src/starts.rt:58:1
 before-returns-2 :
     (t : ℕ) → before-lts.Need-returns-2 (before-calls t) (before-at t) before.Post
 before-returns-2 t c =
     λ d h. rw (eq-eqb _ _ (c .before .if1 .left)) (c .start .ensures d h)
 
-
--- src/starts.rt:82:26
 start-node-at-requires : (t : ℕ) → start-lts.Need-node-at-requires (start-calls t) (start-at t) start.Post
 start-node-at-requires t c κs = search needs
 
--- src/starts.rt:82:9
 start-shape-of-requires : (t : ℕ) → start-lts.Need-shape-of-requires (start-calls t) (start-at t) start.Post
 start-shape-of-requires t c κs = search needs
 
--- src/starts.rt:84:22
 start-enum-told : (t : ℕ) → start-lts.Need-enum-told (start-calls t) (start-at t) start.Post
 start-enum-told t c = search needs
 
--- src/starts.rt:85:24
 start-enum-told-2 : (t : ℕ) → start-lts.Need-enum-told-2 (start-calls t) (start-at t) start.Post
 start-enum-told-2 t c = search needs
 
--- src/starts.rt:86:23
 start-enum-known-shape : (t : ℕ) → start-lts.Need-enum-known-shape (start-calls t) (start-at t) start.Post
 start-enum-known-shape t c = search needs
 
--- src/starts.rt:86:29
 start-constant-start-requires : (t : ℕ) → start-lts.Need-constant-start-requires (start-calls t) (start-at t) start.Post
 start-constant-start-requires t c κs =
     constant-at (c .before .before .before .before .before .before .args .exprs .now) (c .before .before .before .before .before .before .args .n) _ (c .before .before .before .before .node-at .result) (c .before .before .before .before .node-at .ensures) (sym (c .before .before .before .shape-of .ensures) ∙ c .before .shape .given .1)
 
-
--- src/starts.rt:87:20
 start-enum-known-shape-2 : (t : ℕ) → start-lts.Need-enum-known-shape-2 (start-calls t) (start-at t) start.Post
 start-enum-known-shape-2 t c = search needs
 
--- src/starts.rt:87:26
 start-before-requires : (t : ℕ) → start-lts.Need-before-requires (start-calls t) (start-at t) start.Post
 start-before-requires t c κs = search needs
 
--- src/starts.rt:88:20
 start-enum-known-shape-3 : (t : ℕ) → start-lts.Need-enum-known-shape-3 (start-calls t) (start-at t) start.Post
 start-enum-known-shape-3 t c = search needs
 
--- src/starts.rt:88:29
 start-two-before-requires : (t : ℕ) → start-lts.Need-two-before-requires (start-calls t) (start-at t) start.Post
 start-two-before-requires t c κs = search needs
 
--- src/starts.rt:79:1
 start-returns : (t : ℕ) → start-lts.Need-returns (start-calls t) (start-at t) start.Post
 start-returns t c =
     λ d h. sym (starts d (c .before .before .before .before .before .args .exprs .now) h (c .before .before .before .before .before .args .n) (c .before .before .before .node-at .result) (c .before .before .before .node-at .ensures) (sym (c .before .before .shape-of .ensures) ∙ c .enum-told .given .1))
 
-
--- src/starts.rt:79:1
 start-returns-2 : (t : ℕ) → start-lts.Need-returns-2 (start-calls t) (start-at t) start.Post
 start-returns-2 t c =
     λ d h. sym (starts d (c .before .before .before .before .before .args .exprs .now) h (c .before .before .before .before .before .args .n) (c .before .before .before .node-at .result) (c .before .before .before .node-at .ensures) (sym (c .before .before .shape-of .ensures) ∙ c .enum-told2 .given .1))
 
-
--- src/starts.rt:79:1
 start-returns-3 : (t : ℕ) → start-lts.Need-returns-3 (start-calls t) (start-at t) start.Post
 start-returns-3 t c =
     c .constant-start .ensures
 
-
--- src/starts.rt:79:1
 start-returns-4 : (t : ℕ) → start-lts.Need-returns-4 (start-calls t) (start-at t) start.Post
 start-returns-4 t c =
     λ d h. c .before2 .ensures d h ∙ sym (starts d (c .before .before .before .before .before .before .before .args .exprs .now) h (c .before .before .before .before .before .before .before .args .n) (c .before .before .before .before .before .node-at .result) (c .before .before .before .before .before .node-at .ensures) (sym (c .before .before .before .before .shape-of .ensures) ∙ c .before .before .shape2 .given .1))
 
-
--- src/starts.rt:79:1
 start-returns-5 : (t : ℕ) → start-lts.Need-returns-5 (start-calls t) (start-at t) start.Post
 start-returns-5 t c =
     λ d h. c .two-before .ensures d h ∙ sym (starts d (c .before .before .before .before .before .before .before .args .exprs .now) h (c .before .before .before .before .before .before .before .args .n) (c .before .before .before .before .before .node-at .result) (c .before .before .before .before .before .node-at .ensures) (sym (c .before .before .before .before .shape-of .ensures) ∙ c .before .before .shape3 .given .1))
 
-
--- src/starts.rt:72:9
 two-before-before-requires : (t : ℕ) → two-before-lts.Need-before-requires (two-before-calls t) (two-before-at t) two-before.Post
 two-before-before-requires t c κs = search needs
 
--- src/starts.rt:73:18
 two-before-enum-known-second : (t : ℕ) → two-before-lts.Need-enum-known-second (two-before-calls t) (two-before-at t) two-before.Post
 two-before-enum-known-second t c = search needs
 
--- src/starts.rt:74:9
 two-before-enum-told :
     (t : ℕ) →
     two-before-lts.Need-enum-told (two-before-calls t) (two-before-at t) two-before.Post
 two-before-enum-told t c = search needs
 
--- src/starts.rt:74:9
 two-before-returns :
     (t : ℕ) →
     two-before-lts.Need-returns (two-before-calls t) (two-before-at t) two-before.Post
 two-before-returns t c =
     λ d h. rw (sym (c .before .before .before2 .ensures d h) ∙ ap edge (c .enum-told .given .1))
 
-
--- src/starts.rt:76:5
 two-before-before-requires-2 : (t : ℕ) → two-before-lts.Need-before-requires-2 (two-before-calls t) (two-before-at t) two-before.Post
 two-before-before-requires-2 t c κs =
     let h = found-within (c .before .before .before .before .before .args .exprs .now) (c .before .before .before .before .before .args .b) (c .before .before .before .before .before .args .n) (c .before .second .given .0 .0) (λ d h. sym (ap edge (c .before .second .given .1)) ∙ c .before .before .before .before2 .ensures d h) in
     search needs
 
-
--- src/starts.rt:69:1
 two-before-returns-2 :
     (t : ℕ) →
     two-before-lts.Need-returns-2 (two-before-calls t) (two-before-at t) two-before.Post
 two-before-returns-2 t c =
     λ d h. rw (sym (c .before .before .before .before .before2 .ensures d h) ∙ ap edge (c .before .before .second .given .1)) (c .before3 .ensures d h)
-
 
 pub +before+start+two-before-spec : {M : Type 1} → statement M
 +before+start+two-before-spec = close μ-before μ-start μ-two-before (λ t. before-lts.spec (before-calls t)
