@@ -86,7 +86,7 @@ both-right : (a b : Bool) → both a b ≡ true → b ≡ true
 both-right true b e = e
 both-right false b e = absurd (true≢false (sym e))
 
-is-digit : (d : Description) (x : Node) (m : ℕ) → isDigit48 d x m ≡ true → x ≡ D.more m
+pub is-digit : (d : Description) (x : Node) (m : ℕ) → isDigit48 d x m ≡ true → x ≡ D.more m
 is-digit d (D.constant v) m e = absurd (true≢false (sym e))
 is-digit d (D.more n) m e = ap D.more (eqb-true n m e)
 is-digit d (D.whole f) m e = absurd (true≢false (sym e))
