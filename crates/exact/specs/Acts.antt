@@ -1,7 +1,7 @@
 -- Every action of a run that is judged fine is sane, and a run has few records for what it counts.
 use mathlib.Core.Bool.{Bool, true, false, cond, true≢false}
-use mathlib.Core.List.{List, [], _++_}
-use mathlib.Core.Logic.{_⊎_, inl, inr}
+use mathlib.Core.List.{[], _++_}
+use mathlib.Core.Logic.{inl, inr}
 use mathlib.Core.Option.{none, some}
 use mathlib.Core.Path.{_≡_, refl, sym, ap, subst, _∙_}
 use native.Mathlib.Omega.{arith}
@@ -16,7 +16,6 @@ use Rattle.language.specs.Description as D
 use Rattle.language.specs.Description.{Action, Description, Places, Run, actionAt, actionPlace, noRun, stateAt}
 use Rattle.language.specs.Expressions.{ownWork, selects}
 use Rattle.language.specs.Judging.{Judged, Worth, both, fine, givenBoth, refuse, unless, worth}
-use Rattle.language.specs.Kinds.{delayedSign, equalSign}
 use Rattle.language.specs.Order.{startAt}
 use Rattle.language.specs.Recursion.{below-lt}
 use Rattle.language.specs.Storing.{mayStore, takesDelayed, takesImmediate}

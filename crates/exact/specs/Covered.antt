@@ -2,21 +2,21 @@
 use mathlib.Core.Bool.{Bool, true, false, cond}
 use mathlib.Core.List.{List, [], _∷_, _++_}
 use mathlib.Core.Option.{Option, none, some}
-use mathlib.Core.Path.{_≡_, refl, sym, ap, subst, _∙_}
+use mathlib.Core.Path.{_≡_, refl, subst, _∙_}
 use native.Mathlib.Omega.{arith}
-use Prim.Native.Nat.{ℕ, zero, suc, _+_, _-_, _*_, _≤_, _<_}
+use Prim.Native.Nat.{ℕ, zero, suc, _+_, _*_, _≤_, _<_}
 use borrow.Author.Tests.{eqb-true, ltb-false, ltb-true}
 use lib.Dec.{eqb, ltb}
 use lib.ListN.{getD, length, length-append}
 use Rattle.language.specs.Canonical.{actionCount, leftCount, total, valueCount}
 use Rattle.language.specs.Description as D
 use Rattle.language.specs.Description.{Action, Description, Facility, Operation, Run, State, actionAt, nodeAt}
-use Rattle.language.specs.Order.{actionRoots, facilityRoots, functionRoot, operationRoots, operationsEnd, runRoots, startAt, stateRoots, statesEnd, treesEnd, valueRoot}
+use Rattle.language.specs.Order.{actionRoots, facilityRoots, functionRoot, operationRoots, operationsEnd, runRoots, stateRoots, statesEnd, treesEnd, valueRoot}
 use Rattle.language.specs.Tree.{Kind, computed, input, memory, plain, register, sequencing}
 use Rattle.theorems.specs.Ordered.{tree-first}
 use Rattle.theorems.specs.Starts.{none-some}
 use Rattle.exact.specs.Acts.{Own, SaneAct, acts}
-use Rattle.exact.specs.Counted.{count, count-add, count-one}
+use Rattle.exact.specs.Counted.{count, count-add}
 use Rattle.exact.specs.Trees.{Sane, counts}
 
 -- ---- Each element of a list.
@@ -34,7 +34,7 @@ each-at P z [] f i h = absurd (omega arith)
 each-at P z (x ∷ xs) f zero h = f .0
 each-at P z (x ∷ xs) f (suc i) h = each-at P z xs (f .1) i (omega arith)
 
-each-append : {A : Type 0} (P : A → Type 0) (xs ys : List A) → Each P xs → Each P ys → Each P (xs ++ ys)
+pub each-append : {A : Type 0} (P : A → Type 0) (xs ys : List A) → Each P xs → Each P ys → Each P (xs ++ ys)
 each-append P [] ys f g = g
 each-append P (x ∷ xs) ys f g = (f .0, each-append P xs ys (f .1) g)
 
@@ -216,10 +216,11 @@ module _ (d : Description) where
   states-cover end at to [] le e s v = (subst (λ (k : ℕ). Covered end at k [] 0) (let z : at ≡ to = cc in z) (nothing end at), tt)
   states-cover end at to (x ∷ ss) le e s v =
       let t = step (x .actions .first) at (statesEnd d (at + x .actions .count) ss) to (eqb (x .actions .first) at) refl e in
-      let y = states-cover end (at + x .actions .count) to ss le (t .goes-on) (s .1) (v .1) in
-      (subst (λ (k : ℕ). Covered end at to (valueRoot d (x .value) ++ (runRoots d (x .actions .count) (x .actions .first) ++ stateRoots d ss)) (k + total valueCount ss)) (values (x .value) x refl)
-      (one-more end at to (x .actions) (valueRoot d (x .value)) (stateRoots d ss) (total valueCount ss) (t .begins) le (s .0) (v .0) (y .0)),
-      (omega (arith, t .begins, y .0 .ends), y .1))
+      let y = states-cover end (at + x .actions .count) to ss le (t .goes-on) (s .1) (v .1) in (
+        subst (λ (k : ℕ). Covered end at to (valueRoot d (x .value) ++ (runRoots d (x .actions .count) (x .actions .first) ++ stateRoots d ss)) (k + total valueCount ss)) (values (x .value) x refl)
+            (one-more end at to (x .actions) (valueRoot d (x .value)) (stateRoots d ss) (total valueCount ss) (t .begins) le (s .0) (v .0) (y .0)),
+        (omega (arith, t .begins, y .0 .ends), y .1),
+      )
     where
       values : (v : Option ℕ) (y : State) → y .value ≡ v → length (valueRoot d (y .value)) ≡ valueCount y
       values none y q = rw q

@@ -1,16 +1,16 @@
 -- A tree whose root is judged fine is sane, as an expression and as the left side of a store.
 use mathlib.Core.Bool.{Bool, true, false, cond}
-use mathlib.Core.List.{List, []}
-use mathlib.Core.Option.{Option, none, some}
-use mathlib.Core.Path.{_≡_, refl, sym, ap, subst, _∙_}
+use mathlib.Core.List.{[]}
+use mathlib.Core.Option.{none, some}
+use mathlib.Core.Path.{_≡_, refl, sym, subst, _∙_}
 use native.Mathlib.Omega.{arith}
-use Prim.Native.Nat.{ℕ, zero, suc, _+_, _-_, _*_, _/_, _^_, _≤_, _<_}
+use Prim.Native.Nat.{ℕ, zero, suc, _+_, _-_, _/_, _^_, _≤_, _<_}
 use borrow.Author.Tests.{eqb-false, eqb-true, ltb-true}
 use lib.Dec.{eqb, ltb}
 use Rattle.language.specs.Canonical.{nodeCount}
 use Rattle.language.specs.Description as D
-use Rattle.language.specs.Description.{Bounds, Description, Facility, Node, NodePlaces, Places, digitLength, facilityAt, furtherDigits, inBounds, nodeAt, nodePlace}
-use Rattle.language.specs.Expressions.{choiceJudged, judgeAt, judgeBelow, judgeNode, judgeStep, leftAt, leftOf, notBefore, operandAt, ownWork, properAt, selects}
+use Rattle.language.specs.Description.{Bounds, Description, Node, NodePlaces, Places, digitLength, facilityAt, furtherDigits, inBounds, nodeAt, nodePlace}
+use Rattle.language.specs.Expressions.{choiceJudged, judgeAt, judgeBelow, judgeNode, judgeStep, leftAt, leftOf, notBefore, ownWork, properAt, selects}
 use Rattle.language.specs.Judging.{Judged, Worth, armList, both, fine, proper, refuse, sized, unless, worth}
 use Rattle.language.specs.Meaning as M
 use Rattle.language.specs.Meaning.{Answer}
@@ -19,15 +19,14 @@ use Rattle.language.specs.Order.{constantStart, digitsStand, justBefore, startA
 use Rattle.language.specs.Recursion.{below-lt}
 use Rattle.language.specs.ReferenceRules.{boundFaults, endFaults, referenceJudged, subscriptFaults, subscriptWorth, subscriptsJudged}
 use Rattle.language.specs.References as R
-use Rattle.language.specs.References.{Reference, Subscripts, referenceOf}
+use Rattle.language.specs.References.{Subscripts, referenceOf}
 use Rattle.language.specs.Value.{Value, longest}
-use Rattle.language.specs.Words.{Fault, Position}
 use Rattle.theorems.specs.Finds.{Refers, reference-fine}
 use Rattle.theorems.specs.Judged.{append-none-left, append-none-right, arms-fine, both-fine, faulty-fine, given-fine, proper-fine, sized-fine, unless-none}
 use Rattle.theorems.specs.Starts.{none-some, one-before, start-le, start-lt, two-before}
 use Rattle.records.proofs.NodeBack.{Half}
 use Rattle.written.specs.Whole.{both-left, both-right}
-use Rattle.exact.specs.Counted.{count, count-more}
+use Rattle.exact.specs.Counted.{count-more}
 use Rattle.exact.specs.Trees.{Sane, Tree, binary-kind, counts, cut-count, cut-kind, digits-sane, leaf, over-arm, over-next, over-one, over-two, prefix-kind, selects-few, within-bounds}
 
 -- ---- Constants.
@@ -101,9 +100,10 @@ module _ (d : Description) (p : Places) (terminals : ℕ → Judged) (known : �
       ends-in : (b : Bounds) → f < known → endFaults d p terminals (facilityAt d f .bits) b at ≡ [] → Half (b .first) × Half (b .last)
       ends-in b h e =
           let t = bounded f h in
-          let c = facilityAt d f .bits in
-          (within-bounds c (b .first) (t .0) (t .1) (unless-none (inBounds c (b .first)) (at .first) 6 (append-none-left _ _ e)),
-          within-bounds c (b .last) (t .0) (t .1) (unless-none (inBounds c (b .last)) (at .last) 6 (append-none-right (unless (inBounds c (b .first)) (at .first) 6) _ e)))
+          let c = facilityAt d f .bits in (
+            within-bounds c (b .first) (t .0) (t .1) (unless-none (inBounds c (b .first)) (at .first) 6 (append-none-left _ _ e)),
+            within-bounds c (b .last) (t .0) (t .1) (unless-none (inBounds c (b .last)) (at .last) 6 (append-none-right (unless (inBounds c (b .first)) (at .first) 6) _ e)),
+          )
 
       whole-tree : {w : Worth} → nodeAt d n ≡ D.whole f → referenceJudged d p terminals ev own known (record { facility = f; subscripts = R.whole }) at ≡ fine w → Tree d n n arms
       whole-tree e j =

@@ -1,33 +1,21 @@
 -- Every record of a tree that is judged fine is sane, and a tree has few records for what it counts.
 use mathlib.Core.Bool.{Bool, true, false, cond, true≢false, _||_}
-use mathlib.Core.List.{List, [], _++_}
-use mathlib.Core.Option.{none, some}
-use mathlib.Core.Path.{_≡_, refl, sym, ap, subst, _∙_}
+use mathlib.Core.Path.{_≡_, refl, sym, subst, _∙_}
 use native.Mathlib.Nat.{mod-lt, suc-mul}
 use native.Mathlib.Omega.{arith}
-use Prim.Native.Nat.{ℕ, zero, suc, _+_, _-_, _*_, _/_, _%_, _^_, _≤_, _<_}
+use Prim.Native.Nat.{ℕ, zero, suc, _+_, _*_, _/_, _%_, _^_, _≤_, _<_}
 use borrow.Author.Tests.{eqb-false, eqb-true, leb-false, leb-true, ltb-false, ltb-true, ne-eqb}
 use lib.Dec.{eqb, leb, ltb}
 use lib.ListN.{length}
 use lib.Pow.{pow-mono}
 use Rattle.language.specs.Canonical.{nodeCount}
 use Rattle.language.specs.Description as D
-use Rattle.language.specs.Description.{Bounds, Description, Facility, Node, NodePlaces, Places, digitLength, facilityAt, furtherDigits, inBounds, nodeAt, nodePlace}
-use Rattle.language.specs.Expressions.{choiceJudged, judgeAt, judgeBelow, judgeNode, judgeStep, leftAt, longestSelector, notBefore, ownWork, properAt, selects}
-use Rattle.language.specs.Judging.{Judged, Worth, armList, both, fine, proper, refuse, sized, worth}
-use Rattle.language.specs.Meaning as M
-use Rattle.language.specs.Meaning.{Answer}
+use Rattle.language.specs.Description.{Bounds, Description, Node, digitLength, furtherDigits, inBounds, nodeAt}
+use Rattle.language.specs.Expressions.{longestSelector, selects}
+use Rattle.language.specs.Judging.{fine, proper}
 use Rattle.language.specs.Operators.{binaryLength, cutLengthOf, prefixLength}
-use Rattle.language.specs.Order.{constantStart, digitsStand, isDigit48, startAt, startBelow, startNode}
-use Rattle.language.specs.Recursion.{below-lt}
-use Rattle.language.specs.ReferenceRules.{boundFaults, endFaults, referenceJudged, subscriptFaults, subscriptWorth, subscriptsJudged}
-use Rattle.language.specs.References as R
-use Rattle.language.specs.References.{Reference, Subscripts, referenceOf}
-use Rattle.language.specs.Value.{Value, cutLength, longest, repeatLength}
-use Rattle.language.specs.Words.{Position}
-use Rattle.theorems.specs.Finds.{Refers, reference-fine}
-use Rattle.theorems.specs.Judged.{append-none-left, append-none-right, arms-fine, both-fine, faulty-fine, given-fine, proper-fine, sized-fine, unless-none}
-use Rattle.theorems.specs.Starts.{constant-fits, none-some, one-before, start-le, two-before, start-lt}
+use Rattle.language.specs.Order.{digitsStand, isDigit48}
+use Rattle.language.specs.Value.{cutLength, repeatLength}
 use Rattle.written.specs.Back.{is-digit}
 use Rattle.written.specs.Whole.{both-left, both-right}
 use Rattle.records.proofs.NodeBack.{Half}

@@ -47,12 +47,12 @@ ends-so d n (some m) e = ap some (eqb-true m n e)
 module _ (d : Description) (p : Places) where
   -- ---- Facilities.
 
-  or-else-both : (xs ys : List Fault) → orElse d p xs ys ≡ [] → ys ≡ []
+  pub or-else-both : (xs ys : List Fault) → orElse d p xs ys ≡ [] → ys ≡ []
   or-else-both [] ys e = e
   or-else-both (x ∷ xs) ys e = absurd (let z : _≡_ {A = ℕ} 0 1 = cc in omega arith)
 
   -- The faults of facility i, whatever came before it.
-  facility-none : (fs : List Facility) (n i : ℕ) (another : Bool) (before : ℕ) → facilitiesFaults d p n another before fs ≡ [] → i < length fs
+  pub facility-none : (fs : List Facility) (n i : ℕ) (another : Bool) (before : ℕ) → facilitiesFaults d p n another before fs ≡ [] → i < length fs
       → (a : Bool) × ((b : ℕ) × (facilityFaults d p (n + i) a b (getD fs i D.noFacility) (facilityPlace p (n + i)) ≡ []))
   unfolding facilitiesFaults
   facility-none [] n i another before e h = absurd (omega arith)
