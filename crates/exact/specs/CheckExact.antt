@@ -33,7 +33,7 @@ read-plain s n name = picked (leb (13 * n + 13) (length s)) _ _ (λ e. rw e) (λ
 described-plain : (x : Sections) → Plain (described x)
 described-plain x n l = subst PlainOne (sym (facility-described x n)) (read-plain (x .facilities) n (named (facilityPart (x .facilities) n) (x .names)))
 
-decoded-plain : (image : List ℕ) → Plain (decode image)
+pub decoded-plain : (image : List ℕ) → Plain (decode image)
 unfolding decode
 decoded-plain image = described-plain _
 

@@ -189,16 +189,16 @@ module _ (d : Description) (r : InRange d) where
   abbrev facilitiesOf : List ℕ
   facilitiesOf = facilityRecords 0 (d .facilities)
 
-  facility-stands : (n : ℕ) → n < length (d .facilities) → (i : ℕ) → i < 13
+  pub facility-stands : (n : ℕ) → n < length (d .facilities) → (i : ℕ) → i < 13
       → getD facilitiesOf (13 * n + i) 0 ≡ getD (facilityRecord (placeIn (d .facilities) n) (facilityAt d n)) i 0
   unfolding facilityAt
   facility-stands n h = stands facilitiesOf (13 * n) 13 (facilities-at (d .facilities) n h)
 
-  facility-byte : (n : ℕ) → n < length (d .facilities) → getD facilitiesOf (13 * n + 2) 0 ≡ length (facilityAt d n .name)
+  pub facility-byte : (n : ℕ) → n < length (d .facilities) → getD facilitiesOf (13 * n + 2) 0 ≡ length (facilityAt d n .name)
   unfolding facilityRecord
   facility-byte n h = facility-stands n h 2 (omega arith) ∙ mod-eq-of-lt (r .facilities n h .name)
 
-  facility-names : (n : ℕ) → n ≤ length (d .facilities) → namesLength n 2 13 facilitiesOf ≡ namesOf (λ f. f .name) (take n (d .facilities))
+  pub facility-names : (n : ℕ) → n ≤ length (d .facilities) → namesLength n 2 13 facilitiesOf ≡ namesOf (λ f. f .name) (take n (d .facilities))
   unfolding facilityAt
   facility-names n h =
       lengths-say (λ f. length (f .name)) (d .facilities) facilitiesOf 2 13 n noFacility h
@@ -221,7 +221,7 @@ module _ (d : Description) (r : InRange d) where
       ∙ facility-back facilitiesOf n (placeIn (d .facilities) n) (facilityAt d n) (omega arith) (r .facilities n (omega arith) .fits)
       (λ i g. facility-stands n (omega arith) i (omega (arith, facility-length (placeIn (d .facilities) n) (facilityAt d n)))))
 
-  all-facilities : namesLength (length facilitiesOf / 13) 2 13 facilitiesOf ≡ length (concat (λ f. f .name) (d .facilities))
+  pub all-facilities : namesLength (length facilitiesOf / 13) 2 13 facilitiesOf ≡ length (concat (λ f. f .name) (d .facilities))
   all-facilities =
       let l = facilities-length (d .facilities) in
       let e : length facilitiesOf / 13 ≡ length (d .facilities) = omega arith in
@@ -239,13 +239,13 @@ module _ (d : Description) (r : InRange d) where
   unfolding operationAt
   operation-stands n h = stands operationsOf (5 * n) 5 (row-at operationRecord 5 operation-length (d .operations) n noOperation h)
 
-  operation-byte : (n : ℕ) → n < length (d .operations) → getD operationsOf (5 * n) 0 ≡ length (operationAt d n .name)
+  pub operation-byte : (n : ℕ) → n < length (d .operations) → getD operationsOf (5 * n) 0 ≡ length (operationAt d n .name)
   unfolding operationRecord
   operation-byte n h =
       let e : 5 * n + 0 ≡ 5 * n = omega arith in
       rw e at (operation-stands n h 0 (omega arith)) ∙ mod-eq-of-lt (r .operations n h .name)
 
-  operation-names : (n : ℕ) → n ≤ length (d .operations) → namesLength n 0 5 operationsOf ≡ namesOf (λ o. o .name) (take n (d .operations))
+  pub operation-names : (n : ℕ) → n ≤ length (d .operations) → namesLength n 0 5 operationsOf ≡ namesOf (λ o. o .name) (take n (d .operations))
   unfolding operationAt
   operation-names n h =
       lengths-say (λ o. length (o .name)) (d .operations) operationsOf 0 5 n noOperation h
@@ -279,7 +279,7 @@ module _ (d : Description) (r : InRange d) where
       ∙ operation-back operationsOf n (operationAt d n) (omega arith) (r .operations n g .first) (r .operations n g .count)
       (λ i q. operation-stands n g i (omega (arith, operation-length (operationAt d n)))))
 
-  all-operations : namesLength (length operationsOf / 5) 0 5 operationsOf ≡ length (concat (λ o. o .name) (d .operations))
+  pub all-operations : namesLength (length operationsOf / 5) 0 5 operationsOf ≡ length (concat (λ o. o .name) (d .operations))
   all-operations =
       let l = row-length operationRecord 5 operation-length (d .operations) in
       let e : length operationsOf / 5 ≡ length (d .operations) = omega arith in
@@ -297,13 +297,13 @@ module _ (d : Description) (r : InRange d) where
   unfolding stateAt
   state-stands n h = stands statesOf (7 * n) 7 (row-at stateRecord 7 state-length (d .states) n noState h)
 
-  state-byte : (n : ℕ) → n < length (d .states) → getD statesOf (7 * n) 0 ≡ length (stateAt d n .name)
+  pub state-byte : (n : ℕ) → n < length (d .states) → getD statesOf (7 * n) 0 ≡ length (stateAt d n .name)
   unfolding stateRecord
   state-byte n h =
       let e : 7 * n + 0 ≡ 7 * n = omega arith in
       rw e at (state-stands n h 0 (omega arith)) ∙ mod-eq-of-lt (r .states n h .name)
 
-  state-names : (n : ℕ) → n ≤ length (d .states) → namesLength n 0 7 statesOf ≡ namesOf (λ s. s .name) (take n (d .states))
+  pub state-names : (n : ℕ) → n ≤ length (d .states) → namesLength n 0 7 statesOf ≡ namesOf (λ s. s .name) (take n (d .states))
   unfolding stateAt
   state-names n h =
       lengths-say (λ s. length (s .name)) (d .states) statesOf 0 7 n noState h
