@@ -69,7 +69,7 @@ module _ (s : List ℕ) (c : Counts) (stands : take 52 s ≡ fours (headerNumber
   byte i h = let e : 0 + i ≡ i = omega arith in rw e (sym (getD-take 52 s i 0 h) ∙ ap (λ (l : List ℕ). getD l i 0) stands)
 
   -- The total is what fits four bytes.
-  total-below : numberAt 4 0 s < 2 ^ 32
+  pub total-below : numberAt 4 0 s < 2 ^ 32
   unfolding numberAt fours little headerNumbers
   total-below =
       let b0 : getD s 0 0 ≡ totalOf c % 256 = byte 0 (omega arith) in
@@ -172,7 +172,7 @@ pub record Right (s : List ℕ) : Type 0 where
   pub total : numberAt 4 0 s ≡ totalOf (countsIn s)
   pub stands : take 52 s ≡ fours (headerNumbers (countsIn s))
 
-right-parts : (s : List ℕ) → headerRight s ≡ true → Right s
+pub right-parts : (s : List ℕ) → headerRight s ≡ true → Right s
 right-parts s p = by-length (leb (totalOf (countsIn s)) (length s)) refl
   where
     by-total : totalOf (countsIn s) ≤ length s → (b : Bool) → eqb (numberAt 4 0 s) (totalOf (countsIn s)) ≡ b → Right s

@@ -108,7 +108,7 @@ behind x d p b h = by-test (ltb x p) refl
         let m : p * b ≤ x * b = mul-le-mul-right b g in
         le-ltb (x * b + d) (p * b) (omega arith) ∙ sym t
 
-six-below : (s : List ℕ) → ((i : ℕ) → getD s i 0 < 256) → (at : ℕ) → numberAt 6 at s < 2 ^ 48
+pub six-below : (s : List ℕ) → ((i : ℕ) → getD s i 0 < 256) → (at : ℕ) → numberAt 6 at s < 2 ^ 48
 unfolding numberAt
 six-below s f at =
     omega (arith, f at, f (suc at), f (suc (suc at)), f (suc (suc (suc at))), f (suc (suc (suc (suc at)))), f (suc (suc (suc (suc (suc at))))))

@@ -47,12 +47,12 @@ ends-so d n (some m) e = ap some (eqb-true m n e)
 module _ (d : Description) (p : Places) where
   -- ---- Facilities.
 
-  or-else-both : (xs ys : List Fault) → orElse d p xs ys ≡ [] → ys ≡ []
+  pub or-else-both : (xs ys : List Fault) → orElse d p xs ys ≡ [] → ys ≡ []
   or-else-both [] ys e = e
   or-else-both (x ∷ xs) ys e = absurd (let z : _≡_ {A = ℕ} 0 1 = cc in omega arith)
 
   -- The faults of facility i, whatever came before it.
-  facility-none : (fs : List Facility) (n i : ℕ) (another : Bool) (before : ℕ) → facilitiesFaults d p n another before fs ≡ [] → i < length fs
+  pub facility-none : (fs : List Facility) (n i : ℕ) (another : Bool) (before : ℕ) → facilitiesFaults d p n another before fs ≡ [] → i < length fs
       → (a : Bool) × ((b : ℕ) × (facilityFaults d p (n + i) a b (getD fs i D.noFacility) (facilityPlace p (n + i)) ≡ []))
   unfolding facilitiesFaults
   facility-none [] n i another before e h = absurd (omega arith)
@@ -175,7 +175,7 @@ module _ (d : Description) (none-there : faults d noPlaces ≡ []) where
   unfolding faults
   names-none = none-there
 
-  after-names : facilitiesFaults d noPlaces 0 false 0 (d .facilities) ++ (operationsFaults d noPlaces (length (d .operations)) 0 ++ statesFaults d noPlaces (sequencingLength d noPlaces) [] 0 (d .states)) ≡ []
+  pub after-names : facilitiesFaults d noPlaces 0 false 0 (d .facilities) ++ (operationsFaults d noPlaces (length (d .operations)) 0 ++ statesFaults d noPlaces (sequencingLength d noPlaces) [] 0 (d .states)) ≡ []
   after-names = append-none-right (nameFaults [] (namesOf d) (namePlaces noPlaces)) _ names-none
 
   after-facilities : operationsFaults d noPlaces (length (d .operations)) 0 ++ statesFaults d noPlaces (sequencingLength d noPlaces) [] 0 (d .states) ≡ []
@@ -198,19 +198,19 @@ module _ (d : Description) (none-there : faults d noPlaces ≡ []) where
   states-fine s l = states-right d noPlaces (d .states) (sequencingLength d noPlaces) [] 0 s (append-none-right (operationsFaults d noPlaces (length (d .operations)) 0) _ after-facilities) l
 
 module _ (d : Description) (h : legalForm d ≡ true) where
-  canonical-so : canonical d ≡ true
+  pub canonical-so : canonical d ≡ true
   unfolding legalForm
   canonical-so = left-of (canonical d) (eqb (length (faults d noPlaces)) 0) h
 
-  no-faults : faults d noPlaces ≡ []
+  pub no-faults : faults d noPlaces ≡ []
   unfolding legalForm
   no-faults = nothing (faults d noPlaces) (eqb-true _ _ (right-of (canonical d) (eqb (length (faults d noPlaces)) 0) h))
 
-  counts-so : countsRight d ≡ true
+  pub counts-so : countsRight d ≡ true
   unfolding canonical
   counts-so = left-of (countsRight d) _ canonical-so
 
-  orders-so : both (treesRight d) (runsRight d) ≡ true
+  pub orders-so : both (treesRight d) (runsRight d) ≡ true
   unfolding canonical
   orders-so =
       right-of (all (λ s. labelRight (s .name) (s .value)) (d .states)) _
@@ -218,17 +218,17 @@ module _ (d : Description) (h : legalForm d ≡ true) where
       (right-of (all (λ f. nameRight (f .name)) (d .facilities)) _
       (right-of (facilitiesRight 0 (d .facilities)) _ (right-of (countsRight d) _ canonical-so))))
 
-  trees-so : treesEnd d 0 (facilityRoots d (d .facilities) ++ (operationRoots d (d .operations) ++ stateRoots d (d .states))) ≡ some (length (d .expressions))
+  pub trees-so : treesEnd d 0 (facilityRoots d (d .facilities) ++ (operationRoots d (d .operations) ++ stateRoots d (d .states))) ≡ some (length (d .expressions))
   unfolding treesRight
   trees-so = ends-so d (length (d .expressions)) _ (left-of (treesRight d) (runsRight d) orders-so)
 
   -- the runs of operations end at `middle`, those of states at the section's end
-  record Runs : Type 0 where
-    middle : ℕ
-    first : operationsEnd d 0 (d .operations) ≡ some middle
-    second : statesEnd d middle (d .states) ≡ some (length (d .actions))
+  pub record Runs : Type 0 where
+    pub middle : ℕ
+    pub first : operationsEnd d 0 (d .operations) ≡ some middle
+    pub second : statesEnd d middle (d .states) ≡ some (length (d .actions))
 
-  runs-so : Runs
+  pub runs-so : Runs
   unfolding runsRight
   runs-so = go (operationsEnd d 0 (d .operations)) refl (ends-so d (length (d .actions)) _ (right-of (treesRight d) (runsRight d) orders-so))
     where

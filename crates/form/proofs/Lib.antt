@@ -1,0 +1,5 @@
+pub mod CountLaws
+pub mod FormLaws
+pub mod LabelLaws
+pub mod RowLaws
+pub mod ShapeLaws

@@ -1,0 +1,35 @@
+// A facility's declaration, and its place in the store.
+use image::facilities;
+use image::facilities::Facility;
+use image::sections;
+ghost use mathlib.Core.Path.{_≡_};
+ghost use Rattle.language.specs.Decode.{decode};
+ghost use Rattle.language.specs.Description.{facilityAt};
+ghost use Rattle.language.specs.Image.{passes};
+ghost use Rattle.language.specs.Lookups as L;
+ghost use Rattle.lookups.specs.Answers.{answered};
+
+// The refusal numbers: of an image that does not pass, and of a number that names nothing.
+const NO_IMAGE: u8 = 13;
+
+const NO_SUCH: u8 = 6;
+
+pub enum Looked {
+    // its `place` is the first byte in the store; of a computed terminal, the number of its expression
+    Declared(Facility),
+    Refused(u8),
+}
+
+pub fn facility(image: &[u8], passed: bool, n: u32) -> Looked
+    requires { ⌜ passed ≡ passes (now image) ⌝ }
+    ensures { λ r. ⌜ answered (facilityAt (decode (now (image .entry))) n .name) r ≡ L.facility (now (image .entry)) n ⌝ }
+{
+    if !passed {
+        return Looked::Refused(NO_IMAGE);
+    }
+    let facilities = sections::section(image, 0, 13);
+    if facilities.len() / 13 <= n as usize {
+        return Looked::Refused(NO_SUCH);
+    }
+    Looked::Declared(facilities::facility_at(facilities, n as usize))
+}

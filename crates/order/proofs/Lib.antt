@@ -1,0 +1,5 @@
+pub mod DeclaredLaws
+pub mod HoldsLaws
+pub mod RunLaws
+pub mod StartLaws
+pub mod TreeLaws

@@ -1,0 +1,3 @@
+pub mod Edges
+pub mod Holds
+pub mod Shapes

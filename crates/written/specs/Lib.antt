@@ -1,0 +1,7 @@
+pub mod Again
+pub mod Back
+pub mod Exact
+pub mod Names
+pub mod Rows
+pub mod Running
+pub mod Whole
