@@ -13,7 +13,7 @@ use Rattle.language.specs.Tree.{Name}
 use Rattle.image.proofs.DescribedLaws.{facility-described}
 use Rattle.image.specs.Declarations.{facilityIn}
 use Rattle.image.specs.Names.{facilityPart, named}
-use Rattle.written.specs.Exact.{begins-passes, begins-read, passes-begins}
+use Rattle.written.specs.Begins.{begins-passes, begins-read, passes-begins}
 use Rattle.written.specs.Whole.{decode-encode}
 use Rattle.exact.specs.Legal.{Plain}
 use Rattle.exact.specs.Ranges.{in-range}

@@ -1,8 +1,12 @@
-pub mod Acts
-pub mod CheckExact
+-- From judgements to ranges. Read CheckExact; the rest leads to it.
+
+-- ---- Trees and runs that are judged fine: every record is sane, and there are few for what they count.
 pub mod Counted
-pub mod Covered
+pub mod Trees
 pub mod Fine
+pub mod Acts
+pub mod Covered
+-- ---- A description in legal form.
 pub mod Legal
 pub mod Ranges
-pub mod Trees
+pub mod CheckExact

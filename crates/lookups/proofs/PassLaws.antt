@@ -12,7 +12,7 @@ use Rattle.image.proofs.DescribedLaws.{facilities-count, states-count}
 use Rattle.image.proofs.ImageLaws.{Sized, header-sized}
 use Rattle.image.specs.Header.{countsIn}
 use Rattle.written.specs.Back.{InRange}
-use Rattle.written.specs.Exact.{passes-begins}
+use Rattle.written.specs.Begins.{passes-begins}
 use Rattle.written.specs.Whole.{found, right-header}
 use Rattle.order.proofs.HoldsLaws.{facilities-held}
 use Rattle.order.specs.Holds.{Facilities}

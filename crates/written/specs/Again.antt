@@ -183,31 +183,6 @@ module _ (x : Sections) where
       state-right s b n (named (statePart (x .facilities) (length (x .facilities) / 13) (x .operations) (length (x .operations) / 5) s n) (x .names)) q (state-long n q g)
       ∙ ap stateRecord (sym (state-described x n)))
 
-  -- ---- And what is the same as it is written has right records.
-
-  pub node-right : (n : ℕ) → n < length (x .expressions) / 8 → x .expressions ≡ concat nodeBytes (described x .expressions)
-      → take 8 (drop (8 * n) (x .expressions)) ≡ nodeBytes (nodeOf (x .expressions) n)
-  unfolding nodeAt
-  node-right n h e =
-      let k = expressions-count x in
-      ap (λ (s : List ℕ). take 8 (drop (8 * n) s)) e ∙ row-at nodeBytes 8 node-length (described x .expressions) n D.Node.broken (omega arith)
-      ∙ ap nodeBytes (node-described x n)
-
-  pub action-right : (n : ℕ) → n < length (x .actions) / 7 → x .actions ≡ concat actionBytes (described x .actions)
-      → take 7 (drop (7 * n) (x .actions)) ≡ actionBytes (actionOf (x .actions) n)
-  unfolding actionAt
-  action-right n h e =
-      let k = actions-count x in
-      ap (λ (s : List ℕ). take 7 (drop (7 * n) s)) e ∙ row-at actionBytes 7 action-length (described x .actions) n D.Action.broken (omega arith)
-      ∙ ap actionBytes (action-described x n)
-
-  pub facility-right : (n : ℕ) → n < length (x .facilities) / 13 → x .facilities ≡ facilityRecords 0 (described x .facilities)
-      → take 13 (drop (13 * n) (x .facilities)) ≡ facilityRecord (placeIn (described x .facilities) n) (facilityAt (described x) n)
-  unfolding facilityAt
-  facility-right n h e =
-      let k = facilities-count x in
-      ap (λ (s : List ℕ). take 13 (drop (13 * n) s)) e ∙ facilities-at (described x .facilities) n (omega arith)
-
   -- The records then say as much of names as there is.
   pub names-exact : x ≡ sectionsOf (described x) → allNames ≡ length (x .names)
   unfolding sectionsOf nameBytes

@@ -1,6 +1,6 @@
 pub mod Again
 pub mod Back
-pub mod Exact
+pub mod Begins
 pub mod Names
 pub mod Rows
 pub mod Running

@@ -2,17 +2,18 @@
 use mathlib.Core.Bool.{Bool, true, false, cond, true≢false}
 use mathlib.Core.List.{List, _++_}
 use mathlib.Core.Path.{_≡_, refl, sym, ap, _∙_}
-use Prim.Native.Nat.{ℕ, _^_, _<_, _≤_}
+use Prim.Native.Nat.{ℕ, _*_, _/_, _^_, _<_, _≤_}
 use native.Mathlib.Omega.{arith}
 use borrow.Author.Tests.{le-leb, leb-true}
 use lib.Dec.{leb}
-use lib.ListN.{length, take, length-append, length-take}
+use lib.ListN.{drop, length, take, length-append, length-take}
 use lib.Seq.{length-take-le, take-at, take-take}
-use Rattle.language.specs.Decode.{decode, described, sectionsIn}
-use Rattle.language.specs.Description.{Description}
-use Rattle.language.specs.Encode.{Sections, actionBytes, encode, imageOf, nameBytes, nodeBytes, operationRecord, sectionsOf, stateRecord}
+use Rattle.language.specs.Decode.{actionOf, decode, described, nodeOf, sectionsIn}
+use Rattle.language.specs.Description.{Description, facilityAt}
+use Rattle.language.specs.Encode.{Sections, actionBytes, encode, facilityRecord, imageOf, nameBytes, nodeBytes, operationRecord, sectionsOf, stateRecord}
 use Rattle.language.specs.Image.{legalForm, passes, totalLength}
 use Rattle.language.specs.Judging.{both}
+use Rattle.language.specs.Layout.{placeIn}
 use Rattle.language.specs.RecordBytes.{fours}
 use Rattle.language.specs.Scan.{same}
 use Rattle.records.proofs.ActionLaws.{action-length}
@@ -23,6 +24,7 @@ use Rattle.image.proofs.ImageLaws.{Sized, bodyOf, header-complete, header-sized
 use Rattle.image.proofs.WrittenDeclarations.{operation-length, state-length}
 use Rattle.image.specs.Header.{countsIn, headerNumbers, headerRight, totalOf}
 use Rattle.image.specs.declared.header.Counts.{Counts}
+use Rattle.written.specs.Again.{Bytes, actions-again, allNames, expressions-again, facilities-again, names-again, operations-again, states-again}
 use Rattle.written.specs.Back.{InRange, sections-back}
 use Rattle.written.specs.Rows.{facilities-length, row-length}
 
@@ -141,6 +143,28 @@ same-sections x e0 =
     let e4 = both-right e (both a s) e3 in
     made-same (same-true _ _ (both-left n _ e0)) (same-true _ _ (both-left f _ e1)) (same-true _ _ (both-left o _ e2)) (same-true _ _ (both-left e _ e3))
     (same-true _ _ (both-left a _ e4)) (same-true _ _ (both-right a s e4))
+
+-- Sections in which every record is right, and whose records say as much of names as there is.
+pub record RecordsRight (x : Sections) : Type 0 where
+  pub whole-facilities : length (x .facilities) ≡ 13 * (length (x .facilities) / 13)
+  pub whole-operations : length (x .operations) ≡ 5 * (length (x .operations) / 5)
+  pub whole-expressions : length (x .expressions) ≡ 8 * (length (x .expressions) / 8)
+  pub whole-actions : length (x .actions) ≡ 7 * (length (x .actions) / 7)
+  pub whole-states : length (x .states) ≡ 7 * (length (x .states) / 7)
+  pub facilities : (n : ℕ) → n < length (x .facilities) / 13
+      → take 13 (drop (13 * n) (x .facilities)) ≡ facilityRecord (placeIn (described x .facilities) n) (facilityAt (described x) n)
+  pub operations : Bytes (x .operations)
+  pub expressions : (n : ℕ) → n < length (x .expressions) / 8 → take 8 (drop (8 * n) (x .expressions)) ≡ nodeBytes (nodeOf (x .expressions) n)
+  pub actions : (n : ℕ) → n < length (x .actions) / 7 → take 7 (drop (7 * n) (x .actions)) ≡ actionBytes (actionOf (x .actions) n)
+  pub states : Bytes (x .states)
+  pub names : allNames x ≡ length (x .names)
+
+-- They are those that are written of what they describe.
+pub sections-again : (x : Sections) → RecordsRight x → x ≡ sectionsOf (described x)
+unfolding sectionsOf
+sections-again x r =
+    made-same (names-again x (r .names)) (facilities-again x (r .whole-facilities) (r .facilities)) (operations-again x (r .whole-operations) (r .operations) (omega (arith, r .names)))
+    (expressions-again x (r .whole-expressions) (r .expressions)) (actions-again x (r .whole-actions) (r .actions)) (states-again x (r .whole-states) (r .states) (omega (arith, r .names)))
 
 pub sections-same : (x : Sections) → x ≡ sectionsOf (described x) → sectionsSame x ≡ true
 unfolding sectionsSame

@@ -1,4 +1,4 @@
--- The check is exact: those images pass that begin with what is written of a description in legal form.
+-- Images that begin with what is written of a description: those that pass do, and those of a description in range pass.
 use mathlib.Core.Bool.{true}
 use mathlib.Core.List.{List}
 use mathlib.Core.Path.{_≡_, sym, _∙_}
