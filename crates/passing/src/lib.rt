@@ -1,0 +1,1 @@
+// What passes the check, in terms of texts: theorems over the definitions alone.
