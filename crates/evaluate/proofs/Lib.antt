@@ -1,0 +1,2 @@
+pub mod ArmLaws
+pub mod BoundLaws

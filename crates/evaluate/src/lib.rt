@@ -1,0 +1,6 @@
+// What expressions are worth and which places references name, from the records of a description and the bytes of a store.
+pub mod arms;
+pub mod bounds;
+pub mod places;
+pub mod reading;
+pub mod worth;
