@@ -1,7 +1,9 @@
 -- What the code's places, subscripts and arms mean in the language.
 use mathlib.Core.Option.{Option, none, some}
 use Prim.Native.Nat.{ℕ}
+use Rattle.language.specs.Description.{Description}
 use Rattle.language.specs.Meaning as M
+use Rattle.language.specs.Meaning.{Answer, Stores}
 use Rattle.language.specs.References as R
 use Rattle.records.specs.declared.nodes.Node.{Node}
 use Rattle.records.specs.declared.nodes.Node.the-variants as N
@@ -16,6 +18,8 @@ use Rattle.evaluate.specs.declared.places.Located.the-variants as L
 use Rattle.evaluate.specs.declared.places.Place.{Place}
 use Rattle.evaluate.specs.declared.places.Subscripts.{Subscripts}
 use Rattle.evaluate.specs.declared.places.Subscripts.the-variants as S
+use Rattle.evaluate.specs.declared.references.Reference.{Reference}
+use Rattle.evaluate.specs.declared.references.Reference.the-variants as T
 
 abbrev pub placeMeant : Place → M.Place
 placeMeant p = M.place (p .facility) (p .word) (p .from) (p .count)
@@ -58,3 +62,15 @@ armExpression (N.FirstArm e) = some e
 armExpression (N.NextArm a e) = some e
 armExpression (N.Choice e a n) = none
 armExpression N.Broken = none
+
+abbrev pub refersTo : ℕ → Subscripts → R.Reference
+refersTo f s = record { facility = f; subscripts = subscriptsMeant s }
+
+abbrev pub referenceMeant : Reference → Option R.Reference
+referenceMeant (T.To f s) = some (refersTo f s)
+referenceMeant T.None = none
+
+-- What a reference is worth, and what is no reference.
+abbrev pub referred : {X : Type 0} → Stores X → Description → X → (ℕ → Answer) → Option R.Reference → Answer
+referred S d x ev none = M.Answer.stuck M.wrongRecord
+referred S d x ev (some r) = M.operand S d x ev (r .facility) (r .subscripts)

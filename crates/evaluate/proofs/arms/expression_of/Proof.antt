@@ -13,16 +13,13 @@ returns : tie.Need-returns
 returns c =
     rw (c .before .node .given .1)
 
-
 returns-2 : tie.Need-returns-2
 returns-2 c =
     rw (c .before .node2 .given .1)
 
-
 returns-3 : tie.Need-returns-3
 returns-3 c =
     no-expression (c .before .args .node) (c .match .keys3)
-
 
 pub expression-of-spec : {M : Type 1} → statement M
 expression-of-spec =

@@ -21,12 +21,10 @@ unfolding fromFirst
 returns c =
     rw (le-leb _ _ (c .before .before .if1 .taken)) (c .minus .ensures)
 
-
 returns-2 : tie.Need-returns-2
 unfolding fromFirst
 returns-2 c =
     rw (lt-leb _ _ (c .before .before .if1 .left)) (c .minus2 .ensures)
-
 
 pub from-first-spec : {M : Type 1} → statement M
 from-first-spec =

@@ -15,12 +15,10 @@ unfolding inBounds
 returns c =
     rw (le-leb _ _ (c .before .if1 .taken)) (c .between .ensures)
 
-
 returns-2 : tie.Need-returns-2
 unfolding inBounds
 returns-2 c =
     rw (lt-leb _ _ (c .before .if1 .left)) (c .between2 .ensures)
-
 
 pub in-bounds-spec : {M : Type 1} → statement M
 in-bounds-spec = tie.close (tie.spec between-requires between-requires-2 returns returns-2)

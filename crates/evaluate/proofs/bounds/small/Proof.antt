@@ -25,7 +25,6 @@ returns c =
     let f = c .before .low64 .ensures in
     omega arith
 
-
 returns-2 : tie.Need-returns-2
 returns-2 c = search needs
 
@@ -34,7 +33,6 @@ returns-3 c =
     let x = number (c .before .before .args .v .limbs) in
     let h : 2 ^ 64 ≤ x = ltb-false x (2 ^ 64) (sym (c .before .fits64 .ensures) ∙ c .if1 .left) in
     omega arith
-
 
 pub small-spec : {M : Type 1} → statement M
 small-spec =

@@ -16,7 +16,6 @@ returns : tie.Need-returns
 returns c =
     rw (sym (c .before .in-bounds .ensures) ∙ not-true _ (c .if1 .taken))
 
-
 cast-in-bounds-2 : tie.Need-cast-in-bounds-2
 cast-in-bounds-2 c = search needs
 
@@ -27,14 +26,12 @@ returns-2 : tie.Need-returns-2
 returns-2 c =
     rw (sym (c .before .before .before .before .in-bounds .ensures) ∙ not-false _ (c .before .before .before .if1 .left), sym (c .before .in-bounds2 .ensures) ∙ not-true _ (c .if2 .taken))
 
-
 same-direction-requires : tie.Need-same-direction-requires
 same-direction-requires c κs = search needs
 
 returns-3 : tie.Need-returns-3
 returns-3 c =
     rw (sym (c .before .before .before .before .before .before .in-bounds .ensures) ∙ not-false _ (c .before .before .before .before .before .if1 .left), sym (c .before .before .before .in-bounds2 .ensures) ∙ not-false _ (c .before .before .if2 .left), sym (c .before .same-direction .ensures) ∙ not-true _ (c .if3 .taken))
-
 
 cast-from-first : tie.Need-cast-from-first
 cast-from-first c = search needs
@@ -48,7 +45,6 @@ cast-narrow c =
     let e = c .from-first .ensures in
     omega arith
 
-
 span-requires : tie.Need-span-requires
 span-requires c κs = search needs
 
@@ -58,7 +54,6 @@ narrow-requires c κs = search needs
 returns-4 : tie.Need-returns-4
 returns-4 c =
     rw (sym (c .before .before .before .before .before .before .before .before .before .before .in-bounds .ensures) ∙ not-false _ (c .before .before .before .before .before .before .before .before .before .if1 .left), sym (c .before .before .before .before .before .before .before .in-bounds2 .ensures) ∙ not-false _ (c .before .before .before .before .before .before .if2 .left), sym (c .before .before .before .before .before .same-direction .ensures) ∙ not-false _ (c .before .before .before .before .if3 .left), ← (c .before .before .from-first .ensures), ← (c .before .span .ensures .0)) (c .narrow .ensures)
-
 
 pub constant-part-spec : {M : Type 1} → statement M
 constant-part-spec =

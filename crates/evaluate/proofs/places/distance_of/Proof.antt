@@ -20,16 +20,13 @@ cast-t6 c =
     let e = c .from-first .ensures in
     omega arith
 
-
 returns : tie.Need-returns
 returns c =
     λ on. ap on (c .from-first .ensures) ∙ distance-in _ (omega arith) (omega arith) _ _ (c .before .before .before .small .ensures) on _ (sym (c .before .before .in-bounds .ensures) ∙ c .before .if1 .taken)
 
-
 returns-2 : tie.Need-returns-2
 returns-2 c =
     λ on. distance-out _ (omega arith) (omega arith) _ _ (c .before .before .small .ensures) on _ (sym (c .before .in-bounds .ensures) ∙ c .if1 .left)
-
 
 pub distance-of-spec : {M : Type 1} → statement M
 distance-of-spec =

@@ -9,7 +9,6 @@ unfolding longest
 returns c =
     rw (lt-leb _ _ (c .if1 .taken))
 
-
 cast-t8 : tie.Need-cast-t8
 cast-t8 c = search needs
 
@@ -17,7 +16,6 @@ returns-2 : tie.Need-returns-2
 unfolding longest
 returns-2 c =
     rw (le-leb _ _ (c .if1 .left))
-
 
 pub narrow-spec : {M : Type 1} → statement M
 narrow-spec = tie.close (tie.spec returns cast-t8 returns-2)

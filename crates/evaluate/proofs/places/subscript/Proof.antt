@@ -18,16 +18,13 @@ returns : tie.Need-returns
 returns c =
     λ on. rw (c .before .before .enum-told .given .1) (c .distance-of .ensures on)
 
-
 returns-2 : tie.Need-returns-2
 returns-2 c =
     λ on. rw (c .before .outcome .given .1)
 
-
 returns-3 : tie.Need-returns-3
 returns-3 c =
     λ on. rw (c .before .outcome2 .given .1)
-
 
 pub subscript-spec : {M : Type 1} → statement M
 subscript-spec =

@@ -18,16 +18,13 @@ returns : tie.Need-returns
 returns c =
     rw (c .before .before .d .given .1) (c .narrow .ensures)
 
-
 returns-2 : tie.Need-returns-2
 returns-2 c =
     rw (c .before .d2 .given .1)
 
-
 returns-3 : tie.Need-returns-3
 returns-3 c =
     rw (c .before .d3 .given .1)
-
 
 pub word-spec : {M : Type 1} → statement M
 word-spec =

@@ -24,7 +24,6 @@ returns : tie.Need-returns
 returns c =
     λ d x name. rw (c .before .before .before .before .before .before .enum-told .given .1, eq-eqb _ _ (c .before .before .if1 .taken ∙ c .before .before .before .word-length .ensures name)) (c .is .ensures ∙ ap M.Answer.is (c .before .taken .ensures))
 
-
 sticks-requires : tie.Need-sticks-requires
 sticks-requires c κs = search needs
 
@@ -38,16 +37,13 @@ returns-2 : tie.Need-returns-2
 returns-2 c =
     λ d x name. rw (c .before .before .before .before .before .enum-told .given .1, ne-eqb _ _ (λ e. c .before .if1 .left (e ∙ sym (c .before .before .word-length .ensures name)))) (c .sticks .ensures)
 
-
 returns-3 : tie.Need-returns-3
 returns-3 c =
     λ d x name. rw (c .enum-told2 .given .1)
 
-
 returns-4 : tie.Need-returns-4
 returns-4 c =
     λ d x name. rw (c .enum-told3 .given .1)
-
 
 pub of-computed-spec : {M : Type 1} → statement M
 of-computed-spec =

@@ -32,7 +32,6 @@ returns : tie.Need-returns
 returns c =
     ap (L.value (c .before .before .before .before .before .before .before .before .args .p .count)) (c .low .ensures ∙ rw (c .before .before .right .ensures, c .before .before .before .minus .ensures))
 
-
 pub taken-spec : {M : Type 1} → statement M
 taken-spec =
     tie.close
