@@ -1,11 +1,10 @@
 -- The arms of a conditional expression, record by record.
 use mathlib.Core.List.{List, [], _∷_}
-use mathlib.Core.Option.{Option, none, some}
-use mathlib.Core.Path.{_≡_, refl, sym, ap, _∙_}
+use mathlib.Core.Option.{Option, none}
+use mathlib.Core.Path.{_≡_, refl}
 use Prim.Native.Nat.{ℕ, suc}
 use denote.Enum.Declared.{tagOf}
 use types.Run.{OneOf, miss}
-use Rattle.language.specs.Description as D
 use Rattle.language.specs.Description.{Description, nodeAt}
 use Rattle.language.specs.Meaning.{armBack, armHere}
 use Rattle.records.proofs.nodes.Node.{the-type}

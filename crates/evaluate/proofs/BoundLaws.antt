@@ -4,7 +4,7 @@ use mathlib.Core.Option.{none, some}
 use mathlib.Core.Path.{_≡_, refl, sym, ap, _∙_}
 use Prim.Native.Nat.{ℕ, _-_, _≤_, _<_, min}
 use native.Mathlib.Omega.{arith}
-use borrow.Author.Tests.{eq-eqb, le-ltb, leb-false, leb-true, lt-leb, lt-ltb, ltb-false, ltb-true, ne-eqb}
+use borrow.Author.Tests.{eq-eqb, le-ltb, lt-leb, lt-ltb, ltb-false, ltb-true, ne-eqb}
 use lib.Dec.{leb, ltb}
 use Rattle.language.specs.Description.{Bounds, fromFirst, inBounds}
 use Rattle.language.specs.Meaning.{armNumber}

@@ -2,13 +2,13 @@
 use mathlib.Core.List.{List, [], _∷_}
 use mathlib.Core.Option.{none}
 use mathlib.Core.Path.{_≡_, refl, sym, ap, _∙_}
-use Prim.Native.Nat.{ℕ, _%_, _^_, _<_, _≤_}
+use Prim.Native.Nat.{ℕ, _^_, _<_, _≤_}
 use native.Mathlib.Nat.{mod-eq-of-lt}
 use denote.Enum.Declared.{tagOf}
 use types.Run.{OneOf, miss}
 use Rattle.language.specs.Decode.{nodeOf}
 use Rattle.language.specs.Description as D
-use Rattle.language.specs.Description.{Description, constantValue, nodeAt}
+use Rattle.language.specs.Description.{Description, nodeAt}
 use Rattle.language.specs.Meaning.{Answer, Stores, evalAt, evalBelow, evalNode, evalStep, notBefore}
 use Rattle.language.specs.Recursion.{below-ge, below-lt}
 use Rattle.language.specs.References.{referenceOf}

@@ -3,3 +3,4 @@ pub mod BoundLaws
 pub mod EvalLaws
 pub mod PlaceLaws
 pub mod SectionLaws
+pub mod SideLaws

@@ -5,6 +5,7 @@ use crate::bounds;
 use crate::places;
 use crate::places::Distance;
 use crate::places::Located;
+use crate::places::Place;
 use crate::places::Subscripts;
 use crate::reading;
 use crate::references;
@@ -14,31 +15,35 @@ use crate::worth::Outcome;
 use crate::worth::Stuck;
 use crate::worth::Worth;
 use image::facilities;
+use image::facilities::Bounds;
 use image::facilities::Facility;
 use records::constants;
 use records::nodes;
 use records::nodes::Node;
 use value::lengths;
 ghost use mathlib.Core.Path.{_≡_};
+ghost use Rattle.language.specs.Acting.{side};
 ghost use Rattle.language.specs.Meaning as M;
 ghost use Rattle.language.specs.Meaning.{evalAt, evalBelow, placeOf};
 ghost use Rattle.language.specs.Operators.{binaryOf};
 ghost use Rattle.language.specs.References.{referenceOf};
 ghost use Rattle.language.specs.Tree.{Name};
-ghost use Rattle.image.specs.Declarations.{FacilityRead, facilityMeant};
+ghost use Rattle.image.specs.Declarations.{boundsMeant, facilityMeant};
 ghost use Rattle.records.specs.Nodes.{meant};
 ghost use Rattle.store.specs.InBytes.{bytes};
 ghost use Rattle.evaluate.specs.Described.{ForEach};
-ghost use Rattle.evaluate.specs.Places.{foundMeant, locatedMeant, referred, refersTo, subscriptsMeant};
+ghost use Rattle.evaluate.specs.Places.{foundMeant, locatedMeant, onDistance, referred, refersTo, subscriptsMeant};
+ghost use Rattle.evaluate.specs.Sides.{SideRead, SideThere, sideMeant};
 ghost use Rattle.evaluate.specs.Worth.{answered};
 
 // A CASE value without an arm.
 const NO_ARM: u8 = 8;
 
-// A reference's facility, and the place that it names.
-pub struct Side {
-    pub facility: Facility,
-    pub located: Located,
+// The facility that a reference names and the place in it, or why there is none.
+pub enum Side {
+    At(Facility, Place),
+    Stops(u8),
+    Stuck(Stuck),
 }
 
 // The place that subscripts name.
@@ -68,19 +73,35 @@ fn located(
         Subscripts::Part(x) => places::constant_part(number, 0, bits, x),
         Subscripts::Two(e, g) => {
             let at = places::subscript(part(section, expressions, store, n, e), words);
-            match at {
-                Distance::At(w) => {
-                    let b = part(section, expressions, store, n, g);
-                    places::bit(number, w, places::subscript(b, bits))
-                }
-                Distance::Stops(k) => Located::Stops(k),
-                Distance::Stuck(k) => Located::Stuck(k),
-            }
+            bit_of_word(section, expressions, store, n, number, at, g, bits)
         }
         Subscripts::WordPart(e, x) => {
             let at = places::subscript(part(section, expressions, store, n, e), words);
             places::part_of_word(number, at, bits, x)
         }
+    }
+}
+
+// One bit of a computed word; its subscript is worked out where there is such a word.
+fn bit_of_word(
+    section: &[u8],
+    expressions: &[u8],
+    store: &[u8],
+    n: usize,
+    number: u8,
+    at: Distance,
+    e: u16,
+    bits: Bounds,
+) -> Located
+    ensures { λ r. ⌜ ForEach (now (section .entry)) (now (expressions .entry)) (now (store .entry)) (λ d x. locatedMeant r ≡ onDistance at (λ w. M.subscript (evalBelow (bytes d) d x n e) (boundsMeant bits) (λ b. M.narrow (M.place number w b 1)))) ⌝ }
+{
+    match at {
+        Distance::At(w) => {
+            let b = part(section, expressions, store, n, e);
+            places::bit(number, w, places::subscript(b, bits))
+        }
+        Distance::Stops(k) => Located::Stops(k),
+        Distance::Stuck(k) => Located::Stuck(k),
     }
 }
 
@@ -93,25 +114,19 @@ pub fn place_of(
     number: u8,
     s: Subscripts,
 ) -> Side
-    ensures { λ r. ⌜ FacilityRead (now (section .entry)) number (r .facility) × ForEach (now (section .entry)) (now (expressions .entry)) (now (store .entry)) (λ d x. locatedMeant (r .located) ≡ placeOf d (evalBelow (bytes d) d x n) (refersTo number s)) ⌝ }
+    ensures { λ r. ⌜ SideRead (now (section .entry)) number r × ForEach (now (section .entry)) (now (expressions .entry)) (now (store .entry)) (λ d x. sideMeant r ≡ placeOf d (evalBelow (bytes d) d x n) (refersTo number s)) ⌝ }
 {
     let f = facilities::facility_at(section, number as usize);
     if section.len() / 13 <= number as usize {
-        return Side {
-            facility: f,
-            located: Located::Stuck(Stuck::NoFacility),
-        };
+        return Side::Stuck(Stuck::NoFacility);
     }
     if !places::right_count(f.dimensions, s) {
-        return Side {
-            facility: f,
-            located: Located::Stuck(Stuck::WrongSubscripts),
-        };
+        return Side::Stuck(Stuck::WrongSubscripts);
     }
-    let at = located(section, expressions, store, n, number, f, s);
-    Side {
-        facility: f,
-        located: at,
+    match located(section, expressions, store, n, number, f, s) {
+        Located::At(p) => Side::At(f, p),
+        Located::Stops(k) => Side::Stops(k),
+        Located::Stuck(k) => Side::Stuck(k),
     }
 }
 
@@ -126,11 +141,8 @@ fn operand(
 ) -> Worth
     ensures { λ r. ⌜ ForEach (now (section .entry)) (now (expressions .entry)) (now (store .entry)) (λ d x. answered r ≡ M.operand (bytes d) d x (evalBelow (bytes d) d x n) number (subscriptsMeant s)) ⌝ }
 {
-    let side = place_of(section, expressions, store, n, number, s);
-    let f = side.facility;
-    let at = side.located;
-    match at {
-        Located::At(p) => {
+    match place_of(section, expressions, store, n, number, s) {
+        Side::At(f, p) => {
             let kind = f.kind;
             if facilities::is_computed(kind) {
                 let w = part(section, expressions, store, n, f.place);
@@ -138,8 +150,8 @@ fn operand(
             }
             reading::of_stored(store, f, p)
         }
-        Located::Stops(k) => worth::stops(k),
-        Located::Stuck(k) => worth::sticks(k),
+        Side::Stops(k) => worth::stops(k),
+        Side::Stuck(k) => worth::sticks(k),
     }
 }
 
@@ -248,5 +260,15 @@ fn part(section: &[u8], expressions: &[u8], store: &[u8], n: usize, a: u16) -> W
         eval(section, expressions, store, a as usize)
     } else {
         worth::sticks(Stuck::NotBefore)
+    }
+}
+
+// The place that the left side at record n names.
+pub fn left_side(section: &[u8], expressions: &[u8], store: &[u8], n: usize) -> Side
+    ensures { λ r. ⌜ ForEach (now (section .entry)) (now (expressions .entry)) (now (store .entry)) (λ d x. (sideMeant r ≡ side (bytes d) d x n) × SideThere d (now (section .entry)) r) ⌝ }
+{
+    match references::reference_of(nodes::node_at(expressions, n)) {
+        Reference::To(number, s) => place_of(section, expressions, store, n, number, s),
+        Reference::None => Side::Stuck(Stuck::WrongRecord),
     }
 }

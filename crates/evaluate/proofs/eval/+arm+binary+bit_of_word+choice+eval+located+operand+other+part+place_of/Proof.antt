@@ -1,17 +1,18 @@
+use mathlib.Core.List.{List}
+use mathlib.Core.Option.{some}
+use mathlib.Core.Path.{_≡_, refl, sym, ap, _∙_}
+use borrow.Author.Tests.{eq-eqb, ne-eqb, not-false, not-true}
 use lib.ListN.{length}
 use Rattle.language.specs.Description as D
 use Rattle.language.specs.Description.{constantValue}
-use Rattle.language.specs.Value as L
-use mathlib.Core.Path.{_≡_, refl, sym, ap, _∙_}
-use mathlib.Core.List.{List}
-use mathlib.Core.Option.{Option, some}
-use borrow.Author.Tests.{eq-eqb, ne-eqb, not-false, not-true}
 use Rattle.language.specs.Meaning as M
 use Rattle.language.specs.Meaning.{armBack, evalBelow, evalNode}
-use Rattle.records.specs.Nodes.{constantNumber, held, meant}
-use Rattle.image.specs.Declarations.{facilityMeant}
+use Rattle.language.specs.Value as L
+use Rattle.records.specs.Nodes.{constantNumber, held}
+use Rattle.image.specs.Declarations.{FacilityRead, facilityMeant}
 use Rattle.store.specs.InBytes.{bytes, loadBytes}
 use Rattle.evaluate.specs.Places.{foundMeant, locatedMeant, placeMeant, referenceMeant, refersTo}
+use Rattle.evaluate.specs.Sides.{sideMeant}
 use Rattle.evaluate.proofs.EvalLaws.{eval-before, eval-node, eval-not-before, held-whole, node-read, other-worth}
 use Rattle.evaluate.proofs.PlaceLaws.{computed-read, facility-known, nameOf, no-facility, place-of-facility, place-there, right-subscripts, stored-load, stored-read, wrong-subscripts}
 use Prim.Native.Nat.{ℕ, _+_, _*_, _<_}
@@ -20,31 +21,34 @@ use borrow.Fn.Kinds.{In}
 use borrow.Fn.PlainCycle.{Measures, is, falls, and}
 use Rattle.evaluate.proofs.eval.arm.Reads as arm
 use Rattle.evaluate.proofs.eval.arm.Kinds as arm-kinds
-use Rattle.evaluate.proofs.eval.+arm+binary+choice+eval+located+operand+other+part+place_of.Lts-arm as arm-lts
+use Rattle.evaluate.proofs.eval.+arm+binary+bit_of_word+choice+eval+located+operand+other+part+place_of.Lts-arm as arm-lts
 use Rattle.evaluate.proofs.eval.binary.Reads as binary
 use Rattle.evaluate.proofs.eval.binary.Kinds as binary-kinds
-use Rattle.evaluate.proofs.eval.+arm+binary+choice+eval+located+operand+other+part+place_of.Lts-binary as binary-lts
+use Rattle.evaluate.proofs.eval.+arm+binary+bit_of_word+choice+eval+located+operand+other+part+place_of.Lts-binary as binary-lts
+use Rattle.evaluate.proofs.eval.bit_of_word.Reads as bit-of-word
+use Rattle.evaluate.proofs.eval.bit_of_word.Kinds as bit-of-word-kinds
+use Rattle.evaluate.proofs.eval.+arm+binary+bit_of_word+choice+eval+located+operand+other+part+place_of.Lts-bit_of_word as bit-of-word-lts
 use Rattle.evaluate.proofs.eval.choice.Reads as choice
 use Rattle.evaluate.proofs.eval.choice.Kinds as choice-kinds
-use Rattle.evaluate.proofs.eval.+arm+binary+choice+eval+located+operand+other+part+place_of.Lts-choice as choice-lts
+use Rattle.evaluate.proofs.eval.+arm+binary+bit_of_word+choice+eval+located+operand+other+part+place_of.Lts-choice as choice-lts
 use Rattle.evaluate.proofs.eval.eval.Reads as eval
 use Rattle.evaluate.proofs.eval.eval.Kinds as eval-kinds
-use Rattle.evaluate.proofs.eval.+arm+binary+choice+eval+located+operand+other+part+place_of.Lts-eval as eval-lts
+use Rattle.evaluate.proofs.eval.+arm+binary+bit_of_word+choice+eval+located+operand+other+part+place_of.Lts-eval as eval-lts
 use Rattle.evaluate.proofs.eval.located.Reads as located
 use Rattle.evaluate.proofs.eval.located.Kinds as located-kinds
-use Rattle.evaluate.proofs.eval.+arm+binary+choice+eval+located+operand+other+part+place_of.Lts-located as located-lts
+use Rattle.evaluate.proofs.eval.+arm+binary+bit_of_word+choice+eval+located+operand+other+part+place_of.Lts-located as located-lts
 use Rattle.evaluate.proofs.eval.operand.Reads as operand
 use Rattle.evaluate.proofs.eval.operand.Kinds as operand-kinds
-use Rattle.evaluate.proofs.eval.+arm+binary+choice+eval+located+operand+other+part+place_of.Lts-operand as operand-lts
+use Rattle.evaluate.proofs.eval.+arm+binary+bit_of_word+choice+eval+located+operand+other+part+place_of.Lts-operand as operand-lts
 use Rattle.evaluate.proofs.eval.other.Reads as other
 use Rattle.evaluate.proofs.eval.other.Kinds as other-kinds
-use Rattle.evaluate.proofs.eval.+arm+binary+choice+eval+located+operand+other+part+place_of.Lts-other as other-lts
+use Rattle.evaluate.proofs.eval.+arm+binary+bit_of_word+choice+eval+located+operand+other+part+place_of.Lts-other as other-lts
 use Rattle.evaluate.proofs.eval.part.Reads as part
 use Rattle.evaluate.proofs.eval.part.Kinds as part-kinds
-use Rattle.evaluate.proofs.eval.+arm+binary+choice+eval+located+operand+other+part+place_of.Lts-part as part-lts
+use Rattle.evaluate.proofs.eval.+arm+binary+bit_of_word+choice+eval+located+operand+other+part+place_of.Lts-part as part-lts
 use Rattle.evaluate.proofs.eval.place_of.Reads as place-of
 use Rattle.evaluate.proofs.eval.place_of.Kinds as place-of-kinds
-use Rattle.evaluate.proofs.eval.+arm+binary+choice+eval+located+operand+other+part+place_of.Lts-place_of as place-of-lts
+use Rattle.evaluate.proofs.eval.+arm+binary+bit_of_word+choice+eval+located+operand+other+part+place_of.Lts-place_of as place-of-lts
 use Rattle.evaluate.proofs.arms.arm_back.Reads as arm-back-reads
 use Rattle.evaluate.proofs.arms.arm_number.Reads as arm-number-reads
 use Rattle.evaluate.proofs.bounds.word_length.Reads as word-length-reads
@@ -69,12 +73,8 @@ use Rattle.image.proofs.facilities.is_computed.Reads as is-computed-reads
 use Rattle.records.proofs.constants.constant_at.Reads as constant-at-reads
 use Rattle.records.proofs.nodes.node_at.Reads as node-at-reads
 use Rattle.value.proofs.lengths.minus.Reads as minus-reads
-use Rattle.evaluate.proofs.eval.+arm+binary+choice+eval+located+operand+other+part+place_of.{
-  statement,
-}
-use Rattle.evaluate.proofs.eval.+arm+binary+choice+eval+located+operand+other+part+place_of.Tie.{
-  close,
-}
+use Rattle.evaluate.proofs.eval.+arm+binary+bit_of_word+choice+eval+located+operand+other+part+place_of.{statement}
+use Rattle.evaluate.proofs.eval.+arm+binary+bit_of_word+choice+eval+located+operand+other+part+place_of.Tie.{close}
 
 abbrev μ-arm : Measures 3 arm-kinds.ps ℕ
 μ-arm κs a = 8 * (a .1 .1 .1 .0) + 1
@@ -82,26 +82,29 @@ abbrev μ-arm : Measures 3 arm-kinds.ps ℕ
 abbrev μ-binary : Measures 3 binary-kinds.ps ℕ
 μ-binary κs a = 8 * (a .1 .1 .1 .0) + 1
 
+abbrev μ-bit-of-word : Measures 3 bit-of-word-kinds.ps ℕ
+μ-bit-of-word κs a = 8 * (a .1 .1 .1 .0) + 1
+
 abbrev μ-choice : Measures 3 choice-kinds.ps ℕ
 μ-choice κs a = 8 * (a .1 .1 .1 .0) + 2
 
 abbrev μ-eval : Measures 3 eval-kinds.ps ℕ
-μ-eval κs a = 8 * (a .1 .1 .1 .0) + 5
+μ-eval κs a = 8 * (a .1 .1 .1 .0) + 6
 
 abbrev μ-located : Measures 3 located-kinds.ps ℕ
-μ-located κs a = 8 * (a .1 .1 .1 .0) + 1
+μ-located κs a = 8 * (a .1 .1 .1 .0) + 2
 
 abbrev μ-operand : Measures 3 operand-kinds.ps ℕ
-μ-operand κs a = 8 * (a .1 .1 .1 .0) + 3
+μ-operand κs a = 8 * (a .1 .1 .1 .0) + 4
 
 abbrev μ-other : Measures 3 other-kinds.ps ℕ
-μ-other κs a = 8 * (a .1 .1 .1 .0) + 4
+μ-other κs a = 8 * (a .1 .1 .1 .0) + 5
 
 abbrev μ-part : Measures 3 part-kinds.ps ℕ
 μ-part κs a = 8 * (a .1 .1 .1 .0)
 
 abbrev μ-place-of : Measures 3 place-of-kinds.ps ℕ
-μ-place-of κs a = 8 * (a .1 .1 .1 .0) + 2
+μ-place-of κs a = 8 * (a .1 .1 .1 .0) + 3
 
 abbrev arm-at : ℕ → In 3 arm-kinds.ps
 arm-at t = and 3 arm-kinds.ps (is 3 arm-kinds.ps μ-arm t) arm.Pre
@@ -114,6 +117,14 @@ binary-at t = and 3 binary-kinds.ps (is 3 binary-kinds.ps μ-binary t) binary.Pr
 
 abbrev binary-below : ℕ → In 3 binary-kinds.ps
 binary-below t = and 3 binary-kinds.ps (falls 3 binary-kinds.ps _<_ μ-binary t) binary.Pre
+
+abbrev bit-of-word-at : ℕ → In 3 bit-of-word-kinds.ps
+bit-of-word-at t =
+    and 3 bit-of-word-kinds.ps (is 3 bit-of-word-kinds.ps μ-bit-of-word t) bit-of-word.Pre
+
+abbrev bit-of-word-below : ℕ → In 3 bit-of-word-kinds.ps
+bit-of-word-below t =
+    and 3 bit-of-word-kinds.ps (falls 3 bit-of-word-kinds.ps _<_ μ-bit-of-word t) bit-of-word.Pre
 
 abbrev choice-at : ℕ → In 3 choice-kinds.ps
 choice-at t = and 3 choice-kinds.ps (is 3 choice-kinds.ps μ-choice t) choice.Pre
@@ -164,6 +175,9 @@ arm-calls t = (stops-reads.Asked, stops-reads.Learnt, minus-reads.Asked, minus-r
 abbrev binary-calls : ℕ → binary-lts.Claims
 binary-calls t = (part-below t, part.Post, binary-reads.Asked, binary-reads.Learnt)
 
+abbrev bit-of-word-calls : ℕ → bit-of-word-lts.Claims
+bit-of-word-calls t = (part-below t, part.Post, subscript-reads.Asked, subscript-reads.Learnt, bit-reads.Asked, bit-reads.Learnt)
+
 abbrev choice-calls : ℕ → choice-lts.Claims
 choice-calls t = (part-below t, part.Post, arm-number-reads.Asked, arm-number-reads.Learnt, arm-below t, arm.Post)
 
@@ -171,7 +185,7 @@ abbrev eval-calls : ℕ → eval-lts.Claims
 eval-calls t = (node-at-reads.Asked, node-at-reads.Learnt, constant-at-reads.Asked, constant-at-reads.Learnt, is-reads.Asked, is-reads.Learnt, binary-below t, binary.Post, part-below t, part.Post, prefix-reads.Asked, prefix-reads.Learnt, cut-reads.Asked, cut-reads.Learnt, choice-below t, choice.Post, other-below t, other.Post)
 
 abbrev located-calls : ℕ → located-lts.Claims
-located-calls t = (word-length-reads.Asked, word-length-reads.Learnt, narrow-reads.Asked, narrow-reads.Learnt, part-below t, part.Post, subscript-reads.Asked, subscript-reads.Learnt, bit-reads.Asked, bit-reads.Learnt, word-reads.Asked, word-reads.Learnt, constant-part-reads.Asked, constant-part-reads.Learnt, part-of-word-reads.Asked, part-of-word-reads.Learnt)
+located-calls t = (word-length-reads.Asked, word-length-reads.Learnt, narrow-reads.Asked, narrow-reads.Learnt, part-below t, part.Post, subscript-reads.Asked, subscript-reads.Learnt, bit-reads.Asked, bit-reads.Learnt, word-reads.Asked, word-reads.Learnt, constant-part-reads.Asked, constant-part-reads.Learnt, bit-of-word-below t, bit-of-word.Post, part-of-word-reads.Asked, part-of-word-reads.Learnt)
 
 abbrev operand-calls : ℕ → operand-lts.Claims
 operand-calls t = (place-of-below t, place-of.Post, is-computed-reads.Asked, is-computed-reads.Learnt, part-below t, part.Post, of-computed-reads.Asked, of-computed-reads.Learnt, of-stored-reads.Asked, of-stored-reads.Learnt, stops-reads.Asked, stops-reads.Learnt, sticks-reads.Asked, sticks-reads.Learnt)
@@ -260,6 +274,36 @@ binary-returns-2 t c =
 binary-returns-3 : (t : ℕ) → binary-lts.Need-returns-3 (binary-calls t) (binary-at t) binary.Post
 binary-returns-3 t c =
     λ d x h e. rw (← (c .before .before .part .ensures d x h e), c .enum-told3 .given .1)
+
+bit-of-word-enum-known-at : (t : ℕ) → bit-of-word-lts.Need-enum-known-at (bit-of-word-calls t) (bit-of-word-at t) bit-of-word.Post
+bit-of-word-enum-known-at t c = search needs
+
+bit-of-word-part-requires : (t : ℕ) → bit-of-word-lts.Need-part-requires (bit-of-word-calls t) (bit-of-word-at t) bit-of-word.Post
+bit-of-word-part-requires t c κs = search needs
+
+bit-of-word-subscript-requires : (t : ℕ) → bit-of-word-lts.Need-subscript-requires (bit-of-word-calls t) (bit-of-word-at t) bit-of-word.Post
+bit-of-word-subscript-requires t c κs = search needs
+
+bit-of-word-bit-requires : (t : ℕ) → bit-of-word-lts.Need-bit-requires (bit-of-word-calls t) (bit-of-word-at t) bit-of-word.Post
+bit-of-word-bit-requires t c κs = search needs
+
+bit-of-word-enum-known-at-2 : (t : ℕ) → bit-of-word-lts.Need-enum-known-at-2 (bit-of-word-calls t) (bit-of-word-at t) bit-of-word.Post
+bit-of-word-enum-known-at-2 t c = search needs
+
+bit-of-word-enum-known-at-3 : (t : ℕ) → bit-of-word-lts.Need-enum-known-at-3 (bit-of-word-calls t) (bit-of-word-at t) bit-of-word.Post
+bit-of-word-enum-known-at-3 t c = search needs
+
+bit-of-word-returns : (t : ℕ) → bit-of-word-lts.Need-returns (bit-of-word-calls t) (bit-of-word-at t) bit-of-word.Post
+bit-of-word-returns t c =
+    λ d x h e. rw (c .before .before .before .before .at .given .1, ← (c .before .before .part .ensures d x h e)) (c .bit .ensures ∙ c .before .subscript .ensures _)
+
+bit-of-word-returns-2 : (t : ℕ) → bit-of-word-lts.Need-returns-2 (bit-of-word-calls t) (bit-of-word-at t) bit-of-word.Post
+bit-of-word-returns-2 t c =
+    λ d x h e. rw (c .before .at2 .given .1)
+
+bit-of-word-returns-3 : (t : ℕ) → bit-of-word-lts.Need-returns-3 (bit-of-word-calls t) (bit-of-word-at t) bit-of-word.Post
+bit-of-word-returns-3 t c =
+    λ d x h e. rw (c .before .at3 .given .1)
 
 choice-part-requires : (t : ℕ) → choice-lts.Need-part-requires (choice-calls t) (choice-at t) choice.Post
 choice-part-requires t c κs = search needs
@@ -430,32 +474,17 @@ located-part-requires-2 t c κs = search needs
 located-subscript-requires-3 : (t : ℕ) → located-lts.Need-subscript-requires-3 (located-calls t) (located-at t) located.Post
 located-subscript-requires-3 t c κs = search needs
 
-located-enum-known-at : (t : ℕ) → located-lts.Need-enum-known-at (located-calls t) (located-at t) located.Post
-located-enum-known-at t c = search needs
+located-bit-of-word-requires : (t : ℕ) → located-lts.Need-bit-of-word-requires (located-calls t) (located-at t) located.Post
+located-bit-of-word-requires t c κs = search needs
+
+located-enum-known-s-4 : (t : ℕ) → located-lts.Need-enum-known-s-4 (located-calls t) (located-at t) located.Post
+located-enum-known-s-4 t c = search needs
 
 located-part-requires-3 : (t : ℕ) → located-lts.Need-part-requires-3 (located-calls t) (located-at t) located.Post
 located-part-requires-3 t c κs = search needs
 
 located-subscript-requires-4 : (t : ℕ) → located-lts.Need-subscript-requires-4 (located-calls t) (located-at t) located.Post
 located-subscript-requires-4 t c κs = search needs
-
-located-bit-requires-2 : (t : ℕ) → located-lts.Need-bit-requires-2 (located-calls t) (located-at t) located.Post
-located-bit-requires-2 t c κs = search needs
-
-located-enum-known-at-2 : (t : ℕ) → located-lts.Need-enum-known-at-2 (located-calls t) (located-at t) located.Post
-located-enum-known-at-2 t c = search needs
-
-located-enum-known-at-3 : (t : ℕ) → located-lts.Need-enum-known-at-3 (located-calls t) (located-at t) located.Post
-located-enum-known-at-3 t c = search needs
-
-located-enum-known-s-4 : (t : ℕ) → located-lts.Need-enum-known-s-4 (located-calls t) (located-at t) located.Post
-located-enum-known-s-4 t c = search needs
-
-located-part-requires-4 : (t : ℕ) → located-lts.Need-part-requires-4 (located-calls t) (located-at t) located.Post
-located-part-requires-4 t c κs = search needs
-
-located-subscript-requires-5 : (t : ℕ) → located-lts.Need-subscript-requires-5 (located-calls t) (located-at t) located.Post
-located-subscript-requires-5 t c κs = search needs
 
 located-part-of-word-requires : (t : ℕ) → located-lts.Need-part-of-word-requires (located-calls t) (located-at t) located.Post
 located-part-of-word-requires t c κs = search needs
@@ -478,28 +507,18 @@ located-returns-4 t c =
 located-returns-5 : (t : ℕ) → located-lts.Need-returns-5 (located-calls t) (located-at t) located.Post
 unfolding M.located
 located-returns-5 t c =
-    λ d x h e name. rw (c .before .before .before .before .before .before .before .before .before .s3 .given .1, ← (c .before .before .before .before .before .before .before .part2 .ensures d x h e), ← (c .before .before .before .before .before .before .subscript3 .ensures), c .before .before .before .before .at .given .1, ← (c .before .before .part3 .ensures d x h e)) (c .bit2 .ensures ∙ c .before .subscript4 .ensures _)
+    λ d x h e name. rw (c .before .before .before .before .s3 .given .1, ← (c .before .before .part2 .ensures d x h e)) (c .bit-of-word .ensures d x h e ∙ c .before .subscript3 .ensures _)
 
 located-returns-6 : (t : ℕ) → located-lts.Need-returns-6 (located-calls t) (located-at t) located.Post
 unfolding M.located
 located-returns-6 t c =
-    λ d x h e name. rw (c .before .before .before .before .before .before .s3 .given .1, ← (c .before .before .before .before .part2 .ensures d x h e), ← (c .before .before .before .subscript3 .ensures), c .before .at2 .given .1)
-
-located-returns-7 : (t : ℕ) → located-lts.Need-returns-7 (located-calls t) (located-at t) located.Post
-unfolding M.located
-located-returns-7 t c =
-    λ d x h e name. rw (c .before .before .before .before .before .before .s3 .given .1, ← (c .before .before .before .before .part2 .ensures d x h e), ← (c .before .before .before .subscript3 .ensures), c .before .at3 .given .1)
-
-located-returns-8 : (t : ℕ) → located-lts.Need-returns-8 (located-calls t) (located-at t) located.Post
-unfolding M.located
-located-returns-8 t c =
-    λ d x h e name. rw (c .before .before .before .before .s4 .given .1, ← (c .before .before .part4 .ensures d x h e)) (c .part-of-word .ensures ∙ c .before .subscript5 .ensures _)
+    λ d x h e name. rw (c .before .before .before .before .s4 .given .1, ← (c .before .before .part3 .ensures d x h e)) (c .part-of-word .ensures ∙ c .before .subscript4 .ensures _)
 
 operand-place-of-requires : (t : ℕ) → operand-lts.Need-place-of-requires (operand-calls t) (operand-at t) operand.Post
 operand-place-of-requires t c κs = search needs
 
-operand-enum-known-at : (t : ℕ) → operand-lts.Need-enum-known-at (operand-calls t) (operand-at t) operand.Post
-operand-enum-known-at t c = search needs
+operand-enum-known-f : (t : ℕ) → operand-lts.Need-enum-known-f (operand-calls t) (operand-at t) operand.Post
+operand-enum-known-f t c = search needs
 
 operand-is-computed-requires : (t : ℕ) → operand-lts.Need-is-computed-requires (operand-calls t) (operand-at t) operand.Post
 operand-is-computed-requires t c κs = search needs
@@ -513,13 +532,13 @@ operand-of-computed-requires t c κs = search needs
 operand-returns : (t : ℕ) → operand-lts.Need-returns (operand-calls t) (operand-at t) operand.Post
 operand-returns t c =
     λ d x h e.
-    let a = c .before .before .before .before .before .before .before .before .before .before .before .before .args in
-    let f = c .before .before .before .before .before .before .before .before .place-of .result .facility in
-    let g = c .before .before .before .before .before .before .before .before .place-of .ensures .0 in
+    let a = c .before .before .before .before .before .before .before .before .before .before .before .args in
+    let f = c .before .before .before .before .before .f .given .0 .0 in
+    let g : FacilityRead (a .section .now) (a .number) f = rw (c .before .before .before .before .before .f .given .1) at (c .before .before .before .before .before .before .before .place-of .ensures .0) in
     let name = nameOf h (a .number) f g in
-    let p = placeMeant (c .before .before .before .before .before .at .given .0 .0) in
+    let p = placeMeant (c .before .before .before .before .before .f .given .0 .1 .0) in
     let ev = evalBelow (bytes d) d x (a .n) in
-    let q = sym (c .before .before .before .before .before .before .before .before .place-of .ensures .1 d x h e) ∙ ap locatedMeant (c .before .before .before .before .before .at .given .1) in
+    let q = sym (c .before .before .before .before .before .before .before .place-of .ensures .1 d x h e) ∙ ap sideMeant (c .before .before .before .before .before .f .given .1) in
     let z = sym (c .before .before .before .is-computed .ensures) ∙ c .before .before .if1 .taken in
     rw (facility-known h (a .number) f g, q)
     (c .of-computed .ensures d x name ∙ (ap (λ (w : M.Answer). M.after w (M.partOfValue (bytes d) d x (facilityMeant name f) p)) (c .before .part .ensures d x h e) ∙ sym (computed-read d x ev name f p z)))
@@ -527,14 +546,14 @@ operand-returns t c =
 operand-of-stored-requires : (t : ℕ) → operand-lts.Need-of-stored-requires (operand-calls t) (operand-at t) operand.Post
 operand-of-stored-requires t c κs = search needs
 
-operand-enum-known-at-2 : (t : ℕ) → operand-lts.Need-enum-known-at-2 (operand-calls t) (operand-at t) operand.Post
-operand-enum-known-at-2 t c = search needs
+operand-enum-known-k : (t : ℕ) → operand-lts.Need-enum-known-k (operand-calls t) (operand-at t) operand.Post
+operand-enum-known-k t c = search needs
 
 operand-stops-requires : (t : ℕ) → operand-lts.Need-stops-requires (operand-calls t) (operand-at t) operand.Post
 operand-stops-requires t c κs = search needs
 
-operand-enum-known-at-3 : (t : ℕ) → operand-lts.Need-enum-known-at-3 (operand-calls t) (operand-at t) operand.Post
-operand-enum-known-at-3 t c = search needs
+operand-enum-known-k-2 : (t : ℕ) → operand-lts.Need-enum-known-k-2 (operand-calls t) (operand-at t) operand.Post
+operand-enum-known-k-2 t c = search needs
 
 operand-sticks-requires : (t : ℕ) → operand-lts.Need-sticks-requires (operand-calls t) (operand-at t) operand.Post
 operand-sticks-requires t c κs = search needs
@@ -542,14 +561,14 @@ operand-sticks-requires t c κs = search needs
 operand-returns-2 : (t : ℕ) → operand-lts.Need-returns-2 (operand-calls t) (operand-at t) operand.Post
 operand-returns-2 t c =
     λ d x h e.
-    let a = c .before .before .before .before .before .before .before .before .before .before .before .args in
-    let f = c .before .before .before .before .before .before .before .place-of .result .facility in
-    let g = c .before .before .before .before .before .before .before .place-of .ensures .0 in
+    let a = c .before .before .before .before .before .before .before .before .before .before .args in
+    let f = c .before .before .before .before .f .given .0 .0 in
+    let g : FacilityRead (a .section .now) (a .number) f = rw (c .before .before .before .before .f .given .1) at (c .before .before .before .before .before .before .place-of .ensures .0) in
     let name = nameOf h (a .number) f g in
-    let p = placeMeant (c .before .before .before .before .at .given .0 .0) in
+    let p = placeMeant (c .before .before .before .before .f .given .0 .1 .0) in
     let ev = evalBelow (bytes d) d x (a .n) in
     let r = refersTo (a .number) (a .s) in
-    let q = sym (c .before .before .before .before .before .before .before .place-of .ensures .1 d x h e) ∙ ap locatedMeant (c .before .before .before .before .at .given .1) in
+    let q = sym (c .before .before .before .before .before .before .place-of .ensures .1 d x h e) ∙ ap sideMeant (c .before .before .before .before .f .given .1) in
     let z = sym (c .before .before .is-computed .ensures) ∙ c .before .if1 .left in
     let load : ℕ → M.Answer = λ m. M.Answer.is (L.value (p .count) m) in
     rw (facility-known h (a .number) f g, q)
@@ -558,12 +577,12 @@ operand-returns-2 t c =
 operand-returns-3 : (t : ℕ) → operand-lts.Need-returns-3 (operand-calls t) (operand-at t) operand.Post
 operand-returns-3 t c =
     λ d x h e.
-    rw (sym (c .before .before .before .before .before .place-of .ensures .1 d x h e) ∙ ap locatedMeant (c .before .before .at2 .given .1)) (c .stops .ensures)
+    rw (sym (c .before .before .before .before .place-of .ensures .1 d x h e) ∙ ap sideMeant (c .before .before .k .given .1)) (c .stops .ensures)
 
 operand-returns-4 : (t : ℕ) → operand-lts.Need-returns-4 (operand-calls t) (operand-at t) operand.Post
 operand-returns-4 t c =
     λ d x h e.
-    rw (sym (c .before .before .before .before .before .place-of .ensures .1 d x h e) ∙ ap locatedMeant (c .before .before .at3 .given .1)) (c .sticks .ensures)
+    rw (sym (c .before .before .before .before .place-of .ensures .1 d x h e) ∙ ap sideMeant (c .before .before .k2 .given .1)) (c .sticks .ensures)
 
 other-reference-of-requires : (t : ℕ) → other-lts.Need-reference-of-requires (other-calls t) (other-at t) other.Post
 other-reference-of-requires t c κs = search needs
@@ -607,14 +626,14 @@ place-of-facility-at-requires t c κs = search needs
 
 place-of-returns : (t : ℕ) → place-of-lts.Need-returns (place-of-calls t) (place-of-at t) place-of.Post
 place-of-returns t c =
-    (c .before .facility-at .ensures, λ d x h e. sym (no-facility d (evalBelow (bytes d) d x (c .before .before .before .before .before .args .n)) (refersTo (c .before .before .before .before .before .args .number) (c .before .before .before .before .before .args .s)) (rw (h .count) (c .if1 .taken))))
+    (tt, λ d x h e. sym (no-facility d (evalBelow (bytes d) d x (c .before .before .before .before .before .args .n)) (refersTo (c .before .before .before .before .before .args .number) (c .before .before .before .before .before .args .s)) (rw (h .count) (c .if1 .taken))))
 
 place-of-right-count-requires : (t : ℕ) → place-of-lts.Need-right-count-requires (place-of-calls t) (place-of-at t) place-of.Post
 place-of-right-count-requires t c κs = search needs
 
 place-of-returns-2 : (t : ℕ) → place-of-lts.Need-returns-2 (place-of-calls t) (place-of-at t) place-of.Post
 place-of-returns-2 t c = (
-  c .before .before .before .facility-at .ensures,
+  tt,
   λ d x h e.
       let a = c .before .before .before .before .before .before .before .args in
       let g = c .before .before .before .facility-at .ensures in
@@ -625,21 +644,52 @@ place-of-returns-2 t c = (
 place-of-located-requires : (t : ℕ) → place-of-lts.Need-located-requires (place-of-calls t) (place-of-at t) place-of.Post
 place-of-located-requires t c κs = search needs
 
+place-of-enum-known-p : (t : ℕ) → place-of-lts.Need-enum-known-p (place-of-calls t) (place-of-at t) place-of.Post
+place-of-enum-known-p t c = search needs
+
+place-of-enum-known-k : (t : ℕ) → place-of-lts.Need-enum-known-k (place-of-calls t) (place-of-at t) place-of.Post
+place-of-enum-known-k t c = search needs
+
+place-of-enum-known-k-2 : (t : ℕ) → place-of-lts.Need-enum-known-k-2 (place-of-calls t) (place-of-at t) place-of.Post
+place-of-enum-known-k-2 t c = search needs
+
 place-of-returns-3 : (t : ℕ) → place-of-lts.Need-returns-3 (place-of-calls t) (place-of-at t) place-of.Post
 place-of-returns-3 t c = (
-  c .before .before .before .before .facility-at .ensures,
+  c .before .before .before .before .before .before .before .facility-at .ensures,
   λ d x h e.
-      let a = c .before .before .before .before .before .before .before .before .args in
-      let g = c .before .before .before .before .facility-at .ensures in
-      let l : a .number < length (d .facilities) = rw (h .count) (c .before .before .before .if1 .left) in
-      c .located .ensures d x h e (nameOf h (a .number) (c .before .before .before .before .facility-at .result) g) ∙ sym (right-subscripts d (evalBelow (bytes d) d x (a .n)) (refersTo (a .number) (a .s)) l _ (facility-known h (a .number) (c .before .before .before .before .facility-at .result) g) (sym (c .before .before .right-count .ensures) ∙ not-false _ (c .before .if2 .left))),
+      let a = c .before .before .before .before .before .before .before .before .before .before .before .args in
+      let g = c .before .before .before .before .before .before .before .facility-at .ensures in
+      let l : a .number < length (d .facilities) = rw (h .count) (c .before .before .before .before .before .before .if1 .left) in
+      ap locatedMeant (sym (c .before .p .given .1)) ∙ (c .before .before .before .located .ensures d x h e (nameOf h (a .number) (c .before .before .before .before .before .before .before .facility-at .result) g) ∙ sym (right-subscripts d (evalBelow (bytes d) d x (a .n)) (refersTo (a .number) (a .s)) l _ (facility-known h (a .number) (c .before .before .before .before .before .before .before .facility-at .result) g) (sym (c .before .before .before .before .before .right-count .ensures) ∙ not-false _ (c .before .before .before .before .if2 .left)))),
 )
 
-pub +arm+binary+choice+eval+located+operand+other+part+place-of-spec : {M : Type 1} → statement M
-+arm+binary+choice+eval+located+operand+other+part+place-of-spec =
+place-of-returns-4 : (t : ℕ) → place-of-lts.Need-returns-4 (place-of-calls t) (place-of-at t) place-of.Post
+place-of-returns-4 t c = (
+  tt,
+  λ d x h e.
+      let a = c .before .before .before .before .before .before .before .before .before .before .before .args in
+      let g = c .before .before .before .before .before .before .before .facility-at .ensures in
+      let l : a .number < length (d .facilities) = rw (h .count) (c .before .before .before .before .before .before .if1 .left) in
+      ap locatedMeant (sym (c .before .k .given .1)) ∙ (c .before .before .before .located .ensures d x h e (nameOf h (a .number) (c .before .before .before .before .before .before .before .facility-at .result) g) ∙ sym (right-subscripts d (evalBelow (bytes d) d x (a .n)) (refersTo (a .number) (a .s)) l _ (facility-known h (a .number) (c .before .before .before .before .before .before .before .facility-at .result) g) (sym (c .before .before .before .before .before .right-count .ensures) ∙ not-false _ (c .before .before .before .before .if2 .left)))),
+)
+
+place-of-returns-5 : (t : ℕ) → place-of-lts.Need-returns-5 (place-of-calls t) (place-of-at t) place-of.Post
+place-of-returns-5 t c = (
+  tt,
+  λ d x h e.
+      let a = c .before .before .before .before .before .before .before .before .before .before .before .args in
+      let g = c .before .before .before .before .before .before .before .facility-at .ensures in
+      let l : a .number < length (d .facilities) = rw (h .count) (c .before .before .before .before .before .before .if1 .left) in
+      ap locatedMeant (sym (c .before .k2 .given .1)) ∙ (c .before .before .before .located .ensures d x h e (nameOf h (a .number) (c .before .before .before .before .before .before .before .facility-at .result) g) ∙ sym (right-subscripts d (evalBelow (bytes d) d x (a .n)) (refersTo (a .number) (a .s)) l _ (facility-known h (a .number) (c .before .before .before .before .before .before .before .facility-at .result) g) (sym (c .before .before .before .before .before .right-count .ensures) ∙ not-false _ (c .before .before .before .before .if2 .left)))),
+)
+
+pub +arm+binary+bit-of-word+choice+eval+located+operand+other+part+place-of-spec :
+    {M : Type 1} → statement M
++arm+binary+bit-of-word+choice+eval+located+operand+other+part+place-of-spec =
     close
     μ-arm
     μ-binary
+    μ-bit-of-word
     μ-choice
     μ-eval
     μ-located
@@ -675,6 +725,18 @@ pub +arm+binary+choice+eval+located+operand+other+part+place-of-spec : {M : Type
     (binary-returns t)
     (binary-returns-2 t)
     (binary-returns-3 t))
+    (λ t. bit-of-word-lts.spec (bit-of-word-calls t)
+    (bit-of-word-at t)
+    bit-of-word.Post
+    (bit-of-word-enum-known-at t)
+    (bit-of-word-part-requires t)
+    (bit-of-word-subscript-requires t)
+    (bit-of-word-bit-requires t)
+    (bit-of-word-enum-known-at-2 t)
+    (bit-of-word-enum-known-at-3 t)
+    (bit-of-word-returns t)
+    (bit-of-word-returns-2 t)
+    (bit-of-word-returns-3 t))
     (λ t. choice-lts.spec (choice-calls t)
     (choice-at t)
     choice.Post
@@ -730,36 +792,29 @@ pub +arm+binary+choice+eval+located+operand+other+part+place-of-spec : {M : Type
     (located-enum-known-s-3 t)
     (located-part-requires-2 t)
     (located-subscript-requires-3 t)
-    (located-enum-known-at t)
+    (located-bit-of-word-requires t)
+    (located-enum-known-s-4 t)
     (located-part-requires-3 t)
     (located-subscript-requires-4 t)
-    (located-bit-requires-2 t)
-    (located-enum-known-at-2 t)
-    (located-enum-known-at-3 t)
-    (located-enum-known-s-4 t)
-    (located-part-requires-4 t)
-    (located-subscript-requires-5 t)
     (located-part-of-word-requires t)
     (located-returns-2 t)
     (located-returns-3 t)
     (located-returns-4 t)
     (located-returns-5 t)
-    (located-returns-6 t)
-    (located-returns-7 t)
-    (located-returns-8 t))
+    (located-returns-6 t))
     (λ t. operand-lts.spec (operand-calls t)
     (operand-at t)
     operand.Post
     (operand-place-of-requires t)
-    (operand-enum-known-at t)
+    (operand-enum-known-f t)
     (operand-is-computed-requires t)
     (operand-part-requires t)
     (operand-of-computed-requires t)
     (operand-returns t)
     (operand-of-stored-requires t)
-    (operand-enum-known-at-2 t)
+    (operand-enum-known-k t)
     (operand-stops-requires t)
-    (operand-enum-known-at-3 t)
+    (operand-enum-known-k-2 t)
     (operand-sticks-requires t)
     (operand-returns-2 t)
     (operand-returns-3 t)
@@ -789,4 +844,9 @@ pub +arm+binary+choice+eval+located+operand+other+part+place-of-spec : {M : Type
     (place-of-right-count-requires t)
     (place-of-returns-2 t)
     (place-of-located-requires t)
+    (place-of-enum-known-p t)
+    (place-of-enum-known-k t)
+    (place-of-enum-known-k-2 t)
     (place-of-returns-3 t)
+    (place-of-returns-4 t)
+    (place-of-returns-5 t)
