@@ -1,7 +1,6 @@
 -- What the code sees of a doing, one change at a time.
-use mathlib.Core.Bool.{Bool, _||_}
 use mathlib.Core.List.{List, [], _∷_, _++_}
-use mathlib.Core.Path.{_≡_, refl, ap, ap₂, _∙_}
+use mathlib.Core.Path.{_≡_, refl, ap}
 use Prim.Native.Nat.{ℕ, suc, _+_, min}
 use native.Mathlib.Omega.{arith}
 use lib.ListN.{getD, length, length-append}

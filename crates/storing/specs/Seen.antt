@@ -1,8 +1,8 @@
 -- How much the code keeps of what a cycle has done: of the states gone to and of those called the first, and whether there is none, one or more; returns up to two; conflicts as far as 32 bits count.
-use mathlib.Core.Bool.{Bool}
-use mathlib.Core.List.{List}
+use mathlib.Core.Bool.{Bool, cond, false, _||_}
+use mathlib.Core.List.{List, [], _∷_}
 use mathlib.Core.Path.{_≡_}
-use Prim.Native.Nat.{ℕ, min}
+use Prim.Native.Nat.{ℕ, _+_, _/_, _%_, _^_, min}
 use lib.ListN.{getD, length}
 use Rattle.language.specs.Acting as T
 use Rattle.language.specs.Description.{Description}
@@ -85,3 +85,11 @@ Follows g r f = (d : Description) (c : T.Doing InBytes) (B P M : List ℕ) → v
 -- A claim about each description by the sections F and E, and each doing that is seen as this view.
 abbrev pub ForDoing : List ℕ → List ℕ → View → (Description → T.Doing InBytes → Type 0) → Type 0
 ForDoing F E v claim = (d : Description) (c : T.Doing InBytes) → Describes d F E → v ≡ seen c → claim d c
+
+-- ---- A store to two references, once the left one's place is known.
+
+abbrev pub besides : {X : Type 0} → M.Stores X → Description → ℕ → M.Place → ℕ → ℕ → T.Doing X → T.Ran X
+besides S d k p m r c =
+    T.onPlace (T.side S d (c .store) m) (λ q. T.onValue (M.evalAt S d (c .store) r) (λ v.
+    T.storing S d k (p .count + q .count) (cond (T.storable S d k p) (T.storable S d k q) false) (T.onSequencing S d p || T.onSequencing S d q) v
+    (T.write S d p (v .number / 2 ^ q .count) ∷ T.write S d q (v .number % 2 ^ q .count) ∷ []) c))

@@ -42,10 +42,7 @@ fn and_state(l: Named, s: u16) -> Named
     ensures { λ r. ⌜ ((ss : List ℕ) → named l ≡ statesSeen ss → named r ≡ statesSeen (ss ++ s ∷ [])) ⌝ }
 {
     if l.count == 0 {
-        return Named {
-            first: s,
-            count: 1,
-        };
+        return Named { first: s, count: 1 };
     }
     Named {
         first: l.first,

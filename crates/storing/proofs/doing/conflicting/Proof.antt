@@ -1,29 +1,20 @@
-use mathlib.Core.Path.{_≡_}
 use native.Mathlib.Omega.{arith}
 use borrow.Author.Tests.{not-false, not-true}
 use borrow.Author.Needs.{needs}
 use Rattle.storing.proofs.doing.conflicting.Statement.{statement}
 use Rattle.storing.proofs.doing.conflicting.Tie as tie
-use Rattle.storing.proofs.doing.conflicting.Reads as reads
-use Rattle.storing.proofs.doing.conflicting.Lts as lts
 
--- src/doing.rt:109:9
 returns : tie.Need-returns
 returns c =
     rw (not-true (c .before .args .hit) (c .if1 .taken)) (omega arith)
 
-
--- src/doing.rt:111:25
 add-result : tie.Need-add-result
 add-result c = search needs
 
--- src/doing.rt:105:1
 returns-2 : tie.Need-returns-2
 returns-2 c =
     rw (not-false (c .before .before .args .hit) (c .before .if1 .left)) (omega arith)
 
-
--- src/doing.rt:105:1
 returns-3 : tie.Need-returns-3
 returns-3 c = search needs
 

@@ -1,25 +1,17 @@
 use borrow.Author.Needs.{needs}
 use Rattle.storing.proofs.doing.delaying.Statement.{statement}
 use Rattle.storing.proofs.doing.delaying.Tie as tie
-use Rattle.storing.proofs.doing.delaying.Reads as reads
-use Rattle.storing.proofs.doing.delaying.Lts as lts
-use Rattle.storing.proofs.doing.conflicting.Reads as conflicting-reads
 
--- src/doing.rt:120:9
 conflicting-requires : tie.Need-conflicting-requires
 conflicting-requires c κs = search needs
 
--- src/doing.rt:115:1
 returns : tie.Need-returns
 returns c =
     rw (c .if1 .taken, c .before .conflicting .ensures)
 
-
--- src/doing.rt:115:1
 returns-2 : tie.Need-returns-2
 returns-2 c =
     rw (c .if1 .left, c .before .conflicting .ensures)
-
 
 pub delaying-spec : {M : Type 1} → statement M
 delaying-spec = tie.close (tie.spec conflicting-requires returns returns-2)

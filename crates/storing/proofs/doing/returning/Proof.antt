@@ -6,15 +6,10 @@ use Rattle.storing.proofs.SeenLaws.{withReturns}
 use borrow.Author.Needs.{needs}
 use Rattle.storing.proofs.doing.returning.Statement.{statement}
 use Rattle.storing.proofs.doing.returning.Tie as tie
-use Rattle.storing.proofs.doing.returning.Reads as reads
-use Rattle.storing.proofs.doing.returning.Lts as lts
-use Rattle.storing.proofs.doing.counted.Reads as counted-reads
 
--- src/doing.rt:94:9
 counted-requires : tie.Need-counted-requires
 counted-requires c κs = search needs
 
--- src/doing.rt:89:1
 returns : tie.Need-returns
 returns c =
     λ d x B P M e.
@@ -22,7 +17,6 @@ returns c =
     let k = c .counted .ensures in
     let m : c .counted .result ≡ min (suc (x .returns)) 2 = omega arith in
     ap₂ withReturns e m
-
 
 pub returning-spec : {M : Type 1} → statement M
 returning-spec = tie.close (tie.spec counted-requires returns)

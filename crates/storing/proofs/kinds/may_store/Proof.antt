@@ -3,39 +3,27 @@ use Rattle.language.specs.Storing.{mayStore}
 use borrow.Author.Needs.{needs}
 use Rattle.storing.proofs.kinds.may_store.Statement.{statement}
 use Rattle.storing.proofs.kinds.may_store.Tie as tie
-use Rattle.storing.proofs.kinds.may_store.Reads as reads
-use Rattle.storing.proofs.kinds.may_store.Lts as lts
-use Rattle.storing.proofs.kinds.takes_delayed.Reads as takes-delayed-reads
-use Rattle.storing.proofs.kinds.takes_immediate.Reads as takes-immediate-reads
 
--- src/kinds.rt:42:29
 takes-delayed-requires : tie.Need-takes-delayed-requires
 takes-delayed-requires c κs = search needs
 
--- src/kinds.rt:43:31
 takes-immediate-requires : tie.Need-takes-immediate-requires
 takes-immediate-requires c κs = search needs
 
--- src/kinds.rt:38:1
 returns : tie.Need-returns
 unfolding mayStore
 returns c =
     rw (c .before .match .keys1) (c .takes-delayed .ensures)
 
-
--- src/kinds.rt:38:1
 returns-2 : tie.Need-returns-2
 unfolding mayStore
 returns-2 c =
     rw (c .before .match .keys2) (c .takes-immediate .ensures)
 
-
--- src/kinds.rt:38:1
 returns-3 : tie.Need-returns-3
 unfolding mayStore
 returns-3 c =
     simp (ne-eqb _ _ (c .match .rest .1), ne-eqb _ _ (c .match .rest .0 .1))
-
 
 pub may-store-spec : {M : Type 1} → statement M
 may-store-spec =
