@@ -2,7 +2,7 @@
 use mathlib.Core.Bool.{Bool, true, false, cond}
 use mathlib.Core.Path.{_≡_, refl}
 use native.Mathlib.Omega.{arith}
-use Prim.Native.Nat.{ℕ, _+_, _≤_, _<_}
+use Prim.Native.Nat.{ℕ, _+_, _-_, _≤_, _<_}
 use borrow.Author.Tests.{eqb-false, eqb-true, leb-true, ltb-true, ne-eqb}
 use lib.Dec.{eqb, leb, ltb}
 use lib.ListN.{length}
@@ -120,3 +120,83 @@ found-there d ev r p e = go (ltb (r .facility) (length (d .facilities))) refl (r
         (e, record { facility-in = rw e h; word-in = rw e (w .word-in); part-in = rw e (w .part-within) })
     go true q false k j = stuck-not-at j
     go false q b k j = stuck-not-at j
+
+-- ---- A place has at least one bit and at most 256.
+
+some-span : (b : Bounds) → 0 < spanOf b
+unfolding spanOf
+some-span b = go (leb (b .first) (b .last))
+  where
+    go : (t : Bool) → 0 < cond t (b .last - b .first + 1) (b .first - b .last + 1)
+    go true = omega arith
+    go false = omega arith
+
+some-length : (f : Facility) → 0 < wordLength f
+unfolding wordLength
+some-length f = go (eqb (f .dimensions) 0)
+  where
+    go : (t : Bool) → 0 < cond t 1 (spanOf (f .bits))
+    go true = omega arith
+    go false = some-span (f .bits)
+
+abbrev Few : Located → Type 0
+Few (Located.at p) = (0 < p .count) × (p .count ≤ 256)
+Few (Located.stops n) = Unit {0}
+Few (Located.stuck s) = Unit {0}
+
+few-either : (b : Bool) (l m : Located) → Few l → Few m → Few (cond b l m)
+few-either true l m h k = h
+few-either false l m h k = k
+
+few-narrow : (p : Place) → 0 < p .count → Few (narrow p)
+unfolding longest
+few-narrow p h = go (leb (p .count) 256) refl
+  where
+    go : (b : Bool) → leb (p .count) 256 ≡ b → Few (cond b (Located.at p) (Located.stuck wrongLength))
+    go true e = (h, leb-true (p .count) 256 e)
+    go false e = tt
+
+few-subscript : (a : Answer) (b : Bounds) (on : ℕ → Located) → ((m : ℕ) → Few (on m)) → Few (subscript a b on)
+few-subscript (is v) b on h = few-either (inBounds b (v .number)) (on (fromFirst b (v .number))) (Located.stops outsideBounds) (h (fromFirst b (v .number))) tt
+few-subscript (stops m) b on h = tt
+few-subscript (stuck s) b on h = tt
+
+few-part : (b x : Bounds) (on : ℕ → ℕ → Located) → ((m : ℕ) → Few (on m (spanOf x))) → Few (partOf b x on)
+few-part b x on h =
+    few-either (both (inBounds b (x .first)) (both (inBounds b (x .last)) (sameDirection b x))) (on (fromFirst b (x .first)) (spanOf x)) (Located.stuck outside)
+    (h (fromFirst b (x .first))) tt
+
+few-located : (ev : ℕ → Answer) (n : ℕ) (f : Facility) (s : Subscripts) → Few (located ev n f s)
+unfolding located
+few-located ev n f whole = few-narrow (place n 0 0 (wordLength f)) (some-length f)
+few-located ev n f (R.one e) =
+    few-either (eqb (f .dimensions) 1) (subscript (ev e) (f .bits) (λ b. narrow (place n 0 b 1))) (subscript (ev e) (f .words) (λ w. narrow (place n w 0 (wordLength f))))
+    (few-subscript (ev e) (f .bits) (λ b. narrow (place n 0 b 1)) (λ b. few-narrow (place n 0 b 1) (omega arith)))
+    (few-subscript (ev e) (f .words) (λ w. narrow (place n w 0 (wordLength f))) (λ w. few-narrow (place n w 0 (wordLength f)) (some-length f)))
+few-located ev n f (part x) = few-part (f .bits) x (λ b c. narrow (place n 0 b c)) (λ b. few-narrow (place n 0 b (spanOf x)) (some-span x))
+few-located ev n f (two e g) =
+    few-subscript (ev e) (f .words) (λ w. subscript (ev g) (f .bits) (λ b. narrow (place n w b 1)))
+    (λ w. few-subscript (ev g) (f .bits) (λ b. narrow (place n w b 1)) (λ b. few-narrow (place n w b 1) (omega arith)))
+few-located ev n f (wordPart e x) =
+    few-subscript (ev e) (f .words) (λ w. partOf (f .bits) x (λ b c. narrow (place n w b c)))
+    (λ w. few-part (f .bits) x (λ b c. narrow (place n w b c)) (λ b. few-narrow (place n w b (spanOf x)) (some-span x)))
+
+few-place : (d : Description) (ev : ℕ → Answer) (r : Reference) → Few (placeOf d ev r)
+unfolding placeOf
+few-place d ev r =
+    let f : Facility = facilityAt d (r .facility) in
+    few-either (ltb (r .facility) (length (d .facilities))) (cond (rightCount (f .dimensions) (r .subscripts)) (located ev (r .facility) f (r .subscripts)) (Located.stuck wrongSubscripts)) (Located.stuck noFacility)
+    (few-either (rightCount (f .dimensions) (r .subscripts)) (located ev (r .facility) f (r .subscripts)) (Located.stuck wrongSubscripts) (few-located ev (r .facility) f (r .subscripts)) tt)
+    tt
+
+-- A part that a reference names, as long as a value may be.
+pub record Taken (d : Description) (p : Place) : Type 0 where
+  pub there : There d p
+  pub some : 0 < p .count
+  pub few : p .count ≤ 256
+
+pub found-taken : (d : Description) (ev : ℕ → Answer) (r : Reference) (p : Place) → placeOf d ev r ≡ Located.at p → (p .facility ≡ r .facility) × Taken d p
+found-taken d ev r p e =
+    let f = found-there d ev r p e in
+    let k : Few (Located.at p) = rw e at (few-place d ev r) in
+    (f .0, record { there = f .1; some = k .0; few = k .1 })

@@ -16,8 +16,7 @@ use Rattle.language.specs.References.{Reference, referenceOf}
 use Rattle.language.specs.Storing.{isPlain, mayStore}
 use Rattle.language.specs.Tree.{Kind, computed, input, memory, plain, register, sequencing}
 use Rattle.language.specs.Value.{Value}
-use Rattle.theorems.specs.Executes.{There}
-use Rattle.theorems.specs.PlaceFound.{found-there}
+use Rattle.theorems.specs.PlaceFound.{Taken, found-taken}
 use Rattle.theorems.specs.SameValues.{Stored, below-same, place-same, value-same}
 
 abbrev pub AllStored : Description → List Write → Type 0
@@ -100,13 +99,13 @@ module _ {X Y : Type 0} (S : Stores X) (T : Stores Y) (d : Description) (R : X �
         go none = refl
         go (some r) = place-same (evalBelow S d (c .store) n) (evalBelow T d (e .store) n) (below-same S T d (c .store) (e .store) (joins .loads (c .store) (e .store) (same .stores)) n) d r
 
-    side-there : (n : ℕ) (p : Place) → side S d (c .store) n ≡ Located.at p → There d p
+    side-there : (n : ℕ) (p : Place) → side S d (c .store) n ≡ Located.at p → Taken d p
     unfolding side
     side-there n p q = go (referenceOf (nodeAt d n)) q
       where
-        go : (r : Option Reference) → sideOf S d r (c .store) n ≡ Located.at p → There d p
+        go : (r : Option Reference) → sideOf S d r (c .store) n ≡ Located.at p → Taken d p
         go none k = absurd (let z : _≡_ {A = ℕ} 0 1 = cc in omega arith)
-        go (some r) k = found-there d (evalBelow S d (c .store) n) r p k .1
+        go (some r) k = found-taken d (evalBelow S d (c .store) n) r p k .1
 
     with-alike : (x : X) (y : Y) (q : Bool) → R x y → Same (withStore S d x q c) (withStore T d y q e)
     with-alike x y q h = record {
@@ -134,8 +133,8 @@ module _ {X Y : Type 0} (S : Stores X) (T : Stores Y) (d : Description) (R : X �
         go true false z l = stick
         go false t z l = stick
 
-    stored-so : (k : ℕ) (p : Place) → There d p → storable S d k p ≡ true → Stored d p
-    stored-so k p t q = record { there = t; kept = storable-kept k (facilityAt d (p .facility) .kind) q }
+    stored-so : (k : ℕ) (p : Place) → Taken d p → storable S d k p ≡ true → Stored d p
+    stored-so k p t q = record { taken = t; kept = storable-kept k (facilityAt d (p .facility) .kind) q }
 
     one-alike : (k l r : ℕ) → Alike (storeTo S d k l r c) (storeTo T d k l r e)
     one-alike k l r =
@@ -160,7 +159,7 @@ module _ {X Y : Type 0} (S : Stores X) (T : Stores Y) (d : Description) (R : X �
             → Alike (cond a (cond b (went (withStore S d (S .put (c .store) (write S d p 1)) false c)) (Ran.stuck sidesDiffer)) (Ran.stuck notStorable))
             (cond a (cond b (went (withStore T d (T .put (e .store) (write T d p 1)) false e)) (Ran.stuck sidesDiffer)) (Ran.stuck notStorable))
         go p q true z true =
-            go-on (with-alike _ _ false (joins .puts (c .store) (e .store) (write S d p 1) (same .stores) (record { there = side-there l p q; kept = plain-kept (facilityAt d (p .facility) .kind) z })))
+            go-on (with-alike _ _ false (joins .puts (c .store) (e .store) (write S d p 1) (same .stores) (record { taken = side-there l p q; kept = plain-kept (facilityAt d (p .facility) .kind) z })))
         go p q true z false = stick
         go p q false z b = stick
 

@@ -14,12 +14,11 @@ use Rattle.language.specs.Recursion.{below-ge, below-lt}
 use Rattle.language.specs.References as R
 use Rattle.language.specs.References.{Reference, Subscripts, part, two, whole, wordPart}
 use Rattle.language.specs.Value.{Value, value}
-use Rattle.theorems.specs.Executes.{There}
-use Rattle.theorems.specs.PlaceFound.{found-there}
+use Rattle.theorems.specs.PlaceFound.{Taken, found-taken}
 
 -- A part that is in the store.
 pub record Stored (d : Description) (p : Place) : Type 0 where
-  pub there : There d p
+  pub taken : Taken d p
   pub kept : isComputed (facilityAt d (p .facility) .kind) ≡ false
 
 after-same : {a b : Answer} (on on′ : Value → Answer) → a ≡ b → ((v : Value) → on v ≡ on′ v) → after a on ≡ after b on′
@@ -61,14 +60,14 @@ module _ (ev ev′ : ℕ → Answer) (alike : (a : ℕ) → ev a ≡ ev′ a) wh
 
 module _ {X Y : Type 0} (S : Stores X) (T : Stores Y) (d : Description) (x : X) (y : Y) (loads : (p : Place) → Stored d p → S .load x p ≡ T .load y p) where
   module _ (ev ev′ : ℕ → Answer) (alike : (a : ℕ) → ev a ≡ ev′ a) where
-    read-same : (f : Facility) (p : Place) → f ≡ facilityAt d (p .facility) → There d p → read S d x ev f (Located.at p) ≡ read T d y ev′ f (Located.at p)
+    read-same : (f : Facility) (p : Place) → f ≡ facilityAt d (p .facility) → Taken d p → read S d x ev f (Located.at p) ≡ read T d y ev′ f (Located.at p)
     read-same f p q t = go (isComputed (f .kind)) refl
       where
         go : (b : Bool) → isComputed (f .kind) ≡ b
             → cond b (after (ev (f .expression)) (partOfValue S d x f p)) (is (value (p .count) (S .load x p)))
             ≡ cond b (after (ev′ (f .expression)) (partOfValue T d y f p)) (is (value (p .count) (T .load y p)))
         go true k = after-same (partOfValue S d x f p) (partOfValue T d y f p) (alike (f .expression)) (λ v. refl)
-        go false k = ap (λ (n : ℕ). is (value (p .count) n)) (loads p (record { there = t; kept = ap (λ (g : Facility). isComputed (g .kind)) (sym q) ∙ k }))
+        go false k = ap (λ (n : ℕ). is (value (p .count) n)) (loads p (record { taken = t; kept = ap (λ (g : Facility). isComputed (g .kind)) (sym q) ∙ k }))
 
     operand-same : (n : ℕ) (s : Subscripts) → read S d x ev (facilityAt d n) (placeOf d ev (record { facility = n; subscripts = s }))
         ≡ read T d y ev′ (facilityAt d n) (placeOf d ev′ (record { facility = n; subscripts = s }))
@@ -81,7 +80,7 @@ module _ {X Y : Type 0} (S : Stores X) (T : Stores Y) (d : Description) (x : X) 
         go a q b k = rw (k ∙ q) (by a q)
           where
             by : (a : Located) → placeOf d ev r ≡ a → read S d x ev (facilityAt d n) a ≡ read T d y ev′ (facilityAt d n) a
-            by (Located.at p) q = let f = found-there d ev r p q in read-same (facilityAt d n) p (ap (facilityAt d) (sym (f .0))) (f .1)
+            by (Located.at p) q = let f = found-taken d ev r p q in read-same (facilityAt d n) p (ap (facilityAt d) (sym (f .0))) (f .1)
             by (Located.stops m) q = refl
             by (Located.stuck m) q = refl
 

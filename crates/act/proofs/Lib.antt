@@ -1,0 +1,3 @@
+pub mod ActionLaws
+pub mod RunLaws
+pub mod SectionLaws

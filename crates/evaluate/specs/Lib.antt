@@ -1,0 +1,4 @@
+pub mod Described
+pub mod Places
+pub mod Sides
+pub mod Worth

@@ -1,0 +1,74 @@
+// What may be stored to, by the kind of a facility.
+use image::facilities::Kind;
+use records::actions;
+ghost use mathlib.Core.Path.{_≡_};
+ghost use Rattle.language.specs.Description.{isSequencing};
+ghost use Rattle.language.specs.Storing.{isPlain, mayStore, takesDelayed, takesImmediate};
+ghost use Rattle.image.specs.Declarations.{kindMeant};
+
+// <- goes to registers.
+fn takes_delayed(kind: Kind) -> bool
+    ensures { λ r. ⌜ r ≡ takesDelayed (kindMeant kind) ⌝ }
+{
+    match kind {
+        Kind::Register => true,
+        Kind::Sequencing => true,
+        Kind::Memory => false,
+        Kind::Plain => false,
+        Kind::Input => false,
+        Kind::Computed => false,
+    }
+}
+
+// = goes to registers, memories and plain terminals.
+fn takes_immediate(kind: Kind) -> bool
+    ensures { λ r. ⌜ r ≡ takesImmediate (kindMeant kind) ⌝ }
+{
+    match kind {
+        Kind::Register => true,
+        Kind::Sequencing => false,
+        Kind::Memory => true,
+        Kind::Plain => true,
+        Kind::Input => false,
+        Kind::Computed => false,
+    }
+}
+
+// Whether a store by this sign may go to a facility of this kind.
+pub fn may_store(sign: u8, kind: Kind) -> bool
+    ensures { λ r. ⌜ r ≡ mayStore sign (kindMeant kind) ⌝ }
+{
+    match sign {
+        actions::DELAYED => takes_delayed(kind),
+        actions::IMMEDIATE => takes_immediate(kind),
+        _ => false,
+    }
+}
+
+// Whether a facility of this kind is the sequencing register.
+pub fn is_sequencing(kind: Kind) -> bool
+    ensures { λ r. ⌜ r ≡ isSequencing (kindMeant kind) ⌝ }
+{
+    match kind {
+        Kind::Register => false,
+        Kind::Sequencing => true,
+        Kind::Memory => false,
+        Kind::Plain => false,
+        Kind::Input => false,
+        Kind::Computed => false,
+    }
+}
+
+// Whether a facility of this kind is a plain terminal.
+pub fn is_plain(kind: Kind) -> bool
+    ensures { λ r. ⌜ r ≡ isPlain (kindMeant kind) ⌝ }
+{
+    match kind {
+        Kind::Register => false,
+        Kind::Sequencing => false,
+        Kind::Memory => false,
+        Kind::Plain => true,
+        Kind::Input => false,
+        Kind::Computed => false,
+    }
+}
