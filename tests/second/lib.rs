@@ -1,13 +1,20 @@
 //! A second simulator for DDL-P, written from the papers alone: reading a
-//! text in its stages, opening a run, carrying out cycles.
+//! text in its stages, opening a run, carrying out cycles; and the calls
+//! that a bench makes, over lent bytes.
 
 mod actions;
 pub mod bytes;
+pub mod calls;
 pub mod description;
 pub mod evaluate;
 mod expressions;
 mod grammar;
+pub mod image;
 mod lengths;
+pub mod load;
+mod load_actions;
+mod load_expressions;
+pub mod record;
 pub mod refusal;
 mod rules;
 pub mod sound;

@@ -8,6 +8,7 @@ mod deeds;
 pub mod edges;
 pub mod faults;
 pub mod generate;
+mod images;
 pub mod layout;
 pub mod mutate;
 mod phrases;
