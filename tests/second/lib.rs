@@ -28,6 +28,7 @@ mod work;
 pub use bytes::store_bytes;
 pub use description::Description;
 pub use refusal::Refusal;
+pub use rules::description as judged;
 pub use sound::resume;
 pub use step::{cycle, cycle_bytes, open, Outcome, Run};
 
@@ -41,4 +42,11 @@ pub fn read(text: &[u8]) -> Result<Description, Refusal> {
     let words = words::words(text)?;
     let outline = grammar::outline(&words, text.len())?;
     rules::description(outline)
+}
+
+/// All faults of a text's last stage, if it gets there.
+pub fn faults(text: &[u8]) -> Vec<Refusal> {
+    let words = words::words(text).unwrap_or_default();
+    let outline = grammar::outline(&words, text.len());
+    outline.map_or(Vec::new(), |outline| rules::faults(&outline))
 }

@@ -14,5 +14,5 @@ pub mod mutate;
 mod phrases;
 mod piece;
 pub mod random;
-mod running;
+pub mod running;
 pub mod supply;
