@@ -14,6 +14,9 @@ const SIZES: [usize; 6] = [FACILITY, OPERATION, EXPRESSION, ACTION, STATE, 1];
 
 pub fn some_forged(harness: &mut Harness) -> Result<(), Failure> {
     let (description, image) = legal_image(harness)?;
+    if harness.random.chance(10) {
+        return every_header_field(harness, &image);
+    }
     let loan = some_loan(harness, &description, image)?;
     let stimulus = stimulus_bytes(&supply::stimulus(&description, &mut harness.random));
     for _ in 0..8 {
@@ -33,6 +36,18 @@ pub fn some_forged(harness: &mut Harness) -> Result<(), Failure> {
                 let number = harness.random.below(4) as u32;
                 held::lookups(harness, kind, &forged.image, number)?;
             }
+        }
+    }
+    Ok(())
+}
+
+/// Each number of the header, changed in each way.
+fn every_header_field(harness: &mut Harness, image: &[u8]) -> Result<(), Failure> {
+    for field in 0..HEADER / 4 {
+        for number in near(four(image, field)) {
+            let mut forged = image.to_vec();
+            set_four(&mut forged, field, number);
+            held::open(harness, "of each forged header", &forged, [20, 80])?;
         }
     }
     Ok(())
@@ -59,11 +74,15 @@ fn set_four(image: &mut [u8], field: usize, number: u32) {
     image[4 * field..4 * field + 4].copy_from_slice(&number.to_le_bytes());
 }
 
+/// Numbers that are off by one, or far off.
+fn near(number: u32) -> [u32; 7] {
+    [number.wrapping_add(1), number.wrapping_sub(1), number ^ 0x0100_0000, 0, u32::MAX, 1 << 31, 65_536]
+}
+
 fn header(image: &mut [u8], random: &mut Random) -> &'static str {
-    let field = random.below(13);
-    let number = four(image, field);
-    let near = [number.wrapping_add(1), number.wrapping_sub(1), number ^ 0x0100_0000, 0, u32::MAX, 1 << 31, 65_536];
-    set_four(image, field, random.pick(&near));
+    let field = random.below(HEADER / 4);
+    let number = random.pick(&near(four(image, field)));
+    set_four(image, field, number);
     "forged in its header"
 }
 

@@ -1,13 +1,15 @@
 //! Holds the module, linked as an archive, against the second simulator.
 //!
-//!     harness SEED TRIES    tries from this seed; ends with status 1 if any call differs
-//!     harness --on SEED     goes on with new seeds until a call differs
+//!     harness SEED TRIES         tries from this seed; ends with status 1 if any call differs
+//!     harness --on SEED          goes on with new seeds until a call differs
+//!     harness --corpus FOLDER    the cases of the corpus
 //!
 //! A try makes many calls; each is held against the second simulator in its
 //! answer and in every byte of every part lent. What was tried is printed by
 //! kind and outcome. A failure is printed with its seed: `harness SEED 1`
 //! repeats it alone.
 
+mod corpus;
 mod deep;
 mod forged;
 mod held;
@@ -20,7 +22,10 @@ mod walls;
 use second::trials::random::Random;
 use std::collections::BTreeMap;
 use std::env;
+use std::fmt::Display;
+use std::fs;
 use std::panic::{catch_unwind, AssertUnwindSafe};
+use std::path::Path;
 use std::process::ExitCode;
 use std::thread;
 
@@ -31,6 +36,8 @@ pub type Failure = String;
 const STACK: usize = 8 << 20;
 /// A failure in this many tries says enough.
 const FAILURES: usize = 5;
+/// The tries after which the mode that goes on tells what it did.
+const BATCH: u64 = 10_000;
 
 #[derive(Default)]
 pub struct Tally {
@@ -66,17 +73,21 @@ fn attempt(harness: &mut Harness) -> Result<(), Failure> {
     }
 }
 
-/// True if no call differs; stops after some failures.
-fn tried(seeds: impl Iterator<Item = u64>) -> bool {
+/// True if no call differs; stops after some failures. Each try has a name
+/// and a seed of its own.
+fn tried<T: Display>(
+    tries: impl Iterator<Item = (T, u64)>,
+    attempt: impl Fn(&mut Harness, &T) -> Result<(), Failure>,
+) -> bool {
     let mut tally = Tally::default();
-    let (mut tries, mut failures) = (0, 0);
-    for seed in seeds {
-        tries += 1;
+    let (mut count, mut failures) = (0, 0);
+    for (name, seed) in tries {
+        count += 1;
         let mut harness = Harness { random: Random::new(seed), tally: &mut tally };
-        let tried = catch_unwind(AssertUnwindSafe(|| attempt(&mut harness)));
+        let tried = catch_unwind(AssertUnwindSafe(|| attempt(&mut harness, &name)));
         if let Err(failure) = tried.unwrap_or(Err("panicked".to_string())) {
             failures += 1;
-            println!("seed {seed}: {failure}");
+            println!("{name}: {failure}");
         }
         if failures == FAILURES {
             break;
@@ -85,8 +96,21 @@ fn tried(seeds: impl Iterator<Item = u64>) -> bool {
     for (what, times) in &tally.outcomes {
         println!("{times:8} {what}");
     }
-    println!("harness: {tries} tries, {} cases, {failures} tries failed", tally.cases);
+    println!("harness: {count} tries, {} cases, {failures} tries failed", tally.cases);
     failures == 0
+}
+
+fn random_tries(seed: u64, tries: u64) -> bool {
+    let seeds = seed..seed.saturating_add(tries);
+    tried(seeds.map(|seed| (format!("seed {seed}"), seed)), |harness, _| attempt(harness))
+}
+
+fn corpus_tries(folder: &str) -> Result<bool, String> {
+    let entries = fs::read_dir(folder).map_err(|error| format!("{folder}: {error}"))?;
+    let mut cases: Vec<_> = entries.flatten().map(|entry| entry.path()).collect();
+    cases.sort();
+    let named = cases.iter().map(|case| (case.display(), 1));
+    Ok(tried(named, |harness, case| corpus::one_case(harness, Path::new(&case.to_string()))))
 }
 
 fn harness(arguments: &[String]) -> Result<bool, String> {
@@ -94,16 +118,14 @@ fn harness(arguments: &[String]) -> Result<bool, String> {
     match arguments {
         [on, seed] if on == "--on" => {
             let mut seed = number(seed)?;
-            while tried(seed..seed + 10_000) {
-                seed += 10_000;
+            while random_tries(seed, BATCH) {
+                seed = seed.wrapping_add(BATCH);
             }
             Ok(false)
         }
-        [seed, tries] => {
-            let (seed, tries) = (number(seed)?, number(tries)?);
-            Ok(tried(seed..seed.saturating_add(tries)))
-        }
-        _ => Err("usage: harness SEED TRIES, or harness --on SEED".to_string()),
+        [corpus, folder] if corpus == "--corpus" => corpus_tries(folder),
+        [seed, tries] => Ok(random_tries(number(seed)?, number(tries)?)),
+        _ => Err("usage: harness SEED TRIES, harness --on SEED, or harness --corpus FOLDER".to_string()),
     }
 }
 

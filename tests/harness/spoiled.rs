@@ -22,9 +22,12 @@ struct Spoiled {
 pub fn some_spoiled(harness: &mut Harness) -> Result<(), Failure> {
     let (description, image) = legal_image(harness)?;
     let loan = some_loan(harness, &description, image)?;
+    let size = store_size(&description);
+    let rooms = [some_room(size, &mut harness.random), some_room(RECORD, &mut harness.random)];
+    held::open(harness, "into any room", &loan.image, rooms)?;
     for _ in 0..4 {
         let cycles = harness.random.pick(&[0, 1, 2, 5]);
-        let trace = harness.random.pick(&[0, 0, 1]) * cycles as usize * store_size(&description);
+        let trace = harness.random.pick(&[0, 0, 1]) * cycles as usize * size;
         let mut one = Spoiled { loan: Loan { trace, ..loan.clone() }, stimuli: Vec::new(), cycles };
         for _ in 0..cycles {
             one.stimuli.extend(stimulus_bytes(&supply::stimulus(&description, &mut harness.random)));
@@ -83,9 +86,14 @@ fn field(record: &mut [u8], description: &Description, random: &mut Random) {
     }
 }
 
+/// None, a byte too few, exact, a byte too many, or any.
+fn some_room(needed: usize, random: &mut Random) -> usize {
+    let any = random.below(2 * needed + 1);
+    random.pick(&[0, needed.saturating_sub(1), needed, needed, needed + 1, any])
+}
+
 fn shorten(bytes: &mut Vec<u8>, needed: usize, random: &mut Random) {
-    let any = random.below(needed + 1);
-    bytes.truncate(random.pick(&[0, needed.saturating_sub(1), needed, any]));
+    bytes.truncate(some_room(needed, random));
 }
 
 /// Stimuli too long or too short, or with a high bit set.
@@ -104,5 +112,5 @@ fn stimuli(one: &mut Spoiled, random: &mut Random) {
 /// Another count of cycles. A huge one only where stimuli are due, so that it cannot be run.
 fn cycles(one: &mut Spoiled, description: &Description, random: &mut Random) {
     let huge = if stimulus_size(description) > 0 { u64::MAX } else { 3 };
-    one.cycles = random.pick(&[0, 1, one.cycles + 1, huge, huge / 2 + 1]);
+    one.cycles = random.pick(&[0, 1, one.cycles.saturating_add(1), huge, huge / 2 + 1]);
 }

@@ -24,7 +24,11 @@ impl Walled {
         Walled { bytes, left, right }
     }
 
+    /// A part without bytes may point anywhere, and so it does.
     pub fn part(&mut self) -> &mut [u8] {
+        if self.bytes.len() == self.left.len() + self.right.len() {
+            return &mut [];
+        }
         let end = self.bytes.len() - self.right.len();
         &mut self.bytes[self.left.len()..end]
     }
