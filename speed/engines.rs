@@ -31,8 +31,8 @@ impl Board {
         image.truncate(answer.length as usize);
         let description = second::read(text).map_err(|refusal| refusal.number as u32)?;
         let mut random = Random::new(1979);
-        let mut stimulus = || second::trials::supply::stimulus(&description, &mut random);
-        let stimuli = (0..CYCLES).flat_map(|_| second::bytes::stimulus_bytes(&stimulus())).collect();
+        let mut some = || second::trials::supply::stimulus(&description, &mut random);
+        let stimuli = (0..CYCLES).flat_map(|_| second::bytes::stimulus_bytes(&some())).collect();
         let (mut store, mut record) = (vec![0; calls::store_size(&description)], vec![0; RECORD]);
         module::open(&image, &mut store, &mut record);
         Ok(Board { image, store, record, stimuli })
@@ -51,14 +51,15 @@ impl Board {
         Ok(())
     }
 
-    fn stimulus(&self, cycle: usize) -> &[u8] {
-        let size = self.stimuli.len() / CYCLES;
-        &self.stimuli[cycle * size..(cycle + 1) * size]
-    }
-
     fn scratch(&self) -> Vec<u8> {
         vec![0; 4 * self.store.len()]
     }
+}
+
+/// The stimulus of one cycle.
+fn stimulus(stimuli: &[u8], cycle: usize) -> &[u8] {
+    let size = stimuli.len() / CYCLES;
+    &stimuli[cycle * size..(cycle + 1) * size]
 }
 
 pub struct Engine {
@@ -116,11 +117,10 @@ fn by_run(board: &mut Board, tools: &mut Tools) -> u64 {
 }
 
 fn by_cycle(board: &mut Board, tools: &mut Tools) -> u64 {
+    let Board { image, store, record, stimuli } = board;
     for cycle in 0..CYCLES {
-        let stimulus = board.stimulus(cycle).to_vec();
-        let Board { image, store, record, .. } = board;
         let lent = Lent { store, record, scratch: &mut tools.scratch, trace: &mut [] };
-        let answer = module::cycle(image, lent, &stimulus);
+        let answer = module::cycle(image, lent, stimulus(stimuli, cycle));
         if answer.stop > 0 || answer.refusal > 0 {
             return cycle as u64;
         }
@@ -129,9 +129,9 @@ fn by_cycle(board: &mut Board, tools: &mut Tools) -> u64 {
 }
 
 fn by_interpreter(board: &mut Board, tools: &mut Tools) -> u64 {
+    let Board { store, record, stimuli, .. } = board;
     for cycle in 0..CYCLES {
-        let stimulus = board.stimulus(cycle).to_vec();
-        if tools.interpreter.cycle(&mut board.store, &mut board.record, &stimulus).0 > 0 {
+        if tools.interpreter.cycle(store, record, stimulus(stimuli, cycle)).0 > 0 {
             return cycle as u64;
         }
     }
@@ -145,7 +145,7 @@ fn by_second(board: &mut Board, tools: &mut Tools) -> u64 {
     };
     let mut cycles = 0;
     for cycle in 0..CYCLES {
-        match second::cycle_bytes(&tools.description, &mut run, board.stimulus(cycle)) {
+        match second::cycle_bytes(&tools.description, &mut run, stimulus(&board.stimuli, cycle)) {
             Outcome::Completed { .. } => cycles += 1,
             _ => break,
         }

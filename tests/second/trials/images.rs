@@ -26,10 +26,59 @@ fn worked_image() -> Vec<u8> {
     lines.filter(is_dump).flat_map(bytes).collect()
 }
 
+/// Bytes of the worked image that spoil it, and why.
+const SPOILED: [(usize, u8, &str); 11] = [
+    (0, 33, "a byte more than there is"),
+    (8, 53, "a gap before the facilities"),
+    (52, 6, "a kind that is not there"),
+    (53, 3, "three dimensions"),
+    (76, 2, "another place in the store"),
+    (79, 2, "an input terminal with two dimensions"),
+    (102, 3, "a facility that is not there"),
+    (175, 11, "a part that is not before its owner"),
+    (185, 6, "TAIL 6 of five bits"),
+    (239, 12, "an arm in the place of an action"),
+    (274, 97, "a letter in lower case"),
+];
+
+/// Bytes that make another image of it: `B <- B`, 4D8, `=> P`, and another name.
+const OTHERWISE: [(usize, u8); 4] = [(102, 1), (143, 8), (253, 8), (274, b'X')];
+
 pub fn worked_image_agrees() -> Result<(), Failure> {
     let description = read(EXAMPLE).map_err(|refusal| format!("the example: {refusal:?}"))?;
-    agree(worked_image().len(), 288, "the worked image's length")?;
-    agree(image(&description), worked_image(), "the worked image")
+    let worked = worked_image();
+    agree(worked.len(), 288, "the worked image's length")?;
+    agree(&image(&description), &worked, "the worked image")?;
+    let passes = |at: usize, byte: u8| {
+        let mut changed = worked.clone();
+        changed[at] = byte;
+        load(&changed).is_some()
+    };
+    for (at, byte, why) in SPOILED {
+        agree(passes(at, byte), false, why)?;
+    }
+    for (at, byte) in OTHERWISE {
+        agree(passes(at, byte), true, &format!("byte {at} of the worked image may be {byte}"))?;
+    }
+    refusals_in_order(&worked)
+}
+
+/// 13, 12, 14, 15: a call with several faults answers the first of them.
+fn refusals_in_order(image: &[u8]) -> Result<(), Failure> {
+    let (mut store, mut record) = (vec![9; 3], vec![9; RECORD]);
+    agree(calls::open(image, &mut store, &mut record), 0, "opening the worked image")?;
+    let mut unsound = record.clone();
+    unsound[4] = 2;
+    let answer = |image: &[u8], record: &[u8], stimulus: &[u8], scratch: usize| {
+        let (mut store, mut record, mut scratch) = (store.clone(), record.to_vec(), vec![1; scratch]);
+        let lent = Lent { store: &mut store, record: &mut record, scratch: &mut scratch, trace: &mut [] };
+        calls::cycle(image, lent, stimulus).refusal
+    };
+    agree(answer(&image[..287], &unsound, &[2], 11), 13, "13 comes first")?;
+    agree(answer(image, &unsound, &[2], 11), 12, "then 12")?;
+    agree(answer(image, &unsound, &[2], 12), 14, "then 14")?;
+    agree(answer(image, &record, &[2], 12), 15, "then 15")?;
+    agree(answer(image, &record, &[1], 12), 0, "and then none")
 }
 
 /// An image describes what it was made of, and runs alike.
