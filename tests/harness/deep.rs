@@ -17,14 +17,19 @@ const COUNTED: usize = 2_048;
 
 pub fn some_deep(harness: &mut Harness) -> Result<(), Failure> {
     let random = &mut harness.random;
-    let (kind, outline) = match random.below(4) {
+    let (kind, outline) = match random.below(5) {
         0 => ("at a ceiling", ceiling(random)),
-        1 => ("deep in actions", deep_actions(random)),
+        1 => return most_work(harness),
+        2 => ("deep in actions", deep_actions(random)),
         _ => ("deep in an expression", deep_expression(random)),
     };
     let description = second::judged(outline).map_err(|refusal| format!("{kind}: {refusal:?}"))?;
-    let image = image(&description);
-    let size = store_size(&description);
+    run_image(harness, kind, &description)
+}
+
+fn run_image(harness: &mut Harness, kind: &str, description: &Description) -> Result<(), Failure> {
+    let image = image(description);
+    let size = store_size(description);
     let (refusal, store, record) = held::open(harness, kind, &image, [size, RECORD])?;
     held::lookups(harness, kind, &image, 0)?;
     if refusal > 0 {
@@ -154,4 +159,23 @@ fn ceiling(random: &mut Random) -> Outline {
         }
     }
     outline
+}
+
+/// Operations that double each other's work, and a state that needs 65,536 in all, or one more.
+fn most_work(harness: &mut Harness) -> Result<(), Failure> {
+    let set = || Action::Set { left: whole("T"), sign: 0 };
+    let perform = |number: usize| Action::Operation(name(&format!("D{number}")));
+    let mut outline = outline(vec![set()]);
+    for number in 0..15 {
+        let actions = if number == 0 { vec![set()] } else { vec![perform(number - 1), perform(number - 1)] };
+        outline.operations.push(Operation { name: name(&format!("D{number}")), actions });
+    }
+    // D0 needs 1 and each other 2 more than twice the one before it; naming it needs 1.
+    outline.states[0].actions = [14, 12, 10, 8, 6, 4, 2, 2].map(perform).to_vec();
+    outline.states.push(State { place: 0, label: None, value: None, actions: Vec::new() });
+    let mut description = second::judged(outline).map_err(|refusal| format!("most work: {refusal:?}"))?;
+    if harness.random.chance(50) {
+        description.outline.states[0].actions.push(set());
+    }
+    run_image(harness, "of the most work", &description)
 }

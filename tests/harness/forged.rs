@@ -1,16 +1,16 @@
-//! Forged images: header fields, record bytes, records moved, names, lengths.
-//! Most do not pass; those that do are run.
+//! Forged images: any bytes changed, fields given other values, records
+//! moved, descriptions that no text can tell. Those that pass are run.
 
-use crate::held;
+use crate::fields::{count, four, resize, set_four, start, SIZES};
 use crate::runs::{legal_image, some_loan};
+use crate::untold::untold;
 use crate::walls::garbage;
-use crate::{Failure, Harness};
+use crate::{fields, held, Failure, Harness};
 use second::bytes::stimulus_bytes;
-use second::image::{ACTION, EXPRESSION, FACILITY, HEADER, OPERATION, STATE};
+use second::image::HEADER;
 use second::trials::random::Random;
 use second::trials::supply;
-
-const SIZES: [usize; 6] = [FACILITY, OPERATION, EXPRESSION, ACTION, STATE, 1];
+use second::Description;
 
 pub fn some_forged(harness: &mut Harness) -> Result<(), Failure> {
     let (description, image) = legal_image(harness)?;
@@ -21,7 +21,7 @@ pub fn some_forged(harness: &mut Harness) -> Result<(), Failure> {
     let stimulus = stimulus_bytes(&supply::stimulus(&description, &mut harness.random));
     for _ in 0..8 {
         let mut forged = loan.clone();
-        let kind = forge(&mut forged.image, &mut harness.random);
+        let kind = forge(&mut forged.image, &description, &mut harness.random);
         held::cycle(harness, kind, &mut forged, &stimulus)?;
         let kind = "of a forged image";
         match harness.random.below(3) {
@@ -54,24 +54,35 @@ fn every_header_field(harness: &mut Harness, image: &[u8]) -> Result<(), Failure
 }
 
 /// Changes the image; says how.
-fn forge(image: &mut Vec<u8>, random: &mut Random) -> &'static str {
-    match random.below(10) {
+fn forge(image: &mut Vec<u8>, description: &Description, random: &mut Random) -> &'static str {
+    match random.below(20) {
         0 | 1 => header(image, random),
-        2..=4 => record_byte(image, random),
-        5 => record_field(image, random),
-        6 => swapped(image, random),
-        7 => resized(image, random),
-        8 => name(image, random),
-        _ => any_bytes(image, random),
+        2 | 3 => record_byte(image, random),
+        4 => record_field(image, random),
+        5 => swapped(image, random),
+        6 => resized(image, random),
+        7 => name(image, random),
+        8 => any_bytes(image, random),
+        _ => by_meaning(image, description, random),
     }
 }
 
-fn four(image: &[u8], field: usize) -> u32 {
-    image[4 * field..4 * field + 4].iter().rev().fold(0, |number, &byte| number << 8 | byte as u32)
-}
-
-fn set_four(image: &mut [u8], field: usize, number: u32) {
-    image[4 * field..4 * field + 4].copy_from_slice(&number.to_le_bytes());
+/// A field or a tree changed; not every description has one of each kind.
+fn by_meaning(image: &mut Vec<u8>, description: &Description, random: &mut Random) -> &'static str {
+    for _ in 0..10 {
+        let untold = untold(description, random).filter(|_| random.chance(40));
+        let kind = match untold {
+            Some((kind, untold)) => {
+                *image = untold;
+                Some(kind)
+            }
+            None => fields::forge(image, random),
+        };
+        if let Some(kind) = kind {
+            return kind;
+        }
+    }
+    "as it was"
 }
 
 /// Numbers that are off by one, or far off.
@@ -88,9 +99,9 @@ fn header(image: &mut [u8], random: &mut Random) -> &'static str {
 
 /// A section with records: its number, its first byte, and how many records.
 fn some_section(image: &[u8], random: &mut Random) -> (usize, usize, usize) {
-    let sections: Vec<usize> = (0..6).filter(|section| four(image, 1 + 2 * section) > 0).collect();
+    let sections: Vec<usize> = (0..6).filter(|&section| count(image, section) > 0).collect();
     let section = random.pick(&sections);
-    (section, four(image, 2 + 2 * section) as usize, four(image, 1 + 2 * section) as usize)
+    (section, start(image, section), count(image, section))
 }
 
 fn record_byte(image: &mut [u8], random: &mut Random) -> &'static str {
@@ -127,29 +138,17 @@ fn resized(image: &mut Vec<u8>, random: &mut Random) -> &'static str {
     let size = SIZES[section];
     let at = start + random.below(count) * size;
     let record = image[at..at + size].to_vec();
-    let more = random.chance(50);
-    let change = |number: u32, by: usize| if more { number + by as u32 } else { number - by as u32 };
-    if more {
-        image.splice(at..at, record);
-    } else {
-        image.drain(at..at + size);
+    if random.chance(50) {
+        resize(image, section, at, 0, &record);
+        return "with a record doubled";
     }
-    let later = (section + 1..6).map(|later| (2 + 2 * later, size));
-    for (field, by) in [(0, size), (1 + 2 * section, 1)].into_iter().chain(later) {
-        let number = four(image, field);
-        set_four(image, field, change(number, by));
-    }
-    if more {
-        "with a record doubled"
-    } else {
-        "with a record taken out"
-    }
+    resize(image, section, at, size, &[]);
+    "with a record taken out"
 }
 
 /// A name that no text has, or another that one has.
 fn name(image: &mut [u8], random: &mut Random) -> &'static str {
-    let (start, count) = (four(image, 12) as usize, four(image, 11) as usize);
-    let at = start + random.below(count);
+    let at = start(image, 5) + random.below(count(image, 5));
     image[at] = random.pick(b"ABZ09az_@[/: \0\xff");
     "forged in a name"
 }

@@ -11,12 +11,14 @@
 
 mod corpus;
 mod deep;
+mod fields;
 mod forged;
 mod held;
 mod module;
 mod runs;
 mod spoiled;
 mod texts;
+mod untold;
 mod walls;
 
 use second::trials::random::Random;
