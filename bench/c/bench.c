@@ -51,10 +51,19 @@ static const char *const stops[] = {
     [DDLP_STOP_NO_ARM] = "a CASE has no arm for its value",
 };
 
+/* A facility as the lookups tell of it. */
+struct facility {
+    struct ddlp_facility_answer declared;
+    struct ddlp_name_answer name;
+    size_t before; /* the bytes of the input terminals before it, in a stimulus */
+};
+
 /* A run and all that it is lent. */
 struct board {
     uint8_t image[DDLP_LARGEST_IMAGE];
     size_t image_length;
+    struct facility facilities[DDLP_MOST_FACILITIES];
+    unsigned facility_count;
     uint8_t store[DDLP_LARGEST_STORE];
     uint8_t record[DDLP_RECORD_SIZE];
     uint8_t scratch[DDLP_SCRATCH_STORES * DDLP_LARGEST_STORE];
@@ -102,30 +111,40 @@ static void put_bit(struct word word, size_t weight, int bit)
 
 /* ---- Facilities by name. */
 
-static int is_named(uint32_t number, const char *name, size_t length)
+/* Every lookup checks the whole image, so each is made once. */
+static void look_up(void)
 {
-    struct ddlp_name_answer answer = ddlp_facility_name(board.image, board.image_length, number);
-    if (answer.refusal != DDLP_ACCEPTED || answer.length != length)
+    size_t before = 0;
+    for (unsigned number = 0; number < DDLP_MOST_FACILITIES; number++) {
+        struct facility *f = &board.facilities[number];
+        f->declared = ddlp_facility(board.image, board.image_length, number);
+        if (f->declared.refusal != DDLP_ACCEPTED)
+            break;
+        f->name = ddlp_facility_name(board.image, board.image_length, number);
+        f->before = before;
+        if (f->declared.kind == DDLP_INPUT_TERMINAL)
+            before += word_bytes(&f->declared);
+        board.facility_count++;
+    }
+    board.stimulus_length = before;
+}
+
+static int is_named(const struct facility *f, const char *name, size_t length)
+{
+    if (f->name.length != length)
         return 0;
     for (size_t i = 0; i < length; i++)
-        if (toupper((unsigned char)name[i]) != board.image[answer.offset + i])
+        if (toupper((unsigned char)name[i]) != board.image[f->name.offset + i])
             return 0;
     return 1;
 }
 
-/* The facility of this name: 1 if there is one. `before` is then the bytes of the input terminals before it. */
-static int find(const char *name, size_t length, struct ddlp_facility_answer *found, size_t *before)
+static const struct facility *find(const char *name, size_t length)
 {
-    *before = 0;
-    for (uint32_t number = 0;; number++) {
-        *found = ddlp_facility(board.image, board.image_length, number);
-        if (found->refusal != DDLP_ACCEPTED)
-            return 0;
-        if (is_named(number, name, length))
-            return 1;
-        if (found->kind == DDLP_INPUT_TERMINAL)
-            *before += word_bytes(found);
-    }
+    for (unsigned number = 0; number < board.facility_count; number++)
+        if (is_named(&board.facilities[number], name, length))
+            return &board.facilities[number];
+    return NULL;
 }
 
 /* How far a subscript is from the first bound; -1 outside the bounds. */
@@ -140,21 +159,22 @@ static long position(const struct ddlp_facility_answer *f, long subscript)
 /* The word that NAME or NAME[n] means, in the store or as an input. 1 if there is one. */
 static int find_word(const char *name, int as_input, struct word *word)
 {
-    struct ddlp_facility_answer f;
-    size_t before, length = strcspn(name, "[=");
+    size_t length = strcspn(name, "[=");
+    const struct facility *f = find(name, length);
     long at = 0;
-    if (!find(name, length, &f, &before) || !f.stored || (as_input && f.kind != DDLP_INPUT_TERMINAL))
+    if (f == NULL || !f->declared.stored || (as_input && f->declared.kind != DDLP_INPUT_TERMINAL))
         return 0;
-    if ((f.dimensions == 2) != (name[length] == '['))
+    if ((f->declared.dimensions == 2) != (name[length] == '['))
         return 0;
-    if (f.dimensions == 2) {
+    if (f->declared.dimensions == 2) {
         char *end;
-        at = position(&f, strtol(name + length + 1, &end, 10));
+        at = position(&f->declared, strtol(name + length + 1, &end, 10));
         if (at < 0 || strncmp(end, "]=", 2) != 0)
             return 0;
     }
-    word->bits = word_bits(&f);
-    word->bytes = as_input ? board.stimulus + before : board.store + f.place + (size_t)at * word_bytes(&f);
+    word->bits = word_bits(&f->declared);
+    word->bytes = as_input ? board.stimulus + f->before
+                           : board.store + f->declared.place + (size_t)at * word_bytes(&f->declared);
     return 1;
 }
 
@@ -297,14 +317,6 @@ static int read_description(const char *path)
     return AGREES;
 }
 
-/* The stimulus takes the input terminals' bytes: those before a facility that is not there. */
-static void open_run(void)
-{
-    struct ddlp_facility_answer none;
-    find("", 0, &none, &board.stimulus_length);
-    ddlp_open(board.image, board.image_length, board.store, sizeof board.store, board.record, sizeof board.record);
-}
-
 int main(int count, char **arguments)
 {
     if (count != 3) {
@@ -314,7 +326,8 @@ int main(int count, char **arguments)
     int status = read_description(arguments[1]);
     if (status != AGREES)
         return status;
-    open_run();
+    look_up();
+    ddlp_open(board.image, board.image_length, board.store, sizeof board.store, board.record, sizeof board.record);
     FILE *cases = fopen(arguments[2], "r");
     if (cases == NULL) {
         perror(arguments[2]);

@@ -6,16 +6,30 @@ use crate::refusal::Refusal;
 use crate::stimulus::Stimulus;
 use std::error::Error;
 use std::fmt;
+use std::ops::Range;
 
 const LARGEST: usize = 165_556;
 /// Where the header counts facilities and states.
 const FACILITIES: usize = 4;
 const STATES: usize = 36;
 
-/// An image that passes.
+/// An image that passes. What its lookups answer is asked once.
 #[derive(Clone, Debug, PartialEq, Eq)]
 pub struct Image {
     bytes: Vec<u8>,
+    facilities: Vec<Declared>,
+    /// The parts of the image that are the states' labels.
+    labels: Vec<Range<usize>>,
+}
+
+/// A facility whose name is a part of the image.
+#[derive(Clone, Debug, PartialEq, Eq)]
+struct Declared {
+    name: Range<usize>,
+    kind: Kind,
+    words: Option<Bounds>,
+    bits: Option<Bounds>,
+    place: Option<usize>,
 }
 
 /// Why a text was refused, and the byte at fault.
@@ -41,7 +55,7 @@ impl Image {
         Refusal::answered(answer.refusal).map_err(|refusal| ReadError { refusal, place })?;
         bytes.truncate(answer.length as usize);
         bytes.shrink_to_fit();
-        Ok(Image { bytes })
+        Image::looked_up(bytes).map_err(|refusal| ReadError { refusal, place: 0 })
     }
 
     /// Bytes kept from an earlier reading, if they pass; those past the image are let go.
@@ -49,7 +63,15 @@ impl Image {
         Refusal::answered(calls::facility_name(&bytes, 0).refusal)?;
         let total = number_at(&bytes, 0) as usize;
         bytes.truncate(total);
-        Ok(Image { bytes })
+        Image::looked_up(bytes)
+    }
+
+    fn looked_up(bytes: Vec<u8>) -> Result<Image, Refusal> {
+        let facilities = (0..number_at(&bytes, FACILITIES)).map(|number| declared(&bytes, number));
+        let facilities = facilities.collect::<Result<_, _>>()?;
+        let labels = (0..number_at(&bytes, STATES)).map(|number| part(calls::state_name(&bytes, number)));
+        let labels = labels.collect::<Result<_, _>>()?;
+        Ok(Image { bytes, facilities, labels })
     }
 
     pub fn as_bytes(&self) -> &[u8] {
@@ -57,26 +79,17 @@ impl Image {
     }
 
     pub fn facility_count(&self) -> u32 {
-        number_at(&self.bytes, FACILITIES)
+        self.facilities.len() as u32
     }
 
     pub fn state_count(&self) -> u32 {
-        number_at(&self.bytes, STATES)
+        self.labels.len() as u32
     }
 
     pub fn facility(&self, number: u32) -> Result<Facility<'_>, Refusal> {
-        let answer = calls::facility(&self.bytes, number);
-        Refusal::answered(answer.refusal)?;
-        let words = Bounds { first: answer.words_first, last: answer.words_last };
-        let bits = Bounds { first: answer.bits_first, last: answer.bits_last };
-        Ok(Facility {
-            number,
-            name: self.name(calls::facility_name(&self.bytes, number))?,
-            kind: Kind::of(answer.kind),
-            words: (answer.dimensions == 2).then_some(words),
-            bits: (answer.dimensions >= 1).then_some(bits),
-            place: (answer.stored == 1).then_some(answer.place as usize),
-        })
+        let declared = self.facilities.get(number as usize).ok_or(Refusal::Subscript)?;
+        let Declared { kind, words, bits, place, .. } = *declared;
+        Ok(Facility { number, name: self.name(&declared.name), kind, words, bits, place })
     }
 
     /// All facilities, as declared.
@@ -91,15 +104,12 @@ impl Image {
 
     /// A state's label; empty for a state without one.
     pub fn state_name(&self, number: u32) -> Result<&str, Refusal> {
-        self.name(calls::state_name(&self.bytes, number))
+        self.labels.get(number as usize).map(|label| self.name(label)).ok_or(Refusal::Subscript)
     }
 
-    /// The part of the image that a lookup answers.
-    fn name(&self, answer: calls::NameAnswer) -> Result<&str, Refusal> {
-        Refusal::answered(answer.refusal)?;
-        let start = answer.offset as usize;
-        let part = self.bytes.get(start..start + answer.length as usize).unwrap_or_default();
-        Ok(std::str::from_utf8(part).unwrap_or_default())
+    fn name(&self, part: &Range<usize>) -> &str {
+        let bytes = self.bytes.get(part.clone()).unwrap_or_default();
+        std::str::from_utf8(bytes).unwrap_or_default()
     }
 
     /// The bytes of a store.
@@ -120,6 +130,27 @@ impl Image {
     pub fn stimulus(&self) -> Stimulus<'_> {
         Stimulus::new(self)
     }
+}
+
+/// The part of the image that a lookup answers.
+fn part(answer: calls::NameAnswer) -> Result<Range<usize>, Refusal> {
+    Refusal::answered(answer.refusal)?;
+    let start = answer.offset as usize;
+    Ok(start..start + answer.length as usize)
+}
+
+fn declared(bytes: &[u8], number: u32) -> Result<Declared, Refusal> {
+    let answer = calls::facility(bytes, number);
+    Refusal::answered(answer.refusal)?;
+    let words = Bounds { first: answer.words_first, last: answer.words_last };
+    let bits = Bounds { first: answer.bits_first, last: answer.bits_last };
+    Ok(Declared {
+        name: part(calls::facility_name(bytes, number))?,
+        kind: Kind::of(answer.kind),
+        words: (answer.dimensions == 2).then_some(words),
+        bits: (answer.dimensions >= 1).then_some(bits),
+        place: (answer.stored == 1).then_some(answer.place as usize),
+    })
 }
 
 fn number_at(bytes: &[u8], at: usize) -> u32 {

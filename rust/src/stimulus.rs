@@ -38,16 +38,14 @@ impl<'a> Stimulus<'a> {
 
     /// Sets an input terminal, by its name in any case of letters, to bits such as `0110`.
     pub fn set(&mut self, name: &str, bits: &str) -> Result<(), StimulusError> {
-        let mut start = 0;
+        let mut before = 0;
         for input in self.image.inputs() {
-            let end = start + input.bytes();
             if input.name.eq_ignore_ascii_case(name) {
                 let word = parsed(bits, input.word_length()).ok_or(StimulusError::Bits)?;
-                let place = self.bytes.get_mut(start..end).ok_or(StimulusError::Bits)?;
-                place.copy_from_slice(&word);
+                self.bytes.iter_mut().skip(before).zip(word).for_each(|(place, byte)| *place = byte);
                 return Ok(());
             }
-            start = end;
+            before += input.bytes();
         }
         Err(StimulusError::NoInput)
     }

@@ -58,7 +58,7 @@ pub fn resize(image: &mut Vec<u8>, section: usize, at: usize, removed: usize, ad
 
 /// Changes one field of some record; nothing where none is of the kind looked for.
 pub fn forge(image: &mut Vec<u8>, random: &mut Random) -> Option<&'static str> {
-    match random.below(14) {
+    match random.below(15) {
         0 => kind(image, random),
         1 => dimensions(image, random),
         2 => operator(image, random),
@@ -72,6 +72,7 @@ pub fn forge(image: &mut Vec<u8>, random: &mut Random) -> Option<&'static str> {
         10 => state_value(image, random),
         11 => reserved(image, random),
         12 => name_for_another(image, random),
+        13 => label_taken_away(image, random),
         _ => name_length(image, random),
     }
 }
@@ -228,12 +229,27 @@ fn name_for_another(image: &mut [u8], random: &mut Random) -> Option<&'static st
     Some("with a name for another")
 }
 
+/// The bytes of a name, and the length that its record says.
+fn rename(image: &mut Vec<u8>, (place, length, field): (usize, usize, usize), name: &[u8]) {
+    image[field] = name.len() as u8;
+    resize(image, NAMES, place, length, name);
+}
+
+/// A state without its label, which may have a value or be gone to.
+fn label_taken_away(image: &mut Vec<u8>, random: &mut Random) -> Option<&'static str> {
+    let names = names(image);
+    let states = names.len() - count(image, STATES);
+    let label = random.pick(&names[states..]);
+    rename(image, label, &[]);
+    Some("with a label taken away")
+}
+
 /// A name taken away, made longer than 132, or a letter shorter or longer.
 fn name_length(image: &mut Vec<u8>, random: &mut Random) -> Option<&'static str> {
-    let (place, length, field) = random.pick(&names(image));
-    let wanted = random.pick(&[0, 0, 132, 133, length.saturating_sub(1), length + 1]);
-    let name: Vec<u8> = image[place..place + length].iter().copied().chain([b'Z'; 133]).take(wanted).collect();
-    image[field] = wanted as u8;
-    resize(image, NAMES, place, length, &name);
+    let name = random.pick(&names(image));
+    let (place, length, _) = name;
+    let wanted = random.pick(&[0, 132, 133, length.saturating_sub(1), length + 1]);
+    let other: Vec<u8> = image[place..place + length].iter().copied().chain([b'Z'; 133]).take(wanted).collect();
+    rename(image, name, &other);
     Some("with a name of another length")
 }
