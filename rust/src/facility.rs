@@ -3,11 +3,17 @@
 /// The six kinds of facilities.
 #[derive(Clone, Copy, Debug, PartialEq, Eq, Hash)]
 pub enum Kind {
+    /// `REGISTER A`: takes delayed and immediate stores.
     Register,
+    /// `REGISTER #A`: has the value of the state.
     SequencingRegister,
+    /// `MEMORY M`: takes immediate stores.
     Memory,
+    /// `TERMINAL T`: is cleared before each cycle.
     PlainTerminal,
+    /// `TERMINAL T = INPUT(c, T)`: is set by the stimulus.
     InputTerminal,
+    /// `TERMINAL T = e`: is worked out when read, and has no place in the store.
     ComputedTerminal,
 }
 
@@ -27,7 +33,9 @@ impl Kind {
 /// First and last bound of a dimension, in declared order: `[15:0]` has 15 first.
 #[derive(Clone, Copy, Debug, PartialEq, Eq, Hash)]
 pub struct Bounds {
+    /// Names the first word, or the most significant bit.
     pub first: u32,
+    /// Names the last word, or the least significant bit.
     pub last: u32,
 }
 
@@ -51,6 +59,7 @@ pub struct Facility<'a> {
     pub number: u32,
     /// In capitals; a part of the image.
     pub name: &'a str,
+    /// Which of the six kinds it is of.
     pub kind: Kind,
     /// Of the words, where there are two dimensions.
     pub words: Option<Bounds>,
@@ -61,10 +70,12 @@ pub struct Facility<'a> {
 }
 
 impl Facility<'_> {
+    /// How many words it has: one, below two dimensions.
     pub fn word_count(&self) -> usize {
         self.words.map_or(1, Bounds::span)
     }
 
+    /// How many bits a word has.
     pub fn word_length(&self) -> usize {
         self.bits.map_or(1, Bounds::span)
     }

@@ -35,7 +35,9 @@ struct Declared {
 /// Why a text was refused, and the byte at fault.
 #[derive(Clone, Copy, Debug, PartialEq, Eq, Hash)]
 pub struct ReadError {
+    /// Why.
     pub refusal: Refusal,
+    /// The first byte of the word, name, operator, store sign or state at fault.
     pub place: usize,
 }
 
@@ -48,6 +50,7 @@ impl fmt::Display for ReadError {
 impl Error for ReadError {}
 
 impl Image {
+    /// The image of a DDL-P text.
     pub fn read(text: &[u8]) -> Result<Image, ReadError> {
         let mut bytes = vec![0; LARGEST];
         let answer = calls::read(text, &mut bytes);
@@ -74,18 +77,22 @@ impl Image {
         Ok(Image { bytes, facilities, labels })
     }
 
+    /// The bytes of docs/IMAGE.md, to be kept.
     pub fn as_bytes(&self) -> &[u8] {
         &self.bytes
     }
 
+    /// How many facilities are declared.
     pub fn facility_count(&self) -> u32 {
         self.facilities.len() as u32
     }
 
+    /// How many states there are.
     pub fn state_count(&self) -> u32 {
         self.labels.len() as u32
     }
 
+    /// By its number, from 0 as declared.
     pub fn facility(&self, number: u32) -> Result<Facility<'_>, Refusal> {
         let declared = self.facilities.get(number as usize).ok_or(Refusal::Subscript)?;
         let Declared { kind, words, bits, place, .. } = *declared;

@@ -20,6 +20,8 @@
 //! the folder that the variable DDLP_ARCHIVE names, with rustc from the one
 //! that `-L native=` names.
 
+#![warn(missing_docs)]
+
 mod calls;
 mod facility;
 mod image;

@@ -7,19 +7,33 @@ use std::fmt;
 #[derive(Clone, Copy, Debug, PartialEq, Eq, Hash)]
 #[non_exhaustive]
 pub enum Refusal {
+    /// 1: the text is too long.
     TextTooLong,
+    /// 2: a character is not allowed, or a line too long.
     CharacterOrLine,
+    /// 3: no legal text goes on with this word.
     Grammar,
+    /// 4: a name is unknown here, of the wrong kind, declared twice, or too long.
     Name,
+    /// 5: a constant is wrong.
     Constant,
+    /// 6: subscripts are wrong in count, bound or direction; of a lookup: no such number.
     Subscript,
+    /// 7: a length rule is broken.
     Length,
+    /// 8: a facility does not take this store.
     StoreKind,
+    /// 9: the sequencing register or a state's value is wrong.
     Sequencing,
+    /// 10: a ceiling is passed.
     Ceiling,
+    /// 12: a lent buffer is too short.
     BufferTooShort,
+    /// 13: the image does not pass.
     Image,
+    /// 14: store or record is unsound.
     Unsound,
+    /// 15: the stimulus is of the wrong length, or has a spare bit set.
     Stimulus,
     /// A number that the module does not give.
     Other(u32),
@@ -52,6 +66,7 @@ impl Refusal {
         Err(known.map_or(Refusal::Other(number), |(refusal, ..)| *refusal))
     }
 
+    /// The number that the paper gives it.
     pub fn number(self) -> u32 {
         match self {
             Refusal::Other(number) => number,
@@ -73,13 +88,21 @@ impl Error for Refusal {}
 #[derive(Clone, Copy, Debug, PartialEq, Eq, Hash)]
 #[non_exhaustive]
 pub enum Stop {
+    /// S1: a computed subscript lies outside its bounds.
     Subscript,
+    /// S2: two plain next states, or two calls.
     TwoNextStates,
+    /// S3: the sequencing register got a value that no state bears.
     NoStateBears,
+    /// S4: RETURN with no return held.
     NothingToReturn,
+    /// S5: a call with 16 returns held.
     TooManyCalls,
+    /// S6: no next state is given and no state stands below.
     NoStateBelow,
+    /// S7: the cycle number is 4,294,967,295.
     LastCycle,
+    /// S8: a CASE has no arm for its value.
     NoArm,
     /// A number that the module does not give.
     Other(u32),
@@ -106,6 +129,7 @@ impl Stop {
         }
     }
 
+    /// The number that the paper gives it.
     pub fn number(self) -> u32 {
         match self {
             Stop::Other(number) => number,
@@ -126,7 +150,9 @@ impl Error for Stop {}
 /// Why a cycle was not completed. Store and record are as they were.
 #[derive(Clone, Copy, Debug, PartialEq, Eq, Hash)]
 pub enum Halt {
+    /// It was not begun.
     Refused(Refusal),
+    /// It could not be completed.
     Stopped(Stop),
 }
 

@@ -67,6 +67,7 @@ impl<'a> Run<'a> {
         Ok(Ran { cycles: answer.cycles, conflicts: answer.conflicts, stop: Stop::answered(answer.stop) })
     }
 
+    /// The image that is run.
     pub fn image(&self) -> &'a Image {
         self.image
     }
@@ -86,10 +87,12 @@ impl<'a> Run<'a> {
         four.iter().rev().fold(0, |number, &byte| number << 8 | byte as u32)
     }
 
+    /// The bytes of docs/STORE.md.
     pub fn store(&self) -> &[u8] {
         &self.store
     }
 
+    /// The bytes of docs/RECORD.md.
     pub fn record(&self) -> &[u8] {
         &self.record
     }

@@ -12,6 +12,7 @@ pub struct Stimulus<'a> {
     bytes: Vec<u8>,
 }
 
+/// Why an input terminal was not set.
 #[derive(Clone, Copy, Debug, PartialEq, Eq, Hash)]
 pub enum StimulusError {
     /// The image has no input terminal of this name.
