@@ -78,10 +78,12 @@ fn waves(cycles: &[Cycle], ending: &str) -> Option<String> {
     let mut out = header(&before);
     for (order, cycle) in cycles.iter().enumerate() {
         let now = variables(cycle, letters);
-        let changed = |(number, (one, other)): (usize, (&(&str, String), &(&str, String)))| {
-            (order == 0 || one != other).then(|| change(&one.1, number))
-        };
-        let changes: String = now.iter().zip(&before).enumerate().filter_map(changed).collect();
+        let mut changes = String::new();
+        for (number, (one, other)) in now.iter().zip(&before).enumerate() {
+            if order == 0 || one != other {
+                changes += &change(&one.1, number);
+            }
+        }
         out += &match order {
             0 => format!("#{}\n$dumpvars\n{changes}$end\n", cycle.number),
             _ => format!("#{}\n{changes}", cycle.number),

@@ -149,7 +149,8 @@ fn referred(image: &mut [u8], random: &mut Random) -> Option<&'static str> {
 /// A delayed store made immediate or the other way round.
 fn store_sign(image: &mut [u8], random: &mut Random) -> Option<&'static str> {
     let at = some_record(image, ACTIONS, random, |mark| (1..=4).contains(&mark))?;
-    image[at] = (image[at] - 1 ^ 1) + 1;
+    // 1 and 2, 3 and 4 are each other's.
+    image[at] = ((image[at] - 1) ^ 1) + 1;
     Some("with another store sign")
 }
 

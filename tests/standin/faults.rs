@@ -11,8 +11,8 @@ use std::sync::{Mutex, OnceLock};
 
 #[derive(Clone, Copy, PartialEq)]
 pub enum Fault {
-    /// The place of a refusal is that of the last fault, not the first.
-    LastFault,
+    /// A refusal is that of the last place at fault, not the first.
+    LastPlace,
     /// The bytes beyond the image are left as they were.
     ImageTail,
     /// Opening leaves memories as the last run had them.
@@ -48,7 +48,7 @@ pub enum Fault {
 }
 
 const FAULTS: [(Fault, &str); 17] = [
-    (Fault::LastFault, "last-fault"),
+    (Fault::LastPlace, "last-place"),
     (Fault::ImageTail, "image-tail"),
     (Fault::MemoriesKept, "memories-kept"),
     (Fault::LandsAtOnce, "lands-at-once"),
@@ -93,7 +93,7 @@ pub fn after_reading(text: &[u8], found: &[u8], image: &mut [u8], mut answer: Re
         let length = answer.length as usize;
         image[length..].copy_from_slice(&found[length..]);
     }
-    if Fault::LastFault.is_on() {
+    if Fault::LastPlace.is_on() {
         if let Some(last) = second::faults(text).into_iter().max() {
             (answer.refusal, answer.place) = (last.number as u32, last.place as u32);
         }
