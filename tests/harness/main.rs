@@ -9,6 +9,7 @@
 //! kind and outcome. A failure is printed with its seed: `harness SEED 1`
 //! repeats it alone.
 
+mod altered;
 mod corpus;
 mod deep;
 mod fields;

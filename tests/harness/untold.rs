@@ -2,6 +2,7 @@
 //! the grammar has none, lists without actions, other values and extents.
 //! Each layout is as reading would write it, so only the rule is broken.
 
+use crate::altered::altered;
 use second::description::{Action, Conditional, Description};
 use second::image::image;
 use second::trials::random::Random;
@@ -10,7 +11,7 @@ use second::value::Bits;
 /// The image of the description with one thing changed that no text has.
 pub fn untold(description: &Description, random: &mut Random) -> Option<(&'static str, Vec<u8>)> {
     let mut changed = description.clone();
-    let kind = match random.below(8) {
+    let kind = match random.below(12) {
         0 => store_in_state(&mut changed, random),
         1 => next_state_in_operation(&mut changed, random),
         2 => empty_operation(&mut changed, random),
@@ -18,6 +19,8 @@ pub fn untold(description: &Description, random: &mut Random) -> Option<(&'stati
         4 => state_value(&mut changed, random),
         5 => bounds_turned(&mut changed, random),
         6 => other_extent(&mut changed, random),
+        7 => other_arms(&mut changed, random),
+        8..=10 => altered(&mut changed, random),
         _ => operations_turned(&mut changed, random),
     };
     kind.map(|kind| (kind, image(&changed)))
@@ -67,16 +70,33 @@ fn first_conditional(actions: &mut [Action]) -> Option<&mut Conditional<Vec<Acti
     })
 }
 
-fn empty_arm(changed: &mut Description, random: &mut Random) -> Option<&'static str> {
+/// The arms of some conditional action.
+fn some_arms<'a>(changed: &'a mut Description, random: &mut Random) -> Option<&'a mut Vec<Vec<Action>>> {
     let outline = &mut changed.outline;
     let operations = outline.operations.iter_mut().map(|operation| &mut operation.actions);
     let states = outline.states.iter_mut().map(|state| &mut state.actions);
     let mut conditionals: Vec<_> = operations.chain(states).filter_map(|list| first_conditional(list)).collect();
     let chosen = random.below(conditionals.len());
-    let arms = &mut conditionals.get_mut(chosen)?.arms;
+    (chosen < conditionals.len()).then(|| &mut conditionals.swap_remove(chosen).arms)
+}
+
+fn empty_arm(changed: &mut Description, random: &mut Random) -> Option<&'static str> {
+    let arms = some_arms(changed, random)?;
     let arm = random.below(arms.len());
     arms.get_mut(arm)?.clear();
     Some("with an arm without actions")
+}
+
+/// An arm more or less; of an IF it is the ELSE.
+fn other_arms(changed: &mut Description, random: &mut Random) -> Option<&'static str> {
+    let arms = some_arms(changed, random)?;
+    let arm = random.below(arms.len());
+    if arms.len() > 1 && random.chance(50) {
+        arms.remove(arm);
+    } else {
+        arms.insert(arm, arms.get(arm)?.clone());
+    }
+    Some("with other arms")
 }
 
 /// A state's value of another length, or that of another state.
