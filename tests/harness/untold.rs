@@ -1,17 +1,18 @@
-//! Descriptions that no text can tell, written out as images: actions where
-//! the grammar has none, lists without actions, other values and extents.
-//! Each layout is as reading would write it, so only the rule is broken.
+//! Descriptions changed as trees and written out as images, most so that no
+//! text can tell them: actions where the grammar has none, lists without
+//! actions, other values and extents. Each layout is as reading would write
+//! it, so only the rule is broken.
 
 use crate::altered::altered;
-use second::description::{Action, Conditional, Description};
+use second::description::{Action, Conditional, Description, Name};
 use second::image::image;
 use second::trials::random::Random;
 use second::value::Bits;
 
-/// The image of the description with one thing changed that no text has.
+/// The image of the description with one thing changed.
 pub fn untold(description: &Description, random: &mut Random) -> Option<(&'static str, Vec<u8>)> {
     let mut changed = description.clone();
-    let kind = match random.below(12) {
+    let kind = match random.below(14) {
         0 => store_in_state(&mut changed, random),
         1 => next_state_in_operation(&mut changed, random),
         2 => empty_operation(&mut changed, random),
@@ -21,6 +22,7 @@ pub fn untold(description: &Description, random: &mut Random) -> Option<(&'stati
         6 => other_extent(&mut changed, random),
         7 => other_arms(&mut changed, random),
         8..=10 => altered(&mut changed, random),
+        11 | 12 => more_next_states(&mut changed, random),
         _ => operations_turned(&mut changed, random),
     };
     kind.map(|kind| (kind, image(&changed)))
@@ -55,6 +57,23 @@ fn next_state_in_operation(changed: &mut Description, random: &mut Random) -> Op
     let operation = random.below(operations.len());
     insert(&mut operations.get_mut(operation)?.actions, next, random);
     Some("with a next state in an operation")
+}
+
+/// A text could have these; they bring about the stops that two next states do.
+fn more_next_states(changed: &mut Description, random: &mut Random) -> Option<&'static str> {
+    let labels: Vec<Name> = changed.outline.states.iter().filter_map(|state| state.label.clone()).collect();
+    if labels.is_empty() {
+        return None;
+    }
+    let kinds = random.pick(&[[0, 0], [1, 1], [1, 2], [2, 2]]);
+    for state in &mut changed.outline.states {
+        for kind in kinds {
+            let label = random.pick(&labels);
+            let next = [Action::Goto(label.clone()), Action::Call(label), Action::Return];
+            insert(&mut state.actions, next[kind].clone(), random);
+        }
+    }
+    Some("with more next states")
 }
 
 fn empty_operation(changed: &mut Description, random: &mut Random) -> Option<&'static str> {

@@ -96,7 +96,11 @@ def is_caught(file, words, others):
     build("rlib", "second", changed(file, words, others), folder, "-C", "metadata=changed")
     second = f"second={folder}/libsecond.rlib"
     build("cdylib", "ddlp", ROOT / "tests/standin/standin.rs", folder, "--extern", second, "-C", "metadata=changed")
-    tried = subprocess.run([WORK / "harness", SEED, TRIES], env={"LD_LIBRARY_PATH": str(folder)}, capture_output=True)
+    return any(fails(folder, *arguments) for arguments in [("--corpus", ROOT / "tests/corpus"), (SEED, TRIES)])
+
+
+def fails(folder, *arguments):
+    tried = subprocess.run([WORK / "harness", *arguments], env={"LD_LIBRARY_PATH": str(folder)}, capture_output=True)
     return tried.returncode != 0
 
 
