@@ -1,8 +1,10 @@
-//! Time and instructions of what is measured.
+//! Time and instructions of what is measured. The time is that of the
+//! processor, so that a busy host does not count.
 
-use std::time::{Duration, Instant};
+use std::time::Duration;
 
 extern "C" {
+    fn processor_time() -> u64;
     fn instructions_open() -> i32;
     fn instructions_start(counter: i32);
     fn instructions_stop(counter: i32) -> u64;
@@ -34,17 +36,21 @@ impl Measured {
     }
 }
 
+fn now() -> Duration {
+    Duration::from_nanos(unsafe { processor_time() })
+}
+
 /// Repeats the work, which answers how many cycles it carried out, for so long.
 pub fn measured(least: Duration, counter: Option<&Counter>, mut work: impl FnMut() -> u64) -> Measured {
     work();
-    let start = Instant::now();
+    let start = now();
     if let Some(Counter(counter)) = counter {
         unsafe { instructions_start(*counter) }
     }
     let mut cycles = 0;
-    while start.elapsed() < least {
+    while now() - start < least {
         cycles += work();
     }
     let instructions = counter.map(|Counter(counter)| unsafe { instructions_stop(*counter) });
-    Measured { cycles, time: start.elapsed(), instructions }
+    Measured { cycles, time: now() - start, instructions }
 }

@@ -1,6 +1,7 @@
-//! How fast the module is: cycles a second and instructions a cycle through
-//! `ddlp_run` and `ddlp_cycle`, beside a plain interpreter in C and the
-//! second simulator, on three descriptions, in one run.
+//! How fast the module is: cycles a second of processor time, and
+//! instructions a cycle, through `ddlp_run` and `ddlp_cycle`; beside a plain
+//! interpreter in C and the second simulator, on three descriptions, in one
+//! run.
 //!
 //!     speed FOLDER [MILLISECONDS]     FOLDER holds the descriptions; so long each is measured (default 400)
 //!     speed --agree SEED TRIES        holds the interpreter in C against the second simulator

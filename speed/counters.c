@@ -1,11 +1,20 @@
-/* Counts the instructions of this thread, where the host can (perf_event_open). */
+/* The time that this thread had a processor, and its instructions where the host counts them (perf_event_open). */
 #define _GNU_SOURCE
 #include <linux/perf_event.h>
 #include <stdint.h>
 #include <string.h>
 #include <sys/ioctl.h>
 #include <sys/syscall.h>
+#include <time.h>
 #include <unistd.h>
+
+/* In nanoseconds: what other programs take of the processor is not in it. */
+uint64_t processor_time(void)
+{
+    struct timespec now;
+    clock_gettime(CLOCK_THREAD_CPUTIME_ID, &now);
+    return (uint64_t)now.tv_sec * 1000000000u + (uint64_t)now.tv_nsec;
+}
 
 /* A counter of user instructions, or a negative number where there is none. */
 int instructions_open(void)
