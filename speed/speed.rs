@@ -4,6 +4,7 @@
 //! run.
 //!
 //!     speed FOLDER [MILLISECONDS]     FOLDER holds the descriptions; so long each is measured (default 400)
+//!     speed --stack FOLDER            the stack that each call needs
 //!     speed --agree SEED TRIES        holds the interpreter in C against the second simulator
 //!
 //! Before anything is measured all four carry out the same cycles and must
@@ -16,6 +17,7 @@ mod module;
 mod agree;
 mod engines;
 mod measure;
+mod stack;
 
 use engines::{Board, Engine, ENGINES};
 use measure::{Counter, Measured};
@@ -112,11 +114,14 @@ fn main() -> ExitCode {
     let number = |word: &String| word.parse::<u64>().map_err(|_| format!("{word} is no number"));
     let done = match &arguments[..] {
         [folder] => table(folder, Duration::from_millis(400)),
+        [stack, folder] if stack == "--stack" => {
+            stack::table(folder, &DESCRIPTIONS.map(|description| description.name))
+        }
         [agree, seed, tries] if agree == "--agree" => {
             number(seed).and_then(|seed| agree::interpreter_agrees(seed, number(tries)?))
         }
         [folder, time] => number(time).and_then(|time| table(folder, Duration::from_millis(time))),
-        _ => Err("usage: speed FOLDER [MILLISECONDS], or speed --agree SEED TRIES".to_string()),
+        _ => Err("usage: speed FOLDER [MILLISECONDS], speed --stack FOLDER, or speed --agree SEED TRIES".to_string()),
     };
     match done {
         Ok(()) => ExitCode::SUCCESS,

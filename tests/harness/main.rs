@@ -40,7 +40,7 @@ const STACK: usize = 8 << 20;
 /// A failure in this many tries says enough.
 const FAILURES: usize = 5;
 /// The tries after which the mode that goes on tells what it did.
-const BATCH: u64 = 10_000;
+const BATCH: u64 = 5_000;
 
 #[derive(Default)]
 pub struct Tally {
