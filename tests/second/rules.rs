@@ -27,8 +27,20 @@ pub struct Rules<'a> {
 }
 
 pub fn description(outline: Outline) -> Result<Description, Refusal> {
+    let rules = judged(&outline);
+    least(rules.faults)?;
+    let (meanings, sequencing, values) = (rules.meanings, rules.sequencing, rules.values);
+    let shapes = rules.shapes.into_iter().flatten().collect();
+    Ok(Description { outline, meanings, shapes, sequencing, values })
+}
+
+pub fn faults(outline: &Outline) -> Vec<Refusal> {
+    judged(outline).faults
+}
+
+fn judged(outline: &Outline) -> Rules<'_> {
     let mut rules = Rules {
-        outline: &outline,
+        outline,
         meanings: HashMap::new(),
         shapes: Vec::new(),
         sequencing: None,
@@ -38,10 +50,7 @@ pub fn description(outline: Outline) -> Result<Description, Refusal> {
     rules.facilities();
     rules.operations();
     rules.states();
-    least(rules.faults)?;
-    let (meanings, sequencing, values) = (rules.meanings, rules.sequencing, rules.values);
-    let shapes = rules.shapes.into_iter().flatten().collect();
-    Ok(Description { outline, meanings, shapes, sequencing, values })
+    rules
 }
 
 impl Rules<'_> {

@@ -28,7 +28,7 @@ pub fn trace(text: &[u8], input: &[u8], mut print: impl FnMut(&str)) {
 }
 
 /// One CR right before an LF belongs to the line's end; a last line needs no LF.
-fn lines(input: &[u8]) -> impl Iterator<Item = &[u8]> {
+pub fn lines(input: &[u8]) -> impl Iterator<Item = &[u8]> {
     input.split_inclusive(|&byte| byte == b'\n').map(|line| {
         let Some(line) = line.strip_suffix(b"\n") else {
             return line;
@@ -38,7 +38,7 @@ fn lines(input: &[u8]) -> impl Iterator<Item = &[u8]> {
 }
 
 /// The line's bits, handed out to the input terminals as declared.
-fn stimulus(description: &Description, line: &[u8]) -> Option<Vec<Bits>> {
+pub fn stimulus(description: &Description, line: &[u8]) -> Option<Vec<Bits>> {
     let mut rest = line;
     let mut values = Vec::new();
     for number in description.inputs() {

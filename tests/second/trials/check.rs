@@ -11,6 +11,7 @@ use crate::trials::by_hand::all_agree;
 use crate::trials::edges::edge;
 use crate::trials::faults::fault;
 use crate::trials::generate::legal;
+use crate::trials::images::{try_image, worked_image_agrees};
 use crate::trials::layout::{lay_out, Text};
 use crate::trials::mutate::{mutate, mutate_bytes};
 use crate::trials::random::Random;
@@ -32,7 +33,7 @@ pub type Failure = String;
 pub fn check(seed: u64, count: u64) -> bool {
     let mut tally = Tally::new();
     let mut failures = 0;
-    if let Err(failure) = all_agree() {
+    if let Err(failure) = all_agree().and_then(|()| worked_image_agrees()) {
         failures += 1;
         println!("by hand: {failure}");
     }
@@ -108,6 +109,7 @@ fn try_legal(random: &mut Random, tally: &mut Tally) -> Result<(), Failure> {
     let again = read(&other.bytes).map_err(|refusal| format!("legal text laid out anew: {refusal:?}"))?;
     agree(placeless(&description), placeless(&again), "two layouts, two meanings")?;
     second_opinion(&other.bytes)?;
+    try_image(&description, random, tally)?;
     run_some(&description, random, tally)
 }
 

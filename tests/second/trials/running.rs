@@ -74,9 +74,9 @@ fn zero_stimulus(description: &Description) -> Vec<Bits> {
 }
 
 /// Any sound store and record; they come back from their bytes as they were.
-fn some_run(description: &Description, random: &mut Random) -> Result<Run, Failure> {
+pub fn some_run(description: &Description, random: &mut Random) -> Result<Run, Failure> {
     let mut run = open(description);
-    let ones = random.pick(&[10, 50, 90]);
+    let ones = random.pick(&[0, 10, 50, 90, 100, 100]);
     for bit in run.store.iter_mut().flatten().flat_map(|word| &mut word.0) {
         *bit = random.chance(ones);
     }

@@ -1,0 +1,133 @@
+//! How fast the module is: cycles a second of processor time, and
+//! instructions a cycle, through `ddlp_run` and `ddlp_cycle`; beside a plain
+//! interpreter in C and the second simulator, on three descriptions, in one
+//! run.
+//!
+//!     speed FOLDER [MILLISECONDS]     FOLDER holds the descriptions; so long each is measured (default 400)
+//!     speed --stack FOLDER            the stack that each call needs
+//!     speed --agree SEED TRIES        holds the interpreter in C against the second simulator
+//!
+//! Before anything is measured all four carry out the same cycles and must
+//! come to the same store and record.
+
+#[path = "../tests/harness/module.rs"]
+#[allow(dead_code)]
+mod module;
+
+mod agree;
+mod engines;
+mod measure;
+mod stack;
+
+use engines::{Board, Engine, ENGINES};
+use measure::{Counter, Measured};
+use std::process::ExitCode;
+use std::time::Duration;
+use std::{env, fs};
+
+/// A description, and what stands in its memory at the beginning.
+struct Description {
+    name: &'static str,
+    memory: &'static [(u16, u16)],
+}
+
+const DESCRIPTIONS: [Description; 3] = [
+    Description { name: "blackjack", memory: &[] },
+    Description { name: "minicomputer", memory: &PROGRAM },
+    Description { name: "datapath", memory: &[] },
+];
+
+/// Adds up a table of sixteen words over and over, the sum rotated after
+/// each. 1 adds, 2 subtracts, 3 loads, 4 keeps, 5 jumps, 6 jumps where AC is
+/// not zero, 7 rotates; the bit after the operation is the indirect one.
+const PROGRAM: [(u16, u16); 18] = [
+    (0, 0x6040),  // LOAD   the table's first address
+    (1, 0x8041),  // KEEP   as the pointer
+    (2, 0x6042),  // LOAD   the sum
+    (3, 0x3041),  // ADD    the word under the pointer
+    (4, 0xE000),  // ROTATE
+    (5, 0x8042),  // KEEP   as the sum
+    (6, 0x6041),  // LOAD   the pointer
+    (7, 0x2043),  // ADD    one
+    (8, 0x8041),  // KEEP   as the pointer
+    (9, 0x6041),  // LOAD   it again
+    (10, 0x4044), // SUB    the end of the table
+    (11, 0xC002), // JUMPN  to the next word
+    (12, 0xA000), // JUMP   to the beginning
+    (0x40, 0x0080),
+    (0x43, 0x0001),
+    (0x44, 0x0090),
+    (0x80, 0x1234),
+    (0x81, 0xFEDC),
+];
+
+fn board(folder: &str, description: &Description) -> Result<Board, String> {
+    let path = format!("{folder}/{}.ddl", description.name);
+    let text = fs::read(&path).map_err(|error| format!("{path}: {error}"))?;
+    let mut board = Board::open(&text).map_err(|refusal| format!("{path}: refused {refusal}"))?;
+    for &(word, contents) in description.memory {
+        board.set_word("M", word, contents)?;
+    }
+    Ok(board)
+}
+
+/// All engines must come to the same store and record.
+fn all_agree(board: &Board) -> Result<(), String> {
+    let first = ENGINES[0].after(board)?;
+    for engine in &ENGINES[1..] {
+        if engine.after(board)? != first {
+            return Err(format!("{} and {} differ", engine.name, ENGINES[0].name));
+        }
+    }
+    Ok(())
+}
+
+fn row(engine: &Engine, measured: &Measured, beside: &Measured) {
+    let rate = measured.cycles_a_second();
+    let ratio = beside.cycles_a_second() / rate;
+    let instructions = measured.instructions_a_cycle().map_or("-".to_string(), |count| format!("{count:.0}"));
+    println!("  {:22} {rate:>14.0} {instructions:>14} {ratio:>10.2}", engine.name);
+}
+
+fn table(folder: &str, time: Duration) -> Result<(), String> {
+    let counter = Counter::open();
+    if counter.is_none() {
+        println!("this host does not count instructions");
+    }
+    println!("  {:22} {:>14} {:>14} {:>10}", "", "cycles/second", "instructions", "times C");
+    for description in &DESCRIPTIONS {
+        let board = board(folder, description)?;
+        all_agree(&board)?;
+        println!("{}: image {} bytes, store {} bytes", description.name, board.image.len(), board.store.len());
+        let measured: Vec<Measured> =
+            ENGINES.iter().map(|engine| engine.measured(&board, time, counter.as_ref())).collect();
+        let beside = ENGINES.iter().zip(&measured).find(|(engine, _)| engine.in_c).map(|(_, measured)| measured);
+        for (engine, measured) in ENGINES.iter().zip(&measured) {
+            row(engine, measured, beside.unwrap_or(measured));
+        }
+    }
+    Ok(())
+}
+
+fn main() -> ExitCode {
+    let arguments: Vec<String> = env::args().skip(1).collect();
+    let number = |word: &String| word.parse::<u64>().map_err(|_| format!("{word} is no number"));
+    let done = match &arguments[..] {
+        [folder] => table(folder, Duration::from_millis(400)),
+        [stack, folder] if stack == "--stack" => {
+            stack::table(folder, &DESCRIPTIONS.map(|description| description.name))
+        }
+        [agree, seed, tries] if agree == "--agree" => {
+            number(seed).and_then(|seed| agree::interpreter_agrees(seed, number(tries)?))
+        }
+        [folder, time] => number(time).and_then(|time| table(folder, Duration::from_millis(time))),
+        _ => Err("usage: speed FOLDER [MILLISECONDS], speed --stack FOLDER, or speed --agree SEED TRIES".to_string()),
+    };
+    match done {
+        Ok(()) => ExitCode::SUCCESS,
+        Err(error) => {
+            eprintln!("speed: {error}");
+            ExitCode::FAILURE
+        }
+    }
+}
