@@ -23,7 +23,7 @@ use Rattle.verdict.specs.declared.Pair.the-variants as P
 use Rattle.verdict.specs.declared.Verdict.{Verdict}
 use Rattle.verdict.specs.declared.Verdict.the-variants.{Fine, Faulty}
 use Rattle.verdict.specs.declared.Worth.{Worth}
-use Rattle.verdict.specs.Meaning.{coded, earlierOf, met, paired, seen}
+use Rattle.verdict.specs.Meaning.{capped, coded, earlierOf, met, paired, seen}
 
 -- ---- One verdict.
 
@@ -130,3 +130,26 @@ module _ (p : W.Position) (j : Judged) where
   arms-some w {v} e z q =
       q ∙ is-fine j w (λ k. Fine w ≡ seen k → Fine w ≡ seen (L.armList p k)) e
       (λ x m d. let t : eqb (x .arms) 0 ≡ false = sym (capped-eqb (x .arms) 0 (omega arith)) ∙ ne-eqb _ 0 (λ y. z (ap (λ (y : Worth). y .arms) m ∙ y)) in rw t d) e
+
+-- ---- What an owner makes of its parts.
+
+pub pair-known : (j k : Judged) {a b : Verdict} {r x : Pair} → r ≡ paired a b → r ≡ x → a ≡ seen j → b ≡ seen k → paired (seen j) (seen k) ≡ x
+pair-known j k p q e f = rw (← e, ← f) (sym p ∙ q)
+
+pub both-fine : (j k : Judged) (v w : Worth) (on : L.Worth → L.Worth → Judged) {r : Verdict} → paired (seen j) (seen k) ≡ P.Fine v w
+    → ((x y : L.Worth) → v ≡ met x → w ≡ met y → r ≡ seen (on x y)) → r ≡ seen (givenBoth j k on)
+both-fine j k v w on {r} e g = pair-fine j k v w (λ x y. r ≡ seen (givenBoth x y on)) e g
+
+pub one-fine : (j : Judged) (v : Worth) (on : L.Worth → Judged) {r : Verdict} → Fine v ≡ seen j
+    → ((x : L.Worth) → v ≡ met x → r ≡ seen (on x)) → r ≡ seen (given j on)
+one-fine j v on {r} e g = is-fine j v (λ x. r ≡ seen (given x on)) e g
+
+pub sized-same : (w : ℕ) {p q : W.Position} {l m : ℕ} → p ≡ q → l ≡ m → seen (L.sized p l w) ≡ seen (L.sized q m w)
+sized-same w e f = rw (e, f)
+
+pub refuse-same : (n : ℕ) {p q : W.Position} → p ≡ q → seen (L.refuse p n) ≡ seen (L.refuse q n)
+refuse-same n e = rw e
+
+pub worth-seen : (l a w : ℕ) {m b x : ℕ} → m ≡ l → b ≡ capped a → x ≡ capped w → Fine (record { length = m; arms = b; work = x }) ≡ seen (L.worth l a w)
+unfolding seen
+worth-seen l a w e f g = rw (e, f, g)
