@@ -13,6 +13,7 @@ use Rattle.noted.specs.Noted.{largeNo, widenedNode}
 use Rattle.noted.specs.Read.{FacilityRead, facilityMeant, placeOf}
 use Rattle.noted.specs.declared.facilities.Facility.{Facility}
 use Rattle.rules.specs.Meaning.{subscribed}
+use Rattle.verdict.specs.declared.Verdict.{Verdict}
 use Rattle.verdict.specs.Meaning.{recalled, seen}
 use Rattle.expressions.specs.declared.references.Reference.{Reference}
 use Rattle.expressions.specs.declared.references.Reference.the-variants.{To, None}
@@ -44,3 +45,8 @@ pub record Shown (facs exprs marks places memo : List ℕ) (known : ℕ) (d : De
 abbrev pub referred : Reference → Option R.Reference
 referred (To f s) = R.referTo f (subscribed s)
 referred None = none
+
+-- The verdict that every description with these slices calls for.
+abbrev pub Judges : List ℕ → List ℕ → List ℕ → List ℕ → List ℕ → ℕ → (Description → Places → (ℕ → Judged) → Judged) → Verdict → Type 0
+Judges facs exprs marks places memo known j r =
+    (d : Description) (p : Places) (t : ℕ → Judged) → Shown facs exprs marks places memo known d p t → r ≡ seen (j d p t)

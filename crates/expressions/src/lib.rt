@@ -2,3 +2,4 @@
 pub mod constants;
 pub mod operators;
 pub mod references;
+pub mod walk;

@@ -108,3 +108,28 @@ pub fn choice(at: Position, count: u16, c: Verdict, a: Verdict) -> Verdict
         Pair::Faulty(f) => Verdict::Faulty(f),
     }
 }
+
+// Nothing to judge.
+pub fn nothing() -> Verdict
+    ensures { λ r. ⌜ r ≡ seen (L.worth 1 0 0) ⌝ }
+{
+    Verdict::Fine(Worth {
+        length: 1,
+        arms: 0,
+        work: 0,
+    })
+}
+
+// Two parts of which only faults and work count.
+pub fn together(a: Verdict, b: Verdict) -> Verdict
+    ensures { λ r. ⌜ ((j k : L.Judged) → a ≡ seen j → b ≡ seen k → r ≡ seen (L.givenBoth j k (λ v w. L.worth 1 0 (v .work + w .work)))) ⌝ }
+{
+    match faults::both(a, b) {
+        Pair::Fine(v, w) => Verdict::Fine(Worth {
+            length: 1,
+            arms: 0,
+            work: work::added(v.work, w.work),
+        }),
+        Pair::Faulty(f) => Verdict::Faulty(f),
+    }
+}

@@ -1,5 +1,6 @@
 // References: what a record refers to, and the rules for it.
 use crate::constants;
+use crate::operators;
 use image::facilities::Kind;
 use noted::facilities;
 use noted::facilities::Bounds;
@@ -11,7 +12,6 @@ use rules::bounds;
 use rules::subscripts::Subscripts;
 use verdict::Pair;
 use verdict::Verdict;
-use verdict::Worth;
 use verdict::faults;
 use verdict::kept;
 use verdict::tests;
@@ -130,11 +130,7 @@ pub fn computed_work(memo: &[usize], f: u8, kind: Kind) -> Verdict
     if image::facilities::is_computed(kind) {
         return kept::recall(memo, f as u16);
     }
-    Verdict::Fine(Worth {
-        length: 1,
-        arms: 0,
-        work: 0,
-    })
+    operators::nothing()
 }
 
 // The length of a reference, and its work with that of its subscripts and of a computed terminal.

@@ -153,3 +153,9 @@ refuse-same n e = rw e
 pub worth-seen : (l a w : ℕ) {m b x : ℕ} → m ≡ l → b ≡ capped a → x ≡ capped w → Fine (record { length = m; arms = b; work = x }) ≡ seen (L.worth l a w)
 unfolding seen
 worth-seen l a w e f g = rw (e, f, g)
+
+pub proper-same : (j : Judged) {p q : W.Position} → p ≡ q → seen (L.proper p j) ≡ seen (L.proper q j)
+proper-same j e = rw e
+
+pub arms-same : (j : Judged) {p q : W.Position} → p ≡ q → seen (L.armList p j) ≡ seen (L.armList q j)
+arms-same j e = rw e
