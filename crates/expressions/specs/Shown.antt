@@ -1,11 +1,13 @@
 -- What slices show of a description and its places, as far as expressions need it.
-use mathlib.Core.List.{List}
+use mathlib.Core.Bool.{true}
+use mathlib.Core.List.{List, []}
 use mathlib.Core.Option.{Option, none}
 use mathlib.Core.Path.{_≡_}
 use Prim.Native.Nat.{ℕ, _+_, _*_, _<_}
+use Rattle.image.specs.Declarations.{facilityIn}
 use Rattle.language.specs.Decode.{nodeOf}
 use Rattle.language.specs.Description as D
-use Rattle.language.specs.Description.{Description, NodePlaces, Places, facilityAt, nodeAt, nodePlace}
+use Rattle.language.specs.Description.{Description, NodePlaces, Places, facilityAt, isComputed, nodeAt, nodePlace}
 use Rattle.language.specs.Judging as L
 use Rattle.language.specs.Judging.{Judged, faulty, fine, worth}
 use Rattle.language.specs.References as R
@@ -39,7 +41,8 @@ worked (faulty f fs) = faulty f fs
 pub record Shown (facs exprs marks places memo : List ℕ) (known : ℕ) (d : Description) (p : Places) (terminals : ℕ → Judged) : Type 0 where
   pub records : Records exprs places d p
   pub facility : (n : ℕ) → n < known → (f : Facility) → FacilityRead facs marks n f → facilityMeant (facilityAt d n .name) f ≡ facilityAt d n
-  pub terminal : (n : ℕ) → n < 256 → n < known → recalled memo n ≡ seen (worked (terminals n))
+  pub kind : (n : ℕ) → facilityAt d n .kind ≡ facilityIn facs n [] .kind
+  pub terminal : (n : ℕ) → n < 256 → n < known → isComputed (facilityIn facs n [] .kind) ≡ true → recalled memo n ≡ seen (worked (terminals n))
 
 -- A reference, if a record is one.
 abbrev pub referred : Reference → Option R.Reference

@@ -18,7 +18,7 @@ use verdict::tests;
 use verdict::work;
 use words::Judged;
 use words::Position;
-ghost use mathlib.Core.Bool.{cond};
+ghost use mathlib.Core.Bool.{cond, true};
 ghost use mathlib.Core.List.{List, _++_};
 ghost use mathlib.Core.Path.{_≡_};
 ghost use Prim.Native.Nat.{ℕ, _+_};
@@ -125,7 +125,7 @@ pub fn direction_faults(places: &[u8], n: u16, f: Facility, s: Subscripts) -> Ju
 
 // The work that a facility adds where it is named: a computed terminal's is kept.
 pub fn computed_work(memo: &[usize], f: u8, kind: Kind) -> Verdict
-    ensures { λ r. ⌜ ((j : L.Judged) → recalled (now (memo .entry)) f ≡ seen j → r ≡ seen (cond (isComputed (kindMeant kind)) j (L.worth 1 0 0))) ⌝ }
+    ensures { λ r. ⌜ ((j : L.Judged) → (isComputed (kindMeant kind) ≡ true → recalled (now (memo .entry)) f ≡ seen j) → r ≡ seen (cond (isComputed (kindMeant kind)) j (L.worth 1 0 0))) ⌝ }
 {
     if image::facilities::is_computed(kind) {
         return kept::recall(memo, f as u16);

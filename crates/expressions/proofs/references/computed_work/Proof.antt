@@ -11,7 +11,7 @@ recall-requires c κs = search needs
 
 returns : tie.Need-returns
 returns c =
-    λ j e. rw (sym (c .before .before .is-computed .ensures) ∙ c .before .if1 .taken) (c .recall .ensures ∙ e)
+    λ j e. rw (sym (c .before .before .is-computed .ensures) ∙ c .before .if1 .taken) (c .recall .ensures ∙ e (sym (c .before .before .is-computed .ensures) ∙ c .before .if1 .taken))
 
 
 nothing-requires : tie.Need-nothing-requires

@@ -1,3 +1,4 @@
+use Rattle.language.specs.Description.{facilityAt, isComputed}
 use Rattle.expressions.specs.Shown as Shown
 use Rattle.expressions.proofs.WalkLaws.{broken-is, judge-is, part-ge, part-lt, reference-is, right-reference, unknown-reference, wrong-reference}
 use Rattle.expressions.proofs.RecordLaws.{at-is, node-is}
@@ -385,7 +386,7 @@ referred-returns-2 : (t : ℕ) → referred-lts.Need-returns-2 (referred-calls t
 referred-returns-2 t c =
     λ o u d p w sh.
     let e = sh .facility (c .before .before .before .before .before .before .before .before .before .before .before .before .before .before .before .before .args .f) (c .before .before .before .before .before .before .before .before .before .if1 .left) (c .before .before .before .before .before .before .before .before .facility-at .result) (c .before .before .before .before .before .before .before .before .facility-at .ensures) in
-    c .counted-right .ensures _ o _ _ _ _ (at-is (sh .records) _ (c .before .before .before .before .before .before .before .before .before .before .of-node .ensures)) u (c .before .before .before .before .before .before .before .subscripts .ensures d p w sh) (c .before .computed-work .ensures (Shown.worked (w (c .before .before .before .before .before .before .before .before .before .before .before .before .before .before .before .before .args .f))) (sh .terminal (c .before .before .before .before .before .before .before .before .before .before .before .before .before .before .before .before .args .f) (omega (arith, c .before .before .before .before .before .before .before .before .before .before .before .before .before .before .before .before .fits .f)) (c .before .before .before .before .before .before .before .before .before .if1 .left)))
+    c .counted-right .ensures _ o _ _ _ _ (at-is (sh .records) _ (c .before .before .before .before .before .before .before .before .before .before .of-node .ensures)) u (c .before .before .before .before .before .before .before .subscripts .ensures d p w sh) (c .before .computed-work .ensures (Shown.worked (w (c .before .before .before .before .before .before .before .before .before .before .before .before .before .before .before .before .args .f))) (λ b. sh .terminal (c .before .before .before .before .before .before .before .before .before .before .before .before .before .before .before .before .args .f) (omega (arith, c .before .before .before .before .before .before .before .before .before .before .before .before .before .before .before .before .fits .f)) (c .before .before .before .before .before .before .before .before .before .if1 .left) (ap isComputed (sym (c .before .before .before .before .before .before .before .before .facility-at .ensures .kind)) ∙ b)))
     (c .before .before .before .bound-faults .ensures d p w (facilityAt d (c .before .before .before .before .before .before .before .before .before .before .before .before .before .before .before .before .args .f) .name) (sh .records)) (c .before .before .direction-faults .ensures d p w _ (facilityAt d (c .before .before .before .before .before .before .before .before .before .before .before .before .before .before .before .before .args .f) .name) (sh .records))
     ∙ ap seen (right-reference d p w _ o _ _ _ _ _ (c .before .before .before .before .before .before .before .before .before .if1 .left) e (sym (c .before .before .before .before .before .before .right-count .ensures) ∙ c .before .before .before .before .before .if2 .taken) (c .before .before .before .before .taken-length .ensures (facilityAt d (c .before .before .before .before .before .before .before .before .before .before .before .before .before .before .before .before .args .f) .name)))
 
