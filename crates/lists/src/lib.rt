@@ -1,0 +1,3 @@
+// Lists of actions: their work, or their earliest fault.
+pub mod conditionals;
+pub mod stores;
