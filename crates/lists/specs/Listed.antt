@@ -1,9 +1,9 @@
 -- What slices show of a description and its places, as far as lists of actions need it.
-use mathlib.Core.Bool.{Bool}
+use mathlib.Core.Bool.{Bool, true, false, cond}
 use mathlib.Core.List.{List}
 use mathlib.Core.Path.{_≡_}
-use Prim.Native.Nat.{ℕ, _/_, _<_, _≤_}
-use lib.Dec.{eqb}
+use Prim.Native.Nat.{ℕ, _+_, _-_, _/_, _<_, _≤_}
+use lib.Dec.{eqb, leb}
 use lib.ListN.{drop, length, take}
 use Rattle.image.specs.Declarations.{nameLengthIn}
 use Rattle.language.specs.ActionRules as A
@@ -13,7 +13,8 @@ use Rattle.language.specs.Description as D
 use Rattle.language.specs.Description.{Description, Places, actionAt, actionPlace, stateAt}
 use Rattle.language.specs.Encode.{facilitySize, stateSize}
 use Rattle.language.specs.Expressions.{selects, terminalBelow}
-use Rattle.language.specs.Judging.{Judged, Worth, both, refuse}
+use Rattle.language.specs.Judging.{Judged, Worth, both, givenBoth, refuse}
+use Rattle.language.specs.Words.{Position}
 use Rattle.noted.specs.Read.{placeOf}
 use Rattle.verdict.specs.declared.Verdict.{Verdict}
 use Rattle.verdict.specs.Meaning.{recalled, seen}
@@ -48,3 +49,17 @@ armsAt d p inState w k i = runStep d p inState w (runBelow d p inState w k) k i 
 abbrev pub rightArms : Choices → Worth → Worth → Bool
 rightArms One v w = both (eqb (v .length) 1) (eqb (w .arms) 1)
 rightArms (Several n) v w = both (selects (v .length) n) (eqb (w .arms) n)
+
+-- What stands only in operations or only in states, where it is right.
+abbrev pub inRight : Bool → Position → Judged → Judged
+inRight true at j = j
+inRight false at j = refuse at 3
+
+-- A conditional at i, to which x of the m records after it belong, and the list after those.
+unfoldable pub heldAt : Description → Places → Bool → (ℕ → Judged) → ℕ → ℕ → ℕ → Choices → ℕ → Judged
+heldAt d p inState w m i c choices x =
+    cond (leb x m)
+    (givenBoth
+    (A.conditional d p inState w (actionPlace p i) (A.right d p inState w c) (armsAt d p inState w x (i + 1)) (rightArms choices))
+    (listAt d p inState w (m - x) (i + 1 + x)) (A.allWork d p inState w))
+    (refuse D.nowhere 3)
