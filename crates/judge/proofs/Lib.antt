@@ -1,0 +1,2 @@
+pub mod FacilityLaws
+pub mod MemoryLaws
