@@ -134,7 +134,7 @@ or-else-some d p (h ∷ hs) y g q e = e
 
 -- ---- The loop: what is found so far and what is left make the whole.
 
-lesser-none : (o : Option W.Fault) → lesser o none ≡ o
+pub lesser-none : (o : Option W.Fault) → lesser o none ≡ o
 lesser-none none = refl
 lesser-none (some f) = refl
 

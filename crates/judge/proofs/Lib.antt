@@ -1,2 +1,3 @@
 pub mod FacilityLaws
 pub mod MemoryLaws
+pub mod OperationLaws

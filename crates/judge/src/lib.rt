@@ -2,3 +2,4 @@
 pub mod bounds;
 pub mod facilities;
 pub mod memory;
+pub mod operations;
