@@ -1,8 +1,8 @@
 -- Judging a record by what it is, and a reference by what is known of its facility.
 use mathlib.Core.Bool.{Bool, true, false, cond}
-use mathlib.Core.List.{List, [], _∷_, _++_}
-use mathlib.Core.Option.{Option, none, some}
-use mathlib.Core.Path.{_≡_, refl, sym, ap, _∙_}
+use mathlib.Core.List.{[], _∷_, _++_}
+use mathlib.Core.Option.{none, some}
+use mathlib.Core.Path.{_≡_, refl, sym, ap}
 use native.Mathlib.Omega.{arith}
 use denote.Enum.Declared.{tagOf}
 use types.Run.{OneOf, miss}
@@ -14,7 +14,7 @@ use Rattle.language.specs.Expressions.{judgeAt, judgeBelow, judgeNode, judgeSte
 use Rattle.language.specs.Judging as L
 use Rattle.language.specs.Judging.{Judged, faulty, faultsOf, fine, givenBoth, orFaulty, refuse, sized, worth}
 use Rattle.language.specs.Recursion.{below-ge, below-lt}
-use Rattle.language.specs.ReferenceRules.{boundFaults, computedWork, directionFaults, referenceJudged, subscriptsJudged}
+use Rattle.language.specs.ReferenceRules.{boundFaults, directionFaults, referenceJudged, subscriptsJudged}
 use Rattle.language.specs.References as R
 use Rattle.language.specs.References.{Reference, Subscripts, referenceOf, rightCount, takenLength}
 use Rattle.noted.specs.Noted.{widenedNode}
@@ -22,7 +22,6 @@ use Rattle.records.proofs.nodes.Node.{the-type}
 use Rattle.records.specs.Nodes.{meant}
 use Rattle.records.specs.declared.nodes.Node.{Node}
 use Rattle.records.specs.declared.nodes.Node.the-variants as N
-use Rattle.verdict.specs.Meaning.{seen}
 use Rattle.expressions.specs.Shown.{worked}
 
 module _ (d : Description) (p : Places) (t : ℕ → Judged) (known n : ℕ) where

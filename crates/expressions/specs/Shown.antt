@@ -8,7 +8,6 @@ use Rattle.image.specs.Declarations.{facilityIn}
 use Rattle.language.specs.Decode.{nodeOf}
 use Rattle.language.specs.Description as D
 use Rattle.language.specs.Description.{Description, NodePlaces, Places, facilityAt, isComputed, nodeAt, nodePlace}
-use Rattle.language.specs.Judging as L
 use Rattle.language.specs.Judging.{Judged, faulty, fine, worth}
 use Rattle.language.specs.References as R
 use Rattle.noted.specs.Noted.{largeNo, widenedNode}

@@ -54,7 +54,10 @@ pub fn reference_at(exprs: &[u8], places: &[u8], n: u16) -> Reference
         }
         Node::Two(f, e, g) => Reference::To(f, Subscripts::Two(e, g)),
         Node::WordPart(f, e, a, b) => {
-            Reference::To(f, Subscripts::WordPart(e, facilities::ends(places, n, a, b)))
+            Reference::To(
+                f,
+                Subscripts::WordPart(e, facilities::ends(places, n, a, b)),
+            )
         }
         _ => Reference::None,
     }

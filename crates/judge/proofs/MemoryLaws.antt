@@ -1,9 +1,9 @@
 -- The place after a facility, and verdicts kept.
 use mathlib.Core.Bool.{Bool, true, false}
-use mathlib.Core.Path.{_≡_, refl, sym, ap, _∙_}
+use mathlib.Core.Path.{_≡_, refl, sym}
 use native.Mathlib.Omega.{arith}
 use Prim.Native.Nat.{ℕ, _+_, _-_, _*_, _/_, _<_, _≤_}
-use borrow.Author.Tests.{le-leb, leb-false, leb-true, lt-leb}
+use borrow.Author.Tests.{leb-false, leb-true}
 use lib.Dec.{leb}
 use Rattle.language.specs.Description.{Facility, isComputed, wordCount, wordLength}
 use Rattle.language.specs.Layout.{facilityBytes, wordBytes}

@@ -82,11 +82,22 @@ pub fn or_else(a: Judged, b: Judged) -> Judged
 pub fn terminal_faults(fp: &[u8], n: usize, f: Facility, v: Verdict) -> Judged
     ensures { λ r. ⌜ ((d : Description) (p : Places) (name : Name) (j : L.Judged) → facilityPlace p n ≡ facilityPlacesOf (now (fp .entry)) n → v ≡ seen j → judged r ≡ least (sameLength d p (wordLength (facilityMeant name f)) (facilityPlace p n .equals) j)) ⌝ }
 {
-    same_length(rules::bounds::word_length(f), places::of_facility(fp, n, 5), v)
+    same_length(
+        rules::bounds::word_length(f),
+        places::of_facility(fp, n, 5),
+        v,
+    )
 }
 
 // Facility n, which ends at `after` in the store, with the faults of a computed terminal.
-pub fn facility_faults(fp: &[u8], n: usize, another: bool, after: u32, f: Facility, terminal: Judged) -> Judged
+pub fn facility_faults(
+    fp: &[u8],
+    n: usize,
+    another: bool,
+    after: u32,
+    f: Facility,
+    terminal: Judged,
+) -> Judged
     ensures { λ r. ⌜ ((d : Description) (p : Places) (name : Name) (x : List W.Fault) → facilityPlace p n ≡ facilityPlacesOf (now (fp .entry)) n → judged terminal ≡ least x → judged r ≡ least (L.unless (cond (isSequencing (facilityMeant name f .kind)) (sequencingRight d p another (facilityMeant name f)) true) (facilityPlace p n .name) 9 ++ (L.unless (leb after largestStore) (facilityPlace p n .name) 10 ++ x))) ⌝ }
 {
     let at = places::of_facility(fp, n, 0);

@@ -24,7 +24,15 @@ ghost use Rattle.words.specs.Meaning.{judged};
 ghost use Rattle.judge.specs.Declared.{Declared, Remembered, facilityPlacesOf};
 
 // The expression of facility n, if it is a computed terminal.
-fn terminal(fs: &[u8], es: &[u8], fp: &[u8], ep: &[u8], memo: &[usize], n: usize, f: Facility) -> Verdict
+fn terminal(
+    fs: &[u8],
+    es: &[u8],
+    fp: &[u8],
+    ep: &[u8],
+    memo: &[usize],
+    n: usize,
+    f: Facility,
+) -> Verdict
     requires { ⌜ (n < length (now fs) / 13) × FacilityRead (now fs) (now fp) n f ⌝ }
     ensures { λ r. ⌜ ((d : Description) (p : Places) → Declared (now (fs .entry)) (now (es .entry)) (now (fp .entry)) (now (ep .entry)) d p → Remembered (now (fs .entry)) (now (memo .entry)) n d p → r ≡ seen (cond (isComputed (facilityAt d n .kind)) (terminalJudged d p n) (L.worth 1 0 0))) ⌝ }
 {
@@ -44,7 +52,10 @@ fn one(fp: &[u8], n: usize, another: bool, before: u32, f: Facility, v: Verdict)
     let after = memory::place_after(before, f);
     if image::facilities::is_computed(kind) {
         let terminal = bounds::terminal_faults(fp, n, f, v);
-        return bounds::or_else(own, bounds::facility_faults(fp, n, another, after, f, terminal));
+        return bounds::or_else(
+            own,
+            bounds::facility_faults(fp, n, another, after, f, terminal),
+        );
     }
     let all = bounds::facility_faults(fp, n, another, after, f, Judged::Passed);
     bounds::or_else(own, all)

@@ -42,7 +42,22 @@ fn operation(
     if count == 0 {
         return verdict::faults::refused(places::nowhere(), 3);
     }
-    walk::list(fs, es, fp, ep, memo, acts, ap, ss, labels, kept, k, false, count, first)
+    walk::list(
+        fs,
+        es,
+        fp,
+        ep,
+        memo,
+        acts,
+        ap,
+        ss,
+        labels,
+        kept,
+        k,
+        false,
+        count,
+        first,
+    )
 }
 
 // All operations, of which there are at most 256; their verdicts are kept.

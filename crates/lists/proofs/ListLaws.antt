@@ -12,7 +12,7 @@ use Rattle.language.specs.ActionRules as A
 use Rattle.language.specs.ActionRules.{Shape, actions, arms, armsJudged, listJudged, plainly, runBelow, runStep}
 use Rattle.language.specs.Description as D
 use Rattle.language.specs.Description.{Description, Places, actionAt, actionPlace}
-use Rattle.language.specs.Judging.{Judged, Worth, givenBoth, refuse, worth}
+use Rattle.language.specs.Judging.{Judged, givenBoth, refuse, worth}
 use Rattle.language.specs.Recursion.{below-lt}
 use Rattle.records.proofs.actions.Action.{the-type}
 use Rattle.records.specs.Actions.{meant}

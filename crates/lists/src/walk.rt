@@ -37,17 +37,78 @@ pub fn list(
     let m = k - 1;
     match actions::action_at(acts, i) {
         Action::When(c, x) => held(
-            fs, es, fp, ep, memo, acts, ap, ss, labels, kept, ops, in_state, m, i, c, Choices::One, x,
+            fs,
+            es,
+            fp,
+            ep,
+            memo,
+            acts,
+            ap,
+            ss,
+            labels,
+            kept,
+            ops,
+            in_state,
+            m,
+            i,
+            c,
+            Choices::One,
+            x,
         ),
         Action::Choose(c, n, x) => {
             let several = Choices::Several(n);
             held(
-                fs, es, fp, ep, memo, acts, ap, ss, labels, kept, ops, in_state, m, i, c, several, x,
+                fs,
+                es,
+                fp,
+                ep,
+                memo,
+                acts,
+                ap,
+                ss,
+                labels,
+                kept,
+                ops,
+                in_state,
+                m,
+                i,
+                c,
+                several,
+                x,
             )
         }
         _ => {
-            let one = simple::simple(fs, es, fp, ep, memo, acts, ap, ss, labels, kept, ops, in_state, i);
-            let rest = list(fs, es, fp, ep, memo, acts, ap, ss, labels, kept, ops, in_state, m, i + 1);
+            let one = simple::simple(
+                fs,
+                es,
+                fp,
+                ep,
+                memo,
+                acts,
+                ap,
+                ss,
+                labels,
+                kept,
+                ops,
+                in_state,
+                i,
+            );
+            let rest = list(
+                fs,
+                es,
+                fp,
+                ep,
+                memo,
+                acts,
+                ap,
+                ss,
+                labels,
+                kept,
+                ops,
+                in_state,
+                m,
+                i + 1,
+            );
             operators::together(one, rest)
         }
     }
@@ -83,9 +144,39 @@ fn held(
     let at = places::of_record(ap, i);
     let known = fs.len() / 13;
     let a = expressions::walk::expression(fs, es, fp, ep, memo, known, c);
-    let b = arms(fs, es, fp, ep, memo, acts, ap, ss, labels, kept, ops, in_state, n, i + 1);
+    let b = arms(
+        fs,
+        es,
+        fp,
+        ep,
+        memo,
+        acts,
+        ap,
+        ss,
+        labels,
+        kept,
+        ops,
+        in_state,
+        n,
+        i + 1,
+    );
     let one = conditionals::conditional(at, choices, a, b);
-    let rest = list(fs, es, fp, ep, memo, acts, ap, ss, labels, kept, ops, in_state, m - n, i + 1 + n);
+    let rest = list(
+        fs,
+        es,
+        fp,
+        ep,
+        memo,
+        acts,
+        ap,
+        ss,
+        labels,
+        kept,
+        ops,
+        in_state,
+        m - n,
+        i + 1 + n,
+    );
     operators::together(one, rest)
 }
 
@@ -124,7 +215,37 @@ fn arms(
     if m < n {
         return faults::refused(nowhere, 3);
     }
-    let first = list(fs, es, fp, ep, memo, acts, ap, ss, labels, kept, ops, in_state, n, i + 1);
-    let rest = arms(fs, es, fp, ep, memo, acts, ap, ss, labels, kept, ops, in_state, m - n, i + 1 + n);
+    let first = list(
+        fs,
+        es,
+        fp,
+        ep,
+        memo,
+        acts,
+        ap,
+        ss,
+        labels,
+        kept,
+        ops,
+        in_state,
+        n,
+        i + 1,
+    );
+    let rest = arms(
+        fs,
+        es,
+        fp,
+        ep,
+        memo,
+        acts,
+        ap,
+        ss,
+        labels,
+        kept,
+        ops,
+        in_state,
+        m - n,
+        i + 1 + n,
+    );
     conditionals::arm(first, rest)
 }

@@ -1,25 +1,22 @@
 -- What sections and the places beside them describe, record by record.
-use mathlib.Core.Bool.{Bool, true, false, cond}
+use mathlib.Core.Bool.{Bool, true, false}
 use mathlib.Core.List.{List, [], _∷_}
 use mathlib.Core.Path.{_≡_, refl, sym, ap, _∙_}
 use native.Mathlib.Omega.{arith}
-use Prim.Native.Nat.{ℕ, zero, suc, _+_, _*_, _/_, _<_, _≤_}
+use Prim.Native.Nat.{ℕ, zero, suc, _+_, _*_, _/_, _<_}
 use borrow.Author.Tests.{le-ltb, lt-ltb, ltb-false, ltb-true}
 use lib.Dec.{leb, ltb}
 use lib.ListN.{getD, length}
-use Rattle.image.proofs.DescribedLaws.{action-described, facilities-count, facility-described, node-described, operation-described, operations-count, state-described, states-count}
-use Rattle.image.proofs.DeclarationLaws.{facility-past}
+use Rattle.image.proofs.DescribedLaws.{action-described, facilities-count, facility-described, node-described}
 use Rattle.image.specs.Declarations as I
-use Rattle.image.specs.Declarations.{facilityIn, operationIn, stateIn}
-use Rattle.image.specs.Names.{facilityPart, named, operationPart, statePart}
+use Rattle.image.specs.Declarations.{facilityIn}
+use Rattle.image.specs.Names.{facilityPart, named}
 use Rattle.image.specs.declared.facilities.Facility as F
 use Rattle.language.specs.Decode.{actionOf, described, facilityOf, nodeOf, numberAt, pick, upTo}
 use Rattle.language.specs.Description as D
-use Rattle.language.specs.Description.{Facility, FacilityPlaces, Node, NodePlaces, actionAt, actionPlace, facilityAt, facilityPlace, noFacility, nodeAt, nodePlace, nodePlaces, noPlaces, nowhere, operationAt, operationPlace, stateAt, statePlace}
-use Rattle.language.specs.DescribeText.{Described}
+use Rattle.language.specs.Description.{Facility, FacilityPlaces, Node, actionAt, actionPlace, facilityAt, facilityPlace, noFacility, nodeAt, nodePlace, nodePlaces, noPlaces, nowhere, operationAt, operationPlace, stateAt, statePlace}
 use Rattle.language.specs.Encode.{Sections}
 use Rattle.language.specs.Tree.{Name}
-use Rattle.language.specs.Words.{Position}
 use Rattle.records.proofs.NumberLaws.{number-past}
 use Rattle.noted.specs.Noted.{Beside, facilityPlacesNo, largeNo, nodePlacesNo, noted, notedDescription, nothingBeside, placeNo, placesIn, statePlacesNo, widened, widenedFacilities, widenedFacility, widenedNode, widenedNodes}
 use Rattle.noted.specs.Read.{boundsMeant, facilityMeant, placeOf}

@@ -25,7 +25,11 @@ pub fn span(b: Bounds) -> u64
 fn between(low: u32, n: u64, high: u32) -> bool
     ensures { λ r. ⌜ r ≡ cond (leb low n) (leb n high) false ⌝ }
 {
-    if (low as u64) <= n { n <= high as u64 } else { false }
+    if (low as u64) <= n {
+        n <= high as u64
+    } else {
+        false
+    }
 }
 
 // Whether a number lies within bounds.

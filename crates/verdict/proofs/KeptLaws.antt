@@ -1,17 +1,16 @@
 -- Verdicts kept in numbers.
 use mathlib.Core.List.{List}
-use mathlib.Core.Path.{_≡_, refl, sym, ap, _∙_}
+use mathlib.Core.Path.{_≡_, _∙_}
 use native.Mathlib.Omega.{arith}
-use Prim.Native.Nat.{ℕ, suc, _+_, _-_, _*_, _%_, _<_}
-use borrow.Author.Tests.{eq-eqb, ne-eqb}
-use lib.Dec.{eqb}
+use Prim.Native.Nat.{ℕ, _+_, _-_, _*_, _<_}
+use borrow.Author.Tests.{ne-eqb}
 use lib.ListN.{getD, length, set, length-set}
 use lib.Seq.{getD-set-other, getD-set-same}
 use native.Mathlib.Nat.{mod-eq-of-lt}
 use Rattle.words.specs.declared.Fault.{Fault}
 use Rattle.verdict.specs.declared.Verdict.the-variants.{Fine, Faulty}
 use Rattle.verdict.specs.declared.Worth.{Worth}
-use Rattle.verdict.specs.Meaning.{Kept, recalled, workOf}
+use Rattle.verdict.specs.Meaning.{Kept, recalled}
 
 module _ (m : List ℕ) (k a b : ℕ) (h : 2 * k + 1 < length m) where
   first : getD (set (set m (2 * k) a) (2 * k + 1) b) (2 * k) 0 ≡ a
@@ -24,8 +23,12 @@ module _ (m : List ℕ) (k a b : ℕ) (h : 2 * k + 1 < length m) where
   others : (i : ℕ) → i < k → recalled (set (set m (2 * k) a) (2 * k + 1) b) i ≡ recalled m i
   unfolding recalled
   others i l =
-      rw (getD-set-other (set m (2 * k) a) (2 * k + 1) (2 * i) b 0 (λ e. omega arith), getD-set-other m (2 * k) (2 * i) a 0 (λ e. omega arith),
-      getD-set-other (set m (2 * k) a) (2 * k + 1) (2 * i + 1) b 0 (λ e. omega arith), getD-set-other m (2 * k) (2 * i + 1) a 0 (λ e. omega arith))
+      rw (
+        getD-set-other (set m (2 * k) a) (2 * k + 1) (2 * i) b 0 (λ e. omega arith),
+        getD-set-other m (2 * k) (2 * i) a 0 (λ e. omega arith),
+        getD-set-other (set m (2 * k) a) (2 * k + 1) (2 * i + 1) b 0 (λ e. omega arith),
+        getD-set-other m (2 * k) (2 * i + 1) a 0 (λ e. omega arith),
+      )
 
   size : length (set (set m (2 * k) a) (2 * k + 1) b) ≡ length m
   size = length-set (set m (2 * k) a) (2 * k + 1) b ∙ length-set m (2 * k) a

@@ -1,7 +1,7 @@
 -- What a verdict tells of the judgement that it shows.
 use mathlib.Core.Bool.{Bool, true, false, cond}
 use mathlib.Core.List.{List, [], _∷_, _++_}
-use mathlib.Core.Option.{Option, none, some}
+use mathlib.Core.Option.{none, some}
 use mathlib.Core.Path.{_≡_, refl, sym, ap, _∙_}
 use native.Mathlib.Omega.{arith}
 use borrow.Author.Tests.{eq-eqb, ne-eqb}
@@ -14,9 +14,7 @@ use Rattle.language.specs.Words as W
 use Rattle.language.specs.WordStage.{before, least, smaller}
 use Rattle.words.proofs.Least.{least-both}
 use Rattle.words.specs.declared.Fault.{Fault}
-use Rattle.words.specs.declared.Judged as J
-use Rattle.words.specs.declared.Judged.the-variants.{Passed, Refused}
-use Rattle.words.specs.Meaning.{faulted, judged, lesser}
+use Rattle.words.specs.Meaning.{faulted}
 use Rattle.verdict.proofs.CappedLaws.{capped-eqb}
 use Rattle.verdict.specs.declared.Pair.{Pair}
 use Rattle.verdict.specs.declared.Pair.the-variants as P

@@ -33,11 +33,9 @@ returns c =
     (λ x y m n. c .sized .ensures _ (c .before .with-two .ensures _ _ (ap (λ (v : Worth). v .work) m) (ap (λ (v : Worth). v .work) n))
     ∙ sized-same _ z (c .before .before .binary-length .ensures ∙ ap₂ (binaryLength (c .before .before .before .before .before .before .before .args .kind)) (ap (λ (v : Worth). v .length) m) (ap (λ (v : Worth). v .length) n)))
 
-
 returns-2 : tie.Need-returns-2
 returns-2 c =
     λ q j k z e f. pair-faulty j k _ _ (pair-known j k (c .before .before .before .both .ensures) (c .before .f .given .1) e f)
-
 
 pub binary-spec : {M : Type 1} → statement M
 binary-spec =

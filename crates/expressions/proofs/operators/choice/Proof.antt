@@ -3,9 +3,7 @@ use Rattle.verdict.specs.declared.Worth.{Worth}
 use Rattle.verdict.proofs.VerdictLaws.{both-fine, pair-faulty, pair-known, refuse-same, sized-same}
 use Rattle.verdict.proofs.CappedLaws.{capped-eqb}
 use Rattle.language.specs.Expressions.{selects}
-use borrow.Author.Tests.{eq-eqb, ne-eqb}
 use lib.Dec.{eqb}
-use native.Mathlib.Omega.{arith}
 use Prim.Native.Nat.{ℕ}
 use mathlib.Core.Bool.{true, false}
 use mathlib.Core.Path.{_≡_, ap, sym, _∙_}
@@ -32,7 +30,6 @@ returns c =
     let a : selects (x .length) (c .before .before .before .before .before .before .before .args .count) ≡ false = ap (λ (l : ℕ). selects l (c .before .before .before .before .before .before .before .args .count)) (ap (λ (v : Worth). v .length) (sym m)) ∙ sym (c .before .before .selects .ensures) ∙ not-true _ (c .before .if1 .taken) in
     rw a (c .refused .ensures ∙ refuse-same 7 z))
 
-
 refused-requires-2 : tie.Need-refused-requires-2
 refused-requires-2 c κs = search needs
 
@@ -43,7 +40,6 @@ returns-2 c =
     let a : selects (x .length) (c .before .before .before .before .before .before .before .before .before .args .count) ≡ true = ap (λ (l : ℕ). selects l (c .before .before .before .before .before .before .before .before .before .args .count)) (ap (λ (v : Worth). v .length) (sym m)) ∙ sym (c .before .before .before .before .selects .ensures) ∙ not-false _ (c .before .before .before .if1 .left) in
     let b : eqb (y .arms) (c .before .before .before .before .before .before .before .before .before .args .count) ≡ false = sym (capped-eqb (y .arms) (c .before .before .before .before .before .before .before .before .before .args .count) (search needs)) ∙ ne-eqb _ _ (λ u. c .before .if2 .taken (ap (λ (v : Worth). v .arms) n ∙ u)) in
     rw (a, b) (c .refused2 .ensures ∙ refuse-same 7 z))
-
 
 cast-sized : tie.Need-cast-sized
 cast-sized c = search needs
@@ -65,11 +61,9 @@ returns-3 c =
     let b : eqb (y .arms) (c .before .before .before .before .before .before .before .before .before .before .before .args .count) ≡ true = sym (capped-eqb (y .arms) (c .before .before .before .before .before .before .before .before .before .before .before .args .count) (search needs)) ∙ eq-eqb _ _ (ap (λ (v : Worth). v .arms) (sym n) ∙ c .before .before .before .if2 .left) in
     rw (a, b) (c .sized .ensures _ (c .before .with-two .ensures _ _ (ap (λ (v : Worth). v .work) m) (ap (λ (v : Worth). v .work) n)) ∙ sized-same _ z (ap (λ (v : Worth). v .length) n)))
 
-
 returns-4 : tie.Need-returns-4
 returns-4 c =
     λ d p t known q j k z e f. pair-faulty j k _ _ (pair-known j k (c .before .before .before .both .ensures) (c .before .f .given .1) e f)
-
 
 pub choice-spec : {M : Type 1} → statement M
 choice-spec =

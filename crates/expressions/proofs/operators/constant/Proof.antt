@@ -14,6 +14,5 @@ returns : tie.Need-returns
 returns c =
     λ q e. c .sized .ensures _ (c .before .own .ensures) ∙ sized-same _ e refl
 
-
 pub constant-spec : {M : Type 1} → statement M
 constant-spec = tie.close (tie.spec own-requires sized-requires returns)

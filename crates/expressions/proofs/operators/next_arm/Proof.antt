@@ -35,11 +35,9 @@ returns c =
     (c .before .added .ensures _ 1 (ap (λ (v : Worth). v .arms) m) (sym (capped-small 1 (omega arith))) ∙ ap capped (add-one _))
     (c .added2 .ensures _ _ (ap (λ (v : Worth). v .work) m) (ap (λ (v : Worth). v .work) n)))
 
-
 returns-2 : tie.Need-returns-2
 returns-2 c =
     λ j k e f. pair-faulty j k _ _ (pair-known j k (c .before .before .before .both .ensures) (c .before .f .given .1) e f)
-
 
 pub next-arm-spec : {M : Type 1} → statement M
 next-arm-spec =

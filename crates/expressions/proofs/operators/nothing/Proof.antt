@@ -9,6 +9,5 @@ returns : tie.Need-returns
 returns c =
     worth-seen 1 0 0 refl (sym (capped-small 0 (omega arith))) (sym (capped-small 0 (omega arith)))
 
-
 pub nothing-spec : {M : Type 1} → statement M
 nothing-spec = tie.close (tie.spec returns)

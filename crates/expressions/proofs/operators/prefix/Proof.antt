@@ -30,11 +30,9 @@ returns c =
     (λ x m. c .sized .ensures _ (c .before .with-one .ensures _ (ap (λ (v : Worth). v .work) m))
     ∙ sized-same _ z (c .before .before .prefix-length .ensures ∙ ap (prefixLength (c .before .before .before .before .before .before .args .kind)) (ap (λ (v : Worth). v .length) m)))
 
-
 returns-2 : tie.Need-returns-2
 returns-2 c =
     λ q j z e. given-faulty j _ _ (sym (c .before .a2 .given .1) ∙ e)
-
 
 pub prefix-spec : {M : Type 1} → statement M
 prefix-spec =

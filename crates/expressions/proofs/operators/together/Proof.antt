@@ -24,11 +24,9 @@ returns c =
     λ j k e f. both-fine j k _ _ _ (pair-known j k (c .before .before .before .before .both .ensures) (c .before .before .v .given .1) e f)
     (λ x y m n. worth-seen 1 0 _ refl (sym (capped-small 0 (omega arith))) (c .added .ensures _ _ (ap (λ (v : Worth). v .work) m) (ap (λ (v : Worth). v .work) n)))
 
-
 returns-2 : tie.Need-returns-2
 returns-2 c =
     λ j k e f. pair-faulty j k _ _ (pair-known j k (c .before .before .before .both .ensures) (c .before .f .given .1) e f)
-
 
 pub together-spec : {M : Type 1} → statement M
 together-spec =

@@ -1,7 +1,6 @@
 use Rattle.language.specs.WordStage.{least}
 use Rattle.language.specs.ReferenceRules.{boundFaults}
 use borrow.Author.Tests.{eq-eqb, ne-eqb}
-use mathlib.Core.Path.{_≡_, refl, ap, sym, _∙_}
 use borrow.Author.Needs.{needs}
 use Rattle.expressions.proofs.references.bound_faults.Statement.{statement}
 use Rattle.expressions.proofs.references.bound_faults.Tie as tie
@@ -19,7 +18,6 @@ returns : tie.Need-returns
 unfolding boundFaults
 returns c =
     λ d p t name s. rw (c .before .before .before .before .s .given .1, eq-eqb _ _ (c .before .if1 .taken)) (c .subscript-faults .ensures d p t s)
-
 
 subscript-faults-requires-2 : tie.Need-subscript-faults-requires-2
 subscript-faults-requires-2 c κs = search needs
@@ -59,30 +57,25 @@ unfolding boundFaults least
 returns-2 c =
     λ d p t name s. rw (c .enum-told .given .1)
 
-
 returns-3 : tie.Need-returns-3
 unfolding boundFaults
 returns-3 c =
     λ d p t name s. rw (c .before .before .before .before .s .given .1, ne-eqb _ _ (c .before .if1 .left)) (c .subscript-faults2 .ensures d p t s)
-
 
 returns-4 : tie.Need-returns-4
 unfolding boundFaults
 returns-4 c =
     λ d p t name s. rw (c .before .before .s2 .given .1) (c .end-faults .ensures d p t _ s)
 
-
 returns-5 : tie.Need-returns-5
 unfolding boundFaults
 returns-5 c =
     λ d p t name s. rw (c .before .before .before .before .s3 .given .1) (c .also .ensures _ _ (c .before .before .subscript-faults3 .ensures d p t s) (c .before .subscript-faults4 .ensures d p t s))
 
-
 returns-6 : tie.Need-returns-6
 unfolding boundFaults
 returns-6 c =
     λ d p t name s. rw (c .before .before .before .before .s4 .given .1) (c .also2 .ensures _ _ (c .before .before .subscript-faults5 .ensures d p t s) (c .before .end-faults2 .ensures d p t _ s))
-
 
 pub bound-faults-spec : {M : Type 1} → statement M
 bound-faults-spec =

@@ -13,14 +13,12 @@ returns : tie.Need-returns
 returns c =
     λ j e. rw (sym (c .before .before .is-computed .ensures) ∙ c .before .if1 .taken) (c .recall .ensures ∙ e (sym (c .before .before .is-computed .ensures) ∙ c .before .if1 .taken))
 
-
 nothing-requires : tie.Need-nothing-requires
 nothing-requires c κs = search needs
 
 returns-2 : tie.Need-returns-2
 returns-2 c =
     λ j e. rw (sym (c .before .before .is-computed .ensures) ∙ c .before .if1 .left) (c .nothing .ensures)
-
 
 pub computed-work-spec : {M : Type 1} → statement M
 computed-work-spec =

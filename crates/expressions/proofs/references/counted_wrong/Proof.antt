@@ -17,7 +17,6 @@ returns : tie.Need-returns
 returns c =
     λ q j z e. c .or-faulty .ensures _ _ (c .before .before .faults-of .ensures j e) (c .before .refused .ensures ∙ refuse-same 6 z)
 
-
 pub counted-wrong-spec : {M : Type 1} → statement M
 counted-wrong-spec =
     tie.close (tie.spec faults-of-requires refused-requires or-faulty-requires returns)

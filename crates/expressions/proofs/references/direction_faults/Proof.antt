@@ -4,7 +4,7 @@ use Rattle.language.specs.Words as W
 use Rattle.language.specs.ReferenceRules.{directionFaults}
 use Rattle.language.specs.Judging as L
 use mathlib.Core.Bool.{Bool}
-use mathlib.Core.Path.{_≡_, refl, ap, ap₂, sym, _∙_}
+use mathlib.Core.Path.{ap₂, _∙_}
 use borrow.Author.Needs.{needs}
 use Rattle.expressions.proofs.references.direction_faults.Statement.{statement}
 use Rattle.expressions.proofs.references.direction_faults.Tie as tie
@@ -44,30 +44,25 @@ unfolding directionFaults least
 returns c =
     λ d p t exprs name s. rw (c .enum-told .given .1)
 
-
 returns-2 : tie.Need-returns-2
 unfolding directionFaults least
 returns-2 c =
     λ d p t exprs name s. rw (c .enum-told2 .given .1)
-
 
 returns-3 : tie.Need-returns-3
 unfolding directionFaults
 returns-3 c =
     λ d p t exprs name s. rw (c .before .before .before .s .given .1) (c .unless .ensures ∙ ap₂ (λ (b : Bool) (q : W.Position). least (L.unless b q 6)) (c .before .same-direction .ensures) (last-is s _ (c .before .before .before .before .before .before .of-node .ensures)))
 
-
 returns-4 : tie.Need-returns-4
 unfolding directionFaults least
 returns-4 c =
     λ d p t exprs name s. rw (c .enum-told3 .given .1)
 
-
 returns-5 : tie.Need-returns-5
 unfolding directionFaults
 returns-5 c =
     λ d p t exprs name s. rw (c .before .before .before .s2 .given .1) (c .unless2 .ensures ∙ ap₂ (λ (b : Bool) (q : W.Position). least (L.unless b q 6)) (c .before .same-direction2 .ensures) (last-is s _ (c .before .before .before .before .before .before .of-node .ensures)))
-
 
 pub direction-faults-spec : {M : Type 1} → statement M
 direction-faults-spec =

@@ -3,7 +3,7 @@ use Rattle.language.specs.WordStage.{least}
 use Rattle.language.specs.Words as W
 use Rattle.language.specs.Judging as L
 use mathlib.Core.Bool.{Bool}
-use mathlib.Core.Path.{ap, ap₂, sym, _∙_}
+use mathlib.Core.Path.{ap₂, _∙_}
 use borrow.Author.Needs.{needs}
 use Rattle.expressions.proofs.references.end_faults.Statement.{statement}
 use Rattle.expressions.proofs.references.end_faults.Tie as tie
@@ -40,7 +40,6 @@ returns c =
     λ d p t exprs s. c .also .ensures _ _
     (c .before .before .before .before .unless .ensures ∙ ap₂ (λ (b : Bool) (q : W.Position). least (L.unless b q 6)) (c .before .before .before .before .before .in-bounds .ensures) (first-is s _ (c .before .before .before .before .before .before .before .before .of-node .ensures)))
     (c .before .unless2 .ensures ∙ ap₂ (λ (b : Bool) (q : W.Position). least (L.unless b q 6)) (c .before .before .in-bounds2 .ensures) (last-is s _ (c .before .before .before .before .before .before .before .of-node2 .ensures)))
-
 
 pub end-faults-spec : {M : Type 1} → statement M
 end-faults-spec =

@@ -1,10 +1,6 @@
 use Rattle.expressions.proofs.RecordLaws.{no-reference, node-is, part-same, word-part-same}
-use Rattle.expressions.proofs.RecordLaws.{no-reference, node-is}
-use mathlib.Core.Path.{refl}
+use mathlib.Core.Path.{refl, ap, sym, _∙_}
 use Rattle.language.specs.References.{referenceOf}
-use Rattle.language.specs.References as R
-use Rattle.language.specs.Description.{Bounds}
-use mathlib.Core.Path.{ap, sym, _∙_}
 use borrow.Author.Needs.{needs}
 use Rattle.expressions.proofs.references.reference_at.Statement.{statement}
 use Rattle.expressions.proofs.references.reference_at.Tie as tie
@@ -37,31 +33,25 @@ returns : tie.Need-returns
 returns c =
     λ d p s. sym (ap referenceOf (node-is s _ (c .before .before .before .node-at .result) (c .before .before .before .node-at .ensures) (c .before .f .given .1)))
 
-
 returns-2 : tie.Need-returns-2
 returns-2 c =
     λ d p s. sym (ap referenceOf (node-is s _ (c .before .before .before .node-at .result) (c .before .before .before .node-at .ensures) (c .before .f2 .given .1)))
-
 
 returns-3 : tie.Need-returns-3
 returns-3 c =
     λ d p s. part-same (c .ends .ensures) (ap referenceOf (node-is s _ (c .before .before .before .before .node-at .result) (c .before .before .before .before .node-at .ensures) (c .before .before .f3 .given .1)))
 
-
 returns-4 : tie.Need-returns-4
 returns-4 c =
     λ d p s. sym (ap referenceOf (node-is s _ (c .before .before .before .node-at .result) (c .before .before .before .node-at .ensures) (c .before .f4 .given .1)))
-
 
 returns-5 : tie.Need-returns-5
 returns-5 c =
     λ d p s. word-part-same (c .ends2 .ensures) (ap referenceOf (node-is s _ (c .before .before .before .before .node-at .result) (c .before .before .before .before .node-at .ensures) (c .before .before .f5 .given .1)))
 
-
 returns-6 : tie.Need-returns-6
 returns-6 c =
     λ d p s. no-reference _ _ _ (c .before .node-at .result) (c .match .keys6) ∙ sym (ap referenceOf (node-is s _ (c .before .node-at .result) (c .before .node-at .ensures) refl))
-
 
 pub reference-at-spec : {M : Type 1} → statement M
 reference-at-spec =

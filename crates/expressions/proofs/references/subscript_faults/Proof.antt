@@ -1,15 +1,11 @@
 use Rattle.expressions.proofs.RecordLaws.{at-is, no-constant, node-is}
 use Rattle.records.specs.Nodes.{meant}
-use Rattle.noted.specs.Read.{boundsMeant}
 use Rattle.language.specs.WordStage.{least}
 use Rattle.language.specs.Words as W
-use Rattle.language.specs.ReferenceRules.{constantFaults}
 use Rattle.language.specs.References.{constantOf}
 use Rattle.language.specs.Judging as L
-use Prim.Native.Nat.{ℕ}
-use mathlib.Core.Option.{Option}
 use mathlib.Core.Bool.{Bool}
-use mathlib.Core.Path.{_≡_, refl, ap, ap₂, sym, _∙_}
+use mathlib.Core.Path.{refl, ap, ap₂, sym, _∙_}
 use borrow.Author.Needs.{needs}
 use Rattle.expressions.proofs.references.subscript_faults.Statement.{statement}
 use Rattle.expressions.proofs.references.subscript_faults.Tie as tie
@@ -25,7 +21,6 @@ unfolding least
 returns c =
     λ d p t s. rw (ap constantOf (node-is s _ (c .before .node-at .result) (c .before .node-at .ensures) refl) ∙ no-constant _ _ _ (c .before .node-at .result) (c .match .keys2))
 
-
 of-node-requires : tie.Need-of-node-requires
 of-node-requires c κs = search needs
 
@@ -40,7 +35,6 @@ returns-2 c =
     λ d p t s. rw (ap constantOf (node-is s _ (c .before .before .before .before .before .node-at .result) (c .before .before .before .before .before .node-at .ensures) (c .before .before .before .enum-told .given .1)))
     (c .unless .ensures ∙ ap₂ (λ (b : Bool) (q : W.Position). least (L.unless b q 6))
     (c .before .within .ensures _ (sym (c .before .before .before .before .before .node-at .ensures) ∙ ap (meant _) (c .before .before .before .enum-told .given .1))) (at-is s _ (c .before .before .of-node .ensures)))
-
 
 pub subscript-faults-spec : {M : Type 1} → statement M
 subscript-faults-spec =

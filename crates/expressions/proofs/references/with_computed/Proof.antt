@@ -28,11 +28,9 @@ returns c =
     λ q o j k z u e f. both-fine j k _ _ _ (pair-known j k (c .before .before .before .before .before .before .both .ensures) (c .before .before .before .before .v .given .1) e f)
     (λ x y m n. c .sized .ensures _ (c .before .added2 .ensures _ _ (c .before .before .added .ensures _ _ u (ap (λ (v : Worth). v .work) m)) (ap (λ (v : Worth). v .work) n)) ∙ sized-same _ z refl)
 
-
 returns-2 : tie.Need-returns-2
 returns-2 c =
     λ q o j k z u e f. pair-faulty j k _ _ (pair-known j k (c .before .before .before .both .ensures) (c .before .f .given .1) e f)
-
 
 pub with-computed-spec : {M : Type 1} → statement M
 with-computed-spec =

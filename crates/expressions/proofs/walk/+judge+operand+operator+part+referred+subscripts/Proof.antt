@@ -7,12 +7,10 @@ use Rattle.verdict.proofs.VerdictLaws.{arms-same, proper-same, refuse-same}
 use Rattle.language.specs.ReferenceRules.{subscriptsJudged}
 use Rattle.language.specs.References.{referenceOf}
 use Rattle.language.specs.Expressions.{judgeNode, ownWork}
-use Rattle.language.specs.Description.{facilityAt}
 use native.Mathlib.Omega.{arith}
 use borrow.Author.Needs.{needs}
-use Prim.Native.Nat.{_+_, _*_}
-use mathlib.Core.Path.{_≡_, refl, sym, ap, _∙_}
-use Prim.Native.Nat.{ℕ, _<_}
+use Prim.Native.Nat.{_+_, _*_, ℕ, _<_}
+use mathlib.Core.Path.{refl, sym, ap, _∙_}
 use borrow.Fn.Kinds.{In}
 use borrow.Fn.PlainCycle.{Measures, is, falls, and}
 use Rattle.expressions.proofs.walk.judge.Reads as judge
@@ -163,11 +161,9 @@ judge-returns : (t : ℕ) → judge-lts.Need-returns (judge-calls t) (judge-at t
 judge-returns t c =
     λ d p w sh. c .referred .ensures ownWork (c .before .own .ensures) d p w sh ∙ ap seen (reference-is d p w _ _ _ (ap Shown.referred (sym (c .before .before .before .f .given .1)) ∙ c .before .before .before .before .before .reference-at .ensures d p (sh .records)))
 
-
 judge-returns-2 : (t : ℕ) → judge-lts.Need-returns-2 (judge-calls t) (judge-at t) judge.Post
 judge-returns-2 t c =
     λ d p w sh. c .operator .ensures d p w (sym (ap Shown.referred (sym (c .before .enum-told .given .1)) ∙ c .before .before .before .reference-at .ensures d p (sh .records))) sh
-
 
 operand-of-node-requires : (t : ℕ) → operand-lts.Need-of-node-requires (operand-calls t) (operand-at t) operand.Post
 operand-of-node-requires t c κs = search needs
@@ -181,7 +177,6 @@ operand-proper-requires t c κs = search needs
 operand-returns : (t : ℕ) → operand-lts.Need-returns (operand-calls t) (operand-at t) operand.Post
 operand-returns t c =
     λ d p w sh. c .proper .ensures _ (c .before .part .ensures d p w sh) ∙ proper-same _ (at-is (sh .records) _ (c .before .before .of-node .ensures))
-
 
 operator-of-node-requires : (t : ℕ) → operator-lts.Need-of-node-requires (operator-calls t) (operator-at t) operator.Post
 operator-of-node-requires t c κs = search needs
@@ -278,48 +273,40 @@ unfolding judgeNode
 operator-returns t c =
     λ d p w z sh. c .constant .ensures _ (at-is (sh .records) _ (c .before .before .before .before .before .of-node .ensures)) ∙ ap seen (judge-is d p w _ _ (node-is (sh .records) _ (c .before .before .before .before .node-at .result) (c .before .before .before .before .node-at .ensures) (c .before .before .l .given .1)))
 
-
 operator-returns-2 : (t : ℕ) → operator-lts.Need-returns-2 (operator-calls t) (operator-at t) operator.Post
 unfolding judgeNode
 operator-returns-2 t c =
     λ d p w z sh. c .refused .ensures ∙ refuse-same 3 (at-is (sh .records) _ (c .before .before .before .before .of-node .ensures)) ∙ ap seen (judge-is d p w _ _ (node-is (sh .records) _ (c .before .before .before .node-at .result) (c .before .before .before .node-at .ensures) (c .before .enum-told .given .1)))
-
 
 operator-returns-3 : (t : ℕ) → operator-lts.Need-returns-3 (operator-calls t) (operator-at t) operator.Post
 unfolding judgeNode
 operator-returns-3 t c =
     λ d p w z sh. c .binary .ensures _ _ _ (at-is (sh .records) _ (c .before .before .before .before .before .before .before .of-node .ensures)) (c .before .before .operand .ensures d p w sh) (c .before .operand2 .ensures d p w sh) ∙ ap seen (judge-is d p w _ _ (node-is (sh .records) _ (c .before .before .before .before .before .before .node-at .result) (c .before .before .before .before .before .before .node-at .ensures) (c .before .before .before .before .k .given .1)))
 
-
 operator-returns-4 : (t : ℕ) → operator-lts.Need-returns-4 (operator-calls t) (operator-at t) operator.Post
 unfolding judgeNode
 operator-returns-4 t c =
     λ d p w z sh. c .prefix .ensures _ _ (at-is (sh .records) _ (c .before .before .before .before .before .before .of-node .ensures)) (c .before .operand3 .ensures d p w sh) ∙ ap seen (judge-is d p w _ _ (node-is (sh .records) _ (c .before .before .before .before .before .node-at .result) (c .before .before .before .before .before .node-at .ensures) (c .before .before .before .k2 .given .1)))
-
 
 operator-returns-5 : (t : ℕ) → operator-lts.Need-returns-5 (operator-calls t) (operator-at t) operator.Post
 unfolding judgeNode
 operator-returns-5 t c =
     λ d p w z sh. c .cut .ensures _ _ (at-is (sh .records) _ (c .before .before .before .before .before .before .of-node .ensures)) (c .before .operand4 .ensures d p w sh) ∙ ap seen (judge-is d p w _ _ (node-is (sh .records) _ (c .before .before .before .before .before .node-at .result) (c .before .before .before .before .before .node-at .ensures) (c .before .before .before .k3 .given .1)))
 
-
 operator-returns-6 : (t : ℕ) → operator-lts.Need-returns-6 (operator-calls t) (operator-at t) operator.Post
 unfolding judgeNode
 operator-returns-6 t c =
     λ d p w z sh. c .first-arm .ensures _ (c .before .operand5 .ensures d p w sh) ∙ ap seen (judge-is d p w _ _ (node-is (sh .records) _ (c .before .before .before .before .before .node-at .result) (c .before .before .before .before .before .node-at .ensures) (c .before .before .before .e .given .1)))
-
 
 operator-returns-7 : (t : ℕ) → operator-lts.Need-returns-7 (operator-calls t) (operator-at t) operator.Post
 unfolding judgeNode
 operator-returns-7 t c =
     λ d p w z sh. c .next-arm .ensures _ _ (c .before .before .arm-list .ensures _ (c .before .before .before .part .ensures d p w sh) ∙ arms-same _ (at-is (sh .records) _ (c .before .before .before .before .before .before .before .before .of-node .ensures))) (c .before .operand6 .ensures d p w sh) ∙ ap seen (judge-is d p w _ _ (node-is (sh .records) _ (c .before .before .before .before .before .before .before .node-at .result) (c .before .before .before .before .before .before .before .node-at .ensures) (c .before .before .before .before .before .a .given .1)))
 
-
 operator-returns-8 : (t : ℕ) → operator-lts.Need-returns-8 (operator-calls t) (operator-at t) operator.Post
 unfolding judgeNode
 operator-returns-8 t c =
     λ d p w z sh. c .choice .ensures d p w (c .before .before .before .before .before .before .before .before .before .before .before .before .before .before .args .known) _ _ _ (at-is (sh .records) _ (c .before .before .before .before .before .before .before .before .of-node .ensures)) (c .before .before .before .operand7 .ensures d p w sh) (c .before .arm-list2 .ensures _ (c .before .before .part2 .ensures d p w sh) ∙ arms-same _ (at-is (sh .records) _ (c .before .before .before .before .before .before .before .before .of-node .ensures))) ∙ ap seen (judge-is d p w _ _ (node-is (sh .records) _ (c .before .before .before .before .before .before .before .node-at .result) (c .before .before .before .before .before .before .before .node-at .ensures) (c .before .before .before .before .before .e2 .given .1)))
-
 
 operator-returns-9 : (t : ℕ) → operator-lts.Need-returns-9 (operator-calls t) (operator-at t) operator.Post
 operator-returns-9 t c =
@@ -327,14 +314,12 @@ operator-returns-9 t c =
     ∙ ap seen (broken-is d p w _ (c .before .before .before .before .before .before .before .before .before .args .n) _ _ _ (c .before .before .node-at .result) (c .before .match .keys9) (ap referenceOf (sym (node-is (sh .records) (c .before .before .before .before .before .before .before .before .before .args .n) (c .before .before .node-at .result) (c .before .before .node-at .ensures) refl)) ∙ z) _ _)
     ∙ ap seen (judge-is d p w _ _ (node-is (sh .records) _ (c .before .before .node-at .result) (c .before .before .node-at .ensures) (refl)))
 
-
 part-judge-requires : (t : ℕ) → part-lts.Need-judge-requires (part-calls t) (part-at t) part.Post
 part-judge-requires t c κs = search needs
 
 part-returns : (t : ℕ) → part-lts.Need-returns (part-calls t) (part-at t) part.Post
 part-returns t c =
     λ d p w sh. c .judge .ensures d p w sh ∙ ap seen (sym (part-lt d p w _ _ _ (c .before .if1 .taken)))
-
 
 part-nowhere-requires : (t : ℕ) → part-lts.Need-nowhere-requires (part-calls t) (part-at t) part.Post
 part-nowhere-requires t c κs = search needs
@@ -346,7 +331,6 @@ part-returns-2 : (t : ℕ) → part-lts.Need-returns-2 (part-calls t) (part-at t
 part-returns-2 t c =
     λ d p w sh. c .refused .ensures ∙ refuse-same 3 (c .before .nowhere .ensures) ∙ ap seen (sym (part-ge d p w _ _ _ (c .before .before .if1 .left)))
 
-
 referred-of-node-requires : (t : ℕ) → referred-lts.Need-of-node-requires (referred-calls t) (referred-at t) referred.Post
 referred-of-node-requires t c κs = search needs
 
@@ -356,7 +340,6 @@ referred-refused-requires t c κs = search needs
 referred-returns : (t : ℕ) → referred-lts.Need-returns (referred-calls t) (referred-at t) referred.Post
 referred-returns t c =
     λ o u d p w sh. c .refused .ensures ∙ refuse-same 4 (at-is (sh .records) _ (c .before .before .of-node .ensures)) ∙ ap seen (unknown-reference d p w _ o _ _ _ _ (c .before .if1 .taken))
-
 
 referred-facility-at-requires : (t : ℕ) → referred-lts.Need-facility-at-requires (referred-calls t) (referred-at t) referred.Post
 referred-facility-at-requires t c κs = search needs
@@ -390,7 +373,6 @@ referred-returns-2 t c =
     (c .before .before .before .bound-faults .ensures d p w (facilityAt d (c .before .before .before .before .before .before .before .before .before .before .before .before .before .before .before .before .args .f) .name) (sh .records)) (c .before .before .direction-faults .ensures d p w _ (facilityAt d (c .before .before .before .before .before .before .before .before .before .before .before .before .before .before .before .before .args .f) .name) (sh .records))
     ∙ ap seen (right-reference d p w _ o _ _ _ _ _ (c .before .before .before .before .before .before .before .before .before .if1 .left) e (sym (c .before .before .before .before .before .before .right-count .ensures) ∙ c .before .before .before .before .before .if2 .taken) (c .before .before .before .before .taken-length .ensures (facilityAt d (c .before .before .before .before .before .before .before .before .before .before .before .before .before .before .before .before .args .f) .name)))
 
-
 referred-counted-wrong-requires : (t : ℕ) → referred-lts.Need-counted-wrong-requires (referred-calls t) (referred-at t) referred.Post
 referred-counted-wrong-requires t c κs = search needs
 
@@ -400,7 +382,6 @@ referred-returns-3 t c =
     let e = sh .facility (c .before .before .before .before .before .before .before .before .before .before .before .before .args .f) (c .before .before .before .before .before .if1 .left) (c .before .before .before .before .facility-at .result) (c .before .before .before .before .facility-at .ensures) in
     c .counted-wrong .ensures _ _ (at-is (sh .records) _ (c .before .before .before .before .before .before .of-node .ensures)) (c .before .before .before .subscripts .ensures d p w sh)
     ∙ ap seen (wrong-reference d p w _ o _ _ _ _ (c .before .before .before .before .before .if1 .left) e (sym (c .before .before .right-count .ensures) ∙ c .before .if2 .left))
-
 
 subscripts-enum-told : (t : ℕ) → subscripts-lts.Need-enum-told (subscripts-calls t) (subscripts-at t) subscripts.Post
 subscripts-enum-told t c = search needs
@@ -443,30 +424,25 @@ unfolding subscriptsJudged
 subscripts-returns t c =
     λ d p w sh. rw (c .before .enum-told .given .1) (c .nothing .ensures)
 
-
 subscripts-returns-2 : (t : ℕ) → subscripts-lts.Need-returns-2 (subscripts-calls t) (subscripts-at t) subscripts.Post
 unfolding subscriptsJudged
 subscripts-returns-2 t c =
     λ d p w sh. rw (c .before .before .s .given .1) (c .operand .ensures d p w sh)
-
 
 subscripts-returns-3 : (t : ℕ) → subscripts-lts.Need-returns-3 (subscripts-calls t) (subscripts-at t) subscripts.Post
 unfolding subscriptsJudged
 subscripts-returns-3 t c =
     λ d p w sh. rw (c .before .enum-told2 .given .1) (c .nothing2 .ensures)
 
-
 subscripts-returns-4 : (t : ℕ) → subscripts-lts.Need-returns-4 (subscripts-calls t) (subscripts-at t) subscripts.Post
 unfolding subscriptsJudged
 subscripts-returns-4 t c =
     λ d p w sh. rw (c .before .before .before .before .s2 .given .1) (c .together .ensures _ _ (c .before .before .operand2 .ensures d p w sh) (c .before .operand3 .ensures d p w sh))
 
-
 subscripts-returns-5 : (t : ℕ) → subscripts-lts.Need-returns-5 (subscripts-calls t) (subscripts-at t) subscripts.Post
 unfolding subscriptsJudged
 subscripts-returns-5 t c =
     λ d p w sh. rw (c .before .before .s3 .given .1) (c .operand4 .ensures d p w sh)
-
 
 pub +judge+operand+operator+part+referred+subscripts-spec : {M : Type 1} → statement M
 +judge+operand+operator+part+referred+subscripts-spec =

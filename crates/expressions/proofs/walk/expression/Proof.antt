@@ -18,6 +18,5 @@ returns : tie.Need-returns
 returns c =
     λ d p w sh. c .proper .ensures _ (c .before .judge .ensures d p w sh) ∙ proper-same _ (at-is (sh .records) _ (c .before .before .of-node .ensures))
 
-
 pub expression-spec : {M : Type 1} → statement M
 expression-spec = tie.close (tie.spec of-node-requires judge-requires proper-requires returns)

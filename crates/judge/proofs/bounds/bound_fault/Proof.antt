@@ -16,6 +16,5 @@ unfolding largestBound
 returns c =
     λ q e. c .unless .ensures ∙ ap (λ (u : W.Position). least (L.unless (leb (c .before .args .n) 65535) u 6)) e
 
-
 pub bound-fault-spec : {M : Type 1} → statement M
 bound-fault-spec = tie.close (tie.spec unless-requires returns)

@@ -1,9 +1,5 @@
-use Rattle.language.specs.WordStage.{least}
-use Rattle.language.specs.Words as W
-use Rattle.language.specs.Rules.{boundsFaults, largestBound}
-use Rattle.language.specs.Judging as L
+use Rattle.language.specs.Rules.{boundsFaults}
 use Rattle.language.specs.Description.{FacilityPlaces}
-use lib.Dec.{leb}
 use mathlib.Core.Path.{ap, sym, _∙_}
 use borrow.Author.Needs.{needs}
 use Rattle.judge.proofs.bounds.bounds_faults.Statement.{statement}
@@ -52,7 +48,6 @@ returns c =
     (c .before .before .also .ensures _ _
     (c .before .before .before .before .before .bound-fault3 .ensures _ (c .before .before .before .before .before .before .of-facility3 .ensures ∙ sym (ap (λ (x : FacilityPlaces). x .bitsFirst) e)))
     (c .before .before .before .bound-fault4 .ensures _ (c .before .before .before .before .of-facility4 .ensures ∙ sym (ap (λ (x : FacilityPlaces). x .bitsLast) e)))))
-
 
 pub bounds-faults-spec : {M : Type 1} → statement M
 bounds-faults-spec =

@@ -35,7 +35,6 @@ returns c =
     (c .before .before .before .unless .ensures ∙ ap₂ (λ (b : Bool) (q : W.Position). least (L.unless b q 9)) (c .before .before .before .before .sequencing-right .ensures d p name) (c .before .before .before .before .before .of-facility .ensures ∙ sym (ap (λ (y : FacilityPlaces). y .name) e)))
     (c .before .also .ensures _ _ (c .before .before .unless2 .ensures ∙ ap (λ (q : W.Position). least (L.unless (leb (c .before .before .before .before .before .before .before .args .after) 16384) q 10)) (c .before .before .before .before .before .of-facility .ensures ∙ sym (ap (λ (y : FacilityPlaces). y .name) e))) f)
 
-
 pub facility-faults-spec : {M : Type 1} → statement M
 facility-faults-spec =
     tie.close

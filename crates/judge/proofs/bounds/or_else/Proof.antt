@@ -15,11 +15,9 @@ returns : tie.Need-returns
 returns c =
     λ d p x y e f. or-else-none d p x y (ap judged (sym (c .enum-told .given .1)) ∙ e) f
 
-
 returns-2 : tie.Need-returns-2
 returns-2 c =
     λ d p x y e f. or-else-some d p x y _ (c .enum-told2 .given .1) e
-
 
 pub or-else-spec : {M : Type 1} → statement M
 or-else-spec = tie.close (tie.spec enum-told enum-told-2 returns returns-2)

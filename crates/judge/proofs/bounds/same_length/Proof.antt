@@ -1,18 +1,14 @@
 use Rattle.judge.proofs.FacilityLaws.{same-faulty}
 use Rattle.verdict.proofs.VerdictLaws.{is-fine}
 use mathlib.Core.Path.{_≡_, ap, ap₂, sym, _∙_}
-use mathlib.Core.Option.{some}
-use Rattle.words.specs.Meaning.{faulted, judged}
+use Rattle.words.specs.Meaning.{judged}
 use Rattle.verdict.specs.declared.Worth.{Worth}
-use Rattle.verdict.proofs.VerdictLaws.{faulty-faults, is-faulty, is-fine}
 use Rattle.language.specs.WordStage.{least}
 use Rattle.language.specs.Words as W
 use Rattle.language.specs.Rules.{sameLength}
 use Rattle.language.specs.Judging as L
 use lib.Dec.{eqb}
 use Prim.Native.Nat.{ℕ}
-use mathlib.Core.Path.{ap, ap₂, sym, _∙_}
-use mathlib.Core.Bool.{Bool}
 use borrow.Author.Needs.{needs}
 use Rattle.judge.proofs.bounds.same_length.Statement.{statement}
 use Rattle.judge.proofs.bounds.same_length.Tie as tie
@@ -34,11 +30,9 @@ returns c =
     λ d p q j z e. is-fine j _ (λ k. judged (c .unless .result) ≡ least (sameLength d p (c .before .before .before .before .before .args .length) q k)) (sym (c .before .before .before .v .given .1) ∙ e)
     (λ x m. c .unless .ensures ∙ ap₂ (λ (l : ℕ) (u : W.Position). least (L.unless (eqb (c .before .before .before .before .before .args .length) l) u 7)) (ap (λ (v : Worth). v .length) m) z)
 
-
 returns-2 : tie.Need-returns-2
 returns-2 c =
     λ d p q j z e. same-faulty d p _ q j _ (sym (c .before .v2 .given .1) ∙ e)
-
 
 pub same-length-spec : {M : Type 1} → statement M
 same-length-spec =

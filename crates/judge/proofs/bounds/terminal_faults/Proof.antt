@@ -21,7 +21,6 @@ returns c =
     λ d p name j e f. c .same-length .ensures d p _ j (c .before .of-facility .ensures ∙ sym (ap (λ (x : FacilityPlaces). x .equals) e)) f
     ∙ ap (λ (l : ℕ). least (sameLength d p l (facilityPlace p (c .before .before .before .before .args .n) .equals) j)) (c .before .before .word-length .ensures .0 name)
 
-
 pub terminal-faults-spec : {M : Type 1} → statement M
 terminal-faults-spec =
     tie.close (tie.spec word-length-requires of-facility-requires same-length-requires returns)

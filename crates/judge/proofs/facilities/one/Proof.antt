@@ -1,16 +1,13 @@
 use Rattle.judge.proofs.FacilityLaws.{computed-faults, other-faults, passed-none}
 use Rattle.verdict.specs.Meaning.{seen}
 use Rattle.language.specs.WordStage.{least}
-use Rattle.language.specs.Words as W
 use Rattle.language.specs.Rules.{boundsFaults, facilityFaults, orElse}
-use mathlib.Core.Bool.{cond}
+use mathlib.Core.Bool.{cond, Bool}
 use Rattle.language.specs.Judging as L
 use Rattle.language.specs.Expressions.{terminalJudged}
 use Rattle.language.specs.Description.{facilityAt, facilityPlace, isComputed}
 use Rattle.language.specs.Description as D
-use mathlib.Core.Path.{refl, ap, sym, _∙_}
-use mathlib.Core.List.{List}
-use mathlib.Core.Bool.{Bool}
+use mathlib.Core.Path.{ap, sym, _∙_}
 use borrow.Author.Needs.{needs}
 use Rattle.judge.proofs.facilities.one.Statement.{statement}
 use Rattle.judge.proofs.facilities.one.Tie as tie
@@ -42,7 +39,6 @@ returns c =
     ∙ ap least (computed-faults d p (c .before .before .before .before .before .before .before .before .args .n) _ (c .before .before .before .before .before .before .before .before .args .before) _ _ _ (c .before .before .before .before .before .place-after .ensures (facilityAt d (c .before .before .before .before .before .before .before .before .args .n) .name)) (sym (c .before .before .before .before .is-computed .ensures) ∙ c .before .before .before .if1 .taken)))
     ∙ ap (λ (x : D.Facility). least (orElse d p (boundsFaults d p x (facilityPlace p (c .before .before .before .before .before .before .before .before .args .n))) (facilityFaults d p (c .before .before .before .before .before .before .before .before .args .n) (c .before .before .before .before .before .before .before .before .args .another) (c .before .before .before .before .before .before .before .before .args .before) x (facilityPlace p (c .before .before .before .before .before .before .before .before .args .n))))) g
 
-
 facility-faults-requires-2 : tie.Need-facility-faults-requires-2
 facility-faults-requires-2 c κs = search needs
 
@@ -55,7 +51,6 @@ returns-2 c =
     (c .before .facility-faults2 .ensures d p (facilityAt d (c .before .before .before .before .before .before .before .args .n) .name) _ e passed-none
     ∙ ap least (other-faults d p (c .before .before .before .before .before .before .before .args .n) _ (c .before .before .before .before .before .before .before .args .before) _ _ _ (c .before .before .before .before .place-after .ensures (facilityAt d (c .before .before .before .before .before .before .before .args .n) .name)) (sym (c .before .before .before .is-computed .ensures) ∙ c .before .before .if1 .left)))
     ∙ ap (λ (x : D.Facility). least (orElse d p (boundsFaults d p x (facilityPlace p (c .before .before .before .before .before .before .before .args .n))) (facilityFaults d p (c .before .before .before .before .before .before .before .args .n) (c .before .before .before .before .before .before .before .args .another) (c .before .before .before .before .before .before .before .args .before) x (facilityPlace p (c .before .before .before .before .before .before .before .args .n))))) g
-
 
 pub one-spec : {M : Type 1} → statement M
 one-spec =

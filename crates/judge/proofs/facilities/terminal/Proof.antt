@@ -1,11 +1,8 @@
 use Rattle.judge.proofs.FacilityLaws.{computed-expression, shown-of, terminal-is}
 use Rattle.verdict.specs.Meaning.{seen}
-use Rattle.language.specs.Tree.{Kind}
-use Rattle.language.specs.Description.{facilityAt, isComputed}
-use Rattle.language.specs.Description as D
+use Rattle.language.specs.Description.{isComputed}
 use native.Mathlib.Nat.{le-of-lt}
 use mathlib.Core.Path.{ap, sym, _∙_}
-use mathlib.Core.List.{[]}
 use borrow.Author.Needs.{needs}
 use Rattle.judge.proofs.facilities.terminal.Statement.{statement}
 use Rattle.judge.proofs.facilities.terminal.Tie as tie
@@ -22,14 +19,12 @@ returns c =
     (c .expression .ensures d p _ (shown-of _ s r (le-of-lt (c .before .before .before .before .before .before .before .before .pre .0)))
     ∙ ap seen (terminal-is d p (c .before .before .before .before .before .before .before .before .args .n) (computed-expression (c .before .before .before .before .before .before .before .before .args .f) (s .facility (c .before .before .before .before .before .before .before .before .args .n) (c .before .before .before .before .before .before .before .before .pre .0) (c .before .before .before .before .before .before .before .before .args .f) (c .before .before .before .before .before .before .before .before .pre .1)) (sym (c .before .before .is-computed .ensures) ∙ c .before .if1 .taken))))
 
-
 nothing-requires : tie.Need-nothing-requires
 nothing-requires c κs = search needs
 
 returns-2 : tie.Need-returns-2
 returns-2 c =
     λ d p s r. rw (ap isComputed (s .kind (c .before .before .before .before .before .before .before .before .args .n) ∙ sym (c .before .before .before .before .before .before .before .before .pre .1 .kind)) ∙ sym (c .before .before .is-computed .ensures) ∙ c .before .if1 .left) (c .nothing .ensures)
-
 
 pub terminal-spec : {M : Type 1} → statement M
 terminal-spec =

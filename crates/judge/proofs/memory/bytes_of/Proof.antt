@@ -1,9 +1,9 @@
 use Rattle.judge.proofs.MemoryLaws.{bytes-is}
-use Rattle.language.specs.Layout.{facilityBytes, wordBytes}
+use Rattle.language.specs.Layout.{facilityBytes}
 use native.Mathlib.Omega.{arith}
 use native.Mathlib.Nat.{mul-le-mul}
-use Prim.Native.Nat.{ℕ, _*_, _+_, _/_}
-use mathlib.Core.Path.{ap₂, sym, _∙_}
+use Prim.Native.Nat.{_+_, _/_}
+use mathlib.Core.Path.{sym, _∙_}
 use borrow.Author.Needs.{needs}
 use Rattle.judge.proofs.memory.bytes_of.Statement.{statement}
 use Rattle.judge.proofs.memory.bytes_of.Tie as tie
@@ -15,7 +15,6 @@ returns : tie.Need-returns
 unfolding facilityBytes
 returns c =
     λ name. rw (sym (c .before .is-computed .ensures) ∙ c .if1 .taken)
-
 
 word-count-requires : tie.Need-word-count-requires
 word-count-requires c κs = search needs
@@ -30,11 +29,9 @@ mul-result : tie.Need-mul-result
 mul-result c =
     let q = mul-le-mul {n₁ = c .before .word-count .result} {m₁ = (c .word-length .result + 7) / 8} {n₂ = 0x100000000} {m₂ = 0x20000001} (c .before .word-count .ensures .1) (omega (arith, c .word-length .ensures .1)) in omega arith
 
-
 returns-2 : tie.Need-returns-2
 returns-2 c =
     λ name. bytes-is _ _ _ (sym (c .before .before .before .is-computed .ensures) ∙ c .before .before .if1 .left) (c .before .word-count .ensures .0 name) (c .word-length .ensures .0 name)
-
 
 pub bytes-of-spec : {M : Type 1} → statement M
 bytes-of-spec =

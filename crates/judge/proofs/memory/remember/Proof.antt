@@ -8,7 +8,6 @@ returns : tie.Need-returns
 returns c =
     (c .before .before .pre, λ h. absurd (omega (arith, c .if1 .taken)), λ i h k. refl)
 
-
 cast-keep : tie.Need-cast-keep
 cast-keep c = search needs
 
@@ -22,7 +21,6 @@ same-length c = search needs
 returns-2 : tie.Need-returns-2
 returns-2 c =
     (c .before .before .keep .ensures .size ∙ c .before .before .before .before .before .before .pre, λ h. c .before .before .keep .ensures .here, λ i h k. c .before .before .keep .ensures .others i h)
-
 
 pub remember-spec : {M : Type 1} → statement M
 remember-spec = tie.close (tie.spec returns cast-keep keep-requires same-length returns-2)

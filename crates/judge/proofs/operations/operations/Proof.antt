@@ -1,15 +1,14 @@
 use Rattle.judge.proofs.OperationLaws.{perform-all, perform-first, perform-next, start-operation, step-operation, stop-operation}
 use borrow.Author.Needs.{needs}
 use Rattle.judge.specs.Declared.{Acting, Performed}
-use Rattle.judge.proofs.OperationLaws.{perform-all, perform-first, perform-next, step-operation, stop-operation}
 use Rattle.words.specs.Meaning.{judged, lesser}
 use Rattle.language.specs.WordStage.{least}
 use Rattle.language.specs.Rules.{operationsFaults}
 use Rattle.language.specs.Description.{Description, Places}
 use lib.ListN.{length}
 use native.Mathlib.Omega.{arith}
-use Prim.Native.Nat.{ℕ, _+_, _-_, _/_, _<_, _≤_}
-use mathlib.Core.Path.{_≡_, refl, ap, sym, _∙_}
+use Prim.Native.Nat.{_-_, _/_, _≤_}
+use mathlib.Core.Path.{_≡_, ap}
 use Rattle.judge.proofs.operations.operations.Statement.{statement}
 use Rattle.judge.proofs.operations.operations.Tie as tie
 
@@ -23,7 +22,6 @@ loop-holds : tie.Need-loop-holds Inv-loop μ-loop
 loop-holds c =
     (omega arith, c .before .before .before .before .before .before .before .before .before .before .before .pre .0, λ d p s. (start-operation d p _, perform-first _ d p))
 
-
 add-n : tie.Need-add-n Inv-loop μ-loop
 add-n c = search needs
 
@@ -33,7 +31,6 @@ operation-at-requires c κs = search needs
 operation-requires : tie.Need-operation-requires Inv-loop μ-loop
 operation-requires c κs =
     omega (arith, c .before .before .before .loop-test .taken, c .before .before .before .before .before .before .before .before .before .before .before .before .before .before .before .before .pre .1)
-
 
 faults-of-requires : tie.Need-faults-of-requires Inv-loop μ-loop
 faults-of-requires c κs = search needs
@@ -45,19 +42,19 @@ remember-requires : tie.Need-remember-requires Inv-loop μ-loop
 remember-requires c κs =
     c .before .before .before .before .before .before .before .before .loop .inv .1
 
-
 loop-less : tie.Need-loop-less Inv-loop μ-loop
 loop-less c =
     omega (arith, c .before .before .before .before .before .before .before .before .before .before .loop-test .taken)
 
-
 loop-again : tie.Need-loop-again Inv-loop μ-loop
-loop-again c =
-    (omega (arith, c .before .before .before .before .before .before .before .before .before .before .loop-test .taken), c .before .before .remember .ensures .0, λ d p s.
-    let i = c .before .before .before .before .before .before .before .before .before .before .before .loop .inv .2 d p s in
-    let v = c .before .before .before .before .before .before .operation .ensures d p _ s (i .1) (s .body (c .before .before .before .before .before .before .before .before .before .before .before .loop .n) (c .before .before .before .before .before .before .before .before .before .operation-at .result) (c .before .before .before .before .before .before .before .before .before .operation-at .ensures)) in
-    (step-operation d p _ (c .before .before .before .before .before .before .before .before .before .before .before .loop .n) (judged (c .before .before .before .before .before .before .before .before .before .before .before .loop .all)) (judged (c .before .before .before .before .before .faults-of .result)) (c .before .before .before .before .before .before .before .before .before .before .loop-test .taken) (c .before .before .before .before .earlier .ensures) (c .before .before .before .before .before .faults-of .ensures _ v) (i .0), perform-next (i .1) v (c .before .before .remember .ensures .1) (c .before .before .remember .ensures .2)))
-
+loop-again c = (
+  omega (arith, c .before .before .before .before .before .before .before .before .before .before .loop-test .taken),
+  c .before .before .remember .ensures .0,
+  λ d p s.
+      let i = c .before .before .before .before .before .before .before .before .before .before .before .loop .inv .2 d p s in
+      let v = c .before .before .before .before .before .before .operation .ensures d p _ s (i .1) (s .body (c .before .before .before .before .before .before .before .before .before .before .before .loop .n) (c .before .before .before .before .before .before .before .before .before .operation-at .result) (c .before .before .before .before .before .before .before .before .before .operation-at .ensures)) in
+      (step-operation d p _ (c .before .before .before .before .before .before .before .before .before .before .before .loop .n) (judged (c .before .before .before .before .before .before .before .before .before .before .before .loop .all)) (judged (c .before .before .before .before .before .faults-of .result)) (c .before .before .before .before .before .before .before .before .before .before .loop-test .taken) (c .before .before .before .before .earlier .ensures) (c .before .before .before .before .before .faults-of .ensures _ v) (i .0), perform-next (i .1) v (c .before .before .remember .ensures .1) (c .before .before .remember .ensures .2)),
+)
 
 same-length : tie.Need-same-length Inv-loop μ-loop
 same-length c = search needs
@@ -65,7 +62,6 @@ same-length c = search needs
 returns : tie.Need-returns Inv-loop μ-loop
 returns c =
     (c .before .loop .inv .1, λ d p s. (stop-operation d p _ (c .before .loop .n) (judged (c .before .loop .all)) (c .loop-test .left) (c .before .loop .inv .2 d p s .0), perform-all _ (c .before .loop .inv .0) (c .loop-test .left) (c .before .loop .inv .2 d p s .1)))
-
 
 pub operations-spec : {M : Type 1} → statement M
 operations-spec =

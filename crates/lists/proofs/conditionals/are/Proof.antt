@@ -10,6 +10,5 @@ returns : tie.Need-returns
 returns c =
     λ a e. ap (λ (k : ℕ). eqb k (c .args .n)) e ∙ capped-eqb a (c .args .n) (search needs)
 
-
 pub are-spec : {M : Type 1} → statement M
 are-spec = tie.close (tie.spec returns)

@@ -22,7 +22,6 @@ returns c =
     λ q j k z e f. both-fine j k _ _ _ (pair-known j k (c .before .before .before .before .before .before .both .ensures) (c .before .before .before .before .v .given .1) e f)
     (λ x y m n. rw (sym (c .before .before .right-arms .ensures x y m n) ∙ c .before .if1 .taken) (c .counted .ensures _ _ (ap (λ (v : Worth). v .work) m) (ap (λ (v : Worth). v .work) n)))
 
-
 refused-requires : tie.Need-refused-requires
 refused-requires c κs = search needs
 
@@ -34,11 +33,9 @@ returns-2 c =
     λ q j k z e f. both-fine j k _ _ _ (pair-known j k (c .before .before .before .before .before .before .both .ensures) (c .before .before .before .before .v .given .1) e f)
     (λ x y m n. rw (sym (c .before .before .right-arms .ensures x y m n) ∙ c .before .if1 .left) (c .refused .ensures ∙ refuse-same 7 z))
 
-
 returns-3 : tie.Need-returns-3
 returns-3 c =
     λ q j k z e f. pair-faulty j k _ _ (pair-known j k (c .before .before .before .both .ensures) (c .before .f .given .1) e f)
-
 
 pub conditional-spec : {M : Type 1} → statement M
 conditional-spec =

@@ -13,6 +13,5 @@ returns : tie.Need-returns
 returns c =
     λ a b e f. worth-seen 1 0 _ refl (sym (capped-small 0 (omega arith))) (c .with-two .ensures a b e f)
 
-
 pub counted-spec : {M : Type 1} → statement M
 counted-spec = tie.close (tie.spec with-two-requires returns)

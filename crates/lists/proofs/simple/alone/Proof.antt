@@ -13,6 +13,5 @@ returns : tie.Need-returns
 returns c =
     worth-seen 1 0 _ refl (sym (capped-small 0 (omega arith))) (c .own .ensures)
 
-
 pub alone-spec : {M : Type 1} → statement M
 alone-spec = tie.close (tie.spec own-requires returns)

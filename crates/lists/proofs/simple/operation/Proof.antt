@@ -11,7 +11,6 @@ returns : tie.Need-returns
 returns c =
     λ j e f. c .recall .ensures ∙ e (c .before .if1 .taken)
 
-
 nowhere-requires : tie.Need-nowhere-requires
 nowhere-requires c κs = search needs
 
@@ -21,7 +20,6 @@ refused-requires c κs = search needs
 returns-2 : tie.Need-returns-2
 returns-2 c =
     λ j e f. rw (f (c .before .before .if1 .left)) (c .refused .ensures ∙ refuse-same 4 (c .before .nowhere .ensures))
-
 
 pub operation-spec : {M : Type 1} → statement M
 operation-spec =

@@ -23,11 +23,9 @@ returns : tie.Need-returns
 returns c =
     λ w e f. perform-fine (w (c .before .before .before .before .before .before .args .o)) _ (sym (c .before .before .w .given .1) ∙ c .before .before .before .before .operation .ensures (w (c .before .before .before .before .before .before .args .o)) e f) (λ x m. worth-seen 1 0 _ refl (sym (capped-small 0 (omega arith))) (c .with-one .ensures x m))
 
-
 returns-2 : tie.Need-returns-2
 returns-2 c =
     λ w e f. perform-faulty (w (c .before .before .before .before .before .args .o)) _ _ (sym (c .before .f .given .1) ∙ c .before .before .before .operation .ensures (w (c .before .before .before .before .before .args .o)) e f)
-
 
 pub perform-spec : {M : Type 1} → statement M
 perform-spec =

@@ -14,14 +14,12 @@ returns : tie.Need-returns
 returns c =
     λ q z. rw (sym (c .before .before .labelled .ensures) ∙ c .before .if1 .taken) (c .alone .ensures)
 
-
 refused-requires : tie.Need-refused-requires
 refused-requires c κs = search needs
 
 returns-2 : tie.Need-returns-2
 returns-2 c =
     λ q z. rw (sym (c .before .before .labelled .ensures) ∙ c .before .if1 .left) (c .refused .ensures ∙ refuse-same 4 z)
-
 
 pub to-state-spec : {M : Type 1} → statement M
 to-state-spec =

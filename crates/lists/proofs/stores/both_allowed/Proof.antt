@@ -13,11 +13,9 @@ returns : tie.Need-returns
 returns c =
     rw (sym (c .before .before .may-store .ensures) ∙ c .before .if1 .taken) (c .may-store2 .ensures)
 
-
 returns-2 : tie.Need-returns-2
 returns-2 c =
     rw (sym (c .before .may-store .ensures) ∙ c .if1 .left)
-
 
 pub both-allowed-spec : {M : Type 1} → statement M
 both-allowed-spec = tie.close (tie.spec may-store-requires may-store-requires-2 returns returns-2)

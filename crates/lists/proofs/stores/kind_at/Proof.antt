@@ -25,15 +25,15 @@ enum-told c = search needs
 returns : tie.Need-returns
 unfolding kindAt
 returns c =
-    record { kind = λ d p t marks memo known sh. rw (sym (ap referred (sym (c .before .before .f .given .1)) ∙ c .before .before .before .before .reference-at .ensures d p (sh .records)))
-    (ap (λ (x : D.Facility). x .kind) (c .facility-at .ensures .meaning []) ∙ sym (sh .kind _)) }
-
+    record {
+      kind = λ d p t marks memo known sh. rw (sym (ap referred (sym (c .before .before .f .given .1)) ∙ c .before .before .before .before .reference-at .ensures d p (sh .records)))
+          (ap (λ (x : D.Facility). x .kind) (c .facility-at .ensures .meaning []) ∙ sym (sh .kind _));
+    }
 
 returns-2 : tie.Need-returns-2
 unfolding kindAt
 returns-2 c =
     record { kind = λ d p t marks memo known sh. rw (sym (ap referred (sym (c .enum-told .given .1)) ∙ c .before .before .reference-at .ensures d p (sh .records))) }
-
 
 pub kind-at-spec : {M : Type 1} → statement M
 kind-at-spec =

@@ -17,11 +17,9 @@ returns : tie.Need-returns
 returns c =
     (λ w e. fine-length w (c .before .before .v .given .1) e, search needs)
 
-
 returns-2 : tie.Need-returns-2
 returns-2 c =
     (λ w e. no-length w (c .enum-told .given .1) e, omega arith)
-
 
 pub length-of-spec : {M : Type 1} → statement M
 length-of-spec = tie.close (tie.spec enum-known-v cast-result enum-told returns returns-2)

@@ -10,7 +10,6 @@ returns : tie.Need-returns
 returns c =
     rw (sym (c .before .is-plain .ensures) ∙ c .if1 .taken)
 
-
 returns-2 : tie.Need-returns-2
 returns-2 c =
     rw (sym (c .before .is-plain .ensures) ∙ c .if1 .left)

@@ -47,11 +47,9 @@ returns c =
     (c .before .before .before .may-set .ensures ∙ ap₂ (λ (k : Kind) (l : ℕ). L.both (isPlain k) (eqb l 1)) (c .before .before .before .before .before .before .before .before .kind-at .ensures .kind d p t _ _ _ sh) (ap (λ (v : Worth). v .length) m)) z)
     (worth-seen 1 0 _ refl (sym (capped-small 0 (omega arith))) (c .before .with-one .ensures _ (ap (λ (v : Worth). v .work) m))))
 
-
 returns-2 : tie.Need-returns-2
 returns-2 c =
     λ q z d p t sh. given-faulty _ _ _ (sym (c .before .a2 .given .1) ∙ c .before .before .before .left .ensures d p t sh)
-
 
 pub set-spec : {M : Type 1} → statement M
 set-spec =

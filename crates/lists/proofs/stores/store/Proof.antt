@@ -1,6 +1,6 @@
 use Rattle.verdict.specs.Meaning.{seen}
 use Rattle.language.specs.Storing.{mayStore}
-use mathlib.Core.Path.{ap, sym, _∙_}
+use mathlib.Core.Path.{ap, _∙_}
 use borrow.Author.Needs.{needs}
 use Rattle.lists.proofs.stores.store.Statement.{statement}
 use Rattle.lists.proofs.stores.store.Tie as tie
@@ -30,7 +30,6 @@ returns : tie.Need-returns
 returns c =
     λ q z d p t sh. rw (← (c .before .before .before .may-store .ensures ∙ ap (mayStore (c .before .before .before .before .before .before .before .before .before .before .before .before .args .sign)) (c .before .before .before .before .kind-at .ensures .kind d p t _ _ _ sh)))
     (c .stored .ensures q _ _ z (λ w i. c .before .before .length-of .ensures .0 w (c .before .before .before .before .before .before .left .ensures d p t sh ∙ ap seen i)) (c .before .only-work .ensures _ (c .before .before .before .before .before .before .left .ensures d p t sh)) (c .before .before .before .before .before .expression .ensures d p t sh))
-
 
 pub store-spec : {M : Type 1} → statement M
 store-spec =

@@ -4,7 +4,7 @@ use Rattle.verdict.specs.Meaning.{seen}
 use Rattle.language.specs.Tree.{Kind}
 use Rattle.language.specs.Storing.{mayStore}
 use Rattle.language.specs.Judging.{both}
-use mathlib.Core.Path.{ap, ap₂, sym, _∙_}
+use mathlib.Core.Path.{ap, ap₂, _∙_}
 use borrow.Author.Needs.{needs}
 use Rattle.lists.proofs.stores.store_pair.Statement.{statement}
 use Rattle.lists.proofs.stores.store_pair.Tie as tie
@@ -50,7 +50,6 @@ returns c =
     (λ w i. pair-length _ _ _ _ w i (λ x u. c .before .before .before .length-of .ensures .0 x (c .before .before .before .before .before .before .before .before .before .left .ensures d p t sh ∙ ap seen u)) (λ y u. c .before .before .length-of2 .ensures .0 y (c .before .before .before .before .before .before .before .before .left2 .ensures d p t sh ∙ ap seen u)))
     (c .before .together .ensures _ _ (c .before .before .before .before .before .before .before .before .before .left .ensures d p t sh) (c .before .before .before .before .before .before .before .before .left2 .ensures d p t sh) ∙ ap seen (pair-worked (leftAt d p t (c .before .before .before .before .before .before .before .before .before .before .before .before .before .before .before .args .known) (c .before .before .before .before .before .before .before .before .before .before .before .before .before .before .before .args .l)) (leftAt d p t (c .before .before .before .before .before .before .before .before .before .before .before .before .before .before .before .args .known) (c .before .before .before .before .before .before .before .before .before .before .before .before .before .before .before .args .m))))
     (c .before .before .before .before .before .before .before .expression .ensures d p t sh))
-
 
 pub store-pair-spec : {M : Type 1} → statement M
 store-pair-spec =

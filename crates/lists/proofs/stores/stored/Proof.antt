@@ -6,7 +6,7 @@ use Rattle.language.specs.WordStage.{least}
 use Rattle.language.specs.Words as W
 use Rattle.language.specs.Judging as L
 use lib.Dec.{eqb}
-use mathlib.Core.Path.{refl, ap, ap₂, sym, _∙_}
+use mathlib.Core.Path.{ap, ap₂, _∙_}
 use mathlib.Core.Bool.{Bool}
 use borrow.Author.Needs.{needs}
 use Rattle.lists.proofs.stores.stored.Statement.{statement}
@@ -48,11 +48,9 @@ returns c =
     (c .before .before .before .unless2 .ensures ∙ ap (λ (u : W.Position). least (L.unless (c .before .before .before .before .before .before .before .before .before .before .args .allowed) u 8)) z))
     (c .before .counted .ensures _ _ m (ap (λ (v : Worth). v .work) n)))
 
-
 returns-2 : tie.Need-returns-2
 returns-2 c =
     λ q j k z h e f. worked-faulty j k _ _ (pair-known (worked j) k (c .before .before .before .both .ensures) (c .before .f .given .1) e f)
-
 
 pub stored-spec : {M : Type 1} → statement M
 stored-spec =

@@ -3,13 +3,11 @@ use Rattle.lists.proofs.ListLaws.{arm-none, arm-past, arm-within, arms-
 use Rattle.verdict.specs.Meaning.{seen}
 use Rattle.verdict.proofs.VerdictLaws.{refuse-same}
 use Rattle.records.specs.Actions.{meant}
-use Rattle.language.specs.Description as D
 use Rattle.language.specs.ActionRules.{listJudged}
 use native.Mathlib.Omega.{arith}
 use borrow.Author.Needs.{needs}
-use Prim.Native.Nat.{_+_, _*_}
-use mathlib.Core.Path.{_≡_, refl, sym, ap, _∙_}
-use Prim.Native.Nat.{ℕ, _<_}
+use Prim.Native.Nat.{_+_, _*_, ℕ, _<_}
+use mathlib.Core.Path.{sym, ap, _∙_}
 use borrow.Fn.Kinds.{In}
 use borrow.Fn.PlainCycle.{Measures, is, falls, and}
 use Rattle.lists.proofs.walk.arms.Reads as arms
@@ -77,7 +75,6 @@ arms-returns : (t : ℕ) → arms-lts.Need-returns (arms-calls t) (arms-at t) ar
 arms-returns t c =
     λ d p w l. c .nothing .ensures ∙ ap seen (arms-empty d p _ w _ _ (c .before .if1 .taken))
 
-
 arms-sub-m : (t : ℕ) → arms-lts.Need-sub-m (arms-calls t) (arms-at t) arms.Post
 arms-sub-m t c = search needs
 
@@ -97,7 +94,6 @@ arms-returns-2 : (t : ℕ) → arms-lts.Need-returns-2 (arms-calls t) (arms-at t
 arms-returns-2 t c =
     λ d p w l. c .refused .ensures ∙ refuse-same 3 (c .before .before .before .nowhere .ensures) ∙ ap seen (no-arm d p _ w _ _ (c .before .before .before .before .before .before .before .before .before .before .before .before .before .before .before .args .i) (c .before .before .action-at .result) (c .before .match .keys2) ∙ arms-first d p _ w _ _ (c .before .before .before .before .if1 .left) (l .action _ ∙ sym (c .before .before .action-at .ensures)))
 
-
 arms-cast-n : (t : ℕ) → arms-lts.Need-cast-n (arms-calls t) (arms-at t) arms.Post
 arms-cast-n t c = search needs
 
@@ -108,14 +104,12 @@ arms-returns-3 : (t : ℕ) → arms-lts.Need-returns-3 (arms-calls t) (arms-at t
 arms-returns-3 t c =
     λ d p w l. c .refused2 .ensures ∙ refuse-same 3 (c .before .before .before .before .before .before .nowhere .ensures) ∙ ap seen (arm-none d p _ w _ _ _ (c .before .before .before .before .before .before .before .if1 .left) (l .action _ ∙ sym (c .before .before .before .before .before .action-at .ensures) ∙ ap meant (c .before .before .before .x .given .1)) (c .before .if2 .taken))
 
-
 arms-refused-requires-3 : (t : ℕ) → arms-lts.Need-refused-requires-3 (arms-calls t) (arms-at t) arms.Post
 arms-refused-requires-3 t c κs = search needs
 
 arms-returns-4 : (t : ℕ) → arms-lts.Need-returns-4 (arms-calls t) (arms-at t) arms.Post
 arms-returns-4 t c =
     λ d p w l. c .refused3 .ensures ∙ refuse-same 3 (c .before .before .before .before .before .before .before .nowhere .ensures) ∙ ap seen (arm-past d p _ w _ _ _ (c .before .before .before .before .before .before .before .before .if1 .left) (l .action _ ∙ sym (c .before .before .before .before .before .before .action-at .ensures) ∙ ap meant (c .before .before .before .before .x .given .1)) (c .before .before .if2 .left) (c .before .if3 .taken))
-
 
 arms-add-list : (t : ℕ) → arms-lts.Need-add-list (arms-calls t) (arms-at t) arms.Post
 arms-add-list t c = search needs
@@ -139,7 +133,6 @@ arms-returns-5 : (t : ℕ) → arms-lts.Need-returns-5 (arms-calls t) (arms-at t
 arms-returns-5 t c =
     λ d p w l. c .arm .ensures _ _ (c .before .before .list .ensures d p w l) (c .before .arms .ensures d p w l) ∙ ap seen (arm-within d p _ w _ _ _ (c .before .before .before .before .before .before .before .before .before .before .if1 .left) (l .action _ ∙ sym (c .before .before .before .before .before .before .before .before .action-at .ensures) ∙ ap meant (c .before .before .before .before .before .before .x .given .1)) (c .before .before .before .before .if2 .left) (c .before .before .before .if3 .left))
 
-
 held-nowhere-requires : (t : ℕ) → held-lts.Need-nowhere-requires (held-calls t) (held-at t) held.Post
 held-nowhere-requires t c κs = search needs
 
@@ -149,7 +142,6 @@ held-refused-requires t c κs = search needs
 held-returns : (t : ℕ) → held-lts.Need-returns (held-calls t) (held-at t) held.Post
 held-returns t c =
     λ d p w l. c .refused .ensures ∙ refuse-same 3 (c .before .nowhere .ensures) ∙ ap seen (held-past d p _ w (c .before .before .before .before .before .before .before .before .before .before .before .before .before .args .m + 1) _ _ _ _ _ (c .before .before .if1 .taken))
-
 
 held-of-record-requires : (t : ℕ) → held-lts.Need-of-record-requires (held-calls t) (held-at t) held.Post
 held-of-record-requires t c κs = search needs
@@ -183,14 +175,12 @@ held-returns-2 t c =
     λ d p w l. c .together .ensures _ _ (c .before .before .conditional .ensures _ _ _ (c .before .before .before .before .before .of-record .ensures ∙ sym (l .place _)) (right-told d p (c .before .before .before .before .before .before .before .before .before .before .before .before .before .before .before .before .before .args .in-state) w (l .count) _ (c .before .before .before .before .expression .ensures d p _ (l .shown))) (c .before .before .before .arms .ensures d p w l)) (c .before .list .ensures d p w l)
     ∙ ap seen (held-within d p _ w (c .before .before .before .before .before .before .before .before .before .before .before .before .before .before .before .before .before .args .m + 1) _ _ _ _ _ (c .before .before .before .before .before .before .if1 .left))
 
-
 list-nothing-requires : (t : ℕ) → list-lts.Need-nothing-requires (list-calls t) (list-at t) list.Post
 list-nothing-requires t c κs = search needs
 
 list-returns : (t : ℕ) → list-lts.Need-returns (list-calls t) (list-at t) list.Post
 list-returns t c =
     λ d p w l. c .nothing .ensures ∙ ap seen (list-empty d p _ w _ _ (c .before .if1 .taken))
-
 
 list-sub-m : (t : ℕ) → list-lts.Need-sub-m (list-calls t) (list-at t) list.Post
 list-sub-m t c = search needs
@@ -227,17 +217,14 @@ unfolding listJudged
 list-returns-2 t c =
     λ d p w l. c .held .ensures d p w l ∙ ap seen (held-is d p _ w (c .before .before .before .before .before .before .before .before .before .before .before .before .before .before .before .before .args .k) _ _ _ _ _ (omega (arith, c .before .before .before .before .before .if1 .left)) ∙ list-first d p _ w _ _ (c .before .before .before .before .before .if1 .left) (l .action _ ∙ sym (c .before .before .before .before .action-at .ensures) ∙ ap meant (c .before .before .c .given .1)))
 
-
 list-returns-3 : (t : ℕ) → list-lts.Need-returns-3 (list-calls t) (list-at t) list.Post
 unfolding listJudged
 list-returns-3 t c =
     λ d p w l. c .held2 .ensures d p w l ∙ ap seen (held-is d p _ w (c .before .before .before .before .before .before .before .before .before .before .before .before .before .before .before .before .args .k) _ _ _ _ _ (omega (arith, c .before .before .before .before .before .if1 .left)) ∙ list-first d p _ w _ _ (c .before .before .before .before .before .if1 .left) (l .action _ ∙ sym (c .before .before .before .before .action-at .ensures) ∙ ap meant (c .before .before .c2 .given .1)))
 
-
 list-returns-4 : (t : ℕ) → list-lts.Need-returns-4 (list-calls t) (list-at t) list.Post
 list-returns-4 t c =
     λ d p w l. c .together .ensures _ _ (c .before .before .simple .ensures d p w l) (c .before .list .ensures d p w l) ∙ ap seen (plain-list d p _ w _ _ (c .before .before .before .before .action-at .result) (c .before .before .before .before .before .if1 .left) (l .action _ ∙ sym (c .before .before .before .before .action-at .ensures)) (c .before .before .before .match .keys3))
-
 
 pub +arms+held+list-spec : {M : Type 1} → statement M
 +arms+held+list-spec = close μ-arms μ-held μ-list (λ t. arms-lts.spec (arms-calls t)

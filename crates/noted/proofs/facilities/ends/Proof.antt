@@ -18,6 +18,5 @@ returns : tie.Need-returns
 returns c =
     let e : 3 * c .before .before .args .n + 1 + 1 ≡ 3 * c .before .before .args .n + 2 = omega arith in rw (← e) (c .widened-at .ensures)
 
-
 pub ends-spec : {M : Type 1} → statement M
 ends-spec = tie.close (tie.spec mul-widened-at add-widened-at widened-at-requires returns)

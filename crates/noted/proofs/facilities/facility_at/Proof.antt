@@ -1,8 +1,7 @@
 use Rattle.noted.proofs.NotedLaws.{widened-fields}
 use Rattle.language.specs.Description as D
 use native.Mathlib.Omega.{arith}
-use Prim.Native.Nat.{ℕ, _+_, _*_, _<_}
-use mathlib.Core.Path.{_≡_, ap}
+use mathlib.Core.Path.{ap}
 use mathlib.Core.List.{[]}
 use borrow.Author.Needs.{needs}
 use Rattle.noted.proofs.facilities.facility_at.Statement.{statement}
@@ -14,7 +13,6 @@ facility-at-requires c κs = search needs
 returns : tie.Need-returns
 returns c =
     record { kind = ap (λ (f : D.Facility). f .kind) (c .before .before .before .facility-at .ensures .meaning []); meaning = λ h name. absurd (omega (arith, c .if1 .taken)) }
-
 
 mul-widened-at : tie.Need-mul-widened-at
 mul-widened-at c = search needs
@@ -40,7 +38,6 @@ returns-2 c =
       kind = ap (λ (f : D.Facility). f .kind) (c .before .before .before .before .before .facility-at .ensures .meaning []);
       meaning = λ h name. widened-fields _ (c .before .before .before .before .before .before .before .before .args .n) (c .before .before .before .before .before .facility-at .result) (c .before .widened-at .result) (c .widened-at2 .result) (c .before .before .before .before .before .facility-at .ensures .meaning name) (c .before .widened-at .ensures) (c .widened-at2 .ensures);
     }
-
 
 pub facility-at-spec : {M : Type 1} → statement M
 facility-at-spec =

@@ -30,7 +30,6 @@ returns : tie.Need-returns
 returns c =
     ap₂ (λ (m n : ℕ). bounds (c .before .before .before .args .first + 65536 * m) (c .before .before .before .args .last + 65536 * n)) (c .before .large-no .ensures .0) (c .large-no2 .ensures .0)
 
-
 pub widened-at-spec : {M : Type 1} → statement M
 widened-at-spec =
     tie.close

@@ -9,7 +9,6 @@ returns : tie.Need-returns
 returns c =
     sym (number-past 2 _ _ (omega arith))
 
-
 mul-two : tie.Need-mul-two
 mul-two c = search needs
 

@@ -17,6 +17,5 @@ unfolding largeNo
 returns c =
     (ap (λ (h : ℕ). h / 32768) (c .half .ensures), omega arith)
 
-
 pub large-no-spec : {M : Type 1} → statement M
 large-no-spec = tie.close (tie.spec half-requires cast-result returns)

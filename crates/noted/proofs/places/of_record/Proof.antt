@@ -15,7 +15,6 @@ unfolding placeOf
 returns c =
     rw (le-ltb _ _ (c .before .if1 .taken)) (c .nowhere .ensures)
 
-
 place-no-requires : tie.Need-place-no-requires
 place-no-requires c κs = search needs
 
@@ -23,7 +22,6 @@ returns-2 : tie.Need-returns-2
 unfolding placeOf
 returns-2 c =
     let e : 1 * c .before .before .before .args .n + 0 ≡ c .before .before .before .args .n = omega arith in rw (lt-ltb _ _ (c .before .if1 .left), e) (c .place-no .ensures)
-
 
 pub of-record-spec : {M : Type 1} → statement M
 of-record-spec = tie.close (tie.spec nowhere-requires returns place-no-requires returns-2)

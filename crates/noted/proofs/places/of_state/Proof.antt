@@ -12,7 +12,6 @@ unfolding placeOf
 returns c =
     rw (le-ltb _ _ (c .before .if1 .taken)) (c .nowhere .ensures)
 
-
 mul-place-no : tie.Need-mul-place-no
 mul-place-no c = search needs
 
@@ -26,7 +25,6 @@ returns-2 : tie.Need-returns-2
 unfolding placeOf
 returns-2 c =
     rw (lt-ltb _ _ (c .before .if1 .left)) (c .place-no .ensures)
-
 
 pub of-state-spec : {M : Type 1} → statement M
 of-state-spec =

@@ -20,6 +20,5 @@ unfolding placeNo
 returns c =
     c .position .ensures ∙ ap (λ (h : ℕ). position (h % 32768)) (c .before .half .ensures)
 
-
 pub place-no-spec : {M : Type 1} → statement M
 place-no-spec = tie.close (tie.spec half-requires cast-position position-requires returns)

@@ -12,7 +12,6 @@ unfolding inBounds
 returns c =
     rw (le-leb _ _ (c .before .if1 .taken)) (c .between .ensures)
 
-
 between-requires-2 : tie.Need-between-requires-2
 between-requires-2 c κs = search needs
 
@@ -20,7 +19,6 @@ returns-2 : tie.Need-returns-2
 unfolding inBounds
 returns-2 c =
     rw (lt-leb _ _ (c .before .if1 .left)) (c .between2 .ensures)
-
 
 pub in-bounds-spec : {M : Type 1} → statement M
 in-bounds-spec = tie.close (tie.spec between-requires returns between-requires-2 returns-2)

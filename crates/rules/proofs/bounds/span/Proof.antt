@@ -25,12 +25,10 @@ unfolding spanOf
 returns c =
     (simp (le-leb _ _ (c .before .if1 .taken)), omega arith)
 
-
 returns-2 : tie.Need-returns-2
 unfolding spanOf
 returns-2 c =
     (simp (lt-leb _ _ (c .before .if1 .left)), omega arith)
-
 
 pub span-spec : {M : Type 1} → statement M
 span-spec =

@@ -18,24 +18,20 @@ unfolding cutLengthOf
 returns c =
     rw (c .before .match .keys1) (c .cut-length .ensures)
 
-
 returns-2 : tie.Need-returns-2
 unfolding cutLengthOf
 returns-2 c =
     rw (c .before .match .keys2) (c .cut-length2 .ensures)
-
 
 returns-3 : tie.Need-returns-3
 unfolding cutLengthOf
 returns-3 c =
     rw (c .before .match .keys3) (c .repeat-length .ensures)
 
-
 returns-4 : tie.Need-returns-4
 unfolding cutLengthOf
 returns-4 c =
     simp (ne-eqb _ _ (c .match .rest .1), ne-eqb _ _ (c .match .rest .0 .1), ne-eqb _ _ (c .match .rest .0 .0 .1))
-
 
 pub cut-length-spec : {M : Type 1} → statement M
 cut-length-spec =

@@ -8,12 +8,10 @@ unfolding evenly
 returns c =
     rw (eq-eqb _ _ (c .if1 .taken))
 
-
 returns-2 : tie.Need-returns-2
 unfolding evenly
 returns-2 c =
     rw (ne-eqb _ _ (c .if1 .left))
-
 
 pub evenly-spec : {M : Type 1} → statement M
 evenly-spec = tie.close (tie.spec returns returns-2)

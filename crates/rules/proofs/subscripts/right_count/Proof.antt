@@ -16,7 +16,6 @@ unfolding rightCount
 returns c =
     rw (c .before .enum-told2 .given .1, lt-leb 1 (c .before .before .before .args .dimensions) (omega arith))
 
-
 enum-told-3 : tie.Need-enum-told-3
 enum-told-3 c = search needs
 
@@ -31,30 +30,25 @@ unfolding rightCount
 returns-2 c =
     rw (c .enum-told .given .1)
 
-
 returns-3 : tie.Need-returns-3
 unfolding rightCount
 returns-3 c =
     rw (c .before .enum-told2 .given .1, le-leb 1 (c .before .before .before .args .dimensions) (omega arith))
-
 
 returns-4 : tie.Need-returns-4
 unfolding rightCount
 returns-4 c =
     rw (c .enum-told3 .given .1)
 
-
 returns-5 : tie.Need-returns-5
 unfolding rightCount
 returns-5 c =
     rw (c .enum-told4 .given .1)
 
-
 returns-6 : tie.Need-returns-6
 unfolding rightCount
 returns-6 c =
     rw (c .enum-told5 .given .1)
-
 
 pub right-count-spec : {M : Type 1} → statement M
 right-count-spec =

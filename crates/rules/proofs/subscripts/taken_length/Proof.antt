@@ -18,7 +18,6 @@ unfolding takenLength
 returns c =
     λ name. rw (c .before .before .enum-told2 .given .1, eq-eqb _ _ (c .if1 .taken))
 
-
 word-length-requires-2 : tie.Need-word-length-requires-2
 word-length-requires-2 c κs = search needs
 
@@ -42,30 +41,25 @@ unfolding takenLength
 returns-2 c =
     λ name. rw (c .before .enum-told .given .1) (c .word-length .ensures .0 name)
 
-
 returns-3 : tie.Need-returns-3
 unfolding takenLength
 returns-3 c =
     λ name. rw (c .before .before .before .enum-told2 .given .1, ne-eqb _ _ (c .before .if1 .left)) (c .word-length2 .ensures .0 name)
-
 
 returns-4 : tie.Need-returns-4
 unfolding takenLength
 returns-4 c =
     λ name. rw (c .before .before .s .given .1) (c .span .ensures .0)
 
-
 returns-5 : tie.Need-returns-5
 unfolding takenLength
 returns-5 c =
     λ name. rw (c .enum-told3 .given .1)
 
-
 returns-6 : tie.Need-returns-6
 unfolding takenLength
 returns-6 c =
     λ name. rw (c .before .before .s2 .given .1) (c .span2 .ensures .0)
-
 
 pub taken-length-spec : {M : Type 1} → statement M
 taken-length-spec =

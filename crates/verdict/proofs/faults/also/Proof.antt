@@ -12,6 +12,5 @@ returns : tie.Need-returns
 returns c =
     λ x y p q. c .earlier .ensures ∙ ap₂ lesser p q ∙ sym (least-both x y)
 
-
 pub also-spec : {M : Type 1} → statement M
 also-spec = tie.close (tie.spec earlier-requires returns)

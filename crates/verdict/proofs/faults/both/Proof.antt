@@ -29,21 +29,17 @@ returns : tie.Need-returns
 returns c =
     rw (c .before .before .before .before .a .given .1, c .before .b .given .1)
 
-
 returns-2 : tie.Need-returns-2
 returns-2 c =
     rw (c .before .before .before .before .a .given .1, c .before .b2 .given .1)
-
 
 returns-3 : tie.Need-returns-3
 returns-3 c =
     rw (c .before .before .before .a2 .given .1, c .enum-told .given .1)
 
-
 returns-4 : tie.Need-returns-4
 returns-4 c =
     rw (c .before .before .before .before .before .a2 .given .1, c .before .before .b3 .given .1) (ap P.Faulty (c .earlier .ensures))
-
 
 pub both-spec : {M : Type 1} → statement M
 both-spec =

@@ -12,12 +12,10 @@ unfolding earlierOf
 returns c =
     rw (sym (c .before .before2 .ensures) ∙ c .if1 .taken)
 
-
 returns-2 : tie.Need-returns-2
 unfolding earlierOf
 returns-2 c =
     rw (sym (c .before .before2 .ensures) ∙ c .if1 .left)
-
 
 pub earlier-spec : {M : Type 1} → statement M
 earlier-spec = tie.close (tie.spec before-requires returns returns-2)

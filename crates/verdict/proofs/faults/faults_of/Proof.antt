@@ -14,11 +14,9 @@ returns : tie.Need-returns
 returns c =
     λ j e. fine-faults j _ (sym (c .enum-told .given .1) ∙ e)
 
-
 returns-2 : tie.Need-returns-2
 returns-2 c =
     λ j e. faulty-faults j _ (sym (c .before .v .given .1) ∙ e)
-
 
 pub faults-of-spec : {M : Type 1} → statement M
 faults-of-spec = tie.close (tie.spec enum-told enum-known-v returns returns-2)

@@ -15,11 +15,9 @@ returns : tie.Need-returns
 returns c =
     λ x j e p. or-passed x j _ (ap judged (sym (c .enum-told .given .1)) ∙ e) p
 
-
 returns-2 : tie.Need-returns-2
 returns-2 c =
     λ x j e p. or-refused x j _ (ap judged (sym (c .before .a .given .1)) ∙ e)
-
 
 pub or-faulty-spec : {M : Type 1} → statement M
 or-faulty-spec = tie.close (tie.spec enum-told enum-known-a returns returns-2)

@@ -9,6 +9,5 @@ unfolding seen least
 returns c =
     refl
 
-
 pub refused-spec : {M : Type 1} → statement M
 refused-spec = tie.close (tie.spec returns)

@@ -1,11 +1,6 @@
-use Rattle.verdict.specs.Meaning.{Kept}
 use Rattle.verdict.proofs.KeptLaws.{kept-faulty, kept-fine}
 use Rattle.language.specs.Words.{Position}
-use lib.ListN.{set}
-use native.Mathlib.Omega.{arith}
-use Prim.Native.Nat.{ℕ, _+_, _*_, _<_}
-use mathlib.Core.List.{List}
-use mathlib.Core.Path.{_≡_, ap, subst, sym, _∙_}
+use mathlib.Core.Path.{ap}
 use borrow.Author.Needs.{needs}
 use Rattle.verdict.proofs.kept.keep.Statement.{statement}
 use Rattle.verdict.proofs.kept.keep.Tie as tie
@@ -38,14 +33,12 @@ returns : tie.Need-returns
 returns c =
     rw (c .before .before .before .before .before .v .given .1, c .before .before .put .ensures) (kept-fine _ _ (c .before .before .before .before .before .before .before .before .pre) _)
 
-
 same-length-2 : tie.Need-same-length-2
 same-length-2 c = search needs
 
 returns-2 : tie.Need-returns-2
 returns-2 c =
     rw (c .before .before .before .before .before .before .before .v2 .given .1, c .before .before .put2 .ensures, ap (λ (p : Position). p .place) (c .before .before .before .place .ensures)) (kept-faulty _ _ (c .before .before .before .before .before .before .before .before .before .before .pre) _ (search needs))
-
 
 pub keep-spec : {M : Type 1} → statement M
 keep-spec =

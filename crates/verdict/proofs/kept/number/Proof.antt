@@ -17,6 +17,5 @@ returns-2 : tie.Need-returns-2
 returns-2 c =
     sym (List·getD-eq-default (c .before .args .memo .now) 0 (c .if1 .left))
 
-
 pub number-spec : {M : Type 1} → statement M
 number-spec = tie.close (tie.spec mul-result shared-slice-read-result returns returns-2)

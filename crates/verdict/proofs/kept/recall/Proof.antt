@@ -3,7 +3,7 @@ use Rattle.language.specs.Words.{Position}
 use Prim.Native.Nat.{ℕ, _-_, _%_}
 use Rattle.verdict.specs.Meaning.{recalled}
 use borrow.Author.Tests.{eq-eqb, ne-eqb}
-use mathlib.Core.Path.{_≡_, ap, ap₂, sym, _∙_}
+use mathlib.Core.Path.{ap}
 use borrow.Author.Needs.{needs}
 use Rattle.verdict.proofs.kept.recall.Statement.{statement}
 use Rattle.verdict.proofs.kept.recall.Tie as tie
@@ -25,7 +25,6 @@ unfolding recalled
 returns c =
     rw (← c .before .before .number .ensures, eq-eqb _ 0 (c .if1 .taken), ← c .before .number2 .ensures)
 
-
 position-requires : tie.Need-position-requires
 position-requires c κs = search needs
 
@@ -40,7 +39,6 @@ unfolding recalled
 returns-2 c =
     rw (← c .before .before .before .number .ensures, ne-eqb _ 0 (c .before .if1 .left), ← c .before .before .number2 .ensures)
     (ap (λ (x : ℕ). Faulty (record { at = record { place = x }; number = (c .before .before .before .number .result - 1) % 256 })) (ap (λ (p : Position). p .place) (c .position .ensures)))
-
 
 pub recall-spec : {M : Type 1} → statement M
 recall-spec =

@@ -1,13 +1,5 @@
-use mathlib.Core.Path.{refl}
+use mathlib.Core.Path.{refl, sym, _∙_}
 use Rattle.verdict.proofs.VerdictLaws.{faulty-proper, proper-arms, proper-none}
-use Rattle.verdict.proofs.CappedLaws.{capped-eqb}
-use Rattle.verdict.specs.declared.Worth.{Worth}
-use Rattle.verdict.specs.Meaning.{seen}
-use Rattle.language.specs.Judging as L
-use lib.Dec.{eqb}
-use native.Mathlib.Omega.{arith}
-use borrow.Author.Tests.{eq-eqb, ne-eqb}
-use mathlib.Core.Path.{_≡_, ap, sym, _∙_}
 use borrow.Author.Needs.{needs}
 use Rattle.verdict.proofs.tests.proper.Statement.{statement}
 use Rattle.verdict.proofs.tests.proper.Tie as tie
@@ -22,7 +14,6 @@ returns : tie.Need-returns
 returns c =
     λ j e. faulty-proper _ j _ (sym (c .enum-told .given .1) ∙ e) (c .enum-told .given .1)
 
-
 refused-requires : tie.Need-refused-requires
 refused-requires c κs = search needs
 
@@ -30,11 +21,9 @@ returns-2 : tie.Need-returns-2
 returns-2 c =
     λ j e. proper-none _ j _ (sym (c .before .before .before .v .given .1) ∙ e) (c .if1 .taken) refl
 
-
 returns-3 : tie.Need-returns-3
 returns-3 c =
     λ j e. c .refused .ensures ∙ proper-arms _ j _ (sym (c .before .before .before .before .v .given .1) ∙ e) (c .before .if1 .left)
-
 
 pub proper-spec : {M : Type 1} → statement M
 proper-spec =

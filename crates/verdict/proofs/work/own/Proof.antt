@@ -10,6 +10,5 @@ unfolding ownWork capped mostWork
 returns c =
     refl
 
-
 pub own-spec : {M : Type 1} → statement M
 own-spec = tie.close (tie.spec returns)

@@ -12,6 +12,5 @@ returns : tie.Need-returns
 returns c =
     λ a p. c .added .ensures _ a (c .before .own .ensures) p
 
-
 pub with-one-spec : {M : Type 1} → statement M
 with-one-spec = tie.close (tie.spec own-requires added-requires returns)

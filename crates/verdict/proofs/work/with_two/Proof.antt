@@ -12,6 +12,5 @@ returns : tie.Need-returns
 returns c =
     λ a b p q. c .added .ensures _ b (c .before .with-one .ensures a p) q
 
-
 pub with-two-spec : {M : Type 1} → statement M
 with-two-spec = tie.close (tie.spec with-one-requires added-requires returns)
