@@ -1,5 +1,4 @@
 -- Records with the places of their words in bytes beside them: what reading hands to judging. A place takes two bytes; its highest bit says that the bound written there is above 65,535, for which a record has no room. An image has no places.
-use mathlib.Core.Bool.{cond}
 use mathlib.Core.List.{List, [], _∷_, _++_}
 use Prim.Native.Nat.{ℕ, suc, _+_, _*_, _/_, _%_}
 use lib.ListN.{length}

@@ -101,7 +101,7 @@ lesser-three x y z = go (before z y) (before y x) (before z x) refl refl refl
     go false true r hp hq hr = simp (hp, hq)
     go false false r hp hq hr = simp (hp, hq, is-later z x (later-trans z y x (later z y hp) (later y x hq)))
 
-lesser-all : (x y z : Option Fault) → lesser x (lesser y z) ≡ lesser (lesser x y) z
+pub lesser-all : (x y z : Option Fault) → lesser x (lesser y z) ≡ lesser (lesser x y) z
 lesser-all none y z = refl
 lesser-all (some x) none z = refl
 lesser-all (some x) (some y) none = refl

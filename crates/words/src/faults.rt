@@ -15,7 +15,7 @@ pub fn refused(place: usize, number: u8) -> Judged
 }
 
 // Whether one fault answers before another.
-fn before(a: Fault, b: Fault) -> bool
+pub fn before(a: Fault, b: Fault) -> bool
     ensures { λ r. ⌜ r ≡ L.before (faulted a) (faulted b) ⌝ }
 {
     let p = places::place(a.at);

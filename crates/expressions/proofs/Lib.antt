@@ -1,0 +1,3 @@
+pub mod ConstantLaws
+pub mod RecordLaws
+pub mod WalkLaws

@@ -1,0 +1,42 @@
+// Constants as subscripts: their numbers are compared whole, however many records they take.
+use noted::facilities::Bounds;
+use records::numbers;
+use rules::bounds;
+ghost use mathlib.Core.Path.{_≡_};
+ghost use lib.Dec.{eqb};
+ghost use Rattle.language.specs.Decode.{digitsBefore, nodeOf};
+ghost use Rattle.language.specs.Description as D;
+ghost use Rattle.language.specs.Description.{inBounds};
+ghost use Rattle.language.specs.Value.{Value};
+ghost use Rattle.noted.specs.Read.{boundsMeant};
+
+// Whether the k records before record n hold nothing but zeros.
+fn digits_zero(exprs: &[u8], n: u16, k: u8) -> bool
+    ensures { λ r. ⌜ r ≡ eqb (digitsBefore k n (now (exprs .entry))) 0 ⌝ }
+{
+    let mut left = k;
+    let mut m = n;
+    while left > 0 {
+        if m == 0 {
+            return true;
+        }
+        m -= 1;
+        left -= 1;
+        if numbers::six(exprs, 8 * m as usize + 2) != 0 {
+            return false;
+        }
+    }
+    true
+}
+
+// Whether the constant that ends at record n lies within bounds.
+pub fn within(exprs: &[u8], n: u16, b: Bounds) -> bool
+    ensures { λ r. ⌜ ((v : Value) → nodeOf (now (exprs .entry)) n ≡ D.constant v → r ≡ inBounds (boundsMeant b) (v .number)) ⌝ }
+{
+    let at = 8 * n as usize;
+    let more = numbers::byte(exprs, at + 1) / 48;
+    if digits_zero(exprs, n, more) {
+        return bounds::in_bounds(b, numbers::six(exprs, at + 2));
+    }
+    false
+}

@@ -1,0 +1,4 @@
+pub mod FacilityLaws
+pub mod MemoryLaws
+pub mod NotedLaws
+pub mod OperationLaws

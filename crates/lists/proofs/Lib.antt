@@ -1,0 +1,3 @@
+pub mod ListLaws
+pub mod SimpleLaws
+pub mod StoreLaws

@@ -1,0 +1,5 @@
+// The rules that go by lengths, bounds and kinds alone, one function each.
+pub mod bounds;
+pub mod lengths;
+pub mod storing;
+pub mod subscripts;

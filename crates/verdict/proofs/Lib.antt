@@ -1,0 +1,3 @@
+pub mod CappedLaws
+pub mod KeptLaws
+pub mod VerdictLaws
