@@ -7,6 +7,7 @@ use lib.ListN.{drop, take}
 use Rattle.language.specs.Describe.{Noted}
 use Rattle.language.specs.Encode.{concat, nodeBytes, two}
 use Rattle.noted.specs.Noted.{nodeBesideBytes}
+use Rattle.work.specs.declared.constants.Room.{Room}
 use Rattle.work.specs.declared.nodes.Beside.{Beside}
 
 unfoldable pub mostNodes : ℕ
@@ -43,6 +44,13 @@ abbrev pub fields : Beside → List ℕ
 fields p = two (p .at) ++ (two (p .first) ++ two (p .last))
 
 -- What adding a record of these bytes to n others leaves: it, where there was room.
-unfoldable pub Added : ℕ → List ℕ → List ℕ → List ℕ → List ℕ → Bool → Type 0
-Added n bs ps w w′ true = (n < mostNodes) × (held (n + 1) w′ ≡ withBytes (held n w) bs ps)
-Added n bs ps w w′ false = (mostNodes ≤ n) × (w′ ≡ w)
+pub record Added (n : ℕ) (bs ps w w′ : List ℕ) (b : Bool) : Type 0 where
+  pub room : b ≡ true → n < mostNodes
+  pub added : b ≡ true → held (n + 1) w′ ≡ withBytes (held n w) bs ps
+  pub full : b ≡ false → mostNodes ≤ n
+
+-- What adding records that are `size` in number to n others leaves: them, where there was room.
+pub record Grew (n : ℕ) (ns : List Noted) (size : ℕ) (w w′ : List ℕ) (r : Room) : Type 0 where
+  pub nodes : r .enough ≡ true → r .nodes ≡ n + size
+  pub added : r .enough ≡ true → held (r .nodes) w′ ≡ withNodes (held n w) ns
+  pub full : r .enough ≡ false → mostNodes ≤ r .nodes

@@ -1,3 +1,4 @@
+use mathlib.Core.Bool.{true≢false}
 use mathlib.Core.Path.{refl, subst, sym, ap, _∙_}
 use mathlib.Core.List.{List}
 use Prim.Native.Nat.{ℕ, _+_, _*_}
@@ -7,13 +8,13 @@ use Rattle.language.specs.Encode.{little}
 use Rattle.records.proofs.WrittenNodes.{node-length}
 use Rattle.records.specs.Placed.{placed}
 use Rattle.work.proofs.Regions.{record-written, six-bytes}
-use Rattle.work.specs.Held.{Added, held, mostNodes}
+use Rattle.work.specs.Held.{mostNodes}
 use Rattle.work.proofs.nodes.add_node.Statement.{statement}
 use Rattle.work.proofs.nodes.add_node.Tie as tie
 
 returns : tie.Need-returns
-unfolding Added mostNodes
-returns c = (c .if1 .taken, refl)
+unfolding mostNodes
+returns c = record { room = λ e. absurd (true≢false (sym e)); added = λ e. absurd (true≢false (sym e)); full = λ e. c .if1 .taken }
 
 node-bytes-requires : tie.Need-node-bytes-requires
 node-bytes-requires c κs = search needs
@@ -58,9 +59,13 @@ put-requires-2 : tie.Need-put-requires-2
 put-requires-2 c κs = search needs
 
 returns-2 : tie.Need-returns-2
-unfolding Added mostNodes little
+unfolding mostNodes little
 returns-2 c =
-    (c .before .before .before .before .before .before .before .before .before .before .before .before .before .before .if1 .left, record-written _ _ _ _ (c .before .before .before .before .before .before .before .before .before .before .before .before .before .before .before .s .given .0 .1) (c .before .before .before .before .before .before .before .before .before .before .before .before .before .before .if1 .left) (node-length _) refl (c .before .before .before .before .before .before .before .before .before .before .put .ensures) (c .before .before .before .before .before .before .before .before .before .before .before .before .before .node-bytes .ensures) (c .put2 .ensures) (six-bytes (c .before .before .before .before .before .before .before .low .ensures) (c .before .before .before .before .before .before .high .ensures) (c .before .before .before .before .before .low2 .ensures) (c .before .before .before .before .high2 .ensures) (c .before .before .before .low3 .ensures) (c .before .before .high3 .ensures)))
+    record {
+      room = λ e. c .before .before .before .before .before .before .before .before .before .before .before .before .before .before .if1 .left;
+      added = λ e. record-written _ _ _ _ (c .before .before .before .before .before .before .before .before .before .before .before .before .before .before .before .s .given .0 .1) (c .before .before .before .before .before .before .before .before .before .before .before .before .before .before .if1 .left) (node-length _) refl (c .before .before .before .before .before .before .before .before .before .before .put .ensures) (c .before .before .before .before .before .before .before .before .before .before .before .before .before .node-bytes .ensures) (c .put2 .ensures) (six-bytes (c .before .before .before .before .before .before .before .low .ensures) (c .before .before .before .before .before .before .high .ensures) (c .before .before .before .before .before .low2 .ensures) (c .before .before .before .before .high2 .ensures) (c .before .before .before .low3 .ensures) (c .before .before .high3 .ensures));
+      full = λ e. absurd (true≢false e);
+    }
 
 pub add-node-spec : {M : Type 1} → statement M
 add-node-spec =
