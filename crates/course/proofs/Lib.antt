@@ -1,0 +1,5 @@
+pub mod Answers
+pub mod Ceilings
+pub mod Looking
+pub mod NodeGained
+pub mod TakenWords

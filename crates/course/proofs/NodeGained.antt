@@ -1,0 +1,28 @@
+-- A record gained.
+use mathlib.Core.Bool.{Bool, true, false}
+use mathlib.Core.List.{List, _∷_, []}
+use mathlib.Core.Path.{_≡_, refl, sym, ap, _∙_}
+use Prim.Native.Nat.{ℕ, _+_}
+use Rattle.language.specs.Describe.{Noted}
+use Rattle.language.specs.Encode.{nodeBytes}
+use Rattle.noted.specs.Noted.{nodeBesideBytes}
+use Rattle.words.specs.declared.Word.{Word}
+use Rattle.work.proofs.NodesAdded.{node-one}
+use Rattle.work.specs.Held.{Added, Held, held, withBytes, withNodes}
+use Rattle.course.specs.declared.Answer.{Answer}
+use Rattle.course.specs.declared.State.{State}
+use Rattle.course.specs.declared.Verdict.the-variants.{Done, Full, Refused}
+use Rattle.course.specs.Gained.{Behind, Gained, withNodeCount}
+use Rattle.course.proofs.Answers.{done-full, done-refused, refused-full}
+
+module _ {next : Word} {s : State} {bs ps w w′ : List ℕ} {b : Bool} (a : Added (s .nodes) bs ps w w′ b) where
+  pub gained : b ≡ true → {s′ : State} → s′ ≡ withNodeCount s (s .nodes + 1) → Gained next s bs ps w w′ (record { verdict = Done; next = next; state = s′ })
+  gained e p = record { done = λ d. record { word = refl; state = p; held = a .added e }; refused = λ f d. done-refused d; full = λ d. done-full d }
+
+  pub no-gain : b ≡ false → Gained next s bs ps w w′ (record { verdict = Full; next = next; state = s })
+  no-gain e = record { done = λ d. done-full (sym d); refused = λ f d. refused-full (sym d); full = λ d. a .full e }
+
+-- The record as one with its places.
+pub gained-node : {next : Word} {s : State} {bs ps w w′ : List ℕ} {r : Answer} → Behind next s bs ps w w′ r → (x : Noted) → bs ≡ nodeBytes (x .node) → ps ≡ nodeBesideBytes (x .node) (x .places)
+    → held (s .nodes + 1) w′ ≡ withNodes (held (s .nodes) w) (x ∷ [])
+gained-node {s = s} {w = w} a x p q = a .held ∙ rw (p, q) (node-one (held (s .nodes) w) x)

@@ -1,0 +1,24 @@
+-- What adding a record leaves.
+use mathlib.Core.List.{List}
+use mathlib.Core.Path.{_≡_}
+use Prim.Native.Nat.{ℕ, _+_, _≤_}
+use Rattle.words.specs.declared.Fault.{Fault}
+use Rattle.words.specs.declared.Word.{Word}
+use Rattle.work.specs.Held.{held, mostNodes, withBytes}
+use Rattle.course.specs.declared.Answer.{Answer}
+use Rattle.course.specs.declared.State.{State}
+use Rattle.course.specs.declared.Verdict.the-variants.{Done, Full, Refused}
+
+abbrev pub withNodeCount : State → ℕ → State
+withNodeCount s n = record { facilities = s .facilities; operations = s .operations; states = s .states; counted = s .counted; nesting = s .nesting; nodes = n; known = s .known }
+
+-- A record of these bytes behind the others, and the next word as it was.
+pub record Behind (next : Word) (s : State) (bs ps w w′ : List ℕ) (r : Answer) : Type 0 where
+  pub word : r .next ≡ next
+  pub state : r .state ≡ withNodeCount s (s .nodes + 1)
+  pub held : held (s .nodes + 1) w′ ≡ withBytes (held (s .nodes) w) bs ps
+
+pub record Gained (next : Word) (s : State) (bs ps w w′ : List ℕ) (r : Answer) : Type 0 where
+  pub done : r .verdict ≡ Done → Behind next s bs ps w w′ r
+  pub refused : (f : Fault) → r .verdict ≡ Refused f → ⊥
+  pub full : r .verdict ≡ Full → mostNodes ≤ r .state .nodes

@@ -1,0 +1,54 @@
+-- What taking a word leaves, and what a refusal says.
+use mathlib.Core.Bool.{Bool, true, false, cond}
+use mathlib.Core.List.{List, [], _∷_}
+use mathlib.Core.Path.{_≡_}
+use Prim.Native.Nat.{ℕ, suc, _≤_}
+use Rattle.language.specs.Building.{Built}
+use Rattle.language.specs.Machine.{Counts, refused, withinCeilings, word}
+use Rattle.language.specs.Words as L
+use Rattle.words.specs.declared.Fault.{Fault}
+use Rattle.words.specs.declared.Word.{Word}
+use Rattle.words.specs.Meaning.{faulted, positioned}
+use Rattle.course.specs.declared.Answer.{Answer}
+use Rattle.course.specs.declared.Bearing.{Bearing}
+use Rattle.course.specs.declared.State.{State}
+use Rattle.course.specs.declared.Verdict.the-variants.{Done, Full, Refused}
+use Rattle.course.specs.Course.{Seen, Stack, ahead, bearingOf, behind, borne, counts5, countsOf, runs}
+
+abbrev pub tallyOf : ℕ → Bool → ℕ
+tallyOf n true = suc n
+tallyOf n false = n
+
+-- The counts after a word.
+abbrev pub afterWord : Bool → Bearing → State → Counts
+afterWord counts b s = counts5 s (tallyOf (s .counted) counts) (borne b (s .nesting))
+
+pub record Refuses (w : Word) (n : ℕ) (r : Answer) : Type 0 where
+  pub fault : Fault
+  pub verdict : r .verdict ≡ Refused fault
+  pub is : faulted fault ≡ L.fault (positioned (w .at)) n
+
+-- Facilities known and records written are as they were.
+pub record Kept (s s′ : State) : Type 0 where
+  pub nodes : s′ .nodes ≡ s .nodes
+  pub known : s′ .known ≡ s .known
+
+-- The word w was taken with the counts c.
+pub record Passed (text : List ℕ) (w : Word) (c : Counts) (s : State) (r : Answer) : Type 0 where
+  pub fits : withinCeilings c ≡ true
+  pub counts : countsOf (r .state) ≡ c
+  pub deep : r .state .nesting ≤ 24
+  pub kept : Kept s (r .state)
+  pub words : Seen text w → ahead text (r .next) ≡ behind text w
+  pub seen : Seen text (r .next)
+
+pub record Took (text : List ℕ) (w : Word) (c : Counts) (s : State) (r : Answer) : Type 0 where
+  pub done : r .verdict ≡ Done → Passed text w c s r
+  pub refused : (f : Fault) → r .verdict ≡ Refused f → (withinCeilings c ≡ false) × (faulted f ≡ L.fault (positioned (w .at)) 10)
+  pub full : r .verdict ≡ Full → ⊥
+
+-- A word of a kind that must come.
+pub record Expected (text : List ℕ) (kind : ℕ) (b : Bearing) (w : Word) (s : State) (r : Answer) : Type 0 where
+  pub done : r .verdict ≡ Done → Seen text w → 3 ≤ kind → Passed text w (afterWord false b s) s r × ((K : Stack) (x : Built) → runs text (word kind (bearingOf b) ∷ K) w x s ≡ runs text K (r .next) x (r .state))
+  pub refused : (f : Fault) → r .verdict ≡ Refused f → Seen text w → 3 ≤ kind → (K : Stack) (x : Built) → runs text (word kind (bearingOf b) ∷ K) w x s ≡ refused (faulted f)
+  pub full : r .verdict ≡ Full → ⊥
