@@ -1,7 +1,7 @@
 -- What adding a record leaves.
 use mathlib.Core.List.{List}
 use mathlib.Core.Path.{_≡_}
-use Prim.Native.Nat.{ℕ, _+_, _-_, _≤_}
+use Prim.Native.Nat.{ℕ, _+_, _-_, _<_, _≤_}
 use Rattle.language.specs.Describe.{Noted}
 use Rattle.words.specs.declared.Fault.{Fault}
 use Rattle.words.specs.declared.Word.{Word}
@@ -15,6 +15,7 @@ withNodeCount s n = record { facilities = s .facilities; operations = s .operati
 
 -- A record of these bytes behind the others, and the next word as it was.
 pub record Behind (next : Word) (s : State) (bs ps w w′ : List ℕ) (r : Answer) : Type 0 where
+  pub room : s .nodes < mostNodes
   pub word : r .next ≡ next
   pub state : r .state ≡ withNodeCount s (s .nodes + 1)
   pub held : held (s .nodes + 1) w′ ≡ withBytes (held (s .nodes) w) bs ps
@@ -35,3 +36,7 @@ pub record Written (ns : List Noted) (size : ℕ) (next : Word) (s : State) (w w
 -- One less is open.
 abbrev pub easedState : State → State
 easedState s = record { facilities = s .facilities; operations = s .operations; states = s .states; counted = s .counted; nesting = s .nesting - 1; nodes = s .nodes; known = s .known }
+
+-- Where it is done, records were written, and no more than there is room for.
+abbrev pub Grows : State → Answer → Type 0
+Grows s r = r .verdict ≡ Done → (s .nodes < r .state .nodes) × (r .state .nodes ≤ mostNodes)

@@ -135,3 +135,6 @@ module _ (kind : ℕ) (at : L.Position) {text : List ℕ} {sc : Scope} {w : Word
       (record { seen = q .seen; names = h .names ∙ ap (λ (x : State). namesIn text (otherIn work) (x .known)) (sym v) })
       (λ K b. q .course (make (treeSteps .makeCut) ∷ K) (keepWord (L.sign kind at) (pushed t b))
       ∙ makes-it text (treeSteps .makeCut) K (r .next) (keepWord (constantWord w) (keepWord (L.sign kind at) (pushed t b))) (pushed c b) (r .state) (λ x. refl))
+
+pub kept-nodes : {text : List ℕ} {w : Word} {s : State} {r : Answer} → Keeps text w s r → r .verdict ≡ Done → Seen text w → s .nodes ≤ r .state .nodes
+kept-nodes k d z = let e = ap (λ (q : State). q .nodes) (k .done d z .state) in omega (arith, e)

@@ -8,11 +8,13 @@ use records::nodes::Node;
 use words::Word;
 use work::bounds;
 use work::places;
+ghost use Rattle.course.specs.Course.{Seen};
+ghost use Rattle.course.specs.Gained.{Grows};
 ghost use Rattle.operands.specs.Ended.{Cuts};
 
 // The count of a cut of kind `kind` whose word is at, and its record.
 pub fn cut(s: State, kind: u8, operator: Word, text: &[u8], w: Word, work: &mut [u8; 171136]) -> Answer
-    ensures { λ r. ⌜ Cuts kind operator (now (text .entry)) w s (now (work .entry)) (now (work .exit)) r ⌝ }
+    ensures { λ r. ⌜ Cuts kind operator (now (text .entry)) w s (now (work .entry)) (now (work .exit)) r × (Seen (now (text .entry)) w → Grows s r) ⌝ }
 {
     let kept = taking::keep_constant(text, w, s);
     let verdict = kept.verdict;
