@@ -1,0 +1,5 @@
+pub mod BracketLaws
+pub mod PartLaws
+pub mod StartLaws
+pub mod TailLaws
+pub mod TermLaws

@@ -1,0 +1,30 @@
+use Rattle.operands.proofs.ReferenceLaws.{gained-as}
+use Rattle.phrases.proofs.PartLaws.{binary-as}
+use mathlib.Core.Path.{_≡_, refl, sym, ap, _∙_}
+use Prim.Native.Nat.{ℕ, _-_}
+use Rattle.course.proofs.Answers.{not-done}
+use native.Mathlib.Omega.{arith}
+use borrow.Author.Needs.{needs}
+use Rattle.phrases.proofs.leaves.add_binary.Statement.{statement}
+use Rattle.phrases.proofs.leaves.add_binary.Tie as tie
+
+plain-requires : tie.Need-plain-requires
+plain-requires c κs = search needs
+
+number-requires : tie.Need-number-requires
+number-requires c κs = search needs
+
+last-requires : tie.Need-last-requires
+last-requires c κs = search needs
+
+add-requires : tie.Need-add-requires
+add-requires c κs = search needs
+
+returns : tie.Need-returns
+returns c =
+    gained-as (c .add .ensures) (binary-as _ (c .before .before .before .number .ensures) (c .before .before .last .ensures)) (c .before .before .before .before .plain .ensures)
+
+
+pub add-binary-spec : {M : Type 1} → statement M
+add-binary-spec =
+    tie.close (tie.spec plain-requires number-requires last-requires add-requires returns)
