@@ -133,3 +133,12 @@ module _ {text : List ℕ} {sc : Scope} {P Q : Stack} {pre : Built → Built} {h
           names = e₈ .names ∙ ap (λ (v : List ℕ). namesIn text v (s₁ .known)) (sym (other-kept (s₁ .nodes) (s₁ .nodes + 1) work₁ work bs ps (y .held))) ∙ ap (λ (q : State). namesIn text (otherIn work) (q .known)) (sym (y .state));
         };
       }
+
+  -- The expression that was read is the one that was made.
+  pub made-as : {w₁ : Word} {s₁ : State} {bs ps work₁ : List ℕ} (t : Expression) (ns : List Noted) (x : Noted) (m : ℕ) (g : Gained w₁ s₁ bs ps work₁ work r)
+      (e₁ : nodesOf sc base t ≡ ns ++ x ∷ []) (e₂ : expressionSize t ≡ m + 1) (e₃ : held (s₁ .nodes) work₁ ≡ withNodes h ns) (e₄ : s₁ .nodes ≡ base + m)
+      (e₅ : bs ≡ nodeBytes (x .node)) (e₆ : ps ≡ nodeBesideBytes (x .node) (x .places)) (e₇ : s₁ .nesting ≡ depth) (e₈ : Here text sc w₁ s₁ work₁)
+      (c : (K : Stack) (b : Built) → runs text (P ++ K) w (pre b) s ≡ runs text (Q ++ K) w₁ (pushed t b) s₁)
+      → (y : Says text sc P Q pre h base depth w s r work) × ((d : r .verdict ≡ Done) → y .done d .tree ≡ t)
+  unfolding made
+  made-as t ns x m g e₁ e₂ e₃ e₄ e₅ e₆ e₇ e₈ c = (made t ns x m g e₁ e₂ e₃ e₄ e₅ e₆ e₇ e₈ c, λ d. refl)

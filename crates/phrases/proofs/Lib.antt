@@ -1,3 +1,4 @@
+pub mod ArmLaws
 pub mod BracketLaws
 pub mod PartLaws
 pub mod StartLaws

@@ -3,13 +3,15 @@ use mathlib.Core.Bool.{Bool, true, false}
 use mathlib.Core.List.{List, [], _∷_, _++_}
 use mathlib.Core.Path.{_≡_}
 use Prim.Native.Nat.{ℕ, suc, _%_, _≤_}
+use lib.Dec.{eqb}
 use Rattle.grammar.specs.Following.{among}
 use Rattle.language.specs.Building.{Built, keepWord}
 use Rattle.language.specs.Declaring.{treeSteps}
 use Rattle.language.specs.Describe.{armsOf}
 use Rattle.language.specs.Description.{Node, nodePlaces}
 use Rattle.language.specs.Encode.{nodeBytes}
-use Rattle.language.specs.Machine.{Ask, ask, expression, level, make, moreArms, refused, word}
+use Rattle.language.specs.Kinds.{caseWord, doWord, elseWord, endCaseWord, endIfWord, ifWord, thenWord}
+use Rattle.language.specs.Machine.{Ask, ask, both, expression, level, make, moreArms, refused, word}
 use Rattle.language.specs.Naming.{Scope}
 use Rattle.language.specs.Tree.{Expression}
 use Rattle.language.specs.Words as L
@@ -101,16 +103,40 @@ NextArm sep text w s work work′ r =
     → (x : Says text sc (word sep level ∷ ask expression ∷ make (treeSteps .makeNextArm) ∷ []) [] (pushed t) h base (s .nesting) w s r work′)
     × ((d : r .verdict ≡ Done) → armsOf (x .done d .tree) ≡ suc (armsOf t)) × Grows s r
 
-abbrev pub MoreArms : ℕ → List ℕ → Word → State → List ℕ → List ℕ → Armed → Type 0
-MoreArms n text w s work work′ r =
-    (sc : Scope) → Here text sc w s work → (h : Held) (base : ℕ) (t : Expression) → Pending sc h base t s work → n ≡ armsOf t % 65536
-    → (x : Says text sc (ask moreArms ∷ []) [] (pushed t) h base (s .nesting) w s (r .answer) work′)
-    × ((d : r .answer .verdict ≡ Done) → r .count ≡ armsOf (x .done d .tree) % 65536)
+-- IF has two arms, CASE two or more: the words before them, and at the end.
+abbrev pub firstWord : Bool → ℕ
+firstWord false = thenWord
+firstWord true = doWord
 
--- IF has two arms, CASE two or more.
+abbrev pub otherWord : Bool → ℕ
+otherWord false = elseWord
+otherWord true = doWord
+
+abbrev pub lastWord : Bool → ℕ
+lastWord false = endIfWord
+lastWord true = endCaseWord
+
+abbrev pub choiceWord : Bool → ℕ
+choiceWord false = ifWord
+choiceWord true = caseWord
+
+abbrev pub moreStack : Bool → Stack
+moreStack false = []
+moreStack true = ask moreArms ∷ []
+
 abbrev pub armStack : Bool → Stack
-armStack false = word 34 level ∷ ask expression ∷ make (treeSteps .makeFirstArm) ∷ word 35 level ∷ ask expression ∷ make (treeSteps .makeNextArm) ∷ []
-armStack true = word 31 level ∷ ask expression ∷ make (treeSteps .makeFirstArm) ∷ word 31 level ∷ ask expression ∷ make (treeSteps .makeNextArm) ∷ ask moreArms ∷ []
+armStack case =
+    word (firstWord case) level ∷ ask expression ∷ make (treeSteps .makeFirstArm) ∷ word (otherWord case) level ∷ ask expression ∷ make (treeSteps .makeNextArm) ∷ moreStack case
+
+-- Whether a further arm comes.
+abbrev pub another : Bool → ℕ → Bool
+another case k = both case (eqb k doWord)
+
+abbrev pub MoreArms : Bool → ℕ → List ℕ → Word → State → List ℕ → List ℕ → Armed → Type 0
+MoreArms case n text w s work work′ r =
+    (sc : Scope) → Here text sc w s work → (h : Held) (base : ℕ) (t : Expression) → Pending sc h base t s work → n ≡ armsOf t % 65536
+    → (x : Says text sc (moreStack case) [] (pushed t) h base (s .nesting) w s (r .answer) work′)
+    × ((d : r .answer .verdict ≡ Done) → r .count ≡ armsOf (x .done d .tree) % 65536)
 
 abbrev pub Arms : Bool → List ℕ → Word → State → List ℕ → List ℕ → Armed → Type 0
 Arms case text w s work work′ r =

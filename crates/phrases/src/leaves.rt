@@ -27,7 +27,9 @@ ghost use Rattle.course.specs.Says.{Parses};
 ghost use Rattle.course.specs.Taken.{endsAhead};
 ghost use Rattle.levels.specs.Orders.{operatorsOf};
 ghost use Rattle.words.specs.Meaning.{positioned};
-ghost use Rattle.phrases.specs.Phrases.{Second, Unprefixed, afterName, atNesting, gains, stayed};
+ghost use Rattle.course.specs.declared.Verdict.the-variants.{Full};
+ghost use Rattle.phrases.specs.Phrases as S;
+ghost use Rattle.phrases.specs.Phrases.{Second, Unprefixed, afterName, atNesting, firstWord, gains, lastWord, otherWord, stayed};
 
 // Nothing more was read.
 pub fn stay(s: State, w: Word) -> Answer
@@ -38,6 +40,47 @@ pub fn stay(s: State, w: Word) -> Answer
         next: w,
         state: s,
     }
+}
+
+// No room is left.
+pub fn full(s: State, w: Word) -> Answer
+    ensures { λ r. ⌜ r ≡ record { verdict = Full; next = w; state = s } ⌝ }
+{
+    Answer {
+        verdict: Verdict::Full,
+        next: w,
+        state: s,
+    }
+}
+
+// The words of a conditional: before its arms, and at its end.
+pub fn first_word(case: bool) -> u8
+    ensures { λ r. ⌜ r ≡ firstWord case ⌝ }
+{
+    if case { kinds::DO } else { kinds::THEN }
+}
+
+pub fn other_word(case: bool) -> u8
+    ensures { λ r. ⌜ r ≡ otherWord case ⌝ }
+{
+    if case { kinds::DO } else { kinds::ELSE }
+}
+
+pub fn last_word(case: bool) -> u8
+    ensures { λ r. ⌜ r ≡ lastWord case ⌝ }
+{
+    if case { kinds::END_CASE } else { kinds::END_IF }
+}
+
+// Whether a further arm comes.
+pub fn another(case: bool, w: Word) -> bool
+    ensures { λ r. ⌜ r ≡ S.another case (kindNo (w .kind)) ⌝ }
+{
+    if case {
+        let kind = w.kind;
+        return kinds::number(kind) == kinds::DO;
+    }
+    false
 }
 
 // The state at the nesting that it has: said again, so that the descent is seen to end.
