@@ -64,7 +64,7 @@ two-beside p e g k = refl
 
 -- ---- Parts: of a bound the record holds the low bits, and the mark beside it the rest.
 
-two-low : (x : ℕ) → two (x % 65536) ≡ two x
+pub two-low : (x : ℕ) → two (x % 65536) ≡ two x
 unfolding little
 two-low x =
     let a : x % 65536 % 256 ≡ x % 256 = omega arith in

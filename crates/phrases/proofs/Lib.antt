@@ -1,5 +1,6 @@
 pub mod ArmLaws
 pub mod BracketLaws
+pub mod Falling
 pub mod PartLaws
 pub mod StartLaws
 pub mod TailLaws

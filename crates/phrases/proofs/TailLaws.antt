@@ -1,5 +1,5 @@
 -- The operators of one rank, one after the other.
-use mathlib.Core.Bool.{Bool, true, false}
+use mathlib.Core.Bool.{Bool, true, false, true≢false}
 use mathlib.Core.List.{List, [], _∷_, _++_, append-assoc}
 use mathlib.Core.Path.{_≡_, refl, sym, ap, _∙_, subst}
 use Prim.Native.Nat.{ℕ, suc, _+_, _-_, _≤_, _<_}
@@ -18,17 +18,17 @@ use Rattle.language.specs.Words as L
 use Rattle.noted.specs.Noted.{nodeBesideBytes}
 use Rattle.words.specs.declared.Word.{Word}
 use Rattle.words.specs.Meaning.{positioned}
-use Rattle.work.specs.Held.{Held, held, otherIn, withNodes}
+use Rattle.work.specs.Held.{Held, held, mostNodes, withNodes}
 use Rattle.work.proofs.NodesAdded.{nodes-append}
 use Rattle.course.specs.declared.Answer.{Answer}
 use Rattle.course.specs.declared.Bearing.the-variants.{Level}
 use Rattle.course.specs.declared.State.{State}
-use Rattle.course.specs.declared.Verdict.the-variants.{Done}
+use Rattle.course.specs.declared.Verdict.the-variants.{Done, Full}
 use Rattle.course.specs.Course.{Seen, Stack, ahead, countsOf, kindNo, runs}
 use Rattle.course.specs.Gained.{Grows}
 use Rattle.course.specs.Says.{Extends, Here, Parses, Pending, Read, Says, pushed}
 use Rattle.course.specs.Taken.{Took, afterWord}
-use Rattle.course.proofs.Answers.{done-full, done-refused}
+use Rattle.course.proofs.Answers.{done-full, done-refused, refused-full}
 use Rattle.course.proofs.NodeGained.{grown}
 use Rattle.course.proofs.Saying.{here-passed, made, makes-it, not-taken, passed, pending-kept, through}
 use Rattle.course.proofs.TakenWords.{onTaken, took-done}
@@ -38,23 +38,47 @@ use Rattle.levels.specs.declared.Rank.the-variants as R
 use Rattle.levels.specs.Orders.{again, operandLevel, operatorsOf, rankNo, stackOf, tailStack}
 use Rattle.levels.proofs.TailWords.{cut-taken, tail-omitted, tail-taken}
 use Rattle.operands.specs.Ended.{Cuts}
-use Rattle.phrases.specs.Phrases.{Operates, atNesting, gains, same, stayed}
+use Rattle.phrases.specs.Phrases.{Operates, atNesting, gains, once, same, stayed}
 use Rattle.phrases.proofs.StartLaws.{at-same}
 
 -- ---- The loop: the machine stands before the same tail, with a longer expression.
 
-abbrev pub Tails : Rank → List ℕ → Word → State → List ℕ → Word → State → List ℕ → Type 0
-Tails rank text w s work next state work′ =
-    (sc : Scope) → Here text sc w s work → (h : Held) (base : ℕ) (t : Expression) → Pending sc h base t s work
-    → Read text sc (tailStack rank) (tailStack rank) (pushed t) h base (s .nesting) w s (stayed state next) work′
+pub record Tails (rank : Rank) (text : List ℕ) (w : Word) (s : State) (work : List ℕ) (next : Word) (state : State) (work′ : List ℕ) (left : ℕ) : Type 0 where
+  pub reads : (sc : Scope) → Here text sc w s work → (h : Held) (base : ℕ) (t : Expression) → Pending sc h base t s work
+      → Read text sc (tailStack rank) (tailStack rank) (pushed t) h base (s .nesting) w s (stayed state next) work′
+  pub room : (sc : Scope) → Here text sc w s work → (h : Held) (base : ℕ) (t : Expression) → Pending sc h base t s work → s .nodes + 8448 ≤ state .nodes + left
 
-pub tails-begin : (rank : Rank) {text : List ℕ} {w : Word} {s : State} {work : List ℕ} → Tails rank text w s work w s work
-tails-begin rank sc h q base t p = record { tree = t; course = λ K b. refl; pending = p; nesting = refl; here = h }
+pub tails-begin : (rank : Rank) {text : List ℕ} {w : Word} {s : State} {work : List ℕ} → Tails rank text w s work w s work 8448
+tails-begin rank = record {
+  reads = λ sc h q base t p. record { tree = t; course = λ K b. refl; pending = p; nesting = refl; here = h };
+  room = λ sc h q base t p. omega arith;
+}
 
-module _ (rank : Rank) {text : List ℕ} {w : Word} {s : State} {work : List ℕ} {next : Word} {state : State} {work₁ : List ℕ} (v : Tails rank text w s work next state work₁) where
+-- A relation comes once; the others again.
+pub once-again : (r : Rank) → once r ≡ true → again r ≡ []
+once-again R.Sum e = absurd (true≢false (sym e))
+once-again R.Relation e = refl
+once-again R.Cut e = absurd (true≢false (sym e))
+once-again R.Con e = absurd (true≢false (sym e))
+once-again R.And e = absurd (true≢false (sym e))
+once-again R.Exclusive e = absurd (true≢false (sym e))
+once-again R.Or e = absurd (true≢false (sym e))
+once-again R.Beyond e = absurd (true≢false (sym e))
+
+pub more-again : (r : Rank) → once r ≡ false → again r ≡ tailStack r
+more-again R.Sum e = refl
+more-again R.Relation e = absurd (true≢false e)
+more-again R.Cut e = refl
+more-again R.Con e = refl
+more-again R.And e = refl
+more-again R.Exclusive e = refl
+more-again R.Or e = refl
+more-again R.Beyond e = refl
+
+module _ (rank : Rank) {text : List ℕ} {w : Word} {s : State} {work : List ℕ} {next : Word} {state : State} {work₁ : List ℕ} {left : ℕ} (v : Tails rank text w s work next state work₁ left) where
   pub tails-end : among (kindNo (next .kind)) (operatorsOf rank) ≡ false → {r : Answer} → r ≡ stayed state next → Extends (tailStack rank) [] (s .nesting) text w s work work₁ r
   tails-end e f sc h q base t p =
-      let o = v sc h q base t p in
+      let o = v .reads sc h q base t p in
       rw f (record {
         done = λ d. record {
           tree = o .tree;
@@ -67,34 +91,41 @@ module _ (rank : Rank) {text : List ℕ} {w : Word} {s : State} {work : List ℕ
         full = λ d. done-full d;
       })
 
+  pub tails-full : left ≤ 0 → {r : Answer} → r ≡ record { verdict = Full; next = next; state = state } → Extends (tailStack rank) [] (s .nesting) text w s work work₁ r
+  unfolding mostNodes
+  tails-full e f sc h q base t p = rw f (record { done = λ d. done-full (sym d); refused = λ g d. refused-full (sym d); full = λ d. omega (arith, v .room sc h q base t p, e) })
+
   module _ (e : among (kindNo (next .kind)) (operatorsOf rank) ≡ true) {i : State} (g : i ≡ atNesting state (s .nesting)) {work₂ : List ℕ} {r : Answer} (x : Operates rank text next i work₁ work₂ r) where
     operated : (sc : Scope) (h : Here text sc w s work) (q : Held) (base : ℕ) (t : Expression) (p : Pending sc q base t s work)
-        → Says text sc (tailStack rank) (again rank) (pushed (v sc h q base t p .tree)) q base (s .nesting) next state r work₂ × Grows state r
+        → Says text sc (tailStack rank) (again rank) (pushed (v .reads sc h q base t p .tree)) q base (s .nesting) next state r work₂ × Grows state r
     operated sc h q base t p =
-        let o = v sc h q base t p in
+        let o = v .reads sc h q base t p in
         let j : i ≡ state = g ∙ at-same state (s .nesting) (o .nesting) in
         let y : Operates rank text next state work₁ work₂ r = rw j at x in
         let z = y sc (o .here) e q base (o .tree) (o .pending) in
         (subst (λ (n : ℕ). Says text sc (tailStack rank) (again rank) (pushed (o .tree)) q base n next state r work₂) (o .nesting) (z .0), z .1)
 
     pub tails-not : (r .verdict ≡ Done → ⊥) → Extends (tailStack rank) [] (s .nesting) text w s work work₂ r
-    tails-not n sc h q base t p = passed (operated sc h q base t p .0) n (λ K. K) (λ b. b) (λ K b. v sc h q base t p .course K b)
+    tails-not n sc h q base t p = passed (operated sc h q base t p .0) n (λ K. K) (λ b. b) (λ K b. v .reads sc h q base t p .course K b)
 
-    -- A relation comes once; the others again.
-    pub tails-once : r .verdict ≡ Done → again rank ≡ [] → Extends (tailStack rank) [] (s .nesting) text w s work work₂ r
-    tails-once d f sc h q base t p = through (rw f at (operated sc h q base t p .0)) (λ K b. v sc h q base t p .course K b)
+    pub tails-once : once rank ≡ true → Extends (tailStack rank) [] (s .nesting) text w s work work₂ r
+    tails-once f sc h q base t p = through (rw (once-again rank f) at (operated sc h q base t p .0)) (λ K b. v .reads sc h q base t p .course K b)
 
-    pub tails-more : r .verdict ≡ Done → again rank ≡ tailStack rank → Tails rank text w s work (r .next) (r .state) work₂
-    tails-more d f sc h q base t p =
-        let o = v sc h q base t p in
-        let y = operated sc h q base t p .0 .done d in
-        record {
-          tree = y .tree;
-          course = λ K b. o .course K b ∙ y .course K b ∙ ap (λ (M : Stack). runs text (M ++ K) (r .next) (pushed (y .tree) b) (r .state)) f;
-          pending = record { records = y .pending .records; nodes = y .pending .nodes };
-          nesting = y .nesting;
-          here = record { seen = y .here .seen; names = y .here .names };
-        }
+    pub tails-more : r .verdict ≡ Done → once rank ≡ false → {l : ℕ} → l + 1 ≡ left → Tails rank text w s work (r .next) (r .state) work₂ l
+    tails-more d f u = record { reads = go; room = λ sc h q base t p. omega (arith, v .room sc h q base t p, operated sc h q base t p .1 d .0, u) }
+      where
+        go : (sc : Scope) → Here text sc w s work → (q : Held) (base : ℕ) (t : Expression) → Pending sc q base t s work
+            → Read text sc (tailStack rank) (tailStack rank) (pushed t) q base (s .nesting) w s (stayed (r .state) (r .next)) work₂
+        go sc h q base t p =
+            let o = v .reads sc h q base t p in
+            let y = operated sc h q base t p .0 .done d in
+            record {
+              tree = y .tree;
+              course = λ K b. o .course K b ∙ y .course K b ∙ ap (λ (M : Stack). runs text (M ++ K) (r .next) (pushed (y .tree) b) (r .state)) (more-again rank f);
+              pending = record { records = y .pending .records; nodes = y .pending .nodes };
+              nesting = y .nesting;
+              here = record { seen = y .here .seen; names = y .here .names };
+            }
 
 -- ---- One operator.
 
@@ -117,14 +148,14 @@ data Which : Rank → Type 0 where
   other : {r : Rank} → (r ≡ R.Cut → ⊥) → Which r
 
 which : (r : Rank) → Which r
-which R.Sum = other (λ e. let z : _≡_ {A = ℕ} 0 2 = ap rankNo e in omega arith)
-which R.Relation = other (λ e. let z : _≡_ {A = ℕ} 1 2 = ap rankNo e in omega arith)
+which R.Sum = other (λ (e : R.Sum ≡ R.Cut). (let z : _≡_ {A = ℕ} 0 2 = ap rankNo e in omega arith))
+which R.Relation = other (λ (e : R.Relation ≡ R.Cut). (let z : _≡_ {A = ℕ} 1 2 = ap rankNo e in omega arith))
 which R.Cut = cutting
-which R.Con = other (λ e. let z : _≡_ {A = ℕ} 3 2 = ap rankNo e in omega arith)
-which R.And = other (λ e. let z : _≡_ {A = ℕ} 4 2 = ap rankNo e in omega arith)
-which R.Exclusive = other (λ e. let z : _≡_ {A = ℕ} 5 2 = ap rankNo e in omega arith)
-which R.Or = other (λ e. let z : _≡_ {A = ℕ} 6 2 = ap rankNo e in omega arith)
-which R.Beyond = other (λ e. let z : _≡_ {A = ℕ} 7 2 = ap rankNo e in omega arith)
+which R.Con = other (λ (e : R.Con ≡ R.Cut). (let z : _≡_ {A = ℕ} 3 2 = ap rankNo e in omega arith))
+which R.And = other (λ (e : R.And ≡ R.Cut). (let z : _≡_ {A = ℕ} 4 2 = ap rankNo e in omega arith))
+which R.Exclusive = other (λ (e : R.Exclusive ≡ R.Cut). (let z : _≡_ {A = ℕ} 5 2 = ap rankNo e in omega arith))
+which R.Or = other (λ (e : R.Or ≡ R.Cut). (let z : _≡_ {A = ℕ} 6 2 = ap rankNo e in omega arith))
+which R.Beyond = other (λ (e : R.Beyond ≡ R.Cut). (let z : _≡_ {A = ℕ} 7 2 = ap rankNo e in omega arith))
 
 abbrev keeping : Word → Expression → Built → Built
 keeping w u b = keepWord (L.sign (kindNo (w .kind)) (positioned (w .at))) (pushed u b)

@@ -30,6 +30,7 @@ use Rattle.course.specs.Taken.{Kept, endsAhead}
 use Rattle.levels.specs.declared.Head.{Head}
 use Rattle.levels.specs.declared.Level.{Level}
 use Rattle.levels.specs.declared.Rank.{Rank}
+use Rattle.levels.specs.declared.Rank.the-variants as R
 use Rattle.levels.specs.Orders.{again, headOf, operatorsOf, prefixLevel, prefixStack, rankAfter, stackOf, tailStack, tailsFrom}
 use Rattle.operands.specs.Brackets.{bracketAsk, bracketEnd}
 use Rattle.operands.specs.References.{lettersOf}
@@ -76,6 +77,17 @@ abbrev pub Operates : Rank → List ℕ → Word → State → List ℕ → List
 Operates rank text w s work work′ r =
     (sc : Scope) → Here text sc w s work → among (kindNo (w .kind)) (operatorsOf rank) ≡ true → (h : Held) (base : ℕ) (t : Expression) → Pending sc h base t s work
     → Says text sc (tailStack rank) (again rank) (pushed t) h base (s .nesting) w s r work′ × Grows s r
+
+-- A relation comes at most once.
+abbrev pub once : Rank → Bool
+once R.Sum = false
+once R.Relation = true
+once R.Cut = false
+once R.Con = false
+once R.And = false
+once R.Exclusive = false
+once R.Or = false
+once R.Beyond = false
 
 -- A reference, behind its first subscript.
 abbrev pub Second : Ask → Word → ℕ → List ℕ → Word → State → List ℕ → List ℕ → Answer → Type 0

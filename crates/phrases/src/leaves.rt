@@ -17,7 +17,7 @@ use work::places;
 ghost use mathlib.Core.Bool.{true};
 ghost use mathlib.Core.List.{[], _∷_};
 ghost use mathlib.Core.Path.{_≡_};
-ghost use Prim.Native.Nat.{_-_};
+ghost use Prim.Native.Nat.{_+_, _-_, _%_};
 ghost use Rattle.grammar.specs.Following.{among};
 ghost use Rattle.language.specs.Description as D;
 ghost use Rattle.language.specs.Machine as L;
@@ -83,6 +83,13 @@ pub fn another(case: bool, w: Word) -> bool
     false
 }
 
+// The number of arms as a record has it.
+pub fn one_more(count: u16) -> u16
+    ensures { λ r. ⌜ r ≡ (count + 1) % 65536 ⌝ }
+{
+    if count == 65535 { 0 } else { count + 1 }
+}
+
 // The state at the nesting that it has: said again, so that the descent is seen to end.
 pub fn at(s: State, nesting: u16) -> State
     ensures { λ r. ⌜ r ≡ atNesting s nesting ⌝ }
@@ -116,6 +123,22 @@ pub fn operates(rank: Rank, w: Word) -> bool
 {
     let kind = w.kind;
     ranks::operates(rank, kinds::number(kind))
+}
+
+// Whether operators of a rank come at most once.
+pub fn once(rank: Rank) -> bool
+    ensures { λ r. ⌜ r ≡ S.once rank ⌝ }
+{
+    match rank {
+        Rank::Sum => false,
+        Rank::Relation => true,
+        Rank::Cut => false,
+        Rank::Con => false,
+        Rank::And => false,
+        Rank::Exclusive => false,
+        Rank::Or => false,
+        Rank::Beyond => false,
+    }
 }
 
 // The record of the prefix operator w, behind its operand's.

@@ -1,19 +1,16 @@
+use mathlib.Core.Path.{ap}
+use Prim.Native.Nat.{ℕ}
+use lib.Dec.{eqb}
 use borrow.Author.Needs.{needs}
 use Rattle.phrases.proofs.leaves.another.Statement.{statement}
 use Rattle.phrases.proofs.leaves.another.Tie as tie
-use Rattle.phrases.proofs.leaves.another.Reads as reads
-use Rattle.phrases.proofs.leaves.another.Lts as lts
-use Rattle.course.proofs.kinds.number.Reads as number-reads
 
--- src/leaves.rt:81:16
 number-requires : tie.Need-number-requires
 number-requires c κs = search needs
 
--- src/leaves.rt:81:9
 returns : tie.Need-returns
-returns c = ?
+returns c = rw (c .before .if1 .taken) (ap (λ (k : ℕ). eqb k 31) (c .number .ensures))
 
--- src/leaves.rt:76:1
 returns-2 : tie.Need-returns-2
 returns-2 c = search needs
 
