@@ -1,8 +1,7 @@
 -- Counts within the ceilings.
 use mathlib.Core.Bool.{Bool, true, false, true≢false}
-use mathlib.Core.Path.{_≡_, refl, sym, ap, _∙_}
-use Prim.Native.Nat.{ℕ, _<_, _≤_}
-use native.Mathlib.Omega.{arith}
+use mathlib.Core.Path.{_≡_, refl, sym}
+use Prim.Native.Nat.{_<_, _≤_}
 use borrow.Author.Tests.{le-leb, leb-true, lt-leb}
 use lib.Dec.{leb}
 use Rattle.language.specs.Machine.{Counts, both, deepest, mostCounted, mostFacilities, mostOperations, mostStates, withinCeilings}

@@ -2,10 +2,10 @@
 use mathlib.Core.Bool.{true, false, true≢false}
 use mathlib.Core.List.{List, [], _∷_, map}
 use mathlib.Core.Path.{_≡_, refl, sym, ap, _∙_, subst}
-use Prim.Native.Nat.{ℕ, suc, _+_, _<_, _≤_}
+use Prim.Native.Nat.{ℕ, _+_, _≤_}
 use native.Mathlib.Omega.{arith}
 use lib.ListN.{drop, length, take}
-use Rattle.grammar.specs.Accepting.{Proper, ProperWord}
+use Rattle.grammar.specs.Accepting.{Proper}
 use Rattle.grammar.specs.Following.{among}
 use Rattle.grammar.specs.ProperWords.{from-proper}
 use Rattle.language.specs.Characters.{folded}

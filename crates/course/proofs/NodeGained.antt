@@ -9,11 +9,11 @@ use Rattle.language.specs.Encode.{nodeBytes}
 use Rattle.noted.specs.Noted.{nodeBesideBytes}
 use Rattle.words.specs.declared.Word.{Word}
 use Rattle.work.proofs.NodesAdded.{node-one}
-use Rattle.work.specs.Held.{Added, Grew, Held, held, mostNodes, withBytes, withNodes}
+use Rattle.work.specs.Held.{Added, Grew, held, mostNodes, withNodes}
 use Rattle.work.specs.declared.constants.Room.{Room}
 use Rattle.course.specs.declared.Answer.{Answer}
 use Rattle.course.specs.declared.State.{State}
-use Rattle.course.specs.declared.Verdict.the-variants.{Done, Full, Refused}
+use Rattle.course.specs.declared.Verdict.the-variants.{Done, Full}
 use Rattle.course.specs.Gained.{Behind, Gained, Grows, Written, withNodeCount}
 use Rattle.course.proofs.Answers.{done-full, done-refused, refused-full}
 

@@ -1,24 +1,22 @@
 -- How answers come from answers: a course before one, a word that is refused, a record that ends a phrase.
 use mathlib.Core.List.{List, [], _∷_, _++_}
 use mathlib.Core.Path.{_≡_, refl, sym, ap, _∙_, subst}
-use Prim.Native.Nat.{ℕ, suc, _+_, _-_, _≤_}
+use Prim.Native.Nat.{ℕ, _+_, _-_, _≤_}
 use native.Mathlib.Omega.{arith}
 use lib.ListN.{length}
 use Rattle.grammar.specs.Stacks.{makes}
 use Rattle.language.specs.Building.{Built}
 use Rattle.language.specs.Declaring.{treeSteps}
-use Rattle.language.specs.Describe.{Noted, constantNodes, constantSize, expressionSize, nodesOf}
+use Rattle.language.specs.Describe.{Noted, expressionSize, nodesOf}
 use Rattle.language.specs.Encode.{nodeBytes}
-use Rattle.language.specs.Machine.{Counts, Parsed, feed, finish, ease, make, nested, reading, refused, run, withinCeilings, word}
+use Rattle.language.specs.Machine.{Counts, feed, finish, ease, make, nested, refused, run, withinCeilings, word}
 use Rattle.language.specs.Naming.{Scope}
 use Rattle.language.specs.Sections.{ruleOf}
 use Rattle.language.specs.Steps.{Step}
-use Rattle.language.specs.Tree as T
 use Rattle.language.specs.Tree.{Expression}
 use Rattle.language.specs.Words as L
 use Rattle.language.specs.Words.{fault}
 use Rattle.noted.specs.Noted.{nodeBesideBytes}
-use Rattle.words.specs.declared.Fault.{Fault}
 use Rattle.words.specs.declared.Word.{Word}
 use Rattle.words.specs.Meaning.{faulted, positioned}
 use Rattle.work.proofs.NodesAdded.{nodes-append}
@@ -27,14 +25,14 @@ use Rattle.work.specs.Names.{namesIn}
 use Rattle.course.specs.declared.Answer.{Answer}
 use Rattle.course.specs.declared.Bearing.{Bearing}
 use Rattle.course.specs.declared.State.{State}
-use Rattle.course.specs.declared.Verdict.the-variants.{Done, Full, Refused}
+use Rattle.course.specs.declared.Verdict.the-variants.{Done}
 use Rattle.course.specs.Course.{Seen, Stack, ahead, bearingOf, countsOf, runs, runsOn}
-use Rattle.course.specs.Gained.{Behind, Gained, withNodeCount}
+use Rattle.course.specs.Gained.{Behind, Gained}
 use Rattle.course.specs.Says.{Here, Pending, Read, Says, pushed}
 use Rattle.course.specs.Taken.{Expected, Kept, Passed, Refuses, Took}
-use Rattle.course.proofs.Answers.{done-full, done-refused, refused-full, same-fault}
+use Rattle.course.proofs.Answers.{done-refused, refused-full, same-fault}
 use Rattle.course.proofs.NodeGained.{gained-node}
-use Rattle.course.proofs.TakenWords.{onTaken, took-done, took-refused}
+use Rattle.course.proofs.TakenWords.{onTaken, took-refused}
 
 -- ---- Steps of the machine that take no word.
 

@@ -1,15 +1,14 @@
 -- A word taken by the machine.
 use mathlib.Core.Bool.{Bool, true, false, cond}
-use mathlib.Core.List.{List, [], _∷_}
+use mathlib.Core.List.{List, _∷_}
 use mathlib.Core.Path.{_≡_, refl, sym, ap, _∙_, subst}
-use Prim.Native.Nat.{ℕ, suc, _+_, _≤_}
-use native.Mathlib.Omega.{arith}
+use Prim.Native.Nat.{ℕ, _+_, _≤_}
 use borrow.Author.Tests.{eq-eqb, ne-eqb}
 use lib.Dec.{eqb}
 use lib.ListN.{length}
 use Rattle.language.specs.Building.{Built, keepWord}
 use Rattle.language.specs.Declaring.{treeSteps}
-use Rattle.language.specs.Machine.{Bearing, Counts, Fed, Parsed, Reading, Sym, after, bears, feed, finish, keep, nested, reading, refused, run, taken, took, withinCeilings, word, wrong}
+use Rattle.language.specs.Machine.{Bearing, Counts, Parsed, after, bears, feed, finish, keep, nested, reading, refused, run, taken, took, withinCeilings, word, wrong}
 use Rattle.language.specs.Sections.{ruleOf}
 use Rattle.language.specs.Words as L
 use Rattle.language.specs.Words.{fault}
@@ -19,9 +18,9 @@ use Rattle.words.specs.Meaning.{Next, faulted, positioned}
 use Rattle.course.specs.declared.Bearing as B
 use Rattle.course.specs.declared.Answer.{Answer}
 use Rattle.course.specs.declared.State.{State}
-use Rattle.course.specs.declared.Verdict.the-variants.{Done, Full, Refused}
+use Rattle.course.specs.declared.Verdict.the-variants.{Done, Refused}
 use Rattle.course.specs.Course.{Seen, Stack, ahead, bearingOf, behind, counts5, countsOf, kindNo, runs, runsOn}
-use Rattle.course.specs.Taken.{Expected, Follows, Keeps, KeptOn, Passed, Refuses, Took, Went, WentOn, afterWord, colonFirst, constantWord, endsAhead}
+use Rattle.course.specs.Taken.{Expected, Follows, Keeps, Passed, Refuses, Took, Went, WentOn, afterWord, colonFirst, constantWord, endsAhead}
 use Rattle.course.proofs.Answers.{done-full, done-refused, refused-full, same-fault}
 use Rattle.course.proofs.Looking.{View, begun, constant-ahead, ended, next-ahead, next-seen, sign-ahead, view}
 

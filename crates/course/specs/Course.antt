@@ -1,7 +1,6 @@
 -- The machine of the grammar seen from the code: its counts in the state, its words from the look-ahead on.
 use mathlib.Core.List.{List}
-use mathlib.Core.Path.{_≡_}
-use Prim.Native.Nat.{ℕ, suc, _+_, _-_}
+use Prim.Native.Nat.{ℕ, _+_}
 use lib.ListN.{drop, length}
 use Rattle.language.specs.Building.{Built}
 use Rattle.language.specs.Declaring.{treeSteps}

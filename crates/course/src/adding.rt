@@ -40,7 +40,14 @@ pub fn with_nodes(s: State, nodes: u16) -> State
 }
 
 // Adds an expression's record; the word after it has been seen.
-pub fn add(work: &mut [u8; 171136], next: Word, s: State, node: Node, v: u64, beside: Beside) -> Answer
+pub fn add(
+    work: &mut [u8; 171136],
+    next: Word,
+    s: State,
+    node: Node,
+    v: u64,
+    beside: Beside,
+) -> Answer
     ensures { λ r. ⌜ Gained next s (nodeBytes (meant v node)) (fields beside) (now (work .entry)) (now (work .exit)) r ⌝ }
 {
     if nodes::add_node(work, s.nodes, node, v, beside) {

@@ -1,9 +1,8 @@
 -- The machine's levels: what begins a level begins the tighter one with its tails, where no prefix operator stands there.
-use mathlib.Core.Bool.{Bool, true, false, cond, true≢false}
+use mathlib.Core.Bool.{true, false, true≢false}
 use mathlib.Core.List.{List, [], _∷_, _++_, map}
-use mathlib.Core.Path.{_≡_, refl, sym, ap, _∙_}
-use Prim.Native.Nat.{ℕ, _≤_}
-use native.Mathlib.Omega.{arith}
+use mathlib.Core.Path.{_≡_, refl, sym, _∙_}
+use Prim.Native.Nat.{ℕ}
 use lib.Dec.{eqb, leb}
 use lib.ListN.{length}
 use Rattle.grammar.specs.Following.{among}
@@ -14,17 +13,14 @@ use Rattle.language.specs.Building.{Built}
 use Rattle.language.specs.Declaring.{treeSteps}
 use Rattle.language.specs.Machine.{Alternative, Ask, Counts, Parsed, adjustment, andTail, arithmetic, arithmeticTail, ask, both, complement, conTail, cutTail, exclusiveTail, expression, finish, minterm, orTail, product, reading, reduction, relationTail, run, term, withinCeilings}
 use Rattle.language.specs.Sections.{ruleOf}
-use Rattle.language.specs.Ways.{adjustmentWays, arithmeticWays, complementWays, mintermWays, productWays, reductionWays, termWays}
-use Rattle.language.specs.Words as L
+use Rattle.language.specs.Ways.{arithmeticWays, complementWays, mintermWays, productWays, reductionWays, termWays}
 use Rattle.words.specs.declared.Word.{Word}
-use Rattle.course.specs.Course.{Seen, Stack, ahead, behind, kindNo, runs, runsOn}
+use Rattle.course.specs.Course.{Seen, Stack, ahead, behind, kindNo, runsOn}
 use Rattle.course.proofs.Looking.{View, begun, ended, view}
-use Rattle.levels.specs.declared.Head as Hd
-use Rattle.levels.specs.declared.Head.the-variants as H
 use Rattle.levels.specs.declared.Level.{Level}
 use Rattle.levels.specs.declared.Level.the-variants as E
 use Rattle.levels.specs.declared.Rank.the-variants as R
-use Rattle.levels.specs.Orders.{headOf, levelNo, reductions, stackOf, tailsFrom}
+use Rattle.levels.specs.Orders.{levelNo, reductions, stackOf, tailsFrom}
 
 module _ (text : List ℕ) (w : Word) (z : Seen text w) (b : Built) (c : Counts) where
   abbrev on : Stack → Parsed Built

@@ -2,22 +2,19 @@
 use mathlib.Core.Bool.{Bool, true, false, cond, true≢false}
 use mathlib.Core.List.{List, [], _∷_, _++_}
 use mathlib.Core.Path.{_≡_, refl, sym, ap, _∙_, subst}
-use Prim.Native.Nat.{ℕ, suc, _≤_}
+use Prim.Native.Nat.{ℕ, suc}
 use native.Mathlib.Omega.{arith}
 use borrow.Author.Tests.{eqb-true}
 use lib.Dec.{eqb, leb}
 use Rattle.grammar.specs.Following.{among}
 use Rattle.language.specs.Building.{Built, keepWord}
 use Rattle.language.specs.Declaring.{treeSteps}
-use Rattle.language.specs.Machine.{Counts, Parsed, adjustment, arithmetic, arithmeticTail, ask, both, choose, complement, conTail, ease, feed, level, make, reduction, run, tallied, term, word}
+use Rattle.language.specs.Machine.{Counts, adjustment, arithmetic, arithmeticTail, ask, both, choose, complement, conTail, ease, feed, level, make, reduction, run, tallied, term, word}
 use Rattle.language.specs.Sections.{ruleOf}
 use Rattle.language.specs.Words as L
 use Rattle.words.specs.declared.Word.{Word}
 use Rattle.words.specs.Meaning.{positioned}
-use Rattle.course.specs.Course.{Seen, Stack, ahead, behind, countsOf, kindNo, runs, runsOn}
-use Rattle.course.specs.declared.State.{State}
-use Rattle.course.specs.declared.Bearing.the-variants.{Opens}
-use Rattle.course.specs.Taken.{afterWord}
+use Rattle.course.specs.Course.{Seen, Stack, ahead, behind, kindNo, runsOn}
 use Rattle.course.proofs.Looking.{sign-ahead}
 use Rattle.course.proofs.TakenWords.{onTaken, taken-on}
 use Rattle.levels.specs.declared.Head.{Head}

@@ -1,8 +1,8 @@
 -- The tails of a level: left out, or begun with an operator that the machine takes.
-use mathlib.Core.Bool.{Bool, true, false, cond, true≢false}
+use mathlib.Core.Bool.{true, false}
 use mathlib.Core.List.{List, [], _∷_, _++_}
 use mathlib.Core.Path.{_≡_, refl, sym, ap, _∙_, subst}
-use Prim.Native.Nat.{ℕ, suc, _≤_, _<_, min}
+use Prim.Native.Nat.{ℕ, suc, _≤_, _<_}
 use native.Mathlib.Nat.{min-eq-left}
 use native.Mathlib.Omega.{arith}
 use borrow.Author.Tests.{ltb-false, ltb-true}
@@ -15,7 +15,7 @@ use Rattle.language.specs.Alternatives.{noStep}
 use Rattle.language.specs.Building.{Built, keepWord}
 use Rattle.language.specs.Declaring.{treeSteps}
 use Rattle.language.specs.Kinds.{aConstant}
-use Rattle.language.specs.Machine.{Alternative, Ask, Counts, Parsed, Sym, andTail, arithmeticTail, ask, choose, conTail, cutTail, exclusiveTail, feed, keep, make, may, orTail, reading, relationTail, run, tallied, withinCeilings}
+use Rattle.language.specs.Machine.{Alternative, Ask, Counts, Parsed, Sym, andTail, arithmeticTail, ask, choose, conTail, cutTail, exclusiveTail, feed, keep, make, may, orTail, relationTail, run, tallied, withinCeilings}
 use Rattle.language.specs.Sections.{ruleOf}
 use Rattle.language.specs.Ways.{andWays, arithmeticTailWays, conWays, cutWays, exclusiveWays, orWays, relationWays}
 use Rattle.language.specs.Words as L

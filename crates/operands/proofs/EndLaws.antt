@@ -1,28 +1,26 @@
 -- The ends of a part.
 use mathlib.Core.Bool.{Bool, true, false, true≢false}
-use mathlib.Core.List.{List, [], _∷_}
-use mathlib.Core.Path.{_≡_, refl, sym, ap, _∙_, subst}
-use Prim.Native.Nat.{ℕ, suc, _-_, _≤_}
+use mathlib.Core.List.{List, _∷_}
+use mathlib.Core.Path.{_≡_, refl, sym, ap, _∙_}
+use Prim.Native.Nat.{ℕ, _-_}
 use native.Mathlib.Omega.{arith}
 use borrow.Author.Tests.{eqb-true}
 use lib.Dec.{eqb}
 use Rattle.language.specs.Building.{Built, keepWord}
 use Rattle.language.specs.Machine.{Counts, ask, both, closes, keep, make, refused, word}
 use Rattle.language.specs.Words as L
-use Rattle.words.specs.declared.Fault.{Fault}
 use Rattle.words.specs.declared.Word.{Word}
-use Rattle.words.specs.Meaning.{faulted}
 use Rattle.course.specs.declared.Answer.{Answer}
 use Rattle.course.specs.declared.Bearing.the-variants.{Closes}
 use Rattle.course.specs.declared.State.{State}
-use Rattle.course.specs.declared.Verdict.the-variants.{Done, Full, Refused}
+use Rattle.course.specs.declared.Verdict.the-variants.{Done}
 use Rattle.course.specs.Course.{Seen, Stack, ahead, behind, countsOf, kindNo, runs}
-use Rattle.course.specs.Taken.{Expected, Keeps, Passed, Took, colonFirst, constantWord, endsAhead}
+use Rattle.course.specs.Taken.{Expected, Keeps, Took, colonFirst, constantWord, endsAhead}
 use Rattle.course.proofs.Looking.{View, begun, ended, view}
 use Rattle.course.proofs.TakenWords.{onTaken, took-done, took-refused}
 use Rattle.operands.specs.declared.constants.Ends.{Ends}
 use Rattle.operands.specs.Brackets.{bracketAsk, bracketMake, bracketRest, bracketWaits}
-use Rattle.operands.specs.Ended.{Closed, Ended, Through}
+use Rattle.operands.specs.Ended.{Closed, Ended}
 use Rattle.operands.proofs.BracketWords.{colon-follows, constant-first}
 
 -- ---- A constant and a colon come.
@@ -57,16 +55,16 @@ closed-not k n = record {
 pub closed-says : {text : List ℕ} {w : Word} {s : State} {r a : Answer} → Keeps text w s r → r .verdict ≡ Done → Expected text 20 Closes (r .next) (r .state) a → Closed text w s (record { answer = a; last = w })
 closed-says {text} {w} {s} {r} {a} k e x = record {
   done = λ d z. let q = k .done e z in
-  let y = x .done d (q .seen) (omega arith) in
-  let v = q .state in (
-    record {
-      seen = y .0 .seen;
-      nesting = ap (λ (c : Counts). c .nesting) (y .0 .counts) ∙ ap (λ (t : State). t .nesting - 1) v;
-      nodes = y .0 .kept .nodes ∙ ap (λ (t : State). t .nodes) v;
-      known = y .0 .kept .known ∙ ap (λ (t : State). t .known) v;
-    },
-    λ K b. q .course (word 20 closes ∷ K) b ∙ y .1 K (keepWord (constantWord w) b),
-  );
+      let y = x .done d (q .seen) (omega arith) in
+      let v = q .state in (
+        record {
+          seen = y .0 .seen;
+          nesting = ap (λ (c : Counts). c .nesting) (y .0 .counts) ∙ ap (λ (t : State). t .nesting - 1) v;
+          nodes = y .0 .kept .nodes ∙ ap (λ (t : State). t .nodes) v;
+          known = y .0 .kept .known ∙ ap (λ (t : State). t .known) v;
+        },
+        λ K b. q .course (word 20 closes ∷ K) b ∙ y .1 K (keepWord (constantWord w) b),
+      );
   refused = λ f d z K b. let q = k .done e z in q .course (word 20 closes ∷ K) b ∙ x .refused f d (q .seen) (omega arith) K (keepWord (constantWord w) b);
   full = x .full;
 }
@@ -109,16 +107,16 @@ module _ {text : List ℕ} {w : Word} {s : State} {t : Answer} (x : Took text w 
       pub ended-says : Ended text w s r
       ended-says = record {
         done = λ d z e. let i = c .done d (y .done d₂ .seen) in
-        let p = x .done d₁ in
-        let g = y .done d₂ in (
-          record {
-            seen = i .0 .seen;
-            nesting = i .0 .nesting ∙ ap (λ (v : ℕ). v - 1) (ap (λ (v : Counts). v .nesting) (g .counts) ∙ ap (λ (v : Counts). v .nesting) (p .counts));
-            nodes = i .0 .nodes ∙ g .kept .nodes ∙ p .kept .nodes;
-            known = i .0 .known ∙ g .kept .known ∙ p .kept .known;
-          },
-          λ q K b. third-course z e q K b ∙ i .1 (make (bracketMake q) ∷ K) (keepWord (constantWord w) b),
-        );
+            let p = x .done d₁ in
+            let g = y .done d₂ in (
+              record {
+                seen = i .0 .seen;
+                nesting = i .0 .nesting ∙ ap (λ (v : ℕ). v - 1) (ap (λ (v : Counts). v .nesting) (g .counts) ∙ ap (λ (v : Counts). v .nesting) (p .counts));
+                nodes = i .0 .nodes ∙ g .kept .nodes ∙ p .kept .nodes;
+                known = i .0 .known ∙ g .kept .known ∙ p .kept .known;
+              },
+              λ q K b. third-course z e q K b ∙ i .1 (make (bracketMake q) ∷ K) (keepWord (constantWord w) b),
+            );
         refused = λ f d z e q K b. third-course z e q K b ∙ c .refused f d (y .done d₂ .seen) (make (bracketMake q) ∷ K) (keepWord (constantWord w) b);
         full = c .full;
       }

@@ -1,16 +1,15 @@
 -- Constants and cuts: the machine's course and the records written.
-use mathlib.Core.Bool.{Bool, true, false}
 use mathlib.Core.List.{List, [], _∷_, _++_}
 use mathlib.Core.Path.{_≡_, refl, sym, ap, _∙_, subst}
-use Prim.Native.Nat.{ℕ, suc, _+_, _-_, _≤_}
+use Prim.Native.Nat.{ℕ, _+_, _-_, _≤_}
 use native.Mathlib.Omega.{arith}
 use Rattle.language.specs.Building.{Built, expressionNo, keepWord, wordNo}
 use Rattle.language.specs.Declaring.{treeSteps}
-use Rattle.language.specs.Describe.{Noted, constantNodes, constantSize, count, expressionSize, lastOf, nodesOf, noted}
+use Rattle.language.specs.Describe.{constantNodes, constantSize, count, expressionSize, lastOf, nodesOf, noted}
 use Rattle.language.specs.Description as D
 use Rattle.language.specs.Description.{nodePlaces}
 use Rattle.language.specs.Encode.{nodeBytes}
-use Rattle.language.specs.Machine.{Counts, ask, keep, make, refused, term, withinCeilings}
+use Rattle.language.specs.Machine.{Counts, ask, keep, make, refused, term}
 use Rattle.language.specs.Naming.{Scope}
 use Rattle.language.specs.Scan.{written}
 use Rattle.language.specs.Tree as T
@@ -19,24 +18,22 @@ use Rattle.language.specs.Words as L
 use Rattle.limbs.specs.Limbs.{number}
 use Rattle.noted.specs.Noted.{nodeBesideBytes, plainPlaces}
 use Rattle.value.specs.Meaning.{valued}
-use Rattle.words.specs.declared.Fault.{Fault}
 use Rattle.words.specs.declared.Word.{Word}
-use Rattle.words.specs.Meaning.{faulted, positioned}
+use Rattle.words.specs.Meaning.{positioned}
 use Rattle.work.proofs.NodesAdded.{nodes-other}
 use Rattle.work.specs.Held.{Held, held, otherIn, withNodes}
 use Rattle.work.specs.Names.{namesIn}
 use Rattle.course.specs.declared.Answer.{Answer}
 use Rattle.course.specs.declared.State.{State}
-use Rattle.course.specs.declared.Verdict.the-variants.{Done, Full, Refused}
+use Rattle.course.specs.declared.Verdict.the-variants.{Done}
 use Rattle.course.specs.Course.{Seen, Stack, countsOf, kindNo, runs}
-use Rattle.course.specs.Gained.{Gained, Written, withNodeCount}
-use Rattle.course.specs.Says.{Here, Pending, Read, Says, pushed}
-use Rattle.course.specs.Taken.{Keeps, KeptOn, Passed, Took, Went, WentOn, constantWord}
-use Rattle.course.proofs.Answers.{done-full, done-refused, refused-full}
+use Rattle.course.specs.Gained.{Gained, Written}
+use Rattle.course.specs.Says.{Here, Pending, Says, pushed}
+use Rattle.course.specs.Taken.{Keeps, Took, Went, constantWord}
 use Rattle.course.proofs.Saying.{here-passed, made, makes-it}
 use Rattle.course.proofs.TakenWords.{onTaken, took-done}
 use Rattle.operands.specs.Ended.{Counting, oneMore}
-use Rattle.operands.proofs.TermWords.{constant-term, countsAfter}
+use Rattle.operands.proofs.TermWords.{constant-term}
 
 -- A state by its counts.
 abbrev stateWith : Counts → ℕ → ℕ → State
@@ -56,19 +53,19 @@ module _ {text : List ℕ} {sc : Scope} {P Q : Stack} {pre : Built → Built} {b
   unfolding nodesOf expressionSize held
   literal v {w₁} {s₁} x h e n c = record {
     done = λ d. let p = x .state d in
-    record {
-      tree = T.constant (written (v .bare) (valued (v .value))) (positioned (v .at));
-      course = λ K b. c K b ∙ rw (x .word, p);
-      pending = record {
-        records = ap (λ (q : State). held (q .nodes) work′) p ∙ x .held d ∙ ap (λ (m : ℕ). withNodes (held m work) (constantNodes (valued (v .value)) (positioned (v .at)))) e;
-        nodes = ap (λ (q : State). q .nodes) p ∙ ap (λ (m : ℕ). m + constantSize (valued (v .value))) e;
-      };
-      nesting = ap (λ (q : State). q .nesting) p ∙ n;
-      here = record {
-        seen = subst (Seen text) (sym (x .word)) (h .seen);
-        names = h .names ∙ ap (λ (y : List ℕ). namesIn text y (s₁ .known)) (sym (other d)) ∙ ap (λ (q : State). namesIn text (otherIn work′) (q .known)) (sym p);
-      };
-    };
+        record {
+          tree = T.constant (written (v .bare) (valued (v .value))) (positioned (v .at));
+          course = λ K b. c K b ∙ rw (x .word, p);
+          pending = record {
+            records = ap (λ (q : State). held (q .nodes) work′) p ∙ x .held d ∙ ap (λ (m : ℕ). withNodes (held m work) (constantNodes (valued (v .value)) (positioned (v .at)))) e;
+            nodes = ap (λ (q : State). q .nodes) p ∙ ap (λ (m : ℕ). m + constantSize (valued (v .value))) e;
+          };
+          nesting = ap (λ (q : State). q .nesting) p ∙ n;
+          here = record {
+            seen = subst (Seen text) (sym (x .word)) (h .seen);
+            names = h .names ∙ ap (λ (y : List ℕ). namesIn text y (s₁ .known)) (sym (other d)) ∙ ap (λ (q : State). namesIn text (otherIn work′) (q .known)) (sym p);
+          };
+        };
     refused = λ f d. absurd (x .refused f d);
     full = x .full;
   }

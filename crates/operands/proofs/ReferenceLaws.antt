@@ -1,5 +1,5 @@
 -- References as records: by what a name means, and in bytes.
-use mathlib.Core.List.{List, _++_}
+use mathlib.Core.List.{List}
 use mathlib.Core.Option.{Option, none, some}
 use mathlib.Core.Path.{_≡_, refl, sym, ap, _∙_}
 use Prim.Native.Nat.{ℕ, _+_, _*_, _%_, _/_}
@@ -8,9 +8,9 @@ use native.Mathlib.Omega.{arith}
 use Rattle.language.specs.Description as D
 use Rattle.language.specs.Description.{Bounds, Node, NodePlaces, bounds}
 use Rattle.language.specs.Encode.{little, nodeBytes, two}
-use Rattle.language.specs.Naming.{Meaning, Scope, facility, meaning, numberOf, ofFacility, operation, orElse, state, unknown}
+use Rattle.language.specs.Naming.{Scope, facility, meaning, numberOf, ofFacility, operation, orElse, state, unknown}
 use Rattle.language.specs.Tree.{Name}
-use Rattle.noted.specs.Noted.{endPlaces, nodeBesideBytes, placeBytes, plainPlaces}
+use Rattle.noted.specs.Noted.{endPlaces, nodeBesideBytes, plainPlaces}
 use Rattle.words.specs.declared.Word.{Word}
 use Rattle.course.specs.declared.Answer.{Answer}
 use Rattle.course.specs.declared.State.{State}

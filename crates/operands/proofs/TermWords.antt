@@ -1,11 +1,10 @@
 -- The words with which a term begins, and what may follow a name.
-use mathlib.Core.Bool.{Bool, true, false, cond}
+use mathlib.Core.Bool.{false}
 use mathlib.Core.List.{List, [], _∷_, _++_}
-use mathlib.Core.Path.{_≡_, refl, sym, ap, _∙_, subst}
+use mathlib.Core.Path.{_≡_, refl, sym, subst}
 use Prim.Native.Nat.{ℕ, suc, _-_}
 use native.Mathlib.Omega.{arith}
 use borrow.Author.Tests.{ne-eqb}
-use lib.Dec.{eqb}
 use lib.ListN.{length}
 use Rattle.grammar.specs.Following.{Follows, among}
 use Rattle.grammar.specs.Stacks.{kindsOf, omits}
@@ -25,7 +24,6 @@ use Rattle.course.specs.Says.{pushed}
 use Rattle.course.specs.Taken.{constantWord}
 use Rattle.course.proofs.Looking.{View, begun, constant-ahead, ended, name-ahead, nameWord, sign-ahead, view}
 use Rattle.course.proofs.TakenWords.{onTaken, taken-on}
-use Rattle.operands.specs.References.{lettersOf}
 
 abbrev pub countsAfter : Counts → ℕ → ℕ → Counts
 countsAfter c counted nesting = record { facilities = c .facilities; operations = c .operations; states = c .states; counted = counted; nesting = nesting }

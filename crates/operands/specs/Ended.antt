@@ -2,11 +2,11 @@
 use mathlib.Core.Bool.{Bool, true, false}
 use mathlib.Core.List.{List, [], _∷_}
 use mathlib.Core.Path.{_≡_}
-use Prim.Native.Nat.{ℕ, suc, _+_, _-_, _≤_}
+use Prim.Native.Nat.{ℕ, suc, _-_, _≤_}
 use Rattle.language.specs.Building.{Built, keepWord}
 use Rattle.language.specs.Declaring.{treeSteps}
 use Rattle.language.specs.Describe.{constantNodes, constantSize}
-use Rattle.language.specs.Machine.{ask, closes, cutTail, keep, make, refused, withinCeilings, word}
+use Rattle.language.specs.Machine.{ask, closes, keep, make, refused, withinCeilings, word}
 use Rattle.language.specs.Naming.{Scope}
 use Rattle.language.specs.Tree.{Expression}
 use Rattle.language.specs.Words as L
@@ -14,11 +14,11 @@ use Rattle.value.specs.Meaning.{valued}
 use Rattle.words.specs.declared.Fault.{Fault}
 use Rattle.words.specs.declared.Word.{Word}
 use Rattle.words.specs.Meaning.{faulted, positioned}
-use Rattle.work.specs.Held.{Held, held, mostNodes, withNodes}
+use Rattle.work.specs.Held.{Held, mostNodes}
 use Rattle.course.specs.declared.Answer.{Answer}
 use Rattle.course.specs.declared.State.{State}
 use Rattle.course.specs.declared.Verdict.the-variants.{Done, Full, Refused}
-use Rattle.course.specs.Course.{Seen, Stack, ahead, counts5, countsOf, runs}
+use Rattle.course.specs.Course.{Seen, Stack, ahead, countsOf, runs}
 use Rattle.course.specs.Gained.{Written}
 use Rattle.course.specs.Says.{Here, Pending, Says, pushed}
 use Rattle.course.specs.Taken.{constantWord, endsAhead}

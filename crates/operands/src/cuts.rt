@@ -13,7 +13,14 @@ ghost use Rattle.course.specs.Gained.{Grows};
 ghost use Rattle.operands.specs.Ended.{Cuts};
 
 // The count of a cut of kind `kind` whose word is at, and its record.
-pub fn cut(s: State, kind: u8, operator: Word, text: &[u8], w: Word, work: &mut [u8; 171136]) -> Answer
+pub fn cut(
+    s: State,
+    kind: u8,
+    operator: Word,
+    text: &[u8],
+    w: Word,
+    work: &mut [u8; 171136],
+) -> Answer
     ensures { λ r. ⌜ Cuts kind operator (now (text .entry)) w s (now (work .entry)) (now (work .exit)) r × (Seen (now (text .entry)) w → Grows s r) ⌝ }
 {
     let kept = taking::keep_constant(text, w, s);
@@ -28,5 +35,12 @@ pub fn cut(s: State, kind: u8, operator: Word, text: &[u8], w: Word, work: &mut 
     let at = operator.at;
     let beside = places::plain(at);
     let operand = adding::last(state.nodes);
-    adding::add(work, next, state, Node::Cut(kind, operand, count), 0, beside)
+    adding::add(
+        work,
+        next,
+        state,
+        Node::Cut(kind, operand, count),
+        0,
+        beside,
+    )
 }

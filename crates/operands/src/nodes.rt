@@ -101,7 +101,14 @@ pub fn add_whole(s: State, name: Word, text: &[u8], next: Word, work: &mut [u8; 
 }
 
 // One bit or one word, by the expression of record e.
-pub fn add_one(s: State, name: Word, e: u16, text: &[u8], next: Word, work: &mut [u8; 171136]) -> Answer
+pub fn add_one(
+    s: State,
+    name: Word,
+    e: u16,
+    text: &[u8],
+    next: Word,
+    work: &mut [u8; 171136],
+) -> Answer
     ensures { λ r. ⌜ Adds (λ sc. noted (ofFacility (meaning sc (lettersOf (now (text .entry)) name)) (λ k. D.one k e)) (positioned (name .at))) (now (text .entry)) next s (now (work .entry)) (now (work .exit)) r ⌝ }
 {
     let node = one(facility(text, work, s.known, name), e);
@@ -111,7 +118,15 @@ pub fn add_one(s: State, name: Word, e: u16, text: &[u8], next: Word, work: &mut
 }
 
 // One bit of a word, by two expressions.
-pub fn add_two(s: State, name: Word, e: u16, g: u16, text: &[u8], next: Word, work: &mut [u8; 171136]) -> Answer
+pub fn add_two(
+    s: State,
+    name: Word,
+    e: u16,
+    g: u16,
+    text: &[u8],
+    next: Word,
+    work: &mut [u8; 171136],
+) -> Answer
     ensures { λ r. ⌜ Adds (λ sc. noted (ofFacility (meaning sc (lettersOf (now (text .entry)) name)) (λ k. D.two k e g)) (positioned (name .at))) (now (text .entry)) next s (now (work .entry)) (now (work .exit)) r ⌝ }
 {
     let node = two(facility(text, work, s.known, name), e, g);
@@ -121,7 +136,15 @@ pub fn add_two(s: State, name: Word, e: u16, g: u16, text: &[u8], next: Word, wo
 }
 
 // A part between two constants.
-pub fn add_part(s: State, name: Word, first: Word, last: Word, text: &[u8], next: Word, work: &mut [u8; 171136]) -> Answer
+pub fn add_part(
+    s: State,
+    name: Word,
+    first: Word,
+    last: Word,
+    text: &[u8],
+    next: Word,
+    work: &mut [u8; 171136],
+) -> Answer
     ensures { λ r. ⌜ Adds (partOf (now (text .entry)) name first last) (now (text .entry)) next s (now (work .entry)) (now (work .exit)) r ⌝ }
 {
     let v = first.value;
@@ -138,7 +161,16 @@ pub fn add_part(s: State, name: Word, first: Word, last: Word, text: &[u8], next
 }
 
 // A part of a word.
-pub fn add_word_part(s: State, name: Word, e: u16, first: Word, last: Word, text: &[u8], next: Word, work: &mut [u8; 171136]) -> Answer
+pub fn add_word_part(
+    s: State,
+    name: Word,
+    e: u16,
+    first: Word,
+    last: Word,
+    text: &[u8],
+    next: Word,
+    work: &mut [u8; 171136],
+) -> Answer
     ensures { λ r. ⌜ Adds (wordPartOf (now (text .entry)) name e first last) (now (text .entry)) next s (now (work .entry)) (now (work .exit)) r ⌝ }
 {
     let v = first.value;

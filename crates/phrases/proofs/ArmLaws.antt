@@ -1,52 +1,44 @@
 -- Conditionals in expressions, and their arms.
-use mathlib.Core.Bool.{Bool, true, false, true≢false, cond}
+use mathlib.Core.Bool.{Bool, true, false, true≢false}
 use mathlib.Core.List.{List, [], _∷_, _++_, append-assoc}
-use mathlib.Core.Path.{_≡_, refl, sym, ap, _∙_, subst}
-use Prim.Native.Nat.{ℕ, suc, _+_, _-_, _*_, _%_, _/_, _≤_, _<_}
+use mathlib.Core.Path.{_≡_, refl, sym, ap, _∙_}
+use Prim.Native.Nat.{ℕ, suc, _+_, _-_, _*_, _%_, _/_, _≤_}
 use native.Mathlib.Nat.{add-mul-mod-self-right}
 use native.Mathlib.Omega.{arith}
 use borrow.Author.Tests.{eq-eqb, eqb-true}
 use Rattle.language.specs.Building.{Built, expressionNo, keepWord, wordNo}
 use Rattle.language.specs.Declaring.{treeSteps}
-use Rattle.language.specs.Describe.{Noted, armsOf, constantNodes, constantSize, expressionSize, lastOf, nodesOf, noted}
+use Rattle.language.specs.Describe.{armsOf, expressionSize, lastOf, nodesOf, noted}
 use Rattle.language.specs.Description as D
 use Rattle.language.specs.Encode.{nodeBytes}
-use Rattle.language.specs.Machine.{Counts, ask, both, closes, expression, make, choose, feed, level, moreArms, run, term, withinCeilings, word}
-use Rattle.language.specs.Naming.{Scope, meaning, ofFacility}
-use Rattle.language.specs.Scan.{written}
+use Rattle.language.specs.Machine.{Counts, ask, both, closes, expression, make, level, term, word}
+use Rattle.language.specs.Naming.{Scope}
 use Rattle.language.specs.Tree as T
 use Rattle.language.specs.Tree.{Expression}
 use Rattle.language.specs.Words as L
 use Rattle.noted.specs.Noted.{nodeBesideBytes}
-use Rattle.value.specs.Meaning.{valued}
 use Rattle.words.specs.declared.Word.{Word}
 use Rattle.words.specs.Meaning.{positioned}
-use Rattle.work.specs.Held.{Held, held, mostNodes, otherIn, withNodes}
-use Rattle.work.specs.Names.{namesIn}
+use Rattle.work.specs.Held.{Held, held, mostNodes, withNodes}
 use Rattle.work.proofs.NodesAdded.{nodes-append}
 use Rattle.course.specs.declared.Answer.{Answer}
-use Rattle.course.specs.declared.Bearing as B
 use Rattle.course.specs.declared.Bearing.the-variants.{Closes, Level, Opens}
 use Rattle.course.specs.declared.State.{State}
 use Rattle.course.specs.declared.Verdict.the-variants.{Done, Full}
-use Rattle.course.specs.Course.{Seen, Stack, ahead, bearingOf, borne, countsOf, kindNo, runs, runsOn}
-use Rattle.course.specs.Gained.{Gained, Grows}
-use Rattle.course.specs.Says.{Extends, Here, Parses, Pending, Read, Says, pushed}
-use Rattle.course.specs.Taken.{Expected, Refuses, Took, afterWord, constantWord, endsAhead}
+use Rattle.course.specs.Course.{Seen, Stack, ahead, countsOf, kindNo, runs, runsOn}
+use Rattle.course.specs.Gained.{Grows}
+use Rattle.course.specs.Says.{Here, Parses, Pending, Read, Says, pushed}
+use Rattle.course.specs.Taken.{Expected, Took, afterWord}
 use Rattle.course.proofs.Answers.{done-full, done-refused, refused-full}
 use Rattle.course.proofs.NodeGained.{grown}
-use Rattle.course.proofs.Saying.{here-passed, made, made-as, makes-it, not-expected, not-taken, passed, pending-kept, refuses, through}
-use Rattle.course.proofs.TakenWords.{onTaken, took-done, took-refused}
-use Rattle.levels.specs.declared.Level.the-variants.{Expression as Whole}
-use Rattle.levels.specs.declared.Rank.the-variants.{Sum}
-use Rattle.levels.specs.Orders.{stackOf, tailsFrom}
+use Rattle.course.proofs.Saying.{here-passed, made, made-as, makes-it, not-expected, not-taken, passed}
+use Rattle.course.proofs.TakenWords.{onTaken, took-done}
 use Rattle.operands.proofs.ReferenceLaws.{two-low}
 use Rattle.operands.proofs.TermWords.{case-term, if-term, more-taken, no-more}
 use Rattle.phrases.specs.declared.Armed.{Armed}
 use Rattle.phrases.specs.Phrases.{Arms, FirstArm, MoreArms, NextArm, another, armStack, atNesting, choiceWord, firstWord, gains, lastWord, moreStack, otherWord, same, stayed}
-use Rattle.phrases.proofs.PartLaws.{plus-nothing, with-nothing}
 use Rattle.phrases.proofs.StartLaws.{at-same}
-use Rattle.phrases.proofs.TermLaws.{ends-with, from-kept}
+use Rattle.phrases.proofs.TermLaws.{from-kept}
 
 pub separators : (case : Bool) → 3 ≤ firstWord case
 separators true = omega arith
@@ -241,19 +233,21 @@ module _ (case : Bool) {text : List ℕ} {w : Word} {s : State} {work work₁ : 
         let j : k ≡ o .state = u ∙ at-same (o .state) (s .nesting) e in
         let z₁ : MoreArms case 2 text (o .next) (o .state) work₂ work₃ m = rw j at z₀ in
         let l : 2 ≡ armsOf (q .tree) % 65536 = ap (λ (v : ℕ). v % 65536) (sym (y .1 d₂ ∙ ap suc (one-arm sc h .1 d₁))) in
-        let z = z₁ sc (q .here) (held (s .nodes) work) (s .nodes) (q .tree) (q .pending) l in
-        (record {
-          done = λ d. let v = z .0 .done d in
+        let z = z₁ sc (q .here) (held (s .nodes) work) (s .nodes) (q .tree) (q .pending) l in (
           record {
-            tree = v .tree;
-            course = λ K b. r .course (word (otherWord case) level ∷ ask expression ∷ make (treeSteps .makeNextArm) ∷ (moreStack case ++ K)) b ∙ q .course (moreStack case ++ K) b ∙ v .course K b;
-            pending = v .pending;
-            nesting = v .nesting ∙ e;
-            here = v .here;
-          };
-          refused = λ v d K b. r .course (word (otherWord case) level ∷ ask expression ∷ make (treeSteps .makeNextArm) ∷ (moreStack case ++ K)) b ∙ q .course (moreStack case ++ K) b ∙ z .0 .refused v d K b;
-          full = z .0 .full;
-        }, λ d. z .1 d)
+            done = λ d. let v = z .0 .done d in
+                record {
+                  tree = v .tree;
+                  course = λ K b. r .course (word (otherWord case) level ∷ ask expression ∷ make (treeSteps .makeNextArm) ∷ (moreStack case ++ K)) b ∙ q .course (moreStack case ++ K) b ∙ v .course K b;
+                  pending = v .pending;
+                  nesting = v .nesting ∙ e;
+                  here = v .here;
+                };
+            refused = λ v d K b. r .course (word (otherWord case) level ∷ ask expression ∷ make (treeSteps .makeNextArm) ∷ (moreStack case ++ K)) b ∙ q .course (moreStack case ++ K) b ∙ z .0 .refused v d K b;
+            full = z .0 .full;
+          },
+          λ d. z .1 d,
+        )
 
 -- ---- A conditional.
 

@@ -2,22 +2,19 @@
 use mathlib.Core.Bool.{Bool, true, false, true≢false, cond}
 use mathlib.Core.List.{List, [], _∷_, _++_, append-assoc}
 use mathlib.Core.Path.{_≡_, refl, sym, ap, _∙_, subst}
-use Prim.Native.Nat.{ℕ, suc, _+_, _-_, _≤_, _<_}
+use Prim.Native.Nat.{ℕ, _+_, _-_}
 use native.Mathlib.Omega.{arith}
 use borrow.Author.Tests.{eq-eqb}
 use Rattle.language.specs.Building.{Built, expressionNo, keepWord, wordNo}
 use Rattle.language.specs.Declaring.{treeSteps}
-use Rattle.language.specs.Describe.{Noted, constantNodes, constantSize, expressionSize, lastOf, nodesOf, noted}
+use Rattle.language.specs.Describe.{constantNodes, constantSize, expressionSize, lastOf, nodesOf, noted}
 use Rattle.language.specs.Description as D
-use Rattle.language.specs.Encode.{nodeBytes}
-use Rattle.language.specs.Machine.{Counts, afterSubscript, ask, closes, expression, make, second, secondEnd, secondOption, subscript, subscripts, term, refused, withinCeilings, word}
+use Rattle.language.specs.Machine.{Counts, afterSubscript, ask, closes, make, second, secondEnd, secondOption, subscript, refused, withinCeilings, word}
 use Rattle.language.specs.Naming.{Scope, meaning, ofFacility}
 use Rattle.language.specs.Scan.{written}
 use Rattle.language.specs.Tree as T
 use Rattle.language.specs.Tree.{Expression}
-use Rattle.language.specs.Words as L
 use Rattle.language.specs.Words.{fault}
-use Rattle.noted.specs.Noted.{nodeBesideBytes}
 use Rattle.value.specs.Meaning.{valued}
 use Rattle.words.specs.declared.Word.{Word}
 use Rattle.words.specs.Meaning.{positioned}
@@ -25,16 +22,14 @@ use Rattle.work.specs.Held.{Held, held, otherIn, withNodes}
 use Rattle.work.specs.Names.{namesIn}
 use Rattle.work.proofs.NodesAdded.{nodes-append, nodes-other}
 use Rattle.course.specs.declared.Answer.{Answer}
-use Rattle.course.specs.declared.Bearing as B
 use Rattle.course.specs.declared.Bearing.the-variants.{Closes, Level, Opens}
 use Rattle.course.specs.declared.State.{State}
 use Rattle.course.specs.declared.Verdict.the-variants.{Done}
-use Rattle.course.specs.Course.{Seen, Stack, ahead, bearingOf, borne, countsOf, kindNo, runs, runsOn}
-use Rattle.course.specs.Gained.{Gained}
-use Rattle.course.specs.Says.{Extends, Here, Parses, Pending, Read, Says, pushed}
-use Rattle.course.specs.Taken.{Expected, Follows, Passed, Refuses, Took, afterWord, constantWord, endsAhead}
-use Rattle.course.proofs.Saying.{here-passed, made, makes-it, not-expected, not-taken, passed, pending-kept, refuses, through}
-use Rattle.course.proofs.TakenWords.{ends-come, onTaken, took-done, took-refused}
+use Rattle.course.specs.Course.{Seen, Stack, ahead, countsOf, kindNo, runs, runsOn}
+use Rattle.course.specs.Says.{Extends, Here, Parses, Pending, Says, pushed}
+use Rattle.course.specs.Taken.{Expected, Follows, Took, afterWord, constantWord, endsAhead}
+use Rattle.course.proofs.Saying.{here-passed, made, makes-it, not-expected, not-taken, passed, pending-kept, through}
+use Rattle.course.proofs.TakenWords.{ends-come, onTaken, took-done}
 use Rattle.levels.specs.declared.Level.the-variants.{Expression as Whole}
 use Rattle.levels.specs.declared.Rank.the-variants.{Sum}
 use Rattle.levels.specs.Orders.{stackOf, tailsFrom}
@@ -42,11 +37,9 @@ use Rattle.operands.specs.Brackets.{bracketAsk, bracketEnd, bracketRest, bracke
 use Rattle.operands.specs.Ended.{Counting, oneMore}
 use Rattle.operands.specs.References.{Adds, lettersOf}
 use Rattle.operands.proofs.BracketWords.{close-follows, comma-follows, constant-first, constant-operand, expression-first, rest-tails, second-closes}
-use Rattle.operands.proofs.TermWords.{group-term, name-term, no-second, no-subscript, no-term, second-opens, subscript-opens}
+use Rattle.operands.proofs.TermWords.{no-second, second-opens}
 use Rattle.phrases.specs.Phrases.{Inside, Second, afterName, atNesting, same}
-use Rattle.phrases.proofs.PartLaws.{plus-nothing, with-nothing}
 use Rattle.phrases.proofs.StartLaws.{at-same}
-use Rattle.phrases.proofs.TermLaws.{from-kept}
 
 -- An answer behind a course, with a stack below that it leaves.
 framed : {text : List ℕ} {sc : Scope} {P Q : Stack} {pre : Built → Built} {h : Held} {base depth : ℕ} {w : Word} {s : State} {r : Answer} {work : List ℕ} {P₁ : Stack} {pre₁ : Built → Built} {w₁ : Word} {s₁ : State}

@@ -1,20 +1,18 @@
 -- Leaves of the descent: RED, the parts of references.
-use mathlib.Core.Bool.{Bool, true, false}
+use mathlib.Core.Bool.{true, false}
 use mathlib.Core.List.{List, [], _∷_, _++_, append-nil}
-use mathlib.Core.Path.{_≡_, refl, sym, ap, _∙_, subst}
-use Prim.Native.Nat.{ℕ, _+_, _-_, _≤_}
+use mathlib.Core.Path.{_≡_, refl, sym, ap, _∙_}
+use Prim.Native.Nat.{ℕ, _+_, _-_}
 use native.Mathlib.Omega.{arith}
-use Rattle.language.specs.Building.{Built, expressionNo, keepWord, wordNo}
+use Rattle.language.specs.Building.{expressionNo, keepWord, wordNo}
 use Rattle.language.specs.Declaring.{treeSteps}
-use Rattle.language.specs.Describe.{Noted, boundsOf, expressionSize, lastOf, nodesOf, notedPart}
+use Rattle.language.specs.Describe.{expressionSize, lastOf, nodesOf}
 use Rattle.language.specs.Description as D
 use Rattle.language.specs.Encode.{concat, nodeBytes}
-use Rattle.language.specs.Machine.{Counts, ask, make, second, subscript}
-use Rattle.language.specs.Naming.{Scope, meaning, ofFacility}
+use Rattle.language.specs.Machine.{Counts, ask, second, subscript}
+use Rattle.language.specs.Naming.{Scope}
 use Rattle.language.specs.Tree as T
 use Rattle.language.specs.Tree.{Expression}
-use Rattle.language.specs.Words as L
-use Rattle.noted.specs.Noted.{nodeBesideBytes}
 use Rattle.words.specs.declared.Word.{Word}
 use Rattle.words.specs.Meaning.{positioned}
 use Rattle.work.specs.Held.{Held, held, otherIn, withNodes}
@@ -23,7 +21,7 @@ use Rattle.course.specs.declared.Answer.{Answer}
 use Rattle.course.specs.declared.Bearing.the-variants.{Level}
 use Rattle.course.specs.declared.State.{State}
 use Rattle.course.specs.declared.Verdict.the-variants.{Done}
-use Rattle.course.specs.Course.{Seen, Stack, ahead, runs}
+use Rattle.course.specs.Course.{Stack, ahead, runs}
 use Rattle.course.specs.Gained.{Gained}
 use Rattle.course.specs.Says.{Here, Pending, Says, pushed}
 use Rattle.course.specs.Taken.{Expected, constantWord, endsAhead}
@@ -35,7 +33,7 @@ use Rattle.levels.specs.Orders.{prefixLevel, prefixStack, stackOf}
 use Rattle.operands.specs.declared.constants.Ends.{Ends}
 use Rattle.operands.specs.Ended.{Ended}
 use Rattle.operands.specs.References.{Adds, endsOf, lettersOf, partOf, wordPartOf}
-use Rattle.phrases.specs.Phrases.{Operand, Second, Unprefixed, afterName, stayed}
+use Rattle.phrases.specs.Phrases.{Unprefixed, afterName, stayed}
 
 -- ---- RED, or nothing.
 
@@ -49,7 +47,7 @@ unprefixed {text} {w} {s} h e f = rw e (record {
 pub red-prefixed : {text : List ℕ} {w : Word} {s : State} {r : Answer} → Expected text 39 Level w s r → Unprefixed H.Reduction text w s r
 red-prefixed {text} {w} {s} x = record {
   done = λ d z. let y = x .done d z (omega arith) in
-  record { course = λ K b. y .1 (stackOf (prefixLevel H.Reduction) ++ K) b; nesting = ap (λ (c : Counts). c .nesting) (y .0 .counts); kept = y .0 .kept; seen = y .0 .seen };
+      record { course = λ K b. y .1 (stackOf (prefixLevel H.Reduction) ++ K) b; nesting = ap (λ (c : Counts). c .nesting) (y .0 .counts); kept = y .0 .kept; seen = y .0 .seen };
   refused = λ f d z K b. x .refused f d z (omega arith) (stackOf (prefixLevel H.Reduction) ++ K) b;
   full = x .full;
 }

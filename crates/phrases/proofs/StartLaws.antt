@@ -1,17 +1,16 @@
 -- A level: its first operand, then the operators from a rank on.
-use mathlib.Core.Bool.{Bool, true, false}
-use mathlib.Core.List.{List, [], _∷_, _++_, append-assoc, append-nil}
+use mathlib.Core.Bool.{true, false}
+use mathlib.Core.List.{List, [], _∷_, _++_, append-assoc}
 use mathlib.Core.Path.{_≡_, refl, sym, ap, _∙_, subst}
-use Prim.Native.Nat.{ℕ, suc, _+_, _-_, _≤_, _<_}
+use Prim.Native.Nat.{ℕ, suc, _+_, _-_}
 use native.Mathlib.Omega.{arith}
 use lib.Dec.{ltb}
-use Rattle.grammar.specs.Following.{among}
 use Rattle.language.specs.Building.{Built, expressionNo, keepWord, wordNo}
 use Rattle.language.specs.Declaring.{treeSteps}
 use Rattle.language.specs.Describe.{expressionSize, lastOf, nodesOf, noted}
 use Rattle.language.specs.Description as D
 use Rattle.language.specs.Encode.{nodeBytes}
-use Rattle.language.specs.Machine.{Counts, ask, cutTail, ease, keep, make, term}
+use Rattle.language.specs.Machine.{Counts, ask, ease, make, term}
 use Rattle.language.specs.Naming.{Scope}
 use Rattle.language.specs.Tree as T
 use Rattle.language.specs.Tree.{Expression}
@@ -19,31 +18,28 @@ use Rattle.language.specs.Words as L
 use Rattle.noted.specs.Noted.{nodeBesideBytes}
 use Rattle.words.specs.declared.Word.{Word}
 use Rattle.words.specs.Meaning.{positioned}
-use Rattle.work.specs.Held.{Held, held, mostNodes, otherIn, withNodes}
+use Rattle.work.specs.Held.{held, otherIn, withNodes}
 use Rattle.work.specs.Names.{namesIn}
-use Rattle.work.proofs.NodesAdded.{nodes-append}
 use Rattle.course.specs.declared.Answer.{Answer}
 use Rattle.course.specs.declared.Bearing.the-variants.{Level, Opens}
 use Rattle.course.specs.declared.State.{State}
 use Rattle.course.specs.declared.Verdict.the-variants.{Done}
-use Rattle.course.specs.Course.{Seen, Stack, ahead, behind, countsOf, kindNo, runs, runsOn}
-use Rattle.course.specs.Gained.{Gained, Grows, easedState}
-use Rattle.course.specs.Says.{Extends, Here, Parses, Pending, Read, Says, pushed}
+use Rattle.course.specs.Course.{Stack, ahead, countsOf, kindNo, runs}
+use Rattle.course.specs.Gained.{easedState}
+use Rattle.course.specs.Says.{Extends, Here, Parses, Says, pushed}
 use Rattle.course.specs.Taken.{Took, afterWord}
 use Rattle.course.proofs.Answers.{done-full, done-refused}
-use Rattle.course.proofs.NodeGained.{grown}
-use Rattle.course.proofs.Saying.{eases, here-passed, made, makes-it, not-taken, passed, pending-kept, through}
-use Rattle.course.proofs.TakenWords.{onTaken, took-done}
+use Rattle.course.proofs.Saying.{eases, here-passed, made, makes-it, not-taken, passed, through}
+use Rattle.course.proofs.TakenWords.{took-done}
 use Rattle.levels.specs.declared.Head.{Head}
 use Rattle.levels.specs.declared.Head.the-variants as H
 use Rattle.levels.specs.declared.Level as Lv
 use Rattle.levels.specs.declared.Rank.{Rank}
 use Rattle.levels.specs.declared.Rank.the-variants as R
-use Rattle.levels.specs.Orders.{again, headOf, nextRank, operandLevel, operatorsOf, prefixLevel, prefixStack, rankAfter, rankNo, stackOf, tailStack, tailsFrom, topNo}
+use Rattle.levels.specs.Orders.{headOf, nextRank, prefixLevel, prefixStack, rankAfter, rankNo, stackOf, tailStack, tailsFrom, topNo}
 use Rattle.levels.proofs.HeadWords.{head-taken, plain-begins}
-use Rattle.levels.proofs.TailWords.{cut-taken, tail-omitted, tail-taken, tails-more, tails-none}
-use Rattle.operands.specs.Ended.{Cuts}
-use Rattle.phrases.specs.Phrases.{Begins, Operates, Unprefixed, atNesting, gains, same, stayed}
+use Rattle.levels.proofs.TailWords.{tails-more, tails-none}
+use Rattle.phrases.specs.Phrases.{Begins, Unprefixed, atNesting, gains, same, stayed}
 
 pub at-same : (s : State) (n : ℕ) → s .nesting ≡ n → atNesting s n ≡ s
 at-same s n e = ap (atNesting s) (sym e)
@@ -84,13 +80,13 @@ module _ {text : List ℕ} {w : Word} {s : State} {work : List ℕ} where
       go y sc h l f =
           let u = y sc h in record {
             done = λ d. let o = u .done d in
-            record {
-              tree = o .tree;
-              course = λ K b. plain-begins text w (h .seen) b (countsOf s) l f K ∙ o .course (tailsFrom R.Sum l ++ K) b;
-              pending = o .pending;
-              nesting = o .nesting;
-              here = o .here;
-            };
+                record {
+                  tree = o .tree;
+                  course = λ K b. plain-begins text w (h .seen) b (countsOf s) l f K ∙ o .course (tailsFrom R.Sum l ++ K) b;
+                  pending = o .pending;
+                  nesting = o .nesting;
+                  here = o .here;
+                };
             refused = λ g d K b. plain-begins text w (h .seen) b (countsOf s) l f K ∙ u .refused g d (tailsFrom R.Sum l ++ K) b;
             full = u .full;
           }

@@ -1,8 +1,8 @@
 -- The operators of one rank, one after the other.
-use mathlib.Core.Bool.{Bool, true, false, true≢false}
+use mathlib.Core.Bool.{true, false, true≢false}
 use mathlib.Core.List.{List, [], _∷_, _++_, append-assoc}
 use mathlib.Core.Path.{_≡_, refl, sym, ap, _∙_, subst}
-use Prim.Native.Nat.{ℕ, suc, _+_, _-_, _≤_, _<_}
+use Prim.Native.Nat.{ℕ, _+_, _-_, _≤_, _<_}
 use native.Mathlib.Omega.{arith}
 use Rattle.grammar.specs.Following.{among}
 use Rattle.language.specs.Building.{Built, expressionNo, keepWord, wordNo}
@@ -18,20 +18,20 @@ use Rattle.language.specs.Words as L
 use Rattle.noted.specs.Noted.{nodeBesideBytes}
 use Rattle.words.specs.declared.Word.{Word}
 use Rattle.words.specs.Meaning.{positioned}
-use Rattle.work.specs.Held.{Held, held, mostNodes, withNodes}
+use Rattle.work.specs.Held.{Held, mostNodes, withNodes}
 use Rattle.work.proofs.NodesAdded.{nodes-append}
 use Rattle.course.specs.declared.Answer.{Answer}
 use Rattle.course.specs.declared.Bearing.the-variants.{Level}
 use Rattle.course.specs.declared.State.{State}
 use Rattle.course.specs.declared.Verdict.the-variants.{Done, Full}
-use Rattle.course.specs.Course.{Seen, Stack, ahead, countsOf, kindNo, runs}
+use Rattle.course.specs.Course.{Seen, Stack, countsOf, kindNo, runs}
 use Rattle.course.specs.Gained.{Grows}
 use Rattle.course.specs.Says.{Extends, Here, Parses, Pending, Read, Says, pushed}
 use Rattle.course.specs.Taken.{Took, afterWord}
 use Rattle.course.proofs.Answers.{done-full, done-refused, refused-full}
 use Rattle.course.proofs.NodeGained.{grown}
 use Rattle.course.proofs.Saying.{here-passed, made, makes-it, not-taken, passed, pending-kept, through}
-use Rattle.course.proofs.TakenWords.{onTaken, took-done}
+use Rattle.course.proofs.TakenWords.{took-done}
 use Rattle.levels.specs.declared.Level as Lv
 use Rattle.levels.specs.declared.Rank.{Rank}
 use Rattle.levels.specs.declared.Rank.the-variants as R
@@ -138,7 +138,7 @@ cut-again : (text : List ℕ) (sc : Scope) (w : Word) (s : State) (t r : Answer)
     → Says text sc (ask cutTail ∷ []) (ask cutTail ∷ []) (pushed u) q base (s .nesting) w s r work′
 cut-again text sc w s t r work′ u q base x g = record {
   done = λ d. let o = x .done d in
-  record { tree = o .tree; course = λ K b. g K b ∙ o .course (ask cutTail ∷ K) b; pending = o .pending; nesting = o .nesting; here = o .here };
+      record { tree = o .tree; course = λ K b. g K b ∙ o .course (ask cutTail ∷ K) b; pending = o .pending; nesting = o .nesting; here = o .here };
   refused = λ f d K b. g K b ∙ x .refused f d (ask cutTail ∷ K) b;
   full = x .full;
 }
@@ -181,10 +181,11 @@ module _ {text : List ℕ} {w : Word} {s : State} {work : List ℕ} {t : Answer}
         go z sc h e q base u p =
             let a = x .done d₁ in
             let o = z .0 sc (here-passed h a) q base u (pending-kept p (a .kept)) in
-            let m : t .state .nesting ≡ s .nesting = ap (λ (v : Counts). v .nesting) (a .counts) in
-            (cut-again text sc w s t r work′ u q base (subst (λ (v : ℕ). Says text sc (keep 2 ∷ make (treeSteps .makeCut) ∷ []) [] (keeping w u) q base v (t .next) (t .state) r work′) m o)
-            (λ K b. cut-taken text w (h .seen) (pushed u b) (countsOf s) e K ∙ took-done a (h .seen) (keep 2 ∷ make (treeSteps .makeCut) ∷ ask cutTail ∷ K) (keeping w u b)),
-            λ d. let g = z .1 (a .seen) d in (subst (λ (v : ℕ). v < r .state .nodes) (a .kept .nodes) (g .0), g .1))
+            let m : t .state .nesting ≡ s .nesting = ap (λ (v : Counts). v .nesting) (a .counts) in (
+              cut-again text sc w s t r work′ u q base (subst (λ (v : ℕ). Says text sc (keep 2 ∷ make (treeSteps .makeCut) ∷ []) [] (keeping w u) q base v (t .next) (t .state) r work′) m o)
+                  (λ K b. cut-taken text w (h .seen) (pushed u b) (countsOf s) e K ∙ took-done a (h .seen) (keep 2 ∷ make (treeSteps .makeCut) ∷ ask cutTail ∷ K) (keeping w u b)),
+              λ d. let g = z .1 (a .seen) d in (subst (λ (v : ℕ). v < r .state .nodes) (a .kept .nodes) (g .0), g .1),
+            )
 
     module _ (rank : Rank) (n : rank ≡ R.Cut → ⊥) {v : Lv.Level} (f : v ≡ operandLevel rank) {work₁ : List ℕ} {r : Answer} (y : Parses (stackOf v) same (t .state .nesting) text (t .next) (t .state) work work₁ r) where
       right-course : {sc : Scope} → Here text sc w s work → among (kindNo (w .kind)) (operatorsOf rank) ≡ true → (u : Expression) (K : Stack) (b : Built)
@@ -204,12 +205,13 @@ module _ {text : List ℕ} {w : Word} {s : State} {work : List ℕ} {t : Answer}
           let o = y sc (here-passed h c) .done d in
           let j : t .state .nodes ≡ base + expressionSize u = c .kept .nodes ∙ p .nodes in
           let l = T.binary (kindNo (w .kind)) (positioned (w .at)) u (o .tree) in
-          let k : r .state .nodes ≡ base + expressionSize u + expressionSize (o .tree) = o .pending .nodes ∙ ap (λ (z : ℕ). z + expressionSize (o .tree)) j in
-          (made l (nodesOf sc base u ++ nodesOf sc (base + expressionSize u) (o .tree)) (noted (D.binary (kindNo (w .kind)) (lastOf base (expressionSize u)) (lastOf (base + expressionSize u) (expressionSize (o .tree)))) (positioned (w .at)))
-          (expressionSize u + expressionSize (o .tree)) g (sym (append-assoc (nodesOf sc base u) (nodesOf sc (base + expressionSize u) (o .tree)) _)) refl
-          (o .pending .records ∙ ap (λ (z : Held). withNodes z (nodesOf sc (t .state .nodes) (o .tree))) (pending-kept p (c .kept) .records) ∙ sym (nodes-append q (nodesOf sc base u) (nodesOf sc (t .state .nodes) (o .tree))) ∙ ap (λ (z : ℕ). withNodes q (nodesOf sc base u ++ nodesOf sc z (o .tree))) j)
-          (k ∙ omega arith) (binary-bytes (kindNo (w .kind)) (i ∙ ap (λ (z : ℕ). z - 1) (p .nodes)) (ap (λ (z : ℕ). z - 1) k)) refl (o .nesting ∙ ap (λ (z : Counts). z .nesting) (c .counts))
-          (record { seen = o .here .seen; names = o .here .names })
-          (λ K b. right-course h e u K b ∙ o .course (under rank K) (keeping w u b)
-          ∙ makes-it text (treeSteps .makeBinary) (again rank ++ K) (r .next) (pushed (o .tree) (keeping w u b)) (pushed l b) (r .state) (λ z. refl)),
-          grown g s (omega (arith, k, p .nodes)))
+          let k : r .state .nodes ≡ base + expressionSize u + expressionSize (o .tree) = o .pending .nodes ∙ ap (λ (z : ℕ). z + expressionSize (o .tree)) j in (
+            made l (nodesOf sc base u ++ nodesOf sc (base + expressionSize u) (o .tree)) (noted (D.binary (kindNo (w .kind)) (lastOf base (expressionSize u)) (lastOf (base + expressionSize u) (expressionSize (o .tree)))) (positioned (w .at)))
+                (expressionSize u + expressionSize (o .tree)) g (sym (append-assoc (nodesOf sc base u) (nodesOf sc (base + expressionSize u) (o .tree)) _)) refl
+                (o .pending .records ∙ ap (λ (z : Held). withNodes z (nodesOf sc (t .state .nodes) (o .tree))) (pending-kept p (c .kept) .records) ∙ sym (nodes-append q (nodesOf sc base u) (nodesOf sc (t .state .nodes) (o .tree))) ∙ ap (λ (z : ℕ). withNodes q (nodesOf sc base u ++ nodesOf sc z (o .tree))) j)
+                (k ∙ omega arith) (binary-bytes (kindNo (w .kind)) (i ∙ ap (λ (z : ℕ). z - 1) (p .nodes)) (ap (λ (z : ℕ). z - 1) k)) refl (o .nesting ∙ ap (λ (z : Counts). z .nesting) (c .counts))
+                (record { seen = o .here .seen; names = o .here .names })
+                (λ K b. right-course h e u K b ∙ o .course (under rank K) (keeping w u b)
+                ∙ makes-it text (treeSteps .makeBinary) (again rank ++ K) (r .next) (pushed (o .tree) (keeping w u b)) (pushed l b) (r .state) (λ z. refl)),
+            grown g s (omega (arith, k, p .nodes)),
+          )

@@ -1,49 +1,33 @@
 -- Terms: names, groups, and what no term begins with; references with one subscript or two.
-use mathlib.Core.Bool.{Bool, true, false, true≢false, cond}
-use mathlib.Core.List.{List, [], _∷_, _++_, append-assoc}
-use mathlib.Core.Path.{_≡_, refl, sym, ap, _∙_, subst}
-use Prim.Native.Nat.{ℕ, suc, _+_, _-_, _≤_, _<_}
+use mathlib.Core.Bool.{true, false}
+use mathlib.Core.List.{List, [], _∷_, _++_}
+use mathlib.Core.Path.{_≡_, refl, ap, _∙_}
+use Prim.Native.Nat.{ℕ, _+_, _-_, _≤_}
 use native.Mathlib.Omega.{arith}
-use Rattle.language.specs.Building.{Built, expressionNo, keepWord, wordNo}
-use Rattle.language.specs.Declaring.{treeSteps}
-use Rattle.language.specs.Describe.{Noted, constantNodes, constantSize, expressionSize, lastOf, nodesOf, noted}
+use Rattle.language.specs.Building.{Built}
+use Rattle.language.specs.Describe.{expressionSize, nodesOf, noted}
 use Rattle.language.specs.Description as D
-use Rattle.language.specs.Encode.{nodeBytes}
-use Rattle.language.specs.Machine.{Counts, afterSubscript, ask, closes, expression, make, second, secondEnd, secondOption, subscript, subscripts, term, withinCeilings, word}
+use Rattle.language.specs.Machine.{Counts, ask, closes, expression, subscript, subscripts, term, word}
 use Rattle.language.specs.Naming.{Scope, meaning, ofFacility}
-use Rattle.language.specs.Scan.{written}
 use Rattle.language.specs.Tree as T
 use Rattle.language.specs.Tree.{Expression}
-use Rattle.language.specs.Words as L
-use Rattle.noted.specs.Noted.{nodeBesideBytes}
-use Rattle.value.specs.Meaning.{valued}
 use Rattle.words.specs.declared.Word.{Word}
 use Rattle.words.specs.Meaning.{positioned}
-use Rattle.work.specs.Held.{Held, held, otherIn, withNodes}
-use Rattle.work.specs.Names.{namesIn}
-use Rattle.work.proofs.NodesAdded.{nodes-append}
+use Rattle.work.specs.Held.{Held, held}
 use Rattle.course.specs.declared.Answer.{Answer}
 use Rattle.course.specs.declared.Bearing as B
 use Rattle.course.specs.declared.Bearing.the-variants.{Closes, Level, Opens}
 use Rattle.course.specs.declared.State.{State}
 use Rattle.course.specs.declared.Verdict.the-variants.{Done}
-use Rattle.course.specs.Course.{Seen, Stack, ahead, bearingOf, borne, countsOf, kindNo, runs, runsOn}
-use Rattle.course.specs.Gained.{Gained}
-use Rattle.course.specs.Says.{Extends, Here, Parses, Pending, Read, Says, pushed}
-use Rattle.course.specs.Taken.{Expected, Refuses, Took, afterWord, constantWord, endsAhead}
-use Rattle.course.proofs.Saying.{here-passed, made, makes-it, not-expected, not-taken, passed, pending-kept, refuses, through}
-use Rattle.course.proofs.TakenWords.{onTaken, took-done, took-refused}
-use Rattle.levels.specs.declared.Level.the-variants.{Expression as Whole}
-use Rattle.levels.specs.declared.Rank.the-variants.{Sum}
-use Rattle.levels.specs.Orders.{stackOf, tailsFrom}
-use Rattle.operands.specs.Brackets.{bracketAsk, bracketEnd, bracketRest, bracketWaits}
-use Rattle.operands.specs.Ended.{Counting, oneMore}
+use Rattle.course.specs.Course.{Stack, bearingOf, borne, countsOf, kindNo, runs}
+use Rattle.course.specs.Says.{Here, Parses, Pending, Says, pushed}
+use Rattle.course.specs.Taken.{Expected, Refuses, Took, afterWord}
+use Rattle.course.proofs.Saying.{here-passed, made, not-taken, passed, pending-kept, refuses, through}
+use Rattle.course.proofs.TakenWords.{took-done}
 use Rattle.operands.specs.References.{Adds, lettersOf}
-use Rattle.operands.proofs.BracketWords.{close-follows, comma-follows, constant-first, constant-operand, expression-first, rest-tails, second-closes}
-use Rattle.operands.proofs.TermWords.{group-term, name-term, no-second, no-subscript, no-term, second-opens, subscript-opens}
-use Rattle.phrases.specs.Phrases.{Inside, Second, afterName, atNesting, same}
+use Rattle.operands.proofs.TermWords.{group-term, name-term, no-subscript, no-term, subscript-opens}
+use Rattle.phrases.specs.Phrases.{afterName, same}
 use Rattle.phrases.proofs.PartLaws.{plus-nothing, with-nothing}
-use Rattle.phrases.proofs.StartLaws.{at-same}
 
 -- ---- An answer that ends with a word that must come.
 
@@ -52,13 +36,13 @@ module _ {text : List ℕ} {sc : Scope} {P Q : Stack} {pre : Built → Built} {h
       → ((K : Stack) (b : Built) → runs text (P ++ K) w (pre b) s ≡ runs text (word kind (bearingOf a) ∷ (Q ++ K)) w₁ (pushed u b) s₁) → Says text sc P Q pre h base depth w s r work
   ends-with x l u p i n g = record {
     done = λ d. let y = x .done d (i .seen) l in
-    record {
-      tree = u;
-      course = λ K b. g K b ∙ y .1 (Q ++ K) (pushed u b);
-      pending = pending-kept p (y .0 .kept);
-      nesting = ap (λ (c : Counts). c .nesting) (y .0 .counts) ∙ n;
-      here = here-passed i (y .0);
-    };
+        record {
+          tree = u;
+          course = λ K b. g K b ∙ y .1 (Q ++ K) (pushed u b);
+          pending = pending-kept p (y .0 .kept);
+          nesting = ap (λ (c : Counts). c .nesting) (y .0 .counts) ∙ n;
+          here = here-passed i (y .0);
+        };
     refused = λ f d K b. g K b ∙ x .refused f d (i .seen) l (Q ++ K) (pushed u b);
     full = λ d. absurd (x .full d);
   }

@@ -168,7 +168,14 @@ pub fn add_first_arm(s: State, next: Word, work: &mut [u8; 171136]) -> Answer
     ensures { λ r. ⌜ gains (D.firstArm (s .nodes - 1)) D.nowhere next s (now (work .entry)) (now (work .exit)) r ⌝ }
 {
     let beside = places::plain(words::places::position(0));
-    adding::add(work, next, s, Node::FirstArm(adding::last(s.nodes)), 0, beside)
+    adding::add(
+        work,
+        next,
+        s,
+        Node::FirstArm(adding::last(s.nodes)),
+        0,
+        beside,
+    )
 }
 
 pub fn add_next_arm(s: State, before: u16, next: Word, work: &mut [u8; 171136]) -> Answer
@@ -180,7 +187,14 @@ pub fn add_next_arm(s: State, before: u16, next: Word, work: &mut [u8; 171136]) 
 }
 
 // A conditional's record; its condition's is `condition`, and it has `count` arms.
-pub fn add_choice(s: State, condition: u16, count: u16, w: Word, next: Word, work: &mut [u8; 171136]) -> Answer
+pub fn add_choice(
+    s: State,
+    condition: u16,
+    count: u16,
+    w: Word,
+    next: Word,
+    work: &mut [u8; 171136],
+) -> Answer
     ensures { λ r. ⌜ gains (D.choice condition (s .nodes - 1) count) (positioned (w .at)) next s (now (work .entry)) (now (work .exit)) r ⌝ }
 {
     let at = w.at;
@@ -218,5 +232,14 @@ pub fn word_part(s: State, name: Word, text: &[u8], w: Word, work: &mut [u8; 171
     let state = answer.state;
     let next = answer.next;
     let last = ends.last;
-    nodes::add_word_part(state, name, adding::last(state.nodes), w, last, text, next, work)
+    nodes::add_word_part(
+        state,
+        name,
+        adding::last(state.nodes),
+        w,
+        last,
+        text,
+        next,
+        work,
+    )
 }

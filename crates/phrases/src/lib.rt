@@ -295,7 +295,15 @@ fn second(s: State, name: Word, text: &[u8], w: Word, work: &mut [u8; 171136]) -
     };
     let state = closed.state;
     let next = closed.next;
-    nodes::add_two(state, name, adding::last(s.nodes), adding::last(state.nodes), text, next, work)
+    nodes::add_two(
+        state,
+        name,
+        adding::last(s.nodes),
+        adding::last(state.nodes),
+        text,
+        next,
+        work,
+    )
 }
 
 // An expression in brackets, which may begin with a constant that no colon follows.
@@ -315,7 +323,14 @@ fn inside(s: State, later: bool, text: &[u8], w: Word, work: &mut [u8; 171136]) 
             return constant;
         };
         let state = leaves::at(constant.state, s.nesting);
-        return rest(state, Rank::Sum, Level::Expression, text, constant.next, work);
+        return rest(
+            state,
+            Rank::Sum,
+            Level::Expression,
+            text,
+            constant.next,
+            work,
+        );
     }
     start(s, Level::Expression, text, w, work)
 }
@@ -342,7 +357,13 @@ fn choice(s: State, case: bool, text: &[u8], w: Word, work: &mut [u8; 171136]) -
     let Verdict::Done = verdict else {
         return answer;
     };
-    let closed = taking::expect(text, answer.next, answer.state, leaves::last_word(case), Bearing::Closes);
+    let closed = taking::expect(
+        text,
+        answer.next,
+        answer.state,
+        leaves::last_word(case),
+        Bearing::Closes,
+    );
     let verdict = closed.verdict;
     let Verdict::Done = verdict else {
         return closed;
@@ -425,10 +446,7 @@ fn more_arms(s: State, case: bool, n: u16, text: &[u8], w: Word, work: &mut [u8;
             let one = next_arm(leaves::at(state, s.nesting), kinds::DO, text, next, work);
             let verdict = one.verdict;
             let Verdict::Done = verdict else {
-                return Armed {
-                    answer: one,
-                    count,
-                };
+                return Armed { answer: one, count };
             };
             state = one.state;
             next = one.next;

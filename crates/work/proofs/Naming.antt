@@ -1,11 +1,11 @@
 -- The first of some names, looked for one after the other.
 use mathlib.Core.Bool.{Bool, true, false, cond}
-use mathlib.Core.List.{List, [], _∷_, map}
+use mathlib.Core.List.{List, map}
 use mathlib.Core.Option.{none, some}
-use mathlib.Core.Path.{_≡_, refl, sym, ap, _∙_}
-use Prim.Native.Nat.{ℕ, zero, suc, _+_, _-_, _*_, _<_, _≤_, min}
+use mathlib.Core.Path.{_≡_, sym, _∙_}
+use Prim.Native.Nat.{ℕ, suc, _+_, _-_, _*_, _<_, _≤_, min}
 use native.Mathlib.Omega.{arith}
-use lib.ListN.{getD, drop, take}
+use lib.ListN.{drop, take}
 use lib.Seq.{getD-drop}
 use Rattle.language.specs.Characters.{folded}
 use Rattle.language.specs.Decode.{numberAt, upTo}

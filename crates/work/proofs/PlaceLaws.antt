@@ -1,8 +1,7 @@
 -- Places in two bytes.
 use mathlib.Core.List.{List, _++_}
-use mathlib.Core.Path.{_≡_, refl, sym, ap, _∙_}
+use mathlib.Core.Path.{_≡_}
 use Prim.Native.Nat.{ℕ, _+_, _*_, _/_, _%_}
-use native.Mathlib.Omega.{arith}
 use Rattle.language.specs.Encode.{two}
 use Rattle.language.specs.Words.{Position, position}
 use Rattle.noted.specs.Noted.{placeBytes}

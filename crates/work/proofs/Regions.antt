@@ -1,9 +1,9 @@
 -- Bytes written behind those that a region holds: the region grows by them, and the others keep theirs.
 use mathlib.Core.List.{List, [], _∷_, _++_, append-assoc}
-use mathlib.Core.Path.{_≡_, refl, sym, ap, _∙_}
+use mathlib.Core.Path.{_≡_, sym, ap, _∙_}
 use Prim.Native.Nat.{ℕ, _+_, _-_, _*_, _<_, _≤_}
 use native.Mathlib.Omega.{arith}
-use lib.ListN.{length, take, drop, length-append, length-take, length-drop}
+use lib.ListN.{length, take, drop, length-append}
 use lib.Seq.{drop-at, drop-drop, length-take-le, take-add, take-append-le, take-at, take-take}
 use Rattle.records.proofs.ByteLaws.{placed-length, placed-whole}
 use Rattle.records.specs.Placed.{placed}

@@ -1,6 +1,6 @@
 -- What the working array holds of the expressions: their records in bytes and the places beside them, each behind the other; and all the rest.
 use mathlib.Core.Bool.{Bool, true, false}
-use mathlib.Core.List.{List, [], _∷_, _++_}
+use mathlib.Core.List.{List, _++_}
 use mathlib.Core.Path.{_≡_}
 use Prim.Native.Nat.{ℕ, _+_, _*_, _<_, _≤_}
 use lib.ListN.{drop, take}

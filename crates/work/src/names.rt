@@ -22,7 +22,11 @@ pub enum Found {
 fn held(n: u16) -> u16
     ensures { λ r. ⌜ (r ≡ min n 256) × (r ≤ 256) ⌝ }
 {
-    if n < MOST_FACILITIES { n } else { MOST_FACILITIES }
+    if n < MOST_FACILITIES {
+        n
+    } else {
+        MOST_FACILITIES
+    }
 }
 
 // The number of the first of n facilities that has the name of the word of that place and size.

@@ -5,8 +5,6 @@ use records::bytes;
 use records::node_bytes;
 use records::nodes::Node;
 use records::numbers;
-ghost use mathlib.Core.List.{_++_};
-ghost use Rattle.language.specs.Encode as L;
 ghost use Rattle.language.specs.Encode.{nodeBytes};
 ghost use Rattle.records.specs.Nodes.{meant};
 ghost use Rattle.work.specs.Held.{Added, fields};

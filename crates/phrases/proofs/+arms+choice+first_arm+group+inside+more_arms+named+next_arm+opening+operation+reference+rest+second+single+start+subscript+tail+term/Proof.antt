@@ -1,7 +1,7 @@
 use borrow.Author.Needs.{needs}
 use borrow.Author.Tests.{ltb-true}
-use mathlib.Core.Bool.{true, false}
-use mathlib.Core.Path.{_≡_, refl, sym, ap, _∙_, subst}
+use mathlib.Core.Bool.{true}
+use mathlib.Core.Path.{_≡_, sym, ap, _∙_, subst}
 use native.Mathlib.Omega.{arith}
 use Prim.Native.Nat.{suc, _+_, _-_, _*_, _≤_}
 use Rattle.language.specs.Machine.{Counts}
@@ -284,960 +284,258 @@ term-at t = and 2 term-kinds.ps (is 2 term-kinds.ps μ-term t) term.Pre
 abbrev term-below : ℕ → In 2 term-kinds.ps
 term-below t = and 2 term-kinds.ps (falls 2 term-kinds.ps _<_ μ-term t) term.Pre
 
-arms-first-word-requires : (t : ℕ) → arms-lts.Need-first-word-requires (
-  first-word-reads.Asked,
-  first-word-reads.Learnt,
-  first-arm-below t,
-  first-arm.Post,
-  at-reads.Asked,
-  at-reads.Learnt,
-  other-word-reads.Asked,
-  other-word-reads.Learnt,
-  next-arm-below t,
-  next-arm.Post,
-  more-arms-below t,
-  more-arms.Post,
-) (arms-at t) arms.Post
+abbrev arms-calls : ℕ → arms-lts.Claims
+arms-calls t = (first-word-reads.Asked, first-word-reads.Learnt, first-arm-below t, first-arm.Post, at-reads.Asked, at-reads.Learnt, other-word-reads.Asked, other-word-reads.Learnt, next-arm-below t, next-arm.Post, more-arms-below t, more-arms.Post)
+
+abbrev choice-calls : ℕ → choice-lts.Claims
+choice-calls t = (take-reads.Asked, take-reads.Learnt, start-below t, start.Post, at-reads.Asked, at-reads.Learnt, arms-below t, arms.Post, last-word-reads.Asked, last-word-reads.Learnt, expect-reads.Asked, expect-reads.Learnt, last-reads.Asked, last-reads.Learnt, add-choice-reads.Asked, add-choice-reads.Learnt)
+
+abbrev first-arm-calls : ℕ → first-arm-lts.Claims
+first-arm-calls t = (expect-reads.Asked, expect-reads.Learnt, at-reads.Asked, at-reads.Learnt, start-below t, start.Post, add-first-arm-reads.Asked, add-first-arm-reads.Learnt)
+
+abbrev group-calls : ℕ → group-lts.Claims
+group-calls t = (take-reads.Asked, take-reads.Learnt, start-below t, start.Post, expect-reads.Asked, expect-reads.Learnt)
+
+abbrev inside-calls : ℕ → inside-lts.Claims
+inside-calls t = (number-reads.Asked, number-reads.Learnt, take-reads.Asked, take-reads.Learnt, counted-reads.Asked, counted-reads.Learnt, at-reads.Asked, at-reads.Learnt, rest-below t, rest.Post, start-below t, start.Post)
+
+abbrev more-arms-calls : ℕ → more-arms-lts.Claims
+more-arms-calls t = (another-reads.Asked, another-reads.Learnt, at-reads.Asked, at-reads.Learnt, next-arm-below t, next-arm.Post, one-more-reads.Asked, one-more-reads.Learnt, stay-reads.Asked, stay-reads.Learnt, full-reads.Asked, full-reads.Learnt)
+
+abbrev named-calls : ℕ → named-lts.Claims
+named-calls t = (take-reads.Asked, take-reads.Learnt, reference-below t, reference.Post)
+
+abbrev next-arm-calls : ℕ → next-arm-lts.Claims
+next-arm-calls t = (expect-reads.Asked, expect-reads.Learnt, at-reads.Asked, at-reads.Learnt, start-below t, start.Post, last-reads.Asked, last-reads.Learnt, add-next-arm-reads.Asked, add-next-arm-reads.Learnt)
+
+abbrev opening-calls : ℕ → opening-lts.Claims
+opening-calls t = (term-below t, term.Post, take-reads.Asked, take-reads.Learnt, reducing-reads.Asked, reducing-reads.Learnt, at-reads.Asked, at-reads.Learnt, prefixed-reads.Asked, prefixed-reads.Learnt, start-below t, start.Post, add-prefix-reads.Asked, add-prefix-reads.Learnt)
+
+abbrev operation-calls : ℕ → operation-lts.Claims
+operation-calls t = (take-reads.Asked, take-reads.Learnt, number-reads.Asked, number-reads.Learnt, cut-reads.Asked, cut-reads.Learnt, operand-reads.Asked, operand-reads.Learnt, start-below t, start.Post, last-reads.Asked, last-reads.Learnt, add-binary-reads.Asked, add-binary-reads.Learnt)
+
+abbrev reference-calls : ℕ → reference-lts.Claims
+reference-calls t = (number-reads.Asked, number-reads.Learnt, take-reads.Asked, take-reads.Learnt, subscript-below t, subscript.Post, add-whole-reads.Asked, add-whole-reads.Learnt)
+
+abbrev rest-calls : ℕ → rest-lts.Claims
+rest-calls t = (within-reads.Asked, within-reads.Learnt, tail-below t, tail.Post, at-reads.Asked, at-reads.Learnt, next-reads.Asked, next-reads.Learnt, rest-below t, rest.Post, stay-reads.Asked, stay-reads.Learnt)
+
+abbrev second-calls : ℕ → second-lts.Claims
+second-calls t = (ends-ahead-reads.Asked, ends-ahead-reads.Learnt, word-part-reads.Asked, word-part-reads.Learnt, inside-below t, inside.Post, expect-reads.Asked, expect-reads.Learnt, last-reads.Asked, last-reads.Learnt, add-two-reads.Asked, add-two-reads.Learnt)
+
+abbrev single-calls : ℕ → single-lts.Claims
+single-calls t = (number-reads.Asked, number-reads.Learnt, take-reads.Asked, take-reads.Learnt, second-below t, second.Post, last-reads.Asked, last-reads.Learnt, add-one-reads.Asked, add-one-reads.Learnt)
+
+abbrev start-calls : ℕ → start-lts.Claims
+start-calls t = (number-reads.Asked, number-reads.Learnt, head-of-reads.Asked, head-of-reads.Learnt, opening-below t, opening.Post, at-reads.Asked, at-reads.Learnt, after-reads.Asked, after-reads.Learnt, rest-below t, rest.Post)
+
+abbrev subscript-calls : ℕ → subscript-lts.Claims
+subscript-calls t = (ends-ahead-reads.Asked, ends-ahead-reads.Learnt, part-reads.Asked, part-reads.Learnt, inside-below t, inside.Post, number-reads.Asked, number-reads.Learnt, take-reads.Asked, take-reads.Learnt, at-reads.Asked, at-reads.Learnt, second-below t, second.Post, expect-reads.Asked, expect-reads.Learnt, last-reads.Asked, last-reads.Learnt, single-below t, single.Post)
+
+abbrev tail-calls : ℕ → tail-lts.Claims
+tail-calls t = (operates-reads.Asked, operates-reads.Learnt, at-reads.Asked, at-reads.Learnt, operation-below t, operation.Post, once-reads.Asked, once-reads.Learnt, stay-reads.Asked, stay-reads.Learnt, full-reads.Asked, full-reads.Learnt)
+
+abbrev term-calls : ℕ → term-lts.Claims
+term-calls t = (number-reads.Asked, number-reads.Learnt, constant-reads.Asked, constant-reads.Learnt, named-below t, named.Post, group-below t, group.Post, choice-below t, choice.Post, refuse-reads.Asked, refuse-reads.Learnt)
+
+arms-first-word-requires : (t : ℕ) → arms-lts.Need-first-word-requires (arms-calls t) (arms-at t) arms.Post
 arms-first-word-requires t c κs = search needs
 
-arms-first-arm-requires : (t : ℕ) → arms-lts.Need-first-arm-requires (
-  first-word-reads.Asked,
-  first-word-reads.Learnt,
-  first-arm-below t,
-  first-arm.Post,
-  at-reads.Asked,
-  at-reads.Learnt,
-  other-word-reads.Asked,
-  other-word-reads.Learnt,
-  next-arm-below t,
-  next-arm.Post,
-  more-arms-below t,
-  more-arms.Post,
-) (arms-at t) arms.Post
+arms-first-arm-requires : (t : ℕ) → arms-lts.Need-first-arm-requires (arms-calls t) (arms-at t) arms.Post
 arms-first-arm-requires t c κs = search needs
 
-arms-enum-told : (t : ℕ) → arms-lts.Need-enum-told (
-  first-word-reads.Asked,
-  first-word-reads.Learnt,
-  first-arm-below t,
-  first-arm.Post,
-  at-reads.Asked,
-  at-reads.Learnt,
-  other-word-reads.Asked,
-  other-word-reads.Learnt,
-  next-arm-below t,
-  next-arm.Post,
-  more-arms-below t,
-  more-arms.Post,
-) (arms-at t) arms.Post
+arms-enum-told : (t : ℕ) → arms-lts.Need-enum-told (arms-calls t) (arms-at t) arms.Post
 arms-enum-told t c = search needs
 
-arms-returns : (t : ℕ) → arms-lts.Need-returns (
-  first-word-reads.Asked,
-  first-word-reads.Learnt,
-  first-arm-below t,
-  first-arm.Post,
-  at-reads.Asked,
-  at-reads.Learnt,
-  other-word-reads.Asked,
-  other-word-reads.Learnt,
-  next-arm-below t,
-  next-arm.Post,
-  more-arms-below t,
-  more-arms.Post,
-) (arms-at t) arms.Post
+arms-returns : (t : ℕ) → arms-lts.Need-returns (arms-calls t) (arms-at t) arms.Post
 arms-returns t c =
     arms-none (c .before .before .before .before .before .args .case) (c .before .before .before .first-word .ensures) (c .before .first-arm .ensures) (not-done (c .match .keys2))
 
-
-arms-at-requires : (t : ℕ) → arms-lts.Need-at-requires (
-  first-word-reads.Asked,
-  first-word-reads.Learnt,
-  first-arm-below t,
-  first-arm.Post,
-  at-reads.Asked,
-  at-reads.Learnt,
-  other-word-reads.Asked,
-  other-word-reads.Learnt,
-  next-arm-below t,
-  next-arm.Post,
-  more-arms-below t,
-  more-arms.Post,
-) (arms-at t) arms.Post
+arms-at-requires : (t : ℕ) → arms-lts.Need-at-requires (arms-calls t) (arms-at t) arms.Post
 arms-at-requires t c κs = search needs
 
-arms-other-word-requires : (t : ℕ) → arms-lts.Need-other-word-requires (
-  first-word-reads.Asked,
-  first-word-reads.Learnt,
-  first-arm-below t,
-  first-arm.Post,
-  at-reads.Asked,
-  at-reads.Learnt,
-  other-word-reads.Asked,
-  other-word-reads.Learnt,
-  next-arm-below t,
-  next-arm.Post,
-  more-arms-below t,
-  more-arms.Post,
-) (arms-at t) arms.Post
+arms-other-word-requires : (t : ℕ) → arms-lts.Need-other-word-requires (arms-calls t) (arms-at t) arms.Post
 arms-other-word-requires t c κs = search needs
 
-arms-next-arm-requires : (t : ℕ) → arms-lts.Need-next-arm-requires (
-  first-word-reads.Asked,
-  first-word-reads.Learnt,
-  first-arm-below t,
-  first-arm.Post,
-  at-reads.Asked,
-  at-reads.Learnt,
-  other-word-reads.Asked,
-  other-word-reads.Learnt,
-  next-arm-below t,
-  next-arm.Post,
-  more-arms-below t,
-  more-arms.Post,
-) (arms-at t) arms.Post
+arms-next-arm-requires : (t : ℕ) → arms-lts.Need-next-arm-requires (arms-calls t) (arms-at t) arms.Post
 arms-next-arm-requires t c κs =
     let h : c .before .before .at .result .nesting ≡ c .before .before .before .before .before .before .before .before .before .args .s .nesting = ap (λ (q : State). q .nesting) (c .before .before .at .ensures) in search needs
 
-arms-enum-told-2 : (t : ℕ) → arms-lts.Need-enum-told-2 (
-  first-word-reads.Asked,
-  first-word-reads.Learnt,
-  first-arm-below t,
-  first-arm.Post,
-  at-reads.Asked,
-  at-reads.Learnt,
-  other-word-reads.Asked,
-  other-word-reads.Learnt,
-  next-arm-below t,
-  next-arm.Post,
-  more-arms-below t,
-  more-arms.Post,
-) (arms-at t) arms.Post
+arms-enum-told-2 : (t : ℕ) → arms-lts.Need-enum-told-2 (arms-calls t) (arms-at t) arms.Post
 arms-enum-told-2 t c = search needs
 
-arms-returns-2 : (t : ℕ) → arms-lts.Need-returns-2 (
-  first-word-reads.Asked,
-  first-word-reads.Learnt,
-  first-arm-below t,
-  first-arm.Post,
-  at-reads.Asked,
-  at-reads.Learnt,
-  other-word-reads.Asked,
-  other-word-reads.Learnt,
-  next-arm-below t,
-  next-arm.Post,
-  more-arms-below t,
-  more-arms.Post,
-) (arms-at t) arms.Post
+arms-returns-2 : (t : ℕ) → arms-lts.Need-returns-2 (arms-calls t) (arms-at t) arms.Post
 arms-returns-2 t c =
     arms-one (c .before .before .before .before .before .before .before .before .before .before .before .args .case) (c .before .before .before .before .before .before .before .before .before .first-word .ensures) (c .before .before .before .before .before .before .before .first-arm .ensures) (c .before .before .before .before .before .enum-told .given .1) (c .before .before .before .before .at .ensures) (c .before .before .before .other-word .ensures) (c .before .next-arm .ensures) (not-done (c .match2 .keys2))
 
-
-arms-at-requires-2 : (t : ℕ) → arms-lts.Need-at-requires-2 (
-  first-word-reads.Asked,
-  first-word-reads.Learnt,
-  first-arm-below t,
-  first-arm.Post,
-  at-reads.Asked,
-  at-reads.Learnt,
-  other-word-reads.Asked,
-  other-word-reads.Learnt,
-  next-arm-below t,
-  next-arm.Post,
-  more-arms-below t,
-  more-arms.Post,
-) (arms-at t) arms.Post
+arms-at-requires-2 : (t : ℕ) → arms-lts.Need-at-requires-2 (arms-calls t) (arms-at t) arms.Post
 arms-at-requires-2 t c κs = search needs
 
-arms-more-arms-requires : (t : ℕ) → arms-lts.Need-more-arms-requires (
-  first-word-reads.Asked,
-  first-word-reads.Learnt,
-  first-arm-below t,
-  first-arm.Post,
-  at-reads.Asked,
-  at-reads.Learnt,
-  other-word-reads.Asked,
-  other-word-reads.Learnt,
-  next-arm-below t,
-  next-arm.Post,
-  more-arms-below t,
-  more-arms.Post,
-) (arms-at t) arms.Post
+arms-more-arms-requires : (t : ℕ) → arms-lts.Need-more-arms-requires (arms-calls t) (arms-at t) arms.Post
 arms-more-arms-requires t c κs =
     let e = c .before .before .before .before .before .before .before .before .before .before .before .before .before .before .pre .0 in let h : c .before .at2 .result .nesting ≡ c .before .before .before .before .before .before .before .before .before .before .before .before .before .before .args .s .nesting = ap (λ (q : State). q .nesting) (c .before .at2 .ensures) in search needs
 
-arms-returns-3 : (t : ℕ) → arms-lts.Need-returns-3 (
-  first-word-reads.Asked,
-  first-word-reads.Learnt,
-  first-arm-below t,
-  first-arm.Post,
-  at-reads.Asked,
-  at-reads.Learnt,
-  other-word-reads.Asked,
-  other-word-reads.Learnt,
-  next-arm-below t,
-  next-arm.Post,
-  more-arms-below t,
-  more-arms.Post,
-) (arms-at t) arms.Post
+arms-returns-3 : (t : ℕ) → arms-lts.Need-returns-3 (arms-calls t) (arms-at t) arms.Post
 arms-returns-3 t c =
     arms-says (c .before .before .before .before .before .before .before .before .before .before .before .before .before .before .before .args .case) (c .before .before .before .before .before .before .before .before .before .before .before .before .before .first-word .ensures) (c .before .before .before .before .before .before .before .before .before .before .before .first-arm .ensures) (c .before .before .before .before .before .before .before .before .before .enum-told .given .1) (c .before .before .before .before .before .before .before .before .at .ensures) (c .before .before .before .before .before .before .before .other-word .ensures) (c .before .before .before .before .before .next-arm .ensures) (c .before .before .before .enum-told2 .given .1) (c .before .before .at2 .ensures) (c .more-arms .ensures)
 
-
-choice-take-requires : (t : ℕ) → choice-lts.Need-take-requires (
-  take-reads.Asked,
-  take-reads.Learnt,
-  start-below t,
-  start.Post,
-  at-reads.Asked,
-  at-reads.Learnt,
-  arms-below t,
-  arms.Post,
-  last-word-reads.Asked,
-  last-word-reads.Learnt,
-  expect-reads.Asked,
-  expect-reads.Learnt,
-  last-reads.Asked,
-  last-reads.Learnt,
-  add-choice-reads.Asked,
-  add-choice-reads.Learnt,
-) (choice-at t) choice.Post
+choice-take-requires : (t : ℕ) → choice-lts.Need-take-requires (choice-calls t) (choice-at t) choice.Post
 choice-take-requires t c κs = search needs
 
-choice-enum-told : (t : ℕ) → choice-lts.Need-enum-told (
-  take-reads.Asked,
-  take-reads.Learnt,
-  start-below t,
-  start.Post,
-  at-reads.Asked,
-  at-reads.Learnt,
-  arms-below t,
-  arms.Post,
-  last-word-reads.Asked,
-  last-word-reads.Learnt,
-  expect-reads.Asked,
-  expect-reads.Learnt,
-  last-reads.Asked,
-  last-reads.Learnt,
-  add-choice-reads.Asked,
-  add-choice-reads.Learnt,
-) (choice-at t) choice.Post
+choice-enum-told : (t : ℕ) → choice-lts.Need-enum-told (choice-calls t) (choice-at t) choice.Post
 choice-enum-told t c = search needs
 
-choice-returns : (t : ℕ) → choice-lts.Need-returns (
-  take-reads.Asked,
-  take-reads.Learnt,
-  start-below t,
-  start.Post,
-  at-reads.Asked,
-  at-reads.Learnt,
-  arms-below t,
-  arms.Post,
-  last-word-reads.Asked,
-  last-word-reads.Learnt,
-  expect-reads.Asked,
-  expect-reads.Learnt,
-  last-reads.Asked,
-  last-reads.Learnt,
-  add-choice-reads.Asked,
-  add-choice-reads.Learnt,
-) (choice-at t) choice.Post
+choice-returns : (t : ℕ) → choice-lts.Need-returns (choice-calls t) (choice-at t) choice.Post
 choice-returns t c =
     λ e. choice-not (c .before .before .before .args .case) e (c .before .take .ensures) (not-done (c .match .keys2))
 
-
-choice-start-requires : (t : ℕ) → choice-lts.Need-start-requires (
-  take-reads.Asked,
-  take-reads.Learnt,
-  start-below t,
-  start.Post,
-  at-reads.Asked,
-  at-reads.Learnt,
-  arms-below t,
-  arms.Post,
-  last-word-reads.Asked,
-  last-word-reads.Learnt,
-  expect-reads.Asked,
-  expect-reads.Learnt,
-  last-reads.Asked,
-  last-reads.Learnt,
-  add-choice-reads.Asked,
-  add-choice-reads.Learnt,
-) (choice-at t) choice.Post
+choice-start-requires : (t : ℕ) → choice-lts.Need-start-requires (choice-calls t) (choice-at t) choice.Post
 choice-start-requires t c κs =
     let p = c .before .before .before .before .take .ensures .done (c .before .before .enum-told .given .1) in let g : c .before .before .before .before .take .result .state .nesting ≡ suc (c .before .before .before .before .before .before .args .s .nesting) = ap (λ (k : Counts). k .nesting) (p .counts) in let d : c .before .before .before .before .take .result .state .nesting ≤ 24 = p .deep in search needs
 
-choice-enum-told-2 : (t : ℕ) → choice-lts.Need-enum-told-2 (
-  take-reads.Asked,
-  take-reads.Learnt,
-  start-below t,
-  start.Post,
-  at-reads.Asked,
-  at-reads.Learnt,
-  arms-below t,
-  arms.Post,
-  last-word-reads.Asked,
-  last-word-reads.Learnt,
-  expect-reads.Asked,
-  expect-reads.Learnt,
-  last-reads.Asked,
-  last-reads.Learnt,
-  add-choice-reads.Asked,
-  add-choice-reads.Learnt,
-) (choice-at t) choice.Post
+choice-enum-told-2 : (t : ℕ) → choice-lts.Need-enum-told-2 (choice-calls t) (choice-at t) choice.Post
 choice-enum-told-2 t c = search needs
 
-choice-returns-2 : (t : ℕ) → choice-lts.Need-returns-2 (
-  take-reads.Asked,
-  take-reads.Learnt,
-  start-below t,
-  start.Post,
-  at-reads.Asked,
-  at-reads.Learnt,
-  arms-below t,
-  arms.Post,
-  last-word-reads.Asked,
-  last-word-reads.Learnt,
-  expect-reads.Asked,
-  expect-reads.Learnt,
-  last-reads.Asked,
-  last-reads.Learnt,
-  add-choice-reads.Asked,
-  add-choice-reads.Learnt,
-) (choice-at t) choice.Post
+choice-returns-2 : (t : ℕ) → choice-lts.Need-returns-2 (choice-calls t) (choice-at t) choice.Post
 choice-returns-2 t c =
     λ e. condition-not (c .before .before .before .before .before .before .before .before .args .case) e (c .before .before .before .before .before .before .take .ensures) (c .before .before .before .before .enum-told .given .1) (c .before .start .ensures) (not-done (c .match2 .keys2))
 
-
-choice-at-requires : (t : ℕ) → choice-lts.Need-at-requires (
-  take-reads.Asked,
-  take-reads.Learnt,
-  start-below t,
-  start.Post,
-  at-reads.Asked,
-  at-reads.Learnt,
-  arms-below t,
-  arms.Post,
-  last-word-reads.Asked,
-  last-word-reads.Learnt,
-  expect-reads.Asked,
-  expect-reads.Learnt,
-  last-reads.Asked,
-  last-reads.Learnt,
-  add-choice-reads.Asked,
-  add-choice-reads.Learnt,
-) (choice-at t) choice.Post
+choice-at-requires : (t : ℕ) → choice-lts.Need-at-requires (choice-calls t) (choice-at t) choice.Post
 choice-at-requires t c κs = search needs
 
-choice-arms-requires : (t : ℕ) → choice-lts.Need-arms-requires (
-  take-reads.Asked,
-  take-reads.Learnt,
-  start-below t,
-  start.Post,
-  at-reads.Asked,
-  at-reads.Learnt,
-  arms-below t,
-  arms.Post,
-  last-word-reads.Asked,
-  last-word-reads.Learnt,
-  expect-reads.Asked,
-  expect-reads.Learnt,
-  last-reads.Asked,
-  last-reads.Learnt,
-  add-choice-reads.Asked,
-  add-choice-reads.Learnt,
-) (choice-at t) choice.Post
+choice-arms-requires : (t : ℕ) → choice-lts.Need-arms-requires (choice-calls t) (choice-at t) choice.Post
 choice-arms-requires t c κs =
     let p = c .before .before .before .before .before .before .before .before .before .take .ensures .done (c .before .before .before .before .before .before .before .enum-told .given .1) in let g : c .before .before .before .before .before .before .before .before .before .take .result .state .nesting ≡ suc (c .before .before .before .before .before .before .before .before .before .before .before .args .s .nesting) = ap (λ (k : Counts). k .nesting) (p .counts) in let d : c .before .before .before .before .before .before .before .before .before .take .result .state .nesting ≤ 24 = p .deep in let h : c .before .at .result .nesting ≡ c .before .before .before .before .before .before .before .before .before .take .result .state .nesting = ap (λ (q : State). q .nesting) (c .before .at .ensures) in search needs
 
-choice-enum-told-3 : (t : ℕ) → choice-lts.Need-enum-told-3 (
-  take-reads.Asked,
-  take-reads.Learnt,
-  start-below t,
-  start.Post,
-  at-reads.Asked,
-  at-reads.Learnt,
-  arms-below t,
-  arms.Post,
-  last-word-reads.Asked,
-  last-word-reads.Learnt,
-  expect-reads.Asked,
-  expect-reads.Learnt,
-  last-reads.Asked,
-  last-reads.Learnt,
-  add-choice-reads.Asked,
-  add-choice-reads.Learnt,
-) (choice-at t) choice.Post
+choice-enum-told-3 : (t : ℕ) → choice-lts.Need-enum-told-3 (choice-calls t) (choice-at t) choice.Post
 choice-enum-told-3 t c = search needs
 
-choice-returns-3 : (t : ℕ) → choice-lts.Need-returns-3 (
-  take-reads.Asked,
-  take-reads.Learnt,
-  start-below t,
-  start.Post,
-  at-reads.Asked,
-  at-reads.Learnt,
-  arms-below t,
-  arms.Post,
-  last-word-reads.Asked,
-  last-word-reads.Learnt,
-  expect-reads.Asked,
-  expect-reads.Learnt,
-  last-reads.Asked,
-  last-reads.Learnt,
-  add-choice-reads.Asked,
-  add-choice-reads.Learnt,
-) (choice-at t) choice.Post
+choice-returns-3 : (t : ℕ) → choice-lts.Need-returns-3 (choice-calls t) (choice-at t) choice.Post
 choice-returns-3 t c =
     λ e. branches-not (c .before .before .before .before .before .before .before .before .before .before .before .before .before .before .args .case) e (c .before .before .before .before .before .before .before .before .before .before .before .before .take .ensures) (c .before .before .before .before .before .before .before .before .before .before .enum-told .given .1) (c .before .before .before .before .before .before .before .start .ensures) (c .before .before .before .before .before .enum-told2 .given .1) (c .before .before .before .before .at .ensures) (c .before .before .arms .ensures) (not-done (c .match3 .keys2))
 
-
-choice-last-word-requires : (t : ℕ) → choice-lts.Need-last-word-requires (
-  take-reads.Asked,
-  take-reads.Learnt,
-  start-below t,
-  start.Post,
-  at-reads.Asked,
-  at-reads.Learnt,
-  arms-below t,
-  arms.Post,
-  last-word-reads.Asked,
-  last-word-reads.Learnt,
-  expect-reads.Asked,
-  expect-reads.Learnt,
-  last-reads.Asked,
-  last-reads.Learnt,
-  add-choice-reads.Asked,
-  add-choice-reads.Learnt,
-) (choice-at t) choice.Post
+choice-last-word-requires : (t : ℕ) → choice-lts.Need-last-word-requires (choice-calls t) (choice-at t) choice.Post
 choice-last-word-requires t c κs = search needs
 
-choice-expect-requires : (t : ℕ) → choice-lts.Need-expect-requires (
-  take-reads.Asked,
-  take-reads.Learnt,
-  start-below t,
-  start.Post,
-  at-reads.Asked,
-  at-reads.Learnt,
-  arms-below t,
-  arms.Post,
-  last-word-reads.Asked,
-  last-word-reads.Learnt,
-  expect-reads.Asked,
-  expect-reads.Learnt,
-  last-reads.Asked,
-  last-reads.Learnt,
-  add-choice-reads.Asked,
-  add-choice-reads.Learnt,
-) (choice-at t) choice.Post
+choice-expect-requires : (t : ℕ) → choice-lts.Need-expect-requires (choice-calls t) (choice-at t) choice.Post
 choice-expect-requires t c κs = search needs
 
-choice-enum-told-4 : (t : ℕ) → choice-lts.Need-enum-told-4 (
-  take-reads.Asked,
-  take-reads.Learnt,
-  start-below t,
-  start.Post,
-  at-reads.Asked,
-  at-reads.Learnt,
-  arms-below t,
-  arms.Post,
-  last-word-reads.Asked,
-  last-word-reads.Learnt,
-  expect-reads.Asked,
-  expect-reads.Learnt,
-  last-reads.Asked,
-  last-reads.Learnt,
-  add-choice-reads.Asked,
-  add-choice-reads.Learnt,
-) (choice-at t) choice.Post
+choice-enum-told-4 : (t : ℕ) → choice-lts.Need-enum-told-4 (choice-calls t) (choice-at t) choice.Post
 choice-enum-told-4 t c = search needs
 
-choice-returns-4 : (t : ℕ) → choice-lts.Need-returns-4 (
-  take-reads.Asked,
-  take-reads.Learnt,
-  start-below t,
-  start.Post,
-  at-reads.Asked,
-  at-reads.Learnt,
-  arms-below t,
-  arms.Post,
-  last-word-reads.Asked,
-  last-word-reads.Learnt,
-  expect-reads.Asked,
-  expect-reads.Learnt,
-  last-reads.Asked,
-  last-reads.Learnt,
-  add-choice-reads.Asked,
-  add-choice-reads.Learnt,
-) (choice-at t) choice.Post
+choice-returns-4 : (t : ℕ) → choice-lts.Need-returns-4 (choice-calls t) (choice-at t) choice.Post
 choice-returns-4 t c =
     λ e. last-not (c .before .before .before .before .before .before .before .before .before .before .before .before .before .before .before .before .before .before .args .case) e (c .before .before .before .before .before .before .before .before .before .before .before .before .before .before .before .before .take .ensures) (c .before .before .before .before .before .before .before .before .before .before .before .before .before .before .enum-told .given .1) (c .before .before .before .before .before .before .before .before .before .before .before .start .ensures) (c .before .before .before .before .before .before .before .before .before .enum-told2 .given .1) (c .before .before .before .before .before .before .before .before .at .ensures) (c .before .before .before .before .before .before .arms .ensures) (c .before .before .before .enum-told3 .given .1) (c .before .before .last-word .ensures) (c .before .expect .ensures) (not-done (c .match4 .keys2))
 
-
-choice-last-requires : (t : ℕ) → choice-lts.Need-last-requires (
-  take-reads.Asked,
-  take-reads.Learnt,
-  start-below t,
-  start.Post,
-  at-reads.Asked,
-  at-reads.Learnt,
-  arms-below t,
-  arms.Post,
-  last-word-reads.Asked,
-  last-word-reads.Learnt,
-  expect-reads.Asked,
-  expect-reads.Learnt,
-  last-reads.Asked,
-  last-reads.Learnt,
-  add-choice-reads.Asked,
-  add-choice-reads.Learnt,
-) (choice-at t) choice.Post
+choice-last-requires : (t : ℕ) → choice-lts.Need-last-requires (choice-calls t) (choice-at t) choice.Post
 choice-last-requires t c κs = search needs
 
-choice-add-choice-requires : (t : ℕ) → choice-lts.Need-add-choice-requires (
-  take-reads.Asked,
-  take-reads.Learnt,
-  start-below t,
-  start.Post,
-  at-reads.Asked,
-  at-reads.Learnt,
-  arms-below t,
-  arms.Post,
-  last-word-reads.Asked,
-  last-word-reads.Learnt,
-  expect-reads.Asked,
-  expect-reads.Learnt,
-  last-reads.Asked,
-  last-reads.Learnt,
-  add-choice-reads.Asked,
-  add-choice-reads.Learnt,
-) (choice-at t) choice.Post
+choice-add-choice-requires : (t : ℕ) → choice-lts.Need-add-choice-requires (choice-calls t) (choice-at t) choice.Post
 choice-add-choice-requires t c κs = search needs
 
-choice-returns-5 : (t : ℕ) → choice-lts.Need-returns-5 (
-  take-reads.Asked,
-  take-reads.Learnt,
-  start-below t,
-  start.Post,
-  at-reads.Asked,
-  at-reads.Learnt,
-  arms-below t,
-  arms.Post,
-  last-word-reads.Asked,
-  last-word-reads.Learnt,
-  expect-reads.Asked,
-  expect-reads.Learnt,
-  last-reads.Asked,
-  last-reads.Learnt,
-  add-choice-reads.Asked,
-  add-choice-reads.Learnt,
-) (choice-at t) choice.Post
+choice-returns-5 : (t : ℕ) → choice-lts.Need-returns-5 (choice-calls t) (choice-at t) choice.Post
 choice-returns-5 t c =
     λ e. choice-says (c .before .before .before .before .before .before .before .before .before .before .before .before .before .before .before .before .before .before .before .before .before .before .args .case) e (c .before .before .before .before .before .before .before .before .before .before .before .before .before .before .before .before .before .before .before .before .take .ensures) (c .before .before .before .before .before .before .before .before .before .before .before .before .before .before .before .before .before .before .enum-told .given .1) (c .before .before .before .before .before .before .before .before .before .before .before .before .before .before .before .start .ensures) (c .before .before .before .before .before .before .before .before .before .before .before .before .before .enum-told2 .given .1) (c .before .before .before .before .before .before .before .before .before .before .before .before .at .ensures) (c .before .before .before .before .before .before .before .before .before .before .arms .ensures) (c .before .before .before .before .before .before .before .enum-told3 .given .1) (c .before .before .before .before .before .before .last-word .ensures) (c .before .before .before .before .before .expect .ensures) (c .before .before .before .enum-told4 .given .1) (c .before .before .last .ensures) (c .add-choice .ensures)
 
-
-first-arm-expect-requires : (t : ℕ) → first-arm-lts.Need-expect-requires (
-  expect-reads.Asked,
-  expect-reads.Learnt,
-  at-reads.Asked,
-  at-reads.Learnt,
-  start-below t,
-  start.Post,
-  add-first-arm-reads.Asked,
-  add-first-arm-reads.Learnt,
-) (first-arm-at t) first-arm.Post
+first-arm-expect-requires : (t : ℕ) → first-arm-lts.Need-expect-requires (first-arm-calls t) (first-arm-at t) first-arm.Post
 first-arm-expect-requires t c κs = search needs
 
-first-arm-enum-told : (t : ℕ) → first-arm-lts.Need-enum-told (
-  expect-reads.Asked,
-  expect-reads.Learnt,
-  at-reads.Asked,
-  at-reads.Learnt,
-  start-below t,
-  start.Post,
-  add-first-arm-reads.Asked,
-  add-first-arm-reads.Learnt,
-) (first-arm-at t) first-arm.Post
+first-arm-enum-told : (t : ℕ) → first-arm-lts.Need-enum-told (first-arm-calls t) (first-arm-at t) first-arm.Post
 first-arm-enum-told t c = search needs
 
-first-arm-returns : (t : ℕ) → first-arm-lts.Need-returns (
-  expect-reads.Asked,
-  expect-reads.Learnt,
-  at-reads.Asked,
-  at-reads.Learnt,
-  start-below t,
-  start.Post,
-  add-first-arm-reads.Asked,
-  add-first-arm-reads.Learnt,
-) (first-arm-at t) first-arm.Post
+first-arm-returns : (t : ℕ) → first-arm-lts.Need-returns (first-arm-calls t) (first-arm-at t) first-arm.Post
 first-arm-returns t c =
     first-not (c .before .expect .ensures) (not-done (c .match .keys2))
 
-
-first-arm-at-requires : (t : ℕ) → first-arm-lts.Need-at-requires (
-  expect-reads.Asked,
-  expect-reads.Learnt,
-  at-reads.Asked,
-  at-reads.Learnt,
-  start-below t,
-  start.Post,
-  add-first-arm-reads.Asked,
-  add-first-arm-reads.Learnt,
-) (first-arm-at t) first-arm.Post
+first-arm-at-requires : (t : ℕ) → first-arm-lts.Need-at-requires (first-arm-calls t) (first-arm-at t) first-arm.Post
 first-arm-at-requires t c κs = search needs
 
-first-arm-start-requires : (t : ℕ) → first-arm-lts.Need-start-requires (
-  expect-reads.Asked,
-  expect-reads.Learnt,
-  at-reads.Asked,
-  at-reads.Learnt,
-  start-below t,
-  start.Post,
-  add-first-arm-reads.Asked,
-  add-first-arm-reads.Learnt,
-) (first-arm-at t) first-arm.Post
+first-arm-start-requires : (t : ℕ) → first-arm-lts.Need-start-requires (first-arm-calls t) (first-arm-at t) first-arm.Post
 first-arm-start-requires t c κs =
     let h : c .before .at .result .nesting ≡ c .before .before .before .before .before .before .args .s .nesting = ap (λ (q : State). q .nesting) (c .before .at .ensures) in search needs
 
-first-arm-enum-told-2 : (t : ℕ) → first-arm-lts.Need-enum-told-2 (
-  expect-reads.Asked,
-  expect-reads.Learnt,
-  at-reads.Asked,
-  at-reads.Learnt,
-  start-below t,
-  start.Post,
-  add-first-arm-reads.Asked,
-  add-first-arm-reads.Learnt,
-) (first-arm-at t) first-arm.Post
+first-arm-enum-told-2 : (t : ℕ) → first-arm-lts.Need-enum-told-2 (first-arm-calls t) (first-arm-at t) first-arm.Post
 first-arm-enum-told-2 t c = search needs
 
-first-arm-returns-2 : (t : ℕ) → first-arm-lts.Need-returns-2 (
-  expect-reads.Asked,
-  expect-reads.Learnt,
-  at-reads.Asked,
-  at-reads.Learnt,
-  start-below t,
-  start.Post,
-  add-first-arm-reads.Asked,
-  add-first-arm-reads.Learnt,
-) (first-arm-at t) first-arm.Post
+first-arm-returns-2 : (t : ℕ) → first-arm-lts.Need-returns-2 (first-arm-calls t) (first-arm-at t) first-arm.Post
 first-arm-returns-2 t c =
     first-inner (c .before .before .before .before .before .before .expect .ensures) (c .before .before .before .before .enum-told .given .1) (c .before .before .before .at .ensures) (c .before .start .ensures) (not-done (c .match2 .keys2))
 
-
-first-arm-add-first-arm-requires : (t : ℕ) → first-arm-lts.Need-add-first-arm-requires (
-  expect-reads.Asked,
-  expect-reads.Learnt,
-  at-reads.Asked,
-  at-reads.Learnt,
-  start-below t,
-  start.Post,
-  add-first-arm-reads.Asked,
-  add-first-arm-reads.Learnt,
-) (first-arm-at t) first-arm.Post
+first-arm-add-first-arm-requires : (t : ℕ) → first-arm-lts.Need-add-first-arm-requires (first-arm-calls t) (first-arm-at t) first-arm.Post
 first-arm-add-first-arm-requires t c κs = search needs
 
-first-arm-returns-3 : (t : ℕ) → first-arm-lts.Need-returns-3 (
-  expect-reads.Asked,
-  expect-reads.Learnt,
-  at-reads.Asked,
-  at-reads.Learnt,
-  start-below t,
-  start.Post,
-  add-first-arm-reads.Asked,
-  add-first-arm-reads.Learnt,
-) (first-arm-at t) first-arm.Post
+first-arm-returns-3 : (t : ℕ) → first-arm-lts.Need-returns-3 (first-arm-calls t) (first-arm-at t) first-arm.Post
 first-arm-returns-3 t c =
     first-says (c .before .before .before .before .before .before .before .before .before .expect .ensures) (c .before .before .before .before .before .before .before .enum-told .given .1) (c .before .before .before .before .before .before .at .ensures) (c .before .before .before .before .start .ensures) (c .before .before .enum-told2 .given .1) (c .add-first-arm .ensures)
 
-
-group-take-requires : (t : ℕ) → group-lts.Need-take-requires (
-  take-reads.Asked,
-  take-reads.Learnt,
-  start-below t,
-  start.Post,
-  expect-reads.Asked,
-  expect-reads.Learnt,
-) (group-at t) group.Post
+group-take-requires : (t : ℕ) → group-lts.Need-take-requires (group-calls t) (group-at t) group.Post
 group-take-requires t c κs = search needs
 
-group-enum-told : (t : ℕ) → group-lts.Need-enum-told (
-  take-reads.Asked,
-  take-reads.Learnt,
-  start-below t,
-  start.Post,
-  expect-reads.Asked,
-  expect-reads.Learnt,
-) (group-at t) group.Post
+group-enum-told : (t : ℕ) → group-lts.Need-enum-told (group-calls t) (group-at t) group.Post
 group-enum-told t c = search needs
 
-group-returns : (t : ℕ) → group-lts.Need-returns (
-  take-reads.Asked,
-  take-reads.Learnt,
-  start-below t,
-  start.Post,
-  expect-reads.Asked,
-  expect-reads.Learnt,
-) (group-at t) group.Post
+group-returns : (t : ℕ) → group-lts.Need-returns (group-calls t) (group-at t) group.Post
 group-returns t c =
     λ e. group-not e (c .before .take .ensures) (not-done (c .match .keys2))
 
-
-group-start-requires : (t : ℕ) → group-lts.Need-start-requires (
-  take-reads.Asked,
-  take-reads.Learnt,
-  start-below t,
-  start.Post,
-  expect-reads.Asked,
-  expect-reads.Learnt,
-) (group-at t) group.Post
+group-start-requires : (t : ℕ) → group-lts.Need-start-requires (group-calls t) (group-at t) group.Post
 group-start-requires t c κs =
     let p = c .before .before .before .before .before .take .ensures .done (c .before .before .before .enum-told .given .1) in let g : c .before .before .before .before .before .take .result .state .nesting ≡ suc (c .before .before .before .before .before .before .before .args .s .nesting) = ap (λ (k : Counts). k .nesting) (p .counts) in let d : c .before .before .before .before .before .take .result .state .nesting ≤ 24 = p .deep in search needs
 
-group-enum-told-2 : (t : ℕ) → group-lts.Need-enum-told-2 (
-  take-reads.Asked,
-  take-reads.Learnt,
-  start-below t,
-  start.Post,
-  expect-reads.Asked,
-  expect-reads.Learnt,
-) (group-at t) group.Post
+group-enum-told-2 : (t : ℕ) → group-lts.Need-enum-told-2 (group-calls t) (group-at t) group.Post
 group-enum-told-2 t c = search needs
 
-group-returns-2 : (t : ℕ) → group-lts.Need-returns-2 (
-  take-reads.Asked,
-  take-reads.Learnt,
-  start-below t,
-  start.Post,
-  expect-reads.Asked,
-  expect-reads.Learnt,
-) (group-at t) group.Post
+group-returns-2 : (t : ℕ) → group-lts.Need-returns-2 (group-calls t) (group-at t) group.Post
 group-returns-2 t c =
     λ e. inner-not e (c .before .before .before .before .before .before .before .take .ensures) (c .before .before .before .before .before .enum-told .given .1) (c .before .start .ensures) (not-done (c .match2 .keys2))
 
-
-group-expect-requires : (t : ℕ) → group-lts.Need-expect-requires (
-  take-reads.Asked,
-  take-reads.Learnt,
-  start-below t,
-  start.Post,
-  expect-reads.Asked,
-  expect-reads.Learnt,
-) (group-at t) group.Post
+group-expect-requires : (t : ℕ) → group-lts.Need-expect-requires (group-calls t) (group-at t) group.Post
 group-expect-requires t c κs = search needs
 
-group-returns-3 : (t : ℕ) → group-lts.Need-returns-3 (
-  take-reads.Asked,
-  take-reads.Learnt,
-  start-below t,
-  start.Post,
-  expect-reads.Asked,
-  expect-reads.Learnt,
-) (group-at t) group.Post
+group-returns-3 : (t : ℕ) → group-lts.Need-returns-3 (group-calls t) (group-at t) group.Post
 group-returns-3 t c =
     λ e. group-says e (c .before .before .before .before .before .before .before .before .before .before .before .take .ensures) (c .before .before .before .before .before .before .before .before .before .enum-told .given .1) (c .before .before .before .before .before .start .ensures) (c .before .before .before .enum-told2 .given .1) (c .expect .ensures)
 
-
-inside-number-requires : (t : ℕ) → inside-lts.Need-number-requires (
-  number-reads.Asked,
-  number-reads.Learnt,
-  take-reads.Asked,
-  take-reads.Learnt,
-  counted-reads.Asked,
-  counted-reads.Learnt,
-  at-reads.Asked,
-  at-reads.Learnt,
-  rest-below t,
-  rest.Post,
-  start-below t,
-  start.Post,
-) (inside-at t) inside.Post
+inside-number-requires : (t : ℕ) → inside-lts.Need-number-requires (inside-calls t) (inside-at t) inside.Post
 inside-number-requires t c κs = search needs
 
-inside-take-requires : (t : ℕ) → inside-lts.Need-take-requires (
-  number-reads.Asked,
-  number-reads.Learnt,
-  take-reads.Asked,
-  take-reads.Learnt,
-  counted-reads.Asked,
-  counted-reads.Learnt,
-  at-reads.Asked,
-  at-reads.Learnt,
-  rest-below t,
-  rest.Post,
-  start-below t,
-  start.Post,
-) (inside-at t) inside.Post
+inside-take-requires : (t : ℕ) → inside-lts.Need-take-requires (inside-calls t) (inside-at t) inside.Post
 inside-take-requires t c κs = search needs
 
-inside-enum-told : (t : ℕ) → inside-lts.Need-enum-told (
-  number-reads.Asked,
-  number-reads.Learnt,
-  take-reads.Asked,
-  take-reads.Learnt,
-  counted-reads.Asked,
-  counted-reads.Learnt,
-  at-reads.Asked,
-  at-reads.Learnt,
-  rest-below t,
-  rest.Post,
-  start-below t,
-  start.Post,
-) (inside-at t) inside.Post
+inside-enum-told : (t : ℕ) → inside-lts.Need-enum-told (inside-calls t) (inside-at t) inside.Post
 inside-enum-told t c = search needs
 
-inside-returns : (t : ℕ) → inside-lts.Need-returns (
-  number-reads.Asked,
-  number-reads.Learnt,
-  take-reads.Asked,
-  take-reads.Learnt,
-  counted-reads.Asked,
-  counted-reads.Learnt,
-  at-reads.Asked,
-  at-reads.Learnt,
-  rest-below t,
-  rest.Post,
-  start-below t,
-  start.Post,
-) (inside-at t) inside.Post
+inside-returns : (t : ℕ) → inside-lts.Need-returns (inside-calls t) (inside-at t) inside.Post
 inside-returns t c =
     inside-not (c .before .before .before .before .before .args .later) (sym (c .before .before .before .number .ensures) ∙ c .before .before .if1 .taken) (c .before .take .ensures) (not-done (c .match .keys2))
 
-
-inside-counted-requires : (t : ℕ) → inside-lts.Need-counted-requires (
-  number-reads.Asked,
-  number-reads.Learnt,
-  take-reads.Asked,
-  take-reads.Learnt,
-  counted-reads.Asked,
-  counted-reads.Learnt,
-  at-reads.Asked,
-  at-reads.Learnt,
-  rest-below t,
-  rest.Post,
-  start-below t,
-  start.Post,
-) (inside-at t) inside.Post
+inside-counted-requires : (t : ℕ) → inside-lts.Need-counted-requires (inside-calls t) (inside-at t) inside.Post
 inside-counted-requires t c κs = search needs
 
-inside-enum-told-2 : (t : ℕ) → inside-lts.Need-enum-told-2 (
-  number-reads.Asked,
-  number-reads.Learnt,
-  take-reads.Asked,
-  take-reads.Learnt,
-  counted-reads.Asked,
-  counted-reads.Learnt,
-  at-reads.Asked,
-  at-reads.Learnt,
-  rest-below t,
-  rest.Post,
-  start-below t,
-  start.Post,
-) (inside-at t) inside.Post
+inside-enum-told-2 : (t : ℕ) → inside-lts.Need-enum-told-2 (inside-calls t) (inside-at t) inside.Post
 inside-enum-told-2 t c = search needs
 
-inside-returns-2 : (t : ℕ) → inside-lts.Need-returns-2 (
-  number-reads.Asked,
-  number-reads.Learnt,
-  take-reads.Asked,
-  take-reads.Learnt,
-  counted-reads.Asked,
-  counted-reads.Learnt,
-  at-reads.Asked,
-  at-reads.Learnt,
-  rest-below t,
-  rest.Post,
-  start-below t,
-  start.Post,
-) (inside-at t) inside.Post
+inside-returns-2 : (t : ℕ) → inside-lts.Need-returns-2 (inside-calls t) (inside-at t) inside.Post
 inside-returns-2 t c =
     counted-not (c .before .before .before .before .before .before .before .before .before .args .later) (sym (c .before .before .before .before .before .before .before .number .ensures) ∙ c .before .before .before .before .before .before .if1 .taken) (c .before .before .before .before .before .take .ensures) (c .before .before .before .enum-told .given .1) (c .before .counted .ensures) (not-done (c .match2 .keys2))
 
-
-inside-at-requires : (t : ℕ) → inside-lts.Need-at-requires (
-  number-reads.Asked,
-  number-reads.Learnt,
-  take-reads.Asked,
-  take-reads.Learnt,
-  counted-reads.Asked,
-  counted-reads.Learnt,
-  at-reads.Asked,
-  at-reads.Learnt,
-  rest-below t,
-  rest.Post,
-  start-below t,
-  start.Post,
-) (inside-at t) inside.Post
+inside-at-requires : (t : ℕ) → inside-lts.Need-at-requires (inside-calls t) (inside-at t) inside.Post
 inside-at-requires t c κs = search needs
 
-inside-rest-requires : (t : ℕ) → inside-lts.Need-rest-requires (
-  number-reads.Asked,
-  number-reads.Learnt,
-  take-reads.Asked,
-  take-reads.Learnt,
-  counted-reads.Asked,
-  counted-reads.Learnt,
-  at-reads.Asked,
-  at-reads.Learnt,
-  rest-below t,
-  rest.Post,
-  start-below t,
-  start.Post,
-) (inside-at t) inside.Post
+inside-rest-requires : (t : ℕ) → inside-lts.Need-rest-requires (inside-calls t) (inside-at t) inside.Post
 inside-rest-requires t c κs =
     let h : c .before .at .result .nesting ≡ c .before .before .before .before .before .before .before .before .before .before .before .before .args .s .nesting = ap (λ (q : State). q .nesting) (c .before .at .ensures) in search needs
 
-inside-returns-3 : (t : ℕ) → inside-lts.Need-returns-3 (
-  number-reads.Asked,
-  number-reads.Learnt,
-  take-reads.Asked,
-  take-reads.Learnt,
-  counted-reads.Asked,
-  counted-reads.Learnt,
-  at-reads.Asked,
-  at-reads.Learnt,
-  rest-below t,
-  rest.Post,
-  start-below t,
-  start.Post,
-) (inside-at t) inside.Post
+inside-returns-3 : (t : ℕ) → inside-lts.Need-returns-3 (inside-calls t) (inside-at t) inside.Post
 inside-returns-3 t c =
     inside-says (c .before .before .before .before .before .before .before .before .before .before .before .before .before .args .later) (sym (c .before .before .before .before .before .before .before .before .before .before .before .number .ensures) ∙ c .before .before .before .before .before .before .before .before .before .before .if1 .taken) (c .before .before .before .before .before .before .before .before .before .take .ensures) (c .before .before .before .before .before .before .before .enum-told .given .1) (c .before .before .before .before .before .counted .ensures) (c .before .before .before .enum-told2 .given .1) (c .before .before .at .ensures) (c .rest .ensures)
 
-
-inside-start-requires : (t : ℕ) → inside-lts.Need-start-requires (
-  number-reads.Asked,
-  number-reads.Learnt,
-  take-reads.Asked,
-  take-reads.Learnt,
-  counted-reads.Asked,
-  counted-reads.Learnt,
-  at-reads.Asked,
-  at-reads.Learnt,
-  rest-below t,
-  rest.Post,
-  start-below t,
-  start.Post,
-) (inside-at t) inside.Post
+inside-start-requires : (t : ℕ) → inside-lts.Need-start-requires (inside-calls t) (inside-at t) inside.Post
 inside-start-requires t c κs = search needs
 
-inside-returns-4 : (t : ℕ) → inside-lts.Need-returns-4 (
-  number-reads.Asked,
-  number-reads.Learnt,
-  take-reads.Asked,
-  take-reads.Learnt,
-  counted-reads.Asked,
-  counted-reads.Learnt,
-  at-reads.Asked,
-  at-reads.Learnt,
-  rest-below t,
-  rest.Post,
-  start-below t,
-  start.Post,
-) (inside-at t) inside.Post
+inside-returns-4 : (t : ℕ) → inside-lts.Need-returns-4 (inside-calls t) (inside-at t) inside.Post
 inside-returns-4 t c =
     inside-expression (c .before .before .before .before .before .args .later) (λ e. c .before .before .if1 .left (c .before .before .before .number .ensures ∙ e)) (c .start .ensures)
-
 
 abbrev more-arms-Inv-loop : more-arms-lts.InvT-loop
 more-arms-Inv-loop s case n text work₀ state₀ next₀ count₀ left₀ work state next count left = Armings case text next₀ s work₀ n next state work count left
@@ -1245,2256 +543,442 @@ more-arms-Inv-loop s case n text work₀ state₀ next₀ count₀ left₀ work 
 abbrev more-arms-μ-loop : more-arms-lts.MeasureT-loop
 more-arms-μ-loop s case n text work₀ state₀ next₀ count₀ left₀ work state next count left = left
 
-more-arms-loop-holds : (t : ℕ) → more-arms-lts.Need-loop-holds (
-  another-reads.Asked,
-  another-reads.Learnt,
-  at-reads.Asked,
-  at-reads.Learnt,
-  next-arm-below t,
-  next-arm.Post,
-  one-more-reads.Asked,
-  one-more-reads.Learnt,
-  stay-reads.Asked,
-  stay-reads.Learnt,
-  full-reads.Asked,
-  full-reads.Learnt,
-) (more-arms-at t) more-arms.Post more-arms-Inv-loop more-arms-μ-loop
+more-arms-loop-holds : (t : ℕ) → more-arms-lts.Need-loop-holds (more-arms-calls t) (more-arms-at t) more-arms.Post more-arms-Inv-loop more-arms-μ-loop
 more-arms-loop-holds t c =
     armings-begin (c .before .args .case)
 
-
-more-arms-another-requires : (t : ℕ) → more-arms-lts.Need-another-requires (
-  another-reads.Asked,
-  another-reads.Learnt,
-  at-reads.Asked,
-  at-reads.Learnt,
-  next-arm-below t,
-  next-arm.Post,
-  one-more-reads.Asked,
-  one-more-reads.Learnt,
-  stay-reads.Asked,
-  stay-reads.Learnt,
-  full-reads.Asked,
-  full-reads.Learnt,
-) (more-arms-at t) more-arms.Post more-arms-Inv-loop more-arms-μ-loop
+more-arms-another-requires : (t : ℕ) → more-arms-lts.Need-another-requires (more-arms-calls t) (more-arms-at t) more-arms.Post more-arms-Inv-loop more-arms-μ-loop
 more-arms-another-requires t c κs = search needs
 
-more-arms-at-requires : (t : ℕ) → more-arms-lts.Need-at-requires (
-  another-reads.Asked,
-  another-reads.Learnt,
-  at-reads.Asked,
-  at-reads.Learnt,
-  next-arm-below t,
-  next-arm.Post,
-  one-more-reads.Asked,
-  one-more-reads.Learnt,
-  stay-reads.Asked,
-  stay-reads.Learnt,
-  full-reads.Asked,
-  full-reads.Learnt,
-) (more-arms-at t) more-arms.Post more-arms-Inv-loop more-arms-μ-loop
+more-arms-at-requires : (t : ℕ) → more-arms-lts.Need-at-requires (more-arms-calls t) (more-arms-at t) more-arms.Post more-arms-Inv-loop more-arms-μ-loop
 more-arms-at-requires t c κs = search needs
 
-more-arms-next-arm-requires : (t : ℕ) → more-arms-lts.Need-next-arm-requires (
-  another-reads.Asked,
-  another-reads.Learnt,
-  at-reads.Asked,
-  at-reads.Learnt,
-  next-arm-below t,
-  next-arm.Post,
-  one-more-reads.Asked,
-  one-more-reads.Learnt,
-  stay-reads.Asked,
-  stay-reads.Learnt,
-  full-reads.Asked,
-  full-reads.Learnt,
-) (more-arms-at t) more-arms.Post more-arms-Inv-loop more-arms-μ-loop
+more-arms-next-arm-requires : (t : ℕ) → more-arms-lts.Need-next-arm-requires (more-arms-calls t) (more-arms-at t) more-arms.Post more-arms-Inv-loop more-arms-μ-loop
 more-arms-next-arm-requires t c κs =
     let h : c .before .at .result .nesting ≡ c .before .before .before .before .before .before .before .args .s .nesting = ap (λ (q : State). q .nesting) (c .before .at .ensures) in search needs
 
-more-arms-enum-told : (t : ℕ) → more-arms-lts.Need-enum-told (
-  another-reads.Asked,
-  another-reads.Learnt,
-  at-reads.Asked,
-  at-reads.Learnt,
-  next-arm-below t,
-  next-arm.Post,
-  one-more-reads.Asked,
-  one-more-reads.Learnt,
-  stay-reads.Asked,
-  stay-reads.Learnt,
-  full-reads.Asked,
-  full-reads.Learnt,
-) (more-arms-at t) more-arms.Post more-arms-Inv-loop more-arms-μ-loop
+more-arms-enum-told : (t : ℕ) → more-arms-lts.Need-enum-told (more-arms-calls t) (more-arms-at t) more-arms.Post more-arms-Inv-loop more-arms-μ-loop
 more-arms-enum-told t c = search needs
 
-more-arms-returns : (t : ℕ) → more-arms-lts.Need-returns (
-  another-reads.Asked,
-  another-reads.Learnt,
-  at-reads.Asked,
-  at-reads.Learnt,
-  next-arm-below t,
-  next-arm.Post,
-  one-more-reads.Asked,
-  one-more-reads.Learnt,
-  stay-reads.Asked,
-  stay-reads.Learnt,
-  full-reads.Asked,
-  full-reads.Learnt,
-) (more-arms-at t) more-arms.Post more-arms-Inv-loop more-arms-μ-loop
+more-arms-returns : (t : ℕ) → more-arms-lts.Need-returns (more-arms-calls t) (more-arms-at t) more-arms.Post more-arms-Inv-loop more-arms-μ-loop
 more-arms-returns t c =
     armings-not (c .before .before .before .before .before .before .before .before .before .args .case) (c .before .before .before .before .before .before .before .loop .inv) (sym (c .before .before .before .before .before .another .ensures) ∙ c .before .before .before .before .if1 .taken) (c .before .before .before .at .ensures) (c .before .next-arm .ensures) (not-done (c .match .keys2))
 
-
-more-arms-one-more-requires : (t : ℕ) → more-arms-lts.Need-one-more-requires (
-  another-reads.Asked,
-  another-reads.Learnt,
-  at-reads.Asked,
-  at-reads.Learnt,
-  next-arm-below t,
-  next-arm.Post,
-  one-more-reads.Asked,
-  one-more-reads.Learnt,
-  stay-reads.Asked,
-  stay-reads.Learnt,
-  full-reads.Asked,
-  full-reads.Learnt,
-) (more-arms-at t) more-arms.Post more-arms-Inv-loop more-arms-μ-loop
+more-arms-one-more-requires : (t : ℕ) → more-arms-lts.Need-one-more-requires (more-arms-calls t) (more-arms-at t) more-arms.Post more-arms-Inv-loop more-arms-μ-loop
 more-arms-one-more-requires t c κs = search needs
 
-more-arms-sub-left : (t : ℕ) → more-arms-lts.Need-sub-left (
-  another-reads.Asked,
-  another-reads.Learnt,
-  at-reads.Asked,
-  at-reads.Learnt,
-  next-arm-below t,
-  next-arm.Post,
-  one-more-reads.Asked,
-  one-more-reads.Learnt,
-  stay-reads.Asked,
-  stay-reads.Learnt,
-  full-reads.Asked,
-  full-reads.Learnt,
-) (more-arms-at t) more-arms.Post more-arms-Inv-loop more-arms-μ-loop
+more-arms-sub-left : (t : ℕ) → more-arms-lts.Need-sub-left (more-arms-calls t) (more-arms-at t) more-arms.Post more-arms-Inv-loop more-arms-μ-loop
 more-arms-sub-left t c = search needs
 
-more-arms-loop-less : (t : ℕ) → more-arms-lts.Need-loop-less (
-  another-reads.Asked,
-  another-reads.Learnt,
-  at-reads.Asked,
-  at-reads.Learnt,
-  next-arm-below t,
-  next-arm.Post,
-  one-more-reads.Asked,
-  one-more-reads.Learnt,
-  stay-reads.Asked,
-  stay-reads.Learnt,
-  full-reads.Asked,
-  full-reads.Learnt,
-) (more-arms-at t) more-arms.Post more-arms-Inv-loop more-arms-μ-loop
+more-arms-loop-less : (t : ℕ) → more-arms-lts.Need-loop-less (more-arms-calls t) (more-arms-at t) more-arms.Post more-arms-Inv-loop more-arms-μ-loop
 more-arms-loop-less t c = search needs
 
-more-arms-loop-again : (t : ℕ) → more-arms-lts.Need-loop-again (
-  another-reads.Asked,
-  another-reads.Learnt,
-  at-reads.Asked,
-  at-reads.Learnt,
-  next-arm-below t,
-  next-arm.Post,
-  one-more-reads.Asked,
-  one-more-reads.Learnt,
-  stay-reads.Asked,
-  stay-reads.Learnt,
-  full-reads.Asked,
-  full-reads.Learnt,
-) (more-arms-at t) more-arms.Post more-arms-Inv-loop more-arms-μ-loop
+more-arms-loop-again : (t : ℕ) → more-arms-lts.Need-loop-again (more-arms-calls t) (more-arms-at t) more-arms.Post more-arms-Inv-loop more-arms-μ-loop
 more-arms-loop-again t c =
     armings-more (c .before .before .before .before .before .before .before .before .before .before .before .before .before .args .case) (c .before .before .before .before .before .before .before .before .before .before .before .loop .inv) (sym (c .before .before .before .before .before .before .before .before .before .another .ensures) ∙ c .before .before .before .before .before .before .before .before .if1 .taken) (c .before .before .before .before .before .before .before .at .ensures) (c .before .before .before .before .before .next-arm .ensures) (c .before .before .before .enum-told .given .1) (c .one-more .ensures) (omega (arith, c .before .before .before .before .before .before .before .before .before .before .loop-test .taken))
 
-
-more-arms-stay-requires : (t : ℕ) → more-arms-lts.Need-stay-requires (
-  another-reads.Asked,
-  another-reads.Learnt,
-  at-reads.Asked,
-  at-reads.Learnt,
-  next-arm-below t,
-  next-arm.Post,
-  one-more-reads.Asked,
-  one-more-reads.Learnt,
-  stay-reads.Asked,
-  stay-reads.Learnt,
-  full-reads.Asked,
-  full-reads.Learnt,
-) (more-arms-at t) more-arms.Post more-arms-Inv-loop more-arms-μ-loop
+more-arms-stay-requires : (t : ℕ) → more-arms-lts.Need-stay-requires (more-arms-calls t) (more-arms-at t) more-arms.Post more-arms-Inv-loop more-arms-μ-loop
 more-arms-stay-requires t c κs = search needs
 
-more-arms-returns-2 : (t : ℕ) → more-arms-lts.Need-returns-2 (
-  another-reads.Asked,
-  another-reads.Learnt,
-  at-reads.Asked,
-  at-reads.Learnt,
-  next-arm-below t,
-  next-arm.Post,
-  one-more-reads.Asked,
-  one-more-reads.Learnt,
-  stay-reads.Asked,
-  stay-reads.Learnt,
-  full-reads.Asked,
-  full-reads.Learnt,
-) (more-arms-at t) more-arms.Post more-arms-Inv-loop more-arms-μ-loop
+more-arms-returns-2 : (t : ℕ) → more-arms-lts.Need-returns-2 (more-arms-calls t) (more-arms-at t) more-arms.Post more-arms-Inv-loop more-arms-μ-loop
 more-arms-returns-2 t c =
     armings-end (c .before .before .before .before .before .before .args .case) (c .before .before .before .before .loop .inv) (sym (c .before .before .another .ensures) ∙ c .before .if1 .left) (c .stay .ensures)
 
-
-more-arms-full-requires : (t : ℕ) → more-arms-lts.Need-full-requires (
-  another-reads.Asked,
-  another-reads.Learnt,
-  at-reads.Asked,
-  at-reads.Learnt,
-  next-arm-below t,
-  next-arm.Post,
-  one-more-reads.Asked,
-  one-more-reads.Learnt,
-  stay-reads.Asked,
-  stay-reads.Learnt,
-  full-reads.Asked,
-  full-reads.Learnt,
-) (more-arms-at t) more-arms.Post more-arms-Inv-loop more-arms-μ-loop
+more-arms-full-requires : (t : ℕ) → more-arms-lts.Need-full-requires (more-arms-calls t) (more-arms-at t) more-arms.Post more-arms-Inv-loop more-arms-μ-loop
 more-arms-full-requires t c κs = search needs
 
-more-arms-returns-3 : (t : ℕ) → more-arms-lts.Need-returns-3 (
-  another-reads.Asked,
-  another-reads.Learnt,
-  at-reads.Asked,
-  at-reads.Learnt,
-  next-arm-below t,
-  next-arm.Post,
-  one-more-reads.Asked,
-  one-more-reads.Learnt,
-  stay-reads.Asked,
-  stay-reads.Learnt,
-  full-reads.Asked,
-  full-reads.Learnt,
-) (more-arms-at t) more-arms.Post more-arms-Inv-loop more-arms-μ-loop
+more-arms-returns-3 : (t : ℕ) → more-arms-lts.Need-returns-3 (more-arms-calls t) (more-arms-at t) more-arms.Post more-arms-Inv-loop more-arms-μ-loop
 more-arms-returns-3 t c =
     armings-full (c .before .before .before .before .args .case) (c .before .before .loop .inv) (c .before .loop-test .left) (c .full .ensures)
 
-
-named-take-requires : (t : ℕ) → named-lts.Need-take-requires (
-  take-reads.Asked,
-  take-reads.Learnt,
-  reference-below t,
-  reference.Post,
-) (named-at t) named.Post
+named-take-requires : (t : ℕ) → named-lts.Need-take-requires (named-calls t) (named-at t) named.Post
 named-take-requires t c κs = search needs
 
-named-enum-told : (t : ℕ) → named-lts.Need-enum-told (
-  take-reads.Asked,
-  take-reads.Learnt,
-  reference-below t,
-  reference.Post,
-) (named-at t) named.Post
+named-enum-told : (t : ℕ) → named-lts.Need-enum-told (named-calls t) (named-at t) named.Post
 named-enum-told t c = search needs
 
-named-returns : (t : ℕ) → named-lts.Need-returns (
-  take-reads.Asked,
-  take-reads.Learnt,
-  reference-below t,
-  reference.Post,
-) (named-at t) named.Post
+named-returns : (t : ℕ) → named-lts.Need-returns (named-calls t) (named-at t) named.Post
 named-returns t c =
     λ e. named-not e (c .before .take .ensures) (not-done (c .match .keys2))
 
-
-named-reference-requires : (t : ℕ) → named-lts.Need-reference-requires (
-  take-reads.Asked,
-  take-reads.Learnt,
-  reference-below t,
-  reference.Post,
-) (named-at t) named.Post
+named-reference-requires : (t : ℕ) → named-lts.Need-reference-requires (named-calls t) (named-at t) named.Post
 named-reference-requires t c κs =
     let p = c .before .before .before .before .before .take .ensures .done (c .before .before .before .enum-told .given .1) in let g : c .before .before .before .before .before .take .result .state .nesting ≡ c .before .before .before .before .before .before .before .args .s .nesting = ap (λ (k : Counts). k .nesting) (p .counts) in search needs
 
-named-returns-2 : (t : ℕ) → named-lts.Need-returns-2 (
-  take-reads.Asked,
-  take-reads.Learnt,
-  reference-below t,
-  reference.Post,
-) (named-at t) named.Post
+named-returns-2 : (t : ℕ) → named-lts.Need-returns-2 (named-calls t) (named-at t) named.Post
 named-returns-2 t c =
     λ e. named-says e (c .before .before .before .before .before .before .take .ensures) (c .before .before .before .before .enum-told .given .1) (c .reference .ensures)
 
-
-next-arm-expect-requires : (t : ℕ) → next-arm-lts.Need-expect-requires (
-  expect-reads.Asked,
-  expect-reads.Learnt,
-  at-reads.Asked,
-  at-reads.Learnt,
-  start-below t,
-  start.Post,
-  last-reads.Asked,
-  last-reads.Learnt,
-  add-next-arm-reads.Asked,
-  add-next-arm-reads.Learnt,
-) (next-arm-at t) next-arm.Post
+next-arm-expect-requires : (t : ℕ) → next-arm-lts.Need-expect-requires (next-arm-calls t) (next-arm-at t) next-arm.Post
 next-arm-expect-requires t c κs = search needs
 
-next-arm-enum-told : (t : ℕ) → next-arm-lts.Need-enum-told (
-  expect-reads.Asked,
-  expect-reads.Learnt,
-  at-reads.Asked,
-  at-reads.Learnt,
-  start-below t,
-  start.Post,
-  last-reads.Asked,
-  last-reads.Learnt,
-  add-next-arm-reads.Asked,
-  add-next-arm-reads.Learnt,
-) (next-arm-at t) next-arm.Post
+next-arm-enum-told : (t : ℕ) → next-arm-lts.Need-enum-told (next-arm-calls t) (next-arm-at t) next-arm.Post
 next-arm-enum-told t c = search needs
 
-next-arm-returns : (t : ℕ) → next-arm-lts.Need-returns (
-  expect-reads.Asked,
-  expect-reads.Learnt,
-  at-reads.Asked,
-  at-reads.Learnt,
-  start-below t,
-  start.Post,
-  last-reads.Asked,
-  last-reads.Learnt,
-  add-next-arm-reads.Asked,
-  add-next-arm-reads.Learnt,
-) (next-arm-at t) next-arm.Post
+next-arm-returns : (t : ℕ) → next-arm-lts.Need-returns (next-arm-calls t) (next-arm-at t) next-arm.Post
 next-arm-returns t c =
     next-not (c .before .expect .ensures) (not-done (c .match .keys2))
 
-
-next-arm-at-requires : (t : ℕ) → next-arm-lts.Need-at-requires (
-  expect-reads.Asked,
-  expect-reads.Learnt,
-  at-reads.Asked,
-  at-reads.Learnt,
-  start-below t,
-  start.Post,
-  last-reads.Asked,
-  last-reads.Learnt,
-  add-next-arm-reads.Asked,
-  add-next-arm-reads.Learnt,
-) (next-arm-at t) next-arm.Post
+next-arm-at-requires : (t : ℕ) → next-arm-lts.Need-at-requires (next-arm-calls t) (next-arm-at t) next-arm.Post
 next-arm-at-requires t c κs = search needs
 
-next-arm-start-requires : (t : ℕ) → next-arm-lts.Need-start-requires (
-  expect-reads.Asked,
-  expect-reads.Learnt,
-  at-reads.Asked,
-  at-reads.Learnt,
-  start-below t,
-  start.Post,
-  last-reads.Asked,
-  last-reads.Learnt,
-  add-next-arm-reads.Asked,
-  add-next-arm-reads.Learnt,
-) (next-arm-at t) next-arm.Post
+next-arm-start-requires : (t : ℕ) → next-arm-lts.Need-start-requires (next-arm-calls t) (next-arm-at t) next-arm.Post
 next-arm-start-requires t c κs =
     let h : c .before .at .result .nesting ≡ c .before .before .before .before .before .before .args .s .nesting = ap (λ (q : State). q .nesting) (c .before .at .ensures) in search needs
 
-next-arm-enum-told-2 : (t : ℕ) → next-arm-lts.Need-enum-told-2 (
-  expect-reads.Asked,
-  expect-reads.Learnt,
-  at-reads.Asked,
-  at-reads.Learnt,
-  start-below t,
-  start.Post,
-  last-reads.Asked,
-  last-reads.Learnt,
-  add-next-arm-reads.Asked,
-  add-next-arm-reads.Learnt,
-) (next-arm-at t) next-arm.Post
+next-arm-enum-told-2 : (t : ℕ) → next-arm-lts.Need-enum-told-2 (next-arm-calls t) (next-arm-at t) next-arm.Post
 next-arm-enum-told-2 t c = search needs
 
-next-arm-returns-2 : (t : ℕ) → next-arm-lts.Need-returns-2 (
-  expect-reads.Asked,
-  expect-reads.Learnt,
-  at-reads.Asked,
-  at-reads.Learnt,
-  start-below t,
-  start.Post,
-  last-reads.Asked,
-  last-reads.Learnt,
-  add-next-arm-reads.Asked,
-  add-next-arm-reads.Learnt,
-) (next-arm-at t) next-arm.Post
+next-arm-returns-2 : (t : ℕ) → next-arm-lts.Need-returns-2 (next-arm-calls t) (next-arm-at t) next-arm.Post
 next-arm-returns-2 t c =
     next-inner (c .before .before .before .before .before .before .expect .ensures) (c .before .before .before .before .enum-told .given .1) (c .before .before .before .at .ensures) (c .before .start .ensures) (not-done (c .match2 .keys2))
 
-
-next-arm-last-requires : (t : ℕ) → next-arm-lts.Need-last-requires (
-  expect-reads.Asked,
-  expect-reads.Learnt,
-  at-reads.Asked,
-  at-reads.Learnt,
-  start-below t,
-  start.Post,
-  last-reads.Asked,
-  last-reads.Learnt,
-  add-next-arm-reads.Asked,
-  add-next-arm-reads.Learnt,
-) (next-arm-at t) next-arm.Post
+next-arm-last-requires : (t : ℕ) → next-arm-lts.Need-last-requires (next-arm-calls t) (next-arm-at t) next-arm.Post
 next-arm-last-requires t c κs = search needs
 
-next-arm-add-next-arm-requires : (t : ℕ) → next-arm-lts.Need-add-next-arm-requires (
-  expect-reads.Asked,
-  expect-reads.Learnt,
-  at-reads.Asked,
-  at-reads.Learnt,
-  start-below t,
-  start.Post,
-  last-reads.Asked,
-  last-reads.Learnt,
-  add-next-arm-reads.Asked,
-  add-next-arm-reads.Learnt,
-) (next-arm-at t) next-arm.Post
+next-arm-add-next-arm-requires : (t : ℕ) → next-arm-lts.Need-add-next-arm-requires (next-arm-calls t) (next-arm-at t) next-arm.Post
 next-arm-add-next-arm-requires t c κs = search needs
 
-next-arm-returns-3 : (t : ℕ) → next-arm-lts.Need-returns-3 (
-  expect-reads.Asked,
-  expect-reads.Learnt,
-  at-reads.Asked,
-  at-reads.Learnt,
-  start-below t,
-  start.Post,
-  last-reads.Asked,
-  last-reads.Learnt,
-  add-next-arm-reads.Asked,
-  add-next-arm-reads.Learnt,
-) (next-arm-at t) next-arm.Post
+next-arm-returns-3 : (t : ℕ) → next-arm-lts.Need-returns-3 (next-arm-calls t) (next-arm-at t) next-arm.Post
 next-arm-returns-3 t c =
     next-says (c .before .before .before .before .before .before .before .before .before .before .expect .ensures) (c .before .before .before .before .before .before .before .before .enum-told .given .1) (c .before .before .before .before .before .before .before .at .ensures) (c .before .before .before .before .before .start .ensures) (c .before .before .before .enum-told2 .given .1) (c .before .before .last .ensures) (c .add-next-arm .ensures)
 
-
-opening-enum-told : (t : ℕ) → opening-lts.Need-enum-told (
-  term-below t,
-  term.Post,
-  take-reads.Asked,
-  take-reads.Learnt,
-  reducing-reads.Asked,
-  reducing-reads.Learnt,
-  at-reads.Asked,
-  at-reads.Learnt,
-  prefixed-reads.Asked,
-  prefixed-reads.Learnt,
-  start-below t,
-  start.Post,
-  add-prefix-reads.Asked,
-  add-prefix-reads.Learnt,
-) (opening-at t) opening.Post
+opening-enum-told : (t : ℕ) → opening-lts.Need-enum-told (opening-calls t) (opening-at t) opening.Post
 opening-enum-told t c = search needs
 
-opening-term-requires : (t : ℕ) → opening-lts.Need-term-requires (
-  term-below t,
-  term.Post,
-  take-reads.Asked,
-  take-reads.Learnt,
-  reducing-reads.Asked,
-  reducing-reads.Learnt,
-  at-reads.Asked,
-  at-reads.Learnt,
-  prefixed-reads.Asked,
-  prefixed-reads.Learnt,
-  start-below t,
-  start.Post,
-  add-prefix-reads.Asked,
-  add-prefix-reads.Learnt,
-) (opening-at t) opening.Post
+opening-term-requires : (t : ℕ) → opening-lts.Need-term-requires (opening-calls t) (opening-at t) opening.Post
 opening-term-requires t c κs = search needs
 
-opening-returns : (t : ℕ) → opening-lts.Need-returns (
-  term-below t,
-  term.Post,
-  take-reads.Asked,
-  take-reads.Learnt,
-  reducing-reads.Asked,
-  reducing-reads.Learnt,
-  at-reads.Asked,
-  at-reads.Learnt,
-  prefixed-reads.Asked,
-  prefixed-reads.Learnt,
-  start-below t,
-  start.Post,
-  add-prefix-reads.Asked,
-  add-prefix-reads.Learnt,
-) (opening-at t) opening.Post
+opening-returns : (t : ℕ) → opening-lts.Need-returns (opening-calls t) (opening-at t) opening.Post
 opening-returns t c =
     plain-opening (c .before .before .enum-told .given .1) (c .term .ensures)
 
-
-opening-take-requires : (t : ℕ) → opening-lts.Need-take-requires (
-  term-below t,
-  term.Post,
-  take-reads.Asked,
-  take-reads.Learnt,
-  reducing-reads.Asked,
-  reducing-reads.Learnt,
-  at-reads.Asked,
-  at-reads.Learnt,
-  prefixed-reads.Asked,
-  prefixed-reads.Learnt,
-  start-below t,
-  start.Post,
-  add-prefix-reads.Asked,
-  add-prefix-reads.Learnt,
-) (opening-at t) opening.Post
+opening-take-requires : (t : ℕ) → opening-lts.Need-take-requires (opening-calls t) (opening-at t) opening.Post
 opening-take-requires t c κs = search needs
 
-opening-enum-told-2 : (t : ℕ) → opening-lts.Need-enum-told-2 (
-  term-below t,
-  term.Post,
-  take-reads.Asked,
-  take-reads.Learnt,
-  reducing-reads.Asked,
-  reducing-reads.Learnt,
-  at-reads.Asked,
-  at-reads.Learnt,
-  prefixed-reads.Asked,
-  prefixed-reads.Learnt,
-  start-below t,
-  start.Post,
-  add-prefix-reads.Asked,
-  add-prefix-reads.Learnt,
-) (opening-at t) opening.Post
+opening-enum-told-2 : (t : ℕ) → opening-lts.Need-enum-told-2 (opening-calls t) (opening-at t) opening.Post
 opening-enum-told-2 t c = search needs
 
-opening-returns-2 : (t : ℕ) → opening-lts.Need-returns-2 (
-  term-below t,
-  term.Post,
-  take-reads.Asked,
-  take-reads.Learnt,
-  reducing-reads.Asked,
-  reducing-reads.Learnt,
-  at-reads.Asked,
-  at-reads.Learnt,
-  prefixed-reads.Asked,
-  prefixed-reads.Learnt,
-  start-below t,
-  start.Post,
-  add-prefix-reads.Asked,
-  add-prefix-reads.Learnt,
-) (opening-at t) opening.Post
+opening-returns-2 : (t : ℕ) → opening-lts.Need-returns-2 (opening-calls t) (opening-at t) opening.Post
 opening-returns-2 t c =
     opening-not (c .before .before .before .before .args .head) (not-plain (c .before .before .match .keys2)) (c .before .take .ensures) (not-done (c .match2 .keys2))
 
-
-opening-reducing-requires : (t : ℕ) → opening-lts.Need-reducing-requires (
-  term-below t,
-  term.Post,
-  take-reads.Asked,
-  take-reads.Learnt,
-  reducing-reads.Asked,
-  reducing-reads.Learnt,
-  at-reads.Asked,
-  at-reads.Learnt,
-  prefixed-reads.Asked,
-  prefixed-reads.Learnt,
-  start-below t,
-  start.Post,
-  add-prefix-reads.Asked,
-  add-prefix-reads.Learnt,
-) (opening-at t) opening.Post
+opening-reducing-requires : (t : ℕ) → opening-lts.Need-reducing-requires (opening-calls t) (opening-at t) opening.Post
 opening-reducing-requires t c κs = search needs
 
-opening-enum-told-3 : (t : ℕ) → opening-lts.Need-enum-told-3 (
-  term-below t,
-  term.Post,
-  take-reads.Asked,
-  take-reads.Learnt,
-  reducing-reads.Asked,
-  reducing-reads.Learnt,
-  at-reads.Asked,
-  at-reads.Learnt,
-  prefixed-reads.Asked,
-  prefixed-reads.Learnt,
-  start-below t,
-  start.Post,
-  add-prefix-reads.Asked,
-  add-prefix-reads.Learnt,
-) (opening-at t) opening.Post
+opening-enum-told-3 : (t : ℕ) → opening-lts.Need-enum-told-3 (opening-calls t) (opening-at t) opening.Post
 opening-enum-told-3 t c = search needs
 
-opening-returns-3 : (t : ℕ) → opening-lts.Need-returns-3 (
-  term-below t,
-  term.Post,
-  take-reads.Asked,
-  take-reads.Learnt,
-  reducing-reads.Asked,
-  reducing-reads.Learnt,
-  at-reads.Asked,
-  at-reads.Learnt,
-  prefixed-reads.Asked,
-  prefixed-reads.Learnt,
-  start-below t,
-  start.Post,
-  add-prefix-reads.Asked,
-  add-prefix-reads.Learnt,
-) (opening-at t) opening.Post
+opening-returns-3 : (t : ℕ) → opening-lts.Need-returns-3 (opening-calls t) (opening-at t) opening.Post
 opening-returns-3 t c =
     red-not (c .before .before .before .before .before .before .before .before .before .args .head) (not-plain (c .before .before .before .before .before .before .before .match .keys2)) (c .before .before .before .before .before .before .take .ensures) (c .before .before .before .before .enum-told2 .given .1) (c .before .reducing .ensures) (not-done (c .match3 .keys2))
 
-
-opening-at-requires : (t : ℕ) → opening-lts.Need-at-requires (
-  term-below t,
-  term.Post,
-  take-reads.Asked,
-  take-reads.Learnt,
-  reducing-reads.Asked,
-  reducing-reads.Learnt,
-  at-reads.Asked,
-  at-reads.Learnt,
-  prefixed-reads.Asked,
-  prefixed-reads.Learnt,
-  start-below t,
-  start.Post,
-  add-prefix-reads.Asked,
-  add-prefix-reads.Learnt,
-) (opening-at t) opening.Post
+opening-at-requires : (t : ℕ) → opening-lts.Need-at-requires (opening-calls t) (opening-at t) opening.Post
 opening-at-requires t c κs = search needs
 
-opening-prefixed-requires : (t : ℕ) → opening-lts.Need-prefixed-requires (
-  term-below t,
-  term.Post,
-  take-reads.Asked,
-  take-reads.Learnt,
-  reducing-reads.Asked,
-  reducing-reads.Learnt,
-  at-reads.Asked,
-  at-reads.Learnt,
-  prefixed-reads.Asked,
-  prefixed-reads.Learnt,
-  start-below t,
-  start.Post,
-  add-prefix-reads.Asked,
-  add-prefix-reads.Learnt,
-) (opening-at t) opening.Post
+opening-prefixed-requires : (t : ℕ) → opening-lts.Need-prefixed-requires (opening-calls t) (opening-at t) opening.Post
 opening-prefixed-requires t c κs = search needs
 
-opening-start-requires : (t : ℕ) → opening-lts.Need-start-requires (
-  term-below t,
-  term.Post,
-  take-reads.Asked,
-  take-reads.Learnt,
-  reducing-reads.Asked,
-  reducing-reads.Learnt,
-  at-reads.Asked,
-  at-reads.Learnt,
-  prefixed-reads.Asked,
-  prefixed-reads.Learnt,
-  start-below t,
-  start.Post,
-  add-prefix-reads.Asked,
-  add-prefix-reads.Learnt,
-) (opening-at t) opening.Post
+opening-start-requires : (t : ℕ) → opening-lts.Need-start-requires (opening-calls t) (opening-at t) opening.Post
 opening-start-requires t c κs =
     let p = c .before .before .before .before .before .before .before .before .before .before .take .ensures .done (c .before .before .before .before .before .before .before .before .enum-told2 .given .1) in let h : c .before .before .at .result .nesting ≡ c .before .before .before .before .before .before .before .before .before .before .take .result .state .nesting = ap (λ (q : State). q .nesting) (c .before .before .at .ensures) in let g : c .before .before .before .before .before .before .before .before .before .before .take .result .state .nesting ≡ suc (c .before .before .before .before .before .before .before .before .before .before .before .before .before .args .s .nesting) = ap (λ (k : Counts). k .nesting) (p .counts) in let d : c .before .before .before .before .before .before .before .before .before .before .take .result .state .nesting ≤ 24 = p .deep in let m : topNo (c .before .prefixed .result) ≤ 7 = top-most (c .before .prefixed .result) in search needs
 
-opening-enum-told-4 : (t : ℕ) → opening-lts.Need-enum-told-4 (
-  term-below t,
-  term.Post,
-  take-reads.Asked,
-  take-reads.Learnt,
-  reducing-reads.Asked,
-  reducing-reads.Learnt,
-  at-reads.Asked,
-  at-reads.Learnt,
-  prefixed-reads.Asked,
-  prefixed-reads.Learnt,
-  start-below t,
-  start.Post,
-  add-prefix-reads.Asked,
-  add-prefix-reads.Learnt,
-) (opening-at t) opening.Post
+opening-enum-told-4 : (t : ℕ) → opening-lts.Need-enum-told-4 (opening-calls t) (opening-at t) opening.Post
 opening-enum-told-4 t c = search needs
 
-opening-returns-4 : (t : ℕ) → opening-lts.Need-returns-4 (
-  term-below t,
-  term.Post,
-  take-reads.Asked,
-  take-reads.Learnt,
-  reducing-reads.Asked,
-  reducing-reads.Learnt,
-  at-reads.Asked,
-  at-reads.Learnt,
-  prefixed-reads.Asked,
-  prefixed-reads.Learnt,
-  start-below t,
-  start.Post,
-  add-prefix-reads.Asked,
-  add-prefix-reads.Learnt,
-) (opening-at t) opening.Post
+opening-returns-4 : (t : ℕ) → opening-lts.Need-returns-4 (opening-calls t) (opening-at t) opening.Post
 opening-returns-4 t c =
     operand-not (c .before .before .before .before .before .before .before .before .before .before .before .before .before .before .before .args .head) (not-plain (c .before .before .before .before .before .before .before .before .before .before .before .before .before .match .keys2)) (c .before .before .before .before .before .before .before .before .before .before .before .before .take .ensures) (c .before .before .before .before .before .before .before .before .before .before .enum-told2 .given .1) (c .before .before .before .before .before .before .before .reducing .ensures) (c .before .before .before .before .before .enum-told3 .given .1) (c .before .before .before .prefixed .ensures) (c .before .before .before .before .at .ensures) (c .before .start .ensures) (not-done (c .match4 .keys2))
 
-
-opening-add-prefix-requires : (t : ℕ) → opening-lts.Need-add-prefix-requires (
-  term-below t,
-  term.Post,
-  take-reads.Asked,
-  take-reads.Learnt,
-  reducing-reads.Asked,
-  reducing-reads.Learnt,
-  at-reads.Asked,
-  at-reads.Learnt,
-  prefixed-reads.Asked,
-  prefixed-reads.Learnt,
-  start-below t,
-  start.Post,
-  add-prefix-reads.Asked,
-  add-prefix-reads.Learnt,
-) (opening-at t) opening.Post
+opening-add-prefix-requires : (t : ℕ) → opening-lts.Need-add-prefix-requires (opening-calls t) (opening-at t) opening.Post
 opening-add-prefix-requires t c κs = search needs
 
-opening-returns-5 : (t : ℕ) → opening-lts.Need-returns-5 (
-  term-below t,
-  term.Post,
-  take-reads.Asked,
-  take-reads.Learnt,
-  reducing-reads.Asked,
-  reducing-reads.Learnt,
-  at-reads.Asked,
-  at-reads.Learnt,
-  prefixed-reads.Asked,
-  prefixed-reads.Learnt,
-  start-below t,
-  start.Post,
-  add-prefix-reads.Asked,
-  add-prefix-reads.Learnt,
-) (opening-at t) opening.Post
+opening-returns-5 : (t : ℕ) → opening-lts.Need-returns-5 (opening-calls t) (opening-at t) opening.Post
 opening-returns-5 t c =
     opening-says (c .before .before .before .before .before .before .before .before .before .before .before .before .before .before .before .before .before .before .before .before .args .head) (not-plain (c .before .before .before .before .before .before .before .before .before .before .before .before .before .before .before .before .before .before .match .keys2)) (c .before .before .before .before .before .before .before .before .before .before .before .before .before .before .before .before .before .take .ensures) (c .before .before .before .before .before .before .before .before .before .before .before .before .before .before .before .enum-told2 .given .1) (c .before .before .before .before .before .before .before .before .before .before .before .before .reducing .ensures) (c .before .before .before .before .before .before .before .before .before .before .enum-told3 .given .1) (c .before .before .before .before .before .before .before .before .prefixed .ensures) (c .before .before .before .before .before .before .before .before .before .at .ensures) (c .before .before .before .before .before .before .start .ensures) (c .before .before .before .before .enum-told4 .given .1) (c .add-prefix .ensures)
 
-
-operation-take-requires : (t : ℕ) → operation-lts.Need-take-requires (
-  take-reads.Asked,
-  take-reads.Learnt,
-  number-reads.Asked,
-  number-reads.Learnt,
-  cut-reads.Asked,
-  cut-reads.Learnt,
-  operand-reads.Asked,
-  operand-reads.Learnt,
-  start-below t,
-  start.Post,
-  last-reads.Asked,
-  last-reads.Learnt,
-  add-binary-reads.Asked,
-  add-binary-reads.Learnt,
-) (operation-at t) operation.Post
+operation-take-requires : (t : ℕ) → operation-lts.Need-take-requires (operation-calls t) (operation-at t) operation.Post
 operation-take-requires t c κs = search needs
 
-operation-enum-told : (t : ℕ) → operation-lts.Need-enum-told (
-  take-reads.Asked,
-  take-reads.Learnt,
-  number-reads.Asked,
-  number-reads.Learnt,
-  cut-reads.Asked,
-  cut-reads.Learnt,
-  operand-reads.Asked,
-  operand-reads.Learnt,
-  start-below t,
-  start.Post,
-  last-reads.Asked,
-  last-reads.Learnt,
-  add-binary-reads.Asked,
-  add-binary-reads.Learnt,
-) (operation-at t) operation.Post
+operation-enum-told : (t : ℕ) → operation-lts.Need-enum-told (operation-calls t) (operation-at t) operation.Post
 operation-enum-told t c = search needs
 
-operation-returns : (t : ℕ) → operation-lts.Need-returns (
-  take-reads.Asked,
-  take-reads.Learnt,
-  number-reads.Asked,
-  number-reads.Learnt,
-  cut-reads.Asked,
-  cut-reads.Learnt,
-  operand-reads.Asked,
-  operand-reads.Learnt,
-  start-below t,
-  start.Post,
-  last-reads.Asked,
-  last-reads.Learnt,
-  add-binary-reads.Asked,
-  add-binary-reads.Learnt,
-) (operation-at t) operation.Post
+operation-returns : (t : ℕ) → operation-lts.Need-returns (operation-calls t) (operation-at t) operation.Post
 operation-returns t c =
     operation-not (c .before .take .ensures) (c .before .before .before .args .rank) (not-done (c .match .keys2))
 
-
-operation-enum-told-2 : (t : ℕ) → operation-lts.Need-enum-told-2 (
-  take-reads.Asked,
-  take-reads.Learnt,
-  number-reads.Asked,
-  number-reads.Learnt,
-  cut-reads.Asked,
-  cut-reads.Learnt,
-  operand-reads.Asked,
-  operand-reads.Learnt,
-  start-below t,
-  start.Post,
-  last-reads.Asked,
-  last-reads.Learnt,
-  add-binary-reads.Asked,
-  add-binary-reads.Learnt,
-) (operation-at t) operation.Post
+operation-enum-told-2 : (t : ℕ) → operation-lts.Need-enum-told-2 (operation-calls t) (operation-at t) operation.Post
 operation-enum-told-2 t c = search needs
 
-operation-number-requires : (t : ℕ) → operation-lts.Need-number-requires (
-  take-reads.Asked,
-  take-reads.Learnt,
-  number-reads.Asked,
-  number-reads.Learnt,
-  cut-reads.Asked,
-  cut-reads.Learnt,
-  operand-reads.Asked,
-  operand-reads.Learnt,
-  start-below t,
-  start.Post,
-  last-reads.Asked,
-  last-reads.Learnt,
-  add-binary-reads.Asked,
-  add-binary-reads.Learnt,
-) (operation-at t) operation.Post
+operation-number-requires : (t : ℕ) → operation-lts.Need-number-requires (operation-calls t) (operation-at t) operation.Post
 operation-number-requires t c κs = search needs
 
-operation-cut-requires : (t : ℕ) → operation-lts.Need-cut-requires (
-  take-reads.Asked,
-  take-reads.Learnt,
-  number-reads.Asked,
-  number-reads.Learnt,
-  cut-reads.Asked,
-  cut-reads.Learnt,
-  operand-reads.Asked,
-  operand-reads.Learnt,
-  start-below t,
-  start.Post,
-  last-reads.Asked,
-  last-reads.Learnt,
-  add-binary-reads.Asked,
-  add-binary-reads.Learnt,
-) (operation-at t) operation.Post
+operation-cut-requires : (t : ℕ) → operation-lts.Need-cut-requires (operation-calls t) (operation-at t) operation.Post
 operation-cut-requires t c κs = search needs
 
-operation-returns-2 : (t : ℕ) → operation-lts.Need-returns-2 (
-  take-reads.Asked,
-  take-reads.Learnt,
-  number-reads.Asked,
-  number-reads.Learnt,
-  cut-reads.Asked,
-  cut-reads.Learnt,
-  operand-reads.Asked,
-  operand-reads.Learnt,
-  start-below t,
-  start.Post,
-  last-reads.Asked,
-  last-reads.Learnt,
-  add-binary-reads.Asked,
-  add-binary-reads.Learnt,
-) (operation-at t) operation.Post
+operation-returns-2 : (t : ℕ) → operation-lts.Need-returns-2 (operation-calls t) (operation-at t) operation.Post
 operation-returns-2 t c =
     cut-operation (c .before .before .before .before .before .before .before .before .before .take .ensures) (c .before .before .before .before .before .before .before .enum-told .given .1) (c .before .before .before .enum-told2 .given .1) (c .before .before .number .ensures) (c .cut .ensures)
 
-
-operation-operand-requires : (t : ℕ) → operation-lts.Need-operand-requires (
-  take-reads.Asked,
-  take-reads.Learnt,
-  number-reads.Asked,
-  number-reads.Learnt,
-  cut-reads.Asked,
-  cut-reads.Learnt,
-  operand-reads.Asked,
-  operand-reads.Learnt,
-  start-below t,
-  start.Post,
-  last-reads.Asked,
-  last-reads.Learnt,
-  add-binary-reads.Asked,
-  add-binary-reads.Learnt,
-) (operation-at t) operation.Post
+operation-operand-requires : (t : ℕ) → operation-lts.Need-operand-requires (operation-calls t) (operation-at t) operation.Post
 operation-operand-requires t c κs = search needs
 
-operation-start-requires : (t : ℕ) → operation-lts.Need-start-requires (
-  take-reads.Asked,
-  take-reads.Learnt,
-  number-reads.Asked,
-  number-reads.Learnt,
-  cut-reads.Asked,
-  cut-reads.Learnt,
-  operand-reads.Asked,
-  operand-reads.Learnt,
-  start-below t,
-  start.Post,
-  last-reads.Asked,
-  last-reads.Learnt,
-  add-binary-reads.Asked,
-  add-binary-reads.Learnt,
-) (operation-at t) operation.Post
+operation-start-requires : (t : ℕ) → operation-lts.Need-start-requires (operation-calls t) (operation-at t) operation.Post
 operation-start-requires t c κs =
     let p = c .before .before .before .before .before .before .before .take .ensures .done (c .before .before .before .before .before .enum-told .given .1) in let g : c .before .before .before .before .before .before .before .take .result .state .nesting ≡ c .before .before .before .before .before .before .before .before .before .args .s .nesting = ap (λ (k : Counts). k .nesting) (p .counts) in let m : topNo (c .before .operand .result) ≤ rankNo (c .before .before .before .before .before .before .before .before .before .args .rank) = subst (λ (v : Level). topNo v ≤ rankNo (c .before .before .before .before .before .before .before .before .before .args .rank)) (sym (c .before .operand .ensures)) (operand-tighter (c .before .before .before .before .before .before .before .before .before .args .rank)) in search needs
 
-operation-enum-told-3 : (t : ℕ) → operation-lts.Need-enum-told-3 (
-  take-reads.Asked,
-  take-reads.Learnt,
-  number-reads.Asked,
-  number-reads.Learnt,
-  cut-reads.Asked,
-  cut-reads.Learnt,
-  operand-reads.Asked,
-  operand-reads.Learnt,
-  start-below t,
-  start.Post,
-  last-reads.Asked,
-  last-reads.Learnt,
-  add-binary-reads.Asked,
-  add-binary-reads.Learnt,
-) (operation-at t) operation.Post
+operation-enum-told-3 : (t : ℕ) → operation-lts.Need-enum-told-3 (operation-calls t) (operation-at t) operation.Post
 operation-enum-told-3 t c = search needs
 
-operation-returns-3 : (t : ℕ) → operation-lts.Need-returns-3 (
-  take-reads.Asked,
-  take-reads.Learnt,
-  number-reads.Asked,
-  number-reads.Learnt,
-  cut-reads.Asked,
-  cut-reads.Learnt,
-  operand-reads.Asked,
-  operand-reads.Learnt,
-  start-below t,
-  start.Post,
-  last-reads.Asked,
-  last-reads.Learnt,
-  add-binary-reads.Asked,
-  add-binary-reads.Learnt,
-) (operation-at t) operation.Post
+operation-returns-3 : (t : ℕ) → operation-lts.Need-returns-3 (operation-calls t) (operation-at t) operation.Post
 operation-returns-3 t c =
     right-not (c .before .before .before .before .before .before .before .before .before .take .ensures) (c .before .before .before .before .before .before .before .enum-told .given .1) (c .before .before .before .before .before .before .before .before .before .before .before .args .rank) (not-cut (c .before .before .before .before .match2 .keys2)) (c .before .before .before .operand .ensures) (c .before .start .ensures) (not-done (c .match3 .keys2))
 
-
-operation-last-requires : (t : ℕ) → operation-lts.Need-last-requires (
-  take-reads.Asked,
-  take-reads.Learnt,
-  number-reads.Asked,
-  number-reads.Learnt,
-  cut-reads.Asked,
-  cut-reads.Learnt,
-  operand-reads.Asked,
-  operand-reads.Learnt,
-  start-below t,
-  start.Post,
-  last-reads.Asked,
-  last-reads.Learnt,
-  add-binary-reads.Asked,
-  add-binary-reads.Learnt,
-) (operation-at t) operation.Post
+operation-last-requires : (t : ℕ) → operation-lts.Need-last-requires (operation-calls t) (operation-at t) operation.Post
 operation-last-requires t c κs = search needs
 
-operation-add-binary-requires : (t : ℕ) → operation-lts.Need-add-binary-requires (
-  take-reads.Asked,
-  take-reads.Learnt,
-  number-reads.Asked,
-  number-reads.Learnt,
-  cut-reads.Asked,
-  cut-reads.Learnt,
-  operand-reads.Asked,
-  operand-reads.Learnt,
-  start-below t,
-  start.Post,
-  last-reads.Asked,
-  last-reads.Learnt,
-  add-binary-reads.Asked,
-  add-binary-reads.Learnt,
-) (operation-at t) operation.Post
+operation-add-binary-requires : (t : ℕ) → operation-lts.Need-add-binary-requires (operation-calls t) (operation-at t) operation.Post
 operation-add-binary-requires t c κs = search needs
 
-operation-returns-4 : (t : ℕ) → operation-lts.Need-returns-4 (
-  take-reads.Asked,
-  take-reads.Learnt,
-  number-reads.Asked,
-  number-reads.Learnt,
-  cut-reads.Asked,
-  cut-reads.Learnt,
-  operand-reads.Asked,
-  operand-reads.Learnt,
-  start-below t,
-  start.Post,
-  last-reads.Asked,
-  last-reads.Learnt,
-  add-binary-reads.Asked,
-  add-binary-reads.Learnt,
-) (operation-at t) operation.Post
+operation-returns-4 : (t : ℕ) → operation-lts.Need-returns-4 (operation-calls t) (operation-at t) operation.Post
 operation-returns-4 t c =
     operation-says (c .before .before .before .before .before .before .before .before .before .before .before .before .before .before .before .take .ensures) (c .before .before .before .before .before .before .before .before .before .before .before .before .before .enum-told .given .1) (c .before .before .before .before .before .before .before .before .before .before .before .before .before .before .before .before .before .args .rank) (not-cut (c .before .before .before .before .before .before .before .before .before .before .match2 .keys2)) (c .before .before .before .before .before .before .before .before .before .operand .ensures) (c .before .before .before .before .before .before .before .start .ensures) (c .before .before .before .before .before .enum-told3 .given .1) (c .before .before .last .ensures) (c .add-binary .ensures)
 
-
-reference-number-requires : (t : ℕ) → reference-lts.Need-number-requires (
-  number-reads.Asked,
-  number-reads.Learnt,
-  take-reads.Asked,
-  take-reads.Learnt,
-  subscript-below t,
-  subscript.Post,
-  add-whole-reads.Asked,
-  add-whole-reads.Learnt,
-) (reference-at t) reference.Post
+reference-number-requires : (t : ℕ) → reference-lts.Need-number-requires (reference-calls t) (reference-at t) reference.Post
 reference-number-requires t c κs = search needs
 
-reference-take-requires : (t : ℕ) → reference-lts.Need-take-requires (
-  number-reads.Asked,
-  number-reads.Learnt,
-  take-reads.Asked,
-  take-reads.Learnt,
-  subscript-below t,
-  subscript.Post,
-  add-whole-reads.Asked,
-  add-whole-reads.Learnt,
-) (reference-at t) reference.Post
+reference-take-requires : (t : ℕ) → reference-lts.Need-take-requires (reference-calls t) (reference-at t) reference.Post
 reference-take-requires t c κs = search needs
 
-reference-enum-told : (t : ℕ) → reference-lts.Need-enum-told (
-  number-reads.Asked,
-  number-reads.Learnt,
-  take-reads.Asked,
-  take-reads.Learnt,
-  subscript-below t,
-  subscript.Post,
-  add-whole-reads.Asked,
-  add-whole-reads.Learnt,
-) (reference-at t) reference.Post
+reference-enum-told : (t : ℕ) → reference-lts.Need-enum-told (reference-calls t) (reference-at t) reference.Post
 reference-enum-told t c = search needs
 
-reference-returns : (t : ℕ) → reference-lts.Need-returns (
-  number-reads.Asked,
-  number-reads.Learnt,
-  take-reads.Asked,
-  take-reads.Learnt,
-  subscript-below t,
-  subscript.Post,
-  add-whole-reads.Asked,
-  add-whole-reads.Learnt,
-) (reference-at t) reference.Post
+reference-returns : (t : ℕ) → reference-lts.Need-returns (reference-calls t) (reference-at t) reference.Post
 reference-returns t c =
     reference-not (c .before .before .before .before .before .args .name) (sym (c .before .before .before .number .ensures) ∙ c .before .before .if1 .taken) (c .before .take .ensures) (not-done (c .match .keys2))
 
-
-reference-subscript-requires : (t : ℕ) → reference-lts.Need-subscript-requires (
-  number-reads.Asked,
-  number-reads.Learnt,
-  take-reads.Asked,
-  take-reads.Learnt,
-  subscript-below t,
-  subscript.Post,
-  add-whole-reads.Asked,
-  add-whole-reads.Learnt,
-) (reference-at t) reference.Post
+reference-subscript-requires : (t : ℕ) → reference-lts.Need-subscript-requires (reference-calls t) (reference-at t) reference.Post
 reference-subscript-requires t c κs =
     let p = c .before .before .before .before .before .take .ensures .done (c .before .before .before .enum-told .given .1) in let g : c .before .before .before .before .before .take .result .state .nesting ≡ suc (c .before .before .before .before .before .before .before .before .before .args .s .nesting) = ap (λ (k : Counts). k .nesting) (p .counts) in let d : c .before .before .before .before .before .take .result .state .nesting ≤ 24 = p .deep in search needs
 
-reference-returns-2 : (t : ℕ) → reference-lts.Need-returns-2 (
-  number-reads.Asked,
-  number-reads.Learnt,
-  take-reads.Asked,
-  take-reads.Learnt,
-  subscript-below t,
-  subscript.Post,
-  add-whole-reads.Asked,
-  add-whole-reads.Learnt,
-) (reference-at t) reference.Post
+reference-returns-2 : (t : ℕ) → reference-lts.Need-returns-2 (reference-calls t) (reference-at t) reference.Post
 reference-returns-2 t c =
     reference-says (c .before .before .before .before .before .before .before .before .before .before .args .name) (sym (c .before .before .before .before .before .before .before .before .number .ensures) ∙ c .before .before .before .before .before .before .before .if1 .taken) (c .before .before .before .before .before .before .take .ensures) (c .before .before .before .before .enum-told .given .1) (c .subscript .ensures)
 
-
-reference-add-whole-requires : (t : ℕ) → reference-lts.Need-add-whole-requires (
-  number-reads.Asked,
-  number-reads.Learnt,
-  take-reads.Asked,
-  take-reads.Learnt,
-  subscript-below t,
-  subscript.Post,
-  add-whole-reads.Asked,
-  add-whole-reads.Learnt,
-) (reference-at t) reference.Post
+reference-add-whole-requires : (t : ℕ) → reference-lts.Need-add-whole-requires (reference-calls t) (reference-at t) reference.Post
 reference-add-whole-requires t c κs = search needs
 
-reference-returns-3 : (t : ℕ) → reference-lts.Need-returns-3 (
-  number-reads.Asked,
-  number-reads.Learnt,
-  take-reads.Asked,
-  take-reads.Learnt,
-  subscript-below t,
-  subscript.Post,
-  add-whole-reads.Asked,
-  add-whole-reads.Learnt,
-) (reference-at t) reference.Post
+reference-returns-3 : (t : ℕ) → reference-lts.Need-returns-3 (reference-calls t) (reference-at t) reference.Post
 reference-returns-3 t c =
     whole-says (c .before .before .before .before .before .args .name) (c .before .before .before .number .ensures) (c .before .before .if1 .left) (c .add-whole .ensures)
 
-
-rest-within-requires : (t : ℕ) → rest-lts.Need-within-requires (
-  within-reads.Asked,
-  within-reads.Learnt,
-  tail-below t,
-  tail.Post,
-  at-reads.Asked,
-  at-reads.Learnt,
-  next-reads.Asked,
-  next-reads.Learnt,
-  rest-below t,
-  rest.Post,
-  stay-reads.Asked,
-  stay-reads.Learnt,
-) (rest-at t) rest.Post
+rest-within-requires : (t : ℕ) → rest-lts.Need-within-requires (rest-calls t) (rest-at t) rest.Post
 rest-within-requires t c κs = search needs
 
-rest-tail-requires : (t : ℕ) → rest-lts.Need-tail-requires (
-  within-reads.Asked,
-  within-reads.Learnt,
-  tail-below t,
-  tail.Post,
-  at-reads.Asked,
-  at-reads.Learnt,
-  next-reads.Asked,
-  next-reads.Learnt,
-  rest-below t,
-  rest.Post,
-  stay-reads.Asked,
-  stay-reads.Learnt,
-) (rest-at t) rest.Post
+rest-tail-requires : (t : ℕ) → rest-lts.Need-tail-requires (rest-calls t) (rest-at t) rest.Post
 rest-tail-requires t c κs =
     let h : rankNo (c .before .before .before .before .args .rank) < topNo (c .before .before .before .before .args .level) = ltb-true _ _ (sym (c .before .before .within .ensures) ∙ c .before .if1 .taken) in let m : topNo (c .before .before .before .before .args .level) ≤ 7 = top-most (c .before .before .before .before .args .level) in search needs
 
-rest-enum-told : (t : ℕ) → rest-lts.Need-enum-told (
-  within-reads.Asked,
-  within-reads.Learnt,
-  tail-below t,
-  tail.Post,
-  at-reads.Asked,
-  at-reads.Learnt,
-  next-reads.Asked,
-  next-reads.Learnt,
-  rest-below t,
-  rest.Post,
-  stay-reads.Asked,
-  stay-reads.Learnt,
-) (rest-at t) rest.Post
+rest-enum-told : (t : ℕ) → rest-lts.Need-enum-told (rest-calls t) (rest-at t) rest.Post
 rest-enum-told t c = search needs
 
-rest-returns : (t : ℕ) → rest-lts.Need-returns (
-  within-reads.Asked,
-  within-reads.Learnt,
-  tail-below t,
-  tail.Post,
-  at-reads.Asked,
-  at-reads.Learnt,
-  next-reads.Asked,
-  next-reads.Learnt,
-  rest-below t,
-  rest.Post,
-  stay-reads.Asked,
-  stay-reads.Learnt,
-) (rest-at t) rest.Post
+rest-returns : (t : ℕ) → rest-lts.Need-returns (rest-calls t) (rest-at t) rest.Post
 rest-returns t c =
     rest-not (c .before .before .before .before .before .before .args .rank) (c .before .before .before .before .before .before .args .level) (sym (c .before .before .before .before .within .ensures) ∙ c .before .before .before .if1 .taken) (c .before .tail .ensures) (not-done (c .match .keys2))
 
-
-rest-at-requires : (t : ℕ) → rest-lts.Need-at-requires (
-  within-reads.Asked,
-  within-reads.Learnt,
-  tail-below t,
-  tail.Post,
-  at-reads.Asked,
-  at-reads.Learnt,
-  next-reads.Asked,
-  next-reads.Learnt,
-  rest-below t,
-  rest.Post,
-  stay-reads.Asked,
-  stay-reads.Learnt,
-) (rest-at t) rest.Post
+rest-at-requires : (t : ℕ) → rest-lts.Need-at-requires (rest-calls t) (rest-at t) rest.Post
 rest-at-requires t c κs = search needs
 
-rest-next-requires : (t : ℕ) → rest-lts.Need-next-requires (
-  within-reads.Asked,
-  within-reads.Learnt,
-  tail-below t,
-  tail.Post,
-  at-reads.Asked,
-  at-reads.Learnt,
-  next-reads.Asked,
-  next-reads.Learnt,
-  rest-below t,
-  rest.Post,
-  stay-reads.Asked,
-  stay-reads.Learnt,
-) (rest-at t) rest.Post
+rest-next-requires : (t : ℕ) → rest-lts.Need-next-requires (rest-calls t) (rest-at t) rest.Post
 rest-next-requires t c κs = search needs
 
-rest-rest-requires : (t : ℕ) → rest-lts.Need-rest-requires (
-  within-reads.Asked,
-  within-reads.Learnt,
-  tail-below t,
-  tail.Post,
-  at-reads.Asked,
-  at-reads.Learnt,
-  next-reads.Asked,
-  next-reads.Learnt,
-  rest-below t,
-  rest.Post,
-  stay-reads.Asked,
-  stay-reads.Learnt,
-) (rest-at t) rest.Post
+rest-rest-requires : (t : ℕ) → rest-lts.Need-rest-requires (rest-calls t) (rest-at t) rest.Post
 rest-rest-requires t c κs =
     let h : c .before .before .at .result .nesting ≡ c .before .before .before .before .before .before .before .before .before .before .args .s .nesting = ap (λ (q : State). q .nesting) (c .before .before .at .ensures) in let k : rankNo (c .before .before .before .before .before .before .before .before .before .before .args .rank) < topNo (c .before .before .before .before .before .before .before .before .before .before .args .level) = ltb-true _ _ (sym (c .before .before .before .before .before .before .before .before .within .ensures) ∙ c .before .before .before .before .before .before .before .if1 .taken) in let m : topNo (c .before .before .before .before .before .before .before .before .before .before .args .level) ≤ 7 = top-most (c .before .before .before .before .before .before .before .before .before .before .args .level) in let u : rankNo (c .before .next .result) ≡ suc (rankNo (c .before .before .before .before .before .before .before .before .before .before .args .rank)) = ap rankNo (c .before .next .ensures) ∙ next-up (c .before .before .before .before .before .before .before .before .before .before .args .rank) (omega arith) in search needs
 
-rest-returns-2 : (t : ℕ) → rest-lts.Need-returns-2 (
-  within-reads.Asked,
-  within-reads.Learnt,
-  tail-below t,
-  tail.Post,
-  at-reads.Asked,
-  at-reads.Learnt,
-  next-reads.Asked,
-  next-reads.Learnt,
-  rest-below t,
-  rest.Post,
-  stay-reads.Asked,
-  stay-reads.Learnt,
-) (rest-at t) rest.Post
+rest-returns-2 : (t : ℕ) → rest-lts.Need-returns-2 (rest-calls t) (rest-at t) rest.Post
 rest-returns-2 t c =
     rest-says (c .before .before .before .before .before .before .before .before .before .before .before .args .rank) (c .before .before .before .before .before .before .before .before .before .before .before .args .level) (sym (c .before .before .before .before .before .before .before .before .before .within .ensures) ∙ c .before .before .before .before .before .before .before .before .if1 .taken) (c .before .before .before .before .before .before .tail .ensures) (c .before .before .before .before .enum-told .given .1) (c .before .before .next .ensures) (c .before .before .before .at .ensures) (c .rest .ensures)
 
-
-rest-stay-requires : (t : ℕ) → rest-lts.Need-stay-requires (
-  within-reads.Asked,
-  within-reads.Learnt,
-  tail-below t,
-  tail.Post,
-  at-reads.Asked,
-  at-reads.Learnt,
-  next-reads.Asked,
-  next-reads.Learnt,
-  rest-below t,
-  rest.Post,
-  stay-reads.Asked,
-  stay-reads.Learnt,
-) (rest-at t) rest.Post
+rest-stay-requires : (t : ℕ) → rest-lts.Need-stay-requires (rest-calls t) (rest-at t) rest.Post
 rest-stay-requires t c κs = search needs
 
-rest-returns-3 : (t : ℕ) → rest-lts.Need-returns-3 (
-  within-reads.Asked,
-  within-reads.Learnt,
-  tail-below t,
-  tail.Post,
-  at-reads.Asked,
-  at-reads.Learnt,
-  next-reads.Asked,
-  next-reads.Learnt,
-  rest-below t,
-  rest.Post,
-  stay-reads.Asked,
-  stay-reads.Learnt,
-) (rest-at t) rest.Post
+rest-returns-3 : (t : ℕ) → rest-lts.Need-returns-3 (rest-calls t) (rest-at t) rest.Post
 rest-returns-3 t c =
     rest-none (c .before .before .before .before .args .rank) (c .before .before .before .before .args .level) (sym (c .before .before .within .ensures) ∙ c .before .if1 .left) (c .stay .ensures)
 
-
-second-ends-ahead-requires : (t : ℕ) → second-lts.Need-ends-ahead-requires (
-  ends-ahead-reads.Asked,
-  ends-ahead-reads.Learnt,
-  word-part-reads.Asked,
-  word-part-reads.Learnt,
-  inside-below t,
-  inside.Post,
-  expect-reads.Asked,
-  expect-reads.Learnt,
-  last-reads.Asked,
-  last-reads.Learnt,
-  add-two-reads.Asked,
-  add-two-reads.Learnt,
-) (second-at t) second.Post
+second-ends-ahead-requires : (t : ℕ) → second-lts.Need-ends-ahead-requires (second-calls t) (second-at t) second.Post
 second-ends-ahead-requires t c κs = search needs
 
-second-word-part-requires : (t : ℕ) → second-lts.Need-word-part-requires (
-  ends-ahead-reads.Asked,
-  ends-ahead-reads.Learnt,
-  word-part-reads.Asked,
-  word-part-reads.Learnt,
-  inside-below t,
-  inside.Post,
-  expect-reads.Asked,
-  expect-reads.Learnt,
-  last-reads.Asked,
-  last-reads.Learnt,
-  add-two-reads.Asked,
-  add-two-reads.Learnt,
-) (second-at t) second.Post
+second-word-part-requires : (t : ℕ) → second-lts.Need-word-part-requires (second-calls t) (second-at t) second.Post
 second-word-part-requires t c κs = search needs
 
-second-returns : (t : ℕ) → second-lts.Need-returns (
-  ends-ahead-reads.Asked,
-  ends-ahead-reads.Learnt,
-  word-part-reads.Asked,
-  word-part-reads.Learnt,
-  inside-below t,
-  inside.Post,
-  expect-reads.Asked,
-  expect-reads.Learnt,
-  last-reads.Asked,
-  last-reads.Learnt,
-  add-two-reads.Asked,
-  add-two-reads.Learnt,
-) (second-at t) second.Post
+second-returns : (t : ℕ) → second-lts.Need-returns (second-calls t) (second-at t) second.Post
 second-returns t c =
     λ sc h. c .word-part .ensures (ends-so true (c .before .before .before .ends-ahead .ensures) (c .before .before .if1 .taken) (h .seen)) sc h
 
-
-second-inside-requires : (t : ℕ) → second-lts.Need-inside-requires (
-  ends-ahead-reads.Asked,
-  ends-ahead-reads.Learnt,
-  word-part-reads.Asked,
-  word-part-reads.Learnt,
-  inside-below t,
-  inside.Post,
-  expect-reads.Asked,
-  expect-reads.Learnt,
-  last-reads.Asked,
-  last-reads.Learnt,
-  add-two-reads.Asked,
-  add-two-reads.Learnt,
-) (second-at t) second.Post
+second-inside-requires : (t : ℕ) → second-lts.Need-inside-requires (second-calls t) (second-at t) second.Post
 second-inside-requires t c κs = search needs
 
-second-enum-told : (t : ℕ) → second-lts.Need-enum-told (
-  ends-ahead-reads.Asked,
-  ends-ahead-reads.Learnt,
-  word-part-reads.Asked,
-  word-part-reads.Learnt,
-  inside-below t,
-  inside.Post,
-  expect-reads.Asked,
-  expect-reads.Learnt,
-  last-reads.Asked,
-  last-reads.Learnt,
-  add-two-reads.Asked,
-  add-two-reads.Learnt,
-) (second-at t) second.Post
+second-enum-told : (t : ℕ) → second-lts.Need-enum-told (second-calls t) (second-at t) second.Post
 second-enum-told t c = search needs
 
-second-returns-2 : (t : ℕ) → second-lts.Need-returns-2 (
-  ends-ahead-reads.Asked,
-  ends-ahead-reads.Learnt,
-  word-part-reads.Asked,
-  word-part-reads.Learnt,
-  inside-below t,
-  inside.Post,
-  expect-reads.Asked,
-  expect-reads.Learnt,
-  last-reads.Asked,
-  last-reads.Learnt,
-  add-two-reads.Asked,
-  add-two-reads.Learnt,
-) (second-at t) second.Post
+second-returns-2 : (t : ℕ) → second-lts.Need-returns-2 (second-calls t) (second-at t) second.Post
 second-returns-2 t c =
     second-not (c .before .before .before .before .before .before .args .name) (c .before .before .before .before .ends-ahead .ensures) (c .before .before .before .if1 .left) (c .before .inside .ensures) (not-done (c .match .keys2))
 
-
-second-expect-requires : (t : ℕ) → second-lts.Need-expect-requires (
-  ends-ahead-reads.Asked,
-  ends-ahead-reads.Learnt,
-  word-part-reads.Asked,
-  word-part-reads.Learnt,
-  inside-below t,
-  inside.Post,
-  expect-reads.Asked,
-  expect-reads.Learnt,
-  last-reads.Asked,
-  last-reads.Learnt,
-  add-two-reads.Asked,
-  add-two-reads.Learnt,
-) (second-at t) second.Post
+second-expect-requires : (t : ℕ) → second-lts.Need-expect-requires (second-calls t) (second-at t) second.Post
 second-expect-requires t c κs = search needs
 
-second-enum-told-2 : (t : ℕ) → second-lts.Need-enum-told-2 (
-  ends-ahead-reads.Asked,
-  ends-ahead-reads.Learnt,
-  word-part-reads.Asked,
-  word-part-reads.Learnt,
-  inside-below t,
-  inside.Post,
-  expect-reads.Asked,
-  expect-reads.Learnt,
-  last-reads.Asked,
-  last-reads.Learnt,
-  add-two-reads.Asked,
-  add-two-reads.Learnt,
-) (second-at t) second.Post
+second-enum-told-2 : (t : ℕ) → second-lts.Need-enum-told-2 (second-calls t) (second-at t) second.Post
 second-enum-told-2 t c = search needs
 
-second-returns-3 : (t : ℕ) → second-lts.Need-returns-3 (
-  ends-ahead-reads.Asked,
-  ends-ahead-reads.Learnt,
-  word-part-reads.Asked,
-  word-part-reads.Learnt,
-  inside-below t,
-  inside.Post,
-  expect-reads.Asked,
-  expect-reads.Learnt,
-  last-reads.Asked,
-  last-reads.Learnt,
-  add-two-reads.Asked,
-  add-two-reads.Learnt,
-) (second-at t) second.Post
+second-returns-3 : (t : ℕ) → second-lts.Need-returns-3 (second-calls t) (second-at t) second.Post
 second-returns-3 t c =
     end-not (c .before .before .before .before .before .before .before .before .before .before .before .args .name) (c .before .before .before .before .before .before .before .before .before .ends-ahead .ensures) (c .before .before .before .before .before .before .before .before .if1 .left) (c .before .before .before .before .before .before .inside .ensures) (c .before .before .before .before .enum-told .given .1) (c .before .expect .ensures) (not-done (c .match2 .keys2))
 
-
-second-last-requires : (t : ℕ) → second-lts.Need-last-requires (
-  ends-ahead-reads.Asked,
-  ends-ahead-reads.Learnt,
-  word-part-reads.Asked,
-  word-part-reads.Learnt,
-  inside-below t,
-  inside.Post,
-  expect-reads.Asked,
-  expect-reads.Learnt,
-  last-reads.Asked,
-  last-reads.Learnt,
-  add-two-reads.Asked,
-  add-two-reads.Learnt,
-) (second-at t) second.Post
+second-last-requires : (t : ℕ) → second-lts.Need-last-requires (second-calls t) (second-at t) second.Post
 second-last-requires t c κs = search needs
 
-second-last-requires-2 : (t : ℕ) → second-lts.Need-last-requires-2 (
-  ends-ahead-reads.Asked,
-  ends-ahead-reads.Learnt,
-  word-part-reads.Asked,
-  word-part-reads.Learnt,
-  inside-below t,
-  inside.Post,
-  expect-reads.Asked,
-  expect-reads.Learnt,
-  last-reads.Asked,
-  last-reads.Learnt,
-  add-two-reads.Asked,
-  add-two-reads.Learnt,
-) (second-at t) second.Post
+second-last-requires-2 : (t : ℕ) → second-lts.Need-last-requires-2 (second-calls t) (second-at t) second.Post
 second-last-requires-2 t c κs = search needs
 
-second-add-two-requires : (t : ℕ) → second-lts.Need-add-two-requires (
-  ends-ahead-reads.Asked,
-  ends-ahead-reads.Learnt,
-  word-part-reads.Asked,
-  word-part-reads.Learnt,
-  inside-below t,
-  inside.Post,
-  expect-reads.Asked,
-  expect-reads.Learnt,
-  last-reads.Asked,
-  last-reads.Learnt,
-  add-two-reads.Asked,
-  add-two-reads.Learnt,
-) (second-at t) second.Post
+second-add-two-requires : (t : ℕ) → second-lts.Need-add-two-requires (second-calls t) (second-at t) second.Post
 second-add-two-requires t c κs = search needs
 
-second-returns-4 : (t : ℕ) → second-lts.Need-returns-4 (
-  ends-ahead-reads.Asked,
-  ends-ahead-reads.Learnt,
-  word-part-reads.Asked,
-  word-part-reads.Learnt,
-  inside-below t,
-  inside.Post,
-  expect-reads.Asked,
-  expect-reads.Learnt,
-  last-reads.Asked,
-  last-reads.Learnt,
-  add-two-reads.Asked,
-  add-two-reads.Learnt,
-) (second-at t) second.Post
+second-returns-4 : (t : ℕ) → second-lts.Need-returns-4 (second-calls t) (second-at t) second.Post
 second-returns-4 t c =
     second-says (c .before .before .before .before .before .before .before .before .before .before .before .before .before .before .before .before .before .before .args .name) (c .before .before .before .before .before .before .before .before .before .before .before .before .before .before .before .before .ends-ahead .ensures) (c .before .before .before .before .before .before .before .before .before .before .before .before .before .before .before .if1 .left) (c .before .before .before .before .before .before .before .before .before .before .before .before .before .inside .ensures) (c .before .before .before .before .before .before .before .before .before .before .before .enum-told .given .1) (c .before .before .before .before .before .before .before .before .expect .ensures) (c .before .before .before .before .before .before .enum-told2 .given .1) (c .before .before .before .last .ensures) (c .before .before .last2 .ensures) (c .add-two .ensures)
 
-
-single-number-requires : (t : ℕ) → single-lts.Need-number-requires (
-  number-reads.Asked,
-  number-reads.Learnt,
-  take-reads.Asked,
-  take-reads.Learnt,
-  second-below t,
-  second.Post,
-  last-reads.Asked,
-  last-reads.Learnt,
-  add-one-reads.Asked,
-  add-one-reads.Learnt,
-) (single-at t) single.Post
+single-number-requires : (t : ℕ) → single-lts.Need-number-requires (single-calls t) (single-at t) single.Post
 single-number-requires t c κs = search needs
 
-single-take-requires : (t : ℕ) → single-lts.Need-take-requires (
-  number-reads.Asked,
-  number-reads.Learnt,
-  take-reads.Asked,
-  take-reads.Learnt,
-  second-below t,
-  second.Post,
-  last-reads.Asked,
-  last-reads.Learnt,
-  add-one-reads.Asked,
-  add-one-reads.Learnt,
-) (single-at t) single.Post
+single-take-requires : (t : ℕ) → single-lts.Need-take-requires (single-calls t) (single-at t) single.Post
 single-take-requires t c κs = search needs
 
-single-enum-told : (t : ℕ) → single-lts.Need-enum-told (
-  number-reads.Asked,
-  number-reads.Learnt,
-  take-reads.Asked,
-  take-reads.Learnt,
-  second-below t,
-  second.Post,
-  last-reads.Asked,
-  last-reads.Learnt,
-  add-one-reads.Asked,
-  add-one-reads.Learnt,
-) (single-at t) single.Post
+single-enum-told : (t : ℕ) → single-lts.Need-enum-told (single-calls t) (single-at t) single.Post
 single-enum-told t c = search needs
 
-single-returns : (t : ℕ) → single-lts.Need-returns (
-  number-reads.Asked,
-  number-reads.Learnt,
-  take-reads.Asked,
-  take-reads.Learnt,
-  second-below t,
-  second.Post,
-  last-reads.Asked,
-  last-reads.Learnt,
-  add-one-reads.Asked,
-  add-one-reads.Learnt,
-) (single-at t) single.Post
+single-returns : (t : ℕ) → single-lts.Need-returns (single-calls t) (single-at t) single.Post
 single-returns t c =
     single-not (c .before .before .before .before .before .args .name) (sym (c .before .before .before .number .ensures) ∙ c .before .before .if1 .taken) (c .before .take .ensures) (not-done (c .match .keys2))
 
-
-single-second-requires : (t : ℕ) → single-lts.Need-second-requires (
-  number-reads.Asked,
-  number-reads.Learnt,
-  take-reads.Asked,
-  take-reads.Learnt,
-  second-below t,
-  second.Post,
-  last-reads.Asked,
-  last-reads.Learnt,
-  add-one-reads.Asked,
-  add-one-reads.Learnt,
-) (single-at t) single.Post
+single-second-requires : (t : ℕ) → single-lts.Need-second-requires (single-calls t) (single-at t) single.Post
 single-second-requires t c κs =
     let p = c .before .before .before .before .before .take .ensures .done (c .before .before .before .enum-told .given .1) in let g : c .before .before .before .before .before .take .result .state .nesting ≡ suc (c .before .before .before .before .before .before .before .before .before .args .s .nesting) = ap (λ (k : Counts). k .nesting) (p .counts) in let d : c .before .before .before .before .before .take .result .state .nesting ≤ 24 = p .deep in search needs
 
-single-returns-2 : (t : ℕ) → single-lts.Need-returns-2 (
-  number-reads.Asked,
-  number-reads.Learnt,
-  take-reads.Asked,
-  take-reads.Learnt,
-  second-below t,
-  second.Post,
-  last-reads.Asked,
-  last-reads.Learnt,
-  add-one-reads.Asked,
-  add-one-reads.Learnt,
-) (single-at t) single.Post
+single-returns-2 : (t : ℕ) → single-lts.Need-returns-2 (single-calls t) (single-at t) single.Post
 single-returns-2 t c =
     single-says (c .before .before .before .before .before .before .before .before .before .before .args .name) (sym (c .before .before .before .before .before .before .before .before .number .ensures) ∙ c .before .before .before .before .before .before .before .if1 .taken) (c .before .before .before .before .before .before .take .ensures) (c .before .before .before .before .enum-told .given .1) (c .second .ensures)
 
-
-single-last-requires : (t : ℕ) → single-lts.Need-last-requires (
-  number-reads.Asked,
-  number-reads.Learnt,
-  take-reads.Asked,
-  take-reads.Learnt,
-  second-below t,
-  second.Post,
-  last-reads.Asked,
-  last-reads.Learnt,
-  add-one-reads.Asked,
-  add-one-reads.Learnt,
-) (single-at t) single.Post
+single-last-requires : (t : ℕ) → single-lts.Need-last-requires (single-calls t) (single-at t) single.Post
 single-last-requires t c κs = search needs
 
-single-add-one-requires : (t : ℕ) → single-lts.Need-add-one-requires (
-  number-reads.Asked,
-  number-reads.Learnt,
-  take-reads.Asked,
-  take-reads.Learnt,
-  second-below t,
-  second.Post,
-  last-reads.Asked,
-  last-reads.Learnt,
-  add-one-reads.Asked,
-  add-one-reads.Learnt,
-) (single-at t) single.Post
+single-add-one-requires : (t : ℕ) → single-lts.Need-add-one-requires (single-calls t) (single-at t) single.Post
 single-add-one-requires t c κs = search needs
 
-single-returns-3 : (t : ℕ) → single-lts.Need-returns-3 (
-  number-reads.Asked,
-  number-reads.Learnt,
-  take-reads.Asked,
-  take-reads.Learnt,
-  second-below t,
-  second.Post,
-  last-reads.Asked,
-  last-reads.Learnt,
-  add-one-reads.Asked,
-  add-one-reads.Learnt,
-) (single-at t) single.Post
+single-returns-3 : (t : ℕ) → single-lts.Need-returns-3 (single-calls t) (single-at t) single.Post
 single-returns-3 t c =
     one-says (c .before .before .before .before .before .before .args .name) (c .before .before .before .before .number .ensures) (c .before .before .before .if1 .left) (c .before .before .last .ensures) (c .add-one .ensures)
 
-
-start-number-requires : (t : ℕ) → start-lts.Need-number-requires (
-  number-reads.Asked,
-  number-reads.Learnt,
-  head-of-reads.Asked,
-  head-of-reads.Learnt,
-  opening-below t,
-  opening.Post,
-  at-reads.Asked,
-  at-reads.Learnt,
-  after-reads.Asked,
-  after-reads.Learnt,
-  rest-below t,
-  rest.Post,
-) (start-at t) start.Post
+start-number-requires : (t : ℕ) → start-lts.Need-number-requires (start-calls t) (start-at t) start.Post
 start-number-requires t c κs = search needs
 
-start-head-of-requires : (t : ℕ) → start-lts.Need-head-of-requires (
-  number-reads.Asked,
-  number-reads.Learnt,
-  head-of-reads.Asked,
-  head-of-reads.Learnt,
-  opening-below t,
-  opening.Post,
-  at-reads.Asked,
-  at-reads.Learnt,
-  after-reads.Asked,
-  after-reads.Learnt,
-  rest-below t,
-  rest.Post,
-) (start-at t) start.Post
+start-head-of-requires : (t : ℕ) → start-lts.Need-head-of-requires (start-calls t) (start-at t) start.Post
 start-head-of-requires t c κs = search needs
 
-start-opening-requires : (t : ℕ) → start-lts.Need-opening-requires (
-  number-reads.Asked,
-  number-reads.Learnt,
-  head-of-reads.Asked,
-  head-of-reads.Learnt,
-  opening-below t,
-  opening.Post,
-  at-reads.Asked,
-  at-reads.Learnt,
-  after-reads.Asked,
-  after-reads.Learnt,
-  rest-below t,
-  rest.Post,
-) (start-at t) start.Post
+start-opening-requires : (t : ℕ) → start-lts.Need-opening-requires (start-calls t) (start-at t) start.Post
 start-opening-requires t c κs =
     search needs
 
-start-enum-told : (t : ℕ) → start-lts.Need-enum-told (
-  number-reads.Asked,
-  number-reads.Learnt,
-  head-of-reads.Asked,
-  head-of-reads.Learnt,
-  opening-below t,
-  opening.Post,
-  at-reads.Asked,
-  at-reads.Learnt,
-  after-reads.Asked,
-  after-reads.Learnt,
-  rest-below t,
-  rest.Post,
-) (start-at t) start.Post
+start-enum-told : (t : ℕ) → start-lts.Need-enum-told (start-calls t) (start-at t) start.Post
 start-enum-told t c = search needs
 
-start-returns : (t : ℕ) → start-lts.Need-returns (
-  number-reads.Asked,
-  number-reads.Learnt,
-  head-of-reads.Asked,
-  head-of-reads.Learnt,
-  opening-below t,
-  opening.Post,
-  at-reads.Asked,
-  at-reads.Learnt,
-  after-reads.Asked,
-  after-reads.Learnt,
-  rest-below t,
-  rest.Post,
-) (start-at t) start.Post
+start-returns : (t : ℕ) → start-lts.Need-returns (start-calls t) (start-at t) start.Post
 start-returns t c =
     start-not (c .before .before .before .before .before .before .args .level) (c .before .before .before .before .number .ensures) (c .before .before .before .head-of .ensures) (c .before .opening .ensures) (not-done (c .match .keys2))
 
-
-start-at-requires : (t : ℕ) → start-lts.Need-at-requires (
-  number-reads.Asked,
-  number-reads.Learnt,
-  head-of-reads.Asked,
-  head-of-reads.Learnt,
-  opening-below t,
-  opening.Post,
-  at-reads.Asked,
-  at-reads.Learnt,
-  after-reads.Asked,
-  after-reads.Learnt,
-  rest-below t,
-  rest.Post,
-) (start-at t) start.Post
+start-at-requires : (t : ℕ) → start-lts.Need-at-requires (start-calls t) (start-at t) start.Post
 start-at-requires t c κs = search needs
 
-start-after-requires : (t : ℕ) → start-lts.Need-after-requires (
-  number-reads.Asked,
-  number-reads.Learnt,
-  head-of-reads.Asked,
-  head-of-reads.Learnt,
-  opening-below t,
-  opening.Post,
-  at-reads.Asked,
-  at-reads.Learnt,
-  after-reads.Asked,
-  after-reads.Learnt,
-  rest-below t,
-  rest.Post,
-) (start-at t) start.Post
+start-after-requires : (t : ℕ) → start-lts.Need-after-requires (start-calls t) (start-at t) start.Post
 start-after-requires t c κs = search needs
 
-start-rest-requires : (t : ℕ) → start-lts.Need-rest-requires (
-  number-reads.Asked,
-  number-reads.Learnt,
-  head-of-reads.Asked,
-  head-of-reads.Learnt,
-  opening-below t,
-  opening.Post,
-  at-reads.Asked,
-  at-reads.Learnt,
-  after-reads.Asked,
-  after-reads.Learnt,
-  rest-below t,
-  rest.Post,
-) (start-at t) start.Post
+start-rest-requires : (t : ℕ) → start-lts.Need-rest-requires (start-calls t) (start-at t) start.Post
 start-rest-requires t c κs =
     let h : c .before .before .at .result .nesting ≡ c .before .before .before .before .before .before .before .before .before .before .args .s .nesting = ap (λ (q : State). q .nesting) (c .before .before .at .ensures) in search needs
 
-start-returns-2 : (t : ℕ) → start-lts.Need-returns-2 (
-  number-reads.Asked,
-  number-reads.Learnt,
-  head-of-reads.Asked,
-  head-of-reads.Learnt,
-  opening-below t,
-  opening.Post,
-  at-reads.Asked,
-  at-reads.Learnt,
-  after-reads.Asked,
-  after-reads.Learnt,
-  rest-below t,
-  rest.Post,
-) (start-at t) start.Post
+start-returns-2 : (t : ℕ) → start-lts.Need-returns-2 (start-calls t) (start-at t) start.Post
 start-returns-2 t c =
     start-says (c .before .before .before .before .before .before .before .before .before .before .before .args .level) (c .before .before .before .before .before .before .before .before .before .number .ensures) (c .before .before .before .before .before .before .before .before .head-of .ensures) (c .before .before .before .before .before .before .opening .ensures) (c .before .before .before .before .enum-told .given .1) (c .before .before .after .ensures) (c .before .before .before .at .ensures) (c .rest .ensures)
 
-
-subscript-ends-ahead-requires : (t : ℕ) → subscript-lts.Need-ends-ahead-requires (
-  ends-ahead-reads.Asked,
-  ends-ahead-reads.Learnt,
-  part-reads.Asked,
-  part-reads.Learnt,
-  inside-below t,
-  inside.Post,
-  number-reads.Asked,
-  number-reads.Learnt,
-  take-reads.Asked,
-  take-reads.Learnt,
-  at-reads.Asked,
-  at-reads.Learnt,
-  second-below t,
-  second.Post,
-  expect-reads.Asked,
-  expect-reads.Learnt,
-  last-reads.Asked,
-  last-reads.Learnt,
-  single-below t,
-  single.Post,
-) (subscript-at t) subscript.Post
+subscript-ends-ahead-requires : (t : ℕ) → subscript-lts.Need-ends-ahead-requires (subscript-calls t) (subscript-at t) subscript.Post
 subscript-ends-ahead-requires t c κs = search needs
 
-subscript-part-requires : (t : ℕ) → subscript-lts.Need-part-requires (
-  ends-ahead-reads.Asked,
-  ends-ahead-reads.Learnt,
-  part-reads.Asked,
-  part-reads.Learnt,
-  inside-below t,
-  inside.Post,
-  number-reads.Asked,
-  number-reads.Learnt,
-  take-reads.Asked,
-  take-reads.Learnt,
-  at-reads.Asked,
-  at-reads.Learnt,
-  second-below t,
-  second.Post,
-  expect-reads.Asked,
-  expect-reads.Learnt,
-  last-reads.Asked,
-  last-reads.Learnt,
-  single-below t,
-  single.Post,
-) (subscript-at t) subscript.Post
+subscript-part-requires : (t : ℕ) → subscript-lts.Need-part-requires (subscript-calls t) (subscript-at t) subscript.Post
 subscript-part-requires t c κs = search needs
 
-subscript-returns : (t : ℕ) → subscript-lts.Need-returns (
-  ends-ahead-reads.Asked,
-  ends-ahead-reads.Learnt,
-  part-reads.Asked,
-  part-reads.Learnt,
-  inside-below t,
-  inside.Post,
-  number-reads.Asked,
-  number-reads.Learnt,
-  take-reads.Asked,
-  take-reads.Learnt,
-  at-reads.Asked,
-  at-reads.Learnt,
-  second-below t,
-  second.Post,
-  expect-reads.Asked,
-  expect-reads.Learnt,
-  last-reads.Asked,
-  last-reads.Learnt,
-  single-below t,
-  single.Post,
-) (subscript-at t) subscript.Post
+subscript-returns : (t : ℕ) → subscript-lts.Need-returns (subscript-calls t) (subscript-at t) subscript.Post
 subscript-returns t c =
     λ sc h. c .part .ensures (ends-so true (c .before .before .before .ends-ahead .ensures) (c .before .before .if1 .taken) (h .seen)) sc h
 
-
-subscript-inside-requires : (t : ℕ) → subscript-lts.Need-inside-requires (
-  ends-ahead-reads.Asked,
-  ends-ahead-reads.Learnt,
-  part-reads.Asked,
-  part-reads.Learnt,
-  inside-below t,
-  inside.Post,
-  number-reads.Asked,
-  number-reads.Learnt,
-  take-reads.Asked,
-  take-reads.Learnt,
-  at-reads.Asked,
-  at-reads.Learnt,
-  second-below t,
-  second.Post,
-  expect-reads.Asked,
-  expect-reads.Learnt,
-  last-reads.Asked,
-  last-reads.Learnt,
-  single-below t,
-  single.Post,
-) (subscript-at t) subscript.Post
+subscript-inside-requires : (t : ℕ) → subscript-lts.Need-inside-requires (subscript-calls t) (subscript-at t) subscript.Post
 subscript-inside-requires t c κs = search needs
 
-subscript-enum-told : (t : ℕ) → subscript-lts.Need-enum-told (
-  ends-ahead-reads.Asked,
-  ends-ahead-reads.Learnt,
-  part-reads.Asked,
-  part-reads.Learnt,
-  inside-below t,
-  inside.Post,
-  number-reads.Asked,
-  number-reads.Learnt,
-  take-reads.Asked,
-  take-reads.Learnt,
-  at-reads.Asked,
-  at-reads.Learnt,
-  second-below t,
-  second.Post,
-  expect-reads.Asked,
-  expect-reads.Learnt,
-  last-reads.Asked,
-  last-reads.Learnt,
-  single-below t,
-  single.Post,
-) (subscript-at t) subscript.Post
+subscript-enum-told : (t : ℕ) → subscript-lts.Need-enum-told (subscript-calls t) (subscript-at t) subscript.Post
 subscript-enum-told t c = search needs
 
-subscript-returns-2 : (t : ℕ) → subscript-lts.Need-returns-2 (
-  ends-ahead-reads.Asked,
-  ends-ahead-reads.Learnt,
-  part-reads.Asked,
-  part-reads.Learnt,
-  inside-below t,
-  inside.Post,
-  number-reads.Asked,
-  number-reads.Learnt,
-  take-reads.Asked,
-  take-reads.Learnt,
-  at-reads.Asked,
-  at-reads.Learnt,
-  second-below t,
-  second.Post,
-  expect-reads.Asked,
-  expect-reads.Learnt,
-  last-reads.Asked,
-  last-reads.Learnt,
-  single-below t,
-  single.Post,
-) (subscript-at t) subscript.Post
+subscript-returns-2 : (t : ℕ) → subscript-lts.Need-returns-2 (subscript-calls t) (subscript-at t) subscript.Post
 subscript-returns-2 t c =
     subscript-not (c .before .before .before .before .before .before .args .name) (c .before .before .before .before .ends-ahead .ensures) (c .before .before .before .if1 .left) (c .before .inside .ensures) (not-done (c .match .keys2))
 
-
-subscript-number-requires : (t : ℕ) → subscript-lts.Need-number-requires (
-  ends-ahead-reads.Asked,
-  ends-ahead-reads.Learnt,
-  part-reads.Asked,
-  part-reads.Learnt,
-  inside-below t,
-  inside.Post,
-  number-reads.Asked,
-  number-reads.Learnt,
-  take-reads.Asked,
-  take-reads.Learnt,
-  at-reads.Asked,
-  at-reads.Learnt,
-  second-below t,
-  second.Post,
-  expect-reads.Asked,
-  expect-reads.Learnt,
-  last-reads.Asked,
-  last-reads.Learnt,
-  single-below t,
-  single.Post,
-) (subscript-at t) subscript.Post
+subscript-number-requires : (t : ℕ) → subscript-lts.Need-number-requires (subscript-calls t) (subscript-at t) subscript.Post
 subscript-number-requires t c κs = search needs
 
-subscript-take-requires : (t : ℕ) → subscript-lts.Need-take-requires (
-  ends-ahead-reads.Asked,
-  ends-ahead-reads.Learnt,
-  part-reads.Asked,
-  part-reads.Learnt,
-  inside-below t,
-  inside.Post,
-  number-reads.Asked,
-  number-reads.Learnt,
-  take-reads.Asked,
-  take-reads.Learnt,
-  at-reads.Asked,
-  at-reads.Learnt,
-  second-below t,
-  second.Post,
-  expect-reads.Asked,
-  expect-reads.Learnt,
-  last-reads.Asked,
-  last-reads.Learnt,
-  single-below t,
-  single.Post,
-) (subscript-at t) subscript.Post
+subscript-take-requires : (t : ℕ) → subscript-lts.Need-take-requires (subscript-calls t) (subscript-at t) subscript.Post
 subscript-take-requires t c κs = search needs
 
-subscript-enum-told-2 : (t : ℕ) → subscript-lts.Need-enum-told-2 (
-  ends-ahead-reads.Asked,
-  ends-ahead-reads.Learnt,
-  part-reads.Asked,
-  part-reads.Learnt,
-  inside-below t,
-  inside.Post,
-  number-reads.Asked,
-  number-reads.Learnt,
-  take-reads.Asked,
-  take-reads.Learnt,
-  at-reads.Asked,
-  at-reads.Learnt,
-  second-below t,
-  second.Post,
-  expect-reads.Asked,
-  expect-reads.Learnt,
-  last-reads.Asked,
-  last-reads.Learnt,
-  single-below t,
-  single.Post,
-) (subscript-at t) subscript.Post
+subscript-enum-told-2 : (t : ℕ) → subscript-lts.Need-enum-told-2 (subscript-calls t) (subscript-at t) subscript.Post
 subscript-enum-told-2 t c = search needs
 
-subscript-returns-3 : (t : ℕ) → subscript-lts.Need-returns-3 (
-  ends-ahead-reads.Asked,
-  ends-ahead-reads.Learnt,
-  part-reads.Asked,
-  part-reads.Learnt,
-  inside-below t,
-  inside.Post,
-  number-reads.Asked,
-  number-reads.Learnt,
-  take-reads.Asked,
-  take-reads.Learnt,
-  at-reads.Asked,
-  at-reads.Learnt,
-  second-below t,
-  second.Post,
-  expect-reads.Asked,
-  expect-reads.Learnt,
-  last-reads.Asked,
-  last-reads.Learnt,
-  single-below t,
-  single.Post,
-) (subscript-at t) subscript.Post
+subscript-returns-3 : (t : ℕ) → subscript-lts.Need-returns-3 (subscript-calls t) (subscript-at t) subscript.Post
 subscript-returns-3 t c =
     comma-not (c .before .before .before .before .before .before .before .before .before .before .before .before .before .args .name) (c .before .before .before .before .before .before .before .before .before .before .before .ends-ahead .ensures) (c .before .before .before .before .before .before .before .before .before .before .if1 .left) (c .before .before .before .before .before .before .before .before .inside .ensures) (c .before .before .before .before .before .before .enum-told .given .1) (sym (c .before .before .before .number .ensures) ∙ c .before .before .if2 .taken) (c .before .take .ensures) (not-done (c .match2 .keys2))
 
-
-subscript-at-requires : (t : ℕ) → subscript-lts.Need-at-requires (
-  ends-ahead-reads.Asked,
-  ends-ahead-reads.Learnt,
-  part-reads.Asked,
-  part-reads.Learnt,
-  inside-below t,
-  inside.Post,
-  number-reads.Asked,
-  number-reads.Learnt,
-  take-reads.Asked,
-  take-reads.Learnt,
-  at-reads.Asked,
-  at-reads.Learnt,
-  second-below t,
-  second.Post,
-  expect-reads.Asked,
-  expect-reads.Learnt,
-  last-reads.Asked,
-  last-reads.Learnt,
-  single-below t,
-  single.Post,
-) (subscript-at t) subscript.Post
+subscript-at-requires : (t : ℕ) → subscript-lts.Need-at-requires (subscript-calls t) (subscript-at t) subscript.Post
 subscript-at-requires t c κs = search needs
 
-subscript-second-requires : (t : ℕ) → subscript-lts.Need-second-requires (
-  ends-ahead-reads.Asked,
-  ends-ahead-reads.Learnt,
-  part-reads.Asked,
-  part-reads.Learnt,
-  inside-below t,
-  inside.Post,
-  number-reads.Asked,
-  number-reads.Learnt,
-  take-reads.Asked,
-  take-reads.Learnt,
-  at-reads.Asked,
-  at-reads.Learnt,
-  second-below t,
-  second.Post,
-  expect-reads.Asked,
-  expect-reads.Learnt,
-  last-reads.Asked,
-  last-reads.Learnt,
-  single-below t,
-  single.Post,
-) (subscript-at t) subscript.Post
+subscript-second-requires : (t : ℕ) → subscript-lts.Need-second-requires (subscript-calls t) (subscript-at t) subscript.Post
 subscript-second-requires t c κs =
     let e = c .before .before .before .before .before .before .before .before .before .before .before .before .before .before .before .before .pre .0 in let h : c .before .at .result .nesting ≡ c .before .before .before .before .before .before .before .before .before .before .before .before .before .before .before .before .args .s .nesting = ap (λ (q : State). q .nesting) (c .before .at .ensures) in search needs
 
-subscript-returns-4 : (t : ℕ) → subscript-lts.Need-returns-4 (
-  ends-ahead-reads.Asked,
-  ends-ahead-reads.Learnt,
-  part-reads.Asked,
-  part-reads.Learnt,
-  inside-below t,
-  inside.Post,
-  number-reads.Asked,
-  number-reads.Learnt,
-  take-reads.Asked,
-  take-reads.Learnt,
-  at-reads.Asked,
-  at-reads.Learnt,
-  second-below t,
-  second.Post,
-  expect-reads.Asked,
-  expect-reads.Learnt,
-  last-reads.Asked,
-  last-reads.Learnt,
-  single-below t,
-  single.Post,
-) (subscript-at t) subscript.Post
+subscript-returns-4 : (t : ℕ) → subscript-lts.Need-returns-4 (subscript-calls t) (subscript-at t) subscript.Post
 subscript-returns-4 t c =
     comma-says (c .before .before .before .before .before .before .before .before .before .before .before .before .before .before .before .before .before .args .name) (c .before .before .before .before .before .before .before .before .before .before .before .before .before .before .before .ends-ahead .ensures) (c .before .before .before .before .before .before .before .before .before .before .before .before .before .before .if1 .left) (c .before .before .before .before .before .before .before .before .before .before .before .before .inside .ensures) (c .before .before .before .before .before .before .before .before .before .before .enum-told .given .1) (sym (c .before .before .before .before .before .before .before .number .ensures) ∙ c .before .before .before .before .before .before .if2 .taken) (c .before .before .before .before .before .take .ensures) (c .before .before .before .enum-told2 .given .1) (c .before .before .at .ensures) (c .second .ensures)
 
-
-subscript-expect-requires : (t : ℕ) → subscript-lts.Need-expect-requires (
-  ends-ahead-reads.Asked,
-  ends-ahead-reads.Learnt,
-  part-reads.Asked,
-  part-reads.Learnt,
-  inside-below t,
-  inside.Post,
-  number-reads.Asked,
-  number-reads.Learnt,
-  take-reads.Asked,
-  take-reads.Learnt,
-  at-reads.Asked,
-  at-reads.Learnt,
-  second-below t,
-  second.Post,
-  expect-reads.Asked,
-  expect-reads.Learnt,
-  last-reads.Asked,
-  last-reads.Learnt,
-  single-below t,
-  single.Post,
-) (subscript-at t) subscript.Post
+subscript-expect-requires : (t : ℕ) → subscript-lts.Need-expect-requires (subscript-calls t) (subscript-at t) subscript.Post
 subscript-expect-requires t c κs = search needs
 
-subscript-enum-told-3 : (t : ℕ) → subscript-lts.Need-enum-told-3 (
-  ends-ahead-reads.Asked,
-  ends-ahead-reads.Learnt,
-  part-reads.Asked,
-  part-reads.Learnt,
-  inside-below t,
-  inside.Post,
-  number-reads.Asked,
-  number-reads.Learnt,
-  take-reads.Asked,
-  take-reads.Learnt,
-  at-reads.Asked,
-  at-reads.Learnt,
-  second-below t,
-  second.Post,
-  expect-reads.Asked,
-  expect-reads.Learnt,
-  last-reads.Asked,
-  last-reads.Learnt,
-  single-below t,
-  single.Post,
-) (subscript-at t) subscript.Post
+subscript-enum-told-3 : (t : ℕ) → subscript-lts.Need-enum-told-3 (subscript-calls t) (subscript-at t) subscript.Post
 subscript-enum-told-3 t c = search needs
 
-subscript-returns-5 : (t : ℕ) → subscript-lts.Need-returns-5 (
-  ends-ahead-reads.Asked,
-  ends-ahead-reads.Learnt,
-  part-reads.Asked,
-  part-reads.Learnt,
-  inside-below t,
-  inside.Post,
-  number-reads.Asked,
-  number-reads.Learnt,
-  take-reads.Asked,
-  take-reads.Learnt,
-  at-reads.Asked,
-  at-reads.Learnt,
-  second-below t,
-  second.Post,
-  expect-reads.Asked,
-  expect-reads.Learnt,
-  last-reads.Asked,
-  last-reads.Learnt,
-  single-below t,
-  single.Post,
-) (subscript-at t) subscript.Post
+subscript-returns-5 : (t : ℕ) → subscript-lts.Need-returns-5 (subscript-calls t) (subscript-at t) subscript.Post
 subscript-returns-5 t c =
     close-not (c .before .before .before .before .before .before .before .before .before .before .before .before .before .args .name) (c .before .before .before .before .before .before .before .before .before .before .before .ends-ahead .ensures) (c .before .before .before .before .before .before .before .before .before .before .if1 .left) (c .before .before .before .before .before .before .before .before .inside .ensures) (c .before .before .before .before .before .before .enum-told .given .1) (λ e. c .before .before .if2 .left (c .before .before .before .number .ensures ∙ e)) (c .before .expect .ensures) (not-done (c .match3 .keys2))
 
-
-subscript-last-requires : (t : ℕ) → subscript-lts.Need-last-requires (
-  ends-ahead-reads.Asked,
-  ends-ahead-reads.Learnt,
-  part-reads.Asked,
-  part-reads.Learnt,
-  inside-below t,
-  inside.Post,
-  number-reads.Asked,
-  number-reads.Learnt,
-  take-reads.Asked,
-  take-reads.Learnt,
-  at-reads.Asked,
-  at-reads.Learnt,
-  second-below t,
-  second.Post,
-  expect-reads.Asked,
-  expect-reads.Learnt,
-  last-reads.Asked,
-  last-reads.Learnt,
-  single-below t,
-  single.Post,
-) (subscript-at t) subscript.Post
+subscript-last-requires : (t : ℕ) → subscript-lts.Need-last-requires (subscript-calls t) (subscript-at t) subscript.Post
 subscript-last-requires t c κs = search needs
 
-subscript-at-requires-2 : (t : ℕ) → subscript-lts.Need-at-requires-2 (
-  ends-ahead-reads.Asked,
-  ends-ahead-reads.Learnt,
-  part-reads.Asked,
-  part-reads.Learnt,
-  inside-below t,
-  inside.Post,
-  number-reads.Asked,
-  number-reads.Learnt,
-  take-reads.Asked,
-  take-reads.Learnt,
-  at-reads.Asked,
-  at-reads.Learnt,
-  second-below t,
-  second.Post,
-  expect-reads.Asked,
-  expect-reads.Learnt,
-  last-reads.Asked,
-  last-reads.Learnt,
-  single-below t,
-  single.Post,
-) (subscript-at t) subscript.Post
+subscript-at-requires-2 : (t : ℕ) → subscript-lts.Need-at-requires-2 (subscript-calls t) (subscript-at t) subscript.Post
 subscript-at-requires-2 t c κs = search needs
 
-subscript-single-requires : (t : ℕ) → subscript-lts.Need-single-requires (
-  ends-ahead-reads.Asked,
-  ends-ahead-reads.Learnt,
-  part-reads.Asked,
-  part-reads.Learnt,
-  inside-below t,
-  inside.Post,
-  number-reads.Asked,
-  number-reads.Learnt,
-  take-reads.Asked,
-  take-reads.Learnt,
-  at-reads.Asked,
-  at-reads.Learnt,
-  second-below t,
-  second.Post,
-  expect-reads.Asked,
-  expect-reads.Learnt,
-  last-reads.Asked,
-  last-reads.Learnt,
-  single-below t,
-  single.Post,
-) (subscript-at t) subscript.Post
+subscript-single-requires : (t : ℕ) → subscript-lts.Need-single-requires (subscript-calls t) (subscript-at t) subscript.Post
 subscript-single-requires t c κs =
     let e = c .before .before .before .before .before .before .before .before .before .before .before .before .before .before .before .before .before .pre .0 in let h : c .before .at2 .result .nesting ≡ c .before .before .last .result = ap (λ (q : State). q .nesting) (c .before .at2 .ensures) in let g : c .before .before .last .result ≡ c .before .before .before .before .before .before .before .before .before .before .before .before .before .before .before .before .before .args .s .nesting - 1 = c .before .before .last .ensures in search needs
 
-subscript-returns-6 : (t : ℕ) → subscript-lts.Need-returns-6 (
-  ends-ahead-reads.Asked,
-  ends-ahead-reads.Learnt,
-  part-reads.Asked,
-  part-reads.Learnt,
-  inside-below t,
-  inside.Post,
-  number-reads.Asked,
-  number-reads.Learnt,
-  take-reads.Asked,
-  take-reads.Learnt,
-  at-reads.Asked,
-  at-reads.Learnt,
-  second-below t,
-  second.Post,
-  expect-reads.Asked,
-  expect-reads.Learnt,
-  last-reads.Asked,
-  last-reads.Learnt,
-  single-below t,
-  single.Post,
-) (subscript-at t) subscript.Post
+subscript-returns-6 : (t : ℕ) → subscript-lts.Need-returns-6 (subscript-calls t) (subscript-at t) subscript.Post
 subscript-returns-6 t c =
     close-says (c .before .before .before .before .before .before .before .before .before .before .before .before .before .before .before .before .before .before .args .name) (c .before .before .before .before .before .before .before .before .before .before .before .before .before .before .before .before .ends-ahead .ensures) (c .before .before .before .before .before .before .before .before .before .before .before .before .before .before .before .if1 .left) (c .before .before .before .before .before .before .before .before .before .before .before .before .before .inside .ensures) (c .before .before .before .before .before .before .before .before .before .before .before .enum-told .given .1) (λ e. c .before .before .before .before .before .before .before .if2 .left (c .before .before .before .before .before .before .before .before .number .ensures ∙ e)) (c .before .before .before .before .before .before .expect .ensures) (c .before .before .before .before .enum-told3 .given .1) (c .before .before .before .last .ensures) (c .before .before .at2 .ensures) (c .single .ensures)
-
 
 abbrev tail-Inv-loop : tail-lts.InvT-loop
 tail-Inv-loop s rank text work₀ state₀ next₀ left₀ work state next left = Tails rank text next₀ s work₀ next state work left
@@ -3502,478 +986,102 @@ tail-Inv-loop s rank text work₀ state₀ next₀ left₀ work state next left 
 abbrev tail-μ-loop : tail-lts.MeasureT-loop
 tail-μ-loop s rank text work₀ state₀ next₀ left₀ work state next left = left
 
-tail-loop-holds : (t : ℕ) → tail-lts.Need-loop-holds (
-  operates-reads.Asked,
-  operates-reads.Learnt,
-  at-reads.Asked,
-  at-reads.Learnt,
-  operation-below t,
-  operation.Post,
-  once-reads.Asked,
-  once-reads.Learnt,
-  stay-reads.Asked,
-  stay-reads.Learnt,
-  full-reads.Asked,
-  full-reads.Learnt,
-) (tail-at t) tail.Post tail-Inv-loop tail-μ-loop
+tail-loop-holds : (t : ℕ) → tail-lts.Need-loop-holds (tail-calls t) (tail-at t) tail.Post tail-Inv-loop tail-μ-loop
 tail-loop-holds t c =
     tails-begin (c .before .args .rank)
 
-
-tail-operates-requires : (t : ℕ) → tail-lts.Need-operates-requires (
-  operates-reads.Asked,
-  operates-reads.Learnt,
-  at-reads.Asked,
-  at-reads.Learnt,
-  operation-below t,
-  operation.Post,
-  once-reads.Asked,
-  once-reads.Learnt,
-  stay-reads.Asked,
-  stay-reads.Learnt,
-  full-reads.Asked,
-  full-reads.Learnt,
-) (tail-at t) tail.Post tail-Inv-loop tail-μ-loop
+tail-operates-requires : (t : ℕ) → tail-lts.Need-operates-requires (tail-calls t) (tail-at t) tail.Post tail-Inv-loop tail-μ-loop
 tail-operates-requires t c κs = search needs
 
-tail-at-requires : (t : ℕ) → tail-lts.Need-at-requires (
-  operates-reads.Asked,
-  operates-reads.Learnt,
-  at-reads.Asked,
-  at-reads.Learnt,
-  operation-below t,
-  operation.Post,
-  once-reads.Asked,
-  once-reads.Learnt,
-  stay-reads.Asked,
-  stay-reads.Learnt,
-  full-reads.Asked,
-  full-reads.Learnt,
-) (tail-at t) tail.Post tail-Inv-loop tail-μ-loop
+tail-at-requires : (t : ℕ) → tail-lts.Need-at-requires (tail-calls t) (tail-at t) tail.Post tail-Inv-loop tail-μ-loop
 tail-at-requires t c κs = search needs
 
-tail-operation-requires : (t : ℕ) → tail-lts.Need-operation-requires (
-  operates-reads.Asked,
-  operates-reads.Learnt,
-  at-reads.Asked,
-  at-reads.Learnt,
-  operation-below t,
-  operation.Post,
-  once-reads.Asked,
-  once-reads.Learnt,
-  stay-reads.Asked,
-  stay-reads.Learnt,
-  full-reads.Asked,
-  full-reads.Learnt,
-) (tail-at t) tail.Post tail-Inv-loop tail-μ-loop
+tail-operation-requires : (t : ℕ) → tail-lts.Need-operation-requires (tail-calls t) (tail-at t) tail.Post tail-Inv-loop tail-μ-loop
 tail-operation-requires t c κs =
     let h : c .before .at .result .nesting ≡ c .before .before .before .before .before .before .before .args .s .nesting = ap (λ (q : State). q .nesting) (c .before .at .ensures) in search needs
 
-tail-enum-told : (t : ℕ) → tail-lts.Need-enum-told (
-  operates-reads.Asked,
-  operates-reads.Learnt,
-  at-reads.Asked,
-  at-reads.Learnt,
-  operation-below t,
-  operation.Post,
-  once-reads.Asked,
-  once-reads.Learnt,
-  stay-reads.Asked,
-  stay-reads.Learnt,
-  full-reads.Asked,
-  full-reads.Learnt,
-) (tail-at t) tail.Post tail-Inv-loop tail-μ-loop
+tail-enum-told : (t : ℕ) → tail-lts.Need-enum-told (tail-calls t) (tail-at t) tail.Post tail-Inv-loop tail-μ-loop
 tail-enum-told t c = search needs
 
-tail-returns : (t : ℕ) → tail-lts.Need-returns (
-  operates-reads.Asked,
-  operates-reads.Learnt,
-  at-reads.Asked,
-  at-reads.Learnt,
-  operation-below t,
-  operation.Post,
-  once-reads.Asked,
-  once-reads.Learnt,
-  stay-reads.Asked,
-  stay-reads.Learnt,
-  full-reads.Asked,
-  full-reads.Learnt,
-) (tail-at t) tail.Post tail-Inv-loop tail-μ-loop
+tail-returns : (t : ℕ) → tail-lts.Need-returns (tail-calls t) (tail-at t) tail.Post tail-Inv-loop tail-μ-loop
 tail-returns t c =
     tails-not (c .before .before .before .before .before .before .before .before .before .args .rank) (c .before .before .before .before .before .before .before .loop .inv) (sym (c .before .before .before .before .before .operates .ensures) ∙ c .before .before .before .before .if1 .taken) (c .before .before .before .at .ensures) (c .before .operation .ensures) (not-done (c .match .keys2))
 
-
-tail-once-requires : (t : ℕ) → tail-lts.Need-once-requires (
-  operates-reads.Asked,
-  operates-reads.Learnt,
-  at-reads.Asked,
-  at-reads.Learnt,
-  operation-below t,
-  operation.Post,
-  once-reads.Asked,
-  once-reads.Learnt,
-  stay-reads.Asked,
-  stay-reads.Learnt,
-  full-reads.Asked,
-  full-reads.Learnt,
-) (tail-at t) tail.Post tail-Inv-loop tail-μ-loop
+tail-once-requires : (t : ℕ) → tail-lts.Need-once-requires (tail-calls t) (tail-at t) tail.Post tail-Inv-loop tail-μ-loop
 tail-once-requires t c κs = search needs
 
-tail-returns-2 : (t : ℕ) → tail-lts.Need-returns-2 (
-  operates-reads.Asked,
-  operates-reads.Learnt,
-  at-reads.Asked,
-  at-reads.Learnt,
-  operation-below t,
-  operation.Post,
-  once-reads.Asked,
-  once-reads.Learnt,
-  stay-reads.Asked,
-  stay-reads.Learnt,
-  full-reads.Asked,
-  full-reads.Learnt,
-) (tail-at t) tail.Post tail-Inv-loop tail-μ-loop
+tail-returns-2 : (t : ℕ) → tail-lts.Need-returns-2 (tail-calls t) (tail-at t) tail.Post tail-Inv-loop tail-μ-loop
 tail-returns-2 t c =
     tails-once (c .before .before .before .before .before .before .before .before .before .before .before .before .args .rank) (c .before .before .before .before .before .before .before .before .before .before .loop .inv) (sym (c .before .before .before .before .before .before .before .before .operates .ensures) ∙ c .before .before .before .before .before .before .before .if1 .taken) (c .before .before .before .before .before .before .at .ensures) (c .before .before .before .before .operation .ensures) (sym (c .before .once .ensures) ∙ c .if2 .taken)
 
-
-tail-sub-left : (t : ℕ) → tail-lts.Need-sub-left (
-  operates-reads.Asked,
-  operates-reads.Learnt,
-  at-reads.Asked,
-  at-reads.Learnt,
-  operation-below t,
-  operation.Post,
-  once-reads.Asked,
-  once-reads.Learnt,
-  stay-reads.Asked,
-  stay-reads.Learnt,
-  full-reads.Asked,
-  full-reads.Learnt,
-) (tail-at t) tail.Post tail-Inv-loop tail-μ-loop
+tail-sub-left : (t : ℕ) → tail-lts.Need-sub-left (tail-calls t) (tail-at t) tail.Post tail-Inv-loop tail-μ-loop
 tail-sub-left t c = search needs
 
-tail-loop-less : (t : ℕ) → tail-lts.Need-loop-less (
-  operates-reads.Asked,
-  operates-reads.Learnt,
-  at-reads.Asked,
-  at-reads.Learnt,
-  operation-below t,
-  operation.Post,
-  once-reads.Asked,
-  once-reads.Learnt,
-  stay-reads.Asked,
-  stay-reads.Learnt,
-  full-reads.Asked,
-  full-reads.Learnt,
-) (tail-at t) tail.Post tail-Inv-loop tail-μ-loop
+tail-loop-less : (t : ℕ) → tail-lts.Need-loop-less (tail-calls t) (tail-at t) tail.Post tail-Inv-loop tail-μ-loop
 tail-loop-less t c = search needs
 
-tail-loop-again : (t : ℕ) → tail-lts.Need-loop-again (
-  operates-reads.Asked,
-  operates-reads.Learnt,
-  at-reads.Asked,
-  at-reads.Learnt,
-  operation-below t,
-  operation.Post,
-  once-reads.Asked,
-  once-reads.Learnt,
-  stay-reads.Asked,
-  stay-reads.Learnt,
-  full-reads.Asked,
-  full-reads.Learnt,
-) (tail-at t) tail.Post tail-Inv-loop tail-μ-loop
+tail-loop-again : (t : ℕ) → tail-lts.Need-loop-again (tail-calls t) (tail-at t) tail.Post tail-Inv-loop tail-μ-loop
 tail-loop-again t c =
     tails-more (c .before .before .before .before .before .before .before .before .before .before .before .before .before .before .args .rank) (c .before .before .before .before .before .before .before .before .before .before .before .before .loop .inv) (sym (c .before .before .before .before .before .before .before .before .before .before .operates .ensures) ∙ c .before .before .before .before .before .before .before .before .before .if1 .taken) (c .before .before .before .before .before .before .before .before .at .ensures) (c .before .before .before .before .before .before .operation .ensures) (c .before .before .before .before .enum-told .given .1) (sym (c .before .before .before .once .ensures) ∙ c .before .before .if2 .left) (omega (arith, c .before .before .before .before .before .before .before .before .before .before .before .loop-test .taken))
 
-
-tail-stay-requires : (t : ℕ) → tail-lts.Need-stay-requires (
-  operates-reads.Asked,
-  operates-reads.Learnt,
-  at-reads.Asked,
-  at-reads.Learnt,
-  operation-below t,
-  operation.Post,
-  once-reads.Asked,
-  once-reads.Learnt,
-  stay-reads.Asked,
-  stay-reads.Learnt,
-  full-reads.Asked,
-  full-reads.Learnt,
-) (tail-at t) tail.Post tail-Inv-loop tail-μ-loop
+tail-stay-requires : (t : ℕ) → tail-lts.Need-stay-requires (tail-calls t) (tail-at t) tail.Post tail-Inv-loop tail-μ-loop
 tail-stay-requires t c κs = search needs
 
-tail-returns-3 : (t : ℕ) → tail-lts.Need-returns-3 (
-  operates-reads.Asked,
-  operates-reads.Learnt,
-  at-reads.Asked,
-  at-reads.Learnt,
-  operation-below t,
-  operation.Post,
-  once-reads.Asked,
-  once-reads.Learnt,
-  stay-reads.Asked,
-  stay-reads.Learnt,
-  full-reads.Asked,
-  full-reads.Learnt,
-) (tail-at t) tail.Post tail-Inv-loop tail-μ-loop
+tail-returns-3 : (t : ℕ) → tail-lts.Need-returns-3 (tail-calls t) (tail-at t) tail.Post tail-Inv-loop tail-μ-loop
 tail-returns-3 t c =
     tails-end (c .before .before .before .before .before .before .args .rank) (c .before .before .before .before .loop .inv) (sym (c .before .before .operates .ensures) ∙ c .before .if1 .left) (c .stay .ensures)
 
-
-tail-full-requires : (t : ℕ) → tail-lts.Need-full-requires (
-  operates-reads.Asked,
-  operates-reads.Learnt,
-  at-reads.Asked,
-  at-reads.Learnt,
-  operation-below t,
-  operation.Post,
-  once-reads.Asked,
-  once-reads.Learnt,
-  stay-reads.Asked,
-  stay-reads.Learnt,
-  full-reads.Asked,
-  full-reads.Learnt,
-) (tail-at t) tail.Post tail-Inv-loop tail-μ-loop
+tail-full-requires : (t : ℕ) → tail-lts.Need-full-requires (tail-calls t) (tail-at t) tail.Post tail-Inv-loop tail-μ-loop
 tail-full-requires t c κs = search needs
 
-tail-returns-4 : (t : ℕ) → tail-lts.Need-returns-4 (
-  operates-reads.Asked,
-  operates-reads.Learnt,
-  at-reads.Asked,
-  at-reads.Learnt,
-  operation-below t,
-  operation.Post,
-  once-reads.Asked,
-  once-reads.Learnt,
-  stay-reads.Asked,
-  stay-reads.Learnt,
-  full-reads.Asked,
-  full-reads.Learnt,
-) (tail-at t) tail.Post tail-Inv-loop tail-μ-loop
+tail-returns-4 : (t : ℕ) → tail-lts.Need-returns-4 (tail-calls t) (tail-at t) tail.Post tail-Inv-loop tail-μ-loop
 tail-returns-4 t c =
     tails-full (c .before .before .before .before .args .rank) (c .before .before .loop .inv) (c .before .loop-test .left) (c .full .ensures)
 
-
-term-number-requires : (t : ℕ) → term-lts.Need-number-requires (
-  number-reads.Asked,
-  number-reads.Learnt,
-  constant-reads.Asked,
-  constant-reads.Learnt,
-  named-below t,
-  named.Post,
-  group-below t,
-  group.Post,
-  choice-below t,
-  choice.Post,
-  refuse-reads.Asked,
-  refuse-reads.Learnt,
-) (term-at t) term.Post
+term-number-requires : (t : ℕ) → term-lts.Need-number-requires (term-calls t) (term-at t) term.Post
 term-number-requires t c κs = search needs
 
-term-constant-requires : (t : ℕ) → term-lts.Need-constant-requires (
-  number-reads.Asked,
-  number-reads.Learnt,
-  constant-reads.Asked,
-  constant-reads.Learnt,
-  named-below t,
-  named.Post,
-  group-below t,
-  group.Post,
-  choice-below t,
-  choice.Post,
-  refuse-reads.Asked,
-  refuse-reads.Learnt,
-) (term-at t) term.Post
+term-constant-requires : (t : ℕ) → term-lts.Need-constant-requires (term-calls t) (term-at t) term.Post
 term-constant-requires t c κs = search needs
 
-term-returns : (t : ℕ) → term-lts.Need-returns (
-  number-reads.Asked,
-  number-reads.Learnt,
-  constant-reads.Asked,
-  constant-reads.Learnt,
-  named-below t,
-  named.Post,
-  group-below t,
-  group.Post,
-  choice-below t,
-  choice.Post,
-  refuse-reads.Asked,
-  refuse-reads.Learnt,
-) (term-at t) term.Post
+term-returns : (t : ℕ) → term-lts.Need-returns (term-calls t) (term-at t) term.Post
 term-returns t c =
     c .constant .ensures (sym (c .before .before .before .number .ensures) ∙ c .before .before .if1 .taken)
 
-
-term-named-requires : (t : ℕ) → term-lts.Need-named-requires (
-  number-reads.Asked,
-  number-reads.Learnt,
-  constant-reads.Asked,
-  constant-reads.Learnt,
-  named-below t,
-  named.Post,
-  group-below t,
-  group.Post,
-  choice-below t,
-  choice.Post,
-  refuse-reads.Asked,
-  refuse-reads.Learnt,
-) (term-at t) term.Post
+term-named-requires : (t : ℕ) → term-lts.Need-named-requires (term-calls t) (term-at t) term.Post
 term-named-requires t c κs = search needs
 
-term-returns-2 : (t : ℕ) → term-lts.Need-returns-2 (
-  number-reads.Asked,
-  number-reads.Learnt,
-  constant-reads.Asked,
-  constant-reads.Learnt,
-  named-below t,
-  named.Post,
-  group-below t,
-  group.Post,
-  choice-below t,
-  choice.Post,
-  refuse-reads.Asked,
-  refuse-reads.Learnt,
-) (term-at t) term.Post
+term-returns-2 : (t : ℕ) → term-lts.Need-returns-2 (term-calls t) (term-at t) term.Post
 term-returns-2 t c =
     c .named .ensures (sym (c .before .before .before .before .number .ensures) ∙ c .before .before .if2 .taken)
 
-
-term-group-requires : (t : ℕ) → term-lts.Need-group-requires (
-  number-reads.Asked,
-  number-reads.Learnt,
-  constant-reads.Asked,
-  constant-reads.Learnt,
-  named-below t,
-  named.Post,
-  group-below t,
-  group.Post,
-  choice-below t,
-  choice.Post,
-  refuse-reads.Asked,
-  refuse-reads.Learnt,
-) (term-at t) term.Post
+term-group-requires : (t : ℕ) → term-lts.Need-group-requires (term-calls t) (term-at t) term.Post
 term-group-requires t c κs = search needs
 
-term-returns-3 : (t : ℕ) → term-lts.Need-returns-3 (
-  number-reads.Asked,
-  number-reads.Learnt,
-  constant-reads.Asked,
-  constant-reads.Learnt,
-  named-below t,
-  named.Post,
-  group-below t,
-  group.Post,
-  choice-below t,
-  choice.Post,
-  refuse-reads.Asked,
-  refuse-reads.Learnt,
-) (term-at t) term.Post
+term-returns-3 : (t : ℕ) → term-lts.Need-returns-3 (term-calls t) (term-at t) term.Post
 term-returns-3 t c =
     c .group .ensures (sym (c .before .before .before .before .before .number .ensures) ∙ c .before .before .if3 .taken)
 
-
-term-choice-requires : (t : ℕ) → term-lts.Need-choice-requires (
-  number-reads.Asked,
-  number-reads.Learnt,
-  constant-reads.Asked,
-  constant-reads.Learnt,
-  named-below t,
-  named.Post,
-  group-below t,
-  group.Post,
-  choice-below t,
-  choice.Post,
-  refuse-reads.Asked,
-  refuse-reads.Learnt,
-) (term-at t) term.Post
+term-choice-requires : (t : ℕ) → term-lts.Need-choice-requires (term-calls t) (term-at t) term.Post
 term-choice-requires t c κs = search needs
 
-term-returns-4 : (t : ℕ) → term-lts.Need-returns-4 (
-  number-reads.Asked,
-  number-reads.Learnt,
-  constant-reads.Asked,
-  constant-reads.Learnt,
-  named-below t,
-  named.Post,
-  group-below t,
-  group.Post,
-  choice-below t,
-  choice.Post,
-  refuse-reads.Asked,
-  refuse-reads.Learnt,
-) (term-at t) term.Post
+term-returns-4 : (t : ℕ) → term-lts.Need-returns-4 (term-calls t) (term-at t) term.Post
 term-returns-4 t c =
     c .choice .ensures (sym (c .before .before .before .before .before .before .number .ensures) ∙ c .before .before .if4 .taken)
 
-
-term-choice-requires-2 : (t : ℕ) → term-lts.Need-choice-requires-2 (
-  number-reads.Asked,
-  number-reads.Learnt,
-  constant-reads.Asked,
-  constant-reads.Learnt,
-  named-below t,
-  named.Post,
-  group-below t,
-  group.Post,
-  choice-below t,
-  choice.Post,
-  refuse-reads.Asked,
-  refuse-reads.Learnt,
-) (term-at t) term.Post
+term-choice-requires-2 : (t : ℕ) → term-lts.Need-choice-requires-2 (term-calls t) (term-at t) term.Post
 term-choice-requires-2 t c κs = search needs
 
-term-returns-5 : (t : ℕ) → term-lts.Need-returns-5 (
-  number-reads.Asked,
-  number-reads.Learnt,
-  constant-reads.Asked,
-  constant-reads.Learnt,
-  named-below t,
-  named.Post,
-  group-below t,
-  group.Post,
-  choice-below t,
-  choice.Post,
-  refuse-reads.Asked,
-  refuse-reads.Learnt,
-) (term-at t) term.Post
+term-returns-5 : (t : ℕ) → term-lts.Need-returns-5 (term-calls t) (term-at t) term.Post
 term-returns-5 t c =
     c .choice2 .ensures (sym (c .before .before .before .before .before .before .before .number .ensures) ∙ c .before .before .if5 .taken)
 
-
-term-refuse-requires : (t : ℕ) → term-lts.Need-refuse-requires (
-  number-reads.Asked,
-  number-reads.Learnt,
-  constant-reads.Asked,
-  constant-reads.Learnt,
-  named-below t,
-  named.Post,
-  group-below t,
-  group.Post,
-  choice-below t,
-  choice.Post,
-  refuse-reads.Asked,
-  refuse-reads.Learnt,
-) (term-at t) term.Post
+term-refuse-requires : (t : ℕ) → term-lts.Need-refuse-requires (term-calls t) (term-at t) term.Post
 term-refuse-requires t c κs = search needs
 
-term-returns-6 : (t : ℕ) → term-lts.Need-returns-6 (
-  number-reads.Asked,
-  number-reads.Learnt,
-  constant-reads.Asked,
-  constant-reads.Learnt,
-  named-below t,
-  named.Post,
-  group-below t,
-  group.Post,
-  choice-below t,
-  choice.Post,
-  refuse-reads.Asked,
-  refuse-reads.Learnt,
-) (term-at t) term.Post
+term-returns-6 : (t : ℕ) → term-lts.Need-returns-6 (term-calls t) (term-at t) term.Post
 term-returns-6 t c =
     term-not (c .before .before .before .before .before .before .number .ensures) (c .before .before .before .before .before .if1 .left) (c .before .before .before .before .if2 .left) (c .before .before .before .if3 .left) (c .before .before .if4 .left) (c .before .if5 .left) (c .refuse .ensures)
-
 
 pub +arms+choice+first-arm+group+inside+more-arms+named+next-arm+opening+operation+reference+rest+second+single+start+subscript+tail+term-spec :
     {M : Type 1} → statement M
@@ -3997,20 +1105,7 @@ pub +arms+choice+first-arm+group+inside+more-arms+named+next-arm+opening+operati
     μ-subscript
     μ-tail
     μ-term
-    (λ t. arms-lts.spec (
-      first-word-reads.Asked,
-      first-word-reads.Learnt,
-      first-arm-below t,
-      first-arm.Post,
-      at-reads.Asked,
-      at-reads.Learnt,
-      other-word-reads.Asked,
-      other-word-reads.Learnt,
-      next-arm-below t,
-      next-arm.Post,
-      more-arms-below t,
-      more-arms.Post,
-    )
+    (λ t. arms-lts.spec (arms-calls t)
     (arms-at t)
     arms.Post
     (arms-first-word-requires t)
@@ -4025,24 +1120,7 @@ pub +arms+choice+first-arm+group+inside+more-arms+named+next-arm+opening+operati
     (arms-at-requires-2 t)
     (arms-more-arms-requires t)
     (arms-returns-3 t))
-    (λ t. choice-lts.spec (
-      take-reads.Asked,
-      take-reads.Learnt,
-      start-below t,
-      start.Post,
-      at-reads.Asked,
-      at-reads.Learnt,
-      arms-below t,
-      arms.Post,
-      last-word-reads.Asked,
-      last-word-reads.Learnt,
-      expect-reads.Asked,
-      expect-reads.Learnt,
-      last-reads.Asked,
-      last-reads.Learnt,
-      add-choice-reads.Asked,
-      add-choice-reads.Learnt,
-    )
+    (λ t. choice-lts.spec (choice-calls t)
     (choice-at t)
     choice.Post
     (choice-take-requires t)
@@ -4062,16 +1140,7 @@ pub +arms+choice+first-arm+group+inside+more-arms+named+next-arm+opening+operati
     (choice-last-requires t)
     (choice-add-choice-requires t)
     (choice-returns-5 t))
-    (λ t. first-arm-lts.spec (
-      expect-reads.Asked,
-      expect-reads.Learnt,
-      at-reads.Asked,
-      at-reads.Learnt,
-      start-below t,
-      start.Post,
-      add-first-arm-reads.Asked,
-      add-first-arm-reads.Learnt,
-    )
+    (λ t. first-arm-lts.spec (first-arm-calls t)
     (first-arm-at t)
     first-arm.Post
     (first-arm-expect-requires t)
@@ -4083,14 +1152,7 @@ pub +arms+choice+first-arm+group+inside+more-arms+named+next-arm+opening+operati
     (first-arm-returns-2 t)
     (first-arm-add-first-arm-requires t)
     (first-arm-returns-3 t))
-    (λ t. group-lts.spec (
-      take-reads.Asked,
-      take-reads.Learnt,
-      start-below t,
-      start.Post,
-      expect-reads.Asked,
-      expect-reads.Learnt,
-    )
+    (λ t. group-lts.spec (group-calls t)
     (group-at t)
     group.Post
     (group-take-requires t)
@@ -4101,20 +1163,7 @@ pub +arms+choice+first-arm+group+inside+more-arms+named+next-arm+opening+operati
     (group-returns-2 t)
     (group-expect-requires t)
     (group-returns-3 t))
-    (λ t. inside-lts.spec (
-      number-reads.Asked,
-      number-reads.Learnt,
-      take-reads.Asked,
-      take-reads.Learnt,
-      counted-reads.Asked,
-      counted-reads.Learnt,
-      at-reads.Asked,
-      at-reads.Learnt,
-      rest-below t,
-      rest.Post,
-      start-below t,
-      start.Post,
-    )
+    (λ t. inside-lts.spec (inside-calls t)
     (inside-at t)
     inside.Post
     (inside-number-requires t)
@@ -4129,20 +1178,7 @@ pub +arms+choice+first-arm+group+inside+more-arms+named+next-arm+opening+operati
     (inside-returns-3 t)
     (inside-start-requires t)
     (inside-returns-4 t))
-    (λ t. more-arms-lts.spec (
-      another-reads.Asked,
-      another-reads.Learnt,
-      at-reads.Asked,
-      at-reads.Learnt,
-      next-arm-below t,
-      next-arm.Post,
-      one-more-reads.Asked,
-      one-more-reads.Learnt,
-      stay-reads.Asked,
-      stay-reads.Learnt,
-      full-reads.Asked,
-      full-reads.Learnt,
-    )
+    (λ t. more-arms-lts.spec (more-arms-calls t)
     (more-arms-at t)
     more-arms.Post
     more-arms-Inv-loop
@@ -4161,8 +1197,7 @@ pub +arms+choice+first-arm+group+inside+more-arms+named+next-arm+opening+operati
     (more-arms-returns-2 t)
     (more-arms-full-requires t)
     (more-arms-returns-3 t))
-    (λ t. named-lts.spec
-    (take-reads.Asked, take-reads.Learnt, reference-below t, reference.Post)
+    (λ t. named-lts.spec (named-calls t)
     (named-at t)
     named.Post
     (named-take-requires t)
@@ -4170,18 +1205,7 @@ pub +arms+choice+first-arm+group+inside+more-arms+named+next-arm+opening+operati
     (named-returns t)
     (named-reference-requires t)
     (named-returns-2 t))
-    (λ t. next-arm-lts.spec (
-      expect-reads.Asked,
-      expect-reads.Learnt,
-      at-reads.Asked,
-      at-reads.Learnt,
-      start-below t,
-      start.Post,
-      last-reads.Asked,
-      last-reads.Learnt,
-      add-next-arm-reads.Asked,
-      add-next-arm-reads.Learnt,
-    )
+    (λ t. next-arm-lts.spec (next-arm-calls t)
     (next-arm-at t)
     next-arm.Post
     (next-arm-expect-requires t)
@@ -4194,22 +1218,7 @@ pub +arms+choice+first-arm+group+inside+more-arms+named+next-arm+opening+operati
     (next-arm-last-requires t)
     (next-arm-add-next-arm-requires t)
     (next-arm-returns-3 t))
-    (λ t. opening-lts.spec (
-      term-below t,
-      term.Post,
-      take-reads.Asked,
-      take-reads.Learnt,
-      reducing-reads.Asked,
-      reducing-reads.Learnt,
-      at-reads.Asked,
-      at-reads.Learnt,
-      prefixed-reads.Asked,
-      prefixed-reads.Learnt,
-      start-below t,
-      start.Post,
-      add-prefix-reads.Asked,
-      add-prefix-reads.Learnt,
-    )
+    (λ t. opening-lts.spec (opening-calls t)
     (opening-at t)
     opening.Post
     (opening-enum-told t)
@@ -4228,22 +1237,7 @@ pub +arms+choice+first-arm+group+inside+more-arms+named+next-arm+opening+operati
     (opening-returns-4 t)
     (opening-add-prefix-requires t)
     (opening-returns-5 t))
-    (λ t. operation-lts.spec (
-      take-reads.Asked,
-      take-reads.Learnt,
-      number-reads.Asked,
-      number-reads.Learnt,
-      cut-reads.Asked,
-      cut-reads.Learnt,
-      operand-reads.Asked,
-      operand-reads.Learnt,
-      start-below t,
-      start.Post,
-      last-reads.Asked,
-      last-reads.Learnt,
-      add-binary-reads.Asked,
-      add-binary-reads.Learnt,
-    )
+    (λ t. operation-lts.spec (operation-calls t)
     (operation-at t)
     operation.Post
     (operation-take-requires t)
@@ -4260,16 +1254,7 @@ pub +arms+choice+first-arm+group+inside+more-arms+named+next-arm+opening+operati
     (operation-last-requires t)
     (operation-add-binary-requires t)
     (operation-returns-4 t))
-    (λ t. reference-lts.spec (
-      number-reads.Asked,
-      number-reads.Learnt,
-      take-reads.Asked,
-      take-reads.Learnt,
-      subscript-below t,
-      subscript.Post,
-      add-whole-reads.Asked,
-      add-whole-reads.Learnt,
-    )
+    (λ t. reference-lts.spec (reference-calls t)
     (reference-at t)
     reference.Post
     (reference-number-requires t)
@@ -4280,20 +1265,7 @@ pub +arms+choice+first-arm+group+inside+more-arms+named+next-arm+opening+operati
     (reference-returns-2 t)
     (reference-add-whole-requires t)
     (reference-returns-3 t))
-    (λ t. rest-lts.spec (
-      within-reads.Asked,
-      within-reads.Learnt,
-      tail-below t,
-      tail.Post,
-      at-reads.Asked,
-      at-reads.Learnt,
-      next-reads.Asked,
-      next-reads.Learnt,
-      rest-below t,
-      rest.Post,
-      stay-reads.Asked,
-      stay-reads.Learnt,
-    )
+    (λ t. rest-lts.spec (rest-calls t)
     (rest-at t)
     rest.Post
     (rest-within-requires t)
@@ -4306,20 +1278,7 @@ pub +arms+choice+first-arm+group+inside+more-arms+named+next-arm+opening+operati
     (rest-returns-2 t)
     (rest-stay-requires t)
     (rest-returns-3 t))
-    (λ t. second-lts.spec (
-      ends-ahead-reads.Asked,
-      ends-ahead-reads.Learnt,
-      word-part-reads.Asked,
-      word-part-reads.Learnt,
-      inside-below t,
-      inside.Post,
-      expect-reads.Asked,
-      expect-reads.Learnt,
-      last-reads.Asked,
-      last-reads.Learnt,
-      add-two-reads.Asked,
-      add-two-reads.Learnt,
-    )
+    (λ t. second-lts.spec (second-calls t)
     (second-at t)
     second.Post
     (second-ends-ahead-requires t)
@@ -4335,18 +1294,7 @@ pub +arms+choice+first-arm+group+inside+more-arms+named+next-arm+opening+operati
     (second-last-requires-2 t)
     (second-add-two-requires t)
     (second-returns-4 t))
-    (λ t. single-lts.spec (
-      number-reads.Asked,
-      number-reads.Learnt,
-      take-reads.Asked,
-      take-reads.Learnt,
-      second-below t,
-      second.Post,
-      last-reads.Asked,
-      last-reads.Learnt,
-      add-one-reads.Asked,
-      add-one-reads.Learnt,
-    )
+    (λ t. single-lts.spec (single-calls t)
     (single-at t)
     single.Post
     (single-number-requires t)
@@ -4358,20 +1306,7 @@ pub +arms+choice+first-arm+group+inside+more-arms+named+next-arm+opening+operati
     (single-last-requires t)
     (single-add-one-requires t)
     (single-returns-3 t))
-    (λ t. start-lts.spec (
-      number-reads.Asked,
-      number-reads.Learnt,
-      head-of-reads.Asked,
-      head-of-reads.Learnt,
-      opening-below t,
-      opening.Post,
-      at-reads.Asked,
-      at-reads.Learnt,
-      after-reads.Asked,
-      after-reads.Learnt,
-      rest-below t,
-      rest.Post,
-    )
+    (λ t. start-lts.spec (start-calls t)
     (start-at t)
     start.Post
     (start-number-requires t)
@@ -4383,28 +1318,7 @@ pub +arms+choice+first-arm+group+inside+more-arms+named+next-arm+opening+operati
     (start-after-requires t)
     (start-rest-requires t)
     (start-returns-2 t))
-    (λ t. subscript-lts.spec (
-      ends-ahead-reads.Asked,
-      ends-ahead-reads.Learnt,
-      part-reads.Asked,
-      part-reads.Learnt,
-      inside-below t,
-      inside.Post,
-      number-reads.Asked,
-      number-reads.Learnt,
-      take-reads.Asked,
-      take-reads.Learnt,
-      at-reads.Asked,
-      at-reads.Learnt,
-      second-below t,
-      second.Post,
-      expect-reads.Asked,
-      expect-reads.Learnt,
-      last-reads.Asked,
-      last-reads.Learnt,
-      single-below t,
-      single.Post,
-    )
+    (λ t. subscript-lts.spec (subscript-calls t)
     (subscript-at t)
     subscript.Post
     (subscript-ends-ahead-requires t)
@@ -4427,20 +1341,7 @@ pub +arms+choice+first-arm+group+inside+more-arms+named+next-arm+opening+operati
     (subscript-at-requires-2 t)
     (subscript-single-requires t)
     (subscript-returns-6 t))
-    (λ t. tail-lts.spec (
-      operates-reads.Asked,
-      operates-reads.Learnt,
-      at-reads.Asked,
-      at-reads.Learnt,
-      operation-below t,
-      operation.Post,
-      once-reads.Asked,
-      once-reads.Learnt,
-      stay-reads.Asked,
-      stay-reads.Learnt,
-      full-reads.Asked,
-      full-reads.Learnt,
-    )
+    (λ t. tail-lts.spec (tail-calls t)
     (tail-at t)
     tail.Post
     tail-Inv-loop
@@ -4460,20 +1361,7 @@ pub +arms+choice+first-arm+group+inside+more-arms+named+next-arm+opening+operati
     (tail-returns-3 t)
     (tail-full-requires t)
     (tail-returns-4 t))
-    λ t. term-lts.spec (
-      number-reads.Asked,
-      number-reads.Learnt,
-      constant-reads.Asked,
-      constant-reads.Learnt,
-      named-below t,
-      named.Post,
-      group-below t,
-      group.Post,
-      choice-below t,
-      choice.Post,
-      refuse-reads.Asked,
-      refuse-reads.Learnt,
-    )
+    λ t. term-lts.spec (term-calls t)
     (term-at t)
     term.Post
     (term-number-requires t)

@@ -1,9 +1,6 @@
 use Rattle.work.specs.Held.{mostNodes}
 use Rattle.course.proofs.NodeGained.{gained, no-gain}
-use mathlib.Core.Bool.{true, false, true≢false}
-use mathlib.Core.Path.{_≡_, refl, sym, ap, _∙_}
-use Prim.Native.Nat.{ℕ, suc, _+_, _-_, _≤_, _<_}
-use native.Mathlib.Omega.{arith}
+use Prim.Native.Nat.{_-_, _<_}
 use borrow.Author.Needs.{needs}
 use Rattle.course.proofs.adding.add.Statement.{statement}
 use Rattle.course.proofs.adding.add.Tie as tie
@@ -23,11 +20,9 @@ returns : tie.Need-returns
 returns c =
     gained (c .before .before .before .add-node .ensures) (c .before .before .if1 .taken) (c .with-nodes .ensures)
 
-
 returns-2 : tie.Need-returns-2
 returns-2 c =
     no-gain (c .before .add-node .ensures) (c .if1 .left)
-
 
 pub add-spec : {M : Type 1} → statement M
 add-spec =

@@ -1,6 +1,4 @@
-use mathlib.Core.Bool.{true, false, true≢false}
-use mathlib.Core.Path.{_≡_, refl, sym, ap, _∙_}
-use Prim.Native.Nat.{ℕ, suc, _+_, _-_, _≤_, _<_}
+use Prim.Native.Nat.{_-_}
 use native.Mathlib.Omega.{arith}
 use borrow.Author.Needs.{needs}
 use Rattle.course.proofs.taking.bear.Statement.{statement}
@@ -22,7 +20,6 @@ returns : tie.Need-returns
 returns c =
     rw (c .before .enum-told3 .given .1) (omega arith)
 
-
 sub-result : tie.Need-sub-result
 sub-result c = search needs
 
@@ -34,11 +31,9 @@ returns-3 : tie.Need-returns-3
 returns-3 c =
     rw (c .enum-told2 .given .1) (omega arith)
 
-
 returns-4 : tie.Need-returns-4
 returns-4 c =
     rw (c .before .enum-told3 .given .1)
-
 
 pub bear-spec : {M : Type 1} → statement M
 bear-spec =

@@ -1,9 +1,7 @@
 use lib.Dec.{eqb}
 use Rattle.course.proofs.TakenWords.{ends-come, ends-not}
-use mathlib.Core.Bool.{true, false, true≢false}
-use mathlib.Core.Path.{_≡_, refl, sym, ap, _∙_}
-use Prim.Native.Nat.{ℕ, suc, _+_, _-_, _≤_, _<_}
-use native.Mathlib.Omega.{arith}
+use mathlib.Core.Path.{sym, ap, _∙_}
+use Prim.Native.Nat.{ℕ, _-_}
 use borrow.Author.Needs.{needs}
 use Rattle.course.proofs.taking.ends_ahead.Statement.{statement}
 use Rattle.course.proofs.taking.ends_ahead.Tie as tie
@@ -21,11 +19,9 @@ returns : tie.Need-returns
 returns c =
     λ z. ap (λ (n : ℕ). eqb n 13) (c .number2 .ensures) ∙ ends-come _ (c .before .before .before .before .before .args .w) (c .before .following .result) (sym (c .before .before .before .number .ensures) ∙ c .before .before .if1 .taken) (c .before .following .ensures) z
 
-
 returns-2 : tie.Need-returns-2
 returns-2 c =
     λ z. ends-not _ (c .before .before .before .args .w) (λ e. c .if1 .left (c .before .number .ensures ∙ e)) z
-
 
 pub ends-ahead-spec : {M : Type 1} → statement M
 ends-ahead-spec =

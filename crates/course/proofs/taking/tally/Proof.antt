@@ -1,6 +1,4 @@
-use mathlib.Core.Bool.{true, false, true≢false}
-use mathlib.Core.Path.{_≡_, refl, sym, ap, _∙_}
-use Prim.Native.Nat.{ℕ, suc, _+_, _-_, _≤_, _<_}
+use Prim.Native.Nat.{_-_}
 use native.Mathlib.Omega.{arith}
 use borrow.Author.Needs.{needs}
 use Rattle.course.proofs.taking.tally.Statement.{statement}
@@ -12,7 +10,6 @@ add-result c = search needs
 returns : tie.Need-returns
 returns c =
     rw (c .if1 .taken) (omega arith)
-
 
 returns-2 : tie.Need-returns-2
 returns-2 c =

@@ -1,8 +1,5 @@
 use Rattle.levels.proofs.HeadTests.{complement-head, negation-head, plain-head, reduction-head}
-use mathlib.Core.Bool.{Bool, true, false, cond}
-use mathlib.Core.Path.{_≡_, refl, sym, ap, _∙_}
-use Prim.Native.Nat.{ℕ, suc, _+_, _-_, _≤_, _<_}
-use native.Mathlib.Omega.{arith}
+use Prim.Native.Nat.{_-_}
 use borrow.Author.Needs.{needs}
 use Rattle.levels.proofs.heads.head_of.Statement.{statement}
 use Rattle.levels.proofs.heads.head_of.Tie as tie
@@ -17,7 +14,6 @@ returns : tie.Need-returns
 returns c =
     complement-head (c .before .before .before .args .level) (c .before .before .before .args .kind) (c .before .before .level-number .result) (c .before .before .level-number .ensures) (c .before .both .ensures) (c .if1 .taken)
 
-
 slice-aggregate-member : tie.Need-slice-aggregate-member
 slice-aggregate-member c = search needs
 
@@ -31,7 +27,6 @@ returns-2 : tie.Need-returns-2
 returns-2 c =
     reduction-head (c .before .before .before .before .before .before .before .args .level) (c .before .before .before .before .before .before .before .args .kind) (c .before .before .before .before .before .before .level-number .result) (c .before .before .before .before .before .before .level-number .ensures) (c .before .before .before .before .before .both .ensures) (c .before .before .before .before .if1 .left) (c .before .before .member .ensures) (c .before .both2 .ensures) (c .if2 .taken)
 
-
 both-requires-3 : tie.Need-both-requires-3
 both-requires-3 c κs = search needs
 
@@ -39,11 +34,9 @@ returns-3 : tie.Need-returns-3
 returns-3 c =
     negation-head (c .before .before .before .before .before .before .before .before .before .args .level) (c .before .before .before .before .before .before .before .before .before .args .kind) (c .before .before .before .before .before .before .before .before .level-number .result) (c .before .before .before .before .before .before .before .before .level-number .ensures) (c .before .before .before .before .before .before .before .both .ensures) (c .before .before .before .before .before .before .if1 .left) (c .before .before .before .before .member .ensures) (c .before .before .before .both2 .ensures) (c .before .before .if2 .left) (c .before .both3 .ensures) (c .if3 .taken)
 
-
 returns-4 : tie.Need-returns-4
 returns-4 c =
     plain-head (c .before .before .before .before .before .before .before .before .before .args .level) (c .before .before .before .before .before .before .before .before .before .args .kind) (c .before .before .before .before .before .before .before .before .level-number .result) (c .before .before .before .before .before .before .before .before .level-number .ensures) (c .before .before .before .before .before .before .before .both .ensures) (c .before .before .before .before .before .before .if1 .left) (c .before .before .before .before .member .ensures) (c .before .before .before .both2 .ensures) (c .before .before .if2 .left) (c .before .both3 .ensures) (c .if3 .left)
-
 
 pub head-of-spec : {M : Type 1} → statement M
 head-of-spec =

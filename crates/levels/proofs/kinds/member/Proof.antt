@@ -1,10 +1,8 @@
 use lib.ListN.{drop, length}
 use Rattle.grammar.specs.Following.{among}
 use Rattle.levels.proofs.Among.{among-here, among-next, among-past}
-use mathlib.Core.Bool.{Bool, true, false, cond}
-use mathlib.Core.Path.{_≡_, refl, sym, ap, _∙_}
-use Prim.Native.Nat.{ℕ, suc, _+_, _-_, _≤_, _<_}
-use native.Mathlib.Omega.{arith}
+use mathlib.Core.Path.{_≡_, refl, sym, _∙_}
+use Prim.Native.Nat.{_-_}
 use borrow.Author.Needs.{needs}
 use Rattle.levels.proofs.kinds.member.Statement.{statement}
 use Rattle.levels.proofs.kinds.member.Tie as tie
@@ -19,14 +17,12 @@ loop-holds : tie.Need-loop-holds Inv-loop μ-loop
 loop-holds c =
     refl
 
-
 shared-slice-read-if1 : tie.Need-shared-slice-read-if1 Inv-loop μ-loop
 shared-slice-read-if1 c = search needs
 
 returns : tie.Need-returns Inv-loop μ-loop
 returns c =
     sym (c .before .before .before .loop .inv ∙ among-here _ _ _ (c .before .before .loop-test .taken) (c .if1 .taken))
-
 
 add-i : tie.Need-add-i Inv-loop μ-loop
 add-i c = search needs
@@ -38,11 +34,9 @@ loop-again : tie.Need-loop-again Inv-loop μ-loop
 loop-again c =
     c .before .before .before .loop .inv ∙ among-next _ _ _ (c .before .before .loop-test .taken) (c .if1 .left)
 
-
 returns-2 : tie.Need-returns-2 Inv-loop μ-loop
 returns-2 c =
     sym (c .before .loop .inv ∙ among-past _ _ _ (c .loop-test .left))
-
 
 pub member-spec : {M : Type 1} → statement M
 member-spec =

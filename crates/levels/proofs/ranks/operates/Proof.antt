@@ -1,8 +1,5 @@
 use Rattle.grammar.specs.Following.{among}
-use mathlib.Core.Bool.{Bool, true, false, cond}
-use mathlib.Core.Path.{_≡_, refl, sym, ap, _∙_}
-use Prim.Native.Nat.{ℕ, suc, _+_, _-_, _≤_, _<_}
-use native.Mathlib.Omega.{arith}
+use Prim.Native.Nat.{_-_}
 use borrow.Author.Needs.{needs}
 use Rattle.levels.proofs.ranks.operates.Statement.{statement}
 use Rattle.levels.proofs.ranks.operates.Tie as tie
@@ -77,42 +74,34 @@ returns : tie.Need-returns
 returns c =
     rw (c .before .before .enum-told .given .1) (c .member .ensures)
 
-
 returns-2 : tie.Need-returns-2
 returns-2 c =
     rw (c .before .before .enum-told2 .given .1) (c .member2 .ensures)
-
 
 returns-3 : tie.Need-returns-3
 returns-3 c =
     rw (c .before .before .enum-told3 .given .1) (c .member3 .ensures)
 
-
 returns-4 : tie.Need-returns-4
 returns-4 c =
     rw (c .before .before .enum-told4 .given .1) (c .member4 .ensures)
-
 
 returns-5 : tie.Need-returns-5
 returns-5 c =
     rw (c .before .before .enum-told5 .given .1) (c .member5 .ensures)
 
-
 returns-6 : tie.Need-returns-6
 returns-6 c =
     rw (c .before .before .enum-told6 .given .1) (c .member6 .ensures)
-
 
 returns-7 : tie.Need-returns-7
 returns-7 c =
     rw (c .before .before .enum-told7 .given .1) (c .member7 .ensures)
 
-
 returns-8 : tie.Need-returns-8
 unfolding among
 returns-8 c =
     rw (c .enum-told8 .given .1)
-
 
 pub operates-spec : {M : Type 1} → statement M
 operates-spec =

@@ -1,7 +1,4 @@
-use mathlib.Core.Bool.{Bool, true, false, cond}
-use mathlib.Core.Path.{_≡_, refl, sym, ap, _∙_}
-use Prim.Native.Nat.{ℕ, suc, _+_, _-_, _≤_, _<_}
-use native.Mathlib.Omega.{arith}
+use Prim.Native.Nat.{_-_}
 use borrow.Author.Needs.{needs}
 use Rattle.levels.proofs.ranks.within.Statement.{statement}
 use Rattle.levels.proofs.ranks.within.Tie as tie
@@ -15,7 +12,6 @@ top-requires c κs = search needs
 returns : tie.Need-returns
 returns c =
     rw (c .before .rank-number .ensures, c .top .ensures)
-
 
 pub within-spec : {M : Type 1} → statement M
 within-spec = tie.close (tie.spec rank-number-requires top-requires returns)

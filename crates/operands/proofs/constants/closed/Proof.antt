@@ -1,8 +1,5 @@
 use Rattle.operands.proofs.EndLaws.{closed-not, closed-says}
-use mathlib.Core.Path.{_≡_, refl, sym, ap, _∙_}
-use Prim.Native.Nat.{ℕ}
 use Rattle.course.proofs.Answers.{not-done}
-use native.Mathlib.Omega.{arith}
 use borrow.Author.Needs.{needs}
 use Rattle.operands.proofs.constants.closed.Statement.{statement}
 use Rattle.operands.proofs.constants.closed.Tie as tie
@@ -17,14 +14,12 @@ returns : tie.Need-returns
 returns c =
     closed-not (c .before .keep-constant .ensures) (not-done (c .match .keys2))
 
-
 expect-requires : tie.Need-expect-requires
 expect-requires c κs = search needs
 
 returns-2 : tie.Need-returns-2
 returns-2 c =
     closed-says (c .before .before .before .before .before .keep-constant .ensures) (c .before .before .before .enum-told .given .1) (c .expect .ensures)
-
 
 pub closed-spec : {M : Type 1} → statement M
 closed-spec =

@@ -5,10 +5,7 @@ use Rattle.language.specs.Machine.{make}
 use Rattle.course.proofs.Saying.{not-taken}
 use Rattle.course.specs.Taken.{constantWord}
 use Rattle.operands.proofs.OperandLaws.{constant-says, term-course}
-use mathlib.Core.Path.{_≡_, refl, sym, ap, _∙_}
-use Prim.Native.Nat.{ℕ}
 use Rattle.course.proofs.Answers.{not-done}
-use native.Mathlib.Omega.{arith}
 use borrow.Author.Needs.{needs}
 use Rattle.operands.proofs.constants.constant.Statement.{statement}
 use Rattle.operands.proofs.constants.constant.Tie as tie
@@ -23,14 +20,12 @@ returns : tie.Need-returns
 returns c =
     λ e sc h. not-taken (c .before .take .ensures) (not-done (c .match .keys2)) (λ K. make (treeSteps .makeConstant) ∷ K) (λ b. keepWord (constantWord (c .before .before .before .args .w)) b) (term-course e h)
 
-
 add-constant-requires : tie.Need-add-constant-requires
 add-constant-requires c κs = search needs
 
 returns-2 : tie.Need-returns-2
 returns-2 c =
     λ e sc h. constant-says e h (c .before .before .before .before .before .before .take .ensures) (c .before .before .before .before .enum-told .given .1) (c .add-constant .ensures)
-
 
 pub constant-spec : {M : Type 1} → statement M
 constant-spec =

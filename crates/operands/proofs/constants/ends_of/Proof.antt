@@ -1,8 +1,5 @@
 use Rattle.operands.proofs.EndLaws.{colon-not, ended-not, ended-says}
-use mathlib.Core.Path.{_≡_, refl, sym, ap, _∙_}
-use Prim.Native.Nat.{ℕ}
 use Rattle.course.proofs.Answers.{not-done}
-use native.Mathlib.Omega.{arith}
 use borrow.Author.Needs.{needs}
 use Rattle.operands.proofs.constants.ends_of.Statement.{statement}
 use Rattle.operands.proofs.constants.ends_of.Tie as tie
@@ -17,7 +14,6 @@ returns : tie.Need-returns
 returns c =
     ended-not (c .before .take .ensures) (not-done (c .match .keys2))
 
-
 take-requires-2 : tie.Need-take-requires-2
 take-requires-2 c κs = search needs
 
@@ -28,14 +24,12 @@ returns-2 : tie.Need-returns-2
 returns-2 c =
     colon-not (c .before .before .before .before .before .take .ensures) (c .before .before .before .enum-told .given .1) (c .before .take2 .ensures) (not-done (c .match2 .keys2))
 
-
 closed-requires : tie.Need-closed-requires
 closed-requires c κs = search needs
 
 returns-3 : tie.Need-returns-3
 returns-3 c =
     ended-says (c .before .before .before .before .before .before .before .take .ensures) (c .before .before .before .before .before .enum-told .given .1) (c .before .before .before .take2 .ensures) (c .before .enum-told2 .given .1) (c .closed .ensures)
-
 
 pub ends-of-spec : {M : Type 1} → statement M
 ends-of-spec =

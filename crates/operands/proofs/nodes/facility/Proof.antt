@@ -2,9 +2,8 @@ use Rattle.language.specs.Naming.{numberOf}
 use Rattle.language.specs.Words.{Position}
 use Rattle.work.specs.Held.{otherIn}
 use Rattle.work.specs.Names.{letters, namesIn}
-use mathlib.Core.Path.{_≡_, refl, sym, ap, _∙_}
-use Prim.Native.Nat.{ℕ, suc, _+_, _-_, _%_, _≤_, _<_}
-use native.Mathlib.Omega.{arith}
+use mathlib.Core.Path.{ap, _∙_}
+use Prim.Native.Nat.{_-_}
 use borrow.Author.Needs.{needs}
 use Rattle.operands.proofs.nodes.facility.Statement.{statement}
 use Rattle.operands.proofs.nodes.facility.Tie as tie
@@ -19,7 +18,6 @@ returns : tie.Need-returns
 unfolding letters
 returns c =
     c .facility .ensures ∙ ap (λ (p : Position). numberOf (letters (c .before .before .before .before .args .text .now) (p .place) (c .before .before .before .before .args .name .size)) 0 (namesIn (c .before .before .before .before .args .text .now) (otherIn (c .before .before .before .before .args .work .now)) (c .before .before .before .before .args .known))) (c .before .place .ensures)
-
 
 pub facility-spec : {M : Type 1} → statement M
 facility-spec = tie.close (tie.spec place-requires facility-requires returns)

@@ -1,6 +1,4 @@
-use mathlib.Core.Path.{_≡_, refl, sym, ap, _∙_}
-use Prim.Native.Nat.{ℕ, suc, _+_, _-_, _%_, _≤_, _<_}
-use native.Mathlib.Omega.{arith}
+use Prim.Native.Nat.{_-_}
 use borrow.Author.Needs.{needs}
 use Rattle.operands.proofs.nodes.part.Statement.{statement}
 use Rattle.operands.proofs.nodes.part.Tie as tie
@@ -21,11 +19,9 @@ returns : tie.Need-returns
 returns c =
     λ v. rw (c .before .before .before .f .given .1, c .before .low .ensures, c .low2 .ensures)
 
-
 returns-2 : tie.Need-returns-2
 returns-2 c =
     λ v. rw (c .enum-told .given .1)
-
 
 pub part-spec : {M : Type 1} → statement M
 part-spec =

@@ -1,9 +1,6 @@
 use Rattle.operands.proofs.ReferenceLaws.{gained-as}
 use Rattle.phrases.proofs.PartLaws.{binary-as}
-use mathlib.Core.Path.{_≡_, refl, sym, ap, _∙_}
-use Prim.Native.Nat.{ℕ, _-_}
-use Rattle.course.proofs.Answers.{not-done}
-use native.Mathlib.Omega.{arith}
+use Prim.Native.Nat.{_-_}
 use borrow.Author.Needs.{needs}
 use Rattle.phrases.proofs.leaves.add_binary.Statement.{statement}
 use Rattle.phrases.proofs.leaves.add_binary.Tie as tie
@@ -23,7 +20,6 @@ add-requires c κs = search needs
 returns : tie.Need-returns
 returns c =
     gained-as (c .add .ensures) (binary-as _ (c .before .before .before .number .ensures) (c .before .before .last .ensures)) (c .before .before .before .before .plain .ensures)
-
 
 pub add-binary-spec : {M : Type 1} → statement M
 add-binary-spec =

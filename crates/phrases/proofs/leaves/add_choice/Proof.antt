@@ -1,13 +1,8 @@
 use Rattle.language.specs.Description as D
-use Rattle.language.specs.Description.{nodePlaces}
 use Rattle.language.specs.Encode.{nodeBytes}
-use Rattle.language.specs.Words.{Position}
-use Rattle.noted.specs.Noted.{plainPlaces}
 use Rattle.operands.proofs.ReferenceLaws.{gained-as}
-use mathlib.Core.Path.{_≡_, refl, sym, ap, _∙_}
+use mathlib.Core.Path.{ap}
 use Prim.Native.Nat.{ℕ, _-_}
-use Rattle.course.proofs.Answers.{not-done}
-use native.Mathlib.Omega.{arith}
 use borrow.Author.Needs.{needs}
 use Rattle.phrases.proofs.leaves.add_choice.Statement.{statement}
 use Rattle.phrases.proofs.leaves.add_choice.Tie as tie
@@ -24,7 +19,6 @@ add-requires c κs = search needs
 returns : tie.Need-returns
 returns c =
     gained-as (c .add .ensures) (ap (λ (k : ℕ). nodeBytes (D.choice (c .before .before .before .before .before .args .condition) k (c .before .before .before .before .before .args .count))) (c .before .before .last .ensures)) (c .before .before .before .plain .ensures)
-
 
 pub add-choice-spec : {M : Type 1} → statement M
 add-choice-spec = tie.close (tie.spec plain-requires last-requires add-requires returns)

@@ -4,10 +4,8 @@ use Rattle.language.specs.Encode.{nodeBytes}
 use Rattle.language.specs.Words.{Position}
 use Rattle.noted.specs.Noted.{plainPlaces}
 use Rattle.operands.proofs.ReferenceLaws.{gained-as}
-use mathlib.Core.Path.{_≡_, refl, sym, ap, _∙_}
+use mathlib.Core.Path.{ap, _∙_}
 use Prim.Native.Nat.{ℕ, _-_}
-use Rattle.course.proofs.Answers.{not-done}
-use native.Mathlib.Omega.{arith}
 use borrow.Author.Needs.{needs}
 use Rattle.phrases.proofs.leaves.add_first_arm.Statement.{statement}
 use Rattle.phrases.proofs.leaves.add_first_arm.Tie as tie
@@ -27,7 +25,6 @@ add-requires c κs = search needs
 returns : tie.Need-returns
 returns c =
     gained-as (c .add .ensures) (ap (λ (k : ℕ). nodeBytes (D.firstArm k)) (c .before .last .ensures)) (c .before .before .before .plain .ensures ∙ ap (λ (p : Position). plainPlaces (nodePlaces p)) (c .before .before .before .before .position .ensures))
-
 
 pub add-first-arm-spec : {M : Type 1} → statement M
 add-first-arm-spec =

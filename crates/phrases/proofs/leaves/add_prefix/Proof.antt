@@ -1,8 +1,5 @@
 use Rattle.phrases.proofs.PartLaws.{gained-at, prefix-as}
-use mathlib.Core.Path.{_≡_, refl, sym, ap, _∙_}
-use Prim.Native.Nat.{ℕ, _-_}
-use Rattle.course.proofs.Answers.{not-done}
-use native.Mathlib.Omega.{arith}
+use Prim.Native.Nat.{_-_}
 use borrow.Author.Needs.{needs}
 use Rattle.phrases.proofs.leaves.add_prefix.Statement.{statement}
 use Rattle.phrases.proofs.leaves.add_prefix.Tie as tie
@@ -25,7 +22,6 @@ add-requires c κs = search needs
 returns : tie.Need-returns
 returns c =
     gained-at (c .add .ensures) (c .before .eased .ensures) (prefix-as (c .before .before .before .before .number .ensures) (c .before .before .before .last .ensures)) (c .before .before .before .before .before .plain .ensures)
-
 
 pub add-prefix-spec : {M : Type 1} → statement M
 add-prefix-spec =

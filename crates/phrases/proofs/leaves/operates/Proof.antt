@@ -1,9 +1,7 @@
 use Rattle.grammar.specs.Following.{among}
 use Rattle.levels.specs.Orders.{operatorsOf}
-use mathlib.Core.Path.{_≡_, refl, sym, ap, _∙_}
+use mathlib.Core.Path.{ap, _∙_}
 use Prim.Native.Nat.{ℕ, _-_}
-use Rattle.course.proofs.Answers.{not-done}
-use native.Mathlib.Omega.{arith}
 use borrow.Author.Needs.{needs}
 use Rattle.phrases.proofs.leaves.operates.Statement.{statement}
 use Rattle.phrases.proofs.leaves.operates.Tie as tie
@@ -17,7 +15,6 @@ operates-requires c κs = search needs
 returns : tie.Need-returns
 returns c =
     c .operates .ensures ∙ ap (λ (k : ℕ). among k (operatorsOf (c .before .before .args .rank))) (c .before .number .ensures)
-
 
 pub operates-spec : {M : Type 1} → statement M
 operates-spec = tie.close (tie.spec number-requires operates-requires returns)

@@ -1,9 +1,7 @@
 use Rattle.levels.specs.declared.Head.the-variants as H
 use Rattle.phrases.proofs.PartLaws.{red-prefixed, unprefixed}
-use mathlib.Core.Path.{_≡_, refl, sym, ap, _∙_}
-use Prim.Native.Nat.{ℕ, _-_}
-use Rattle.course.proofs.Answers.{not-done}
-use native.Mathlib.Omega.{arith}
+use mathlib.Core.Path.{refl}
+use Prim.Native.Nat.{_-_}
 use borrow.Author.Needs.{needs}
 use Rattle.phrases.proofs.leaves.reducing.Statement.{statement}
 use Rattle.phrases.proofs.leaves.reducing.Tie as tie
@@ -36,21 +34,17 @@ returns : tie.Need-returns
 returns c =
     rw (c .before .enum-told .given .1) (unprefixed H.Plain (c .stay .ensures) (λ K. refl))
 
-
 returns-2 : tie.Need-returns-2
 returns-2 c =
     rw (c .before .enum-told2 .given .1) (unprefixed H.Negation (c .stay2 .ensures) (λ K. refl))
-
 
 returns-3 : tie.Need-returns-3
 returns-3 c =
     rw (c .before .enum-told3 .given .1) (red-prefixed (c .expect .ensures))
 
-
 returns-4 : tie.Need-returns-4
 returns-4 c =
     rw (c .before .enum-told4 .given .1) (unprefixed H.Complement (c .stay3 .ensures) (λ K. refl))
-
 
 pub reducing-spec : {M : Type 1} → statement M
 reducing-spec =

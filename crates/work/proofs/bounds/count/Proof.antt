@@ -1,8 +1,4 @@
 use Rattle.language.specs.Describe.{count}
-use mathlib.Core.Path.{_≡_, refl, sym, ap, _∙_}
-use Prim.Native.Nat.{ℕ, _+_, _*_, min}
-use native.Mathlib.Nat.{min-eq-left, min-eq-right}
-use native.Mathlib.Omega.{arith}
 use borrow.Author.Needs.{needs}
 use Rattle.work.proofs.bounds.count.Statement.{statement}
 use Rattle.work.proofs.bounds.count.Tie as tie

@@ -12,9 +12,8 @@ use Rattle.noted.specs.Noted.{plainPlaces}
 use Rattle.value.specs.Meaning.{valued}
 use Rattle.work.proofs.NodesAdded.{all-digits, all-records, digit-added, digitsFrom, lowest-added}
 use Rattle.work.specs.Held.{fields, held, withNodes}
-use mathlib.Core.Path.{_≡_, refl, sym, ap, _∙_}
-use Prim.Native.Nat.{ℕ, _+_, _*_, min}
-use native.Mathlib.Nat.{min-eq-left, min-eq-right}
+use mathlib.Core.Path.{_≡_, sym, ap, _∙_}
+use Prim.Native.Nat.{ℕ, _+_}
 use native.Mathlib.Omega.{arith}
 use borrow.Author.Needs.{needs}
 use Rattle.work.proofs.constants.add_constant.Statement.{statement}
@@ -38,7 +37,6 @@ loop-holds : tie.Need-loop-holds Inv-loop μ-loop
 loop-holds c =
     (omega (arith, c .further-digits .ensures), λ p e. ap (withNodes (held (c .before .before .args .n) (c .before .before .args .work .now))) (sym (all-digits (valued (c .before .before .args .v)) p (c .further-digits .ensures))))
 
-
 digit-of-requires : tie.Need-digit-of-requires Inv-loop μ-loop
 digit-of-requires c κs = search needs
 
@@ -48,7 +46,6 @@ add-node-requires c κs = search needs
 returns : tie.Need-returns Inv-loop μ-loop
 returns c =
     record { nodes = λ e. absurd (true≢false (sym e)); added = λ e. absurd (true≢false (sym e)); full = λ e. c .before .add-node .ensures .full (c .if1 .left) }
-
 
 add-k : tie.Need-add-k Inv-loop μ-loop
 unfolding mostNodes
@@ -65,7 +62,6 @@ loop-again : tie.Need-loop-again Inv-loop μ-loop
 loop-again c =
     (omega (arith, c .before .before .before .before .before .loop .inv .0, c .before .before .before .before .loop-test .taken), λ p e. c .before .before .before .before .before .loop .inv .1 p e ∙ digit-added (valued (c .before .before .before .before .before .before .before .before .args .v)) p (c .before .add-node .ensures) (c .if1 .taken) (c .before .before .before .before .loop-test .taken) (ap (λ (x : ℕ). nodeBytes (D.more x)) (c .before .before .before .digit-of .ensures)) e)
 
-
 digit-of-requires-2 : tie.Need-digit-of-requires-2 Inv-loop μ-loop
 digit-of-requires-2 c κs = search needs
 
@@ -81,11 +77,9 @@ returns-2 : tie.Need-returns-2 Inv-loop μ-loop
 returns-2 c =
     record { nodes = λ e. omega (arith, c .before .before .before .before .before .loop .inv .0, c .before .before .before .before .loop-test .left, all-records (valued (c .before .before .before .before .before .before .before .before .args .v)) (positioned (c .before .before .before .before .before .before .before .before .args .at))); added = λ e. sym (c .before .before .before .before .before .loop .inv .1 (positioned (c .before .before .before .before .before .before .before .before .args .at)) (c .before .before .before .before .before .before .before .plain .ensures) ∙ lowest-added (valued (c .before .before .before .before .before .before .before .before .args .v)) (positioned (c .before .before .before .before .before .before .before .before .args .at)) (c .before .add-node2 .ensures) (c .if2 .taken) (c .before .before .before .before .loop-test .left) (ap (λ (x : ℕ). nodeBytes (D.constant (value (c .before .before .before .before .before .before .before .before .args .v .length) x))) (c .before .before .before .digit-of2 .ensures)) (c .before .before .before .before .before .before .before .plain .ensures)); full = λ e. absurd (true≢false e) }
 
-
 returns-3 : tie.Need-returns-3 Inv-loop μ-loop
 returns-3 c =
     record { nodes = λ e. absurd (true≢false (sym e)); added = λ e. absurd (true≢false (sym e)); full = λ e. c .before .add-node2 .ensures .full (c .if2 .left) }
-
 
 pub add-constant-spec : {M : Type 1} → statement M
 add-constant-spec =

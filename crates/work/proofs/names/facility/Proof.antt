@@ -1,13 +1,11 @@
-use mathlib.Core.Path.{_≡_, refl, sym, ap, _∙_}
-use mathlib.Core.Bool.{Bool, true, false}
-use mathlib.Core.List.{List}
-use Prim.Native.Nat.{ℕ, _+_, _-_, _*_, _≤_, min}
+use mathlib.Core.Path.{_≡_, sym, _∙_}
+use Prim.Native.Nat.{_-_}
 use native.Mathlib.Omega.{arith}
 use borrow.Author.Needs.{needs}
 use Rattle.language.specs.Naming.{numberOf}
 use Rattle.work.specs.Held.{otherIn}
 use Rattle.work.specs.Names.{letters, namesIn}
-use Rattle.work.proofs.Naming.{all-names, compared, found-here, name-at, namesAfter, no-names, not-here}
+use Rattle.work.proofs.Naming.{all-names, compared, found-here, namesAfter, no-names, not-here}
 use Rattle.work.proofs.names.facility.Statement.{statement}
 use Rattle.work.proofs.names.facility.Tie as tie
 

@@ -1,12 +1,8 @@
 use mathlib.Core.Bool.{true≢false}
-use mathlib.Core.Path.{refl, subst, sym, ap, _∙_}
-use mathlib.Core.List.{List}
-use Prim.Native.Nat.{ℕ, _+_, _*_}
-use native.Mathlib.Omega.{arith}
+use mathlib.Core.Path.{refl, sym}
 use borrow.Author.Needs.{needs}
 use Rattle.language.specs.Encode.{little}
 use Rattle.records.proofs.WrittenNodes.{node-length}
-use Rattle.records.specs.Placed.{placed}
 use Rattle.work.proofs.Regions.{record-written, six-bytes}
 use Rattle.work.specs.Held.{mostNodes}
 use Rattle.work.proofs.nodes.add_node.Statement.{statement}

@@ -1,10 +1,4 @@
-use Rattle.work.proofs.PlaceLaws.{marked, three}
-use Rattle.noted.specs.Noted.{placeBytes}
-use Rattle.language.specs.Words.{Position}
-use mathlib.Core.Path.{_≡_, refl, sym, ap, _∙_}
-use Prim.Native.Nat.{ℕ, _+_, _*_, min}
-use native.Mathlib.Nat.{min-eq-left, min-eq-right}
-use native.Mathlib.Omega.{arith}
+use Rattle.work.proofs.PlaceLaws.{three}
 use borrow.Author.Needs.{needs}
 use Rattle.work.proofs.places.ended.Statement.{statement}
 use Rattle.work.proofs.places.ended.Tie as tie
@@ -21,7 +15,6 @@ field-requires-3 c κs = search needs
 returns : tie.Need-returns
 returns c =
     three (c .before .before .field .ensures) (c .before .field2 .ensures) (c .field3 .ensures)
-
 
 pub ended-spec : {M : Type 1} → statement M
 ended-spec = tie.close (tie.spec field-requires field-requires-2 field-requires-3 returns)

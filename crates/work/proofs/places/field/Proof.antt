@@ -1,9 +1,4 @@
-use Rattle.work.proofs.PlaceLaws.{marked, three}
-use Rattle.noted.specs.Noted.{placeBytes}
-use Rattle.language.specs.Words.{Position}
-use mathlib.Core.Path.{_≡_, refl, sym, ap, _∙_}
-use Prim.Native.Nat.{ℕ, _+_, _*_, min}
-use native.Mathlib.Nat.{min-eq-left, min-eq-right}
+use Rattle.work.proofs.PlaceLaws.{marked}
 use native.Mathlib.Omega.{arith}
 use borrow.Author.Needs.{needs}
 use Rattle.work.proofs.places.field.Statement.{statement}
@@ -22,11 +17,9 @@ returns : tie.Need-returns
 returns c =
     marked (c .before .before .args .bound) (c .before .place .result) _ (c .before .place .ensures) (omega (arith, c .if1 .taken))
 
-
 returns-2 : tie.Need-returns-2
 returns-2 c =
     marked (c .before .before .args .bound) (c .before .place .result) _ (c .before .place .ensures) (omega (arith, c .if1 .left))
-
 
 pub field-spec : {M : Type 1} → statement M
 field-spec = tie.close (tie.spec place-requires cast-place add-result returns returns-2)

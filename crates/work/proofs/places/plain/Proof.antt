@@ -1,10 +1,6 @@
-use Rattle.work.proofs.PlaceLaws.{marked, three}
+use Rattle.work.proofs.PlaceLaws.{three}
 use Rattle.noted.specs.Noted.{placeBytes}
-use Rattle.language.specs.Words.{Position}
-use mathlib.Core.Path.{_≡_, refl, sym, ap, _∙_}
-use Prim.Native.Nat.{ℕ, _+_, _*_, min}
-use native.Mathlib.Nat.{min-eq-left, min-eq-right}
-use native.Mathlib.Omega.{arith}
+use mathlib.Core.Path.{ap, _∙_}
 use borrow.Author.Needs.{needs}
 use Rattle.work.proofs.places.plain.Statement.{statement}
 use Rattle.work.proofs.places.plain.Tie as tie
@@ -24,7 +20,6 @@ field-requires-3 c κs = search needs
 returns : tie.Need-returns
 returns c =
     three (c .before .before .field .ensures) (c .before .field2 .ensures ∙ ap (placeBytes 0) (c .before .before .before .position .ensures)) (c .field3 .ensures ∙ ap (placeBytes 0) (c .before .before .before .position .ensures))
-
 
 pub plain-spec : {M : Type 1} → statement M
 plain-spec =
