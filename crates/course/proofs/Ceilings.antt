@@ -28,7 +28,7 @@ module _ (c : Counts) where
     unfolding withinCeilings mostFacilities mostOperations mostStates mostCounted deepest
     by-nesting h = rw (le-leb (c .facilities) 256 f, le-leb (c .operations) 128 o, le-leb (c .states) 256 s, le-leb (c .counted) 2048 h)
 
-both-true : (a b : Bool) → both a b ≡ true → (a ≡ true) × (b ≡ true)
+pub both-true : (a b : Bool) → both a b ≡ true → (a ≡ true) × (b ≡ true)
 both-true true b e = (refl, e)
 both-true false b e = absurd (true≢false (sym e))
 

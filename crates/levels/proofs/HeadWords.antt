@@ -15,6 +15,7 @@ use Rattle.language.specs.Words as L
 use Rattle.words.specs.declared.Word.{Word}
 use Rattle.words.specs.Meaning.{positioned}
 use Rattle.course.specs.Course.{Seen, Stack, ahead, behind, kindNo, runsOn}
+use Rattle.course.proofs.Ceilings.{both-true}
 use Rattle.course.proofs.Looking.{sign-ahead}
 use Rattle.course.proofs.TakenWords.{onTaken, taken-on}
 use Rattle.levels.specs.declared.Head.{Head}
@@ -62,10 +63,6 @@ is-complement true b c e = refl
 is-complement false true c e = other-heads 2 3 refl refl (λ z. omega arith) e
 is-complement false false true e = other-heads 1 3 refl refl (λ z. omega arith) e
 is-complement false false false e = other-heads 0 3 refl refl (λ z. omega arith) e
-
-both-true : (a b : Bool) → both a b ≡ true → (a ≡ true) × (b ≡ true)
-both-true true b e = (refl, e)
-both-true false b e = absurd (true≢false (sym e))
 
 -- A kind among some is the first of them or among the others.
 pub among-first-or : {A : Type 0} (k a : ℕ) (ks : List ℕ) → among k (a ∷ ks) ≡ true → (k ≡ a → A) → (among k ks ≡ true → A) → A

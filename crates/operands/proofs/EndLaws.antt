@@ -16,6 +16,7 @@ use Rattle.course.specs.declared.State.{State}
 use Rattle.course.specs.declared.Verdict.the-variants.{Done}
 use Rattle.course.specs.Course.{Seen, Stack, ahead, behind, countsOf, kindNo, runs}
 use Rattle.course.specs.Taken.{Expected, Keeps, Took, colonFirst, constantWord, endsAhead}
+use Rattle.course.proofs.Ceilings.{both-true}
 use Rattle.course.proofs.Looking.{View, begun, ended, view}
 use Rattle.course.proofs.TakenWords.{onTaken, took-done, took-refused}
 use Rattle.operands.specs.declared.constants.Ends.{Ends}
@@ -24,10 +25,6 @@ use Rattle.operands.specs.Ended.{Closed, Ended}
 use Rattle.operands.proofs.BracketWords.{colon-follows, constant-first}
 
 -- ---- A constant and a colon come.
-
-both-true : (a b : Bool) → both a b ≡ true → (a ≡ true) × (b ≡ true)
-both-true true b e = (refl, e)
-both-true false b e = absurd (true≢false (sym e))
 
 pub ends-split : (text : List ℕ) (w : Word) → Seen text w → endsAhead (ahead text w) ≡ true → (kindNo (w .kind) ≡ 2) × (colonFirst (behind text w) ≡ true)
 ends-split text w z e = go (view text w z)

@@ -111,10 +111,6 @@ one-more n =
     let e : suc n ≡ n % 65536 + 1 + n / 65536 * 65536 = omega arith in
     sym (ap (λ (k : ℕ). k % 65536) e ∙ add-mul-mod-self-right (n % 65536 + 1) (n / 65536) 65536)
 
-both-true : (a b : Bool) → both a b ≡ true → (a ≡ true) × (b ≡ true)
-both-true true b e = (refl, e)
-both-true false b e = absurd (true≢false (sym e))
-
 -- The machine stands before further arms, with more of them; their number is counted modulo 65,536, as a record has it.
 pub record Armings (case : Bool) (text : List ℕ) (w : Word) (s : State) (work : List ℕ) (n : ℕ) (next : Word) (state : State) (work′ : List ℕ) (count left : ℕ) : Type 0 where
   pub reads : (sc : Scope) → Here text sc w s work → (h : Held) (base : ℕ) (t : Expression) → Pending sc h base t s work

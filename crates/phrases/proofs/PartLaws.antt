@@ -109,8 +109,8 @@ module _ {text : List ℕ} {sc : Scope} {w : Word} {s : State} {work work′ : L
 
 -- ---- Records of operators.
 
-pub binary-as : (a : ℕ) {k k′ b b′ : ℕ} → k ≡ k′ → b ≡ b′ → nodeBytes (D.binary k a b) ≡ nodeBytes (D.binary k′ a b′)
-binary-as a e f = rw (e, f)
+pub binary-as : {k k′ a a′ b b′ : ℕ} → k ≡ k′ → a ≡ a′ → b ≡ b′ → nodeBytes (D.binary k a b) ≡ nodeBytes (D.binary k′ a′ b′)
+binary-as d e f = rw (d, e, f)
 
 pub prefix-as : {k k′ a a′ : ℕ} → k ≡ k′ → a ≡ a′ → nodeBytes (D.prefix k a) ≡ nodeBytes (D.prefix k′ a′)
 prefix-as e f = rw (e, f)

@@ -39,6 +39,7 @@ use Rattle.levels.specs.Orders.{again, operandLevel, operatorsOf, rankNo, stack
 use Rattle.levels.proofs.TailWords.{cut-taken, tail-omitted, tail-taken}
 use Rattle.operands.specs.Ended.{Cuts}
 use Rattle.phrases.specs.Phrases.{Operates, atNesting, gains, once, same, stayed}
+use Rattle.phrases.proofs.PartLaws.{binary-as}
 use Rattle.phrases.proofs.StartLaws.{at-same}
 
 -- ---- The loop: the machine stands before the same tail, with a longer expression.
@@ -129,9 +130,6 @@ module _ (rank : Rank) {text : List ℕ} {w : Word} {s : State} {work : List ℕ
 
 -- ---- One operator.
 
-binary-bytes : (k : ℕ) {a a′ b b′ : ℕ} → a ≡ a′ → b ≡ b′ → nodeBytes (D.binary k a b) ≡ nodeBytes (D.binary k a′ b′)
-binary-bytes k e f = rw (e, f)
-
 cut-again : (text : List ℕ) (sc : Scope) (w : Word) (s : State) (t r : Answer) (work′ : List ℕ) (u : Expression) (q : Held) (base : ℕ)
     → Says text sc (keep 2 ∷ make (treeSteps .makeCut) ∷ []) [] (λ b. keepWord (L.sign (kindNo (w .kind)) (positioned (w .at))) (pushed u b)) q base (s .nesting) (t .next) (t .state) r work′
     → ((K : Stack) (b : Built) → runs text (ask cutTail ∷ K) w (pushed u b) s ≡ runs text (keep 2 ∷ make (treeSteps .makeCut) ∷ ask cutTail ∷ K) (t .next) (keepWord (L.sign (kindNo (w .kind)) (positioned (w .at))) (pushed u b)) (t .state))
@@ -209,7 +207,7 @@ module _ {text : List ℕ} {w : Word} {s : State} {work : List ℕ} {t : Answer}
             made l (nodesOf sc base u ++ nodesOf sc (base + expressionSize u) (o .tree)) (noted (D.binary (kindNo (w .kind)) (lastOf base (expressionSize u)) (lastOf (base + expressionSize u) (expressionSize (o .tree)))) (positioned (w .at)))
                 (expressionSize u + expressionSize (o .tree)) g (sym (append-assoc (nodesOf sc base u) (nodesOf sc (base + expressionSize u) (o .tree)) _)) refl
                 (o .pending .records ∙ ap (λ (z : Held). withNodes z (nodesOf sc (t .state .nodes) (o .tree))) (pending-kept p (c .kept) .records) ∙ sym (nodes-append q (nodesOf sc base u) (nodesOf sc (t .state .nodes) (o .tree))) ∙ ap (λ (z : ℕ). withNodes q (nodesOf sc base u ++ nodesOf sc z (o .tree))) j)
-                (k ∙ omega arith) (binary-bytes (kindNo (w .kind)) (i ∙ ap (λ (z : ℕ). z - 1) (p .nodes)) (ap (λ (z : ℕ). z - 1) k)) refl (o .nesting ∙ ap (λ (z : Counts). z .nesting) (c .counts))
+                (k ∙ omega arith) (binary-as refl (i ∙ ap (λ (z : ℕ). z - 1) (p .nodes)) (ap (λ (z : ℕ). z - 1) k)) refl (o .nesting ∙ ap (λ (z : Counts). z .nesting) (c .counts))
                 (record { seen = o .here .seen; names = o .here .names })
                 (λ K b. right-course h e u K b ∙ o .course (under rank K) (keeping w u b)
                 ∙ makes-it text (treeSteps .makeBinary) (again rank ++ K) (r .next) (pushed (o .tree) (keeping w u b)) (pushed l b) (r .state) (λ z. refl)),

@@ -12,6 +12,7 @@ use Rattle.language.specs.Encode.{concat, nodeBytes}
 use Rattle.language.specs.Value.{Value, value}
 use Rattle.language.specs.Words.{Position}
 use Rattle.noted.specs.Noted.{nodeBesideBytes, plainPlaces}
+use Rattle.work.proofs.Regions.{same-held}
 use Rattle.work.specs.Held.{Added, Held, held, withBytes, withNodes}
 
 concat-append : {A : Type 0} (f : A → List ℕ) (xs ys : List A) → concat f (xs ++ ys) ≡ concat f xs ++ concat f ys
@@ -23,16 +24,13 @@ concat-one : {A : Type 0} (f : A → List ℕ) (x : A) → concat f (x ∷ []) �
 unfolding concat
 concat-one f x = append-nil (f x)
 
-same-held : {x x′ y y′ : List ℕ} (z : List ℕ) → x ≡ x′ → y ≡ y′ → _≡_ {A = Held} (record { nodes = x; places = y; other = z }) (record { nodes = x′; places = y′; other = z })
-same-held z p q = rw (p, q)
-
 -- One list of records behind another.
 pub nodes-append : (h : Held) (xs ys : List Noted) → withNodes h (xs ++ ys) ≡ withNodes (withNodes h xs) ys
 unfolding withNodes
 nodes-append h xs ys =
-    same-held (h .other)
+    same-held
     (ap (λ (l : List ℕ). h .nodes ++ l) (concat-append (λ n. nodeBytes (n .node)) xs ys) ∙ sym (append-assoc (h .nodes) _ _))
-    (ap (λ (l : List ℕ). h .places ++ l) (concat-append (λ n. nodeBesideBytes (n .node) (n .places)) xs ys) ∙ sym (append-assoc (h .places) _ _))
+    (ap (λ (l : List ℕ). h .places ++ l) (concat-append (λ n. nodeBesideBytes (n .node) (n .places)) xs ys) ∙ sym (append-assoc (h .places) _ _)) refl
 
 pub nodes-other : (h : Held) (xs : List Noted) → withNodes h xs .other ≡ h .other
 unfolding withNodes
@@ -41,8 +39,8 @@ nodes-other h xs = refl
 pub node-one : (h : Held) (x : Noted) → withBytes h (nodeBytes (x .node)) (nodeBesideBytes (x .node) (x .places)) ≡ withNodes h (x ∷ [])
 unfolding withNodes
 node-one h x =
-    same-held (h .other) (ap (λ (l : List ℕ). h .nodes ++ l) (sym (concat-one (λ n. nodeBytes (n .node)) x)))
-    (ap (λ (l : List ℕ). h .places ++ l) (sym (concat-one (λ n. nodeBesideBytes (n .node) (n .places)) x)))
+    same-held (ap (λ (l : List ℕ). h .nodes ++ l) (sym (concat-one (λ n. nodeBytes (n .node)) x)))
+    (ap (λ (l : List ℕ). h .places ++ l) (sym (concat-one (λ n. nodeBesideBytes (n .node) (n .places)) x))) refl
 
 -- ---- One record.
 

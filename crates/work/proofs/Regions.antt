@@ -9,6 +9,9 @@ use Rattle.records.proofs.ByteLaws.{placed-length, placed-whole}
 use Rattle.records.specs.Placed.{placed}
 use Rattle.work.specs.Held.{Held, held, mostNodes, otherFrom, otherIn, placesFrom, withBytes}
 
+pub same-held : {x x′ y y′ z z′ : List ℕ} → x ≡ x′ → y ≡ y′ → z ≡ z′ → _≡_ {A = Held} (record { nodes = x; places = y; other = z }) (record { nodes = x′; places = y′; other = z′ })
+same-held p q r = rw (p, q, r)
+
 -- A part, from the front that holds it.
 part-of : (p k : ℕ) (s : List ℕ) → p ≤ length s → take k (drop p s) ≡ drop p (take (p + k) s)
 part-of p k s h = sym (ap (drop p) (take-add p k s) ∙ drop-at (take p s) (take k (drop p s)) p (length-take-le p s h))
@@ -45,9 +48,6 @@ added-in s bs p i h =
     ∙ ap (λ (k : ℕ). drop p (take k (placed s (p + i) bs))) e
     ∙ ap (drop p) (added s bs (p + i) h ∙ ap (λ (l : List ℕ). l ++ bs) (take-add p i s) ∙ append-assoc (take p s) (take i (drop p s)) bs)
     ∙ drop-at (take p s) (take i (drop p s) ++ bs) p (length-take-le p s (omega arith))
-
-same-held : {x x′ y y′ z z′ : List ℕ} → x ≡ x′ → y ≡ y′ → z ≡ z′ → _≡_ {A = Held} (record { nodes = x; places = y; other = z }) (record { nodes = x′; places = y′; other = z′ })
-same-held p q r = rw (p, q, r)
 
 -- A record and its places, with room for both.
 pub record-added : (w bs ps : List ℕ) (n : ℕ) → length w ≡ 171136 → n < mostNodes → length bs ≡ 8 → length ps ≡ 6

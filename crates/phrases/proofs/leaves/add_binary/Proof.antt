@@ -1,3 +1,4 @@
+use mathlib.Core.Path.{refl}
 use Rattle.operands.proofs.ReferenceLaws.{gained-as}
 use Rattle.phrases.proofs.PartLaws.{binary-as}
 use Prim.Native.Nat.{_-_}
@@ -19,7 +20,7 @@ add-requires c κs = search needs
 
 returns : tie.Need-returns
 returns c =
-    gained-as (c .add .ensures) (binary-as _ (c .before .before .before .number .ensures) (c .before .before .last .ensures)) (c .before .before .before .before .plain .ensures)
+    gained-as (c .add .ensures) (binary-as (c .before .before .before .number .ensures) refl (c .before .before .last .ensures)) (c .before .before .before .before .plain .ensures)
 
 pub add-binary-spec : {M : Type 1} → statement M
 add-binary-spec =
