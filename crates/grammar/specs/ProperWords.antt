@@ -121,7 +121,7 @@ noted-proper p (S.constant c) r x y = (tt, y)
 noted-proper p (S.sign k) r x y = (x, y)
 noted-proper p (S.wrong n) r x y = y
 
-from-proper : (k at : ℕ) (s : List ℕ) → Proper (scanFrom k at s .words)
+pub from-proper : (k at : ℕ) (s : List ℕ) → Proper (scanFrom k at s .words)
 unfolding scanFrom
 from-proper zero at s = tt
 from-proper (suc k) at [] = tt

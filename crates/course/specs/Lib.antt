@@ -1,0 +1,4 @@
+pub mod Course
+pub mod Gained
+pub mod Says
+pub mod Taken

@@ -1,0 +1,48 @@
+// The kinds of words by number, as the grammar has them.
+use words::Kind;
+ghost use mathlib.Core.Path.{_≡_};
+ghost use Rattle.course.specs.Course.{kindNo};
+
+pub const NAME: u8 = 1;
+
+pub const CONSTANT: u8 = 2;
+
+pub const OPEN_PAREN: u8 = 5;
+
+pub const CLOSE_PAREN: u8 = 6;
+
+pub const COMMA: u8 = 9;
+
+pub const COLON: u8 = 13;
+
+pub const OPEN_BRACKET: u8 = 19;
+
+pub const CLOSE_BRACKET: u8 = 20;
+
+pub const CASE: u8 = 30;
+
+pub const DO: u8 = 31;
+
+pub const END_CASE: u8 = 32;
+
+pub const IF: u8 = 33;
+
+pub const THEN: u8 = 34;
+
+pub const ELSE: u8 = 35;
+
+pub const END_IF: u8 = 36;
+
+pub const RED: u8 = 39;
+
+// The number of a word's kind; the end of the text has 0, as no word.
+pub fn number(kind: Kind) -> u8
+    ensures { λ r. ⌜ r ≡ kindNo kind ⌝ }
+{
+    match kind {
+        Kind::End => 0,
+        Kind::Name => NAME,
+        Kind::Constant => CONSTANT,
+        Kind::Sign(k) => k,
+    }
+}

@@ -1,0 +1,5 @@
+pub mod Among
+pub mod Descent
+pub mod HeadTests
+pub mod HeadWords
+pub mod TailWords

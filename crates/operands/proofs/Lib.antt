@@ -1,0 +1,5 @@
+pub mod BracketWords
+pub mod EndLaws
+pub mod OperandLaws
+pub mod ReferenceLaws
+pub mod TermWords

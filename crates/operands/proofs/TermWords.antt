@@ -1,0 +1,118 @@
+-- The words with which a term begins, and what may follow a name.
+use mathlib.Core.Bool.{false}
+use mathlib.Core.List.{List, [], _∷_, _++_}
+use mathlib.Core.Path.{_≡_, refl, sym, subst}
+use Prim.Native.Nat.{ℕ, suc, _-_}
+use native.Mathlib.Omega.{arith}
+use borrow.Author.Tests.{ne-eqb}
+use lib.ListN.{length}
+use Rattle.grammar.specs.Following.{Follows, among}
+use Rattle.grammar.specs.Stacks.{kindsOf, omits}
+use Rattle.language.specs.Building.{Built, expressionNo, keepWord, wordNo}
+use Rattle.language.specs.Declaring.{treeSteps}
+use Rattle.language.specs.Machine.{Ask, Alternative, Counts, Parsed, ask, choose, closes, expression, feed, finish, level, make, may, moreArms, refused, run, second, secondOption, subscript, subscripts, tallied, term, withinCeilings, word}
+use Rattle.language.specs.Sections.{ruleOf}
+use Rattle.language.specs.Steps.{Step}
+use Rattle.language.specs.Tree as T
+use Rattle.language.specs.Tree.{Expression}
+use Rattle.language.specs.Words as L
+use Rattle.language.specs.Words.{fault}
+use Rattle.words.specs.declared.Word.{Word}
+use Rattle.words.specs.Meaning.{positioned}
+use Rattle.course.specs.Course.{Seen, Stack, ahead, behind, kindNo, runsOn}
+use Rattle.course.specs.Says.{pushed}
+use Rattle.course.specs.Taken.{constantWord}
+use Rattle.course.proofs.Looking.{View, begun, constant-ahead, ended, name-ahead, nameWord, sign-ahead, view}
+use Rattle.course.proofs.TakenWords.{onTaken, taken-on}
+
+abbrev pub countsAfter : Counts → ℕ → ℕ → Counts
+countsAfter c counted nesting = record { facilities = c .facilities; operations = c .operations; states = c .states; counted = counted; nesting = nesting }
+
+module _ (text : List ℕ) (w : Word) (z : Seen text w) (b : Built) (c : Counts) where
+  abbrev on : Stack → Parsed Built
+  on K = runsOn text K (ahead text w) b c
+
+  abbrev at : L.Position
+  at = positioned (w .at)
+
+  abbrev k : ℕ
+  k = kindNo (w .kind)
+
+  pub constant-term : k ≡ 2 → (K : Stack) → on (ask term ∷ K) ≡ onTaken text w (make (treeSteps .makeConstant) ∷ K) (keepWord (constantWord w) b) (countsAfter c (suc (c .counted)) (c .nesting))
+  unfolding runsOn run feed choose ruleOf tallied
+  constant-term e K = rw (constant-ahead text w z e) (taken-on text at _ (behind text w) _ _)
+
+  pub name-term : k ≡ 1 → (K : Stack) → on (ask term ∷ K) ≡ onTaken text w (ask subscripts ∷ K) (keepWord (nameWord text w) b) (countsAfter c (suc (c .counted)) (c .nesting))
+  unfolding runsOn run feed choose ruleOf tallied
+  name-term e K = rw (name-ahead text w z e) (taken-on text at _ (behind text w) _ _)
+
+  pub group-term : k ≡ 5 → (K : Stack) → on (ask term ∷ K) ≡ onTaken text w (ask expression ∷ word 6 closes ∷ K) b (countsAfter c (c .counted) (suc (c .nesting)))
+  unfolding runsOn run feed choose ruleOf tallied
+  group-term e K = rw (sign-ahead text w 5 e (omega arith)) (taken-on text at _ (behind text w) _ _)
+
+  -- What comes behind IF and CASE.
+  abbrev pub ifStack : Stack
+  ifStack =
+      ask expression ∷ word 34 level ∷ ask expression ∷ make (treeSteps .makeFirstArm) ∷ word 35 level ∷ ask expression ∷ make (treeSteps .makeNextArm) ∷ word 36 closes
+      ∷ make (treeSteps .makeChoice) ∷ []
+
+  abbrev pub caseStack : Stack
+  caseStack =
+      ask expression ∷ word 31 level ∷ ask expression ∷ make (treeSteps .makeFirstArm) ∷ word 31 level ∷ ask expression ∷ make (treeSteps .makeNextArm) ∷ ask moreArms ∷ word 32 closes
+      ∷ make (treeSteps .makeChoice) ∷ []
+
+  pub if-term : k ≡ 33 → (K : Stack) → on (ask term ∷ K) ≡ onTaken text w (ifStack ++ K) (keepWord (L.sign 33 at) b) (countsAfter c (suc (c .counted)) (suc (c .nesting)))
+  unfolding runsOn run feed choose ruleOf tallied
+  if-term e K = rw (sign-ahead text w 33 e (omega arith)) (taken-on text at _ (behind text w) _ _)
+
+  pub case-term : k ≡ 30 → (K : Stack) → on (ask term ∷ K) ≡ onTaken text w (caseStack ++ K) (keepWord (L.sign 30 at) b) (countsAfter c (suc (c .counted)) (suc (c .nesting)))
+  unfolding runsOn run feed choose ruleOf tallied
+  case-term e K = rw (sign-ahead text w 30 e (omega arith)) (taken-on text at _ (behind text w) _ _)
+
+  pub no-term : (k ≡ 2 → ⊥) → (k ≡ 1 → ⊥) → (k ≡ 5 → ⊥) → (k ≡ 33 → ⊥) → (k ≡ 30 → ⊥) → (K : Stack) → on (ask term ∷ K) ≡ refused (fault at 3)
+  unfolding runsOn run feed finish choose ruleOf
+  no-term n₁ n₂ n₃ n₄ n₅ K = go (view text w z)
+    where
+      go : View text w → on (ask term ∷ K) ≡ refused (fault at 3)
+      go (ended x y q) = rw (x, y)
+      go (begun v x q y) = rw (x, q, ne-eqb k 2 n₁, ne-eqb k 1 n₂, ne-eqb k 5 n₃, ne-eqb k 33 n₄, ne-eqb k 30 n₅, y)
+
+  -- ---- More arms.
+
+  pub more-taken : k ≡ 31 → (K : Stack) → on (ask moreArms ∷ K) ≡ on (word 31 level ∷ ask expression ∷ make (treeSteps .makeNextArm) ∷ ask moreArms ∷ K)
+  unfolding runsOn run feed choose ruleOf tallied
+  more-taken e K = rw (sign-ahead text w 31 e (omega arith))
+
+  leaves : (a : Ask) (ways : List (Alternative Built)) (f : Step Built) (d : Built) → ruleOf treeSteps a ≡ record { ways = ways; without = may f } → ((p : L.Position) → f p b ≡ d)
+      → among k (kindsOf ways) ≡ false → (K : Stack) → on (ask a ∷ K) ≡ runsOn text K (ahead text w) d c
+  unfolding runsOn
+  leaves a ways f d e h n K = omits treeSteps withinCeilings (ruleOf treeSteps) a ways f e K b d c h (ahead text w) (follows (view text w z)) (length text)
+    where
+      follows : View text w → Follows (kindsOf ways) (ahead text w)
+      follows (ended x y q) = subst (Follows (kindsOf ways)) (sym x) tt
+      follows (begun v x q y) = subst (Follows (kindsOf ways)) (sym x) (rw q n)
+
+  pub no-more : (k ≡ 31 → ⊥) → (K : Stack) → on (ask moreArms ∷ K) ≡ on K
+  unfolding ruleOf among
+  no-more n K = leaves moreArms _ _ b refl (λ p. refl) (rw (ne-eqb k 31 n)) K
+
+-- ---- After a name.
+
+module _ (text : List ℕ) (w : Word) (z : Seen text w) (c : Counts) where
+  pub no-subscript : (kindNo (w .kind) ≡ 19 → ⊥) → (n : List ℕ) (p : L.Position) (b : Built) (K : Stack)
+      → runsOn text (ask subscripts ∷ K) (ahead text w) (keepWord (L.name n p) b) c ≡ runsOn text K (ahead text w) (pushed (T.whole n p) b) c
+  unfolding ruleOf among wordNo
+  no-subscript d n p b K = leaves text w z (keepWord (L.name n p) b) c subscripts _ (treeSteps .makeWhole) (pushed (T.whole n p) b) refl (λ q. refl) (rw (ne-eqb (kindNo (w .kind)) 19 d)) K
+
+  pub subscript-opens : kindNo (w .kind) ≡ 19 → (b : Built) (K : Stack) → runsOn text (ask subscripts ∷ K) (ahead text w) b c ≡ onTaken text w (ask subscript ∷ K) b (countsAfter c (c .counted) (suc (c .nesting)))
+  unfolding runsOn run feed choose ruleOf tallied
+  subscript-opens e b K = rw (sign-ahead text w 19 e (omega arith)) (taken-on text (positioned (w .at)) _ (behind text w) _ _)
+
+  pub no-second : (kindNo (w .kind) ≡ 19 → ⊥) → (n : List ℕ) (p : L.Position) (e : Expression) (b : Built) (K : Stack)
+      → runsOn text (ask secondOption ∷ K) (ahead text w) (pushed e (keepWord (L.name n p) b)) c ≡ runsOn text K (ahead text w) (pushed (T.one n p e) b) c
+  unfolding ruleOf among wordNo expressionNo
+  no-second d n p e b K = leaves text w z (pushed e (keepWord (L.name n p) b)) c secondOption _ (treeSteps .makeOne) (pushed (T.one n p e) b) refl (λ q. refl) (rw (ne-eqb (kindNo (w .kind)) 19 d)) K
+
+  pub second-opens : kindNo (w .kind) ≡ 19 → (b : Built) (K : Stack) → runsOn text (ask secondOption ∷ K) (ahead text w) b c ≡ onTaken text w (ask second ∷ K) b (countsAfter c (c .counted) (suc (c .nesting)))
+  unfolding runsOn run feed choose ruleOf tallied
+  second-opens e b K = rw (sign-ahead text w 19 e (omega arith)) (taken-on text (positioned (w .at)) _ (behind text w) _ _)

@@ -1,0 +1,26 @@
+use Rattle.operands.proofs.EndLaws.{closed-not, closed-says}
+use Rattle.course.proofs.Answers.{not-done}
+use borrow.Author.Needs.{needs}
+use Rattle.operands.proofs.constants.closed.Statement.{statement}
+use Rattle.operands.proofs.constants.closed.Tie as tie
+
+keep-constant-requires : tie.Need-keep-constant-requires
+keep-constant-requires c κs = search needs
+
+enum-told : tie.Need-enum-told
+enum-told c = search needs
+
+returns : tie.Need-returns
+returns c =
+    closed-not (c .before .keep-constant .ensures) (not-done (c .match .keys2))
+
+expect-requires : tie.Need-expect-requires
+expect-requires c κs = search needs
+
+returns-2 : tie.Need-returns-2
+returns-2 c =
+    closed-says (c .before .before .before .before .before .keep-constant .ensures) (c .before .before .before .enum-told .given .1) (c .expect .ensures)
+
+pub closed-spec : {M : Type 1} → statement M
+closed-spec =
+    tie.close (tie.spec keep-constant-requires enum-told returns expect-requires returns-2)

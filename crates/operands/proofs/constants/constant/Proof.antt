@@ -1,0 +1,32 @@
+use mathlib.Core.List.{_∷_}
+use Rattle.language.specs.Building.{keepWord}
+use Rattle.language.specs.Declaring.{treeSteps}
+use Rattle.language.specs.Machine.{make}
+use Rattle.course.proofs.Saying.{not-taken}
+use Rattle.course.specs.Taken.{constantWord}
+use Rattle.operands.proofs.OperandLaws.{constant-says, term-course}
+use Rattle.course.proofs.Answers.{not-done}
+use borrow.Author.Needs.{needs}
+use Rattle.operands.proofs.constants.constant.Statement.{statement}
+use Rattle.operands.proofs.constants.constant.Tie as tie
+
+take-requires : tie.Need-take-requires
+take-requires c κs = search needs
+
+enum-told : tie.Need-enum-told
+enum-told c = search needs
+
+returns : tie.Need-returns
+returns c =
+    λ e sc h. not-taken (c .before .take .ensures) (not-done (c .match .keys2)) (λ K. make (treeSteps .makeConstant) ∷ K) (λ b. keepWord (constantWord (c .before .before .before .args .w)) b) (term-course e h)
+
+add-constant-requires : tie.Need-add-constant-requires
+add-constant-requires c κs = search needs
+
+returns-2 : tie.Need-returns-2
+returns-2 c =
+    λ e sc h. constant-says e h (c .before .before .before .before .before .before .take .ensures) (c .before .before .before .before .enum-told .given .1) (c .add-constant .ensures)
+
+pub constant-spec : {M : Type 1} → statement M
+constant-spec =
+    tie.close (tie.spec take-requires enum-told returns add-constant-requires returns-2)

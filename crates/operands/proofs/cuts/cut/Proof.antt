@@ -1,0 +1,46 @@
+use Rattle.course.proofs.NodeGained.{grown}
+use Rattle.words.specs.Meaning.{positioned}
+use Rattle.operands.proofs.OperandLaws.{cut-not, cut-says, kept-nodes}
+use Rattle.course.proofs.Answers.{not-done}
+use borrow.Author.Needs.{needs}
+use Rattle.operands.proofs.cuts.cut.Statement.{statement}
+use Rattle.operands.proofs.cuts.cut.Tie as tie
+
+keep-constant-requires : tie.Need-keep-constant-requires
+keep-constant-requires c κs = search needs
+
+enum-told : tie.Need-enum-told
+enum-told c = search needs
+
+returns : tie.Need-returns
+returns c =
+    (λ sc h q base t o. cut-not (c .before .before .before .args .kind) (positioned (c .before .before .before .args .operator .at)) h o (c .before .keep-constant .ensures) (not-done (c .match .keys2)), λ z d. absurd (not-done (c .match .keys2) d))
+
+count-requires : tie.Need-count-requires
+count-requires c κs = search needs
+
+plain-requires : tie.Need-plain-requires
+plain-requires c κs = search needs
+
+last-requires : tie.Need-last-requires
+last-requires c κs = search needs
+
+add-requires : tie.Need-add-requires
+add-requires c κs = search needs
+
+returns-2 : tie.Need-returns-2
+returns-2 c =
+    (λ sc h q base t o. cut-says (c .before .before .before .before .before .before .before .before .before .before .before .before .before .args .kind) (positioned (c .before .before .before .before .before .before .before .before .before .before .before .before .before .args .operator .at)) h o (c .before .before .before .before .before .before .before .before .before .before .before .keep-constant .ensures) (c .before .before .before .before .before .before .before .before .before .enum-told .given .1) (c .before .before .last .ensures) (c .before .before .before .before .before .count .ensures) (c .before .before .before .plain .ensures) (c .add .ensures), λ z. grown (c .add .ensures) (c .before .before .before .before .before .before .before .before .before .before .before .before .before .args .s) (kept-nodes (c .before .before .before .before .before .before .before .before .before .before .before .keep-constant .ensures) (c .before .before .before .before .before .before .before .before .before .enum-told .given .1) z))
+
+pub cut-spec : {M : Type 1} → statement M
+cut-spec =
+    tie.close
+    (tie.spec
+    keep-constant-requires
+    enum-told
+    returns
+    count-requires
+    plain-requires
+    last-requires
+    add-requires
+    returns-2)

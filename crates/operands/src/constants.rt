@@ -1,0 +1,94 @@
+// Constants as operands, and the ends of a part.
+use course::Answer;
+use course::Bearing;
+use course::State;
+use course::Verdict;
+use course::adding;
+use course::kinds;
+use course::taking;
+use words::Word;
+ghost use mathlib.Core.List.{[], _∷_};
+ghost use mathlib.Core.Path.{_≡_};
+ghost use Rattle.language.specs.Machine.{ask, term};
+ghost use Rattle.course.specs.Course.{kindNo};
+ghost use Rattle.course.specs.Says.{Parses};
+ghost use Rattle.operands.specs.Ended.{Closed, Counting, Ended};
+
+// A term that is a constant.
+pub fn constant(s: State, text: &[u8], w: Word, work: &mut [u8; 171136]) -> Answer
+    ensures { λ r. ⌜ (kindNo (w .kind) ≡ 2 → Parses (ask term ∷ []) (λ t b. b) (s .nesting) (now (text .entry)) w s (now (work .entry)) (now (work .exit)) r) ⌝ }
+{
+    let taken = taking::take(text, w, s, true, Bearing::Level);
+    let verdict = taken.verdict;
+    let Verdict::Done = verdict else {
+        return taken;
+    };
+    let next = taken.next;
+    let state = taken.state;
+    adding::add_constant(work, w, next, state)
+}
+
+// A constant in brackets that begins an expression: it was kept, and counts.
+pub fn counted(s: State, w: Word, next: Word, work: &mut [u8; 171136]) -> Answer
+    ensures { λ r. ⌜ Counting w next s (now (work .entry)) (now (work .exit)) r ⌝ }
+{
+    let passed = taking::pass(w, next, s, true, Bearing::Level);
+    let verdict = passed.verdict;
+    let Verdict::Done = verdict else {
+        return passed;
+    };
+    let then = passed.next;
+    let state = passed.state;
+    adding::add_constant(work, w, then, state)
+}
+
+// The ends of a part, with the bracket that closes it; `last` is the second one.
+pub struct Ends {
+    pub answer: Answer,
+    pub last: Word,
+}
+
+// Two constants with a colon between them, and the bracket; they have been seen as far as the colon.
+pub fn ends_of(s: State, text: &[u8], w: Word) -> Ends
+    ensures { λ r. ⌜ Ended (now (text .entry)) w s r ⌝ }
+{
+    let first = taking::take(text, w, s, false, Bearing::Level);
+    let verdict = first.verdict;
+    let Verdict::Done = verdict else {
+        return Ends {
+            answer: first,
+            last: w,
+        };
+    };
+    let at_colon = first.next;
+    let colon = taking::take(text, at_colon, first.state, false, Bearing::Level);
+    let verdict = colon.verdict;
+    let Verdict::Done = verdict else {
+        return Ends {
+            answer: colon,
+            last: w,
+        };
+    };
+    closed(colon.state, text, colon.next)
+}
+
+// The second constant of a part, and the bracket that closes it.
+fn closed(s: State, text: &[u8], w: Word) -> Ends
+    ensures { λ r. ⌜ Closed (now (text .entry)) w s r ⌝ }
+{
+    let kept = taking::keep_constant(text, w, s);
+    let verdict = kept.verdict;
+    let Verdict::Done = verdict else {
+        return Ends {
+            answer: kept,
+            last: w,
+        };
+    };
+    let next = kept.next;
+    let state = kept.state;
+    let closing = taking::expect(text, next, state, kinds::CLOSE_BRACKET, Bearing::Closes);
+    Ends {
+        answer: closing,
+        last: w,
+    }
+}

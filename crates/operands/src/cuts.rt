@@ -1,0 +1,46 @@
+// HEAD, TAIL and EXT: the operator has been taken; its count must come.
+use course::Answer;
+use course::State;
+use course::Verdict;
+use course::adding;
+use course::taking;
+use records::nodes::Node;
+use words::Word;
+use work::bounds;
+use work::places;
+ghost use Rattle.course.specs.Course.{Seen};
+ghost use Rattle.course.specs.Gained.{Grows};
+ghost use Rattle.operands.specs.Ended.{Cuts};
+
+// The count of a cut of kind `kind` whose word is at, and its record.
+pub fn cut(
+    s: State,
+    kind: u8,
+    operator: Word,
+    text: &[u8],
+    w: Word,
+    work: &mut [u8; 171136],
+) -> Answer
+    ensures { λ r. ⌜ Cuts kind operator (now (text .entry)) w s (now (work .entry)) (now (work .exit)) r × (Seen (now (text .entry)) w → Grows s r) ⌝ }
+{
+    let kept = taking::keep_constant(text, w, s);
+    let verdict = kept.verdict;
+    let Verdict::Done = verdict else {
+        return kept;
+    };
+    let next = kept.next;
+    let state = kept.state;
+    let v = w.value;
+    let count = bounds::count(v);
+    let at = operator.at;
+    let beside = places::plain(at);
+    let operand = adding::last(state.nodes);
+    adding::add(
+        work,
+        next,
+        state,
+        Node::Cut(kind, operand, count),
+        0,
+        beside,
+    )
+}

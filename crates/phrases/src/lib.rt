@@ -1,0 +1,462 @@
+// Expressions and references (the manual, 5.1 and 5.2): a recursive descent that writes their records, against the machine of the grammar.
+use course::Answer;
+use course::Bearing;
+use course::State;
+use course::Verdict;
+use course::adding;
+use course::kinds;
+use course::taking;
+use levels::Head;
+use levels::Level;
+use levels::Rank;
+use levels::heads;
+use levels::ranks;
+use operands::constants;
+use operands::cuts;
+use operands::nodes;
+use words::Word;
+ghost use mathlib.Core.List.{[], _∷_};
+ghost use mathlib.Core.Path.{_≡_};
+ghost use Prim.Native.Nat.{_-_};
+ghost use Rattle.language.specs.Machine as L;
+ghost use Rattle.language.specs.Machine.{ask};
+ghost use Rattle.course.specs.Course.{kindNo};
+ghost use Rattle.course.specs.Says.{Extends, Parses};
+ghost use Rattle.levels.specs.Orders.{stackOf, tailStack, tailsFrom};
+ghost use Rattle.phrases.specs.Phrases.{Arms, Begins, FirstArm, Inside, MoreArms, NextArm, Operates, Second, afterName, choiceWord, same};
+
+mod leaves;
+
+// An answer, and how many arms there are.
+pub struct Armed {
+    pub answer: Answer,
+    pub count: u16,
+}
+
+// An expression of a level.
+pub fn start(s: State, level: Level, text: &[u8], w: Word, work: &mut [u8; 171136]) -> Answer
+    ensures { λ r. ⌜ Parses (stackOf level) same (s .nesting) (now (text .entry)) w s (now (work .entry)) (now (work .exit)) r ⌝ }
+{
+    let kind = w.kind;
+    let head = heads::head_of(level, kinds::number(kind));
+    let first = opening(s, head, text, w, work);
+    let verdict = first.verdict;
+    let Verdict::Done = verdict else {
+        return first;
+    };
+    let state = leaves::at(first.state, s.nesting);
+    rest(state, heads::after(head), level, text, first.next, work)
+}
+
+// Its first operand, with what stands before it.
+fn opening(s: State, head: Head, text: &[u8], w: Word, work: &mut [u8; 171136]) -> Answer
+    ensures { λ r. ⌜ Begins head (now (text .entry)) w s (now (work .entry)) (now (work .exit)) r ⌝ }
+{
+    if let Head::Plain = head {
+        return term(s, text, w, work);
+    }
+    let taken = taking::take(text, w, s, true, Bearing::Opens);
+    let verdict = taken.verdict;
+    let Verdict::Done = verdict else {
+        return taken;
+    };
+    let state = taken.state;
+    let next = taken.next;
+    let red = leaves::reducing(state, head, text, next);
+    let verdict = red.verdict;
+    let Verdict::Done = verdict else {
+        return red;
+    };
+    let inner = leaves::at(red.state, taken.state.nesting);
+    let operand = start(inner, heads::prefixed(head), text, red.next, work);
+    let verdict = operand.verdict;
+    let Verdict::Done = verdict else {
+        return operand;
+    };
+    let state = operand.state;
+    let next = operand.next;
+    leaves::add_prefix(state, w, next, work)
+}
+
+// The operators of a level from a rank on, behind an operand.
+fn rest(s: State, rank: Rank, level: Level, text: &[u8], w: Word, work: &mut [u8; 171136]) -> Answer
+    ensures { λ r. ⌜ Extends (tailsFrom rank level) [] (s .nesting) (now (text .entry)) w s (now (work .entry)) (now (work .exit)) r ⌝ }
+{
+    if ranks::within(rank, level) {
+        let more = tail(s, rank, text, w, work);
+        let verdict = more.verdict;
+        let Verdict::Done = verdict else {
+            return more;
+        };
+        let state = leaves::at(more.state, s.nesting);
+        return rest(state, ranks::next(rank), level, text, more.next, work);
+    }
+    leaves::stay(s, w)
+}
+
+// The operators of a rank; a relation comes at most once. Each writes a record, so that they end before the array is full.
+fn tail(s: State, rank: Rank, text: &[u8], w: Word, work: &mut [u8; 171136]) -> Answer
+    ensures { λ r. ⌜ Extends (tailStack rank) [] (s .nesting) (now (text .entry)) w s (now (work .entry)) (now (work .exit)) r ⌝ }
+{
+    let mut state = s;
+    let mut next = w;
+    let mut left: u16 = 8448;
+    while left > 0 {
+        if leaves::operates(rank, next) {
+            let one = operation(leaves::at(state, s.nesting), rank, text, next, work);
+            let verdict = one.verdict;
+            let Verdict::Done = verdict else {
+                return one;
+            };
+            if leaves::once(rank) {
+                return one;
+            }
+            state = one.state;
+            next = one.next;
+            left -= 1;
+        } else {
+            return leaves::stay(state, next);
+        }
+    }
+    leaves::full(state, next)
+}
+
+// An operator of a rank and what is on its right.
+fn operation(s: State, rank: Rank, text: &[u8], w: Word, work: &mut [u8; 171136]) -> Answer
+    ensures { λ r. ⌜ Operates rank (now (text .entry)) w s (now (work .entry)) (now (work .exit)) r ⌝ }
+{
+    let taken = taking::take(text, w, s, true, Bearing::Level);
+    let verdict = taken.verdict;
+    let Verdict::Done = verdict else {
+        return taken;
+    };
+    let state = taken.state;
+    let next = taken.next;
+    if let Rank::Cut = rank {
+        let kind = w.kind;
+        return cuts::cut(state, kinds::number(kind), w, text, next, work);
+    }
+    let right = start(state, ranks::operand(rank), text, next, work);
+    let verdict = right.verdict;
+    let Verdict::Done = verdict else {
+        return right;
+    };
+    let state = right.state;
+    let next = right.next;
+    leaves::add_binary(state, adding::last(s.nodes), w, next, work)
+}
+
+// A term.
+fn term(s: State, text: &[u8], w: Word, work: &mut [u8; 171136]) -> Answer
+    ensures { λ r. ⌜ Parses (ask L.term ∷ []) same (s .nesting) (now (text .entry)) w s (now (work .entry)) (now (work .exit)) r ⌝ }
+{
+    let found = w.kind;
+    let kind = kinds::number(found);
+    if kind == kinds::CONSTANT {
+        return constants::constant(s, text, w, work);
+    }
+    if kind == kinds::NAME {
+        return named(s, text, w, work);
+    }
+    if kind == kinds::OPEN_PAREN {
+        return group(s, text, w, work);
+    }
+    if kind == kinds::IF {
+        return choice(s, false, text, w, work);
+    }
+    if kind == kinds::CASE {
+        return choice(s, true, text, w, work);
+    }
+    taking::refuse(w, s, 3)
+}
+
+// An expression in parentheses.
+fn group(s: State, text: &[u8], w: Word, work: &mut [u8; 171136]) -> Answer
+    ensures { λ r. ⌜ (kindNo (w .kind) ≡ 5 → Parses (ask L.term ∷ []) same (s .nesting) (now (text .entry)) w s (now (work .entry)) (now (work .exit)) r) ⌝ }
+{
+    let opened = taking::take(text, w, s, false, Bearing::Opens);
+    let verdict = opened.verdict;
+    let Verdict::Done = verdict else {
+        return opened;
+    };
+    let state = opened.state;
+    let next = opened.next;
+    let inner = start(state, Level::Expression, text, next, work);
+    let verdict = inner.verdict;
+    let Verdict::Done = verdict else {
+        return inner;
+    };
+    let state = inner.state;
+    let next = inner.next;
+    taking::expect(text, next, state, kinds::CLOSE_PAREN, Bearing::Closes)
+}
+
+// A reference, from its name on.
+fn named(s: State, text: &[u8], w: Word, work: &mut [u8; 171136]) -> Answer
+    ensures { λ r. ⌜ (kindNo (w .kind) ≡ 1 → Parses (ask L.term ∷ []) same (s .nesting) (now (text .entry)) w s (now (work .entry)) (now (work .exit)) r) ⌝ }
+{
+    let taken = taking::take(text, w, s, true, Bearing::Level);
+    let verdict = taken.verdict;
+    let Verdict::Done = verdict else {
+        return taken;
+    };
+    let state = taken.state;
+    let next = taken.next;
+    reference(state, w, text, next, work)
+}
+
+// The rest of a reference, behind its name.
+pub fn reference(s: State, name: Word, text: &[u8], w: Word, work: &mut [u8; 171136]) -> Answer
+    ensures { λ r. ⌜ Parses (ask L.subscripts ∷ []) (afterName name) (s .nesting) (now (text .entry)) w s (now (work .entry)) (now (work .exit)) r ⌝ }
+{
+    let kind = w.kind;
+    if kinds::number(kind) == kinds::OPEN_BRACKET {
+        let opened = taking::take(text, w, s, false, Bearing::Opens);
+        let verdict = opened.verdict;
+        let Verdict::Done = verdict else {
+            return opened;
+        };
+        let state = opened.state;
+        let next = opened.next;
+        return subscript(state, name, text, next, work);
+    }
+    nodes::add_whole(s, name, text, w, work)
+}
+
+// A reference behind its first bracket.
+pub fn subscript(s: State, name: Word, text: &[u8], w: Word, work: &mut [u8; 171136]) -> Answer
+    ensures { λ r. ⌜ Parses (ask L.subscript ∷ []) (afterName name) (s .nesting - 1) (now (text .entry)) w s (now (work .entry)) (now (work .exit)) r ⌝ }
+{
+    if taking::ends_ahead(text, w) {
+        return leaves::part(s, name, text, w, work);
+    }
+    let first = inside(s, false, text, w, work);
+    let verdict = first.verdict;
+    let Verdict::Done = verdict else {
+        return first;
+    };
+    let state = first.state;
+    let next = first.next;
+    let kind = next.kind;
+    if kinds::number(kind) == kinds::COMMA {
+        let comma = taking::take(text, next, state, false, Bearing::Level);
+        let verdict = comma.verdict;
+        let Verdict::Done = verdict else {
+            return comma;
+        };
+        let state = leaves::at(comma.state, s.nesting);
+        return second(state, name, text, comma.next, work);
+    }
+    let closed = taking::expect(text, next, state, kinds::CLOSE_BRACKET, Bearing::Closes);
+    let verdict = closed.verdict;
+    let Verdict::Done = verdict else {
+        return closed;
+    };
+    let state = leaves::at(closed.state, adding::last(s.nesting));
+    single(state, name, text, closed.next, work)
+}
+
+// A reference with one subscript, and perhaps a second one in brackets of its own.
+fn single(s: State, name: Word, text: &[u8], w: Word, work: &mut [u8; 171136]) -> Answer
+    ensures { λ r. ⌜ Second L.secondOption name (s .nesting) (now (text .entry)) w s (now (work .entry)) (now (work .exit)) r ⌝ }
+{
+    let kind = w.kind;
+    if kinds::number(kind) == kinds::OPEN_BRACKET {
+        let opened = taking::take(text, w, s, false, Bearing::Opens);
+        let verdict = opened.verdict;
+        let Verdict::Done = verdict else {
+            return opened;
+        };
+        let state = opened.state;
+        let next = opened.next;
+        return second(state, name, text, next, work);
+    }
+    nodes::add_one(s, name, adding::last(s.nodes), text, w, work)
+}
+
+// A reference behind its first subscript.
+fn second(s: State, name: Word, text: &[u8], w: Word, work: &mut [u8; 171136]) -> Answer
+    ensures { λ r. ⌜ Second L.second name (s .nesting - 1) (now (text .entry)) w s (now (work .entry)) (now (work .exit)) r ⌝ }
+{
+    if taking::ends_ahead(text, w) {
+        return leaves::word_part(s, name, text, w, work);
+    }
+    let other = inside(s, true, text, w, work);
+    let verdict = other.verdict;
+    let Verdict::Done = verdict else {
+        return other;
+    };
+    let state = other.state;
+    let next = other.next;
+    let closed = taking::expect(text, next, state, kinds::CLOSE_BRACKET, Bearing::Closes);
+    let verdict = closed.verdict;
+    let Verdict::Done = verdict else {
+        return closed;
+    };
+    let state = closed.state;
+    let next = closed.next;
+    nodes::add_two(
+        state,
+        name,
+        adding::last(s.nodes),
+        adding::last(state.nodes),
+        text,
+        next,
+        work,
+    )
+}
+
+// An expression in brackets, which may begin with a constant that no colon follows.
+fn inside(s: State, later: bool, text: &[u8], w: Word, work: &mut [u8; 171136]) -> Answer
+    ensures { λ r. ⌜ Inside later (now (text .entry)) w s (now (work .entry)) (now (work .exit)) r ⌝ }
+{
+    let kind = w.kind;
+    if kinds::number(kind) == kinds::CONSTANT {
+        let kept = taking::take(text, w, s, false, Bearing::Level);
+        let verdict = kept.verdict;
+        let Verdict::Done = verdict else {
+            return kept;
+        };
+        let constant = constants::counted(kept.state, w, kept.next, work);
+        let verdict = constant.verdict;
+        let Verdict::Done = verdict else {
+            return constant;
+        };
+        let state = leaves::at(constant.state, s.nesting);
+        return rest(
+            state,
+            Rank::Sum,
+            Level::Expression,
+            text,
+            constant.next,
+            work,
+        );
+    }
+    start(s, Level::Expression, text, w, work)
+}
+
+// A conditional: IF, or CASE.
+fn choice(s: State, case: bool, text: &[u8], w: Word, work: &mut [u8; 171136]) -> Answer
+    ensures { λ r. ⌜ (kindNo (w .kind) ≡ choiceWord case → Parses (ask L.term ∷ []) same (s .nesting) (now (text .entry)) w s (now (work .entry)) (now (work .exit)) r) ⌝ }
+{
+    let opened = taking::take(text, w, s, true, Bearing::Opens);
+    let verdict = opened.verdict;
+    let Verdict::Done = verdict else {
+        return opened;
+    };
+    let state = opened.state;
+    let condition = start(state, Level::Expression, text, opened.next, work);
+    let verdict = condition.verdict;
+    let Verdict::Done = verdict else {
+        return condition;
+    };
+    let before = leaves::at(condition.state, state.nesting);
+    let chosen = arms(before, case, text, condition.next, work);
+    let answer = chosen.answer;
+    let verdict = answer.verdict;
+    let Verdict::Done = verdict else {
+        return answer;
+    };
+    let closed = taking::expect(
+        text,
+        answer.next,
+        answer.state,
+        leaves::last_word(case),
+        Bearing::Closes,
+    );
+    let verdict = closed.verdict;
+    let Verdict::Done = verdict else {
+        return closed;
+    };
+    let number = adding::last(condition.state.nodes);
+    leaves::add_choice(closed.state, number, chosen.count, w, closed.next, work)
+}
+
+// The arms of a conditional.
+fn arms(s: State, case: bool, text: &[u8], w: Word, work: &mut [u8; 171136]) -> Armed
+    ensures { λ r. ⌜ Arms case (now (text .entry)) w s (now (work .entry)) (now (work .exit)) r ⌝ }
+{
+    let first = first_arm(s, leaves::first_word(case), text, w, work);
+    let verdict = first.verdict;
+    let Verdict::Done = verdict else {
+        return Armed {
+            answer: first,
+            count: 0,
+        };
+    };
+    let state = leaves::at(first.state, s.nesting);
+    let other = next_arm(state, leaves::other_word(case), text, first.next, work);
+    let verdict = other.verdict;
+    let Verdict::Done = verdict else {
+        return Armed {
+            answer: other,
+            count: 0,
+        };
+    };
+    let state = leaves::at(other.state, s.nesting);
+    more_arms(state, case, 2, text, other.next, work)
+}
+
+// The first arm, behind its word.
+fn first_arm(s: State, separator: u8, text: &[u8], w: Word, work: &mut [u8; 171136]) -> Answer
+    ensures { λ r. ⌜ FirstArm separator (now (text .entry)) w s (now (work .entry)) (now (work .exit)) r ⌝ }
+{
+    let word = taking::expect(text, w, s, separator, Bearing::Level);
+    let verdict = word.verdict;
+    let Verdict::Done = verdict else {
+        return word;
+    };
+    let state = leaves::at(word.state, s.nesting);
+    let arm = start(state, Level::Expression, text, word.next, work);
+    let verdict = arm.verdict;
+    let Verdict::Done = verdict else {
+        return arm;
+    };
+    leaves::add_first_arm(arm.state, arm.next, work)
+}
+
+// An arm behind others.
+fn next_arm(s: State, separator: u8, text: &[u8], w: Word, work: &mut [u8; 171136]) -> Answer
+    ensures { λ r. ⌜ NextArm separator (now (text .entry)) w s (now (work .entry)) (now (work .exit)) r ⌝ }
+{
+    let word = taking::expect(text, w, s, separator, Bearing::Level);
+    let verdict = word.verdict;
+    let Verdict::Done = verdict else {
+        return word;
+    };
+    let state = leaves::at(word.state, s.nesting);
+    let arm = start(state, Level::Expression, text, word.next, work);
+    let verdict = arm.verdict;
+    let Verdict::Done = verdict else {
+        return arm;
+    };
+    leaves::add_next_arm(arm.state, adding::last(s.nodes), arm.next, work)
+}
+
+// Further arms of CASE, behind n. Each writes a record, so that they end before the array is full.
+fn more_arms(s: State, case: bool, n: u16, text: &[u8], w: Word, work: &mut [u8; 171136]) -> Armed
+    ensures { λ r. ⌜ MoreArms case n (now (text .entry)) w s (now (work .entry)) (now (work .exit)) r ⌝ }
+{
+    let mut state = s;
+    let mut next = w;
+    let mut count = n;
+    let mut left: u16 = 8448;
+    while left > 0 {
+        if leaves::another(case, next) {
+            let one = next_arm(leaves::at(state, s.nesting), kinds::DO, text, next, work);
+            let verdict = one.verdict;
+            let Verdict::Done = verdict else {
+                return Armed { answer: one, count };
+            };
+            state = one.state;
+            next = one.next;
+            count = leaves::one_more(count);
+            left -= 1;
+        } else {
+            let answer = leaves::stay(state, next);
+            return Armed { answer, count };
+        }
+    }
+    let answer = leaves::full(state, next);
+    Armed { answer, count }
+}

@@ -1,0 +1,4 @@
+pub mod Naming
+pub mod NodesAdded
+pub mod PlaceLaws
+pub mod Regions
