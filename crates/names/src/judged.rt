@@ -6,8 +6,6 @@ use words::Judged;
 ghost use mathlib.Core.Bool.{cond, false, true};
 ghost use mathlib.Core.List.{[]};
 ghost use mathlib.Core.Path.{_≡_};
-ghost use Prim.Native.Nat.{_≤_};
-ghost use lib.ListN.{length};
 ghost use Rattle.language.specs.Encode.{Sections};
 ghost use Rattle.language.specs.Rules as L;
 ghost use Rattle.language.specs.Rules.{nameFaults, namePlaces, namesOf};

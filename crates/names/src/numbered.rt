@@ -3,7 +3,7 @@ use noted::places;
 use records::numbers;
 use words::Position;
 ghost use mathlib.Core.Path.{_≡_};
-ghost use Prim.Native.Nat.{_+_, _/_, _≤_};
+ghost use Prim.Native.Nat.{_+_, _≤_};
 ghost use lib.ListN.{drop, getD, length};
 ghost use Rattle.language.specs.Description.{nowhere};
 ghost use Rattle.words.specs.Meaning.{positioned};

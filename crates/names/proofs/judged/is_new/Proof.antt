@@ -38,9 +38,12 @@ same-requires c κs = search needs
 
 returns-2 : tie.Need-returns-2 Inv-loop μ-loop
 returns-2 c =
-    one-same (c .before .before .before .before .before .before .before .before .before .before .before .before .args .name .now) (lengthsOf (c .before .before .before .before .before .before .before .before .before .before .before .before .args .fs .now) (c .before .before .before .before .before .before .before .before .before .before .before .before .args .os .now) (c .before .before .before .before .before .before .before .before .before .before .before .before .args .ss .now)) (c .before .before .before .before .before .before .before .before .before .before .before .before .args .ns .now) (c .before .before .before .before .before .before .if1 .left) (c .before .before .before .before .before .loop .i) _ (c .before .before .before .before .loop-test .taken)
-    (c .before .before .part .ensures ∙ name-here (lengthsOf (c .before .before .before .before .before .before .before .before .before .before .before .before .args .fs .now) (c .before .before .before .before .before .before .before .before .before .before .before .before .args .os .now) (c .before .before .before .before .before .before .before .before .before .before .before .before .args .ss .now)) (c .before .before .before .before .before .before .before .before .before .before .before .before .args .ns .now) (c .before .before .before .before .before .loop .i) (c .before .before .before .before .before .loop .offset) (c .before .before .before .before .before .loop .inv .2) (c .before .before .before .length-of .ensures))
-    (c .before .same .ensures) (c .if2 .taken)
+    let a = c .before .before .before .before .before .before .before .before .before .before .before .before .args in
+    let ls = lengthsOf (a .fs .now) (a .os .now) (a .ss .now) in
+    let ns = a .ns .now in
+    let i = c .before .before .before .before .before .loop .i in
+    let part = c .before .before .part .ensures ∙ name-here ls ns i (c .before .before .before .before .before .loop .offset) (c .before .before .before .before .before .loop .inv .2) (c .before .before .before .length-of .ensures) in
+    one-same (a .name .now) ls ns (c .before .before .before .before .before .before .if1 .left) i (a .k) (c .before .before .before .before .loop-test .taken) part (c .before .same .ensures) (c .if2 .taken)
 
 after-requires : tie.Need-after-requires Inv-loop μ-loop
 after-requires c κs = search needs
@@ -52,18 +55,28 @@ loop-less : tie.Need-loop-less Inv-loop μ-loop
 loop-less c = search needs
 
 loop-again : tie.Need-loop-again Inv-loop μ-loop
-loop-again c = (
-  omega (arith, c .before .before .before .before .before .loop-test .taken),
-  c .after .ensures .0,
-  offset-next (lengthsOf (c .before .before .before .before .before .before .before .before .before .before .before .before .before .args .fs .now) (c .before .before .before .before .before .before .before .before .before .before .before .before .before .args .os .now) (c .before .before .before .before .before .before .before .before .before .before .before .before .before .args .ss .now)) (c .before .before .before .before .before .before .before .before .before .before .before .before .before .args .ns .now) (c .before .before .before .before .before .before .loop .i) (c .before .before .before .before .before .before .loop .offset) (c .before .before .before .before .before .before .loop .inv .2) (c .before .before .before .before .length-of .ensures) (c .after .ensures .1),
-  one-more (c .before .before .before .before .before .before .before .before .before .before .before .before .before .args .name .now) (lengthsOf (c .before .before .before .before .before .before .before .before .before .before .before .before .before .args .fs .now) (c .before .before .before .before .before .before .before .before .before .before .before .before .before .args .os .now) (c .before .before .before .before .before .before .before .before .before .before .before .before .before .args .ss .now)) (c .before .before .before .before .before .before .before .before .before .before .before .before .before .args .ns .now) (c .before .before .before .before .before .before .loop .i)
-      (c .before .before .before .part .ensures ∙ name-here (lengthsOf (c .before .before .before .before .before .before .before .before .before .before .before .before .before .args .fs .now) (c .before .before .before .before .before .before .before .before .before .before .before .before .before .args .os .now) (c .before .before .before .before .before .before .before .before .before .before .before .before .before .args .ss .now)) (c .before .before .before .before .before .before .before .before .before .before .before .before .before .args .ns .now) (c .before .before .before .before .before .before .loop .i) (c .before .before .before .before .before .before .loop .offset) (c .before .before .before .before .before .before .loop .inv .2) (c .before .before .before .before .length-of .ensures))
-      (c .before .before .same .ensures) (c .before .if2 .left) (c .before .before .before .before .before .before .loop .inv .3),
-)
+loop-again c =
+    let a = c .before .before .before .before .before .before .before .before .before .before .before .before .before .args in
+    let ls = lengthsOf (a .fs .now) (a .os .now) (a .ss .now) in
+    let ns = a .ns .now in
+    let i = c .before .before .before .before .before .before .loop .i in
+    let offset = c .before .before .before .before .before .before .loop .offset in
+    let inv = c .before .before .before .before .before .before .loop .inv in
+    let n = c .before .before .before .before .length-of .ensures in
+    let part = c .before .before .before .part .ensures ∙ name-here ls ns i offset (inv .2) n in (
+      omega (arith, c .before .before .before .before .before .loop-test .taken),
+      c .after .ensures .0,
+      offset-next ls ns i offset (inv .2) n (c .after .ensures .1),
+      one-more (a .name .now) ls ns i part (c .before .before .same .ensures) (c .before .if2 .left) (inv .3),
+    )
 
 returns-3 : tie.Need-returns-3 Inv-loop μ-loop
 returns-3 c =
-    all-new (c .before .before .before .before .before .before .before .before .args .name .now) (lengthsOf (c .before .before .before .before .before .before .before .before .args .fs .now) (c .before .before .before .before .before .before .before .before .args .os .now) (c .before .before .before .before .before .before .before .before .args .ss .now)) (c .before .before .before .before .before .before .before .before .args .ns .now) (c .before .before .if1 .left) (c .before .loop .i) _ (c .before .loop .inv .0) (c .loop-test .left) (c .before .loop .inv .3)
+    let a = c .before .before .before .before .before .before .before .before .args in
+    let ls = lengthsOf (a .fs .now) (a .os .now) (a .ss .now) in
+    let ns = a .ns .now in
+    let inv = c .before .loop .inv in
+    all-new (a .name .now) ls ns (c .before .before .if1 .left) (c .before .loop .i) (a .k) (inv .0) (c .loop-test .left) (inv .3)
 
 pub is-new-spec : {M : Type 1} → statement M
 is-new-spec =

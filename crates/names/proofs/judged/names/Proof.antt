@@ -26,7 +26,12 @@ count-requires : tie.Need-count-requires Inv-loop μ-loop
 count-requires c κs = search needs
 
 loop-holds : tie.Need-loop-holds Inv-loop μ-loop
-loop-holds c = (omega arith, omega arith, offset-start _ _, start-name (lengthsOf (c .before .before .before .before .before .before .before .before .args .fs .now) (c .before .before .before .before .before .before .before .before .args .os .now) (c .before .before .before .before .before .before .before .before .args .ss .now)) (c .before .before .before .before .before .before .before .before .args .ns .now) (placesOf (c .before .before .before .before .before .before .before .before .args .fp .now) (c .before .before .before .before .before .before .before .before .args .op .now) (c .before .before .before .before .before .before .before .before .args .sp .now)) (c .count .ensures))
+loop-holds c =
+    let a = c .before .before .before .before .before .before .before .before .args in
+    let ls = lengthsOf (a .fs .now) (a .os .now) (a .ss .now) in
+    let ns = a .ns .now in
+    let ps = placesOf (a .fp .now) (a .op .now) (a .sp .now) in
+    (omega arith, omega arith, offset-start ls ns, start-name ls ns ps (c .count .ensures))
 
 length-of-requires : tie.Need-length-of-requires Inv-loop μ-loop
 length-of-requires c κs = search needs
@@ -59,21 +64,33 @@ loop-less : tie.Need-loop-less Inv-loop μ-loop
 loop-less c = search needs
 
 loop-again : tie.Need-loop-again Inv-loop μ-loop
-loop-again c = (
-  omega (arith, c .before .before .before .before .before .before .before .loop-test .taken),
-  c .after .ensures .0,
-  offset-next (lengthsOf (c .before .before .before .before .before .before .before .before .before .before .before .before .before .before .before .before .before .args .fs .now) (c .before .before .before .before .before .before .before .before .before .before .before .before .before .before .before .before .before .args .os .now) (c .before .before .before .before .before .before .before .before .before .before .before .before .before .before .before .before .before .args .ss .now)) (c .before .before .before .before .before .before .before .before .before .before .before .before .before .before .before .before .before .args .ns .now) (c .before .before .before .before .before .before .before .before .loop .k) (c .before .before .before .before .before .before .before .before .loop .offset) (c .before .before .before .before .before .before .before .before .loop .inv .2) (c .before .before .before .before .before .before .length-of .ensures) (c .after .ensures .1),
-  step-name (lengthsOf (c .before .before .before .before .before .before .before .before .before .before .before .before .before .before .before .before .before .args .fs .now) (c .before .before .before .before .before .before .before .before .before .before .before .before .before .before .before .before .before .args .os .now) (c .before .before .before .before .before .before .before .before .before .before .before .before .before .before .before .before .before .args .ss .now)) (c .before .before .before .before .before .before .before .before .before .before .before .before .before .before .before .before .before .args .ns .now) (placesOf (c .before .before .before .before .before .before .before .before .before .before .before .before .before .before .before .before .before .args .fp .now) (c .before .before .before .before .before .before .before .before .before .before .before .before .before .before .before .before .before .args .op .now) (c .before .before .before .before .before .before .before .before .before .before .before .before .before .before .before .before .before .args .sp .now)) _ (c .before .before .before .before .before .before .before .before .loop .k) (judged (c .before .before .before .before .before .before .before .before .loop .all)) (judged (c .before .before .unless .result)) (c .before .before .before .before .before .before .before .loop-test .taken) (c .before .earlier .ensures)
-      (own-fault (lengthsOf (c .before .before .before .before .before .before .before .before .before .before .before .before .before .before .before .before .before .args .fs .now) (c .before .before .before .before .before .before .before .before .before .before .before .before .before .before .before .before .before .args .os .now) (c .before .before .before .before .before .before .before .before .before .before .before .before .before .before .before .before .before .args .ss .now)) (c .before .before .before .before .before .before .before .before .before .before .before .before .before .before .before .before .before .args .ns .now) (placesOf (c .before .before .before .before .before .before .before .before .before .before .before .before .before .before .before .before .before .args .fp .now) (c .before .before .before .before .before .before .before .before .before .before .before .before .before .before .before .before .before .args .op .now) (c .before .before .before .before .before .before .before .before .before .before .before .before .before .before .before .before .before .args .sp .now)) (c .before .before .before .before .before .before .before .before .loop .k)
-      (c .before .before .before .before .before .part .ensures ∙ name-here (lengthsOf (c .before .before .before .before .before .before .before .before .before .before .before .before .before .before .before .before .before .args .fs .now) (c .before .before .before .before .before .before .before .before .before .before .before .before .before .before .before .before .before .args .os .now) (c .before .before .before .before .before .before .before .before .before .before .before .before .before .before .before .before .before .args .ss .now)) (c .before .before .before .before .before .before .before .before .before .before .before .before .before .before .before .before .before .args .ns .now) (c .before .before .before .before .before .before .before .before .loop .k) (c .before .before .before .before .before .before .before .before .loop .offset) (c .before .before .before .before .before .before .before .before .loop .inv .2) (c .before .before .before .before .before .before .length-of .ensures))
-      (c .before .before .before .before .is-new .ensures) (c .before .before .before .place-of .ensures) (c .before .before .unless .ensures))
-      (c .before .before .before .before .before .before .before .before .loop .inv .3),
-)
+loop-again c =
+    let a = c .before .before .before .before .before .before .before .before .before .before .before .before .before .before .before .before .before .args in
+    let ls = lengthsOf (a .fs .now) (a .os .now) (a .ss .now) in
+    let ns = a .ns .now in
+    let ps = placesOf (a .fp .now) (a .op .now) (a .sp .now) in
+    let k = c .before .before .before .before .before .before .before .before .loop .k in
+    let offset = c .before .before .before .before .before .before .before .before .loop .offset in
+    let inv = c .before .before .before .before .before .before .before .before .loop .inv in
+    let less = c .before .before .before .before .before .before .before .loop-test .taken in
+    let n = c .before .before .before .before .before .before .length-of .ensures in
+    let name = c .before .before .before .before .before .part .ensures ∙ name-here ls ns k offset (inv .2) n in
+    let one = own-fault ls ns ps k name (c .before .before .before .before .is-new .ensures) (c .before .before .before .place-of .ensures) (c .before .before .unless .ensures) in (
+      omega (arith, less),
+      c .after .ensures .0,
+      offset-next ls ns k offset (inv .2) n (c .after .ensures .1),
+      step-name ls ns ps _ k (judged (c .before .before .before .before .before .before .before .before .loop .all)) (judged (c .before .before .unless .result)) less (c .before .earlier .ensures) one (inv .3),
+    )
 
 returns : tie.Need-returns Inv-loop μ-loop
 returns c =
-    λ x q a b d e f g h. stop-name (lengthsOf (c .before .before .before .before .before .before .before .before .before .before .args .fs .now) (c .before .before .before .before .before .before .before .before .before .before .args .os .now) (c .before .before .before .before .before .before .before .before .before .before .args .ss .now)) (c .before .before .before .before .before .before .before .before .before .before .args .ns .now) (placesOf (c .before .before .before .before .before .before .before .before .before .before .args .fp .now) (c .before .before .before .before .before .before .before .before .before .before .args .op .now) (c .before .before .before .before .before .before .before .before .before .before .args .sp .now)) _ (c .before .loop .k) (judged (c .before .loop .all)) (c .loop-test .left) (c .before .loop .inv .3)
-    ∙ faults-whole x q a b d e f g h
+    let a = c .before .before .before .before .before .before .before .before .before .before .args in
+    let ls = lengthsOf (a .fs .now) (a .os .now) (a .ss .now) in
+    let ns = a .ns .now in
+    let ps = placesOf (a .fp .now) (a .op .now) (a .sp .now) in
+    λ x q e f g h i j k.
+    stop-name ls ns ps _ (c .before .loop .k) (judged (c .before .loop .all)) (c .loop-test .left) (c .before .loop .inv .3)
+    ∙ faults-whole x q e f g h i j k
 
 pub names-spec : {M : Type 1} → statement M
 names-spec =
