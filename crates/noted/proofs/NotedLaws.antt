@@ -132,7 +132,7 @@ ltb-suc n k = by-test (ltb n k) refl
     by-test true t = lt-ltb (suc n) (suc k) (omega (arith, ltb-true n k t)) ∙ sym t
     by-test false t = le-ltb (suc n) (suc k) (omega (arith, ltb-false n k t)) ∙ sym t
 
-up-to-pick : {A : Type 0} (f : ℕ → A) (d : A) (i k n : ℕ) → getD (upTo f i k) n d ≡ pick (ltb n k) (f (i + n)) d
+pub up-to-pick : {A : Type 0} (f : ℕ → A) (d : A) (i k n : ℕ) → getD (upTo f i k) n d ≡ pick (ltb n k) (f (i + n)) d
 unfolding upTo
 up-to-pick f d i zero n = rw (le-ltb n 0 (omega arith))
 up-to-pick f d i (suc k) zero = let z : i + 0 ≡ i = omega arith in rw (lt-ltb 0 (suc k) (omega arith), z)

@@ -1,0 +1,3 @@
+// Names declared before: over all names of facilities, operations and states.
+pub mod judged;
+pub mod numbered;
