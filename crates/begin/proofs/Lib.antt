@@ -1,0 +1,4 @@
+pub mod BeginLaws
+pub mod BegunWords
+pub mod SizeLaws
+pub mod StimulusLaws
