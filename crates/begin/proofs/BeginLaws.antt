@@ -1,24 +1,21 @@
--- The bytes of the store as a cycle begins: the loop that makes them, and the words that they are. Assumes nothing.
-use mathlib.Core.Bool.{Bool, true, false, cond}
-use mathlib.Core.List.{List, [], _∷_, _++_, append-assoc}
-use mathlib.Core.Path.{_≡_, refl, sym, ap, ap₂, _∙_, subst}
-use Prim.Native.Nat.{ℕ, zero, suc, _+_, _-_, _*_, _≤_, _<_}
-use native.Mathlib.Nat.{suc-mul}
+-- The bytes of one facility as a cycle begins, and where they stand in the store. Assumes nothing.
+use mathlib.Core.Bool.{true, false}
+use mathlib.Core.List.{List, _∷_, _++_, append-assoc}
+use mathlib.Core.Path.{_≡_, refl, sym, ap, _∙_}
+use Prim.Native.Nat.{ℕ, zero, suc, _+_, _-_, _≤_}
 use native.Mathlib.Omega.{arith}
-use lib.ListN.{List·getD-eq-default, drop, getD, getD-replicate, length, length-append, length-drop, length-replicate, replicate, take, take-append-drop}
-use lib.Seq.{drop-append-le, drop-at, drop-drop, length-take-le, take-add, take-append-le, take-at}
-use Rattle.language.specs.Calls.{over}
-use Rattle.language.specs.Description.{Description, Facility, facilityAt, isComputed, noFacility, wordCount, wordLength}
-use Rattle.language.specs.Layout.{facilityBytes, placeIn, storeSizeOf, wordBytes, wordFromBytes}
-use Rattle.language.specs.Store.{Words, begin, begun, facilityWords, fromBytes, headOf, inputsOf, isInput, toBytes, wordsFrom, zeroWords}
+use lib.ListN.{drop, getD, length, length-append, length-drop, length-replicate, replicate, take, take-append-drop}
+use lib.Seq.{drop-at, drop-drop, length-take-le, take-add, take-at}
+use Rattle.language.specs.Description.{Facility, isComputed}
+use Rattle.language.specs.Layout.{facilityBytes}
+use Rattle.language.specs.Store.{isInput}
 use Rattle.language.specs.Tree.{Kind, computed, input, memory, plain, register, sequencing}
-use Rattle.records.proofs.ByteLaws.{placed-length, placed-whole}
+use Rattle.records.proofs.ByteLaws.{placed-whole}
 use Rattle.records.specs.Placed.{placed}
-use Rattle.store.proofs.ByteLists.{bytes-append, bytes-drop, bytes-take}
-use Rattle.store.proofs.Inverse.{bytes-again}
-use Rattle.store.proofs.Zeros.{Zeros, store-zero}
+use Rattle.store.proofs.ByteLists.{bytes-take}
+use Rattle.store.proofs.Zeros.{Zeros}
 use Rattle.store.specs.Layout.{Bytes}
-use Rattle.begin.proofs.SizeLaws.{input-not, input-whole}
+use Rattle.begin.proofs.SizeLaws.{input-whole}
 use Rattle.begin.specs.InBytes.{beginBytes, begunAt, bytesBegun, changed, inputBytes}
 
 -- ---- The bytes of one facility.
@@ -101,9 +98,6 @@ module _ (f : Facility) (fs : List Facility) (p place : ℕ) (B S : List ℕ) (a
 
   new-two : new ≡ (take place B ++ X) ++ drop (place + n) B
   new-two = is-new ∙ sym (append-assoc (take place B) X (drop (place + n) B))
-
-  pub begun-size : length new ≡ length B
-  begun-size = ap length new-two ∙ (length-append (take place B ++ X) (drop (place + n) B) ∙ omega (arith, front, length-drop (place + n) B, fits))
 
   pub begun-more : take (place + n) new ++ beginBytes fs (drop (place + n) new) (drop (at + inputBytes f) S) ≡ take place B ++ beginBytes (f ∷ fs) (drop place B) (drop at S)
   unfolding beginBytes

@@ -1,9 +1,8 @@
 -- A cycle begins facility by facility: what is left to do gives the same as the whole. Assumes nothing.
-use mathlib.Core.Bool.{true, false}
+use mathlib.Core.Bool.{false}
 use mathlib.Core.List.{List, [], _∷_, _++_}
 use mathlib.Core.Path.{_≡_, refl, sym, ap, _∙_}
 use Prim.Native.Nat.{ℕ, zero, suc, _+_, _*_, _≤_, _<_}
-use native.Mathlib.Nat.{zero-add}
 use native.Mathlib.Omega.{arith}
 use lib.ListN.{drop, drop-of-length-le, getD, length, replicate, take, take-append-drop}
 use Rattle.language.specs.Description.{Description, Facility, facilityAt, isComputed, noFacility, wordCount, wordLength}
@@ -12,7 +11,7 @@ use Rattle.language.specs.Store.{inputsOf}
 use Rattle.language.specs.Tree.{Kind, computed, input, memory, plain, register, sequencing}
 use Rattle.records.proofs.ByteLaws.{placed-length}
 use Rattle.records.specs.Placed.{placed}
-use Rattle.begin.proofs.BeginLaws.{begun-more, begun-size}
+use Rattle.begin.proofs.BeginLaws.{begun-more}
 use Rattle.begin.proofs.BegunWords.{Rooms, inputs-size}
 use Rattle.begin.proofs.SizeLaws.{stored-bytes}
 use Rattle.begin.proofs.StimulusLaws.{facility-here}

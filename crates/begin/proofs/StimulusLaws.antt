@@ -1,11 +1,11 @@
 -- A stimulus is tested facility by facility: what is left to test says the same as the whole. Assumes nothing.
 use mathlib.Core.Bool.{Bool, true, false, cond, true≢false}
 use mathlib.Core.List.{List, [], _∷_}
-use mathlib.Core.Path.{_≡_, refl, sym, ap, ap₂, _∙_}
+use mathlib.Core.Path.{_≡_, refl, sym, ap, _∙_}
 use Prim.Native.Nat.{ℕ, suc, _+_, _*_, _≤_, _<_}
 use native.Mathlib.Nat.{add-assoc, zero-add}
 use native.Mathlib.Omega.{arith}
-use borrow.Author.Tests.{leb-false, leb-true, lt-leb, ne-eqb}
+use borrow.Author.Tests.{leb-false, leb-true, ne-eqb}
 use lib.Dec.{eqb, leb}
 use lib.ListN.{drop, length}
 use lib.Seq.{drop-cons, drop-drop}

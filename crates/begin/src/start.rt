@@ -29,12 +29,16 @@ fn begin_one(store: &mut [u8], f: Facility, stimulus: &[u8], at: usize)
         Kind::Sequencing => {}
         Kind::Memory => {}
         Kind::Plain => ranges::clear(store, place, sizes::words_bytes(f)),
-        Kind::Input => bytes::put(store, place, bytes::part(stimulus, at, sizes::words_bytes(f))),
+        Kind::Input => bytes::put(
+            store,
+            place,
+            bytes::part(stimulus, at, sizes::words_bytes(f)),
+        ),
         Kind::Computed => {}
     }
 }
 
-// Every facility.
+// Every facility: the bytes of the words that the cycle begins with, in front of what lies beyond the store.
 pub fn begin(section: &[u8], store: &mut [u8], stimulus: &[u8])
     requires { ⌜ length (now section) / 13 ≤ 65536 ⌝ }
     ensures { λ _. ⌜ ((d : Description) (E : List ℕ) → Describes d (now (section .entry)) E → storeSizeOf (d .facilities) ≤ length (now (store .entry)) → stimulusSize d ≤ length (now (stimulus .entry)) → now (store .exit) ≡ over (L.toBytes (d .facilities) (L.begin (d .facilities) (L.fromBytes (d .facilities) (now (store .entry))) (L.fromBytes (L.inputsOf (d .facilities)) (now (stimulus .entry))))) (now (store .entry))) ⌝ }

@@ -24,11 +24,10 @@ mul-result c =
     let p = few-bytes (c .before .before .word-count .ensures .0) (c .before .word-length .ensures .0) (c .word-bytes .ensures) in omega (arith, p)
 
 returns : tie.Need-returns
-returns c =
-    (
-      few-bytes (c .before .before .word-count .ensures .0) (c .before .word-length .ensures .0) (c .word-bytes .ensures),
-      λ name. ap₂ (λ (a b : ℕ). a * b) (c .before .before .word-count .ensures .1 name) (c .word-bytes .ensures ∙ ap wordBytes (c .before .word-length .ensures .1 name)),
-    )
+returns c = (
+  few-bytes (c .before .before .word-count .ensures .0) (c .before .word-length .ensures .0) (c .word-bytes .ensures),
+  λ name. ap₂ (λ (a b : ℕ). a * b) (c .before .before .word-count .ensures .1 name) (c .word-bytes .ensures ∙ ap wordBytes (c .before .word-length .ensures .1 name)),
+)
 
 pub words-bytes-spec : {M : Type 1} → statement M
 words-bytes-spec =

@@ -12,7 +12,6 @@ use Rattle.evaluate.proofs.PlaceLaws.{facility-known, nameOf, stored-place}
 use Rattle.evaluate.specs.Described.{Describes}
 use Rattle.begin.proofs.BeginLoop.{Left, begun-long, left-all, left-more, left-none}
 use Rattle.begin.proofs.BegunWords.{begin-over}
-use Rattle.begin.specs.InBytes.{begunAt}
 use Rattle.begin.proofs.start.begin.Statement.{statement}
 use Rattle.begin.proofs.start.begin.Tie as tie
 
