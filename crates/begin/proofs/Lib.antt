@@ -1,0 +1,5 @@
+pub mod BeginLaws
+pub mod BeginLoop
+pub mod BegunWords
+pub mod SizeLaws
+pub mod StimulusLaws
