@@ -1,0 +1,18 @@
+// The tables of the working array behind the expressions: the records of the other sections, the places of their words, and the names declared.
+pub mod rows;
+
+// A table is a row of records of one size, each at its number.
+pub enum Table {
+    Actions,
+    ActionPlaces,
+    Facilities,
+    FacilityPlaces,
+    Operations,
+    OperationPlaces,
+    States,
+    StatePlaces,
+    FacilityNames,
+    OperationNames,
+    StateNames,
+    Labels,
+}
