@@ -1,1 +1,5 @@
+pub mod FacilityLaws
+pub mod NameLaws
 pub mod RowLaws
+pub mod StoreLaws
+pub mod TwoBytes

@@ -1,5 +1,5 @@
 -- A record written in its table: the table has it, and all others keep theirs.
-use mathlib.Core.Bool.{Bool, true, false, cond}
+use mathlib.Core.Bool.{Bool, true, false, cond, true≢false}
 use mathlib.Core.List.{List, [], _∷_, _++_, append-assoc}
 use mathlib.Core.Path.{_≡_, refl, sym, ap, _∙_, subst}
 use Prim.Native.Nat.{ℕ, _+_, _-_, _*_, _<_, _≤_}
@@ -144,3 +144,25 @@ module _ (t : Table) (n : ℕ) (w bs : List ℕ) (l : length w ≡ 171136) (b : 
 pub row-written : (t : Table) (n : ℕ) {w w′ bs : List ℕ} {a k : ℕ} → length w ≡ 171136 → length bs ≡ size t → n < most t → a ≡ from t → k ≡ size t → w′ ≡ placed w (a + k * n) bs
     → Wrote t n bs w w′
 row-written t n {w} {bs = bs} l b h e f g = subst (Wrote t n bs w) (sym (g ∙ rw (e, f))) (written t n w bs l b h)
+
+-- ---- Several tables written.
+
+apart-first : (u t : Table) (ts : List Table) → apartFrom u (t ∷ ts) ≡ true → apartFrom u (t ∷ []) ≡ true
+apart-first u t ts e = go (apart u t) e
+  where
+    go : (z : Bool) → cond z (apartFrom u ts) false ≡ true → cond z true false ≡ true
+    go true d = refl
+    go false d = d
+
+apart-rest : (u t : Table) (ts : List Table) → apartFrom u (t ∷ ts) ≡ true → apartFrom u ts ≡ true
+apart-rest u t ts e = go (apart u t) e
+  where
+    go : (z : Bool) → cond z (apartFrom u ts) false ≡ true → apartFrom u ts ≡ true
+    go true d = d
+    go false d = absurd (true≢false (sym d))
+
+pub kept-more : {t : Table} {ts : List Table} {w w₁ w₂ : List ℕ} → Kept (t ∷ []) w w₁ → Kept ts w₁ w₂ → Kept (t ∷ ts) w w₂
+kept-more {t} {ts} a b = record {
+  tables = λ u e m h. b .tables u (apart-rest u t ts e) m h ∙ a .tables u (apart-first u t ts e) m h;
+  front = b .front ∙ a .front;
+}

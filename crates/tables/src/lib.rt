@@ -1,5 +1,9 @@
 // The tables of the working array behind the expressions: the records of the other sections, the places of their words, and the names declared.
+pub mod extents;
+pub mod facilities;
+pub mod names;
 pub mod rows;
+pub mod stores;
 
 // A table is a row of records of one size, each at its number.
 pub enum Table {
