@@ -1,5 +1,6 @@
 pub mod FacilityLaws
 pub mod NameLaws
+pub mod NamesGrown
 pub mod RowLaws
 pub mod StoreLaws
 pub mod TwoBytes
