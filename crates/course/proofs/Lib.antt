@@ -2,4 +2,5 @@ pub mod Answers
 pub mod Ceilings
 pub mod Looking
 pub mod NodeGained
+pub mod Saying
 pub mod TakenWords

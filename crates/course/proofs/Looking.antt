@@ -19,6 +19,7 @@ use Rattle.words.specs.declared.Kind.the-variants as K
 use Rattle.words.specs.declared.Word.{Word}
 use Rattle.words.specs.Meaning.{Next, following, inFront, isEnd, positioned}
 use Rattle.course.specs.Course.{Seen, ahead, behind, kindNo}
+use Rattle.course.specs.Taken.{constantWord}
 
 -- The next word, from where the last one ends.
 pub next-ahead : {text : List ℕ} {n : Word} (w : Word) (end : ℕ) → end ≡ w .at .place + w .size → Next text end n → ahead text n ≡ behind text w
@@ -53,15 +54,9 @@ view text w z = go (w .kind) refl
 
 -- ---- A word of a kind.
 
--- A name and a constant, as the language's words.
+-- A name as the language's word.
 abbrev pub nameWord : List ℕ → Word → L.Word
 nameWord text w = L.name (map folded (take (w .size) (drop (w .at .place) text))) (positioned (w .at))
-
-abbrev pub constantWord : Word → L.Word
-constantWord w = L.constant (written (w .bare) (valued (w .value))) (positioned (w .at))
-
-zero-not : {A : Type 0} {n : ℕ} → suc n ≡ 0 → A
-zero-not e = absurd (omega arith)
 
 pub sign-ahead : (text : List ℕ) (w : Word) (k : ℕ) → kindNo (w .kind) ≡ k → 3 ≤ k → ahead text w ≡ L.sign k (positioned (w .at)) ∷ behind text w
 unfolding ahead behind
@@ -89,3 +84,15 @@ name-ahead text w z e = go (w .kind) refl (proper text w z)
     go K.Name d p = rw d
     go K.Constant d p = absurd (let x : _≡_ {A = ℕ} 2 1 = sym (ap kindNo d) ∙ e in omega arith)
     go (K.Sign j) d p = let x : j ≡ 1 = sym (ap kindNo d) ∙ e in absurd (true≢false (rw x at (p .0)))
+
+pub constant-ahead : (text : List ℕ) (w : Word) → Seen text w → kindNo (w .kind) ≡ 2 → ahead text w ≡ constantWord w ∷ behind text w
+unfolding ahead behind among
+constant-ahead text w z e = go (w .kind) refl (proper text w z)
+  where
+    go : (q : Kind) → w .kind ≡ q
+        → Proper (inFront (map folded (take (w .size) (drop (w .at .place) text))) (written (w .bare) (valued (w .value))) (positioned (w .at)) (behind text w) q)
+        → ahead text w ≡ constantWord w ∷ behind text w
+    go K.End d p = absurd (let x : _≡_ {A = ℕ} 0 2 = sym (ap kindNo d) ∙ e in omega arith)
+    go K.Name d p = absurd (let x : _≡_ {A = ℕ} 1 2 = sym (ap kindNo d) ∙ e in omega arith)
+    go K.Constant d p = rw d
+    go (K.Sign j) d p = let x : j ≡ 2 = sym (ap kindNo d) ∙ e in absurd (true≢false (rw x at (p .0)))

@@ -1,18 +1,19 @@
 -- A record gained.
 use mathlib.Core.Bool.{Bool, true, false}
 use mathlib.Core.List.{List, _∷_, []}
-use mathlib.Core.Path.{_≡_, refl, sym, ap, _∙_}
-use Prim.Native.Nat.{ℕ, _+_}
+use mathlib.Core.Path.{_≡_, refl, sym, ap, _∙_, subst}
+use Prim.Native.Nat.{ℕ, _+_, _≤_}
 use Rattle.language.specs.Describe.{Noted}
 use Rattle.language.specs.Encode.{nodeBytes}
 use Rattle.noted.specs.Noted.{nodeBesideBytes}
 use Rattle.words.specs.declared.Word.{Word}
 use Rattle.work.proofs.NodesAdded.{node-one}
-use Rattle.work.specs.Held.{Added, Held, held, withBytes, withNodes}
+use Rattle.work.specs.Held.{Added, Grew, Held, held, mostNodes, withBytes, withNodes}
+use Rattle.work.specs.declared.constants.Room.{Room}
 use Rattle.course.specs.declared.Answer.{Answer}
 use Rattle.course.specs.declared.State.{State}
 use Rattle.course.specs.declared.Verdict.the-variants.{Done, Full, Refused}
-use Rattle.course.specs.Gained.{Behind, Gained, withNodeCount}
+use Rattle.course.specs.Gained.{Behind, Gained, Written, withNodeCount}
 use Rattle.course.proofs.Answers.{done-full, done-refused, refused-full}
 
 module _ {next : Word} {s : State} {bs ps w w′ : List ℕ} {b : Bool} (a : Added (s .nodes) bs ps w w′ b) where
@@ -26,3 +27,23 @@ module _ {next : Word} {s : State} {bs ps w w′ : List ℕ} {b : Bool} (a : Add
 pub gained-node : {next : Word} {s : State} {bs ps w w′ : List ℕ} {r : Answer} → Behind next s bs ps w w′ r → (x : Noted) → bs ≡ nodeBytes (x .node) → ps ≡ nodeBesideBytes (x .node) (x .places)
     → held (s .nodes + 1) w′ ≡ withNodes (held (s .nodes) w) (x ∷ [])
 gained-node {s = s} {w = w} a x p q = a .held ∙ rw (p, q) (node-one (held (s .nodes) w) x)
+
+-- A constant's records gained.
+module _ {ns : List Noted} {size : ℕ} {next : Word} {s s′ : State} {w w′ : List ℕ} {m : Room} (a : Grew (s .nodes) ns size w w′ m) (p : s′ ≡ withNodeCount s (m .nodes)) where
+  pub wrote : m .enough ≡ true → Written ns size next s w w′ (record { verdict = Done; next = next; state = s′ })
+  wrote e = record {
+    word = refl;
+    state = λ d. p ∙ ap (withNodeCount s) (a .nodes e);
+    held = λ d. ap (λ (n : ℕ). held n w′) (sym (a .nodes e)) ∙ a .added e;
+    refused = λ f d. done-refused d;
+    full = λ d. done-full d;
+  }
+
+  pub wrote-not : m .enough ≡ false → Written ns size next s w w′ (record { verdict = Full; next = next; state = s′ })
+  wrote-not e = record {
+    word = refl;
+    state = λ d. done-full (sym d);
+    held = λ d. done-full (sym d);
+    refused = λ f d. refused-full (sym d);
+    full = λ d. subst (λ (n : ℕ). mostNodes ≤ n) (sym (ap (λ (q : State). q .nodes) p)) (a .full e);
+  }

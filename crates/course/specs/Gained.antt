@@ -1,10 +1,11 @@
 -- What adding a record leaves.
 use mathlib.Core.List.{List}
 use mathlib.Core.Path.{_≡_}
-use Prim.Native.Nat.{ℕ, _+_, _≤_}
+use Prim.Native.Nat.{ℕ, _+_, _-_, _≤_}
+use Rattle.language.specs.Describe.{Noted}
 use Rattle.words.specs.declared.Fault.{Fault}
 use Rattle.words.specs.declared.Word.{Word}
-use Rattle.work.specs.Held.{held, mostNodes, withBytes}
+use Rattle.work.specs.Held.{held, mostNodes, withBytes, withNodes}
 use Rattle.course.specs.declared.Answer.{Answer}
 use Rattle.course.specs.declared.State.{State}
 use Rattle.course.specs.declared.Verdict.the-variants.{Done, Full, Refused}
@@ -22,3 +23,15 @@ pub record Gained (next : Word) (s : State) (bs ps w w′ : List ℕ) (r : Answe
   pub done : r .verdict ≡ Done → Behind next s bs ps w w′ r
   pub refused : (f : Fault) → r .verdict ≡ Refused f → ⊥
   pub full : r .verdict ≡ Full → mostNodes ≤ r .state .nodes
+
+-- Records that are `size` in number behind the others, and the next word as it was.
+pub record Written (ns : List Noted) (size : ℕ) (next : Word) (s : State) (w w′ : List ℕ) (r : Answer) : Type 0 where
+  pub word : r .next ≡ next
+  pub state : r .verdict ≡ Done → r .state ≡ withNodeCount s (s .nodes + size)
+  pub held : r .verdict ≡ Done → held (s .nodes + size) w′ ≡ withNodes (held (s .nodes) w) ns
+  pub refused : (f : Fault) → r .verdict ≡ Refused f → ⊥
+  pub full : r .verdict ≡ Full → mostNodes ≤ r .state .nodes
+
+-- One less is open.
+abbrev pub easedState : State → State
+easedState s = record { facilities = s .facilities; operations = s .operations; states = s .states; counted = s .counted; nesting = s .nesting - 1; nodes = s .nodes; known = s .known }

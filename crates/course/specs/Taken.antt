@@ -3,9 +3,13 @@ use mathlib.Core.Bool.{Bool, true, false, cond}
 use mathlib.Core.List.{List, [], _∷_}
 use mathlib.Core.Path.{_≡_}
 use Prim.Native.Nat.{ℕ, suc, _≤_}
-use Rattle.language.specs.Building.{Built}
-use Rattle.language.specs.Machine.{Counts, refused, withinCeilings, word}
+use lib.Dec.{eqb}
+use Rattle.language.specs.Building.{Built, keepWord}
+use Rattle.language.specs.Kinds.{aConstant, colon}
+use Rattle.language.specs.Machine.{Counts, both, keep, refused, withinCeilings, word}
+use Rattle.language.specs.Scan.{written}
 use Rattle.language.specs.Words as L
+use Rattle.value.specs.Meaning.{valued}
 use Rattle.words.specs.declared.Fault.{Fault}
 use Rattle.words.specs.declared.Word.{Word}
 use Rattle.words.specs.Meaning.{faulted, positioned}
@@ -33,6 +37,24 @@ pub record Kept (s s′ : State) : Type 0 where
   pub nodes : s′ .nodes ≡ s .nodes
   pub known : s′ .known ≡ s .known
 
+-- The word behind w.
+pub record Follows (text : List ℕ) (w r : Word) : Type 0 where
+  pub words : Seen text w → ahead text r ≡ behind text w
+  pub seen : Seen text r
+
+-- The counts c of the word w fit, and the next word is as it was.
+pub record WentOn (w next : Word) (c : Counts) (s : State) (r : Answer) : Type 0 where
+  pub fits : withinCeilings c ≡ true
+  pub counts : countsOf (r .state) ≡ c
+  pub deep : r .state .nesting ≤ 24
+  pub kept : Kept s (r .state)
+  pub word : r .next ≡ next
+
+pub record Went (w next : Word) (c : Counts) (s : State) (r : Answer) : Type 0 where
+  pub done : r .verdict ≡ Done → WentOn w next c s r
+  pub refused : (f : Fault) → r .verdict ≡ Refused f → (withinCeilings c ≡ false) × (faulted f ≡ L.fault (positioned (w .at)) 10)
+  pub full : r .verdict ≡ Full → ⊥
+
 -- The word w was taken with the counts c.
 pub record Passed (text : List ℕ) (w : Word) (c : Counts) (s : State) (r : Answer) : Type 0 where
   pub fits : withinCeilings c ≡ true
@@ -52,3 +74,27 @@ pub record Expected (text : List ℕ) (kind : ℕ) (b : Bearing) (w : Word) (s :
   pub done : r .verdict ≡ Done → Seen text w → 3 ≤ kind → Passed text w (afterWord false b s) s r × ((K : Stack) (x : Built) → runs text (word kind (bearingOf b) ∷ K) w x s ≡ runs text K (r .next) x (r .state))
   pub refused : (f : Fault) → r .verdict ≡ Refused f → Seen text w → 3 ≤ kind → (K : Stack) (x : Built) → runs text (word kind (bearingOf b) ∷ K) w x s ≡ refused (faulted f)
   pub full : r .verdict ≡ Full → ⊥
+
+-- A constant as the language's word.
+abbrev pub constantWord : Word → L.Word
+constantWord w = L.constant (written (w .bare) (valued (w .value))) (positioned (w .at))
+
+-- A constant that must come is kept.
+pub record KeptOn (text : List ℕ) (w : Word) (s : State) (r : Answer) : Type 0 where
+  pub course : (K : Stack) (x : Built) → runs text (keep aConstant ∷ K) w x s ≡ runs text K (r .next) (keepWord (constantWord w) x) (r .state)
+  pub state : r .state ≡ s
+  pub seen : Seen text (r .next)
+
+pub record Keeps (text : List ℕ) (w : Word) (s : State) (r : Answer) : Type 0 where
+  pub done : r .verdict ≡ Done → Seen text w → KeptOn text w s r
+  pub refused : (f : Fault) → r .verdict ≡ Refused f → Seen text w → (K : Stack) (x : Built) → runs text (keep aConstant ∷ K) w x s ≡ refused (faulted f)
+  pub full : r .verdict ≡ Full → ⊥
+
+-- Whether the words begin with a constant and a colon.
+abbrev pub colonFirst : List L.Word → Bool
+colonFirst [] = false
+colonFirst (v ∷ vs) = eqb (L.kindOf v) colon
+
+abbrev pub endsAhead : List L.Word → Bool
+endsAhead [] = false
+endsAhead (v ∷ vs) = both (eqb (L.kindOf v) aConstant) (colonFirst vs)

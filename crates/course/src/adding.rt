@@ -4,14 +4,18 @@ use crate::State;
 use crate::Verdict;
 use records::nodes::Node;
 use words::Word;
+use work::constants;
 use work::nodes;
 use work::nodes::Beside;
 ghost use mathlib.Core.Path.{_≡_};
 ghost use Prim.Native.Nat.{_-_};
+ghost use Rattle.language.specs.Describe.{constantNodes, constantSize};
 ghost use Rattle.language.specs.Encode.{nodeBytes};
 ghost use Rattle.records.specs.Nodes.{meant};
+ghost use Rattle.value.specs.Meaning.{valued};
+ghost use Rattle.words.specs.Meaning.{positioned};
 ghost use Rattle.work.specs.Held.{fields};
-ghost use Rattle.course.specs.Gained.{Gained, withNodeCount};
+ghost use Rattle.course.specs.Gained.{Gained, Written, easedState, withNodeCount};
 
 // The number of the last of n records.
 pub fn last(n: u16) -> u16
@@ -51,5 +55,42 @@ pub fn add(work: &mut [u8; 171136], next: Word, s: State, node: Node, v: u64, be
         verdict: Verdict::Full,
         next,
         state: s,
+    }
+}
+
+// Adds the records of a constant; the word after it has been seen.
+pub fn add_constant(work: &mut [u8; 171136], w: Word, next: Word, s: State) -> Answer
+    ensures { λ r. ⌜ Written (constantNodes (valued (w .value)) (positioned (w .at))) (constantSize (valued (w .value))) next s (now (work .entry)) (now (work .exit)) r ⌝ }
+{
+    let v = w.value;
+    let at = w.at;
+    let room = constants::add_constant(work, s.nodes, v, at);
+    let state = with_nodes(s, room.nodes);
+    if room.enough {
+        return Answer {
+            verdict: Verdict::Done,
+            next,
+            state,
+        };
+    }
+    Answer {
+        verdict: Verdict::Full,
+        next,
+        state,
+    }
+}
+
+// The state behind a prefix operator's operand.
+pub fn eased(s: State) -> State
+    ensures { λ r. ⌜ r ≡ easedState s ⌝ }
+{
+    State {
+        facilities: s.facilities,
+        operations: s.operations,
+        states: s.states,
+        counted: s.counted,
+        nesting: last(s.nesting),
+        nodes: s.nodes,
+        known: s.known,
     }
 }

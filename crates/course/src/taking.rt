@@ -12,8 +12,8 @@ ghost use mathlib.Core.Path.{_≡_};
 ghost use Prim.Native.Nat.{_+_, _≤_};
 ghost use lib.ListN.{length};
 ghost use Rattle.language.specs.Machine as L;
-ghost use Rattle.course.specs.Course.{borne, counts5};
-ghost use Rattle.course.specs.Taken.{Expected, Refuses, Took, afterWord, tallyOf};
+ghost use Rattle.course.specs.Course.{Seen, ahead, borne, counts5};
+ghost use Rattle.course.specs.Taken.{Expected, Follows, Keeps, Refuses, Took, Went, afterWord, endsAhead, tallyOf};
 
 // A refusal of a word.
 pub fn refuse(w: Word, s: State, number: u8) -> Answer
@@ -85,14 +85,20 @@ fn end_of(text: &[u8], w: Word) -> usize
     place + w.size
 }
 
-// Takes a word, unless its counts pass a ceiling.
-pub fn take(text: &[u8], w: Word, s: State, counts: bool, bearing: Bearing) -> Answer
-    ensures { λ r. ⌜ Took (now (text .entry)) w (afterWord counts bearing s) s r ⌝ }
+// The word behind another.
+fn following(text: &[u8], w: Word) -> Word
+    ensures { λ r. ⌜ Follows (now (text .entry)) w r ⌝ }
+{
+    next::next_word(text, end_of(text, w))
+}
+
+// Goes on to the next word with the counts of w, unless they pass a ceiling.
+pub fn pass(w: Word, next: Word, s: State, counts: bool, bearing: Bearing) -> Answer
+    ensures { λ r. ⌜ Went w next (afterWord counts bearing s) s r ⌝ }
 {
     let counted = tally(s.counted, counts);
     let nesting = bear(s.nesting, bearing);
     if fits(s, counted, nesting) {
-        let next = next::next_word(text, end_of(text, w));
         let state = State {
             facilities: s.facilities,
             operations: s.operations,
@@ -111,6 +117,13 @@ pub fn take(text: &[u8], w: Word, s: State, counts: bool, bearing: Bearing) -> A
     refuse(w, s, 10)
 }
 
+// Takes a word, unless its counts pass a ceiling.
+pub fn take(text: &[u8], w: Word, s: State, counts: bool, bearing: Bearing) -> Answer
+    ensures { λ r. ⌜ Took (now (text .entry)) w (afterWord counts bearing s) s r ⌝ }
+{
+    pass(w, following(text, w), s, counts, bearing)
+}
+
 // Takes a word of a kind that must come.
 pub fn expect(text: &[u8], w: Word, s: State, kind: u8, bearing: Bearing) -> Answer
     ensures { λ r. ⌜ Expected (now (text .entry)) kind bearing w s r ⌝ }
@@ -120,4 +133,33 @@ pub fn expect(text: &[u8], w: Word, s: State, kind: u8, bearing: Bearing) -> Ans
         return take(text, w, s, false, bearing);
     }
     refuse(w, s, 3)
+}
+
+// Keeps a constant that must come; it is not counted.
+pub fn keep_constant(text: &[u8], w: Word, s: State) -> Answer
+    ensures { λ r. ⌜ Keeps (now (text .entry)) w s r ⌝ }
+{
+    let kind = w.kind;
+    if kinds::number(kind) == kinds::CONSTANT {
+        let next = following(text, w);
+        return Answer {
+            verdict: Verdict::Done,
+            next,
+            state: s,
+        };
+    }
+    refuse(w, s, 3)
+}
+
+// Whether a constant and a colon come: the ends of a part.
+pub fn ends_ahead(text: &[u8], w: Word) -> bool
+    ensures { λ r. ⌜ (Seen (now (text .entry)) w → r ≡ endsAhead (ahead (now (text .entry)) w)) ⌝ }
+{
+    let kind = w.kind;
+    if kinds::number(kind) == kinds::CONSTANT {
+        let next = following(text, w);
+        let then = next.kind;
+        return kinds::number(then) == kinds::COLON;
+    }
+    false
 }
