@@ -96,6 +96,7 @@ module _ (n place : ℕ) (x : Declared) (h : n < 256) (small : place < 65536) {b
 
       all : Wrote T.Facilities n bs w w₁ → Wrote T.FacilityPlaces n ps w₁ w₂ → Wrote T.FacilityNames n (nameRow (x .at .place) (x .size)) w₂ w₃ → FacilityAdded n place x w w₃
       all i j k = record {
+        whole = i .whole;
         records = λ name at l p. k .kept .tables T.Facilities refl (n + 1) few ∙ j .kept .tables T.Facilities refl (n + 1) few ∙ i .behind ∙ ap (λ (v : List ℕ). rows T.Facilities n w ++ v) (f name at l p);
         places = λ name. k .kept .tables T.FacilityPlaces refl (n + 1) few ∙ j .behind
             ∙ rw (i .kept .tables T.FacilityPlaces refl n (omega arith)) (ap (λ (v : List ℕ). rows T.FacilityPlaces n w ++ v) (g name));

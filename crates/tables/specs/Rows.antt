@@ -4,7 +4,7 @@ use mathlib.Core.List.{List, [], _∷_, _++_}
 use mathlib.Core.Path.{_≡_}
 use Prim.Native.Nat.{ℕ, _+_, _*_, _<_, _≤_}
 use lib.Dec.{leb}
-use lib.ListN.{drop, take}
+use lib.ListN.{drop, length, take}
 use Rattle.records.specs.Placed.{placed}
 use Rattle.work.specs.Held.{otherFrom}
 use Rattle.tables.specs.declared.Table.{Table}
@@ -79,6 +79,7 @@ pub record Kept (ts : List Table) (w w′ : List ℕ) : Type 0 where
 
 -- Record n of a table was written: behind those before it, or in the place of the one that was there.
 pub record Wrote (t : Table) (n : ℕ) (bs w w′ : List ℕ) : Type 0 where
+  pub whole : length w ≡ 171136
   pub behind : rows t (n + 1) w′ ≡ rows t n w ++ bs
   pub instead : (m : ℕ) → n < m → m ≤ most t → rows t m w′ ≡ placed (rows t m w) (size t * n) bs
   pub kept : Kept (t ∷ []) w w′
