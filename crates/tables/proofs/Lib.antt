@@ -1,6 +1,7 @@
 pub mod FacilityLaws
 pub mod NameLaws
 pub mod NamesGrown
+pub mod OtherRecords
 pub mod RowLaws
 pub mod StoreLaws
 pub mod TwoBytes
