@@ -1,4 +1,5 @@
 pub mod FacilityLaws
+pub mod FirstFound
 pub mod NameLaws
 pub mod NamesGrown
 pub mod OtherRecords

@@ -1,9 +1,11 @@
 -- Names in their tables.
-use mathlib.Core.List.{List, [], _∷_, _++_}
+use mathlib.Core.List.{List, [], _∷_, _++_, map}
 use mathlib.Core.Path.{_≡_, refl, sym, ap, _∙_}
 use Prim.Native.Nat.{ℕ, _/_, _%_}
-use lib.ListN.{length}
+use lib.ListN.{drop, length, take}
+use Rattle.language.specs.Characters.{folded}
 use Rattle.language.specs.Encode.{little, two}
+use Rattle.work.specs.Names.{letters}
 use Rattle.tables.proofs.TwoBytes.{two-low}
 use Rattle.tables.specs.Names.{nameRow}
 
@@ -22,3 +24,7 @@ pub name-bytes : (place size : ℕ) {p a b c d : ℕ} → p ≡ place → a ≡ 
     → a ∷ b ∷ c ∷ d ∷ [] ≡ nameRow place size
 unfolding nameRow
 name-bytes place size {p} z e f g h = rw (e, f, g, h) (four-bytes (p % 65536) (size % 65536) ∙ low-two size z)
+
+pub letters-of : (text : List ℕ) (place size : ℕ) {name : List ℕ} → name ≡ take size (drop place text) → letters text place size ≡ map folded name
+unfolding letters
+letters-of text place size e = rw e

@@ -50,7 +50,7 @@ unfolding nameRow
 second-half place size i = ap (λ (m : ℕ). getD (two place ++ two size) (m + i) 0) (sym (two-length place)) ∙ getD-append-add (two place) (two size) i 0
 
 -- A number of a part, in the whole.
-part-number : (w : List ℕ) (p k i : ℕ) → i + 2 ≤ k → numberAt 2 i (take k (drop p w)) ≡ numberAt 2 (p + i) w
+pub part-number : (w : List ℕ) (p k i : ℕ) → i + 2 ≤ k → numberAt 2 i (take k (drop p w)) ≡ numberAt 2 (p + i) w
 part-number w p k i h =
     let e : p + i + 1 ≡ p + (i + 1) = omega arith in
     number-two i (take k (drop p w)) ∙ rw (byte i (omega arith), byte (i + 1) (omega arith), ← e) (sym (number-two (p + i) w))

@@ -2,6 +2,7 @@
 pub mod actions;
 pub mod extents;
 pub mod facilities;
+pub mod finding;
 pub mod names;
 pub mod operations;
 pub mod places;
