@@ -1,15 +1,15 @@
 -- Lists of declarations, as the code reads them.
 use mathlib.Core.List.{List, [], _∷_, _++_, append-assoc, append-nil}
 use mathlib.Core.Path.{_≡_, refl, sym, ap, _∙_, subst}
-use Prim.Native.Nat.{ℕ, suc, _-_, _<_, _≤_}
+use Prim.Native.Nat.{ℕ, _-_, _<_}
 use native.Mathlib.Omega.{arith}
 use lib.ListN.{length}
 use Rattle.course.proofs.TakenWords.{onTaken, took-done, took-refused}
 use Rattle.course.specs.declared.Answer.{Answer}
 use Rattle.course.specs.declared.State.{State}
 use Rattle.course.specs.declared.Verdict.the-variants.{Done}
-use Rattle.course.specs.Course.{Seen, Stack, countsOf, kindNo, runs}
-use Rattle.course.specs.Taken.{Passed, Took}
+use Rattle.course.specs.Course.{Stack, countsOf, kindNo, runs}
+use Rattle.course.specs.Taken.{Took}
 use Rattle.dimensions.proofs.Telling.{through}
 use Rattle.dimensions.specs.Telling.{Tells, same}
 use Rattle.image.specs.declared.facilities.Kind.the-variants as F

@@ -1,6 +1,6 @@
 -- The machine's words between declarations.
-use mathlib.Core.List.{List, [], _∷_, _++_}
-use mathlib.Core.Path.{_≡_, refl, sym, ap, _∙_}
+use mathlib.Core.List.{List, _∷_}
+use mathlib.Core.Path.{_≡_, refl, _∙_}
 use Prim.Native.Nat.{ℕ}
 use native.Mathlib.Omega.{arith}
 use borrow.Author.Tests.{ne-eqb}
@@ -14,7 +14,6 @@ use Rattle.dimensions.proofs.States.{state-of}
 use Rattle.dimensions.proofs.Telling.{refuses, word-taken}
 use Rattle.dimensions.specs.Telling.{same}
 use Rattle.language.specs.Building.{Built}
-use Rattle.language.specs.Declaring.{treeSteps}
 use Rattle.language.specs.Machine.{ask, choose, feed, finish, refused, run, tallied}
 use Rattle.language.specs.Sections.{ruleOf}
 use Rattle.language.specs.Words.{fault}
@@ -22,7 +21,6 @@ use Rattle.words.specs.declared.Word.{Word}
 use Rattle.words.specs.Meaning.{positioned}
 use Rattle.declarations.specs.declared.List as C
 use Rattle.declarations.specs.declared.List.the-variants.{Memories, Registers}
-use Rattle.declarations.specs.declared.Progress.{Progress}
 use Rattle.declarations.specs.Lists.{EndRead, Ends, moreIn, specIn}
 
 module _ (text : List ℕ) (w : Word) (K : Stack) (b : Built) (s : State) where

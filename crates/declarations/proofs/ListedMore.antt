@@ -9,23 +9,21 @@ use lib.Seq.{drop-at, length-take-le, take-add, take-take}
 use Rattle.course.specs.declared.State.{State}
 use Rattle.course.specs.declared.Verdict.the-variants.{Done}
 use Rattle.language.specs.Describe.{Noted}
-use Rattle.language.specs.DescribeText.{facilitiesOf, facilityNodes, facilityOf, facilitySize, functionNodes, functionSize, placesOf}
-use Rattle.language.specs.Encode.{facilityRecord, facilityRecords}
+use Rattle.language.specs.DescribeText.{facilitiesOf, facilityNodes, facilityOf, facilitySize}
+use Rattle.language.specs.Encode.{facilityRecords}
 use Rattle.language.specs.Layout.{facilityBytes, storeSizeOf}
-use Rattle.language.specs.Naming.{Scope}
 use Rattle.language.specs.Tree.{Declaration, Name}
-use Rattle.noted.specs.Noted.{facilityBesideBytes}
 use Rattle.tables.proofs.NamesGrown.{facility-names, names-behind}
 use Rattle.tables.specs.declared.facilities.Declared.{Declared}
 use Rattle.tables.specs.declared.Table.the-variants as T
-use Rattle.tables.specs.Facilities.{FacilityAdded, facilitySaid, placesSaid}
-use Rattle.tables.specs.Names.{nameRow, namesOf}
+use Rattle.tables.specs.Facilities.{FacilityAdded, facilitySaid}
+use Rattle.tables.specs.Names.{namesOf}
 use Rattle.tables.specs.Rows.{expressions, rows}
 use Rattle.words.specs.declared.Word.{Word}
 use Rattle.work.specs.Held.{Held, held, mostNodes, otherFrom, otherIn, placesFrom, withNodes}
-use Rattle.work.specs.Names.{letters, namesIn}
-use Rattle.declarations.proofs.Appended.{besides-last, facilities-last, length-last, names-last, nodes-plain, records-last, size-last, store-last}
-use Rattle.declarations.specs.Listed.{Added, Awaiting, Expressed, Listed, Says, Tabled, besides, knownState, noneHeld}
+use Rattle.work.specs.Names.{namesIn}
+use Rattle.declarations.proofs.Appended.{besides-last, facilities-last, length-last, names-last, records-last, store-last}
+use Rattle.declarations.specs.Listed.{Added, Awaiting, Listed, Says, besides, knownState, noneHeld}
 
 -- ---- Expressions stay while the tables change.
 

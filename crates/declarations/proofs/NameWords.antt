@@ -1,27 +1,22 @@
 -- The machine's words where a declaration begins.
 use mathlib.Core.Bool.{Bool, true, false}
-use mathlib.Core.List.{List, [], _∷_, _++_}
-use mathlib.Core.Path.{_≡_, refl, sym, ap, _∙_, subst}
-use Prim.Native.Nat.{ℕ, suc, _+_, _≤_, _<_}
-use native.Mathlib.Omega.{arith}
+use mathlib.Core.List.{List, _∷_, _++_}
+use mathlib.Core.Path.{_≡_, refl, _∙_, subst}
+use Prim.Native.Nat.{ℕ, _+_, _≤_}
 use borrow.Author.Tests.{leb-true, ne-eqb}
-use Rattle.course.proofs.Answers.{done-full, done-refused}
 use Rattle.course.proofs.Looking.{View, begun, ended, name-ahead, view}
 use Rattle.course.proofs.TakenWords.{onTaken, taken-on, took-done}
 use Rattle.course.specs.declared.Answer.{Answer}
-use Rattle.course.specs.declared.Bearing.the-variants.{Level}
 use Rattle.course.specs.declared.State.{State}
-use Rattle.course.specs.Course.{Seen, Stack, ahead, behind, countsOf, kindNo, runs, runsOn}
-use Rattle.course.specs.Taken.{Passed, Refuses, Took, afterWord}
+use Rattle.course.specs.Course.{Seen, Stack, behind, countsOf, kindNo, runs, runsOn}
+use Rattle.course.specs.Taken.{Passed, Refuses, Took}
 use Rattle.dimensions.proofs.States.{state-of}
 use Rattle.dimensions.proofs.Telling.{refuses, word-taken}
 use Rattle.dimensions.specs.Extents.{askOf}
-use Rattle.dimensions.specs.Telling.{Tells, same}
 use Rattle.image.specs.declared.facilities.Kind.{Kind}
 use Rattle.image.specs.declared.facilities.Kind.the-variants as F
 use Rattle.language.specs.Building.{Built, keepWord}
-use Rattle.language.specs.Declaring.{treeSteps}
-use Rattle.language.specs.Machine.{Counts, ask, both, choose, deepest, facility, feed, finish, more, mostCounted, mostFacilities, mostOperations, mostStates, refused, run, tallied, withinCeilings}
+use Rattle.language.specs.Machine.{Counts, ask, both, choose, deepest, feed, finish, mostCounted, mostFacilities, mostOperations, mostStates, refused, run, tallied, withinCeilings}
 use Rattle.language.specs.Sections.{ruleOf}
 use Rattle.language.specs.Words.{fault}
 use Rattle.words.specs.declared.Word.{Word}

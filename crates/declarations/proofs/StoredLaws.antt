@@ -1,8 +1,7 @@
 -- Registers and memories, as the code reads them.
-use mathlib.Core.Bool.{true, false}
 use mathlib.Core.List.{List, [], _∷_, _++_}
 use mathlib.Core.Path.{_≡_, refl, sym, ap, _∙_, subst}
-use Prim.Native.Nat.{ℕ, suc}
+use Prim.Native.Nat.{ℕ}
 use native.Mathlib.Omega.{arith}
 use Rattle.course.proofs.Answers.{done-full, done-refused}
 use Rattle.course.proofs.Looking.{sign-ahead}
@@ -17,11 +16,11 @@ use Rattle.dimensions.proofs.States.{state-of}
 use Rattle.dimensions.proofs.Telling.{through, word-taken}
 use Rattle.dimensions.specs.declared.extents.Measured.{Measured}
 use Rattle.dimensions.specs.Extents.{ExtentRead, Measures, askOf, toCome, withExtent}
-use Rattle.dimensions.specs.Telling.{Tells, same}
+use Rattle.dimensions.specs.Telling.{same}
 use Rattle.image.specs.declared.facilities.Kind.{Kind}
 use Rattle.image.specs.declared.facilities.Kind.the-variants as F
 use Rattle.language.specs.Building.{Built, keepWord, withText, wordNo}
-use Rattle.language.specs.Declaring.{makeMemory, makeRegister, makeSequencing, treeSteps}
+use Rattle.language.specs.Declaring.{makeMemory, makeRegister, makeSequencing}
 use Rattle.language.specs.DescribeText.{facilitySize}
 use Rattle.language.specs.Description.{nowhere}
 use Rattle.language.specs.Machine.{ask, choose, feed, registerSpec, run, sequencingSpec, tallied, withinCeilings}
@@ -34,8 +33,8 @@ use Rattle.words.specs.Meaning.{positioned}
 use Rattle.declarations.proofs.Unexpressed.{bare-awaits, bare-said, declarationOf, saidOf}
 use Rattle.declarations.specs.declared.Progress.{Progress}
 use Rattle.declarations.specs.Declares.{OneRead, Registers, Standing, Stored, Stores, put}
-use Rattle.declarations.specs.Listed.{Added, Adds, Awaiting, Listed, Says, knownState}
-use Rattle.declarations.specs.Specs.{NameRead, Names, Plainly, endOf, moreState, namedWord, specOf, whoseOf}
+use Rattle.declarations.specs.Listed.{Added, Adds, Awaiting, Listed, knownState}
+use Rattle.declarations.specs.Specs.{NameRead, Names, endOf, moreState, namedWord, specOf, whoseOf}
 
 -- ---- Where reading stands, when a word is taken that counts nothing.
 

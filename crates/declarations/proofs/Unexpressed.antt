@@ -1,19 +1,18 @@
 -- Declarations without an expression: what the code says of them, and what they wait for.
 use mathlib.Core.List.{List, [], _∷_, _++_}
-use mathlib.Core.Path.{_≡_, refl, sym, ap, _∙_, subst}
+use mathlib.Core.Path.{_≡_, refl, sym, ap, _∙_}
 use Prim.Native.Nat.{ℕ, suc, _+_, _<_, _≤_}
 use native.Mathlib.Omega.{arith}
 use lib.ListN.{drop, length, length-drop, length-map, take}
 use lib.Seq.{length-take-le}
 use Rattle.course.specs.declared.State.{State}
-use Rattle.course.specs.Course.{Seen, countsOf}
+use Rattle.course.specs.Course.{Seen}
 use Rattle.dimensions.specs.Extents.{Sized, bitsLeft, bitsRight, wordsLeft, wordsRight}
 use Rattle.image.specs.declared.facilities.Kind.{Kind}
 use Rattle.image.specs.Declarations.{kindMeant}
 use Rattle.language.specs.Characters.{folded}
-use Rattle.language.specs.DescribeText as D
-use Rattle.language.specs.DescribeText.{equalsPlace, facilityNodes, facilitySize, functionNodes, functionNumber, functionSize, placesOf}
-use Rattle.language.specs.Description.{Facility, FacilityPlaces, nowhere}
+use Rattle.language.specs.DescribeText.{equalsPlace, functionNodes, functionNumber, functionSize, placesOf}
+use Rattle.language.specs.Description.{nowhere}
 use Rattle.language.specs.Naming.{Scope}
 use Rattle.language.specs.Notions.{facilityOf}
 use Rattle.language.specs.Tree as T
@@ -21,14 +20,12 @@ use Rattle.language.specs.Tree.{Declaration, Extent, Function}
 use Rattle.language.specs.Words.{Position}
 use Rattle.tables.specs.declared.extents.Extent as C
 use Rattle.tables.specs.declared.facilities.Declared.{Declared}
-use Rattle.tables.specs.Facilities.{facilitySaid, placesSaid}
 use Rattle.words.specs.declared.Position as P
 use Rattle.words.specs.declared.Word.{Word}
 use Rattle.words.specs.Meaning.{positioned}
-use Rattle.work.specs.Held.{held, otherIn, withNodes}
+use Rattle.work.specs.Held.{otherIn, withNodes}
 use Rattle.work.specs.Names.{letters}
 use Rattle.declarations.proofs.Appended.{nodes-plain, size-last}
-use Rattle.declarations.specs.Declares.{Standing}
 use Rattle.declarations.specs.Listed.{Awaiting, Expressed, Listed, Says, noneHeld}
 use Rattle.declarations.specs.Specs.{moreState}
 

@@ -5,7 +5,6 @@ use Prim.Native.Nat.{ℕ, suc, _+_, _%_, _<_, _≤_}
 use lib.ListN.{length}
 use Rattle.course.specs.declared.State.{State}
 use Rattle.course.specs.declared.Verdict.the-variants.{Done}
-use Rattle.language.specs.Describe.{Noted}
 use Rattle.language.specs.DescribeText.{facilitiesOf, facilityNodes, facilityOf, facilitySize, functionSize, placesOf}
 use Rattle.language.specs.Encode.{facilityRecords}
 use Rattle.language.specs.Layout.{storeSizeOf}

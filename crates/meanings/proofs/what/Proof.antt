@@ -1,4 +1,4 @@
-use mathlib.Core.Path.{_≡_, _∙_}
+use mathlib.Core.Path.{_∙_}
 use Rattle.meanings.proofs.MeaningLaws.{as-facility, as-operation, as-state, as-unknown, by-tables}
 use borrow.Author.Needs.{needs}
 use Rattle.meanings.proofs.what.Statement.{statement}

@@ -1,4 +1,4 @@
-use mathlib.Core.Path.{_≡_, sym, _∙_}
+use mathlib.Core.Path.{sym, _∙_}
 use Rattle.declarations.proofs.ListWords.{by-end, by-neither, by-period}
 use borrow.Author.Needs.{needs}
 use Rattle.declarations.proofs.lists.ended.Statement.{statement}

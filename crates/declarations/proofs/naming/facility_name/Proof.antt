@@ -1,4 +1,4 @@
-use mathlib.Core.Path.{_≡_, sym, _∙_}
+use mathlib.Core.Path.{sym, _∙_}
 use Rattle.declarations.proofs.NameWords.{named, not-named}
 use borrow.Author.Needs.{needs}
 use Rattle.declarations.proofs.naming.facility_name.Statement.{statement}

@@ -1,4 +1,4 @@
-use mathlib.Core.Path.{_≡_, sym, _∙_}
+use mathlib.Core.Path.{sym, _∙_}
 use Rattle.course.proofs.Answers.{not-done}
 use Rattle.declarations.proofs.StoredLaws.{hash-not, register-plain, register-sequencing}
 use borrow.Author.Needs.{needs}
