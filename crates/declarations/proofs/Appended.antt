@@ -1,0 +1,69 @@
+-- One declaration more, at the end: what it adds to each section.
+use mathlib.Core.List.{List, [], _∷_, _++_, append-assoc, append-nil, map}
+use mathlib.Core.Path.{_≡_, refl, sym, ap, _∙_}
+use Prim.Native.Nat.{ℕ, suc, _+_}
+use native.Mathlib.Omega.{arith}
+use lib.ListN.{length}
+use Rattle.language.specs.Describe.{Noted}
+use Rattle.language.specs.DescribeText.{facilitiesOf, facilityNodes, facilityOf, facilitySize, functionNodes, functionSize, placesOf}
+use Rattle.language.specs.Description.{Facility}
+use Rattle.language.specs.Encode.{facilityRecord, facilityRecords}
+use Rattle.language.specs.Layout.{facilityBytes, storeSizeOf}
+use Rattle.language.specs.Naming.{Scope}
+use Rattle.language.specs.Tree.{Declaration, Name}
+use Rattle.noted.specs.Noted.{facilityBesideBytes}
+use Rattle.declarations.specs.Listed.{besides}
+
+pub size-last : (ds : List Declaration) (d : Declaration) → facilitySize (ds ++ d ∷ []) ≡ facilitySize ds + functionSize (d .function)
+unfolding facilitySize
+size-last [] d = omega arith
+size-last (e ∷ ds) d = omega (arith, size-last ds d)
+
+shift : (base m n : ℕ) → base + m + n ≡ base + (m + n)
+shift base m n = omega arith
+
+pub facilities-last : (base : ℕ) (ds : List Declaration) (d : Declaration) → facilitiesOf base (ds ++ d ∷ []) ≡ facilitiesOf base ds ++ facilityOf (base + facilitySize ds) d ∷ []
+unfolding facilitiesOf facilitySize
+facilities-last base [] d = let e : base + 0 ≡ base = omega arith in rw e
+facilities-last base (e ∷ ds) d =
+    ap (λ (l : List Facility). facilityOf base e ∷ l)
+    (facilities-last (base + functionSize (e .function)) ds d ∙ ap (λ (n : ℕ). facilitiesOf (base + functionSize (e .function)) ds ++ facilityOf n d ∷ []) (shift base (functionSize (e .function)) (facilitySize ds)))
+
+pub records-last : (place : ℕ) (fs : List Facility) (f : Facility) → facilityRecords place (fs ++ f ∷ []) ≡ facilityRecords place fs ++ facilityRecord (place + storeSizeOf fs) f
+unfolding facilityRecords storeSizeOf
+records-last place [] f = let e : place + 0 ≡ place = omega arith in rw e (append-nil (facilityRecord place f))
+records-last place (g ∷ fs) f =
+    ap (λ (l : List ℕ). facilityRecord place g ++ l)
+    (records-last (place + facilityBytes g) fs f ∙ ap (λ (n : ℕ). facilityRecords (place + facilityBytes g) fs ++ facilityRecord n f) (shift place (facilityBytes g) (storeSizeOf fs)))
+    ∙ sym (append-assoc (facilityRecord place g) (facilityRecords (place + facilityBytes g) fs) (facilityRecord (place + (facilityBytes g + storeSizeOf fs)) f))
+
+pub store-last : (fs : List Facility) (f : Facility) → storeSizeOf (fs ++ f ∷ []) ≡ storeSizeOf fs + facilityBytes f
+unfolding storeSizeOf
+store-last [] f = omega arith
+store-last (g ∷ fs) f = omega (arith, store-last fs f)
+
+abbrev pub besideOf : ℕ → Declaration → List ℕ
+besideOf base d = facilityBesideBytes (facilityOf base d) (placesOf (d .at) (d .function) (d .extent))
+
+pub besides-last : (base : ℕ) (ds : List Declaration) (d : Declaration) → besides base (ds ++ d ∷ []) ≡ besides base ds ++ besideOf (base + facilitySize ds) d
+unfolding besides facilitySize
+besides-last base [] d = let e : base + 0 ≡ base = omega arith in rw e (append-nil (besideOf base d))
+besides-last base (e ∷ ds) d =
+    ap (λ (l : List ℕ). besideOf base e ++ l)
+    (besides-last (base + functionSize (e .function)) ds d ∙ ap (λ (n : ℕ). besides (base + functionSize (e .function)) ds ++ besideOf n d) (shift base (functionSize (e .function)) (facilitySize ds)))
+    ∙ sym (append-assoc (besideOf base e) (besides (base + functionSize (e .function)) ds) (besideOf (base + (functionSize (e .function) + facilitySize ds)) d))
+
+pub names-last : (ds : List Declaration) (d : Declaration) → map (λ (x : Declaration). x .name) (ds ++ d ∷ []) ≡ map (λ (x : Declaration). x .name) ds ++ d .name ∷ []
+names-last [] d = refl
+names-last (e ∷ ds) d = ap (λ (l : List Name). e .name ∷ l) (names-last ds d)
+
+pub length-last : {A : Type 0} (xs : List A) (x : A) → length (xs ++ x ∷ []) ≡ suc (length xs)
+length-last [] x = refl
+length-last (y ∷ xs) x = ap suc (length-last xs x)
+
+-- A declaration without an expression adds no expression record.
+pub nodes-plain : (before : List Name) (base : ℕ) (ds : List Declaration) (d : Declaration) → ((sc : Scope) (n : ℕ) → functionNodes sc n (d .function) ≡ []) → facilityNodes before base (ds ++ d ∷ []) ≡ facilityNodes before base ds
+unfolding facilityNodes
+nodes-plain before base [] d h = rw (h (record { facilities = before; operations = []; states = [] }) base)
+nodes-plain before base (e ∷ ds) d h =
+    ap (λ (l : List Noted). functionNodes (record { facilities = before; operations = []; states = [] }) base (e .function) ++ l) (nodes-plain (before ++ e .name ∷ []) (base + functionSize (e .function)) ds d h)

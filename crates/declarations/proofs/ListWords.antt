@@ -1,0 +1,66 @@
+-- The machine's words between declarations.
+use mathlib.Core.List.{List, _∷_}
+use mathlib.Core.Path.{_≡_, refl, _∙_}
+use Prim.Native.Nat.{ℕ}
+use native.Mathlib.Omega.{arith}
+use borrow.Author.Tests.{ne-eqb}
+use Rattle.course.proofs.Looking.{View, begun, ended, sign-ahead, view}
+use Rattle.course.proofs.TakenWords.{onTaken, taken-on, took-done}
+use Rattle.course.specs.declared.Answer.{Answer}
+use Rattle.course.specs.declared.State.{State}
+use Rattle.course.specs.Course.{Seen, Stack, behind, countsOf, kindNo, runs, runsOn}
+use Rattle.course.specs.Taken.{Passed, Refuses, Took}
+use Rattle.dimensions.proofs.States.{state-of}
+use Rattle.dimensions.proofs.Telling.{refuses, word-taken}
+use Rattle.dimensions.specs.Telling.{same}
+use Rattle.language.specs.Building.{Built}
+use Rattle.language.specs.Machine.{ask, choose, feed, finish, refused, run, tallied}
+use Rattle.language.specs.Sections.{ruleOf}
+use Rattle.language.specs.Words.{fault}
+use Rattle.words.specs.declared.Word.{Word}
+use Rattle.words.specs.Meaning.{positioned}
+use Rattle.declarations.specs.declared.List as C
+use Rattle.declarations.specs.declared.List.the-variants.{Memories, Registers}
+use Rattle.declarations.specs.Lists.{EndRead, Ends, moreIn, specIn}
+
+module _ (text : List ℕ) (w : Word) (K : Stack) (b : Built) (s : State) where
+  pub comma-taken : (l : C.List) → kindNo (w .kind) ≡ 9 → runs text (ask (moreIn l) ∷ K) w b s ≡ onTaken text w (ask (specIn l) ∷ ask (moreIn l) ∷ K) b (countsOf s)
+  unfolding runsOn run feed choose ruleOf tallied
+  comma-taken Registers e = rw (sign-ahead text w 9 e (omega arith)) (taken-on text (positioned (w .at)) (ask (specIn Registers) ∷ ask (moreIn Registers) ∷ K) (behind text w) b (countsOf s))
+  comma-taken Memories e = rw (sign-ahead text w 9 e (omega arith)) (taken-on text (positioned (w .at)) (ask (specIn Memories) ∷ ask (moreIn Memories) ∷ K) (behind text w) b (countsOf s))
+
+  pub period-taken : (l : C.List) → kindNo (w .kind) ≡ 11 → runs text (ask (moreIn l) ∷ K) w b s ≡ onTaken text w K b (countsOf s)
+  unfolding runsOn run feed choose ruleOf tallied
+  period-taken Registers e = rw (sign-ahead text w 11 e (omega arith)) (taken-on text (positioned (w .at)) K (behind text w) b (countsOf s))
+  period-taken Memories e = rw (sign-ahead text w 11 e (omega arith)) (taken-on text (positioned (w .at)) K (behind text w) b (countsOf s))
+
+  pub end-taken : (l : C.List) → kindNo (w .kind) ≡ 37 → runs text (ask (moreIn l) ∷ K) w b s ≡ onTaken text w K b (countsOf s)
+  unfolding runsOn run feed choose ruleOf tallied
+  end-taken Registers e = rw (sign-ahead text w 37 e (omega arith)) (taken-on text (positioned (w .at)) K (behind text w) b (countsOf s))
+  end-taken Memories e = rw (sign-ahead text w 37 e (omega arith)) (taken-on text (positioned (w .at)) K (behind text w) b (countsOf s))
+
+  pub more-stuck : (l : C.List) → Seen text w → (kindNo (w .kind) ≡ 9 → ⊥) → (kindNo (w .kind) ≡ 11 → ⊥) → (kindNo (w .kind) ≡ 37 → ⊥) → runs text (ask (moreIn l) ∷ K) w b s ≡ refused (fault (positioned (w .at)) 3)
+  unfolding runsOn run feed finish choose ruleOf
+  more-stuck l z n m o = by-view l (view text w z)
+    where
+      by-view : (l : C.List) → View text w → runs text (ask (moreIn l) ∷ K) w b s ≡ refused (fault (positioned (w .at)) 3)
+      by-view Registers (ended e p q) = rw (e, p)
+      by-view Registers (begun v e q p) = rw (e, q, ne-eqb (kindNo (w .kind)) 9 n, ne-eqb (kindNo (w .kind)) 11 m, ne-eqb (kindNo (w .kind)) 37 o, p)
+      by-view Memories (ended e p q) = rw (e, p)
+      by-view Memories (begun v e q p) = rw (e, q, ne-eqb (kindNo (w .kind)) 9 n, ne-eqb (kindNo (w .kind)) 11 m, ne-eqb (kindNo (w .kind)) 37 o, p)
+
+-- ---- The end of a list.
+
+module _ {text : List ℕ} {w : Word} {s : State} {place : ℕ} {a : Answer} where
+  end-read : (l : C.List) → Seen text w → ((K : Stack) (b : Built) → runs text (ask (moreIn l) ∷ K) w b s ≡ onTaken text w K b (countsOf s)) → Passed text w (countsOf s) s a
+      → EndRead text l w s place (record { answer = a; place = place })
+  end-read l z g p = record { course = λ K b. g K b ∙ took-done p z K b; state = state-of (p .counts) (p .kept); store = refl; seen = p .seen }
+
+  pub by-period : kindNo (w .kind) ≡ 11 → Took text w (countsOf s) s a → Ends text w s place (record { answer = a; place = place })
+  by-period e t l z n = word-taken t (λ d. end-read l z (λ K b. period-taken text w K b s l e) (t .done d)) (λ K. K) same (λ K b. period-taken text w K b s l e)
+
+  pub by-end : kindNo (w .kind) ≡ 37 → Took text w (countsOf s) s a → Ends text w s place (record { answer = a; place = place })
+  by-end e t l z n = word-taken t (λ d. end-read l z (λ K b. end-taken text w K b s l e) (t .done d)) (λ K. K) same (λ K b. end-taken text w K b s l e)
+
+  pub by-neither : (kindNo (w .kind) ≡ 11 → ⊥) → (kindNo (w .kind) ≡ 37 → ⊥) → Refuses w 3 a → Ends text w s place (record { answer = a; place = place })
+  by-neither m o r l z n = refuses 3 r (λ K b. more-stuck text w K b s l z n m o)

@@ -1,0 +1,100 @@
+-- Declarations without an expression: what the code says of them, and what they wait for.
+use mathlib.Core.List.{List, [], _∷_, _++_}
+use mathlib.Core.Path.{_≡_, refl, sym, ap, _∙_}
+use Prim.Native.Nat.{ℕ, suc, _+_, _<_, _≤_}
+use native.Mathlib.Omega.{arith}
+use lib.ListN.{drop, length, length-drop, length-map, take}
+use lib.Seq.{length-take-le}
+use Rattle.course.specs.declared.State.{State}
+use Rattle.course.specs.Course.{Seen}
+use Rattle.dimensions.specs.Extents.{Sized, bitsLeft, bitsRight, wordsLeft, wordsRight}
+use Rattle.image.specs.declared.facilities.Kind.{Kind}
+use Rattle.image.specs.Declarations.{kindMeant}
+use Rattle.language.specs.Characters.{folded}
+use Rattle.language.specs.DescribeText.{equalsPlace, functionNodes, functionNumber, functionSize, placesOf}
+use Rattle.language.specs.Description.{nowhere}
+use Rattle.language.specs.Naming.{Scope}
+use Rattle.language.specs.Notions.{facilityOf}
+use Rattle.language.specs.Tree as T
+use Rattle.language.specs.Tree.{Declaration, Extent, Function}
+use Rattle.language.specs.Words.{Position}
+use Rattle.tables.specs.declared.extents.Extent as C
+use Rattle.tables.specs.declared.facilities.Declared.{Declared}
+use Rattle.words.specs.declared.Position as P
+use Rattle.words.specs.declared.Word.{Word}
+use Rattle.words.specs.Meaning.{positioned}
+use Rattle.work.specs.Held.{otherIn, withNodes}
+use Rattle.work.specs.Names.{letters}
+use Rattle.declarations.proofs.Appended.{nodes-plain, size-last}
+use Rattle.declarations.specs.Listed.{Awaiting, Expressed, Listed, Says, noneHeld}
+use Rattle.declarations.specs.Specs.{moreState}
+
+-- A function that is no expression.
+abbrev pub Bare : Function → Type 0
+Bare T.unspecified = Unit {0}
+Bare T.fromInput = Unit {0}
+Bare (T.given p e) = ⊥
+
+bare-size : (f : Function) → Bare f → functionSize f ≡ 0
+bare-size T.unspecified h = refl
+bare-size T.fromInput h = refl
+bare-size (T.given p e) h = absurd h
+
+bare-number : (base : ℕ) (f : Function) → Bare f → functionNumber base f ≡ 0
+bare-number base T.unspecified h = refl
+bare-number base T.fromInput h = refl
+bare-number base (T.given p e) h = absurd h
+
+bare-place : (f : Function) → Bare f → equalsPlace f ≡ nowhere
+bare-place T.unspecified h = refl
+bare-place T.fromInput h = refl
+bare-place (T.given p e) h = absurd h
+
+bare-nodes : (f : Function) → Bare f → (sc : Scope) (n : ℕ) → functionNodes sc n f ≡ []
+bare-nodes T.unspecified h sc n = refl
+bare-nodes T.fromInput h sc n = refl
+bare-nodes (T.given p e) h sc n = absurd h
+
+-- The places of a declaration, by its extent's.
+places-by : (p : Position) (f : Function) (x : Extent)
+    → placesOf p f x ≡ record { name = p; wordsFirst = wordsLeft x; wordsLast = wordsRight x; bitsFirst = bitsLeft x; bitsLast = bitsRight x; equals = equalsPlace f }
+places-by p f T.single = refl
+places-by p f (T.row x) = refl
+places-by p f (T.table x y) = refl
+
+letters-length : (text : List ℕ) (place size : ℕ) → place + size ≤ length text → length (letters text place size) ≡ size
+unfolding letters
+letters-length text place size h = length-map (take size (drop place text)) folded ∙ length-take-le size (drop place text) (omega (arith, length-drop place text))
+
+-- The declaration that begins with the name w.
+abbrev pub declarationOf : List ℕ → Kind → Word → Extent → Function → Declaration
+declarationOf text k w x f = facilityOf (kindMeant k) (letters text (w .at .place) (w .size)) (positioned (w .at)) x f
+
+abbrev pub saidOf : Kind → Word → C.Extent → P.Position → Declared
+saidOf k w e p = record { kind = k; at = w .at; size = w .size; extent = e; expression = 0; equals = p }
+
+module _ (text : List ℕ) (k : Kind) (w : Word) (x : Extent) (f : Function) (h : Bare f) where
+  pub bare-said : (base : ℕ) {e : C.Extent} {p : P.Position} → Seen text w → length text < 65536 → Sized x e → positioned p ≡ nowhere → Says text base (declarationOf text k w x f) (saidOf k w e p)
+  bare-said base {e} {p} z l g q = record {
+    facility = rw (g .dimensions, g .words, g .bits, bare-number base f h);
+    places = places-by (positioned (w .at)) f x ∙ rw (g .wordsFrom, g .wordsTo, g .bitsFrom, g .bitsTo, bare-place f h, ← q);
+    name = refl;
+    length = letters-length text (w .at .place) (w .size) (z .next .within);
+    near = omega (arith, z .next .within);
+    short = omega (arith, z .next .within);
+  }
+
+  expressed-more : (ds : List Declaration) (n : ℕ) (work : List ℕ) → Expressed ds n work → Expressed (ds ++ declarationOf text k w x f ∷ []) n work
+  expressed-more ds n work e = record {
+    nodes = omega (arith, e .nodes, size-last ds (declarationOf text k w x f), bare-size f h);
+    few = e .few;
+    records = e .records ∙ ap (withNodes (noneHeld (otherIn work))) (sym (nodes-plain [] 0 ds (declarationOf text k w x f) (bare-nodes f h)));
+  }
+
+  pub bare-awaits : (ds : List Declaration) (place : ℕ) (s : State) (work : List ℕ) → Listed text ds place s work → s .facilities < 256 → Awaiting text ds (declarationOf text k w x f) place (moreState s) work
+  bare-awaits ds place s work g r = record {
+    counted = ap suc (g .counted);
+    room = omega (arith, g .counted, r);
+    tabled = g .tabled;
+    expressed = expressed-more ds (s .nodes) work (g .expressed);
+  }

@@ -1,0 +1,4 @@
+pub mod Specs
+pub mod Listed
+pub mod Declares
+pub mod Lists

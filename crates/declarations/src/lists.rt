@@ -1,0 +1,96 @@
+// Lists of declarations: separated by commas, and ended by a period or END.
+use crate::List;
+use crate::Progress;
+use crate::kinds;
+use crate::stored;
+use course::Bearing;
+use course::State;
+use course::Verdict;
+use course::taking;
+use image::facilities::Kind;
+use words::Word;
+ghost use Rattle.declarations.specs.Lists.{Ends, Lists, Mores, Ones, Stands};
+
+// One declaration of a list.
+fn one(text: &[u8], w: Word, work: &mut [u8; 171136], s: State, place: u16, list: List) -> Progress
+    ensures { λ r. ⌜ Ones list (now (text .entry)) w s place (now (work .entry)) (now (work .exit)) r ⌝ }
+{
+    match list {
+        List::Registers => stored::register(text, w, work, s, place),
+        List::Memories => stored::stored(text, w, work, s, place, Kind::Memory),
+    }
+}
+
+// The end of a list, where no comma follows.
+fn ended(text: &[u8], w: Word, s: State, place: u16) -> Progress
+    ensures { λ r. ⌜ Ends (now (text .entry)) w s place r ⌝ }
+{
+    let kind = w.kind;
+    let k = course::kinds::number(kind);
+    if k == kinds::PERIOD {
+        let answer = taking::take(text, w, s, false, Bearing::Level);
+        return Progress { answer, place };
+    }
+    if k == kinds::END {
+        let answer = taking::take(text, w, s, false, Bearing::Level);
+        return Progress { answer, place };
+    }
+    let answer = taking::refuse(w, s, 3);
+    Progress { answer, place }
+}
+
+// Reads a list of declarations and the word that ends it.
+pub fn declarations(
+    text: &[u8],
+    w: Word,
+    work: &mut [u8; 171136],
+    s: State,
+    place: u16,
+    list: List,
+) -> Progress
+    requires { ⌜ Stands (now text) place w s (now work) ⌝ }
+    ensures { λ r. ⌜ Lists list (now (text .entry)) w s place (now (work .entry)) (now (work .exit)) r ⌝ }
+{
+    let first = one(text, w, work, s, place, list);
+    let answer = first.answer;
+    let verdict = answer.verdict;
+    let Verdict::Done = verdict else {
+        return first;
+    };
+    let next = answer.next;
+    let state = answer.state;
+    more(text, next, work, state, first.place, list)
+}
+
+// Behind a declaration: others, and the end. Each counts a facility, so that there are not too many.
+fn more(text: &[u8], w: Word, work: &mut [u8; 171136], s: State, place: u16, list: List) -> Progress
+    requires { ⌜ Stands (now text) place w s (now work) ⌝ }
+    ensures { λ r. ⌜ Mores list (now (text .entry)) w s place (now (work .entry)) (now (work .exit)) r ⌝ }
+{
+    let mut next = w;
+    let mut state = s;
+    let mut after = place;
+    loop {
+        let kind = next.kind;
+        if course::kinds::number(kind) != course::kinds::COMMA {
+            return ended(text, next, state, after);
+        }
+        let comma = taking::take(text, next, state, false, Bearing::Level);
+        let verdict = comma.verdict;
+        let Verdict::Done = verdict else {
+            return Progress {
+                answer: comma,
+                place: after,
+            };
+        };
+        let another = one(text, comma.next, work, comma.state, after, list);
+        let answer = another.answer;
+        let verdict = answer.verdict;
+        let Verdict::Done = verdict else {
+            return another;
+        };
+        next = answer.next;
+        state = answer.state;
+        after = another.place;
+    }
+}

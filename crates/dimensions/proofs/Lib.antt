@@ -1,0 +1,6 @@
+pub mod States
+pub mod Telling
+pub mod RangeWords
+pub mod RangeLaws
+pub mod ExtentWords
+pub mod ExtentLaws

@@ -1,0 +1,59 @@
+use mathlib.Core.Path.{_≡_, refl, sym, _∙_}
+use Rattle.course.proofs.Answers.{not-done}
+use Rattle.dimensions.proofs.ExtentLaws.{no-range, none-read, not-opened, range-read}
+use borrow.Author.Needs.{needs}
+use Rattle.dimensions.proofs.extents.dimensions.Statement.{statement}
+use Rattle.dimensions.proofs.extents.dimensions.Tie as tie
+
+single-requires : tie.Need-single-requires
+single-requires c κs = search needs
+
+number-requires : tie.Need-number-requires
+number-requires c κs = search needs
+
+returns : tie.Need-returns
+returns c =
+    none-read (λ e. c .if1 .taken (c .before .number .ensures ∙ e)) (c .before .before .single .ensures)
+
+take-requires : tie.Need-take-requires
+take-requires c κs = search needs
+
+enum-told : tie.Need-enum-told
+enum-told c = search needs
+
+returns-2 : tie.Need-returns-2
+returns-2 c =
+    not-opened (sym (c .before .before .before .number .ensures) ∙ c .before .before .if1 .left) (c .before .take .ensures) (not-done (c .match .keys2))
+
+range-requires : tie.Need-range-requires
+range-requires c κs = search needs
+
+enum-told-2 : tie.Need-enum-told-2
+enum-told-2 c = search needs
+
+returns-3 : tie.Need-returns-3
+returns-3 c =
+    no-range (sym (c .before .before .before .before .before .before .before .before .before .number .ensures) ∙ c .before .before .before .before .before .before .before .before .if1 .left) (c .before .before .before .before .before .before .before .take .ensures) (c .before .before .before .before .before .enum-told .given .1) (c .before .before .range .ensures) (not-done (c .match2 .keys2))
+
+behind-range-requires : tie.Need-behind-range-requires
+behind-range-requires c κs = search needs
+
+returns-4 : tie.Need-returns-4
+returns-4 c =
+    range-read (sym (c .before .before .before .before .before .before .before .before .before .before .before .before .before .before .number .ensures) ∙ c .before .before .before .before .before .before .before .before .before .before .before .before .before .if1 .left) (c .before .before .before .before .before .before .before .before .before .before .before .before .take .ensures) (c .before .before .before .before .before .before .before .before .before .before .enum-told .given .1) (c .before .before .before .before .before .before .before .range .ensures) (c .before .before .before .before .enum-told2 .given .1) (c .behind-range .ensures)
+
+pub dimensions-spec : {M : Type 1} → statement M
+dimensions-spec =
+    tie.close
+    (tie.spec
+    single-requires
+    number-requires
+    returns
+    take-requires
+    enum-told
+    returns-2
+    range-requires
+    enum-told-2
+    returns-3
+    behind-range-requires
+    returns-4)

@@ -1,0 +1,3 @@
+pub mod Telling
+pub mod Ranges
+pub mod Extents

@@ -1,0 +1,151 @@
+// Dimensions behind a name: none, one range, or two, in brackets.
+use crate::ranges;
+use course::Answer;
+use course::Bearing;
+use course::State;
+use course::Verdict;
+use course::kinds;
+use course::taking;
+use tables::extents::Ends;
+use tables::extents::Extent;
+use words::Word;
+use words::places;
+ghost use Rattle.language.specs.Tree as T;
+ghost use Rattle.dimensions.specs.Extents.{Absent, Follows, Measures, Sized};
+ghost use Rattle.dimensions.specs.Ranges.{Bounded};
+
+// What became of dimensions, and where they are done their extent.
+pub struct Measured {
+    pub answer: Answer,
+    pub extent: Extent,
+}
+
+// Bounds that are not there.
+fn nothing() -> Ends
+    ensures { λ r. ⌜ Absent r ⌝ }
+{
+    let at = places::position(0);
+    Ends {
+        first: 0,
+        left: at,
+        last: 0,
+        right: at,
+    }
+}
+
+// No dimension.
+fn single() -> Extent
+    ensures { λ r. ⌜ Sized T.single r ⌝ }
+{
+    let words = nothing();
+    let bits = nothing();
+    Extent {
+        dimensions: 0,
+        words,
+        bits,
+    }
+}
+
+// One dimension, of bits.
+fn row(bits: Ends) -> Extent
+    ensures { λ r. ⌜ ((x : T.Ends) → Bounded x bits → Sized (T.row x) r) ⌝ }
+{
+    let words = nothing();
+    Extent {
+        dimensions: 1,
+        words,
+        bits,
+    }
+}
+
+// Two dimensions, of words and bits.
+fn table(words: Ends, bits: Ends) -> Extent
+    ensures { λ r. ⌜ ((x y : T.Ends) → Bounded x words → Bounded y bits → Sized (T.table x y) r) ⌝ }
+{
+    Extent {
+        dimensions: 2,
+        words,
+        bits,
+    }
+}
+
+// Reads dimensions, which may be left out.
+pub fn dimensions(text: &[u8], w: Word, s: State) -> Measured
+    ensures { λ r. ⌜ Measures (now (text .entry)) w s r ⌝ }
+{
+    let extent = single();
+    let kind = w.kind;
+    if kinds::number(kind) != kinds::OPEN_BRACKET {
+        let answer = Answer {
+            verdict: Verdict::Done,
+            next: w,
+            state: s,
+        };
+        return Measured { answer, extent };
+    }
+    let open = taking::take(text, w, s, false, Bearing::Opens);
+    let verdict = open.verdict;
+    let Verdict::Done = verdict else {
+        return Measured {
+            answer: open,
+            extent,
+        };
+    };
+    let next = open.next;
+    let state = open.state;
+    let first = ranges::range(text, next, state);
+    let answer = first.answer;
+    let verdict = answer.verdict;
+    let Verdict::Done = verdict else {
+        return Measured { answer, extent };
+    };
+    let next = answer.next;
+    let state = answer.state;
+    let ends = first.ends;
+    behind_range(text, next, state, ends)
+}
+
+// Behind the first range: the bracket, or a comma, another range and the bracket.
+fn behind_range(text: &[u8], w: Word, s: State, first: Ends) -> Measured
+    ensures { λ r. ⌜ Follows (now (text .entry)) w s first r ⌝ }
+{
+    let kind = w.kind;
+    let k = kinds::number(kind);
+    let extent = row(first);
+    if k == kinds::CLOSE_BRACKET {
+        let close = taking::take(text, w, s, false, Bearing::Closes);
+        return Measured {
+            answer: close,
+            extent,
+        };
+    }
+    if k != kinds::COMMA {
+        let answer = taking::refuse(w, s, 3);
+        return Measured { answer, extent };
+    }
+    let comma = taking::take(text, w, s, false, Bearing::Level);
+    let verdict = comma.verdict;
+    let Verdict::Done = verdict else {
+        return Measured {
+            answer: comma,
+            extent,
+        };
+    };
+    let next = comma.next;
+    let state = comma.state;
+    let second = ranges::range(text, next, state);
+    let answer = second.answer;
+    let verdict = answer.verdict;
+    let Verdict::Done = verdict else {
+        return Measured { answer, extent };
+    };
+    let next = answer.next;
+    let state = answer.state;
+    let close = taking::expect(text, next, state, kinds::CLOSE_BRACKET, Bearing::Closes);
+    let ends = second.ends;
+    let extent = table(first, ends);
+    Measured {
+        answer: close,
+        extent,
+    }
+}

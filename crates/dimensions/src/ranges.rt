@@ -1,0 +1,87 @@
+// A range: the last bound alone, or the first, a colon and the last.
+use course::Answer;
+use course::Bearing;
+use course::State;
+use course::Verdict;
+use course::kinds;
+use course::taking;
+use tables::extents::Ends;
+use words::Word;
+use work::bounds;
+ghost use Rattle.dimensions.specs.Ranges.{Bounded, Ranges, bothEnds, lastEnd};
+
+// What became of a range, and where it is done its ends.
+pub struct Ranged {
+    pub answer: Answer,
+    pub ends: Ends,
+}
+
+// The ends that two constants give.
+fn both(first: Word, last: Word) -> Ends
+    ensures { λ r. ⌜ Bounded (bothEnds first last) r ⌝ }
+{
+    let v = first.value;
+    let u = last.value;
+    let left = first.at;
+    let right = last.at;
+    let a = bounds::bound(v);
+    let b = bounds::bound(u);
+    Ends {
+        first: a,
+        left,
+        last: b,
+        right,
+    }
+}
+
+// The ends that a last bound gives: the first is one.
+fn from_one(last: Word) -> Ends
+    ensures { λ r. ⌜ Bounded (lastEnd last) r ⌝ }
+{
+    let u = last.value;
+    let at = last.at;
+    let b = bounds::bound(u);
+    Ends {
+        first: 1,
+        left: at,
+        last: b,
+        right: at,
+    }
+}
+
+// Reads a range.
+pub fn range(text: &[u8], w: Word, s: State) -> Ranged
+    ensures { λ r. ⌜ Ranges (now (text .entry)) w s r ⌝ }
+{
+    let ends = from_one(w);
+    let first = taking::keep_constant(text, w, s);
+    let verdict = first.verdict;
+    let Verdict::Done = verdict else {
+        return Ranged {
+            answer: first,
+            ends,
+        };
+    };
+    let next = first.next;
+    let state = first.state;
+    let kind = next.kind;
+    if kinds::number(kind) != kinds::COLON {
+        return Ranged {
+            answer: first,
+            ends,
+        };
+    }
+    let colon = taking::take(text, next, state, false, Bearing::Level);
+    let verdict = colon.verdict;
+    let Verdict::Done = verdict else {
+        return Ranged {
+            answer: colon,
+            ends,
+        };
+    };
+    let second = colon.next;
+    let state = colon.state;
+    let last = taking::keep_constant(text, second, state);
+    let ends = both(w, second);
+    Ranged { answer: last, ends }
+}

@@ -1,0 +1,8 @@
+pub mod FacilityLaws
+pub mod FirstFound
+pub mod NameLaws
+pub mod NamesGrown
+pub mod OtherRecords
+pub mod RowLaws
+pub mod StoreLaws
+pub mod TwoBytes
