@@ -1,14 +1,14 @@
 -- Dimensions, as the code reads them.
 use mathlib.Core.Bool.{false}
 use mathlib.Core.List.{List, [], _∷_, _++_}
-use mathlib.Core.Path.{_≡_, refl, sym, ap, _∙_}
+use mathlib.Core.Path.{_≡_, refl, ap, _∙_}
 use Prim.Native.Nat.{ℕ, suc, _-_}
 use native.Mathlib.Omega.{arith}
 use Rattle.course.proofs.Answers.{done-full, done-refused}
 use Rattle.course.proofs.Saying.{makes-it}
 use Rattle.course.proofs.TakenWords.{onTaken, took-done}
 use Rattle.course.specs.declared.Answer.{Answer}
-use Rattle.course.specs.declared.Bearing.the-variants.{Closes, Level, Opens}
+use Rattle.course.specs.declared.Bearing.the-variants.{Closes, Opens}
 use Rattle.course.specs.declared.State.{State}
 use Rattle.course.specs.declared.Verdict.the-variants.{Done}
 use Rattle.course.specs.Course.{Seen, Stack, counts5, countsOf, kindNo, runs}
@@ -29,7 +29,7 @@ use Rattle.dimensions.specs.declared.extents.Measured.{Measured}
 use Rattle.dimensions.specs.declared.ranges.Ranged.{Ranged}
 use Rattle.dimensions.specs.Extents.{Absent, ExtentRead, Follows, Measures, Sized, Whose, askOf, closedState, restOf, toCome, withExtent}
 use Rattle.dimensions.specs.Ranges.{Bounded, RangeRead, Ranges, withRange}
-use Rattle.dimensions.specs.Telling.{Tells, same}
+use Rattle.dimensions.specs.Telling.{same}
 
 -- ---- Extents.
 

@@ -1,24 +1,20 @@
 -- The machine's words in dimensions.
 use mathlib.Core.List.{List, [], _∷_, _++_}
-use mathlib.Core.Path.{_≡_, refl, sym, ap, _∙_, subst}
-use Prim.Native.Nat.{ℕ, suc, _+_, _-_, _≤_}
+use mathlib.Core.Path.{_≡_, refl}
+use Prim.Native.Nat.{ℕ, suc, _+_, _-_}
 use native.Mathlib.Omega.{arith}
 use borrow.Author.Tests.{ne-eqb}
-use lib.Dec.{eqb}
-use lib.ListN.{length}
 use Rattle.course.proofs.Looking.{View, begun, ended, sign-ahead, view}
 use Rattle.course.proofs.TakenWords.{onTaken, taken-on}
 use Rattle.course.specs.declared.State.{State}
-use Rattle.course.specs.Course.{Seen, Stack, ahead, behind, counts5, countsOf, kindNo, runs, runsOn}
-use Rattle.language.specs.Alternatives.{afterStep, closing, enter, kept}
-use Rattle.language.specs.Building.{Built, keepWord, withExtents}
-use Rattle.language.specs.Declaring.{makeNoDimension, makePlain, makeRow, makeTable, treeSteps}
-use Rattle.language.specs.Kinds.{aConstant, closeBracket, equalSign, openBracket}
-use Rattle.language.specs.Machine.{Alternative, Ask, Counts, ask, choose, dimensions, feed, finish, functionOf, keep, make, may, nested, rangeRest, reading, refused, run, tallied, terminalFunction, withinCeilings}
+use Rattle.course.specs.Course.{Seen, Stack, behind, counts5, countsOf, kindNo, runs, runsOn}
+use Rattle.language.specs.Alternatives.{closing, enter}
+use Rattle.language.specs.Building.{Built}
+use Rattle.language.specs.Declaring.{makeNoDimension, makePlain, makeRow, makeTable}
+use Rattle.language.specs.Kinds.{aConstant, closeBracket, openBracket}
+use Rattle.language.specs.Machine.{ask, choose, dimensions, feed, finish, keep, make, rangeRest, refused, run, tallied, terminalFunction}
 use Rattle.language.specs.Sections.{ruleOf}
 use Rattle.language.specs.Tree as T
-use Rattle.language.specs.Tree.{Extent}
-use Rattle.language.specs.Words as L
 use Rattle.language.specs.Words.{fault}
 use Rattle.words.specs.declared.Word.{Word}
 use Rattle.words.specs.Meaning.{positioned}

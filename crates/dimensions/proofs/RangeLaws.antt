@@ -1,20 +1,18 @@
 -- Ranges, as the code reads them.
-use mathlib.Core.List.{List, [], _∷_, _++_}
-use mathlib.Core.Path.{_≡_, refl, sym, ap, _∙_}
+use mathlib.Core.List.{List, _∷_}
+use mathlib.Core.Path.{_≡_, refl, sym, _∙_}
 use Prim.Native.Nat.{ℕ}
 use Rattle.course.proofs.Answers.{done-full, done-refused}
 use Rattle.course.proofs.Saying.{makes-it}
 use Rattle.course.proofs.TakenWords.{onTaken, took-done}
 use Rattle.course.specs.declared.Answer.{Answer}
-use Rattle.course.specs.declared.Bearing.the-variants.{Level}
 use Rattle.course.specs.declared.State.{State}
 use Rattle.course.specs.declared.Verdict.the-variants.{Done}
 use Rattle.course.specs.Course.{Seen, Stack, countsOf, kindNo, runs}
-use Rattle.course.specs.Taken.{Keeps, KeptOn, Passed, Took, afterWord, constantWord}
-use mathlib.Core.Bool.{false}
+use Rattle.course.specs.Taken.{Keeps, KeptOn, Passed, Took, constantWord}
 use Rattle.language.specs.Building.{Built, keepWord, wordNo}
 use Rattle.language.specs.Constants.{bareConstant, bareLength, decimalConstant, digitsAfter, rightJustified}
-use Rattle.language.specs.Declaring.{makeBoth, makeLast}
+use Rattle.language.specs.Declaring.{makeBoth}
 use Rattle.language.specs.Describe.{bound}
 use Rattle.language.specs.Kinds.{aConstant}
 use Rattle.language.specs.Machine.{ask, keep, make, rangeRest}
@@ -24,7 +22,6 @@ use Rattle.words.specs.declared.Word.{Word}
 use Rattle.dimensions.proofs.RangeWords.{range-colon, range-last}
 use Rattle.dimensions.proofs.States.{state-of}
 use Rattle.dimensions.proofs.Telling.{constant-kept, word-taken}
-use Rattle.dimensions.specs.declared.ranges.Ranged.{Ranged}
 use Rattle.dimensions.specs.Ranges.{Bounded, RangeRead, Ranges, bothEnds, lastEnd, withRange}
 use Rattle.dimensions.specs.Telling.{same}
 

@@ -1,8 +1,8 @@
 -- The machine's words in ranges.
-use mathlib.Core.Bool.{Bool, true, false}
-use mathlib.Core.List.{List, [], _∷_, _++_}
-use mathlib.Core.Path.{_≡_, refl, sym, ap, _∙_, subst}
-use Prim.Native.Nat.{ℕ, suc, _+_, _≤_}
+use mathlib.Core.Bool.{false}
+use mathlib.Core.List.{List, [], _∷_}
+use mathlib.Core.Path.{_≡_, refl, sym, subst}
+use Prim.Native.Nat.{ℕ}
 use native.Mathlib.Omega.{arith}
 use borrow.Author.Tests.{ne-eqb}
 use lib.ListN.{length}
@@ -10,14 +10,13 @@ use Rattle.course.proofs.Looking.{View, begun, ended, sign-ahead, view}
 use Rattle.course.proofs.TakenWords.{onTaken, taken-on}
 use Rattle.course.specs.declared.State.{State}
 use Rattle.course.specs.Course.{Seen, Stack, ahead, behind, countsOf, kindNo, runs, runsOn}
-use Rattle.course.specs.Taken.{constantWord}
 use Rattle.grammar.specs.Following.{Follows, among}
 use Rattle.grammar.specs.Stacks.{kindsOf, omits}
 use Rattle.language.specs.Alternatives.{lead}
-use Rattle.language.specs.Building.{Built, keepWord, wordNo}
+use Rattle.language.specs.Building.{Built}
 use Rattle.language.specs.Declaring.{makeBoth, makeLast, treeSteps}
 use Rattle.language.specs.Kinds.{aConstant, colon}
-use Rattle.language.specs.Machine.{Alternative, Ask, Counts, ask, choose, feed, keep, make, may, rangeRest, reading, run, tallied, withinCeilings}
+use Rattle.language.specs.Machine.{Alternative, Ask, ask, choose, feed, keep, make, may, rangeRest, run, tallied, withinCeilings}
 use Rattle.language.specs.Sections.{ruleOf}
 use Rattle.language.specs.Steps.{Step}
 use Rattle.language.specs.Words as L

@@ -1,9 +1,8 @@
 -- A state by its counts.
-use mathlib.Core.Path.{_≡_, refl, sym, ap, _∙_}
-use Prim.Native.Nat.{ℕ, suc, _+_, _-_}
-use native.Mathlib.Omega.{arith}
+use mathlib.Core.Path.{_≡_, ap}
+use Prim.Native.Nat.{ℕ, _-_}
 use Rattle.course.specs.declared.State.{State}
-use Rattle.course.specs.Course.{counts5, countsOf}
+use Rattle.course.specs.Course.{countsOf}
 use Rattle.course.specs.Taken.{Kept}
 use Rattle.language.specs.Machine.{Counts}
 

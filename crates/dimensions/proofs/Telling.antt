@@ -1,20 +1,19 @@
 -- How answers come from answers: a course before one, a word that is taken, expected or refused.
-use mathlib.Core.List.{List, [], _∷_, _++_}
-use mathlib.Core.Path.{_≡_, refl, sym, ap, _∙_}
+use mathlib.Core.List.{List, _∷_, _++_}
+use mathlib.Core.Path.{_≡_, sym, ap, _∙_}
 use Prim.Native.Nat.{ℕ, _≤_}
 use Rattle.course.proofs.Answers.{done-refused, refused-full, same-fault}
 use Rattle.course.proofs.TakenWords.{onTaken, took-refused}
 use Rattle.course.specs.declared.Answer.{Answer}
 use Rattle.course.specs.declared.Bearing.{Bearing}
 use Rattle.course.specs.declared.State.{State}
-use Rattle.course.specs.declared.Verdict.the-variants.{Done, Full, Refused}
+use Rattle.course.specs.declared.Verdict.the-variants.{Done}
 use Rattle.course.specs.Course.{Seen, Stack, bearingOf, runs}
 use Rattle.course.specs.Taken.{Expected, Keeps, Refuses, Took}
 use Rattle.language.specs.Building.{Built}
 use Rattle.language.specs.Kinds.{aConstant}
 use Rattle.language.specs.Machine.{Counts, keep, refused, word}
 use Rattle.language.specs.Words.{fault}
-use Rattle.words.specs.declared.Fault.{Fault}
 use Rattle.words.specs.declared.Word.{Word}
 use Rattle.words.specs.Meaning.{faulted, positioned}
 use Rattle.dimensions.specs.Telling.{Tells}

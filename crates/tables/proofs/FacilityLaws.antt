@@ -1,15 +1,15 @@
 -- A facility's record, its places and its name, as they are declared.
 use mathlib.Core.Bool.{Bool, true, false, cond}
 use mathlib.Core.List.{List, [], _∷_, _++_}
-use mathlib.Core.Path.{_≡_, refl, sym, ap, _∙_}
+use mathlib.Core.Path.{_≡_, refl, ap, _∙_}
 use Prim.Native.Nat.{ℕ, _+_, _/_, _%_, _<_, _≤_}
 use native.Mathlib.Omega.{arith}
-use lib.ListN.{drop, length, length-replicate, replicate, take}
+use lib.ListN.{length, length-replicate, replicate}
 use Rattle.image.specs.declared.facilities.Bounds.{Bounds}
-use Rattle.image.specs.Declarations.{boundsMeant, facilityMeant, kindMeant}
-use Rattle.image.proofs.WrittenDeclarations.{cond-again, facility-length}
+use Rattle.image.specs.Declarations.{facilityMeant, kindMeant}
+use Rattle.image.proofs.WrittenDeclarations.{facility-length}
 use Rattle.language.specs.Description as D
-use Rattle.language.specs.Description.{bounds, isComputed}
+use Rattle.language.specs.Description.{isComputed}
 use Rattle.language.specs.Encode.{facilityRecord, little, two}
 use Rattle.language.specs.Tree.{Name}
 use Rattle.noted.specs.Noted.{endPlaces, facilityBesideBytes, placeBytes}
@@ -19,11 +19,10 @@ use Rattle.work.specs.Held.{fields}
 use Rattle.tables.proofs.RowLaws.{kept-more}
 use Rattle.tables.proofs.TwoBytes.{three-apart, two-low}
 use Rattle.tables.specs.declared.facilities.Declared.{Declared}
-use Rattle.tables.specs.declared.Table.{Table}
 use Rattle.tables.specs.declared.Table.the-variants as T
 use Rattle.tables.specs.Facilities.{FacilityAdded, endsBounds, facilitySaid, placesSaid}
 use Rattle.tables.specs.Names.{nameRow}
-use Rattle.tables.specs.Rows.{Kept, Wrote, apart, apartFrom, most, rows}
+use Rattle.tables.specs.Rows.{Wrote, rows}
 
 -- ---- The record.
 

@@ -1,6 +1,6 @@
 -- Names in their tables.
 use mathlib.Core.List.{List, [], _∷_, _++_, map}
-use mathlib.Core.Path.{_≡_, refl, sym, ap, _∙_}
+use mathlib.Core.Path.{_≡_, refl, _∙_}
 use Prim.Native.Nat.{ℕ, _/_, _%_}
 use lib.ListN.{drop, length, take}
 use Rattle.language.specs.Characters.{folded}

@@ -1,20 +1,17 @@
 -- The names of a table, when one is added.
 use mathlib.Core.List.{List, [], _∷_, _++_}
 use mathlib.Core.Path.{_≡_, refl, sym, ap, _∙_}
-use Prim.Native.Nat.{ℕ, zero, suc, _+_, _*_, _/_, _%_, _<_, _≤_, min}
+use Prim.Native.Nat.{ℕ, zero, suc, _+_, _*_, _<_, _≤_}
 use native.Mathlib.Nat.{min-eq-left, zero-add}
 use native.Mathlib.Omega.{arith}
 use lib.ListN.{drop, getD, length, take, List·getD-append}
-use lib.Seq.{getD-append-add, getD-drop, getD-take, length-take-le}
-use lib.ListN.{length-drop}
+use lib.Seq.{getD-append-add, getD-drop, getD-take}
 use Rattle.language.specs.Decode.{numberAt, upTo}
 use Rattle.language.specs.Encode.{little, two}
 use Rattle.records.proofs.NumberLaws.{number-back, number-two}
 use Rattle.work.proofs.Naming.{name-at}
 use Rattle.work.specs.Held.{otherIn}
 use Rattle.work.specs.Names.{letters, nameNo, namesIn}
-use Rattle.tables.proofs.NameLaws.{name-length}
-use Rattle.tables.specs.declared.Table.{Table}
 use Rattle.tables.specs.declared.Table.the-variants as T
 use Rattle.tables.specs.Names.{nameAt, nameRow, namesOf}
 use Rattle.tables.specs.Rows.{rows}

@@ -1,5 +1,5 @@
 -- Actions, operations and states in their tables.
-use mathlib.Core.Bool.{Bool, true, false, true≢false}
+use mathlib.Core.Bool.{true, false, true≢false}
 use mathlib.Core.List.{List, [], _∷_, _++_}
 use mathlib.Core.Option.{Option}
 use mathlib.Core.Path.{_≡_, refl, sym, ap, _∙_, subst}
@@ -23,11 +23,10 @@ use Rattle.work.specs.Held.{fields}
 use Rattle.tables.proofs.RowLaws.{kept-more}
 use Rattle.tables.proofs.TwoBytes.{three-apart}
 use Rattle.tables.specs.Actions.{ActionAdded}
-use Rattle.tables.specs.declared.Table.{Table}
 use Rattle.tables.specs.declared.Table.the-variants as T
 use Rattle.tables.specs.Names.{nameRow}
 use Rattle.tables.specs.Operations.{OperationAdded}
-use Rattle.tables.specs.Rows.{Kept, Wrote, rows}
+use Rattle.tables.specs.Rows.{Wrote, rows}
 use Rattle.tables.specs.States.{StateAdded}
 
 -- ---- Places.

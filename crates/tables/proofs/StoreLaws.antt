@@ -1,8 +1,8 @@
 -- Bytes of facilities in the store.
 use mathlib.Core.Bool.{true, false}
-use mathlib.Core.Path.{_≡_, refl, sym, ap, _∙_}
+use mathlib.Core.Path.{_≡_}
 use Prim.Native.Nat.{ℕ, _+_, _*_, _/_, _%_, _<_, _≤_, _^_}
-use native.Mathlib.Nat.{mod-eq-of-lt, mul-le-mul}
+use native.Mathlib.Nat.{mul-le-mul}
 use native.Mathlib.Omega.{arith}
 use Rattle.image.specs.Declarations.{kindMeant}
 use Rattle.language.specs.Description.{isComputed, wordCount, wordLength}

@@ -1,4 +1,4 @@
-use mathlib.Core.Path.{_≡_, refl, sym, _∙_}
+use mathlib.Core.Path.{sym, _∙_}
 use Rattle.course.proofs.Answers.{not-done}
 use Rattle.dimensions.proofs.RangeLaws.{range-both, range-ended, range-no-colon, range-not}
 use borrow.Author.Needs.{needs}

@@ -1,9 +1,7 @@
 use borrow.Author.Needs.{needs}
-use mathlib.Core.Path.{_≡_, refl, sym, ap, _∙_}
-use mathlib.Core.List.{List, map}
-use Prim.Native.Nat.{ℕ, _-_}
+use mathlib.Core.Path.{_≡_}
+use Prim.Native.Nat.{_-_}
 use native.Mathlib.Omega.{arith}
-use Rattle.language.specs.Characters.{folded}
 use Rattle.work.specs.Names.{letters}
 use Rattle.tables.proofs.FirstFound.{Left, all-left, found-here, none-left, not-here}
 use Rattle.tables.proofs.NameLaws.{letters-of}

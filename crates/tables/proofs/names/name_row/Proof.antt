@@ -1,6 +1,4 @@
-use mathlib.Core.Path.{_≡_, refl, sym, ap, _∙_}
-use native.Mathlib.Omega.{arith}
-use Rattle.language.specs.Encode.{little}
+use mathlib.Core.Path.{ap}
 use Rattle.language.specs.Words.{Position}
 use Rattle.tables.proofs.NameLaws.{name-bytes}
 use borrow.Author.Needs.{needs}

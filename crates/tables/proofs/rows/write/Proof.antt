@@ -1,4 +1,3 @@
-use Prim.Native.Nat.{ℕ, _+_, _*_}
 use native.Mathlib.Nat.{mul-le-mul}
 use native.Mathlib.Omega.{arith}
 use borrow.Author.Needs.{needs}

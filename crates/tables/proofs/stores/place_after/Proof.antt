@@ -1,6 +1,4 @@
-use mathlib.Core.Path.{_≡_, ap, ap₂, sym, _∙_}
-use Prim.Native.Nat.{ℕ, _+_, _*_, _/_, _%_, _<_, _≤_, _^_}
-use native.Mathlib.Nat.{mul-le-mul, add-zero, mod-eq-of-lt}
+use mathlib.Core.Path.{sym, _∙_}
 use native.Mathlib.Omega.{arith}
 use Rattle.tables.proofs.StoreLaws.{computed-bytes, few-bytes, kept-bytes}
 use borrow.Author.Needs.{needs}
