@@ -104,6 +104,12 @@ module _ (s : List ℕ) where
   abbrev whole : ℕ → ℕ → ℕ
   whole k n = numberAt 6 (8 * n + 2) s + digitsBefore k n s
 
+  pub whole-some : (k n : ℕ) → (numberAt 6 (8 * n + 2) s ≡ 0 → ⊥) → false ≡ eqb (whole k n) 0
+  whole-some k n h = sym (ne-eqb (whole k n) 0 (λ (e : whole k n ≡ 0). h (omega arith)))
+
+  pub whole-none : (k n : ℕ) → numberAt 6 (8 * n + 2) s ≡ 0 → eqb (digitsBefore k n s) 0 ≡ eqb (whole k n) 0
+  whole-none k n e = let z : digitsBefore k n s ≡ whole k n = omega arith in ap (λ (x : ℕ). eqb x 0) z
+
   same-test : {a b c e : ℕ} → (a ≡ b → c ≡ e) → (c ≡ e → a ≡ b) → eqb a b ≡ eqb c e
   same-test {a} {b} {c} {e} f g = by-test (eqb a b) refl
     where

@@ -42,6 +42,16 @@ pub fn within(exprs: &[u8], n: u16, b: Bounds) -> bool
     false
 }
 
+// Whether the constant that ends at record n after k more has the number 0.
+pub fn number_zero(exprs: &[u8], n: u16, k: u8) -> bool
+    ensures { λ r. ⌜ r ≡ eqb (numberAt 6 (8 * n + 2) (now (exprs .entry)) + digitsBefore k n (now (exprs .entry))) 0 ⌝ }
+{
+    if numbers::six(exprs, 8 * n as usize + 2) != 0 {
+        return false;
+    }
+    digits_zero(exprs, n, k)
+}
+
 // Whether two constants have the same number: the one that ends at record n after k more, the other at record m after j more.
 pub fn same_number(exprs: &[u8], n: u16, k: u8, m: u16, j: u8) -> bool
     ensures { λ r. ⌜ r ≡ eqb (numberAt 6 (8 * n + 2) (now (exprs .entry)) + digitsBefore k n (now (exprs .entry))) (numberAt 6 (8 * m + 2) (now (exprs .entry)) + digitsBefore j m (now (exprs .entry))) ⌝ }
