@@ -139,7 +139,21 @@ pub fn states(
         n += 1;
         let s = image::states::state_at(ss, k);
         let one = state(
-            fs, es, fp, ep, memo, acts, ap, ss, labels, kept, ops, sp, k, wanted, s,
+            fs,
+            es,
+            fp,
+            ep,
+            memo,
+            acts,
+            ap,
+            ss,
+            labels,
+            kept,
+            ops,
+            sp,
+            k,
+            wanted,
+            s,
         );
         all = words::faults::earlier(all, one);
     }

@@ -104,7 +104,14 @@ fn right_value(es: &[u8], ss: &[u8], n: usize, wanted: u64, a: u16) -> bool
 }
 
 // The value of state n.
-pub fn value_faults(es: &[u8], ss: &[u8], n: usize, wanted: u64, at: Position, value: StateValue) -> Judged
+pub fn value_faults(
+    es: &[u8],
+    ss: &[u8],
+    n: usize,
+    wanted: u64,
+    at: Position,
+    value: StateValue,
+) -> Judged
     ensures { λ r. ⌜ ((d : Description) (p : Places) (q : W.Position) → Valued (now (es .entry)) (now (ss .entry)) d → positioned at ≡ q → judged r ≡ least (R.valueFaults d p (wantedLength wanted) (valuesBefore d p n) q (valueMeant value))) ⌝ }
 {
     let StateValue::At(a) = value else {

@@ -18,7 +18,6 @@ loop-holds : tie.Need-loop-holds Inv-loop μ-loop
 loop-holds c =
     (omega arith, omega arith, refl)
 
-
 cast-six : tie.Need-cast-six Inv-loop μ-loop
 cast-six c = search needs
 
@@ -53,7 +52,6 @@ returns : tie.Need-returns Inv-loop μ-loop
 returns c =
     c .digits-zero2 .ensures ∙ same-last _ (c .before .before .before .before .before .before .loop .left) (c .before .before .before .before .before .before .loop .a) (c .before .before .before .before .before .before .loop .right) (c .before .before .before .before .before .before .loop .b) (sym (c .before .before .before .before .before .six .ensures .0) ∙ c .before .before .before .if1 .taken ∙ c .before .before .before .before .six2 .ensures .0) (sym (c .before .before .digits-zero .ensures) ∙ c .before .if2 .taken) ∙ c .before .before .before .before .before .before .loop .inv .2
 
-
 digits-zero-requires-3 : tie.Need-digits-zero-requires-3 Inv-loop μ-loop
 digits-zero-requires-3 c κs = search needs
 
@@ -61,41 +59,33 @@ returns-2 : tie.Need-returns-2 Inv-loop μ-loop
 returns-2 c =
     same-not _ (c .before .before .before .before .before .before .before .loop .left) (c .before .before .before .before .before .before .before .loop .a) (c .before .before .before .before .before .before .before .loop .right) (c .before .before .before .before .before .before .before .loop .b) (sym (c .before .before .before .before .before .before .six .ensures .0) ∙ c .before .before .before .before .if1 .taken ∙ c .before .before .before .before .before .six2 .ensures .0) (sym (c .before .before .before .digits-zero .ensures) ∙ c .before .before .if2 .left) (sym (c .before .digits-zero3 .ensures) ∙ c .if3 .taken) ∙ c .before .before .before .before .before .before .before .loop .inv .2
 
-
 sub-a : tie.Need-sub-a Inv-loop μ-loop
 sub-a c =
     some-place _ (c .before .before .before .before .before .before .before .loop .left) (c .before .before .before .before .before .before .before .loop .a) (sym (c .before .before .before .digits-zero .ensures) ∙ c .before .before .if2 .left)
-
 
 sub-left : tie.Need-sub-left Inv-loop μ-loop
 sub-left c =
     some-left _ (c .before .before .before .before .before .before .before .loop .left) (c .before .before .before .before .before .before .before .loop .a) (sym (c .before .before .before .digits-zero .ensures) ∙ c .before .before .if2 .left)
 
-
 sub-b : tie.Need-sub-b Inv-loop μ-loop
 sub-b c =
     some-place _ (c .before .before .before .before .before .before .before .loop .right) (c .before .before .before .before .before .before .before .loop .b) (sym (c .before .digits-zero3 .ensures) ∙ c .if3 .left)
-
 
 sub-right : tie.Need-sub-right Inv-loop μ-loop
 sub-right c =
     some-left _ (c .before .before .before .before .before .before .before .loop .right) (c .before .before .before .before .before .before .before .loop .b) (sym (c .before .digits-zero3 .ensures) ∙ c .if3 .left)
 
-
 loop-less : tie.Need-loop-less Inv-loop μ-loop
 loop-less c =
     let h : 0 < c .before .before .before .before .before .before .before .loop .left = some-left _ (c .before .before .before .before .before .before .before .loop .left) (c .before .before .before .before .before .before .before .loop .a) (sym (c .before .before .before .digits-zero .ensures) ∙ c .before .before .if2 .left) in omega arith
-
 
 loop-again : tie.Need-loop-again Inv-loop μ-loop
 loop-again c =
     (omega (arith, c .before .before .before .before .before .before .before .loop .inv .0), omega (arith, c .before .before .before .before .before .before .before .loop .inv .1), same-next _ (c .before .before .before .before .before .before .before .loop .left) (c .before .before .before .before .before .before .before .loop .a) (c .before .before .before .before .before .before .before .loop .right) (c .before .before .before .before .before .before .before .loop .b) (sym (c .before .before .before .before .before .before .six .ensures .0) ∙ c .before .before .before .before .if1 .taken ∙ c .before .before .before .before .before .six2 .ensures .0) (sym (c .before .before .before .digits-zero .ensures) ∙ c .before .before .if2 .left) (sym (c .before .digits-zero3 .ensures) ∙ c .if3 .left) ∙ c .before .before .before .before .before .before .before .loop .inv .2)
 
-
 returns-3 : tie.Need-returns-3 Inv-loop μ-loop
 returns-3 c =
     same-differ _ (c .before .before .before .loop .left) (c .before .before .before .loop .a) (c .before .before .before .loop .right) (c .before .before .before .loop .b) (λ e. c .if1 .left (c .before .before .six .ensures .0 ∙ e ∙ sym (c .before .six2 .ensures .0))) (omega (arith, c .before .before .six .ensures .0, c .before .before .six .ensures .1)) (omega (arith, c .before .six2 .ensures .0, c .before .six2 .ensures .1)) ∙ c .before .before .before .loop .inv .2
-
 
 pub same-number-spec : {M : Type 1} → statement M
 same-number-spec =

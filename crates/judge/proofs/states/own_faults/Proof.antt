@@ -36,11 +36,9 @@ returns c =
     (λ x w. c .also .ensures _ _ (c .before .before .before .unless .ensures ∙ ap₂ (λ (b : Bool) (u : W.Position). least (L.unless b u 9)) t e)
     (c .before .unless2 .ensures ∙ ap₂ (λ (b : Bool) (u : W.Position). least (L.unless b u 10)) (ap (λ (y : Worth). leb (y .work) 65536) w ∙ capped-leb (x .work)) e))
 
-
 returns-2 : tie.Need-returns-2
 returns-2 c =
     λ d p l q s j e t m. own-faulty d p l q s j _ (sym (c .before .v2 .given .1) ∙ m)
-
 
 pub own-faults-spec : {M : Type 1} → statement M
 own-faults-spec =

@@ -61,7 +61,6 @@ returns c =
     (c .before .faults-of .ensures _ j)
     ∙ ap least (state-is d p l (valuesBefore d p n) (statePlace p n) (stateAt d n) (run-is d p (c .before .before .before .before .before .before .before .before .before .before .before .before .before .before .before .before .before .before .before .before .before .before .args .ops) e (runMeant (c .before .before .before .before .before .before .before .before .before .before .before .before .before .before .before .before .before .before .before .before .before .before .args .s .actions)) a))
 
-
 pub state-spec : {M : Type 1} → statement M
 state-spec =
     tie.close

@@ -1,9 +1,9 @@
 use borrow.Author.Needs.{needs}
 use Rattle.judge.proofs.StateLaws.{start-state, stateHere, statesFrom, step-state, stop-state}
 use Rattle.judge.specs.Declared.{Performed}
-use Rattle.judge.specs.Stated.{Stated, valuesBefore}
-use Rattle.language.specs.Description.{Description, Places, stateAt, statePlace}
-use Rattle.language.specs.Rules.{sequencingLength, stateFaults, statesFaults}
+use Rattle.judge.specs.Stated.{Stated}
+use Rattle.language.specs.Description.{Description, Places}
+use Rattle.language.specs.Rules.{sequencingLength, statesFaults}
 use Rattle.language.specs.WordStage.{least}
 use Rattle.words.specs.Meaning.{judged, lesser}
 use lib.ListN.{length}
@@ -28,7 +28,6 @@ loop-holds : tie.Need-loop-holds Inv-loop μ-loop
 loop-holds c =
     (omega arith, λ d p s r. start-state d p (sequencingLength d p))
 
-
 add-n : tie.Need-add-n Inv-loop μ-loop
 add-n c = search needs
 
@@ -46,18 +45,17 @@ loop-less : tie.Need-loop-less Inv-loop μ-loop
 loop-less c =
     omega (arith, c .before .before .before .loop-test .taken)
 
-
 loop-again : tie.Need-loop-again Inv-loop μ-loop
-loop-again c =
-    (omega (arith, c .before .before .before .loop-test .taken), λ d p s r. step-state d p (sequencingLength d p) _ (c .before .before .before .before .loop .n) (s .count) (judged (c .before .before .before .before .loop .all)) (c .before .before .before .before .loop .inv .1 d p s r) (c .before .before .before .loop-test .taken) (c .earlier .ensures)
-    (c .before .state .ensures d p _ s r (s .operations) (s .state (c .before .before .before .before .loop .n) (c .before .before .state-at .result) (c .before .before .state-at .ensures))
-    ∙ ap (λ (l : Option ℕ). stateHere d p l (c .before .before .before .before .loop .n)) (c .before .before .before .before .before .sequencing-length .ensures _ _ d p (s .acting .declared))))
-
+loop-again c = (
+  omega (arith, c .before .before .before .loop-test .taken),
+  λ d p s r. step-state d p (sequencingLength d p) _ (c .before .before .before .before .loop .n) (s .count) (judged (c .before .before .before .before .loop .all)) (c .before .before .before .before .loop .inv .1 d p s r) (c .before .before .before .loop-test .taken) (c .earlier .ensures)
+      (c .before .state .ensures d p _ s r (s .operations) (s .state (c .before .before .before .before .loop .n) (c .before .before .state-at .result) (c .before .before .state-at .ensures))
+      ∙ ap (λ (l : Option ℕ). stateHere d p l (c .before .before .before .before .loop .n)) (c .before .before .before .before .before .sequencing-length .ensures _ _ d p (s .acting .declared))),
+)
 
 returns : tie.Need-returns Inv-loop μ-loop
 returns c =
     λ d p s r. stop-state d p (sequencingLength d p) _ (c .before .loop .n) (s .count) (judged (c .before .loop .all)) (c .before .loop .inv .1 d p s r) (c .loop-test .left)
-
 
 pub states-spec : {M : Type 1} → statement M
 states-spec =

@@ -9,7 +9,6 @@ returns : tie.Need-returns
 returns c =
     λ d p. there-unwanted d p (c .before .args .wanted) _ (c .if1 .taken)
 
-
 enum-told : tie.Need-enum-told
 enum-told c = search needs
 
@@ -20,11 +19,9 @@ returns-2 : tie.Need-returns-2
 returns-2 c =
     λ d p. there-some d p (c .before .before .before .args .wanted) _ (c .before .before .if1 .left) _ (ap valueMeant (sym (c .enum-told .given .1)))
 
-
 returns-3 : tie.Need-returns-3
 returns-3 c =
     λ d p. there-none d p (c .before .before .before .args .wanted) _ (c .before .before .if1 .left) (ap valueMeant (sym (c .enum-told2 .given .1)))
-
 
 pub value-there-spec : {M : Type 1} → statement M
 value-there-spec =

@@ -18,11 +18,9 @@ returns : tie.Need-returns
 returns c =
     λ x y z e f g. value-passed x y z (ap judged (sym (c .enum-told .given .1)) ∙ e) f
 
-
 returns-2 : tie.Need-returns-2
 returns-2 c =
     λ x y z e f g. value-refused x y z _ (c .before .enum-told2 .given .1) e (c .also .ensures x z e g)
-
 
 pub with-value-spec : {M : Type 1} → statement M
 with-value-spec =

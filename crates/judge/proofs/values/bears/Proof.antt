@@ -24,11 +24,9 @@ returns : tie.Need-returns
 returns c =
     λ d p s. bears-some d p _ (c .before .before .before .before .before .before .before .args .n) _ (c .same-value .result) (ap valueMeant (sym (c .before .before .value .given .1)) ∙ ap (λ (x : State). x .value) (s .state (c .before .before .before .before .before .before .before .args .n) (c .before .before .before .before .state-at .result) (c .before .before .before .before .state-at .ensures))) (c .same-value .ensures ∙ ap₂ (λ (x y : Value). eqb (x .number) (y .number)) (sym (s .constant _)) (sym (s .constant _)))
 
-
 returns-2 : tie.Need-returns-2
 returns-2 c =
     λ d p s. bears-none d p _ (c .before .before .before .before .before .args .n) (ap valueMeant (sym (c .enum-told .given .1)) ∙ ap (λ (x : State). x .value) (s .state (c .before .before .before .before .before .args .n) (c .before .before .state-at .result) (c .before .before .state-at .ensures)))
-
 
 pub bears-spec : {M : Type 1} → statement M
 bears-spec =

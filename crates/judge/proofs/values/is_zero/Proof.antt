@@ -14,7 +14,6 @@ returns : tie.Need-returns
 returns c =
     sym (eq-eqb _ 0 (number-none (c .before .before .before .args .es .now) (c .before .before .before .args .a) (sym (c .before .value-length .ensures) ∙ c .if1 .taken)))
 
-
 further-requires : tie.Need-further-requires
 further-requires c κs = search needs
 
@@ -24,7 +23,6 @@ number-zero-requires c κs = search needs
 returns-2 : tie.Need-returns-2
 returns-2 c =
     c .number-zero .ensures ∙ ap (λ (x : ℕ). eqb x 0) (number-some (c .before .before .before .before .before .args .es .now) (c .before .before .before .before .before .args .a) _ (λ e. c .before .before .if1 .left (c .before .before .before .value-length .ensures ∙ e)) (c .before .further .ensures))
-
 
 pub is-zero-spec : {M : Type 1} → statement M
 is-zero-spec =

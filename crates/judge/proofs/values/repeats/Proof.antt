@@ -19,11 +19,9 @@ loop-holds : tie.Need-loop-holds Inv-loop μ-loop
 loop-holds c =
     (omega arith, λ d p s. refl)
 
-
 sub-left : tie.Need-sub-left Inv-loop μ-loop
 sub-left c =
     omega (arith, c .loop-test .taken)
-
 
 bears-requires : tie.Need-bears-requires Inv-loop μ-loop
 bears-requires c κs = search needs
@@ -32,21 +30,17 @@ returns : tie.Need-returns Inv-loop μ-loop
 returns c =
     λ d p s. one-less (λ (n : ℕ). R.repeated d p (constantValue (nodeAt d (c .before .before .before .before .before .before .args .a)) .number) (valuesBefore d p n)) (c .before .before .before .loop .left) (c .before .before .loop-test .taken) (c .before .bears .ensures d p s) (c .if1 .taken) (c .before .before .before .loop .inv .1 d p s)
 
-
 loop-less : tie.Need-loop-less Inv-loop μ-loop
 loop-less c =
     omega (arith, c .before .before .loop-test .taken)
-
 
 loop-again : tie.Need-loop-again Inv-loop μ-loop
 loop-again c =
     (omega (arith, c .before .before .before .loop .inv .0), λ d p s. one-less (λ (n : ℕ). R.repeated d p (constantValue (nodeAt d (c .before .before .before .before .before .before .args .a)) .number) (valuesBefore d p n)) (c .before .before .before .loop .left) (c .before .before .loop-test .taken) (c .before .bears .ensures d p s) (c .if1 .left) (c .before .before .before .loop .inv .1 d p s))
 
-
 returns-2 : tie.Need-returns-2 Inv-loop μ-loop
 returns-2 c =
     λ d p s. none-left d p _ (c .before .loop .left) (c .loop-test .left) (c .before .loop .inv .1 d p s)
-
 
 pub repeats-spec : {M : Type 1} → statement M
 repeats-spec =

@@ -9,7 +9,6 @@ returns : tie.Need-returns
 returns c =
     λ d p s. unwanted d p (c .before .before .before .args .wanted) _ (c .before .before .before .args .a) (c .if1 .taken)
 
-
 value-length-requires : tie.Need-value-length-requires
 value-length-requires c κs = search needs
 
@@ -20,7 +19,6 @@ returns-2 : tie.Need-returns-2
 returns-2 c =
     λ d p s. wrong-length d p (c .before .before .before .before .before .args .wanted) _ (c .before .before .before .before .before .args .a) (c .before .before .if1 .left) (λ e. c .if2 .taken (c .before .value-length .ensures ∙ ap (λ (v : Value). v .length) (sym (s .constant (c .before .before .before .before .before .args .a))) ∙ e))
 
-
 repeats-requires : tie.Need-repeats-requires
 repeats-requires c κs = search needs
 
@@ -28,11 +26,9 @@ returns-3 : tie.Need-returns-3
 returns-3 c =
     λ d p s. right-length d p (c .before .before .before .before .before .before .before .args .wanted) _ (c .before .before .before .before .before .before .before .args .a) (c .before .before .before .before .if1 .left) (ap (λ (v : Value). v .length) (s .constant (c .before .before .before .before .before .before .before .args .a)) ∙ sym (c .before .before .before .value-length .ensures) ∙ c .before .before .if2 .left) (sym (c .before .repeats .ensures d p s) ∙ c .if3 .taken)
 
-
 returns-4 : tie.Need-returns-4
 returns-4 c =
     λ d p s. right-length d p (c .before .before .before .before .before .before .before .args .wanted) _ (c .before .before .before .before .before .before .before .args .a) (c .before .before .before .before .if1 .left) (ap (λ (v : Value). v .length) (s .constant (c .before .before .before .before .before .before .before .args .a)) ∙ sym (c .before .before .before .value-length .ensures) ∙ c .before .before .if2 .left) (sym (c .before .repeats .ensures d p s) ∙ c .if3 .left)
-
 
 pub right-value-spec : {M : Type 1} → statement M
 right-value-spec =

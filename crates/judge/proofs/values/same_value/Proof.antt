@@ -15,7 +15,6 @@ returns : tie.Need-returns
 returns c =
     c .is-zero .ensures ∙ zero-first _ _ (number-none (c .before .before .before .before .args .es .now) (c .before .before .before .before .args .a) (sym (c .before .before .value-length .ensures) ∙ c .before .if1 .taken))
 
-
 value-length-requires-2 : tie.Need-value-length-requires-2
 value-length-requires-2 c κs = search needs
 
@@ -25,7 +24,6 @@ is-zero-requires-2 c κs = search needs
 returns-2 : tie.Need-returns-2
 returns-2 c =
     c .is-zero2 .ensures ∙ zero-second _ _ (number-none (c .before .before .before .before .before .before .args .es .now) (c .before .before .before .before .before .before .args .b) (sym (c .before .before .value-length2 .ensures) ∙ c .before .if2 .taken))
-
 
 further-requires : tie.Need-further-requires
 further-requires c κs = search needs
@@ -39,7 +37,6 @@ same-number-requires c κs = search needs
 returns-3 : tie.Need-returns-3
 returns-3 c =
     c .same-number .ensures ∙ ap₂ eqb (number-some (c .before .before .before .before .before .before .before .before .args .es .now) (c .before .before .before .before .before .before .before .before .args .a) _ (λ e. c .before .before .before .before .before .if1 .left (c .before .before .before .before .before .before .value-length .ensures ∙ e)) (c .before .before .further .ensures)) (number-some (c .before .before .before .before .before .before .before .before .args .es .now) (c .before .before .before .before .before .before .before .before .args .b) _ (λ e. c .before .before .before .if2 .left (c .before .before .before .before .value-length2 .ensures ∙ e)) (c .before .further2 .ensures))
-
 
 pub same-value-spec : {M : Type 1} → statement M
 same-value-spec =

@@ -24,7 +24,6 @@ returns : tie.Need-returns
 returns c =
     λ d p q s e. passed-none ∙ ap least (no-value-faults d p (valuesBefore d p (c .before .before .before .before .args .n)) q (wantedLength (c .before .before .before .before .args .wanted))) ∙ ap (λ (x : Option ℕ). least (R.valueFaults d p (wantedLength (c .before .before .before .before .args .wanted)) (valuesBefore d p (c .before .before .before .before .args .n)) q x)) (ap valueMeant (sym (c .enum-told .given .1)))
 
-
 right-value-requires : tie.Need-right-value-requires
 right-value-requires c κs = search needs
 
@@ -34,7 +33,6 @@ unless-requires c κs = search needs
 returns-2 : tie.Need-returns-2
 returns-2 c =
     λ d p q s e. c .unless .ensures ∙ ap₂ (λ (b : Bool) (u : W.Position). least (L.unless b u 9)) (c .before .right-value .ensures d p s) e ∙ ap least (value-faults-are d p (valuesBefore d p (c .before .before .before .before .before .before .before .args .n)) q (wantedLength (c .before .before .before .before .before .before .before .args .wanted)) _) ∙ ap (λ (x : Option ℕ). least (R.valueFaults d p (wantedLength (c .before .before .before .before .before .before .before .args .wanted)) (valuesBefore d p (c .before .before .before .before .before .before .before .args .n)) q x)) (ap valueMeant (sym (c .before .before .before .value .given .1)))
-
 
 pub value-faults-spec : {M : Type 1} → statement M
 value-faults-spec =

@@ -1,5 +1,4 @@
 use borrow.Author.Needs.{needs}
-use Rattle.language.specs.Decode.{nodeOf}
 use Rattle.language.specs.Description as D
 use Rattle.language.specs.Description.{constantValue}
 use Rattle.language.specs.Value.{Value}
@@ -19,11 +18,9 @@ returns : tie.Need-returns
 returns c =
     sym (ap (λ (v : Value). v .length) (ap constantValue (sym (c .before .node-at .ensures)) ∙ no-value (constantNumber (c .before .before .before .args .a) (c .before .before .before .args .es .now)) (c .before .node-at .result) (c .match .keys2)))
 
-
 returns-2 : tie.Need-returns-2
 returns-2 c =
     ap (λ (x : D.Node). constantValue x .length) (ap (meant (constantNumber (c .before .before .before .before .before .args .a) (c .before .before .before .before .before .args .es .now))) (sym (c .before .length .given .1)) ∙ c .before .before .before .node-at .ensures)
-
 
 pub value-length-spec : {M : Type 1} → statement M
 value-length-spec =

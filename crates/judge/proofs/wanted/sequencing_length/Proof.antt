@@ -20,7 +20,6 @@ loop-holds : tie.Need-loop-holds Inv-loop μ-loop
 loop-holds c =
     (omega arith, λ es ep d p s. from-start d)
 
-
 add-n : tie.Need-add-n Inv-loop μ-loop
 add-n c = search needs
 
@@ -37,21 +36,17 @@ returns : tie.Need-returns Inv-loop μ-loop
 returns c =
     λ es ep d p s. found-here s (c .before .before .before .before .before .loop .n) (c .before .before .before .facility-at .result) (c .before .before .before .facility-at .ensures) (c .before .before .is-sequencing .ensures) (c .before .before .before .before .loop-test .taken) _ (c .before .if1 .taken) (c .word-length .ensures .0) (c .before .before .before .before .before .loop .inv .1 es ep d p s)
 
-
 loop-less : tie.Need-loop-less Inv-loop μ-loop
 loop-less c =
     omega (arith, c .before .before .before .loop-test .taken)
-
 
 loop-again : tie.Need-loop-again Inv-loop μ-loop
 loop-again c =
     (omega (arith, c .before .before .before .loop-test .taken), λ es ep d p s. not-here s (c .before .before .before .before .loop .n) (c .before .before .facility-at .result) (c .before .before .facility-at .ensures) (c .before .is-sequencing .ensures) (c .before .before .before .loop-test .taken) (c .if1 .left) (c .before .before .before .before .loop .inv .1 es ep d p s))
 
-
 returns-2 : tie.Need-returns-2 Inv-loop μ-loop
 returns-2 c =
     λ es ep d p s. found-nowhere s (c .before .loop .n) (c .loop-test .left) (c .before .loop .inv .1 es ep d p s)
-
 
 pub sequencing-length-spec : {M : Type 1} → statement M
 sequencing-length-spec =
