@@ -1,5 +1,5 @@
--- The number of a constant as a subscript: what stands before its own record is nothing, or too much for any bound.
-use mathlib.Core.Bool.{Bool, true, false, cond}
+-- The number of a constant: as a subscript, what stands before its own record is nothing, or too much for any bound.
+use mathlib.Core.Bool.{Bool, true, false, cond, true≢false}
 use mathlib.Core.List.{List}
 use mathlib.Core.Path.{_≡_, refl, sym, ap, _∙_}
 use native.Mathlib.Omega.{arith}
@@ -86,3 +86,60 @@ module _ (s : List ℕ) where
           → cond c (cond (leb (b .first) (v .number)) (leb (v .number) (b .last)) false) (cond (leb (b .last) (v .number)) (leb (v .number) (b .first)) false) ≡ false
       by-test true x y z w = rw (x, z)
       by-test false x y z w = rw (y, w)
+
+  -- ---- Two numbers: equal where their lowest digits are, and what stands before those.
+
+  some-before : (k n : ℕ) → eqb (digitsBefore k n s) 0 ≡ false → (0 < k) × (0 < n)
+  unfolding digitsBefore
+  some-before zero n t = absurd (true≢false t)
+  some-before (suc k) zero t = absurd (true≢false t)
+  some-before (suc k) (suc n) t = (omega arith, omega arith)
+
+  pub some-left : (k n : ℕ) → eqb (digitsBefore k n s) 0 ≡ false → 0 < k
+  some-left k n t = some-before k n t .0
+
+  pub some-place : (k n : ℕ) → eqb (digitsBefore k n s) 0 ≡ false → 0 < n
+  some-place k n t = some-before k n t .1
+
+  abbrev whole : ℕ → ℕ → ℕ
+  whole k n = numberAt 6 (8 * n + 2) s + digitsBefore k n s
+
+  pub whole-some : (k n : ℕ) → (numberAt 6 (8 * n + 2) s ≡ 0 → ⊥) → false ≡ eqb (whole k n) 0
+  whole-some k n h = sym (ne-eqb (whole k n) 0 (λ (e : whole k n ≡ 0). h (omega arith)))
+
+  pub whole-none : (k n : ℕ) → numberAt 6 (8 * n + 2) s ≡ 0 → eqb (digitsBefore k n s) 0 ≡ eqb (whole k n) 0
+  whole-none k n e = let z : digitsBefore k n s ≡ whole k n = omega arith in ap (λ (x : ℕ). eqb x 0) z
+
+  same-test : {a b c e : ℕ} → (a ≡ b → c ≡ e) → (c ≡ e → a ≡ b) → eqb a b ≡ eqb c e
+  same-test {a} {b} {c} {e} f g = by-test (eqb a b) refl
+    where
+      by-test : (t : Bool) → eqb a b ≡ t → eqb a b ≡ eqb c e
+      by-test true t = t ∙ sym (eq-eqb c e (f (eqb-true a b t)))
+      by-test false t = t ∙ sym (ne-eqb c e (λ h. eqb-false a b t (g h)))
+
+  module _ (k n j m : ℕ) where
+    pub same-differ : (numberAt 6 (8 * n + 2) s ≡ numberAt 6 (8 * m + 2) s → ⊥) → numberAt 6 (8 * n + 2) s < 2 ^ 48 → numberAt 6 (8 * m + 2) s < 2 ^ 48
+        → false ≡ eqb (whole k n) (whole j m)
+    same-differ h f g =
+        let x : digitsBefore k n s ≡ digits k n s * 2 ^ 48 = before-digits k n s in
+        let y : digitsBefore j m s ≡ digits j m s * 2 ^ 48 = before-digits j m s in
+        sym (ne-eqb (whole k n) (whole j m) (λ (e : whole k n ≡ whole j m). h (omega arith)))
+
+    module _ (e : numberAt 6 (8 * n + 2) s ≡ numberAt 6 (8 * m + 2) s) where
+      pub same-last : eqb (digitsBefore k n s) 0 ≡ true → eqb (digitsBefore j m s) 0 ≡ eqb (whole k n) (whole j m)
+      same-last t =
+          let z : digitsBefore k n s ≡ 0 = eqb-true _ 0 t in
+          same-test (λ (h : digitsBefore j m s ≡ 0). omega arith) (λ (h : whole k n ≡ whole j m). omega arith)
+
+      pub same-not : eqb (digitsBefore k n s) 0 ≡ false → eqb (digitsBefore j m s) 0 ≡ true → false ≡ eqb (whole k n) (whole j m)
+      same-not t u =
+          let z : digitsBefore k n s ≡ 0 → ⊥ = eqb-false _ 0 t in
+          let y : digitsBefore j m s ≡ 0 = eqb-true _ 0 u in
+          sym (ne-eqb (whole k n) (whole j m) (λ (h : whole k n ≡ whole j m). z (omega arith)))
+
+      pub same-next : eqb (digitsBefore k n s) 0 ≡ false → eqb (digitsBefore j m s) 0 ≡ false
+          → eqb (whole (k - 1) (n - 1)) (whole (j - 1) (m - 1)) ≡ eqb (whole k n) (whole j m)
+      same-next t u =
+          let x : digitsBefore k n s ≡ whole (k - 1) (n - 1) * 2 ^ 48 = more-digits k n (some-left k n t) (some-place k n t) in
+          let y : digitsBefore j m s ≡ whole (j - 1) (m - 1) * 2 ^ 48 = more-digits j m (some-left j m u) (some-place j m u) in
+          same-test (λ (h : whole (k - 1) (n - 1) ≡ whole (j - 1) (m - 1)). omega arith) (λ (h : whole k n ≡ whole j m). omega arith)

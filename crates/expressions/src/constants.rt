@@ -1,10 +1,11 @@
-// Constants as subscripts: their numbers are compared whole, however many records they take.
+// Numbers of constants, compared whole, however many records they take.
 use noted::facilities::Bounds;
 use records::numbers;
 use rules::bounds;
 ghost use mathlib.Core.Path.{_≡_};
+ghost use Prim.Native.Nat.{_+_, _*_};
 ghost use lib.Dec.{eqb};
-ghost use Rattle.language.specs.Decode.{digitsBefore, nodeOf};
+ghost use Rattle.language.specs.Decode.{digitsBefore, nodeOf, numberAt};
 ghost use Rattle.language.specs.Description as D;
 ghost use Rattle.language.specs.Description.{inBounds};
 ghost use Rattle.language.specs.Value.{Value};
@@ -37,6 +38,39 @@ pub fn within(exprs: &[u8], n: u16, b: Bounds) -> bool
     let more = numbers::byte(exprs, at + 1) / 48;
     if digits_zero(exprs, n, more) {
         return bounds::in_bounds(b, numbers::six(exprs, at + 2));
+    }
+    false
+}
+
+// Whether the constant that ends at record n after k more has the number 0.
+pub fn number_zero(exprs: &[u8], n: u16, k: u8) -> bool
+    ensures { λ r. ⌜ r ≡ eqb (numberAt 6 (8 * n + 2) (now (exprs .entry)) + digitsBefore k n (now (exprs .entry))) 0 ⌝ }
+{
+    if numbers::six(exprs, 8 * n as usize + 2) != 0 {
+        return false;
+    }
+    digits_zero(exprs, n, k)
+}
+
+// Whether two constants have the same number: the one that ends at record n after k more, the other at record m after j more.
+pub fn same_number(exprs: &[u8], n: u16, k: u8, m: u16, j: u8) -> bool
+    ensures { λ r. ⌜ r ≡ eqb (numberAt 6 (8 * n + 2) (now (exprs .entry)) + digitsBefore k n (now (exprs .entry))) (numberAt 6 (8 * m + 2) (now (exprs .entry)) + digitsBefore j m (now (exprs .entry))) ⌝ }
+{
+    let mut a = n;
+    let mut left = k;
+    let mut b = m;
+    let mut right = j;
+    while numbers::six(exprs, 8 * a as usize + 2) == numbers::six(exprs, 8 * b as usize + 2) {
+        if digits_zero(exprs, a, left) {
+            return digits_zero(exprs, b, right);
+        }
+        if digits_zero(exprs, b, right) {
+            return false;
+        }
+        a -= 1;
+        left -= 1;
+        b -= 1;
+        right -= 1;
     }
     false
 }

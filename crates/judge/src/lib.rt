@@ -3,3 +3,6 @@ pub mod bounds;
 pub mod facilities;
 pub mod memory;
 pub mod operations;
+pub mod states;
+pub mod values;
+pub mod wanted;
