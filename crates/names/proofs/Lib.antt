@@ -1,2 +1,3 @@
+pub mod DescribedLaws
 pub mod NumberLaws
 pub mod OrderLaws

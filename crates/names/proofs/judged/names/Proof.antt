@@ -9,7 +9,8 @@ use Rattle.language.specs.Rules.{nameFaults}
 use Rattle.language.specs.WordStage.{least}
 use Rattle.words.specs.Meaning.{judged, lesser}
 use Rattle.names.specs.Numbered.{lengthsOf, nameNo, offsetOf, placesOf}
-use Rattle.names.proofs.OrderLaws.{faults-whole, left, name-here, offset-next, offset-start, own-fault, start-name, step-name, stop-name}
+use Rattle.names.proofs.DescribedLaws.{faults-whole}
+use Rattle.names.proofs.OrderLaws.{left, name-here, offset-next, offset-start, own-fault, start-name, step-name, stop-name}
 use Rattle.names.proofs.judged.names.Statement.{statement}
 use Rattle.names.proofs.judged.names.Tie as tie
 
