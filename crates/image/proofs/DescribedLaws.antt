@@ -204,7 +204,7 @@ unfolding statesAt
 states-length zero at s names = refl
 states-length (suc k) at s names = ap suc (states-length k (at + 7) s (drop (getD s at 0) names))
 
-up-to-length : {A : Type 0} (f : ℕ → A) (i k : ℕ) → length (upTo f i k) ≡ k
+pub up-to-length : {A : Type 0} (f : ℕ → A) (i k : ℕ) → length (upTo f i k) ≡ k
 unfolding upTo
 up-to-length f i zero = refl
 up-to-length f i (suc k) = ap suc (up-to-length f (suc i) k)

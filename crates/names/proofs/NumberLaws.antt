@@ -6,6 +6,7 @@ use native.Mathlib.Omega.{arith}
 use Prim.Native.Nat.{ℕ, zero, suc, _+_, _-_, _*_, _/_, _<_, _≤_}
 use lib.ListN.{List·getD-append, List·getD-eq-default, drop, drop-of-length-le, getD, length, length-append}
 use lib.Seq.{getD-append-add}
+use Rattle.image.proofs.DescribedLaws.{up-to-length}
 use Rattle.language.specs.Decode.{upTo}
 use Rattle.language.specs.Description.{nowhere}
 use Rattle.language.specs.Words.{Position}
@@ -100,11 +101,6 @@ module _ (fs os ss : List ℕ) where
 
 -- ---- Places.
 
-up-to-count : {A : Type 0} (f : ℕ → A) (i k : ℕ) → length (upTo f i k) ≡ k
-unfolding upTo
-up-to-count f i zero = refl
-up-to-count f i (suc k) = ap suc (up-to-count f (suc i) k)
-
 module _ (fp op sp : List ℕ) where
   abbrev Fp : ℕ
   Fp = length fp / 12
@@ -130,19 +126,19 @@ module _ (fp op sp : List ℕ) where
     facility-place h =
         let z : 0 + k ≡ k = omega arith in
         let y : 6 * k + 0 ≡ 6 * k = omega arith in
-        sym (first-at first-places (second-places ++ third-places) Fp k nowhere (up-to-count _ 0 Fp) h
+        sym (first-at first-places (second-places ++ third-places) Fp k nowhere (up-to-length _ 0 Fp) h
         ∙ up-to-pick (λ n. placeNo fp (6 * n)) nowhere 0 Fp k ∙ rw (z, y))
 
     module _ (h : Fp ≤ k) where
       past-first : getD (placesOf fp op sp) k nowhere ≡ getD (second-places ++ third-places) (k - Fp) nowhere
       unfolding placesOf
-      past-first = later-at first-places (second-places ++ third-places) Fp k nowhere (up-to-count _ 0 Fp) h
+      past-first = later-at first-places (second-places ++ third-places) Fp k nowhere (up-to-length _ 0 Fp) h
 
       pub operation-place : k - Fp < Op → placeOf 1 op (k - Fp) 0 ≡ getD (placesOf fp op sp) k nowhere
       unfolding placeOf
       operation-place g =
           let z : 0 + (k - Fp) ≡ 1 * (k - Fp) + 0 = omega arith in
-          sym (past-first ∙ first-at second-places third-places Op (k - Fp) nowhere (up-to-count _ 0 Op) g
+          sym (past-first ∙ first-at second-places third-places Op (k - Fp) nowhere (up-to-length _ 0 Op) g
           ∙ up-to-pick (placeNo op) nowhere 0 Op (k - Fp) ∙ rw z)
 
       pub state-place : Op ≤ k - Fp → placeOf 2 sp (k - Fp - Op) 0 ≡ getD (placesOf fp op sp) k nowhere
@@ -150,7 +146,7 @@ module _ (fp op sp : List ℕ) where
       state-place g =
           let z : 0 + (k - Fp - Op) ≡ k - Fp - Op = omega arith in
           let y : 2 * (k - Fp - Op) + 0 ≡ 2 * (k - Fp - Op) = omega arith in
-          sym (past-first ∙ later-at second-places third-places Op (k - Fp) nowhere (up-to-count _ 0 Op) g
+          sym (past-first ∙ later-at second-places third-places Op (k - Fp) nowhere (up-to-length _ 0 Op) g
           ∙ up-to-pick (λ n. placeNo sp (2 * n)) nowhere 0 Sp (k - Fp - Op) ∙ rw (z, y))
 
 -- ---- Past the end of all names.
