@@ -10,12 +10,11 @@ use Rattle.language.specs.Description.{Facility, isComputed}
 use Rattle.language.specs.Layout.{facilityBytes}
 use Rattle.language.specs.Store.{isInput}
 use Rattle.language.specs.Tree.{Kind, computed, input, memory, plain, register, sequencing}
-use Rattle.records.proofs.ByteLaws.{placed-whole}
 use Rattle.records.specs.Placed.{placed}
 use Rattle.store.proofs.ByteLists.{bytes-take}
 use Rattle.store.proofs.Zeros.{Zeros}
 use Rattle.store.specs.Layout.{Bytes}
-use Rattle.begin.proofs.SizeLaws.{input-whole}
+use Rattle.begin.proofs.SizeLaws.{input-whole, put-there}
 use Rattle.begin.specs.InBytes.{beginBytes, begunAt, bytesBegun, changed, inputBytes}
 
 -- ---- The bytes of one facility.
@@ -57,18 +56,13 @@ module _ (n place : ℕ) (B S : List ℕ) (at : ℕ) (fits : place + n ≤ lengt
       sym (take-append-drop (place + n) B)
       ∙ (ap (λ (X : List ℕ). X ++ drop (place + n) B) (take-add place n B) ∙ append-assoc (take place B) (take n (drop place B)) (drop (place + n) B))
 
-  put-there : (X : List ℕ) → length X ≡ n → placed B place X ≡ take place B ++ (X ++ drop (place + n) B)
-  put-there X e =
-      placed-whole B X place (omega (arith, e, fits))
-      ∙ (ap (λ (m : ℕ). take place B ++ X ++ drop (place + m) B) e ∙ append-assoc (take place B) X (drop (place + n) B))
-
   changed-there : (k : Kind) (p : ℕ) → (isComputed k ≡ false → p ≡ place) → (isInput k ≡ true → n ≤ length (drop at S))
       → changed k n p B S at ≡ take place B ++ (bytesBegun k n (drop place B) (drop at S) ++ drop (place + n) B)
   changed-there register p e s = as-it-was
   changed-there sequencing p e s = as-it-was
   changed-there memory p e s = as-it-was
-  changed-there plain p e s = ap (λ (q : ℕ). placed B q (replicate n 0)) (e refl) ∙ put-there (replicate n 0) (length-replicate n 0)
-  changed-there input p e s = ap (λ (q : ℕ). placed B q (take n (drop at S))) (e refl) ∙ put-there (take n (drop at S)) (length-take-le n (drop at S) (s refl))
+  changed-there plain p e s = ap (λ (q : ℕ). placed B q (replicate n 0)) (e refl) ∙ put-there B place n (replicate n 0) fits (length-replicate n 0)
+  changed-there input p e s = ap (λ (q : ℕ). placed B q (take n (drop at S))) (e refl) ∙ put-there B place n (take n (drop at S)) fits (length-take-le n (drop at S) (s refl))
   changed-there computed p e s = as-it-was
 
 -- One facility of the loop: what is left to do gives the same.

@@ -54,15 +54,17 @@ pub fits-other : (S : List ℕ) (at : ℕ) (f : Facility) → isInput (f .kind) 
 unfolding fitsAt
 fits-other S at f e = rw e refl
 
--- ---- Cleared in the middle.
+-- ---- In the middle of a slice.
+
+pub put-there : (B : List ℕ) (at n : ℕ) (X : List ℕ) → at + n ≤ length B → length X ≡ n → placed B at X ≡ take at B ++ (X ++ drop (at + n) B)
+put-there B at n X h e =
+    placed-whole B X at (omega (arith, e, h))
+    ∙ (ap (λ (m : ℕ). take at B ++ X ++ drop (at + m) B) e ∙ append-assoc (take at B) X (drop (at + n) B))
 
 pub cleared : (B : List ℕ) (at n : ℕ) (X : List ℕ) → at + n ≤ length B → X ≡ replicate (length (take (at + n - at) (drop at B))) 0
     → take at B ++ (X ++ drop (at + n - at) (drop at B)) ≡ placed B at (replicate n 0)
 cleared B at n X h e =
     let s : at + n - at ≡ n = omega arith in
-    let Z : List ℕ = replicate n 0 in
-    let l : length Z ≡ n = length-replicate n 0 in
     let m : length (take n (drop at B)) ≡ n = length-take-le n (drop at B) (omega (arith, h, length-drop at B)) in
     let x : X ≡ replicate n 0 = e ∙ (ap (λ (k : ℕ). replicate (length (take k (drop at B))) 0) s ∙ ap (λ (k : ℕ). replicate k 0) m) in
-    rw (x, s, drop-drop n at B)
-    (sym (append-assoc (take at B) Z (drop (at + n) B)) ∙ sym (placed-whole B Z at (omega (arith, h, l)) ∙ ap (λ (k : ℕ). take at B ++ Z ++ drop (at + k) B) l))
+    rw (x, s, drop-drop n at B) (sym (put-there B at n (replicate n 0) h (length-replicate n 0)))

@@ -1,5 +1,5 @@
 use mathlib.Core.List.{List, []}
-use mathlib.Core.Path.{_≡_, refl, ap, _∙_}
+use mathlib.Core.Path.{_≡_, refl, _∙_}
 use Prim.Native.Nat.{ℕ, suc, _+_, _-_, _*_, _≤_, _<_}
 use native.Mathlib.Omega.{arith}
 use borrow.Author.Needs.{needs}
@@ -69,7 +69,7 @@ loop-again c =
     let p : l .n + 1 ≡ suc (l .n) = omega arith in (
       omega arith,
       omega (arith, l .inv .1, c .input-bytes .ensures .0),
-      ap length (one []) ∙ (begun-long (facilityMeant [] f) (f .place) (l .store) S (l .at) ∙ l .inv .2),
+      rw (one []) (begun-long (facilityMeant [] f) (f .place) (l .store) S (l .at) ∙ l .inv .2),
       λ d E h r s.
           let k = nameOf h (l .n) f g in
           let n : l .n < length (d .facilities) = rw (h .count) t in
