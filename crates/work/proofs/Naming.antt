@@ -20,11 +20,14 @@ use Rattle.work.specs.Names.{letters, nameNo, namesFrom, namesIn}
 abbrev pub namesAfter : List ℕ → List ℕ → ℕ → ℕ → List Name
 namesAfter text other n k = upTo (nameNo text other) k (min n 256 - k)
 
+number-behind : (n : ℕ) (w : List ℕ) (at : ℕ) → numberAt 2 at (drop n w) ≡ numberAt 2 (n + at) w
+number-behind n w at =
+    let e : n + at + 1 ≡ n + (at + 1) = omega arith in
+    number-two at (drop n w) ∙ rw (getD-drop n w at 0, getD-drop n w (at + 1) 0, number-two (n + at) w, e)
+
 in-other : (w : List ℕ) (at : ℕ) → numberAt 2 at (otherIn w) ≡ numberAt 2 (222432 + at) w
 unfolding otherIn otherFrom
-in-other w at =
-    let e : 222432 + at + 1 ≡ 222432 + (at + 1) = omega arith in
-    number-two at (drop 222432 w) ∙ rw (getD-drop 222432 w at 0, getD-drop 222432 w (at + 1) 0, number-two (222432 + at) w, e)
+in-other w at = number-behind 222432 w at
 
 -- The name that stands in the table.
 pub name-at : (text w : List ℕ) (k : ℕ) → nameNo text (otherIn w) k ≡ map folded (take (numberAt 2 (271712 + 4 * k + 2) w) (drop (numberAt 2 (271712 + 4 * k) w) text))
