@@ -1,4 +1,6 @@
 // The check of an image: its form, then the rules over what it describes.
+pub mod looked;
+
 use image::sections;
 use records::bytes;
 use words::Judged;
