@@ -1,0 +1,2 @@
+// The run record, read from its bytes and written to them.
+pub mod record;
