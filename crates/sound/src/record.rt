@@ -5,12 +5,20 @@ ghost use mathlib.Core.Path.{_≡_};
 ghost use Prim.Native.Nat.{_≤_};
 ghost use lib.ListN.{length};
 ghost use Rattle.language.specs.Calls.{over};
+ghost use Rattle.language.specs.RecordBytes as L;
 ghost use Rattle.language.specs.RecordBytes.{fours, recordBytes, recordFrom, returnsFrom};
 ghost use Rattle.next.specs.Seen.{recordMeant};
 ghost use Rattle.records.specs.Placed.{placed};
 
 // The letters DDLP.
-pub const OPEN_MARK: u32 = 0x504c4444;
+const OPEN_MARK: u32 = 0x504c4444;
+
+// Whether the bytes begin with them.
+pub fn marked(bytes: &[u8]) -> bool
+    ensures { λ r. ⌜ r ≡ L.marked (now (bytes .entry)) ⌝ }
+{
+    numbers::four(bytes, 0) == OPEN_MARK
+}
 
 // The sixteen return states.
 fn returns_at(bytes: &[u8]) -> [u32; 16]
