@@ -1,0 +1,5 @@
+pub mod RecordLaws
+pub mod RegisterLaws
+pub mod ReturnLaws
+pub mod SoundLaws
+pub mod WordLaws

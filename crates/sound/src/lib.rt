@@ -1,0 +1,6 @@
+// Whether store and record are sound, by their bytes; and the record read from its bytes and written to them.
+mod numbers;
+pub mod record;
+mod register;
+pub mod soundness;
+mod words;
