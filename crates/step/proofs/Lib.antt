@@ -1,0 +1,2 @@
+pub mod WordPut
+pub mod RegisterLaws
