@@ -1,3 +1,4 @@
+pub mod PassedLaws
 pub mod RecordLaws
 pub mod RegisterLaws
 pub mod ReturnLaws
