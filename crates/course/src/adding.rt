@@ -41,7 +41,7 @@ pub fn with_nodes(s: State, nodes: u16) -> State
 
 // Adds an expression's record; the word after it has been seen.
 pub fn add(
-    work: &mut [u8; 171136],
+    work: &mut [u8; 275296],
     next: Word,
     s: State,
     node: Node,
@@ -66,7 +66,7 @@ pub fn add(
 }
 
 // Adds the records of a constant; the word after it has been seen.
-pub fn add_constant(work: &mut [u8; 171136], w: Word, next: Word, s: State) -> Answer
+pub fn add_constant(work: &mut [u8; 275296], w: Word, next: Word, s: State) -> Answer
     ensures { λ r. ⌜ Written (constantNodes (valued (w .value)) (positioned (w .at))) (constantSize (valued (w .value))) next s (now (work .entry)) (now (work .exit)) r ⌝ }
 {
     let v = w.value;

@@ -34,19 +34,19 @@ same-held : {x x′ y y′ : List ℕ} {z : List ℕ} → x ≡ x′ → y ≡ y
 same-held p q = rw (p, q)
 
 -- What the array holds of n expressions lies before the tables.
-front-held : (n : ℕ) (w w′ : List ℕ) → length w ≡ 171136 → n ≤ mostNodes → expressions w′ ≡ expressions w
+front-held : (n : ℕ) (w w′ : List ℕ) → length w ≡ 275296 → n ≤ mostNodes → expressions w′ ≡ expressions w
     → (ns : List Noted) → held n w ≡ withNodes (noneHeld (otherIn w)) ns → held n w′ ≡ withNodes (noneHeld (otherIn w′)) ns
 unfolding held withNodes expressions mostNodes placesFrom otherFrom
 front-held n w w′ l h e ns g = same-held (first ∙ ap (λ (x : Held). x .nodes) g) (second ∙ ap (λ (x : Held). x .places) g)
   where
     first : take (8 * n) w′ ≡ take (8 * n) w
-    first = sym (take-take (8 * n) 118272 w′ (omega arith)) ∙ ap (take (8 * n)) e ∙ take-take (8 * n) 118272 w (omega arith)
+    first = sym (take-take (8 * n) 222432 w′ (omega arith)) ∙ ap (take (8 * n)) e ∙ take-take (8 * n) 222432 w (omega arith)
 
-    front : (v : List ℕ) → 118272 ≤ length v → take (6 * n) (drop 67584 v) ≡ drop 67584 (take (67584 + 6 * n) (take 118272 v))
-    front v m = part-of 67584 (6 * n) v (omega arith) ∙ ap (drop 67584) (sym (take-take (67584 + 6 * n) 118272 v (omega arith)))
+    front : (v : List ℕ) → 222432 ≤ length v → take (6 * n) (drop 127104 v) ≡ drop 127104 (take (127104 + 6 * n) (take 222432 v))
+    front v m = part-of 127104 (6 * n) v (omega arith) ∙ ap (drop 127104) (sym (take-take (127104 + 6 * n) 222432 v (omega arith)))
 
-    second : take (6 * n) (drop 67584 w′) ≡ take (6 * n) (drop 67584 w)
-    second = front w′ (omega (arith, length-take 118272 w, length-take 118272 w′, ap length e)) ∙ ap (λ (v : List ℕ). drop 67584 (take (67584 + 6 * n) v)) e ∙ sym (front w (omega arith))
+    second : take (6 * n) (drop 127104 w′) ≡ take (6 * n) (drop 127104 w)
+    second = front w′ (omega (arith, length-take 222432 w, length-take 222432 w′, ap length e)) ∙ ap (λ (v : List ℕ). drop 127104 (take (127104 + 6 * n) v)) e ∙ sym (front w (omega arith))
 
 -- ---- The tables.
 
@@ -71,7 +71,7 @@ module _ (text : List ℕ) (ds : List Declaration) (d : Declaration) (place : �
 
   row-length : length (rows T.FacilityNames (s .known) w) ≡ 4 * s .known
   unfolding rows
-  row-length = length-take-le (4 * s .known) (drop 167552 w) (omega (arith, length-drop 167552 w, f .whole, a .room))
+  row-length = length-take-le (4 * s .known) (drop 271712 w) (omega (arith, length-drop 271712 w, f .whole, a .room))
 
   names : namesIn text (otherIn w′) (suc (s .known)) ≡ map (λ (v : Declaration). v .name) (ds ++ d ∷ [])
   names =

@@ -28,7 +28,7 @@ fn one_known(s: State) -> State
 }
 
 // Adds a facility; the word after its declaration has been seen.
-pub fn declare(work: &mut [u8; 171136], next: Word, s: State, place: u16, x: Declared) -> Progress
+pub fn declare(work: &mut [u8; 275296], next: Word, s: State, place: u16, x: Declared) -> Progress
     ensures { λ r. ⌜ Adds next s place x (now (work .entry)) (now (work .exit)) r ⌝ }
 {
     let n = s.known;

@@ -12,7 +12,7 @@ use words::Word;
 ghost use Rattle.declarations.specs.Lists.{Ends, Lists, Mores, Ones, Stands};
 
 // One declaration of a list.
-fn one(text: &[u8], w: Word, work: &mut [u8; 171136], s: State, place: u16, list: List) -> Progress
+fn one(text: &[u8], w: Word, work: &mut [u8; 275296], s: State, place: u16, list: List) -> Progress
     ensures { λ r. ⌜ Ones list (now (text .entry)) w s place (now (work .entry)) (now (work .exit)) r ⌝ }
 {
     match list {
@@ -43,7 +43,7 @@ fn ended(text: &[u8], w: Word, s: State, place: u16) -> Progress
 pub fn declarations(
     text: &[u8],
     w: Word,
-    work: &mut [u8; 171136],
+    work: &mut [u8; 275296],
     s: State,
     place: u16,
     list: List,
@@ -63,7 +63,7 @@ pub fn declarations(
 }
 
 // Behind a declaration: others, and the end. Each counts a facility, so that there are not too many.
-fn more(text: &[u8], w: Word, work: &mut [u8; 171136], s: State, place: u16, list: List) -> Progress
+fn more(text: &[u8], w: Word, work: &mut [u8; 275296], s: State, place: u16, list: List) -> Progress
     requires { ⌜ Stands (now text) place w s (now work) ⌝ }
     ensures { λ r. ⌜ Mores list (now (text .entry)) w s place (now (work .entry)) (now (work .exit)) r ⌝ }
 {

@@ -18,7 +18,7 @@ ghost use Rattle.declarations.specs.Declares.{Registers, Stores};
 pub fn stored(
     text: &[u8],
     w: Word,
-    work: &mut [u8; 171136],
+    work: &mut [u8; 275296],
     s: State,
     place: u16,
     kind: Kind,
@@ -58,7 +58,7 @@ pub fn stored(
 }
 
 // A register, or behind a `#` the sequencing register.
-pub fn register(text: &[u8], w: Word, work: &mut [u8; 171136], s: State, place: u16) -> Progress
+pub fn register(text: &[u8], w: Word, work: &mut [u8; 275296], s: State, place: u16) -> Progress
     ensures { λ r. ⌜ Registers (now (text .entry)) w s place (now (work .entry)) (now (work .exit)) r ⌝ }
 {
     let kind = w.kind;

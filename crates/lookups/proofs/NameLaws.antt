@@ -1,44 +1,29 @@
--- Names as parts of an image that passes.
+-- Where names stand in an image that passes.
 use mathlib.Core.Bool.{true, false}
 use mathlib.Core.List.{List, [], _∷_}
 use mathlib.Core.Option.{none}
 use mathlib.Core.Path.{_≡_, ap, _∙_}
-use Prim.Native.Nat.{ℕ, zero, suc, _+_, _-_, _*_, _/_, _<_, _≤_}
+use Prim.Native.Nat.{ℕ, zero, suc, _+_, _*_, _/_, _^_, _<_, _≤_}
 use native.Mathlib.Omega.{arith}
 use borrow.Author.Tests.{le-ltb, lt-ltb}
-use lib.ListN.{drop, getD, length, take, length-append, length-take}
-use lib.Seq.{drop-at, drop-drop, length-take-le, take-add, take-take}
+use lib.ListN.{getD, length, take, length-append}
 use Rattle.language.specs.Canonical.{total}
-use Rattle.language.specs.Decode.{decode, namesLength, numberAt, offsetOf, sectionAt}
+use Rattle.language.specs.Decode.{decode, namesLength, offsetOf, sectionAt}
 use Rattle.language.specs.Description.{Facility, Operation, State, facilityAt, noFacility, noRun, stateAt}
 use Rattle.language.specs.Encode.{concat, nameBytes}
 use Rattle.language.specs.Image.{passes}
 use Rattle.language.specs.Lookups as L
-use Rattle.language.specs.Lookups.{facilityName, partOf, stateName}
+use Rattle.language.specs.Lookups.{facilityName, stateName}
 use Rattle.image.proofs.DeclarationLaws.{name-first, name-whole}
 use Rattle.image.specs.Declarations.{nameLengthIn}
 use Rattle.image.specs.Header.{countsIn}
 use Rattle.image.specs.Names as I
-use Rattle.image.specs.Names.{named}
+use Rattle.image.specs.Names.{partMeant}
+use Rattle.image.specs.declared.names.Part.{Part}
 use Rattle.image.specs.declared.header.Counts.{Counts}
 use Rattle.written.specs.Back.{all-facilities, all-operations, facility-byte, facility-names, state-byte, state-names}
 use Rattle.written.specs.Names.{names-length, namesOf}
-use Rattle.lookups.proofs.PassLaws.{facilities-are, facilities-counted, facilities-many, names-are, operations-are, operations-counted, range-so, states-are, states-many}
-
--- ---- A part of a part.
-
-cut-in : (x : List ℕ) (c off l : ℕ) → off + l ≤ length (take c x) → take l (drop off (take c x)) ≡ take l (drop off x)
-cut-in x c off l h =
-    let m = length-take c x in
-    let e : c ≡ off + (c - off) = omega arith in
-    let k : length (take off x) ≡ off = length-take-le off x (omega arith) in
-    ap (λ (n : ℕ). take l (drop off (take n x))) e
-    ∙ rw (take-add off (c - off) x, drop-at (take off x) (take (c - off) (drop off x)) off k)
-    (take-take l (c - off) (drop off x) (omega arith))
-
-part-in : (image : List ℕ) (off l : ℕ) → off + l ≤ length (sectionAt 5 1 image) → take l (drop off (sectionAt 5 1 image)) ≡ take l (drop (offsetOf 5 image + off) image)
-part-in image off l h =
-    cut-in (drop (offsetOf 5 image) image) (1 * numberAt 4 44 image) off l h ∙ rw (drop-drop off (offsetOf 5 image) image)
+use Rattle.lookups.proofs.PassLaws.{facilities-are, facilities-counted, facilities-many, names-are, names-short, operations-are, operations-counted, range-so, states-are, states-many}
 
 names-upto : {A : Type 0} (name : A → List ℕ) (z : A) (xs : List A) (n : ℕ) → n < length xs → namesOf name (take n xs) + length (name (getD xs n z)) ≤ length (concat name xs)
 unfolding total concat
@@ -46,23 +31,28 @@ names-upto name z [] n h = absurd (omega arith)
 names-upto name z (x ∷ xs) zero h = omega (arith, length-append (name x) (concat name xs))
 names-upto name z (x ∷ xs) (suc n) h = omega (arith, names-upto name z xs n (omega arith), length-append (name x) (concat name xs))
 
+-- A part of the names as a part of the image.
+abbrev pub inImage : List ℕ → L.Part → L.NameAnswer
+inImage image p = L.named (record { offset = offsetOf 5 image + p .offset; length = p .length })
+
 -- ---- Refusals.
 
-pub facility-refused : (image : List ℕ) (n : ℕ) → passes image ≡ false → [] ≡ partOf image (facilityName image n)
-unfolding facilityName
-facility-refused image n e = rw e
+module _ (image : List ℕ) (n : ℕ) where
+  pub facility-refused : passes image ≡ false → L.refused 13 ≡ facilityName image n
+  unfolding facilityName
+  facility-refused e = rw e
 
-pub facility-none : (image : List ℕ) (n : ℕ) → passes image ≡ true → length (sectionAt 0 13 image) / 13 ≤ n → [] ≡ partOf image (facilityName image n)
-unfolding facilityName
-facility-none image n e h = rw (e, le-ltb n (length (decode image .facilities)) (omega (arith, facilities-many image)))
+  pub facility-none : passes image ≡ true → length (sectionAt 0 13 image) / 13 ≤ n → L.refused 6 ≡ facilityName image n
+  unfolding facilityName
+  facility-none e h = rw (e, le-ltb n (length (decode image .facilities)) (omega (arith, facilities-many image)))
 
-pub state-refused : (image : List ℕ) (n : ℕ) → passes image ≡ false → [] ≡ partOf image (stateName image n)
-unfolding stateName
-state-refused image n e = rw e
+  pub state-refused : passes image ≡ false → L.refused 13 ≡ stateName image n
+  unfolding stateName
+  state-refused e = rw e
 
-pub state-none : (image : List ℕ) (n : ℕ) → passes image ≡ true → length (sectionAt 4 7 image) / 7 ≤ n → [] ≡ partOf image (stateName image n)
-unfolding stateName
-state-none image n e h = rw (e, le-ltb n (length (decode image .states)) (omega (arith, states-many image)))
+  pub state-none : passes image ≡ true → length (sectionAt 4 7 image) / 7 ≤ n → L.refused 6 ≡ stateName image n
+  unfolding stateName
+  state-none e h = rw (e, le-ltb n (length (decode image .states)) (omega (arith, states-many image)))
 
 module _ (image : List ℕ) (h : passes image ≡ true) (n : ℕ) where
   abbrev names : List ℕ
@@ -90,11 +80,13 @@ module _ (image : List ℕ) (h : passes image ≡ true) (n : ℕ) where
     unfolding facilityAt
     facility-fits = omega (arith, long, names-upto (λ (f : Facility). f .name) noFacility (decode image .facilities) n inside)
 
-    pub facility-named : named (I.facilityPart (sectionAt 0 13 image) n) names ≡ partOf image (facilityName image n)
+    pub facility-short : I.facilityPart (sectionAt 0 13 image) n .offset < 2 ^ 32
+    unfolding I.facilityPart
+    facility-short = omega (arith, offset-is, facility-fits, names-short image h)
+
+    pub facility-named : inImage image (I.facilityPart (sectionAt 0 13 image) n) ≡ facilityName image n
     unfolding facilityName L.facilityPart I.facilityPart
-    facility-named =
-        rw (h, lt-ltb n (length (decode image .facilities)) inside, offset-is, length-is)
-        (part-in image (L.nameLengths (take n (decode image .facilities))) (length (facilityAt (decode image) n .name)) facility-fits)
+    facility-named = rw (h, lt-ltb n (length (decode image .facilities)) inside, offset-is, length-is)
 
   -- ---- States.
 
@@ -138,21 +130,34 @@ module _ (image : List ℕ) (h : passes image ≡ true) (n : ℕ) where
           names-upto (λ (s : State). s .name) (record { name = []; value = none; actions = noRun }) (decode image .states) n state-inside,
         )
 
-    pub state-named : named (I.statePart (sectionAt 0 13 image) (countsIn image .facilities) (sectionAt 1 5 image) (countsIn image .operations) (sectionAt 4 7 image) n) names ≡ partOf image (stateName image n)
+    abbrev part : L.Part
+    part = I.statePart (sectionAt 0 13 image) (countsIn image .facilities) (sectionAt 1 5 image) (countsIn image .operations) (sectionAt 4 7 image) n
+
+    pub state-short : part .offset < 2 ^ 32
+    unfolding I.statePart
+    state-short = omega (arith, first-is, second-is, third-is, state-fits, names-short image h)
+
+    pub state-named : inImage image part ≡ stateName image n
     unfolding stateName L.statePart I.statePart
     state-named =
         let e : offsetOf 5 image + from
         ≡ offsetOf 5 image + L.nameLengths (decode image .facilities) + total (λ (o : Operation). length (o .name)) (decode image .operations)
         + total (λ (s : State). length (s .name)) (take n (decode image .states)) = omega arith in
         rw (h, lt-ltb n (length (decode image .states)) state-inside, first-is, second-is, third-is, label-is, ← e)
-        (part-in image from (length (stateAt (decode image) n .name)) state-fits)
 
 -- ---- The same of sections in hand.
 
-pub facility-found : (image : List ℕ) → passes image ≡ true → (n : ℕ) {f names : List ℕ} {p : L.Part} → f ≡ sectionAt 0 13 image → names ≡ sectionAt 5 1 image → n < length f / 13
-    → p ≡ I.facilityPart f n → named p names ≡ partOf image (facilityName image n)
-facility-found image h n e g l q = rw (q, g, e) (facility-named image h n (rw e at l))
+module _ (image : List ℕ) (h : passes image ≡ true) (n : ℕ) {f : List ℕ} {p : Part} (e : f ≡ sectionAt 0 13 image) (l : n < length f / 13) (q : partMeant p ≡ I.facilityPart f n) where
+  pub facility-below : p .offset < 2 ^ 32
+  facility-below = rw (ap (λ (x : L.Part). x .offset) q, e) (facility-short image h n (rw e at l))
 
-pub state-found : (image : List ℕ) → passes image ≡ true → (n : ℕ) {f o s names : List ℕ} {c : Counts} {p : L.Part} → f ≡ sectionAt 0 13 image → o ≡ sectionAt 1 5 image → s ≡ sectionAt 4 7 image
-    → names ≡ sectionAt 5 1 image → c ≡ countsIn image → n < length s / 7 → p ≡ I.statePart f (c .facilities) o (c .operations) s n → named p names ≡ partOf image (stateName image n)
-state-found image h n e g k m c l q = rw (q, m, c, e, g, k) (state-named image h n (rw k at l))
+  pub facility-found : inImage image (partMeant p) ≡ facilityName image n
+  facility-found = rw (q, e) (facility-named image h n (rw e at l))
+
+module _ (image : List ℕ) (h : passes image ≡ true) (n : ℕ) {f o s : List ℕ} {c : Counts} {p : Part} (e : f ≡ sectionAt 0 13 image) (g : o ≡ sectionAt 1 5 image) (k : s ≡ sectionAt 4 7 image) (m : c ≡ countsIn image) (l : n < length s / 7)
+    (q : partMeant p ≡ I.statePart f (c .facilities) o (c .operations) s n) where
+  pub state-below : p .offset < 2 ^ 32
+  state-below = rw (ap (λ (x : L.Part). x .offset) q, m, e, g, k) (state-short image h n (rw k at l))
+
+  pub state-found : inImage image (partMeant p) ≡ stateName image n
+  state-found = rw (q, m, e, g, k) (state-named image h n (rw k at l))

@@ -2,14 +2,14 @@
 use mathlib.Core.Bool.{true}
 use mathlib.Core.List.{List}
 use mathlib.Core.Path.{_≡_, ap}
-use Prim.Native.Nat.{ℕ, _/_}
+use Prim.Native.Nat.{ℕ, _/_, _^_, _<_}
 use native.Mathlib.Omega.{arith}
-use lib.ListN.{length}
+use lib.ListN.{length, length-append}
 use Rattle.language.specs.Decode.{decode, sectionAt, sectionsIn}
-use Rattle.language.specs.Encode.{Sections, concat, facilityRecords, nameBytes, operationRecord, sectionsOf, stateRecord}
+use Rattle.language.specs.Encode.{Sections, concat, encode, facilityRecords, nameBytes, operationRecord, sectionsOf, stateRecord}
 use Rattle.language.specs.Image.{legalForm, passes}
 use Rattle.image.proofs.DescribedLaws.{facilities-count, states-count}
-use Rattle.image.proofs.ImageLaws.{Sized, header-sized}
+use Rattle.image.proofs.ImageLaws.{Sized, header-sized, image-header}
 use Rattle.image.specs.Header.{countsIn}
 use Rattle.written.specs.Back.{InRange}
 use Rattle.written.specs.Begins.{passes-begins}
@@ -60,6 +60,13 @@ module _ (image : List ℕ) where
 
     sized-so : Sized (sectionsIn image) (countsIn image)
     sized-so = header-sized image (right-header (decode image) image (range-so .whole) (passes-begins image h .same))
+
+    -- The names are a part of the image.
+    pub names-short : length (sectionAt 5 1 image) < 2 ^ 32
+    unfolding encode sectionsIn
+    names-short =
+        let w = rw (← sections-so) at (range-so .whole) in
+        omega (arith, w, simp length-append at (ap length (image-header (sectionsIn image) (countsIn image) sized-so)))
 
     pub facilities-counted : countsIn image .facilities ≡ length (sectionAt 0 13 image) / 13
     unfolding sectionsIn

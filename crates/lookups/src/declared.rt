@@ -1,4 +1,6 @@
 // A facility's declaration, and its place in the store.
+use crate::NO_IMAGE;
+use crate::NO_SUCH;
 use image::facilities;
 use image::facilities::Facility;
 use image::sections;
@@ -8,11 +10,6 @@ ghost use Rattle.language.specs.Description.{facilityAt};
 ghost use Rattle.language.specs.Image.{passes};
 ghost use Rattle.language.specs.Lookups as L;
 ghost use Rattle.lookups.specs.Answers.{answered};
-
-// The refusal numbers: of an image that does not pass, and of a number that names nothing.
-const NO_IMAGE: u8 = 13;
-
-const NO_SUCH: u8 = 6;
 
 pub enum Looked {
     // its `place` is the first byte in the store; of a computed terminal, the number of its expression

@@ -20,7 +20,7 @@ pub struct Counts {
 }
 
 // What the word of this place and length means.
-pub fn what(text: &[u8], work: &[u8; 171136], n: Counts, place: usize, length: usize) -> Meaning
+pub fn what(text: &[u8], work: &[u8; 275296], n: Counts, place: usize, length: usize) -> Meaning
     ensures { λ r. ⌜ Means (now (text .entry)) (now (work .entry)) n place length r ⌝ }
 {
     let f = names::facility(text, work, n.facilities, place, length);

@@ -15,7 +15,7 @@ ghost use Rattle.course.specs.Says.{Parses};
 ghost use Rattle.operands.specs.Ended.{Closed, Counting, Ended};
 
 // A term that is a constant.
-pub fn constant(s: State, text: &[u8], w: Word, work: &mut [u8; 171136]) -> Answer
+pub fn constant(s: State, text: &[u8], w: Word, work: &mut [u8; 275296]) -> Answer
     ensures { λ r. ⌜ (kindNo (w .kind) ≡ 2 → Parses (ask term ∷ []) (λ t b. b) (s .nesting) (now (text .entry)) w s (now (work .entry)) (now (work .exit)) r) ⌝ }
 {
     let taken = taking::take(text, w, s, true, Bearing::Level);
@@ -29,7 +29,7 @@ pub fn constant(s: State, text: &[u8], w: Word, work: &mut [u8; 171136]) -> Answ
 }
 
 // A constant in brackets that begins an expression: it was kept, and counts.
-pub fn counted(s: State, w: Word, next: Word, work: &mut [u8; 171136]) -> Answer
+pub fn counted(s: State, w: Word, next: Word, work: &mut [u8; 275296]) -> Answer
     ensures { λ r. ⌜ Counting w next s (now (work .entry)) (now (work .exit)) r ⌝ }
 {
     let passed = taking::pass(w, next, s, true, Bearing::Level);

@@ -19,7 +19,7 @@ pub fn cut(
     operator: Word,
     text: &[u8],
     w: Word,
-    work: &mut [u8; 171136],
+    work: &mut [u8; 275296],
 ) -> Answer
     ensures { λ r. ⌜ Cuts kind operator (now (text .entry)) w s (now (work .entry)) (now (work .exit)) r × (Seen (now (text .entry)) w → Grows s r) ⌝ }
 {

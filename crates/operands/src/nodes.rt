@@ -21,7 +21,7 @@ ghost use Rattle.work.specs.Names.{found, namesIn};
 ghost use Rattle.operands.specs.References.{Adds, lettersOf, ofFound, ofKnown, partOf, wordPartOf};
 
 // Which facility a name means, of those known.
-fn facility(text: &[u8], work: &[u8; 171136], known: u16, name: Word) -> Found
+fn facility(text: &[u8], work: &[u8; 275296], known: u16, name: Word) -> Found
     ensures { λ r. ⌜ found r ≡ numberOf (lettersOf (now (text .entry)) name) 0 (namesIn (now (text .entry)) (otherIn (now (work .entry))) known) ⌝ }
 {
     let at = name.at;
@@ -91,7 +91,7 @@ fn word_part(f: Found, e: u16, a: u32, b: u32) -> Node
 }
 
 // A whole facility.
-pub fn add_whole(s: State, name: Word, text: &[u8], next: Word, work: &mut [u8; 171136]) -> Answer
+pub fn add_whole(s: State, name: Word, text: &[u8], next: Word, work: &mut [u8; 275296]) -> Answer
     ensures { λ r. ⌜ Adds (λ sc. noted (ofFacility (meaning sc (lettersOf (now (text .entry)) name)) D.whole) (positioned (name .at))) (now (text .entry)) next s (now (work .entry)) (now (work .exit)) r ⌝ }
 {
     let node = whole(facility(text, work, s.known, name));
@@ -107,7 +107,7 @@ pub fn add_one(
     e: u16,
     text: &[u8],
     next: Word,
-    work: &mut [u8; 171136],
+    work: &mut [u8; 275296],
 ) -> Answer
     ensures { λ r. ⌜ Adds (λ sc. noted (ofFacility (meaning sc (lettersOf (now (text .entry)) name)) (λ k. D.one k e)) (positioned (name .at))) (now (text .entry)) next s (now (work .entry)) (now (work .exit)) r ⌝ }
 {
@@ -125,7 +125,7 @@ pub fn add_two(
     g: u16,
     text: &[u8],
     next: Word,
-    work: &mut [u8; 171136],
+    work: &mut [u8; 275296],
 ) -> Answer
     ensures { λ r. ⌜ Adds (λ sc. noted (ofFacility (meaning sc (lettersOf (now (text .entry)) name)) (λ k. D.two k e g)) (positioned (name .at))) (now (text .entry)) next s (now (work .entry)) (now (work .exit)) r ⌝ }
 {
@@ -143,7 +143,7 @@ pub fn add_part(
     last: Word,
     text: &[u8],
     next: Word,
-    work: &mut [u8; 171136],
+    work: &mut [u8; 275296],
 ) -> Answer
     ensures { λ r. ⌜ Adds (partOf (now (text .entry)) name first last) (now (text .entry)) next s (now (work .entry)) (now (work .exit)) r ⌝ }
 {
@@ -169,7 +169,7 @@ pub fn add_word_part(
     last: Word,
     text: &[u8],
     next: Word,
-    work: &mut [u8; 171136],
+    work: &mut [u8; 275296],
 ) -> Answer
     ensures { λ r. ⌜ Adds (wordPartOf (now (text .entry)) name e first last) (now (text .entry)) next s (now (work .entry)) (now (work .exit)) r ⌝ }
 {

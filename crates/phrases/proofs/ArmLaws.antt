@@ -116,9 +116,9 @@ pub record Armings (case : Bool) (text : List ℕ) (w : Word) (s : State) (work 
   pub reads : (sc : Scope) → Here text sc w s work → (h : Held) (base : ℕ) (t : Expression) → Pending sc h base t s work
       → Read text sc (moreStack case) (moreStack case) (pushed t) h base (s .nesting) w s (stayed state next) work′
   pub counts : (sc : Scope) (i : Here text sc w s work) (h : Held) (base : ℕ) (t : Expression) (p : Pending sc h base t s work) → n ≡ armsOf t % 65536 → count ≡ armsOf (reads sc i h base t p .tree) % 65536
-  pub room : (sc : Scope) → Here text sc w s work → (h : Held) (base : ℕ) (t : Expression) → Pending sc h base t s work → s .nodes + 8448 ≤ state .nodes + left
+  pub room : (sc : Scope) → Here text sc w s work → (h : Held) (base : ℕ) (t : Expression) → Pending sc h base t s work → s .nodes + 15888 ≤ state .nodes + left
 
-pub armings-begin : (case : Bool) {text : List ℕ} {w : Word} {s : State} {work : List ℕ} {n : ℕ} → Armings case text w s work n w s work n 8448
+pub armings-begin : (case : Bool) {text : List ℕ} {w : Word} {s : State} {work : List ℕ} {n : ℕ} → Armings case text w s work n w s work n 15888
 armings-begin case = record {
   reads = λ sc h q base t p. record { tree = t; course = λ K b. refl; pending = p; nesting = refl; here = h };
   counts = λ sc i q base t p e. e;

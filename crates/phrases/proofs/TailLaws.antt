@@ -47,9 +47,9 @@ use Rattle.phrases.proofs.StartLaws.{at-same}
 pub record Tails (rank : Rank) (text : List ℕ) (w : Word) (s : State) (work : List ℕ) (next : Word) (state : State) (work′ : List ℕ) (left : ℕ) : Type 0 where
   pub reads : (sc : Scope) → Here text sc w s work → (h : Held) (base : ℕ) (t : Expression) → Pending sc h base t s work
       → Read text sc (tailStack rank) (tailStack rank) (pushed t) h base (s .nesting) w s (stayed state next) work′
-  pub room : (sc : Scope) → Here text sc w s work → (h : Held) (base : ℕ) (t : Expression) → Pending sc h base t s work → s .nodes + 8448 ≤ state .nodes + left
+  pub room : (sc : Scope) → Here text sc w s work → (h : Held) (base : ℕ) (t : Expression) → Pending sc h base t s work → s .nodes + 15888 ≤ state .nodes + left
 
-pub tails-begin : (rank : Rank) {text : List ℕ} {w : Word} {s : State} {work : List ℕ} → Tails rank text w s work w s work 8448
+pub tails-begin : (rank : Rank) {text : List ℕ} {w : Word} {s : State} {work : List ℕ} → Tails rank text w s work w s work 15888
 tails-begin rank = record {
   reads = λ sc h q base t p. record { tree = t; course = λ K b. refl; pending = p; nesting = refl; here = h };
   room = λ sc h q base t p. omega arith;

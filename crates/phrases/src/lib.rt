@@ -34,7 +34,7 @@ pub struct Armed {
 }
 
 // An expression of a level.
-pub fn start(s: State, level: Level, text: &[u8], w: Word, work: &mut [u8; 171136]) -> Answer
+pub fn start(s: State, level: Level, text: &[u8], w: Word, work: &mut [u8; 275296]) -> Answer
     ensures { λ r. ⌜ Parses (stackOf level) same (s .nesting) (now (text .entry)) w s (now (work .entry)) (now (work .exit)) r ⌝ }
 {
     let kind = w.kind;
@@ -49,7 +49,7 @@ pub fn start(s: State, level: Level, text: &[u8], w: Word, work: &mut [u8; 17113
 }
 
 // Its first operand, with what stands before it.
-fn opening(s: State, head: Head, text: &[u8], w: Word, work: &mut [u8; 171136]) -> Answer
+fn opening(s: State, head: Head, text: &[u8], w: Word, work: &mut [u8; 275296]) -> Answer
     ensures { λ r. ⌜ Begins head (now (text .entry)) w s (now (work .entry)) (now (work .exit)) r ⌝ }
 {
     if let Head::Plain = head {
@@ -79,7 +79,7 @@ fn opening(s: State, head: Head, text: &[u8], w: Word, work: &mut [u8; 171136]) 
 }
 
 // The operators of a level from a rank on, behind an operand.
-fn rest(s: State, rank: Rank, level: Level, text: &[u8], w: Word, work: &mut [u8; 171136]) -> Answer
+fn rest(s: State, rank: Rank, level: Level, text: &[u8], w: Word, work: &mut [u8; 275296]) -> Answer
     ensures { λ r. ⌜ Extends (tailsFrom rank level) [] (s .nesting) (now (text .entry)) w s (now (work .entry)) (now (work .exit)) r ⌝ }
 {
     if ranks::within(rank, level) {
@@ -95,12 +95,12 @@ fn rest(s: State, rank: Rank, level: Level, text: &[u8], w: Word, work: &mut [u8
 }
 
 // The operators of a rank; a relation comes at most once. Each writes a record, so that they end before the array is full.
-fn tail(s: State, rank: Rank, text: &[u8], w: Word, work: &mut [u8; 171136]) -> Answer
+fn tail(s: State, rank: Rank, text: &[u8], w: Word, work: &mut [u8; 275296]) -> Answer
     ensures { λ r. ⌜ Extends (tailStack rank) [] (s .nesting) (now (text .entry)) w s (now (work .entry)) (now (work .exit)) r ⌝ }
 {
     let mut state = s;
     let mut next = w;
-    let mut left: u16 = 8448;
+    let mut left: u16 = 15888;
     while left > 0 {
         if leaves::operates(rank, next) {
             let one = operation(leaves::at(state, s.nesting), rank, text, next, work);
@@ -122,7 +122,7 @@ fn tail(s: State, rank: Rank, text: &[u8], w: Word, work: &mut [u8; 171136]) -> 
 }
 
 // An operator of a rank and what is on its right.
-fn operation(s: State, rank: Rank, text: &[u8], w: Word, work: &mut [u8; 171136]) -> Answer
+fn operation(s: State, rank: Rank, text: &[u8], w: Word, work: &mut [u8; 275296]) -> Answer
     ensures { λ r. ⌜ Operates rank (now (text .entry)) w s (now (work .entry)) (now (work .exit)) r ⌝ }
 {
     let taken = taking::take(text, w, s, true, Bearing::Level);
@@ -147,7 +147,7 @@ fn operation(s: State, rank: Rank, text: &[u8], w: Word, work: &mut [u8; 171136]
 }
 
 // A term.
-fn term(s: State, text: &[u8], w: Word, work: &mut [u8; 171136]) -> Answer
+fn term(s: State, text: &[u8], w: Word, work: &mut [u8; 275296]) -> Answer
     ensures { λ r. ⌜ Parses (ask L.term ∷ []) same (s .nesting) (now (text .entry)) w s (now (work .entry)) (now (work .exit)) r ⌝ }
 {
     let found = w.kind;
@@ -171,7 +171,7 @@ fn term(s: State, text: &[u8], w: Word, work: &mut [u8; 171136]) -> Answer
 }
 
 // An expression in parentheses.
-fn group(s: State, text: &[u8], w: Word, work: &mut [u8; 171136]) -> Answer
+fn group(s: State, text: &[u8], w: Word, work: &mut [u8; 275296]) -> Answer
     ensures { λ r. ⌜ (kindNo (w .kind) ≡ 5 → Parses (ask L.term ∷ []) same (s .nesting) (now (text .entry)) w s (now (work .entry)) (now (work .exit)) r) ⌝ }
 {
     let opened = taking::take(text, w, s, false, Bearing::Opens);
@@ -192,7 +192,7 @@ fn group(s: State, text: &[u8], w: Word, work: &mut [u8; 171136]) -> Answer
 }
 
 // A reference, from its name on.
-fn named(s: State, text: &[u8], w: Word, work: &mut [u8; 171136]) -> Answer
+fn named(s: State, text: &[u8], w: Word, work: &mut [u8; 275296]) -> Answer
     ensures { λ r. ⌜ (kindNo (w .kind) ≡ 1 → Parses (ask L.term ∷ []) same (s .nesting) (now (text .entry)) w s (now (work .entry)) (now (work .exit)) r) ⌝ }
 {
     let taken = taking::take(text, w, s, true, Bearing::Level);
@@ -206,7 +206,7 @@ fn named(s: State, text: &[u8], w: Word, work: &mut [u8; 171136]) -> Answer
 }
 
 // The rest of a reference, behind its name.
-pub fn reference(s: State, name: Word, text: &[u8], w: Word, work: &mut [u8; 171136]) -> Answer
+pub fn reference(s: State, name: Word, text: &[u8], w: Word, work: &mut [u8; 275296]) -> Answer
     ensures { λ r. ⌜ Parses (ask L.subscripts ∷ []) (afterName name) (s .nesting) (now (text .entry)) w s (now (work .entry)) (now (work .exit)) r ⌝ }
 {
     let kind = w.kind;
@@ -224,7 +224,7 @@ pub fn reference(s: State, name: Word, text: &[u8], w: Word, work: &mut [u8; 171
 }
 
 // A reference behind its first bracket.
-pub fn subscript(s: State, name: Word, text: &[u8], w: Word, work: &mut [u8; 171136]) -> Answer
+pub fn subscript(s: State, name: Word, text: &[u8], w: Word, work: &mut [u8; 275296]) -> Answer
     ensures { λ r. ⌜ Parses (ask L.subscript ∷ []) (afterName name) (s .nesting - 1) (now (text .entry)) w s (now (work .entry)) (now (work .exit)) r ⌝ }
 {
     if taking::ends_ahead(text, w) {
@@ -257,7 +257,7 @@ pub fn subscript(s: State, name: Word, text: &[u8], w: Word, work: &mut [u8; 171
 }
 
 // A reference with one subscript, and perhaps a second one in brackets of its own.
-fn single(s: State, name: Word, text: &[u8], w: Word, work: &mut [u8; 171136]) -> Answer
+fn single(s: State, name: Word, text: &[u8], w: Word, work: &mut [u8; 275296]) -> Answer
     ensures { λ r. ⌜ Second L.secondOption name (s .nesting) (now (text .entry)) w s (now (work .entry)) (now (work .exit)) r ⌝ }
 {
     let kind = w.kind;
@@ -275,7 +275,7 @@ fn single(s: State, name: Word, text: &[u8], w: Word, work: &mut [u8; 171136]) -
 }
 
 // A reference behind its first subscript.
-fn second(s: State, name: Word, text: &[u8], w: Word, work: &mut [u8; 171136]) -> Answer
+fn second(s: State, name: Word, text: &[u8], w: Word, work: &mut [u8; 275296]) -> Answer
     ensures { λ r. ⌜ Second L.second name (s .nesting - 1) (now (text .entry)) w s (now (work .entry)) (now (work .exit)) r ⌝ }
 {
     if taking::ends_ahead(text, w) {
@@ -307,7 +307,7 @@ fn second(s: State, name: Word, text: &[u8], w: Word, work: &mut [u8; 171136]) -
 }
 
 // An expression in brackets, which may begin with a constant that no colon follows.
-fn inside(s: State, later: bool, text: &[u8], w: Word, work: &mut [u8; 171136]) -> Answer
+fn inside(s: State, later: bool, text: &[u8], w: Word, work: &mut [u8; 275296]) -> Answer
     ensures { λ r. ⌜ Inside later (now (text .entry)) w s (now (work .entry)) (now (work .exit)) r ⌝ }
 {
     let kind = w.kind;
@@ -336,7 +336,7 @@ fn inside(s: State, later: bool, text: &[u8], w: Word, work: &mut [u8; 171136]) 
 }
 
 // A conditional: IF, or CASE.
-fn choice(s: State, case: bool, text: &[u8], w: Word, work: &mut [u8; 171136]) -> Answer
+fn choice(s: State, case: bool, text: &[u8], w: Word, work: &mut [u8; 275296]) -> Answer
     ensures { λ r. ⌜ (kindNo (w .kind) ≡ choiceWord case → Parses (ask L.term ∷ []) same (s .nesting) (now (text .entry)) w s (now (work .entry)) (now (work .exit)) r) ⌝ }
 {
     let opened = taking::take(text, w, s, true, Bearing::Opens);
@@ -373,7 +373,7 @@ fn choice(s: State, case: bool, text: &[u8], w: Word, work: &mut [u8; 171136]) -
 }
 
 // The arms of a conditional.
-fn arms(s: State, case: bool, text: &[u8], w: Word, work: &mut [u8; 171136]) -> Armed
+fn arms(s: State, case: bool, text: &[u8], w: Word, work: &mut [u8; 275296]) -> Armed
     ensures { λ r. ⌜ Arms case (now (text .entry)) w s (now (work .entry)) (now (work .exit)) r ⌝ }
 {
     let first = first_arm(s, leaves::first_word(case), text, w, work);
@@ -398,7 +398,7 @@ fn arms(s: State, case: bool, text: &[u8], w: Word, work: &mut [u8; 171136]) -> 
 }
 
 // The first arm, behind its word.
-fn first_arm(s: State, separator: u8, text: &[u8], w: Word, work: &mut [u8; 171136]) -> Answer
+fn first_arm(s: State, separator: u8, text: &[u8], w: Word, work: &mut [u8; 275296]) -> Answer
     ensures { λ r. ⌜ FirstArm separator (now (text .entry)) w s (now (work .entry)) (now (work .exit)) r ⌝ }
 {
     let word = taking::expect(text, w, s, separator, Bearing::Level);
@@ -416,7 +416,7 @@ fn first_arm(s: State, separator: u8, text: &[u8], w: Word, work: &mut [u8; 1711
 }
 
 // An arm behind others.
-fn next_arm(s: State, separator: u8, text: &[u8], w: Word, work: &mut [u8; 171136]) -> Answer
+fn next_arm(s: State, separator: u8, text: &[u8], w: Word, work: &mut [u8; 275296]) -> Answer
     ensures { λ r. ⌜ NextArm separator (now (text .entry)) w s (now (work .entry)) (now (work .exit)) r ⌝ }
 {
     let word = taking::expect(text, w, s, separator, Bearing::Level);
@@ -434,13 +434,13 @@ fn next_arm(s: State, separator: u8, text: &[u8], w: Word, work: &mut [u8; 17113
 }
 
 // Further arms of CASE, behind n. Each writes a record, so that they end before the array is full.
-fn more_arms(s: State, case: bool, n: u16, text: &[u8], w: Word, work: &mut [u8; 171136]) -> Armed
+fn more_arms(s: State, case: bool, n: u16, text: &[u8], w: Word, work: &mut [u8; 275296]) -> Armed
     ensures { λ r. ⌜ MoreArms case n (now (text .entry)) w s (now (work .entry)) (now (work .exit)) r ⌝ }
 {
     let mut state = s;
     let mut next = w;
     let mut count = n;
-    let mut left: u16 = 8448;
+    let mut left: u16 = 15888;
     while left > 0 {
         if leaves::another(case, next) {
             let one = next_arm(leaves::at(state, s.nesting), kinds::DO, text, next, work);

@@ -24,7 +24,7 @@ part-of p k s h = sym (ap (drop p) (take-add p k s) ∙ drop-at (take p s) (take
 -- ---- Tables as they lie.
 
 -- A table ends within the array.
-pub ends-within : (t : Table) → from t + size t * most t ≤ 171136
+pub ends-within : (t : Table) → from t + size t * most t ≤ 275296
 ends-within T.Actions = omega arith
 ends-within T.ActionPlaces = omega arith
 ends-within T.Facilities = omega arith
@@ -38,7 +38,7 @@ ends-within T.OperationNames = omega arith
 ends-within T.StateNames = omega arith
 ends-within T.Labels = omega arith
 
-begins-behind : (t : Table) → 118272 ≤ from t
+begins-behind : (t : Table) → 222432 ≤ from t
 begins-behind T.Actions = omega arith
 begins-behind T.ActionPlaces = omega arith
 begins-behind T.Facilities = omega arith
@@ -99,7 +99,7 @@ within-part s bs p i k h g =
     by-place j q false e false d =
         placed-after s bs (p + i) (p + j) (omega (arith, ltb-false j (i + length bs) d)) ∙ sym (placed-after r bs i j (ltb-false _ _ d) ∙ getD-part s j q)
 
-module _ (t : Table) (n : ℕ) (w bs : List ℕ) (l : length w ≡ 171136) (b : length bs ≡ size t) (h : n < most t) where
+module _ (t : Table) (n : ℕ) (w bs : List ℕ) (l : length w ≡ 275296) (b : length bs ≡ size t) (h : n < most t) where
   more : n + 1 ≤ most t
   more = omega arith
 
@@ -128,7 +128,7 @@ module _ (t : Table) (n : ℕ) (w bs : List ℕ) (l : length w ≡ 171136) (b : 
 
   row-front : expressions (placed w (from t + size t * n) bs) ≡ expressions w
   unfolding expressions otherFrom
-  row-front = before-kept w bs (from t + size t * n) fits 118272 (omega (arith, begins-behind t))
+  row-front = before-kept w bs (from t + size t * n) fits 222432 (omega (arith, begins-behind t))
 
   pub written : Wrote t n bs w (placed w (from t + size t * n) bs)
   written = record { whole = l; behind = row-behind; instead = row-instead; kept = record { tables = λ u a. row-apart u (one u a); front = row-front } }
@@ -141,7 +141,7 @@ module _ (t : Table) (n : ℕ) (w bs : List ℕ) (l : length w ≡ 171136) (b : 
           go false e = e
 
 -- The same, as the code has it.
-pub row-written : (t : Table) (n : ℕ) {w w′ bs : List ℕ} {a k : ℕ} → length w ≡ 171136 → length bs ≡ size t → n < most t → a ≡ from t → k ≡ size t → w′ ≡ placed w (a + k * n) bs
+pub row-written : (t : Table) (n : ℕ) {w w′ bs : List ℕ} {a k : ℕ} → length w ≡ 275296 → length bs ≡ size t → n < most t → a ≡ from t → k ≡ size t → w′ ≡ placed w (a + k * n) bs
     → Wrote t n bs w w′
 row-written t n {w} {bs = bs} l b h e f g = subst (Wrote t n bs w) (sym (g ∙ rw (e, f))) (written t n w bs l b h)
 

@@ -42,7 +42,7 @@ placesSaid x = record {
 
 -- Facility n stands behind those before it, with its places and its name; its place in the store ends in the bits of `place`.
 pub record FacilityAdded (n place : ℕ) (x : Declared) (w w′ : List ℕ) : Type 0 where
-  pub whole : length w ≡ 171136
+  pub whole : length w ≡ 275296
   pub records : (name : Name) (at : ℕ) → length name ≡ x .size → place ≡ at % 65536 → rows T.Facilities (n + 1) w′ ≡ rows T.Facilities n w ++ facilityRecord at (facilitySaid name x)
   pub places : (name : Name) → rows T.FacilityPlaces (n + 1) w′ ≡ rows T.FacilityPlaces n w ++ facilityBesideBytes (facilitySaid name x) (placesSaid x)
   pub names : rows T.FacilityNames (n + 1) w′ ≡ rows T.FacilityNames n w ++ nameRow (x .at .place) (x .size)

@@ -42,18 +42,18 @@ most T.Labels = 256
 
 -- Where a table begins.
 abbrev pub from : Table → ℕ
-from T.Actions = 118272
-from T.ActionPlaces = 148736
-from T.Facilities = 157440
-from T.FacilityPlaces = 160768
-from T.Operations = 163840
-from T.OperationPlaces = 164480
-from T.States = 164736
-from T.StatePlaces = 166528
-from T.FacilityNames = 167552
-from T.OperationNames = 168576
-from T.StateNames = 169088
-from T.Labels = 170112
+from T.Actions = 222432
+from T.ActionPlaces = 252896
+from T.Facilities = 261600
+from T.FacilityPlaces = 264928
+from T.Operations = 268000
+from T.OperationPlaces = 268640
+from T.States = 268896
+from T.StatePlaces = 270688
+from T.FacilityNames = 271712
+from T.OperationNames = 272736
+from T.StateNames = 273248
+from T.Labels = 274272
 
 -- The bytes of the first n records.
 unfoldable pub rows : Table → ℕ → List ℕ → List ℕ
@@ -79,7 +79,7 @@ pub record Kept (ts : List Table) (w w′ : List ℕ) : Type 0 where
 
 -- Record n of a table was written: behind those before it, or in the place of the one that was there.
 pub record Wrote (t : Table) (n : ℕ) (bs w w′ : List ℕ) : Type 0 where
-  pub whole : length w ≡ 171136
+  pub whole : length w ≡ 275296
   pub behind : rows t (n + 1) w′ ≡ rows t n w ++ bs
   pub instead : (m : ℕ) → n < m → m ≤ most t → rows t m w′ ≡ placed (rows t m w) (size t * n) bs
   pub kept : Kept (t ∷ []) w w′

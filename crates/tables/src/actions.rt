@@ -16,7 +16,7 @@ ghost use Rattle.tables.specs.Rows.{Wrote};
 const MOST_ACTIONS: u16 = 4352;
 
 // Writes the record of action n again.
-pub fn rewrite_action(work: &mut [u8; 171136], n: u16, action: Action)
+pub fn rewrite_action(work: &mut [u8; 275296], n: u16, action: Action)
     ensures { λ _. ⌜ (n < 4352 → Wrote T.Actions n (actionBytes (meant action)) (now (work .entry)) (now (work .exit))) ⌝ }
 {
     let written = action_bytes::action_bytes(action);
@@ -24,7 +24,7 @@ pub fn rewrite_action(work: &mut [u8; 171136], n: u16, action: Action)
 }
 
 // Adds action n with the place of its word; answers whether there was room.
-pub fn add_action(work: &mut [u8; 171136], n: u16, action: Action, at: Position) -> bool
+pub fn add_action(work: &mut [u8; 275296], n: u16, action: Action, at: Position) -> bool
     ensures { λ r. ⌜ ActionAdded n (meant action) at (now (work .entry)) (now (work .exit)) r ⌝ }
 {
     if MOST_ACTIONS <= n {

@@ -85,7 +85,7 @@ pub fn facility_beside(x: Declared) -> [u8; 12]
 }
 
 // Adds facility n with the places of its words and its name.
-pub fn add_facility(work: &mut [u8; 171136], n: u16, place: u16, x: Declared)
+pub fn add_facility(work: &mut [u8; 275296], n: u16, place: u16, x: Declared)
     ensures { λ _. ⌜ (n < 256 → FacilityAdded n place x (now (work .entry)) (now (work .exit))) ⌝ }
 {
     let written = facility_record(x, place);

@@ -22,7 +22,7 @@ fn at_most(n: u16) -> usize
 // The number of the first of n names in a table that is the word of this place and length.
 pub fn find(
     text: &[u8],
-    work: &[u8; 171136],
+    work: &[u8; 275296],
     table: Table,
     n: u16,
     place: usize,

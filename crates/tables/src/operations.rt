@@ -25,7 +25,7 @@ fn operation_row(size: usize, body: Run) -> [u8; 5]
 }
 
 // Adds operation n, whose name is given by its place and size.
-pub fn add_operation(work: &mut [u8; 171136], n: u16, at: Position, size: usize, body: Run)
+pub fn add_operation(work: &mut [u8; 275296], n: u16, at: Position, size: usize, body: Run)
     ensures { λ _. ⌜ (n < 128 → OperationAdded n at size body (now (work .entry)) (now (work .exit))) ⌝ }
 {
     let written = operation_row(size, body);

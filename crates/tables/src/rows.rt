@@ -8,21 +8,21 @@ ghost use Rattle.tables.specs.Rows.{Wrote, from, most, size};
 
 // Where a table begins.
 pub fn begin(table: Table) -> usize
-    ensures { λ r. ⌜ (r ≡ from table) × (r ≤ 171136) ⌝ }
+    ensures { λ r. ⌜ (r ≡ from table) × (r ≤ 275296) ⌝ }
 {
     match table {
-        Table::Actions => 118272,
-        Table::ActionPlaces => 148736,
-        Table::Facilities => 157440,
-        Table::FacilityPlaces => 160768,
-        Table::Operations => 163840,
-        Table::OperationPlaces => 164480,
-        Table::States => 164736,
-        Table::StatePlaces => 166528,
-        Table::FacilityNames => 167552,
-        Table::OperationNames => 168576,
-        Table::StateNames => 169088,
-        Table::Labels => 170112,
+        Table::Actions => 222432,
+        Table::ActionPlaces => 252896,
+        Table::Facilities => 261600,
+        Table::FacilityPlaces => 264928,
+        Table::Operations => 268000,
+        Table::OperationPlaces => 268640,
+        Table::States => 268896,
+        Table::StatePlaces => 270688,
+        Table::FacilityNames => 271712,
+        Table::OperationNames => 272736,
+        Table::StateNames => 273248,
+        Table::Labels => 274272,
     }
 }
 
@@ -47,7 +47,7 @@ pub fn bytes_of(table: Table) -> usize
 }
 
 // Writes record n of a table.
-pub fn write(work: &mut [u8; 171136], table: Table, n: u16, row: &[u8])
+pub fn write(work: &mut [u8; 275296], table: Table, n: u16, row: &[u8])
     ensures { λ _. ⌜ (length (now (row .entry)) ≡ size table → n < most table → Wrote table n (now (row .entry)) (now (work .entry)) (now (work .exit))) ⌝ }
 {
     let s: &mut [u8] = work;

@@ -41,7 +41,7 @@ fn state_beside(at: Position, value: Position) -> [u8; 4]
 
 // Adds state n, whose label has `size` bytes and whose value stands at `spot`.
 pub fn add_state(
-    work: &mut [u8; 171136],
+    work: &mut [u8; 275296],
     n: u16,
     at: Position,
     size: usize,

@@ -20,18 +20,21 @@ use Rattle.work.specs.Names.{letters, nameNo, namesFrom, namesIn}
 abbrev pub namesAfter : List ℕ → List ℕ → ℕ → ℕ → List Name
 namesAfter text other n k = upTo (nameNo text other) k (min n 256 - k)
 
-in-other : (w : List ℕ) (at : ℕ) → numberAt 2 at (otherIn w) ≡ numberAt 2 (118272 + at) w
+number-behind : (n : ℕ) (w : List ℕ) (at : ℕ) → numberAt 2 at (drop n w) ≡ numberAt 2 (n + at) w
+number-behind n w at =
+    let e : n + at + 1 ≡ n + (at + 1) = omega arith in
+    number-two at (drop n w) ∙ rw (getD-drop n w at 0, getD-drop n w (at + 1) 0, number-two (n + at) w, e)
+
+in-other : (w : List ℕ) (at : ℕ) → numberAt 2 at (otherIn w) ≡ numberAt 2 (222432 + at) w
 unfolding otherIn otherFrom
-in-other w at =
-    let e : 118272 + at + 1 ≡ 118272 + (at + 1) = omega arith in
-    number-two at (drop 118272 w) ∙ rw (getD-drop 118272 w at 0, getD-drop 118272 w (at + 1) 0, number-two (118272 + at) w, e)
+in-other w at = number-behind 222432 w at
 
 -- The name that stands in the table.
-pub name-at : (text w : List ℕ) (k : ℕ) → nameNo text (otherIn w) k ≡ map folded (take (numberAt 2 (167552 + 4 * k + 2) w) (drop (numberAt 2 (167552 + 4 * k) w) text))
+pub name-at : (text w : List ℕ) (k : ℕ) → nameNo text (otherIn w) k ≡ map folded (take (numberAt 2 (271712 + 4 * k + 2) w) (drop (numberAt 2 (271712 + 4 * k) w) text))
 unfolding nameNo namesFrom letters
 name-at text w k =
-    let e : 118272 + (49280 + 4 * k) ≡ 167552 + 4 * k = omega arith in
-    let f : 118272 + (49280 + 4 * k + 2) ≡ 167552 + 4 * k + 2 = omega arith in
+    let e : 222432 + (49280 + 4 * k) ≡ 271712 + 4 * k = omega arith in
+    let f : 222432 + (49280 + 4 * k + 2) ≡ 271712 + 4 * k + 2 = omega arith in
     rw (in-other w (49280 + 4 * k), in-other w (49280 + 4 * k + 2), e, f)
 
 module _ (text other : List ℕ) (n : ℕ) (name : Name) (k : ℕ) where
@@ -57,7 +60,7 @@ module _ (text other : List ℕ) (n : ℕ) (name : Name) (k : ℕ) where
 
 -- A word and a name of the table, compared in the text.
 pub compared : (text w : List ℕ) {name other : List ℕ} (place size k : ℕ) {p l : ℕ} {b : Bool} → name ≡ take size (drop place text)
-    → p ≡ numberAt 2 (167552 + 4 * k) w → l ≡ numberAt 2 (167552 + 4 * k + 2) w → other ≡ take l (drop p text)
+    → p ≡ numberAt 2 (271712 + 4 * k) w → l ≡ numberAt 2 (271712 + 4 * k + 2) w → other ≡ take l (drop p text)
     → b ≡ same (map folded name) (map folded other) → same (letters text place size) (nameNo text (otherIn w) k) ≡ b
 unfolding letters
 compared text w place size k e f g h i = rw (name-at text w k, ← f, ← g, ← h, ← e) (sym i)

@@ -50,24 +50,24 @@ added-in s bs p i h =
     ∙ drop-at (take p s) (take i (drop p s) ++ bs) p (length-take-le p s (omega arith))
 
 -- A record and its places, with room for both.
-pub record-added : (w bs ps : List ℕ) (n : ℕ) → length w ≡ 171136 → n < mostNodes → length bs ≡ 8 → length ps ≡ 6
-    → held (n + 1) (placed (placed w (8 * n) bs) (67584 + 6 * n) ps) ≡ withBytes (held n w) bs ps
+pub record-added : (w bs ps : List ℕ) (n : ℕ) → length w ≡ 275296 → n < mostNodes → length bs ≡ 8 → length ps ≡ 6
+    → held (n + 1) (placed (placed w (8 * n) bs) (127104 + 6 * n) ps) ≡ withBytes (held n w) bs ps
 unfolding mostNodes placesFrom otherFrom otherIn held
 record-added w bs ps n l h b p =
     let w₁ = placed w (8 * n) bs in
-    let l₁ : length w₁ ≡ 171136 = placed-length w bs (8 * n) ∙ l in
+    let l₁ : length w₁ ≡ 275296 = placed-length w bs (8 * n) ∙ l in
     let e : 8 * (n + 1) ≡ 8 * n + length bs = omega arith in
     let f : 6 * (n + 1) ≡ 6 * n + length ps = omega arith in
-    let x : take (8 * (n + 1)) (placed w₁ (67584 + 6 * n) ps) ≡ take (8 * n) w ++ bs =
-    before-kept w₁ ps (67584 + 6 * n) (omega arith) (8 * (n + 1)) (omega arith) ∙ rw e (added w bs (8 * n) (omega arith)) in
-    let y : take (6 * (n + 1)) (drop 67584 (placed w₁ (67584 + 6 * n) ps)) ≡ take (6 * n) (drop 67584 w) ++ ps =
-    rw f (added-in w₁ ps 67584 (6 * n) (omega arith)) ∙ ap (λ (v : List ℕ). take (6 * n) v ++ ps) (after-kept w bs (8 * n) (omega arith) 67584 (omega arith)) in
-    let z : drop 118272 (placed w₁ (67584 + 6 * n) ps) ≡ drop 118272 w =
-    after-kept w₁ ps (67584 + 6 * n) (omega arith) 118272 (omega arith) ∙ after-kept w bs (8 * n) (omega arith) 118272 (omega arith) in
+    let x : take (8 * (n + 1)) (placed w₁ (127104 + 6 * n) ps) ≡ take (8 * n) w ++ bs =
+    before-kept w₁ ps (127104 + 6 * n) (omega arith) (8 * (n + 1)) (omega arith) ∙ rw e (added w bs (8 * n) (omega arith)) in
+    let y : take (6 * (n + 1)) (drop 127104 (placed w₁ (127104 + 6 * n) ps)) ≡ take (6 * n) (drop 127104 w) ++ ps =
+    rw f (added-in w₁ ps 127104 (6 * n) (omega arith)) ∙ ap (λ (v : List ℕ). take (6 * n) v ++ ps) (after-kept w bs (8 * n) (omega arith) 127104 (omega arith)) in
+    let z : drop 222432 (placed w₁ (127104 + 6 * n) ps) ≡ drop 222432 w =
+    after-kept w₁ ps (127104 + 6 * n) (omega arith) 222432 (omega arith) ∙ after-kept w bs (8 * n) (omega arith) 222432 (omega arith) in
     same-held x y z
 
-pub record-written : (w bs : List ℕ) {w₁ w₂ bs′ ps′ : List ℕ} (ps : List ℕ) (n : ℕ) → length w ≡ 171136 → n < mostNodes → length bs ≡ 8 → length ps ≡ 6
-    → w₁ ≡ placed w (8 * n) bs′ → bs′ ≡ bs → w₂ ≡ placed w₁ (67584 + 6 * n) ps′ → ps′ ≡ ps
+pub record-written : (w bs : List ℕ) {w₁ w₂ bs′ ps′ : List ℕ} (ps : List ℕ) (n : ℕ) → length w ≡ 275296 → n < mostNodes → length bs ≡ 8 → length ps ≡ 6
+    → w₁ ≡ placed w (8 * n) bs′ → bs′ ≡ bs → w₂ ≡ placed w₁ (127104 + 6 * n) ps′ → ps′ ≡ ps
     → held (n + 1) w₂ ≡ withBytes (held n w) bs ps
 record-written w bs ps n l h b p e f g i = rw (g, e, f, i) (record-added w bs ps n l h b p)
 

@@ -11,14 +11,14 @@ use Rattle.work.specs.declared.constants.Room.{Room}
 use Rattle.work.specs.declared.nodes.Beside.{Beside}
 
 unfoldable pub mostNodes : ℕ
-mostNodes = 8448
+mostNodes = 15888
 
 -- Where the places of expressions begin, and the other sections.
 unfoldable pub placesFrom : ℕ
-placesFrom = 67584
+placesFrom = 127104
 
 unfoldable pub otherFrom : ℕ
-otherFrom = 118272
+otherFrom = 222432
 
 pub record Held : Type 0 where
   pub nodes : List ℕ

@@ -17,7 +17,7 @@ pub struct Room {
 }
 
 // Adds the records of a constant behind n others.
-pub fn add_constant(work: &mut [u8; 171136], n: u16, v: Value, at: Position) -> Room
+pub fn add_constant(work: &mut [u8; 275296], n: u16, v: Value, at: Position) -> Room
     ensures { λ r. ⌜ Grew n (constantNodes (valued v) (positioned at)) (constantSize (valued v)) (now (work .entry)) (now (work .exit)) r ⌝ }
 {
     let beside = places::plain(at);

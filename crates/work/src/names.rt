@@ -9,7 +9,7 @@ ghost use Rattle.work.specs.Held.{otherIn};
 ghost use Rattle.work.specs.Names.{found, letters, namesIn};
 
 // Where the facilities' names begin: four bytes each, the place and the size of the word that declared it.
-const FACILITY_NAMES: usize = 167552;
+const FACILITY_NAMES: usize = 271712;
 
 const MOST_FACILITIES: u16 = 256;
 
@@ -30,7 +30,7 @@ fn held(n: u16) -> u16
 }
 
 // The number of the first of n facilities that has the name of the word of that place and size.
-pub fn facility(text: &[u8], work: &[u8; 171136], n: u16, place: usize, size: usize) -> Found
+pub fn facility(text: &[u8], work: &[u8; 275296], n: u16, place: usize, size: usize) -> Found
     ensures { λ r. ⌜ found r ≡ numberOf (letters (now (text .entry)) place size) 0 (namesIn (now (text .entry)) (otherIn (now (work .entry))) n) ⌝ }
 {
     let s: &[u8] = work;

@@ -17,7 +17,7 @@ pub struct Beside {
 }
 
 // Adds record n with its places; answers whether there was room.
-pub fn add_node(work: &mut [u8; 171136], n: u16, node: Node, v: u64, beside: Beside) -> bool
+pub fn add_node(work: &mut [u8; 275296], n: u16, node: Node, v: u64, beside: Beside) -> bool
     ensures { λ r. ⌜ Added n (nodeBytes (meant v node)) (fields beside) (now (work .entry)) (now (work .exit)) r ⌝ }
 {
     let s: &mut [u8] = work;

@@ -11,7 +11,7 @@ add-node-requires c κs = search needs
 add-with-nodes : tie.Need-add-with-nodes
 unfolding mostNodes
 add-with-nodes c =
-    let h : c .before .before .before .before .args .s .nodes < 8448 = c .before .before .add-node .ensures .room (c .before .if1 .taken) in search needs
+    let h : c .before .before .before .before .args .s .nodes < 15888 = c .before .before .add-node .ensures .room (c .before .if1 .taken) in search needs
 
 with-nodes-requires : tie.Need-with-nodes-requires
 with-nodes-requires c κs = search needs

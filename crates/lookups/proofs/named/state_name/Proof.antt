@@ -1,64 +1,18 @@
-use Rattle.lookups.proofs.NameLaws.{state-found, state-none, state-refused}
-use mathlib.Core.Path.{sym, _∙_}
-use native.Mathlib.Omega.{arith}
-use borrow.Author.Tests.{not-false, not-true}
-use Rattle.lookups.proofs.NameLaws.{state-none, state-refused}
+use mathlib.Core.Path.{ap, _∙_}
+use Rattle.language.specs.Lookups.{partOf}
 use borrow.Author.Needs.{needs}
 use Rattle.lookups.proofs.named.state_name.Statement.{statement}
 use Rattle.lookups.proofs.named.state_name.Tie as tie
 
-part-requires : tie.Need-part-requires
-part-requires c κs = search needs
-
-returns : tie.Need-returns
-returns c =
-    c .part .ensures ∙ state-refused (c .before .before .before .args .image .now) (c .before .before .before .args .n) (sym (c .before .before .before .pre) ∙ not-true _ (c .before .if1 .taken))
-
-section-requires : tie.Need-section-requires
-section-requires c κs = search needs
-
-part-requires-2 : tie.Need-part-requires-2
-part-requires-2 c κs = search needs
-
-returns-2 : tie.Need-returns-2
-returns-2 c =
-    c .part2 .ensures ∙ state-none (c .before .before .before .before .before .args .image .now) (c .before .before .before .before .before .args .n) (sym (c .before .before .before .before .before .pre) ∙ not-false _ (c .before .before .before .if1 .left)) (rw (← c .before .before .section .ensures) (c .before .if2 .taken))
-
-counts-at-requires : tie.Need-counts-at-requires
-counts-at-requires c κs = search needs
-
-section-requires-2 : tie.Need-section-requires-2
-section-requires-2 c κs = search needs
-
-section-requires-3 : tie.Need-section-requires-3
-section-requires-3 c κs = search needs
-
 state-part-requires : tie.Need-state-part-requires
 state-part-requires c κs = search needs
 
-section-requires-4 : tie.Need-section-requires-4
-section-requires-4 c κs = search needs
+name-requires : tie.Need-name-requires
+name-requires c κs = search needs
 
-name-at-requires : tie.Need-name-at-requires
-name-at-requires c κs = search needs
-
-returns-3 : tie.Need-returns-3
-returns-3 c =
-    c .name-at .ensures ∙ state-found (c .before .before .before .before .before .before .before .before .before .before .args .image .now) (sym (c .before .before .before .before .before .before .before .before .before .before .pre) ∙ not-false _ (c .before .before .before .before .before .before .before .before .if1 .left)) (c .before .before .before .before .before .before .before .before .before .before .args .n) (c .before .before .before .before .section2 .ensures) (c .before .before .before .section3 .ensures) (c .before .before .before .before .before .before .before .section .ensures) (c .before .section4 .ensures) (c .before .before .before .before .before .counts-at .ensures) (omega (arith, c .before .before .before .before .before .before .if2 .left)) (c .before .before .state-part .ensures)
+returns : tie.Need-returns
+returns c =
+    c .name .ensures ∙ ap (partOf (c .before .before .before .args .image .now)) (c .before .state-part .ensures)
 
 pub state-name-spec : {M : Type 1} → statement M
-state-name-spec =
-    tie.close
-    (tie.spec
-    part-requires
-    returns
-    section-requires
-    part-requires-2
-    returns-2
-    counts-at-requires
-    section-requires-2
-    section-requires-3
-    state-part-requires
-    section-requires-4
-    name-at-requires
-    returns-3)
+state-name-spec = tie.close (tie.spec state-part-requires name-requires returns)

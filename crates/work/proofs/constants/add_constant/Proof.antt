@@ -50,7 +50,7 @@ returns c =
 add-k : tie.Need-add-k Inv-loop μ-loop
 unfolding mostNodes
 add-k c =
-    let h : c .before .before .before .before .before .loop .k < 8448 = c .before .add-node .ensures .room (c .if1 .taken) in search needs
+    let h : c .before .before .before .before .before .loop .k < 15888 = c .before .add-node .ensures .room (c .if1 .taken) in search needs
 
 sub-i : tie.Need-sub-i Inv-loop μ-loop
 sub-i c = search needs
@@ -71,7 +71,7 @@ add-node-requires-2 c κs = search needs
 add-t17 : tie.Need-add-t17 Inv-loop μ-loop
 unfolding mostNodes
 add-t17 c =
-    let h : c .before .before .before .before .before .loop .k < 8448 = c .before .add-node2 .ensures .room (c .if2 .taken) in search needs
+    let h : c .before .before .before .before .before .loop .k < 15888 = c .before .add-node2 .ensures .room (c .if2 .taken) in search needs
 
 returns-2 : tie.Need-returns-2 Inv-loop μ-loop
 returns-2 c =

@@ -1,0 +1,4 @@
+pub mod WordPut
+pub mod RegisterLaws
+pub mod FinishLaws
+pub mod StepLaws
