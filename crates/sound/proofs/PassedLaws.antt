@@ -2,8 +2,8 @@
 use mathlib.Core.Bool.{Bool, true, false, cond, _||_}
 use mathlib.Core.List.{List, [], _∷_}
 use mathlib.Core.Option.{some}
-use mathlib.Core.Path.{_≡_, refl, subst, _∙_}
-use Prim.Native.Nat.{ℕ, suc, _+_, _*_, _^_, _≤_, _<_}
+use mathlib.Core.Path.{_≡_, refl, sym, subst, _∙_}
+use Prim.Native.Nat.{ℕ, suc, _+_, _*_, _/_, _^_, _≤_, _<_}
 use native.Mathlib.Nat.{lt-of-lt-of-le}
 use native.Mathlib.Omega.{arith}
 use borrow.Author.Tests.{leb-true, ltb-false, ltb-true}
@@ -12,20 +12,24 @@ use lib.ListN.{List·getD-eq-default, length}
 use lib.Pow.{pow-mono, pow-pos}
 use Rattle.language.specs.Decode.{decode, sectionAt, sectionsIn}
 use Rattle.language.specs.Description as D
-use Rattle.language.specs.Description.{Description, Facility, Node, constantValue, facilityAt, facilityPlace, isComputed, isSequencing, noPlaces, nodeAt, sequencingOf, wordLength}
+use Rattle.language.specs.Description.{Description, Facility, Node, constantValue, facilityAt, facilityPlace, isComputed, isSequencing, noPlaces, nodeAt, sequencingOf, stateAt, wordLength}
 use Rattle.language.specs.Encode.{facilityRecord, little}
 use Rattle.language.specs.Image.{passes}
 use Rattle.language.specs.Judging.{unless}
 use Rattle.language.specs.Layout.{facilityBytes, placeIn, storeSizeOf}
 use Rattle.language.specs.Rules.{boundsFaults, facilitiesFaults, facilityFaults, largestStore, orElse, sequencingRight}
+use Rattle.language.specs.Step.{stateNumber}
 use Rattle.language.specs.Value.{longest}
 use Rattle.theorems.specs.Judged.{append-none-left, append-none-right, unless-none}
+use Rattle.theorems.specs.NeverStuck.{legal-image}
+use Rattle.theorems.specs.StateValues.{bears-value}
 use Rattle.theorems.specs.LegalForm.{after-names, facility-none, no-faults, or-else-both, right-of}
 use Rattle.records.proofs.NodeBack.{half-back}
 use Rattle.image.proofs.DeclarationLaws.{place-whole}
 use Rattle.image.proofs.DescribedLaws.{state-described}
 use Rattle.image.specs.Declarations.{placeFieldIn}
 use Rattle.written.specs.Back.{NodeInRange, facility-stands}
+use Rattle.exact.specs.Legal.{few-facilities, few-states}
 use Rattle.evaluate.proofs.SectionLaws.{sections-describe}
 use Rattle.evaluate.specs.Described.{Describes}
 use Rattle.next.specs.Values.{Valued}
@@ -122,6 +126,27 @@ module _ (image : List ℕ) (passed : passes image ≡ true) where
   pub passed-valued : Valued d (sectionAt 2 8 image) (sectionAt 4 7 image)
   unfolding decode sectionsIn
   passed-valued = record { nodes = passed-described .nodes; states = λ n. record { name = _; is = state-described (sectionsIn image) n }; fit = passed-value }
+
+  -- The value of a state fits the sequencing register.
+  pub passed-fits : (f s x : ℕ) → sequencingOf d ≡ some f → stateNumber d s ≡ some x → x < 2 ^ wordLength (facilityAt d f)
+  unfolding stateNumber stateAt
+  passed-fits f s x q v = by-test (ltb s (length (d .states))) refl
+    where
+      by-test : (b : Bool) → ltb s (length (d .states)) ≡ b → x < 2 ^ wordLength (facilityAt d f)
+      by-test true t =
+          let b = bears-value d (legal-image image passed) f q s (ltb-true s (length (d .states)) t) in
+          let z : b .number ≡ x = let e = sym (b .borne) ∙ v in cc in
+          rw z at (b .fits)
+      by-test false t =
+          let e = rw (List·getD-eq-default (d .states) _ (ltb-false s (length (d .states)) t)) at v in
+          absurd (let z : _≡_ {A = ℕ} 0 1 = cc in omega arith)
+
+  -- Few enough records.
+  pub passed-facilities : length (sectionAt 0 13 image) / 13 ≤ 65536
+  passed-facilities = omega (arith, facilities-many image, few-facilities d (legal-so image passed))
+
+  pub passed-states : length (sectionAt 4 7 image) / 7 ≤ 65536
+  passed-states = omega (arith, states-many image, few-states d (legal-so image passed))
 
   pub passed-testable : Testable d (sectionAt 0 13 image) (sectionAt 2 8 image) (sectionAt 4 7 image)
   passed-testable = record { described = passed-described; valued = passed-valued; states = states-many image; register = passed-register }
