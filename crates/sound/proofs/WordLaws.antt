@@ -52,7 +52,7 @@ first-narrow (f ∷ fs) (suc n) B h =
 
 module _ (fs : List Facility) (n : ℕ) (f : Facility) (is : getD fs n noFacility ≡ f) (there : n < length fs) where
   -- Its bytes lie in the store.
-  in-room : isComputed (f .kind) ≡ false → placeIn fs n + facilityBytes f ≤ storeSizeOf fs
+  pub in-room : isComputed (f .kind) ≡ false → placeIn fs n + facilityBytes f ≤ storeSizeOf fs
   unfolding placeOfWord facilityBytes
   in-room k =
       let t = in-store fs n (wordCount f - 1) (record { there = there; kept = rw is k; below = rw is (omega (arith, some-word f)) }) in

@@ -1,4 +1,5 @@
 // The words of a store: none has a spare bit.
+use crate::sizes;
 use evaluate::bounds;
 use image::facilities;
 use image::facilities::Facility;
@@ -7,24 +8,13 @@ ghost use mathlib.Core.List.{List};
 ghost use mathlib.Core.Path.{_≡_};
 ghost use Prim.Native.Nat.{ℕ, _≤_};
 ghost use lib.ListN.{length};
-ghost use Rattle.language.specs.Description.{Description, wordCount};
+ghost use Rattle.language.specs.Description.{Description};
 ghost use Rattle.language.specs.Layout.{storeSizeOf};
 ghost use Rattle.language.specs.Store as L;
 ghost use Rattle.language.specs.Tree.{Name};
 ghost use Rattle.image.specs.Declarations.{facilityMeant};
 ghost use Rattle.evaluate.specs.Described.{Describes};
 ghost use Rattle.sound.specs.Tested.{narrowIn};
-
-// How many words a facility has.
-fn word_count(f: Facility) -> u32
-    ensures { λ r. ⌜ ((name : Name) → r ≡ wordCount (facilityMeant name f)) ⌝ }
-{
-    if f.dimensions != 2 {
-        return 1;
-    }
-    let w = f.words;
-    bounds::span(w)
-}
 
 // Those of one facility.
 fn narrow_in(store: &[u8], f: Facility) -> bool
@@ -35,7 +25,7 @@ fn narrow_in(store: &[u8], f: Facility) -> bool
         return true;
     }
     let at = f.place as usize;
-    spare::no_spare_bits(store, at, word_count(f), bounds::word_length(f))
+    spare::no_spare_bits(store, at, sizes::word_count(f), bounds::word_length(f))
 }
 
 // Those of all facilities of a section.

@@ -1,8 +1,8 @@
 use Rattle.language.specs.Description.{wordCount}
 use borrow.Author.Tests.{eq-eqb, ne-eqb}
 use borrow.Author.Needs.{needs}
-use Rattle.sound.proofs.words.word_count.Statement.{statement}
-use Rattle.sound.proofs.words.word_count.Tie as tie
+use Rattle.sound.proofs.sizes.word_count.Statement.{statement}
+use Rattle.sound.proofs.sizes.word_count.Tie as tie
 
 returns : tie.Need-returns
 unfolding wordCount
