@@ -30,11 +30,11 @@ use Rattle.language.specs.Tree.{Declaration, Extent}
 use Rattle.words.specs.declared.Position as P
 use Rattle.words.specs.declared.Word.{Word}
 use Rattle.words.specs.Meaning.{positioned}
-use Rattle.declarations.proofs.Unexpressed.{bare-awaits, bare-said, declarationOf, saidOf}
+use Rattle.declarations.proofs.Unexpressed.{bare-awaits, bare-said, saidOf}
 use Rattle.declarations.specs.declared.Progress.{Progress}
 use Rattle.declarations.specs.Declares.{OneRead, OthersKept, Registers, Standing, Stored, Stores, put}
 use Rattle.declarations.specs.Listed.{Added, Adds, Awaiting, Listed, knownState}
-use Rattle.declarations.specs.Specs.{NameRead, Names, endOf, moreState, namedWord, specOf, whoseOf}
+use Rattle.declarations.specs.Specs.{NameRead, Names, declarationOf, endOf, moreState, namedWord, specOf, whoseOf}
 
 -- ---- Counts that declarations do not touch.
 

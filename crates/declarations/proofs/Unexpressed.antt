@@ -9,13 +9,11 @@ use Rattle.course.specs.declared.State.{State}
 use Rattle.course.specs.Course.{Seen}
 use Rattle.dimensions.specs.Extents.{Sized, bitsLeft, bitsRight, wordsLeft, wordsRight}
 use Rattle.image.specs.declared.facilities.Kind.{Kind}
-use Rattle.image.specs.Declarations.{kindMeant}
 use Rattle.language.specs.Characters.{folded}
 use Rattle.language.specs.Describe.{Noted}
 use Rattle.language.specs.DescribeText.{equalsPlace, facilityNodes, facilitySize, functionNodes, functionNumber, functionSize, placesOf}
 use Rattle.language.specs.Description.{nowhere}
 use Rattle.language.specs.Naming.{Scope}
-use Rattle.language.specs.Notions.{facilityOf}
 use Rattle.language.specs.Tree as T
 use Rattle.language.specs.Tree.{Declaration, Extent, Function}
 use Rattle.language.specs.Words.{Position}
@@ -28,7 +26,7 @@ use Rattle.work.specs.Held.{otherIn, withNodes}
 use Rattle.work.specs.Names.{letters}
 use Rattle.declarations.proofs.Appended.{namesOf, nodes-last, scopeOf, size-last}
 use Rattle.declarations.specs.Listed.{Awaiting, Expressed, Listed, Says, noneHeld}
-use Rattle.declarations.specs.Specs.{moreState}
+use Rattle.declarations.specs.Specs.{declarationOf, moreState}
 
 -- A function that is no expression.
 abbrev pub Bare : Function → Type 0
@@ -66,10 +64,6 @@ places-by p f (T.table x y) = refl
 letters-length : (text : List ℕ) (place size : ℕ) → place + size ≤ length text → length (letters text place size) ≡ size
 unfolding letters
 letters-length text place size h = length-map (take size (drop place text)) folded ∙ length-take-le size (drop place text) (omega (arith, length-drop place text))
-
--- The declaration that begins with the name w.
-abbrev pub declarationOf : List ℕ → Kind → Word → Extent → Function → Declaration
-declarationOf text k w x f = facilityOf (kindMeant k) (letters text (w .at .place) (w .size)) (positioned (w .at)) x f
 
 abbrev pub saidOf : Kind → Word → C.Extent → ℕ → P.Position → Declared
 saidOf k w e n p = record { kind = k; at = w .at; size = w .size; extent = e; expression = n; equals = p }

@@ -1,0 +1,2 @@
+pub mod FunctionWords
+pub mod InputLaws
