@@ -3,8 +3,11 @@ use course::Answer;
 use image::facilities::Kind;
 use words::Position;
 
+pub mod declaring;
+pub mod functions;
 pub mod inputs;
 pub mod kinds;
+pub mod lists;
 
 // What became of a terminal's function, and where it is done what it makes of the terminal: its kind, the number of its expression and the place of its `=`.
 pub struct Defined {
