@@ -2,7 +2,7 @@
 use mathlib.Core.Bool.{Bool, true, false, true≢false}
 use mathlib.Core.List.{List, [], _∷_, _++_}
 use mathlib.Core.Path.{_≡_, refl, sym, ap, _∙_, subst}
-use Prim.Native.Nat.{ℕ, suc, _+_, _-_, _*_, _<_, _≤_}
+use Prim.Native.Nat.{ℕ, _+_, _-_, _*_, _≤_}
 use native.Mathlib.Omega.{arith}
 use borrow.Author.Tests.{le-leb}
 use lib.Dec.{leb}
@@ -13,14 +13,14 @@ use Rattle.course.proofs.Saying.{makes-it}
 use Rattle.course.specs.declared.Answer.{Answer}
 use Rattle.course.specs.declared.State.{State}
 use Rattle.course.specs.declared.Verdict.the-variants.{Done}
-use Rattle.course.specs.Course.{Stack, countsOf, kindNo, runs}
-use Rattle.course.specs.Pays.{Comes, Pays, Spends}
-use Rattle.course.specs.Says.{Parses, Pending, Read, Says, pushed}
+use Rattle.course.specs.Course.{countsOf}
+use Rattle.course.specs.Pays.{Pays, Spends}
+use Rattle.course.specs.Says.{Parses, Read, Says, pushed}
 use Rattle.declarations.proofs.Appended.{namesOf, nodes-last, scopeOf, size-last}
-use Rattle.declarations.specs.Listed.{Awaiting, Expressed, Tabled, noneHeld}
+use Rattle.declarations.specs.Listed.{Expressed, Tabled, noneHeld}
 use Rattle.declarations.specs.Specs.{declarationOf}
 use Rattle.image.specs.declared.facilities.Kind.the-variants as F
-use Rattle.language.specs.Building.{Built, expressionNo, wordNo}
+use Rattle.language.specs.Building.{expressionNo, wordNo}
 use Rattle.language.specs.Declaring.{makeComputed}
 use Rattle.language.specs.Describe.{Noted, expressionSize, nodesOf}
 use Rattle.language.specs.DescribeText.{facilityNodes, facilitySize}
@@ -30,14 +30,13 @@ use Rattle.language.specs.Tree as T
 use Rattle.language.specs.Tree.{Declaration, Expression, Extent}
 use Rattle.language.specs.Words.{Position}
 use Rattle.phrases.specs.Phrases.{same}
-use Rattle.tables.specs.declared.Table.the-variants as Tb
 use Rattle.tables.specs.Rows.{rows}
 use Rattle.words.specs.declared.Word.{Word}
 use Rattle.words.specs.Meaning.{positioned}
 use Rattle.work.proofs.NodesAdded.{nodes-append, nodes-other}
 use Rattle.work.specs.Held.{Held, held, mostNodes, otherFrom, otherIn, withNodes}
 use Rattle.work.specs.Names.{namesIn}
-use Rattle.terminals.specs.Functions.{Begun, Computes, FunctionRead}
+use Rattle.terminals.specs.Functions.{Computes, FunctionRead}
 use Rattle.terminals.specs.Inputs.{atFunction, withOne}
 use Rattle.terminals.proofs.FunctionWords.{expression-first}
 

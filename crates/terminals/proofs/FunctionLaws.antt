@@ -1,9 +1,10 @@
 -- The functions of terminals, as the code reads them.
-use mathlib.Core.List.{List, [], _∷_, _++_}
+use mathlib.Core.List.{List, [], _∷_}
 use mathlib.Core.Path.{_≡_, refl, sym, ap, _∙_, subst}
 use Prim.Native.Nat.{ℕ, _*_, _≤_}
 use native.Mathlib.Omega.{arith}
 use Rattle.course.proofs.Answers.{done-full, done-refused}
+use Rattle.course.proofs.Saying.{makes-it}
 use Rattle.course.proofs.TakenWords.{onTaken, took-done}
 use Rattle.course.specs.declared.Answer.{Answer}
 use Rattle.course.specs.declared.State.{State}
@@ -11,7 +12,7 @@ use Rattle.course.specs.declared.Verdict.the-variants.{Done}
 use Rattle.course.specs.Course.{Seen, Stack, countsOf, kindNo, runs}
 use Rattle.course.specs.Taken.{Passed, Took}
 use Rattle.declarations.proofs.StoredLaws.{others-same, others-then}
-use Rattle.declarations.proofs.Unexpressed.{bare-awaits}
+use Rattle.declarations.proofs.Unexpressed.{Bare, bare-awaits}
 use Rattle.declarations.specs.Listed.{Awaiting}
 use Rattle.declarations.specs.Specs.{declarationOf}
 use Rattle.dimensions.proofs.States.{state-of}
@@ -19,19 +20,16 @@ use Rattle.dimensions.proofs.Telling.{through, word-taken}
 use Rattle.dimensions.specs.Extents.{ofTerminal, toCome}
 use Rattle.image.specs.declared.facilities.Kind.{Kind}
 use Rattle.image.specs.declared.facilities.Kind.the-variants as F
-use Rattle.language.specs.Building.{Built, keepWord, wordNo}
+use Rattle.language.specs.Building.{Built, wordNo}
 use Rattle.language.specs.Declaring.{makePlain}
 use Rattle.language.specs.DescribeText.{dimensionsOf}
 use Rattle.language.specs.Description.{nowhere}
-use Rattle.language.specs.Kinds.{equalSign}
 use Rattle.language.specs.Machine.{ask, functionOf, make, terminalFunction, withinCeilings}
 use Rattle.language.specs.Tree as T
-use Rattle.language.specs.Tree.{Declaration, Extent}
-use Rattle.language.specs.Words as L
+use Rattle.language.specs.Tree.{Declaration, Extent, Function}
 use Rattle.words.specs.declared.Position as P
 use Rattle.words.specs.declared.Word.{Word}
 use Rattle.words.specs.Meaning.{positioned}
-use Rattle.course.proofs.Saying.{makes-it}
 use Rattle.terminals.specs.declared.Defined.{Defined}
 use Rattle.terminals.specs.Functions.{Begun, Computes, Defines, Follows, FunctionRead, Functions, Plains}
 use Rattle.terminals.specs.Inputs.{InputRead, Inputs, atDimensions, atFunction, withOne}
@@ -51,14 +49,10 @@ begun-same g e z = record {
 }
 
 -- A function without records, behind which the state is the same.
-module _ {text : List ℕ} {ds : List Declaration} {place : ℕ} {w : Word} {s s′ : State} {work : List ℕ} (g : Begun text ds place w s work) (e : s′ ≡ s) where
-  bare-waits : (k : Kind) (name : Word) (x : Extent) → Awaiting text ds (declarationOf text k name x T.unspecified) place s′ work
-  bare-waits k name x =
-      subst (λ (j : State). Awaiting text ds (declarationOf text k name x T.unspecified) place j work) (sym (e ∙ g .state)) (bare-awaits text k name x T.unspecified tt ds place (g .before) work (g .listed) (g .room))
-
-  input-waits : (k : Kind) (name : Word) (x : Extent) → Awaiting text ds (declarationOf text k name x T.fromInput) place s′ work
-  input-waits k name x =
-      subst (λ (j : State). Awaiting text ds (declarationOf text k name x T.fromInput) place j work) (sym (e ∙ g .state)) (bare-awaits text k name x T.fromInput tt ds place (g .before) work (g .listed) (g .room))
+bare-waits : {text : List ℕ} {ds : List Declaration} {place : ℕ} {w : Word} {s s′ : State} {work : List ℕ} → Begun text ds place w s work → s′ ≡ s → (k : Kind) (name : Word) (x : Extent) (f : Function) → Bare f
+    → Awaiting text ds (declarationOf text k name x f) place s′ work
+bare-waits {text} {ds} {place} {work = work} g e k name x f h =
+    subst (λ (j : State). Awaiting text ds (declarationOf text k name x f) place j work) (sym (e ∙ g .state)) (bare-awaits text k name x f h ds place (g .before) work (g .listed) (g .room))
 
 -- ---- None.
 
@@ -70,7 +64,7 @@ plain-read {w} {s} {e} q text ds place name x P work g clears = record {
     course = λ K b. clears K (atDimensions text name x b) (withOne (declarationOf text F.Plain name x T.unspecified) b) (λ p. refl);
     number = refl;
     equals = sym q;
-    awaiting = bare-waits g refl F.Plain name x;
+    awaiting = bare-waits g refl F.Plain name x T.unspecified tt;
     seen = g .seen;
     within = g .within;
     paid = g .paid;
@@ -95,12 +89,14 @@ input-defined name equal {text} {w} {s} {work} {a} {e} k f q ds place x g = thro
           course = y .course;
           number = refl;
           equals = sym q;
-          awaiting = input-waits g (y .state) F.Input name x;
+          awaiting = bare-waits g (y .state) F.Input name x T.fromInput tt;
           seen = y .seen;
           within = h .within;
           paid = h .paid;
           others = others-same (y .state);
         }
+
+-- ---- An expression.
 
 pub computed-defined : (name equal : Word) {text : List ℕ} {w : Word} {s : State} {work work′ : List ℕ} {r : Defined} → (kindNo (w .kind) ≡ 44 → ⊥) → Computes text equal w s work work′ r
     → Follows text name equal w s work work′ r

@@ -19,15 +19,14 @@ use Rattle.dimensions.proofs.Telling.{expected, refuses, through, word-taken}
 use Rattle.dimensions.specs.Extents.{closedState}
 use Rattle.dimensions.specs.Telling.{Tells, same}
 use Rattle.image.specs.declared.facilities.Kind.the-variants as F
-use Rattle.language.specs.Characters.{folded}
 use Rattle.language.specs.Alternatives.{closing, plainWord}
 use Rattle.language.specs.Building.{Built, wordNo}
+use Rattle.language.specs.Characters.{folded}
 use Rattle.language.specs.Declaring.{makeInput}
 use Rattle.language.specs.Kinds.{aConstant, closeParen, comma}
 use Rattle.language.specs.Machine.{again, ask, functionOf, level, make, withinCeilings}
 use Rattle.language.specs.Scan as L
 use Rattle.language.specs.Tree as T
-use Rattle.language.specs.Tree.{Extent}
 use Rattle.language.specs.Words.{Position, position}
 use Rattle.words.specs.declared.Word.{Word}
 use Rattle.words.specs.Meaning.{positioned}

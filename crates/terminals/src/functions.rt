@@ -73,7 +73,7 @@ fn behind_equal(
     }
 }
 
-// The function behind a terminal's dimensions, of which there are fewer than two.
+// The function behind a terminal's dimensions; where there are two it has none.
 pub fn function(
     text: &[u8],
     name: Word,

@@ -1,4 +1,4 @@
-// Terminals (the manual, 4.3), read as the machine of the grammar reads them: plain, of an input, or computed by an expression.
+// Terminals (the manual, 6), read as the machine of the grammar reads them: plain, of an input, or computed by an expression.
 use course::Answer;
 use image::facilities::Kind;
 use words::Position;
