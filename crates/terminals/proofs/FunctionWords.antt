@@ -19,10 +19,9 @@ use Rattle.language.specs.Scan.{same}
 use Rattle.language.specs.Sections.{ruleOf}
 use Rattle.language.specs.Words as L
 use Rattle.language.specs.Words.{fault}
+use Rattle.operands.specs.References.{lettersOf}
 use Rattle.words.specs.declared.Word.{Word}
 use Rattle.words.specs.Meaning.{positioned}
-use Rattle.work.specs.Names.{letters}
-use Rattle.terminals.specs.Inputs.{lettersOf}
 
 -- What comes behind INPUT.
 abbrev pub inputStack : Stack → Stack
@@ -61,11 +60,11 @@ module _ (text : List ℕ) (w : Word) (K : Stack) (b : Built) (s : State) where
 
   module _ (z : Seen text w) where
     pub name-same : kindNo (w .kind) ≡ 1 → same (lettersOf text w) (nameOf (wordNo 1 b)) ≡ true → runs text (again ∷ K) w b s ≡ runsOn text K (behind text w) b (countsOf s)
-    unfolding runsOn run feed letters
+    unfolding runsOn run feed
     name-same e h = rw (name-ahead text w z e, h)
 
     pub name-different : kindNo (w .kind) ≡ 1 → same (lettersOf text w) (nameOf (wordNo 1 b)) ≡ false → runs text (again ∷ K) w b s ≡ refused (fault (positioned (w .at)) 3)
-    unfolding runsOn run feed letters
+    unfolding runsOn run feed
     name-different e h = rw (name-ahead text w z e, h)
 
     pub no-name : (kindNo (w .kind) ≡ 1 → ⊥) → runs text (again ∷ K) w b s ≡ refused (fault (positioned (w .at)) 3)

@@ -28,10 +28,11 @@ use Rattle.language.specs.Machine.{again, ask, functionOf, level, make, withinC
 use Rattle.language.specs.Scan as L
 use Rattle.language.specs.Tree as T
 use Rattle.language.specs.Words.{Position, position}
+use Rattle.operands.specs.References.{lettersOf}
 use Rattle.words.specs.declared.Word.{Word}
 use Rattle.words.specs.Meaning.{positioned}
 use Rattle.work.specs.Names.{letters}
-use Rattle.terminals.specs.Inputs.{Closing, Constants, InputRead, Inputs, Moved, Repeats, atFunction, lettersOf, nameStack, withOne}
+use Rattle.terminals.specs.Inputs.{Closing, Constants, InputRead, Inputs, Moved, Repeats, atFunction, nameStack, withOne}
 use Rattle.terminals.proofs.FunctionWords.{constant-taken, input-taken, inputStack, name-different, name-same, no-name}
 
 -- ---- A constant that is not kept.
@@ -57,7 +58,7 @@ letters-alike text v w {p} {q} e f g h =
 
 module _ {text : List ℕ} (name : Word) {w : Word} {s : State} {a : Answer} where
   pub repeated : kindNo (w .kind) ≡ 1 → L.same (lettersOf text w) (lettersOf text name) ≡ true → Took text w (countsOf s) s a → Repeats text name w s a
-  unfolding wordNo
+  unfolding wordNo letters
   repeated e h t x equal z f = record { done = λ d. read (t .done d); refused = λ i d. absurd (true≢false (sym f ∙ t .refused i d .0)); full = λ d. absurd (t .full d) }
     where
       step : (K : Stack) (b : Built) → runs text (again ∷ K) w (atFunction text name x equal b) s ≡ runsOn text K (behind text w) (atFunction text name x equal b) (countsOf s)
@@ -67,7 +68,7 @@ module _ {text : List ℕ} (name : Word) {w : Word} {s : State} {a : Answer} whe
       read p = record { course = λ K b. step K b ∙ rw (p .words z, p .counts); state = state-of (p .counts) (p .kept); seen = p .seen }
 
   pub different : kindNo (w .kind) ≡ 1 → L.same (lettersOf text w) (lettersOf text name) ≡ false → Refuses w 3 a → Repeats text name w s a
-  unfolding wordNo
+  unfolding wordNo letters
   different e h r x equal z f = refuses 3 r (λ K b. name-different text w K (atFunction text name x equal b) s z e h)
 
   pub unnamed : (kindNo (w .kind) ≡ 1 → ⊥) → Refuses w 3 a → Repeats text name w s a

@@ -16,15 +16,10 @@ use Rattle.language.specs.Declaring.{makeInput, withTerminal}
 use Rattle.language.specs.Kinds.{aConstant, closeParen, equalSign, inputWord}
 use Rattle.language.specs.Machine.{again, ask, functionOf, make, withinCeilings}
 use Rattle.language.specs.Tree as T
-use Rattle.language.specs.Tree.{Declaration, Extent, Name}
+use Rattle.language.specs.Tree.{Declaration, Extent}
 use Rattle.language.specs.Words as L
 use Rattle.words.specs.declared.Word.{Word}
 use Rattle.words.specs.Meaning.{positioned}
-use Rattle.work.specs.Names.{letters}
-
--- The letters of a word, in capitals.
-abbrev pub lettersOf : List ℕ → Word → Name
-lettersOf text w = letters text (w .at .place) (w .size)
 
 -- A terminal at the end of its list.
 abbrev pub withOne : Declaration → Built → Built

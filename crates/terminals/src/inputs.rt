@@ -11,7 +11,8 @@ use words::Word;
 use words::places;
 ghost use mathlib.Core.Path.{_≡_};
 ghost use Rattle.language.specs.Scan as L;
-ghost use Rattle.terminals.specs.Inputs.{Closing, Constants, Inputs, Repeats, lettersOf};
+ghost use Rattle.operands.specs.References.{lettersOf};
+ghost use Rattle.terminals.specs.Inputs.{Closing, Constants, Inputs, Repeats};
 
 // Takes a constant that must come; it is not kept.
 fn constant(text: &[u8], w: Word, s: State) -> Answer
