@@ -6,3 +6,5 @@ pub mod LeafLaws
 pub mod ReachedLaws
 pub mod EndLaws
 pub mod SignLaws
+pub mod StoreLaws
+pub mod KindTests

@@ -66,6 +66,18 @@ reached-as {s = s} {work} x e f = record {
   nodes = x .nodes ∙ ap (λ (m : ℕ). s .nodes + m) f;
 }
 
+-- More may be owed.
+pub cheaper : {text : List ℕ} {sc : Scope} {more pay size : ℕ} {ns : List Noted} {s : State} {work : List ℕ} {w₁ : Word} {s₁ : State} {work₁ : List ℕ} → Reached text sc more pay ns size s work w₁ s₁ work₁
+    → {owed : ℕ} → pay ≤ owed → Reached text sc more owed ns size s work w₁ s₁ work₁
+cheaper {s₁ = s₁} x h = record {
+  seen = x .seen;
+  pays = pays-on (x .pays) (pays-refl s₁) (omega (arith, h));
+  counted = x .counted;
+  nesting = x .nesting;
+  held = x .held;
+  nodes = x .nodes;
+}
+
 module _ {text : List ℕ} {sc : Scope} {n : M.Counts} {w : Word} {s : State} {acts : ℕ} {work : List ℕ} (st : Standing text sc n w s acts work) where
   pub start-reached : Reached text sc 0 0 [] 0 s work w s work
   start-reached = record {

@@ -11,6 +11,7 @@ use Rattle.course.specs.Says.{pushed}
 use Rattle.language.specs.Building.{Built, withLefts}
 use Rattle.language.specs.Describe.{Noted, expressionSize, lastOf, leftNodes, leftSize, nodesOf}
 use Rattle.language.specs.Declaring.{treeSteps}
+use Rattle.language.specs.Description as D
 use Rattle.language.specs.Kinds.{aName}
 use Rattle.language.specs.Machine.{Ask, ask, keep, make, refused, storeSign}
 use Rattle.language.specs.Naming.{Scope}
@@ -71,6 +72,11 @@ AfterLeft a text w₁ s₁ acts work₁ work′ r =
 abbrev pub sidesOf : ℕ → Left → Sides
 sidesOf base (T.single e) = One (lastOf base (expressionSize e))
 sidesOf base (T.pair e f) = Two (lastOf base (expressionSize e)) (lastOf (base + expressionSize e) (expressionSize f))
+
+-- The record of a store, by those of its sides.
+abbrev pub sided : ℕ → Sides → ℕ → D.Action
+sided k (One l) r = D.store k l r
+sided k (Two l m) r = D.storePair k l m r
 
 -- A left side waits for its store.
 abbrev pub withLeft : Left → Built → Built

@@ -15,7 +15,7 @@ ghost use Rattle.course.specs.Course.{kindNo};
 ghost use Rattle.grammar.specs.Following.{among};
 ghost use Rattle.language.specs.Machine as L;
 ghost use Rattle.language.specs.Machine.{ask};
-ghost use Rattle.phrases.specs.Phrases.{same};
+ghost use Rattle.phrases.specs.Phrases.{afterName, same};
 ghost use Rattle.simple.specs.Actions.{Acts};
 ghost use Rattle.simple.specs.Leaves.{Performs};
 ghost use Rattle.simple.specs.Reached.{Arrows};
@@ -118,4 +118,88 @@ pub fn signed(
         return leaves::put(state, Action::Return, at, next, work, acts);
     }
     arrow(state, kind == CALL, text, next, work, n, acts)
+}
+
+// Whether a reference goes on behind a name in an operation: `[`, CON, `@`, `<-` or `=` comes.
+fn refers(kind: u8) -> bool
+    ensures { λ r. ⌜ r ≡ among kind (19 ∷ 38 ∷ 18 ∷ 29 ∷ 16 ∷ []) ⌝ }
+{
+    if kind == kinds::OPEN_BRACKET {
+        return true;
+    }
+    if kind == stores::CON {
+        return true;
+    }
+    if kind == stores::AT {
+        return true;
+    }
+    stores::signs(kind)
+}
+
+// The same in a state: `[` or `@` comes.
+fn sets(kind: u8) -> bool
+    ensures { λ r. ⌜ r ≡ among kind (19 ∷ 18 ∷ []) ⌝ }
+{
+    if kind == kinds::OPEN_BRACKET {
+        return true;
+    }
+    kind == stores::AT
+}
+
+// An action of an operation, behind its first name.
+pub fn named_in_operation(
+    s: State,
+    name: Word,
+    text: &[u8],
+    w: Word,
+    work: &mut [u8; 275296],
+    n: Counts,
+    acts: u16,
+) -> Acted
+    ensures { λ r. ⌜ Acts (ask L.operationName ∷ []) (afterName name) (now (text .entry)) n w s acts (now (work .entry)) (now (work .exit)) r ⌝ }
+{
+    let kind = w.kind;
+    if refers(kinds::number(kind)) {
+        let first = phrases::reference(s, name, text, w, work);
+        let verdict = first.verdict;
+        let Verdict::Done = verdict else {
+            return Acted {
+                answer: first,
+                actions: acts,
+            };
+        };
+        let state = first.state;
+        let next = first.next;
+        return stores::rest(state, text, next, work, acts);
+    }
+    perform(s, name, text, w, work, n, acts)
+}
+
+// An action of a state, behind its first name.
+pub fn named_in_state(
+    s: State,
+    name: Word,
+    text: &[u8],
+    w: Word,
+    work: &mut [u8; 275296],
+    n: Counts,
+    acts: u16,
+) -> Acted
+    ensures { λ r. ⌜ Acts (ask L.stateName ∷ []) (afterName name) (now (text .entry)) n w s acts (now (work .entry)) (now (work .exit)) r ⌝ }
+{
+    let kind = w.kind;
+    if sets(kinds::number(kind)) {
+        let first = phrases::reference(s, name, text, w, work);
+        let verdict = first.verdict;
+        let Verdict::Done = verdict else {
+            return Acted {
+                answer: first,
+                actions: acts,
+            };
+        };
+        let state = first.state;
+        let next = first.next;
+        return stores::set(state, text, next, work, acts);
+    }
+    perform(s, name, text, w, work, n, acts)
 }
