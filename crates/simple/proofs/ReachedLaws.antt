@@ -147,6 +147,24 @@ module _ {text : List ℕ} {sc : Scope} {n : M.Counts} {w : Word} {s : State} {a
       nodes = omega (arith, y .pending .nodes, x .nodes);
     }
 
+  -- ---- Where all is paid for, reading stands there.
+
+  pub standing-reached : {more : ℕ} {ns : List Noted} {size : ℕ} {w₁ : Word} {s₁ : State} {work₁ : List ℕ} → Reached text sc more 0 ns size s work w₁ s₁ work₁ → Standing text sc n w₁ s₁ acts work₁
+  standing-reached {work₁ = work₁} x = record {
+    seen = x .seen;
+    short = st .short;
+    whole = whole-other work work₁ (other-reached x) (st .whole);
+    within = within-reached x;
+    known = known-reached x;
+    facilities = st .facilities ∙ sym (x .pays .known);
+    nodes = omega (arith, st .nodes, x .pays .nodes, x .pays .states);
+    actions = omega (arith, st .actions, x .pays .counted);
+  }
+
+  pub standing-read : {P : Stack} {pre : Built → Built} {r : Answer} {work₁ : List ℕ} → Read text sc P [] pre (held (s .nodes) work) (s .nodes) (s .nesting) w s r work₁ → Comes text 0 1 s (r .next) (r .state)
+      → Standing text sc n (r .next) (r .state) acts work₁
+  standing-read y c = standing-reached (read-reached start-reached y c)
+
   -- ---- The record of the action.
 
   module _ {ns : List Noted} {size : ℕ} {w₁ : Word} {s₁ : State} {work₁ : List ℕ} (x : Reached text sc 1 0 ns size s work w₁ s₁ work₁) {a : D.Action} {at : Position} {work₂ : List ℕ} {r : Acted} (y : Puts a at w₁ s₁ acts work₁ work₂ r)
