@@ -1,1 +1,5 @@
+pub mod BodyLaws
+pub mod FilledLaws
+pub mod JudgedLaws
 pub mod LetterLaws
+pub mod WholeLaws

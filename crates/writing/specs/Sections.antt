@@ -1,6 +1,7 @@
 -- The sections that the working array holds, and the places beside them.
 use mathlib.Core.List.{List, _++_}
 use Prim.Native.Nat.{ℕ, _≤_, min}
+use Rattle.image.specs.declared.header.Counts.{Counts}
 use Rattle.language.specs.Encode.{Sections, concat}
 use Rattle.noted.specs.Noted.{Beside}
 use Rattle.tables.specs.declared.Table.{Table}
@@ -27,6 +28,17 @@ within c = record {
   states = min (c .states) 256;
 }
 
+-- What a header counts, with the bytes of names.
+abbrev pub countsHeld : Tally → ℕ → Counts
+countsHeld c names = record {
+  facilities = c .facilities;
+  operations = c .operations;
+  expressions = c .nodes;
+  actions = c .actions;
+  states = c .states;
+  names = names;
+}
+
 -- The letters of the first n names of a table, one name after the other.
 unfoldable pub lettersOf : List ℕ → Table → ℕ → List ℕ → List ℕ
 lettersOf text t n w = concat (λ s. s) (namesOf text (rows t n w) n)
@@ -36,6 +48,13 @@ unfoldable pub namesHeld : List ℕ → List ℕ → Tally → List ℕ
 namesHeld text w c =
     lettersOf text T.FacilityNames (c .facilities) w
     ++ (lettersOf text T.OperationNames (c .operations) w ++ lettersOf text T.StateNames (c .states) w)
+
+-- The records of all sections.
+unfoldable pub recordsHeld : List ℕ → Tally → List ℕ
+recordsHeld w c =
+    rows T.Facilities (c .facilities) w
+    ++ (rows T.Operations (c .operations) w
+    ++ (held (c .nodes) w .nodes ++ (rows T.Actions (c .actions) w ++ rows T.States (c .states) w)))
 
 unfoldable pub sectionsHeld : List ℕ → List ℕ → Tally → Sections
 sectionsHeld text w c = record {

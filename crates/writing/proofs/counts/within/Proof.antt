@@ -1,3 +1,5 @@
+use mathlib.Core.Path.{refl}
+use native.Mathlib.Omega.{arith}
 use Rattle.writing.specs.Sections.{within}
 use borrow.Author.Needs.{needs}
 use Rattle.writing.proofs.counts.within.Statement.{statement}
@@ -21,7 +23,7 @@ least-requires-5 c κs = search needs
 returns : tie.Need-returns
 unfolding within
 returns c =
-    rw (c .before .before .before .before .least .ensures, c .before .before .before .least2 .ensures, c .before .before .least3 .ensures, c .before .least4 .ensures, c .least5 .ensures)
+    (rw (c .before .before .before .before .least .ensures, c .before .before .before .least2 .ensures, c .before .before .least3 .ensures, c .before .least4 .ensures, c .least5 .ensures) refl, record { facilities = omega (arith, c .before .before .before .before .least .ensures); operations = omega (arith, c .before .before .before .least2 .ensures); nodes = omega (arith, c .before .before .least3 .ensures); actions = omega (arith, c .before .least4 .ensures); states = omega (arith, c .least5 .ensures) })
 
 pub within-spec : {M : Type 1} → statement M
 within-spec =
