@@ -2,4 +2,8 @@ pub mod BodyLaws
 pub mod FilledLaws
 pub mod JudgedLaws
 pub mod LetterLaws
+pub mod NarrowBack
+pub mod NotedBack
+pub mod PlacesBack
+pub mod StandingLaws
 pub mod WholeLaws
