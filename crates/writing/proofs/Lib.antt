@@ -3,6 +3,7 @@ pub mod FilledLaws
 pub mod JudgedLaws
 pub mod LetterLaws
 pub mod NarrowBack
+pub mod NodesFit
 pub mod NotedBack
 pub mod PlacesBack
 pub mod StandingLaws
