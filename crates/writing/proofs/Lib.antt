@@ -1,3 +1,4 @@
+pub mod ActionsFit
 pub mod BodyLaws
 pub mod FilledLaws
 pub mod JudgedLaws
