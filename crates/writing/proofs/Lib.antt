@@ -9,4 +9,6 @@ pub mod NodesFit
 pub mod NotedBack
 pub mod PlacesBack
 pub mod StandingLaws
+pub mod TextFits
+pub mod TextNodesFit
 pub mod WholeLaws
