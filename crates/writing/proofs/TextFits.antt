@@ -12,6 +12,7 @@ use Rattle.language.specs.Description as D
 use Rattle.language.specs.Description.{Description, Facility, Node, Operation, Places, State, actionAt, actionPlace, facilityAt, facilityPlace, noFacility, noRun, nodeAt, nodePlace, operationAt, operationPlace, sequencingFrom, stateAt, statePlace}
 use Rattle.language.specs.Encode.{concat, encode, nameBytes}
 use Rattle.language.specs.Naming.{Scope}
+use Rattle.language.specs.Tree as T
 use Rattle.language.specs.Tree.{Declaration, Text}
 use Rattle.legal.specs.InOrder.{stateExpressions}
 use Rattle.legal.specs.LegalTexts.{facilities-nodes, operations-nodes, states-nodes}
@@ -22,9 +23,9 @@ use Rattle.legal.specs.WithinCounts.{declarationsOf, namesIn}
 use Rattle.records.proofs.ActionBack as A
 use Rattle.written.specs.Back.{FacilityInRange, InRange, NodeInRange, OperationInRange, StateInRange}
 use Rattle.written.specs.Whole.{encode-long}
-use Rattle.writing.proofs.ActionsFit.{ActsFit, acts-append, join, behind}
+use Rattle.writing.proofs.ActionsFit.{ActsFit, acts-append}
 use Rattle.writing.proofs.DeclarationsFit.{DeclarationFits, Each, FacilityFit, LengthFits, declarations-fit, each-append, each-at, facilities-fit, facility-places, operation-places, operations-fit, state-places, states-fit}
-use Rattle.writing.proofs.NodesFit.{AllFit, Here, NodeFits, here-left}
+use Rattle.writing.proofs.NodesFit.{AllFit, Here, NodeFits, fit-append, here-left, here-right}
 use Rattle.writing.proofs.TextNodesFit.{facility-nodes, operation-acts, operation-nodes, state-acts, state-nodes}
 use Rattle.writing.specs.NearTexts.{TextNear}
 use Rattle.writing.specs.Standing.{FacilityNear, Marked, Near, Readable, endsOf, narrowFacility, narrowNode, narrowed}
@@ -60,3 +61,229 @@ each-map P Q g (x ∷ xs) h f = (h x (f .0), each-map P Q g xs h (f .1))
 each-so : {A : Type 0} (P Q : A → Type 0) (xs : List A) → ((x : A) → P x → Q x) → Each P xs → Each Q xs
 each-so P Q [] h f = tt
 each-so P Q (x ∷ xs) h f = (h x (f .0), each-so P Q xs h (f .1))
+
+-- ---- The whole.
+
+-- As many records as the tables have room for.
+pub record Counted (d : Description) : Type 0 where
+  pub facilities : length (d .facilities) ≤ 256
+  pub operations : length (d .operations) ≤ 128
+  pub expressions : length (d .expressions) ≤ 65535
+  pub actions : length (d .actions) ≤ 65535
+  pub states : length (d .states) ≤ 256
+
+module _ (t : Text) (tidy : TextTidy t) (near : TextNear t) (l : Option ℕ) (fits : LengthFits l) (scope : Scope)
+    (few-facilities : length (scope .facilities) ≤ 256) (few-operations : length (scope .operations) ≤ 65535) (few-states : length (scope .states) ≤ 65535) where
+  abbrev ds : List Declaration
+  ds = declarationsOf t
+
+  abbrev first : ℕ
+  first = facilitySize ds
+
+  abbrev second : ℕ
+  second = first + operationExpressions (t .operations)
+
+  abbrev declared : List Noted
+  declared = facilityNodes [] 0 ds
+
+  abbrev operated : List Noted
+  operated = operationNodes (namesIn t) [] first (t .operations)
+
+  abbrev stated : List Noted
+  stated = stateNodes l scope second (t .states)
+
+  abbrev allNodes : List Noted
+  allNodes = declared ++ (operated ++ stated)
+
+  abbrev allActions : List NotedAction
+  allActions = operationActions (namesIn t) [] first (t .operations) ++ stateActions l scope second (t .states)
+
+  abbrev described : Description
+  described = record {
+    facilities = facilitiesOf 0 ds;
+    operations = operationsOf 0 (t .operations);
+    expressions = map (λ n. n .node) allNodes;
+    actions = map (λ a. a .action) allActions;
+    states = statesOf l second (operationRecords (t .operations)) (t .states);
+  }
+
+  abbrev placed : Places
+  placed = record {
+    facilities = map (λ d. placesOf (d .at) (d .function) (d .extent)) ds;
+    operations = map (λ o. o .at) (t .operations);
+    expressions = map (λ n. n .places) allNodes;
+    actions = map (λ a. a .at) allActions;
+    states = map (λ s. record { at = s .at; value = valuePlace (s .value) }) (t .states);
+  }
+
+  declarations : Each DeclarationFits ds
+  declarations =
+      each-append DeclarationFits (t .registers) _ (declarations-fit 0 (t .registers) (tidy .registers) (near .registers))
+      (each-append DeclarationFits (t .memories) (t .terminals) (declarations-fit 1 (t .memories) (tidy .memories) (near .memories)) (declarations-fit 2 (t .terminals) (tidy .terminals) (near .terminals)))
+
+  nodes-length : length allNodes ≡ second + stateExpressions l (t .states)
+  nodes-length =
+      omega (arith, length-append declared (operated ++ stated), length-append operated stated, facilities-nodes [] 0 ds, operations-nodes (namesIn t) [] first (t .operations), states-nodes l scope second (t .states))
+
+  actions-length : length allActions ≡ operationRecords (t .operations) + stateRecords (t .states)
+  actions-length =
+      omega (arith, length-append (operationActions (namesIn t) [] first (t .operations)) (stateActions l scope second (t .states)), operations-size (namesIn t) [] first (t .operations), states-size l scope second (t .states))
+
+  module _ (few : Counted described) where
+    abbrev narrowOf : Description
+    narrowOf = narrowed described
+
+    few-nodes : length allNodes ≤ 65535
+    few-nodes = omega (arith, few .expressions, length-map allNodes (λ (n : Noted). n .node))
+
+    few-actions : length allActions ≤ 65535
+    few-actions = omega (arith, few .actions, length-map allActions (λ (a : NotedAction). a .action))
+
+    few-declarations : length ds ≤ 256
+    few-declarations = omega (arith, few .facilities, facilities-count 0 ds)
+
+    -- ---- Expressions.
+
+    here : Here narrowOf 0 allNodes
+    unfolding nodeAt narrowed
+    here = here-all narrowOf 0 allNodes (λ j. rw (zero-add j) refl)
+
+    after-first : Here narrowOf first (operated ++ stated)
+    after-first = here-right narrowOf 0 declared (operated ++ stated) here first (omega (arith, facilities-nodes [] 0 ds))
+
+    all-fit : AllFit narrowOf 0 allNodes
+    all-fit =
+        let n = few-nodes in
+        let m = nodes-length in
+        fit-append narrowOf 0 declared (operated ++ stated)
+        (facility-nodes narrowOf [] 0 ds declarations (omega (arith, few-declarations)) (omega arith) (here-left narrowOf 0 declared (operated ++ stated) here)) first (omega (arith, facilities-nodes [] 0 ds))
+        (fit-append narrowOf first operated stated
+        (operation-nodes narrowOf (namesIn t) (omega (arith, few-declarations, length-map ds (λ (d : Declaration). d .name))) [] first (t .operations) (tidy .operations) (near .operations) (omega arith) (here-left narrowOf first operated stated after-first))
+        second (omega (arith, operations-nodes (namesIn t) [] first (t .operations)))
+        (state-nodes narrowOf l fits scope few-facilities second (t .states) (tidy .states) (near .states) (omega arith)
+        (here-right narrowOf first operated stated after-first second (omega (arith, operations-nodes (namesIn t) [] first (t .operations))))))
+
+    abbrev nowhere : Noted
+    nowhere = noted D.Node.broken D.nowhere
+
+    node-fits : (n : ℕ) → n < length allNodes → NodeFits narrowOf n (getD allNodes n nowhere)
+    node-fits n h = rw (zero-add n) at (fit-at narrowOf 0 allNodes nowhere all-fit n h)
+
+    node-is : (n : ℕ) → nodeAt described n ≡ getD allNodes n nowhere .node
+    unfolding nodeAt
+    node-is n = List·getD-map (λ (x : Noted). x .node) allNodes n nowhere
+
+    narrow-is : (n : ℕ) → nodeAt narrowOf n ≡ narrowNode (getD allNodes n nowhere .node)
+    unfolding nodeAt narrowed
+    narrow-is n = List·getD-map narrowNode (map (λ (x : Noted). x .node) allNodes) n D.Node.broken ∙ ap narrowNode (node-is n)
+
+    places-are : (n : ℕ) → nodePlace placed n ≡ getD allNodes n nowhere .places
+    unfolding nodePlace
+    places-are n = List·getD-map (λ (x : Noted). x .places) allNodes n nowhere
+
+    -- ---- Actions.
+
+    abbrev noAct : NotedAction
+    noAct = record { action = D.Action.broken; at = D.nowhere }
+
+    acts : ActsFit allActions
+    acts =
+        let n = few-nodes in
+        let m = nodes-length in
+        let k = actions-length in
+        let j = few-actions in
+        acts-append (operationActions (namesIn t) [] first (t .operations)) (stateActions l scope second (t .states))
+        (operation-acts (namesIn t) [] first (t .operations) (near .operations) (omega (arith, few .operations, operations-count 0 (t .operations))) (omega arith) (omega arith))
+        (state-acts l scope few-operations few-states second (t .states) (near .states) (omega arith) (omega arith))
+
+    action-is : (n : ℕ) → actionAt described n ≡ getD allActions n noAct .action
+    unfolding actionAt
+    action-is n = List·getD-map (λ (a : NotedAction). a .action) allActions n noAct
+
+    action-place : (n : ℕ) → actionPlace placed n ≡ getD allActions n noAct .at
+    unfolding actionPlace
+    action-place n = List·getD-map (λ (a : NotedAction). a .at) allActions n noAct
+
+    -- ---- Facilities, operations and states.
+
+    facilities : Each FacilityFit (facilitiesOf 0 ds)
+    facilities = facilities-fit 0 ds declarations (omega (arith, few-nodes, nodes-length))
+
+    operations : Each OperationInRange (operationsOf 0 (t .operations))
+    operations = operations-fit 0 (t .operations) (tidy .operations) (omega (arith, few-actions, actions-length))
+
+    states : Each StateInRange (statesOf l second (operationRecords (t .operations)) (t .states))
+    states = states-fit l second (operationRecords (t .operations)) (t .states) (tidy .states) (omega (arith, few-nodes, nodes-length)) (omega (arith, few-actions, actions-length))
+
+    narrow-facilities : Each FacilityInRange (map narrowFacility (facilitiesOf 0 ds))
+    narrow-facilities = each-map FacilityFit FacilityInRange narrowFacility (facilitiesOf 0 ds) (λ f r. r .range) facilities
+
+    names-few : length (nameBytes narrowOf) ≤ 256 * 640
+    unfolding nameBytes narrowed
+    names-few =
+        let fs = map narrowFacility (facilitiesOf 0 ds) in
+        let os = operationsOf 0 (t .operations) in
+        let ss = statesOf l second (operationRecords (t .operations)) (t .states) in
+        omega (
+          arith,
+          names-most (λ (f : Facility). f .name) fs (each-so FacilityInRange (λ f. length (f .name) < 256) fs (λ f r. r .name) narrow-facilities),
+          names-most (λ (o : Operation). o .name) os (each-so OperationInRange (λ o. length (o .name) < 256) os (λ o r. r .name) operations),
+          names-most (λ (s : State). s .name) ss (each-so StateInRange (λ s. length (s .name) < 256) ss (λ s r. r .name) states),
+          length-append (concat (λ (f : Facility). f .name) fs) (concat (λ (o : Operation). o .name) os ++ concat (λ (s : State). s .name) ss),
+          length-append (concat (λ (o : Operation). o .name) os) (concat (λ (s : State). s .name) ss),
+          length-map (facilitiesOf 0 ds) narrowFacility,
+          few .facilities,
+          few .operations,
+          few .states,
+        )
+
+    in-range : InRange narrowOf
+    unfolding facilityAt operationAt stateAt actionAt narrowed
+    in-range = record {
+      facilities = λ n h. each-at FacilityInRange noFacility (map narrowFacility (facilitiesOf 0 ds)) narrow-facilities n h;
+      operations = λ n h. each-at OperationInRange (record { name = []; body = noRun }) (operationsOf 0 (t .operations)) operations n h;
+      expressions = λ n h. subst (NodeInRange narrowOf n) (sym (narrow-is n)) (node-fits n (omega (arith, length-map (map (λ (x : Noted). x .node) allNodes) narrowNode, length-map allNodes (λ (x : Noted). x .node))) .range);
+      actions = λ n h. subst A.Fits (sym (action-is n)) (act-at allActions noAct acts n (omega (arith, length-map allActions (λ (a : NotedAction). a .action))) .0);
+      states = λ n h. each-at StateInRange (record { name = []; value = none; actions = noRun }) (statesOf l second (operationRecords (t .operations)) (t .states)) states n h;
+      whole = omega (
+        arith,
+        encode-long narrowOf,
+        names-few,
+        few .facilities,
+        few .operations,
+        few .expressions,
+        few .actions,
+        few .states,
+        length-map (facilitiesOf 0 ds) narrowFacility,
+        length-map (map (λ (x : Noted). x .node) allNodes) narrowNode,
+      );
+    }
+
+    pub text-readable : Readable described placed
+    unfolding facilityAt facilityPlace operationPlace statePlace
+    text-readable = record {
+      range = in-range;
+      bounds = λ n h. let f = each-at FacilityFit noFacility (facilitiesOf 0 ds) facilities n h in (f .words, f .bits);
+      ends = λ n h. subst (λ (x : Node). Marked (endsOf x)) (sym (node-is n)) (node-fits n (omega (arith, length-map allNodes (λ (x : Noted). x .node))) .ends);
+      besideFacilities = length-map ds (λ (d : Declaration). placesOf (d .at) (d .function) (d .extent)) ∙ sym (facilities-count 0 ds);
+      besideNodes = length-map allNodes (λ (x : Noted). x .places) ∙ sym (length-map allNodes (λ (x : Noted). x .node));
+      facilities = λ n h. each-at FacilityNear _ (map (λ (d : Declaration). placesOf (d .at) (d .function) (d .extent)) ds) (facility-places ds declarations) n h;
+      operations = λ n h. each-at Near D.nowhere (map (λ (o : T.Operation). o .at) (t .operations)) (operation-places (t .operations) (near .operations)) n h;
+      expressions = λ n h. let f = node-fits n (omega (arith, length-map allNodes (λ (x : Noted). x .places))) in rw (places-are n) (f .at, f .first, f .last);
+      actions = λ n h. rw (action-place n) (act-at allActions noAct acts n (omega (arith, length-map allActions (λ (a : NotedAction). a .at))) .1);
+      states = λ n h. each-at (λ (p : D.StatePlaces). Near (p .at) × Near (p .value)) (record { at = D.nowhere; value = D.nowhere }) (placed .states) (state-places (t .states) (near .states)) n h;
+    }
+
+-- The sequencing register of a text, if it has one, is as long as values are.
+abbrev pub Sequenced : Text → Type 0
+Sequenced t = LengthFits (lengthAt (facilitiesOf 0 (declarationsOf t)) (sequencingFrom 0 (facilitiesOf 0 (declarationsOf t))))
+
+pub readable : (t : Text) → TextTidy t → TextNear t → Sequenced t → Counted (describe t .description) → Readable (describe t .description) (describe t .places)
+unfolding describe
+readable t tidy near q few =
+    let ds = declarationsOf t in
+    let l = lengthAt (facilitiesOf 0 ds) (sequencingFrom 0 (facilitiesOf 0 ds)) in
+    text-readable t tidy near l q (record { facilities = namesIn t; operations = map (λ o. o .name) (t .operations); states = map (λ s. labelOf (s .label)) (t .states) })
+    (omega (arith, few .facilities, facilities-count 0 (declarationsOf t), length-map (declarationsOf t) (λ (d : Declaration). d .name)))
+    (omega (arith, few .operations, operations-count 0 (t .operations), length-map (t .operations) (λ (o : T.Operation). o .name)))
+    (omega (arith, few .states, states-count l (facilitySize ds + operationExpressions (t .operations)) (operationRecords (t .operations)) (t .states), length-map (t .states) (λ (s : T.State). labelOf (s .label)))) few
