@@ -55,7 +55,7 @@ both-right : (a b : Bool) → both a b ≡ true → b ≡ true
 both-right true b e = e
 both-right false b e = absurd (true≢false (sym e))
 
-pub name-short : (n : Name) → nameRight n ≡ true → length n ≤ 132
+name-short : (n : Name) → nameRight n ≡ true → length n ≤ 132
 unfolding nameRight longestName
 name-short [] e = omega arith
 name-short (b ∷ n) e =
@@ -151,6 +151,11 @@ pub facility-places : (ds : List Declaration) → Each DeclarationFits ds → Ea
 facility-places [] f = tt
 facility-places (d ∷ ds) f = (places-near (d .at) (d .function) (d .extent) (f .0 .at) (f .0 .function) (f .0 .extent), facility-places ds (f .1))
 
+pub facility-names : (base : ℕ) (ds : List Declaration) → Each DeclarationFits ds → Each (λ (f : Facility). length (f .name) ≤ 132) (facilitiesOf base ds)
+unfolding facilitiesOf
+facility-names base [] f = tt
+facility-names base (d ∷ ds) f = (name-short (d .name) (f .0 .name), facility-names (base + functionSize (d .function)) ds (f .1))
+
 -- ---- Operations.
 
 pub operations-fit : (a : ℕ) (os : List Operation) → OperationsTidy os → a + operationRecords os ≤ 65535 → Each OperationInRange (operationsOf a os)
@@ -162,6 +167,11 @@ operations-fit a (o ∷ os) t h =
 pub operation-places : (os : List Operation) → OperationsNear os → Each Near (map (λ o. o .at) os)
 operation-places [] n = tt
 operation-places (o ∷ os) n = (n .0 .0, operation-places os (n .1))
+
+pub operation-names : (a : ℕ) (os : List Operation) → OperationsTidy os → Each (λ (o : D.Operation). length (o .name) ≤ 132) (operationsOf a os)
+unfolding operationsOf
+operation-names a [] t = tt
+operation-names a (o ∷ os) t = (name-short (o .name) (t .0 .0), operation-names (a + actionsIn (o .body)) os (t .1))
 
 -- ---- States.
 
@@ -185,6 +195,11 @@ value-near (some v) h = h
 pub state-places : (ss : List State) → StatesNear ss → Each (λ (p : D.StatePlaces). Near (p .at) × Near (p .value)) (map (λ s. record { at = s .at; value = valuePlace (s .value) }) ss)
 state-places [] n = tt
 state-places (s ∷ ss) n = ((n .0 .0, value-near (s .value) (n .0 .1 .0)), state-places ss (n .1))
+
+pub state-names : (l : Option ℕ) (base a : ℕ) (ss : List State) → StatesTidy ss → Each (λ (s : D.State). length (s .name) ≤ 132) (statesOf l base a ss)
+unfolding statesOf
+state-names l base a [] t = tt
+state-names l base a (s ∷ ss) t = (label-short (s .label) (s .value) (t .0 .0), state-names l (base + stateSize l s) (a + actionsIn (s .actions)) ss (t .1))
 
 -- A state's value where the sequencing register has a length that values have.
 abbrev pub LengthFits : Option ℕ → Type 0

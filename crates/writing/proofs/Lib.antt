@@ -11,4 +11,5 @@ pub mod PlacesBack
 pub mod StandingLaws
 pub mod TextFits
 pub mod TextNodesFit
+pub mod TextsStand
 pub mod WholeLaws

@@ -53,7 +53,7 @@ unfolding concat
 nodes-narrow [] = refl
 nodes-narrow (e ∷ es) = rw (node-narrow e, nodes-narrow es)
 
-names-narrow : (fs : List Facility) → concat (λ f. f .name) (map narrowFacility fs) ≡ concat (λ f. f .name) fs
+pub names-narrow : (fs : List Facility) → concat (λ f. f .name) (map narrowFacility fs) ≡ concat (λ f. f .name) fs
 unfolding concat
 names-narrow [] = refl
 names-narrow (f ∷ fs) = ap (λ (s : List ℕ). f .name ++ s) (names-narrow fs)

@@ -40,7 +40,7 @@ made-beside : {f f′ o o′ e e′ a a′ s s′ : List ℕ} → f ≡ f′ →
 made-beside p q r u v = rw (p, q, r, u, v)
 
 module _ {text w : List ℕ} {c : Tally} {d : Description} (h : Stands text w c d) where
-  names-stand : namesHeld text w c ≡ nameBytes d
+  pub names-stand : namesHeld text w c ≡ nameBytes d
   unfolding namesHeld nameBytes
   names-stand =
       rw (
@@ -61,28 +61,3 @@ module _ {text w : List ℕ} {c : Tally} {d : Description} (h : Stands text w c 
 pub beside-stands : {w : List ℕ} {c : Tally} {d : Description} {p : Places} → StandsBeside w c d p → besideHeld w c ≡ besideOf d p
 unfolding besideHeld besideOf
 beside-stands h = made-beside (h .facilities) (h .operations) (h .expressions) (h .actions) (h .states)
-
--- ---- Names of at most 132 letters.
-
-letters-few : (f : ℕ → List ℕ) (i n : ℕ) → ((k : ℕ) → k < i + n → length (f k) ≤ 132) → length (concat (λ (s : List ℕ). s) (upTo f i n)) ≤ 132 * n
-unfolding concat upTo
-letters-few f i zero h = omega arith
-letters-few f i (suc n) h =
-    omega (arith, length-append (f i) (concat (λ (s : List ℕ). s) (upTo f (suc i) n)), h i (omega arith), letters-few f (suc i) n (λ k g. h k (omega arith)))
-
-module _ (text w : List ℕ) (c : Tally) (few : Few c) where
-  abbrev Short : Table → ℕ → Type 0
-  Short t n = (k : ℕ) → k < n → length (nameAt text (rows t n w) k) ≤ 132
-
-  table-few : (t : Table) (n : ℕ) → Short t n → length (lettersOf text t n w) ≤ 132 * n
-  unfolding lettersOf namesOf
-  table-few t n h = letters-few (nameAt text (rows t n w)) 0 n (λ k g. h k (omega arith))
-
-  -- They have room where judging puts them.
-  pub names-few : Short T.FacilityNames (c .facilities) → Short T.OperationNames (c .operations) → Short T.StateNames (c .states) → length (namesHeld text w c) ≤ 84480
-  unfolding namesHeld
-  names-few f o s =
-      let fs = lettersOf text T.FacilityNames (c .facilities) w in
-      let os = lettersOf text T.OperationNames (c .operations) w in
-      let ss = lettersOf text T.StateNames (c .states) w in
-      omega (arith, length-append fs (os ++ ss), length-append os ss, table-few T.FacilityNames (c .facilities) f, table-few T.OperationNames (c .operations) o, table-few T.StateNames (c .states) s, few .facilities, few .operations, few .states)

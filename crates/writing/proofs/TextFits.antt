@@ -24,7 +24,8 @@ use Rattle.records.proofs.ActionBack as A
 use Rattle.written.specs.Back.{FacilityInRange, InRange, NodeInRange, OperationInRange, StateInRange}
 use Rattle.written.specs.Whole.{encode-long}
 use Rattle.writing.proofs.ActionsFit.{ActsFit, acts-append}
-use Rattle.writing.proofs.DeclarationsFit.{DeclarationFits, Each, FacilityFit, LengthFits, declarations-fit, each-append, each-at, facilities-fit, facility-places, operation-places, operations-fit, state-places, states-fit}
+use Rattle.writing.proofs.DeclarationsFit.{DeclarationFits, Each, FacilityFit, LengthFits, declarations-fit, each-append, each-at, facilities-fit, facility-names, facility-places, operation-names, operation-places, operations-fit, state-names, state-places, states-fit}
+use Rattle.writing.proofs.NarrowBack.{names-narrow}
 use Rattle.writing.proofs.NodesFit.{AllFit, Here, NodeFits, fit-append, here-left, here-right}
 use Rattle.writing.proofs.TextNodesFit.{facility-nodes, operation-acts, operation-nodes, state-acts, state-nodes}
 use Rattle.writing.specs.NearTexts.{TextNear}
@@ -49,7 +50,7 @@ act-at [] z f n h = absurd (omega arith)
 act-at (x ∷ acts) z f zero h = f .0
 act-at (x ∷ acts) z f (suc n) h = act-at acts z (f .1) n (omega arith)
 
-names-most : {A : Type 0} (name : A → List ℕ) (xs : List A) → Each (λ x. length (name x) < 256) xs → length (concat name xs) ≤ 256 * length xs
+names-most : {A : Type 0} (name : A → List ℕ) (xs : List A) → Each (λ x. length (name x) ≤ 132) xs → length (concat name xs) ≤ 132 * length xs
 unfolding concat
 names-most name [] f = omega arith
 names-most name (x ∷ xs) f = omega (arith, length-append (name x) (concat name xs), f .0, names-most name xs (f .1))
@@ -57,10 +58,6 @@ names-most name (x ∷ xs) f = omega (arith, length-append (name x) (concat name
 each-map : {A B : Type 0} (P : A → Type 0) (Q : B → Type 0) (g : A → B) (xs : List A) → ((x : A) → P x → Q (g x)) → Each P xs → Each Q (map g xs)
 each-map P Q g [] h f = tt
 each-map P Q g (x ∷ xs) h f = (h x (f .0), each-map P Q g xs h (f .1))
-
-each-so : {A : Type 0} (P Q : A → Type 0) (xs : List A) → ((x : A) → P x → Q x) → Each P xs → Each Q xs
-each-so P Q [] h f = tt
-each-so P Q (x ∷ xs) h f = (h x (f .0), each-so P Q xs h (f .1))
 
 -- ---- The whole.
 
@@ -218,24 +215,27 @@ module _ (t : Text) (tidy : TextTidy t) (near : TextNear t) (l : Option ℕ) (fi
     narrow-facilities : Each FacilityInRange (map narrowFacility (facilitiesOf 0 ds))
     narrow-facilities = each-map FacilityFit FacilityInRange narrowFacility (facilitiesOf 0 ds) (λ f r. r .range) facilities
 
-    names-few : length (nameBytes narrowOf) ≤ 256 * 640
-    unfolding nameBytes narrowed
+    pub names-few : length (nameBytes described) ≤ 84480
+    unfolding nameBytes
     names-few =
-        let fs = map narrowFacility (facilitiesOf 0 ds) in
+        let fs = facilitiesOf 0 ds in
         let os = operationsOf 0 (t .operations) in
         let ss = statesOf l second (operationRecords (t .operations)) (t .states) in
         omega (
           arith,
-          names-most (λ (f : Facility). f .name) fs (each-so FacilityInRange (λ f. length (f .name) < 256) fs (λ f r. r .name) narrow-facilities),
-          names-most (λ (o : Operation). o .name) os (each-so OperationInRange (λ o. length (o .name) < 256) os (λ o r. r .name) operations),
-          names-most (λ (s : State). s .name) ss (each-so StateInRange (λ s. length (s .name) < 256) ss (λ s r. r .name) states),
+          names-most (λ (f : Facility). f .name) fs (facility-names 0 ds declarations),
+          names-most (λ (o : Operation). o .name) os (operation-names 0 (t .operations) (tidy .operations)),
+          names-most (λ (s : State). s .name) ss (state-names l second (operationRecords (t .operations)) (t .states) (tidy .states)),
           length-append (concat (λ (f : Facility). f .name) fs) (concat (λ (o : Operation). o .name) os ++ concat (λ (s : State). s .name) ss),
           length-append (concat (λ (o : Operation). o .name) os) (concat (λ (s : State). s .name) ss),
-          length-map (facilitiesOf 0 ds) narrowFacility,
           few .facilities,
           few .operations,
           few .states,
         )
+
+    same-names : length (nameBytes narrowOf) ≡ length (nameBytes described)
+    unfolding nameBytes narrowed
+    same-names = rw (names-narrow (facilitiesOf 0 ds))
 
     in-range : InRange narrowOf
     unfolding facilityAt operationAt stateAt actionAt narrowed
@@ -249,6 +249,7 @@ module _ (t : Text) (tidy : TextTidy t) (near : TextNear t) (l : Option ℕ) (fi
         arith,
         encode-long narrowOf,
         names-few,
+        same-names,
         few .facilities,
         few .operations,
         few .expressions,
@@ -278,12 +279,35 @@ module _ (t : Text) (tidy : TextTidy t) (near : TextNear t) (l : Option ℕ) (fi
 abbrev pub Sequenced : Text → Type 0
 Sequenced t = LengthFits (lengthAt (facilitiesOf 0 (declarationsOf t)) (sequencingFrom 0 (facilitiesOf 0 (declarationsOf t))))
 
-pub readable : (t : Text) → TextTidy t → TextNear t → Sequenced t → Counted (describe t .description) → Readable (describe t .description) (describe t .places)
-unfolding describe
-readable t tidy near q few =
-    let ds = declarationsOf t in
-    let l = lengthAt (facilitiesOf 0 ds) (sequencingFrom 0 (facilitiesOf 0 ds)) in
-    text-readable t tidy near l q (record { facilities = namesIn t; operations = map (λ o. o .name) (t .operations); states = map (λ s. labelOf (s .label)) (t .states) })
-    (omega (arith, few .facilities, facilities-count 0 (declarationsOf t), length-map (declarationsOf t) (λ (d : Declaration). d .name)))
-    (omega (arith, few .operations, operations-count 0 (t .operations), length-map (t .operations) (λ (o : T.Operation). o .name)))
-    (omega (arith, few .states, states-count l (facilitySize ds + operationExpressions (t .operations)) (operationRecords (t .operations)) (t .states), length-map (t .states) (λ (s : T.State). labelOf (s .label)))) few
+module _ (t : Text) (tidy : TextTidy t) (near : TextNear t) (q : Sequenced t) (few : Counted (describe t .description)) where
+  abbrev length-of : Option ℕ
+  length-of = lengthAt (facilitiesOf 0 (declarationsOf t)) (sequencingFrom 0 (facilitiesOf 0 (declarationsOf t)))
+
+  abbrev scope-of : Scope
+  scope-of = record { facilities = namesIn t; operations = map (λ o. o .name) (t .operations); states = map (λ s. labelOf (s .label)) (t .states) }
+
+  few-names : length (scope-of .facilities) ≤ 256
+  unfolding describe
+  few-names = omega (arith, few .facilities, facilities-count 0 (declarationsOf t), length-map (declarationsOf t) (λ (d : Declaration). d .name))
+
+  few-named : length (scope-of .operations) ≤ 65535
+  unfolding describe
+  few-named = omega (arith, few .operations, operations-count 0 (t .operations), length-map (t .operations) (λ (o : T.Operation). o .name))
+
+  few-labels : length (scope-of .states) ≤ 65535
+  unfolding describe
+  few-labels =
+      omega (
+        arith,
+        few .states,
+        states-count length-of (facilitySize (declarationsOf t) + operationExpressions (t .operations)) (operationRecords (t .operations)) (t .states),
+        length-map (t .states) (λ (s : T.State). labelOf (s .label)),
+      )
+
+  pub readable : Readable (describe t .description) (describe t .places)
+  unfolding describe
+  readable = text-readable t tidy near length-of q scope-of few-names few-named few-labels few
+
+  pub text-names : length (nameBytes (describe t .description)) ≤ 84480
+  unfolding describe
+  text-names = names-few t tidy near length-of q scope-of few-names few-named few-labels few
