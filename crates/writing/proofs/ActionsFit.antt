@@ -1,19 +1,18 @@
 -- The records of tidy actions whose words stand near have room for all that they say, and so have their expressions.
 use mathlib.Core.List.{List, [], _∷_, _++_}
 use mathlib.Core.Path.{_≡_, refl}
-use Prim.Native.Nat.{ℕ, suc, _+_, _≤_, _<_}
+use Prim.Native.Nat.{ℕ, _+_, _≤_}
 use native.Mathlib.Omega.{arith}
 use lib.ListN.{length}
-use Rattle.language.specs.Describe.{Noted, NotedAction, actionsIn, actionsOf, armsIn, expressionSize, expressionsIn, lastOf, leftNodes, leftSize, nodesIn, nodesOf, storeOf}
+use Rattle.language.specs.Describe.{Noted, NotedAction, actionsIn, actionsOf, armsIn, expressionSize, expressionsIn, leftNodes, leftSize, nodesIn, nodesOf, storeOf}
 use Rattle.language.specs.Description as D
-use Rattle.language.specs.Description.{Action, Description}
+use Rattle.language.specs.Description.{Description}
 use Rattle.language.specs.Naming.{Meaning, Scope, facility, meaning, ofOperation, ofState, operation, state, unknown}
 use Rattle.language.specs.Tree as T
 use Rattle.language.specs.Tree.{Actions, Expression, Left}
 use Rattle.legal.specs.Sizes.{in-size, left-size, nodes-size}
 use Rattle.legal.specs.Tidy.{ActionsTidy, ExpressionTidy, LeftTidy, reference-tidy}
 use Rattle.records.proofs.ActionBack.{Fits, Sign}
-use Rattle.records.proofs.NodeBack.{Half}
 use Rattle.writing.proofs.NodesFit.{AllFit, Here, Known, fit-append, here-left, here-right, known, nodes-fit}
 use Rattle.writing.specs.NearTexts.{ActionsNear, ExpressionNear, LeftNear}
 use Rattle.writing.specs.Standing.{Near}

@@ -1,10 +1,10 @@
 -- The sections of records: how long they are, and one behind the other in an image.
 use mathlib.Core.List.{List, _++_, append-assoc}
-use mathlib.Core.Path.{_≡_, refl, sym, ap, _∙_}
+use mathlib.Core.Path.{_≡_, ap, _∙_}
 use Prim.Native.Nat.{ℕ, _+_, _*_, _≤_}
 use native.Mathlib.Nat.{min-eq-left, mul-le-mul-left}
 use native.Mathlib.Omega.{arith}
-use lib.ListN.{drop, length, length-append, length-drop, length-take, take}
+use lib.ListN.{drop, length, length-append, length-drop, length-take}
 use lib.Seq.{length-take-le}
 use Rattle.image.specs.Header.{namesFrom}
 use Rattle.language.specs.Reading.{filled}

@@ -3,18 +3,17 @@ use mathlib.Core.Bool.{Bool, true, false, cond, true≢false}
 use mathlib.Core.List.{List, [], _∷_, _++_, map}
 use mathlib.Core.Option.{Option, none, some}
 use mathlib.Core.Path.{_≡_, refl, sym}
-use Prim.Native.Nat.{ℕ, zero, suc, _+_, _%_, _^_, _<_, _≤_}
+use Prim.Native.Nat.{ℕ, zero, suc, _+_, _^_, _<_, _≤_}
 use native.Mathlib.Omega.{arith}
 use borrow.Author.Tests.{leb-true, ltb-true}
 use lib.Dec.{eqb, leb, ltb}
 use lib.ListN.{getD, length}
 use Rattle.image.proofs.DeclarationBack.{ValueFits}
 use Rattle.language.specs.Canonical.{isCapital, nameParts, nameRight}
-use Rattle.language.specs.Describe.{actionsIn, bound, boundsOf, constantSize, expressionSize, lastOf}
-use Rattle.language.specs.DescribeText as X
-use Rattle.language.specs.DescribeText.{bitBounds, dimensionsOf, equalsPlace, facilitiesOf, facilityOf, facilitySize, functionNumber, functionSize, labelOf, operationRecords, operationsOf, placesOf, stateConstant, stateSize, statesOf, valueNumber, valuePlace, valueSize, wordBounds}
+use Rattle.language.specs.Describe.{actionsIn, bound, constantSize}
+use Rattle.language.specs.DescribeText.{bitBounds, dimensionsOf, equalsPlace, facilitiesOf, facilitySize, functionNumber, functionSize, labelOf, operationRecords, operationsOf, placesOf, stateConstant, stateSize, statesOf, valueNumber, valuePlace, valueSize, wordBounds}
 use Rattle.language.specs.Description as D
-use Rattle.language.specs.Description.{Facility, FacilityPlaces, isComputed}
+use Rattle.language.specs.Description.{Facility, isComputed}
 use Rattle.language.specs.Image.{ConstantRight}
 use Rattle.language.specs.Judging.{both}
 use Rattle.language.specs.Scan.{longestName, reservedKind}

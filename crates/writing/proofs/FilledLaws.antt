@@ -1,9 +1,9 @@
 -- A buffer that begins with some bytes and is zero behind them, and more bytes put behind those.
-use mathlib.Core.List.{List, [], _∷_, _++_, append-assoc}
-use mathlib.Core.Path.{_≡_, refl, sym, ap, _∙_}
+use mathlib.Core.List.{List, [], _++_}
+use mathlib.Core.Path.{_≡_, _∙_}
 use Prim.Native.Nat.{ℕ, zero, suc, _+_, _-_, _≤_}
 use native.Mathlib.Omega.{arith}
-use lib.ListN.{drop, length, length-append, length-replicate, take}
+use lib.ListN.{drop, length, length-append, length-replicate}
 use lib.Seq.{drop-append-add, take-append-seam}
 use Rattle.language.specs.Reading.{filled, zeroes}
 use Rattle.records.proofs.ByteLaws.{placed-whole}

@@ -2,17 +2,15 @@
 use mathlib.Core.Bool.{Bool, true, false, cond}
 use mathlib.Core.List.{List, [], _∷_, _++_}
 use mathlib.Core.Option.{Option, none, some}
-use mathlib.Core.Path.{_≡_, refl, sym, ap, _∙_, subst}
+use mathlib.Core.Path.{_≡_, refl}
 use Prim.Native.Nat.{ℕ, zero, suc, _+_, _-_, _*_, _/_, _%_, _^_, _<_, _≤_}
 use native.Mathlib.Nat.{mod-lt}
 use native.Mathlib.Omega.{arith}
 use lib.Dec.{ltb}
-use lib.ListN.{length, length-append}
-use Rattle.language.specs.Describe as B
+use lib.ListN.{length}
 use Rattle.language.specs.Describe.{Noted, armsOf, bound, boundsOf, constantNodes, constantSize, count, digitsAbove, expressionSize, lastOf, noted, nodesOf, notedPart}
 use Rattle.language.specs.Description as D
 use Rattle.language.specs.Description.{Description, Node, digitLength, furtherDigits, nodeAt}
-use Rattle.language.specs.Image.{ConstantRight}
 use Rattle.language.specs.Judging.{both}
 use Rattle.language.specs.Naming.{Meaning, Scope, facility, meaning, numberOf, ofFacility, operation, orElse, state, unknown}
 use Rattle.language.specs.Order.{constantStart, digitsStand, startAt, startNode}
@@ -22,7 +20,7 @@ use Rattle.language.specs.Tree.{Ends, Expression, Name}
 use Rattle.language.specs.Value.{Value, longest}
 use Rattle.language.specs.Words.{Position}
 use Rattle.legal.specs.Sizes.{nodes-size}
-use Rattle.legal.specs.Starts.{Stand, constant-starts, some-records}
+use Rattle.legal.specs.Starts.{Stand, constant-starts}
 use Rattle.legal.specs.Tidy.{ExpressionTidy}
 use Rattle.written.specs.Back.{NodeInRange}
 use Rattle.writing.specs.NearTexts.{EndsNear, ExpressionNear}

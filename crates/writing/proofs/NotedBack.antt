@@ -1,7 +1,7 @@
 -- Sections and the places beside them show the description that was written, and its places.
 use mathlib.Core.List.{List, [], _∷_, map}
-use mathlib.Core.Path.{_≡_, refl, ap, _∙_}
-use Prim.Native.Nat.{ℕ, zero, suc, _+_, _*_, _%_, _<_}
+use mathlib.Core.Path.{_≡_, refl}
+use Prim.Native.Nat.{ℕ, suc, _+_, _*_, _%_, _<_}
 use native.Mathlib.Nat.{zero-add}
 use native.Mathlib.Omega.{arith}
 use lib.ListN.{getD, length}
@@ -17,7 +17,7 @@ use Rattle.writing.proofs.PlacesBack.{FacilityAt, facilities-back, faci
 use Rattle.writing.proofs.StandingLaws.{beside-stands, sections-stand}
 use Rattle.writing.specs.declared.Tally.{Tally}
 use Rattle.writing.specs.Sections.{besideHeld, sectionsHeld}
-use Rattle.writing.specs.Standing.{Marked, Readable, Stands, StandsBeside, besideOf, endsOf, narrowFacility, narrowNode, zipped}
+use Rattle.writing.specs.Standing.{Marked, Readable, Stands, StandsBeside, besideOf, endsOf, narrowFacility, narrowNode}
 
 -- ---- Marks make narrow bounds whole.
 

@@ -1,7 +1,7 @@
 -- Places that were written beside records are read back, and so are the marks of their bounds.
 use mathlib.Core.List.{List, [], _∷_, _++_}
-use mathlib.Core.Path.{_≡_, refl, sym, ap, ap₂, _∙_}
-use Prim.Native.Nat.{ℕ, zero, suc, _+_, _*_, _/_, _%_, _<_, _≤_}
+use mathlib.Core.Path.{_≡_, refl, sym, ap, _∙_}
+use Prim.Native.Nat.{ℕ, zero, suc, _+_, _*_, _/_, _%_, _<_}
 use native.Mathlib.Nat.{mul-suc, mul-zero, zero-add}
 use native.Mathlib.Omega.{arith}
 use borrow.Author.Tests.{lt-ltb}
@@ -12,7 +12,7 @@ use Rattle.language.specs.Decode.{numberAt, upTo}
 use Rattle.language.specs.Description as D
 use Rattle.language.specs.Description.{Facility, FacilityPlaces, Node, NodePlaces, StatePlaces, noFacility, nodePlaces, nowhere}
 use Rattle.language.specs.Encode.{concat, little}
-use Rattle.language.specs.Words.{Position, position}
+use Rattle.language.specs.Words.{Position}
 use Rattle.noted.proofs.NotedLaws.{up-to-pick}
 use Rattle.noted.specs.Noted.{facilityBesideBytes, facilityPlacesNo, largeNo, nodeBesideBytes, nodePlacesNo, placeBytes, placeNo, stateBesideBytes, statePlacesNo}
 use Rattle.records.proofs.NodeBack.{half-back}

@@ -1,19 +1,16 @@
 -- What stands in the tables are the sections of the description, and the bytes of its places.
 use mathlib.Core.List.{List, [], _∷_, _++_, map}
-use mathlib.Core.Path.{_≡_, refl, ap, _∙_}
-use Prim.Native.Nat.{ℕ, zero, suc, _+_, _*_, _<_, _≤_}
-use native.Mathlib.Omega.{arith}
-use lib.ListN.{length, length-append}
-use Rattle.language.specs.Decode.{upTo}
+use mathlib.Core.Path.{_≡_, refl, ap}
+use Prim.Native.Nat.{ℕ, _+_}
 use Rattle.language.specs.Description.{Description, Places}
 use Rattle.language.specs.Encode.{Sections, concat, encode, imageOf, nameBytes, sectionsOf}
 use Rattle.noted.specs.Noted.{Beside}
 use Rattle.tables.specs.declared.Table.{Table}
 use Rattle.tables.specs.declared.Table.the-variants as T
-use Rattle.tables.specs.Names.{nameAt, namesOf}
+use Rattle.tables.specs.Names.{namesOf}
 use Rattle.tables.specs.Rows.{rows}
 use Rattle.writing.specs.declared.Tally.{Tally}
-use Rattle.writing.specs.Sections.{Few, besideHeld, lettersOf, namesHeld, sectionsHeld}
+use Rattle.writing.specs.Sections.{besideHeld, lettersOf, namesHeld, sectionsHeld}
 use Rattle.writing.specs.Standing.{Stands, StandsBeside, besideOf, zipped}
 
 concat-map : {A : Type 0} (f : A → List ℕ) (xs : List A) → concat (λ (s : List ℕ). s) (map f xs) ≡ concat f xs

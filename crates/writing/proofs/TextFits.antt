@@ -1,8 +1,8 @@
 -- THE DESCRIPTION OF A TIDY TEXT WHOSE WORDS STAND NEAR IS READABLE: sections and places beside them hold all of it.
 use mathlib.Core.List.{List, [], _∷_, _++_, map}
-use mathlib.Core.Option.{Option, none, some}
+use mathlib.Core.Option.{Option, none}
 use mathlib.Core.Path.{_≡_, refl, sym, ap, _∙_, subst}
-use Prim.Native.Nat.{ℕ, zero, suc, _+_, _*_, _^_, _<_, _≤_}
+use Prim.Native.Nat.{ℕ, zero, suc, _+_, _*_, _<_, _≤_}
 use native.Mathlib.Nat.{zero-add}
 use native.Mathlib.Omega.{arith}
 use lib.ListN.{List·getD-map, getD, length, length-append, length-map}
@@ -10,7 +10,7 @@ use Rattle.language.specs.Describe.{Noted, NotedAction, noted}
 use Rattle.language.specs.DescribeText.{describe, facilitiesOf, facilityNodes, facilitySize, labelOf, lengthAt, operationActions, operationExpressions, operationNodes, operationRecords, operationsOf, placesOf, stateActions, stateNodes, statesOf, valuePlace}
 use Rattle.language.specs.Description as D
 use Rattle.language.specs.Description.{Description, Facility, Node, Operation, Places, State, actionAt, actionPlace, facilityAt, facilityPlace, noFacility, noRun, nodeAt, nodePlace, operationAt, operationPlace, sequencingFrom, stateAt, statePlace}
-use Rattle.language.specs.Encode.{concat, encode, nameBytes}
+use Rattle.language.specs.Encode.{concat, nameBytes}
 use Rattle.language.specs.Naming.{Scope}
 use Rattle.language.specs.Tree as T
 use Rattle.language.specs.Tree.{Declaration, Text}

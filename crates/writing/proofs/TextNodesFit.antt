@@ -1,11 +1,11 @@
 -- The expressions and actions of the sections of a tidy text have room for what they say.
-use mathlib.Core.List.{List, [], _∷_, _++_, map}
+use mathlib.Core.List.{List, [], _∷_, _++_}
 use mathlib.Core.Option.{Option, none, some}
-use mathlib.Core.Path.{_≡_, refl}
+use mathlib.Core.Path.{_≡_}
 use Prim.Native.Nat.{ℕ, suc, _+_, _≤_}
 use native.Mathlib.Omega.{arith}
 use lib.ListN.{length, length-append}
-use Rattle.language.specs.Describe.{Noted, actionsIn, actionsOf, expressionSize, expressionsIn, nodesIn, nodesOf}
+use Rattle.language.specs.Describe.{Noted, actionsOf, expressionsIn, nodesIn}
 use Rattle.language.specs.DescribeText.{facilityNodes, facilitySize, functionNodes, functionSize, operationActions, operationExpressions, operationNodes, operationRecords, operationScope, stateActions, stateConstant, stateNodes, stateSize, valueNodes, valueSize}
 use Rattle.language.specs.Description.{Description}
 use Rattle.language.specs.Naming.{Scope}

@@ -1,6 +1,6 @@
 -- THE ARRAY HOLDS A TEXT: where the tables have the description of a tidy text and its places, what is judged of them is what the text is refused for, and their image is its image.
 use mathlib.Core.List.{List}
-use mathlib.Core.Path.{_≡_, ap, _∙_}
+use mathlib.Core.Path.{_≡_, ap}
 use Prim.Native.Nat.{ℕ, _*_, _≤_}
 use native.Mathlib.Omega.{arith}
 use lib.ListN.{length, length-take}

@@ -1,16 +1,15 @@
 -- The image of what the array holds: header, records and names, where there is room for them.
 use mathlib.Core.List.{List, [], _++_, append-assoc}
-use mathlib.Core.Path.{_≡_, refl, sym, ap, _∙_, subst}
-use Prim.Native.Nat.{ℕ, _+_, _*_, _<_, _≤_}
+use mathlib.Core.Path.{_≡_, refl, sym, ap, _∙_}
+use Prim.Native.Nat.{ℕ, _+_, _<_, _≤_}
 use native.Mathlib.Omega.{arith}
 use borrow.Author.Tests.{le-leb, lt-leb}
-use lib.ListN.{drop, length, length-append, replicate, take}
-use lib.Seq.{take-append-seam}
+use lib.ListN.{length, length-append, replicate}
 use Rattle.image.proofs.HeaderLaws.{header-bytes}
-use Rattle.image.proofs.ImageLaws.{Sized, bodyOf, image-header}
+use Rattle.image.proofs.ImageLaws.{Sized, image-header}
 use Rattle.image.specs.declared.header.Counts.{Counts}
 use Rattle.image.specs.Header.{headerNumbers, namesFrom}
-use Rattle.language.specs.Encode.{Sections, imageOf}
+use Rattle.language.specs.Encode.{imageOf}
 use Rattle.language.specs.Reading.{filled, withRoom}
 use Rattle.language.specs.RecordBytes.{fours}
 use Rattle.records.specs.Placed.{placed}

@@ -1,10 +1,10 @@
 -- A description and the places of its words, as the tables of the working array hold them.
 use mathlib.Core.List.{List, [], _∷_, _++_, map}
 use mathlib.Core.Path.{_≡_}
-use Prim.Native.Nat.{ℕ, _%_, _<_, _≤_}
+use Prim.Native.Nat.{ℕ, _%_, _<_}
 use lib.ListN.{length}
 use Rattle.language.specs.Description as D
-use Rattle.language.specs.Description.{Bounds, Description, Facility, FacilityPlaces, Node, NodePlaces, Places, StatePlaces, actionPlace, bounds, facilityAt, facilityPlace, nodeAt, nodePlace, operationPlace, statePlace}
+use Rattle.language.specs.Description.{Bounds, Description, Facility, FacilityPlaces, Node, Places, StatePlaces, actionPlace, bounds, facilityAt, facilityPlace, nodeAt, nodePlace, operationPlace, statePlace}
 use Rattle.language.specs.Encode.{actionBytes, concat, facilityRecords, nodeBytes, operationRecord, stateRecord}
 use Rattle.language.specs.Words.{Position}
 use Rattle.noted.specs.Noted.{Beside, facilityBesideBytes, nodeBesideBytes, placeBytes, stateBesideBytes}

@@ -1,8 +1,8 @@
 use borrow.Author.Needs.{needs}
 use mathlib.Core.Path.{_≡_, sym, ap, _∙_}
-use Prim.Native.Nat.{ℕ, _+_, _-_, _*_, _≤_}
+use Prim.Native.Nat.{ℕ, _-_, _*_, _≤_}
 use native.Mathlib.Omega.{arith}
-use lib.ListN.{length, length-append}
+use lib.ListN.{length}
 use Rattle.tables.specs.Rows.{size}
 use Rattle.writing.proofs.LetterLaws.{letters-all, letters-none, counted-more, lettersTo}
 use Rattle.writing.proofs.letters.count.Statement.{statement}
