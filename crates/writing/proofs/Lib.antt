@@ -5,6 +5,7 @@ pub mod FilledLaws
 pub mod JudgedLaws
 pub mod LetterLaws
 pub mod NarrowBack
+pub mod NearTrees
 pub mod NodesFit
 pub mod NotedBack
 pub mod PlacesBack

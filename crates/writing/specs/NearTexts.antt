@@ -4,8 +4,13 @@ use mathlib.Core.Option.{Option, none, some}
 use Prim.Native.Nat.{ℕ, _<_}
 use Rattle.language.specs.Tree as T
 use Rattle.language.specs.Tree.{Actions, Declaration, Ends, Expression, Extent, Function, Left, Operation, State, StateValue, Text}
+use Rattle.language.specs.Words.{Word, wordAt}
 use Rattle.records.proofs.ActionBack.{Sign}
 use Rattle.writing.specs.Standing.{Near}
+
+abbrev pub WordsNear : List Word → Type 0
+WordsNear [] = Unit {0}
+WordsNear (w ∷ ws) = Near (wordAt w) × WordsNear ws
 
 -- A mark has six bits for an operator's kind.
 abbrev pub Kind : ℕ → Type 0
