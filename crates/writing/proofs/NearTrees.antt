@@ -4,15 +4,20 @@ use mathlib.Core.List.{List, [], _∷_, _++_}
 use mathlib.Core.Logic.{_⊎_, inl, inr}
 use mathlib.Core.Path.{_≡_, refl}
 use native.Mathlib.Omega.{arith}
-use Prim.Native.Nat.{ℕ, _<_}
+use Prim.Native.Nat.{ℕ, zero, suc, _+_, _<_, _≤_}
 use borrow.Author.Tests.{eqb-true}
 use lib.Dec.{eqb}
+use lib.ListN.{drop, length, length-drop}
 use Rattle.language.specs.Grammar as G
 use Rattle.language.specs.Grammar.{Is}
 use Rattle.language.specs.Kinds.{atLeastSign, atMostSign, delayedSign, differenceSign, equalSign, equalsSign, exclusiveSign, extWord, greaterSign, hash, headWord, lessSign, plus, slash, star, sumSign, tailWord}
 use Rattle.language.specs.Notions as N
 use Rattle.language.specs.Notions.{Notion, Tree, firstPlace, isArithmetic, isCut, isReduction, isRelation, isStore}
-use Rattle.language.specs.Words.{Position, Word, sign}
+use Rattle.language.specs.Scan as S
+use Rattle.language.specs.Scan.{Item, itemAt}
+use Rattle.language.specs.Tree.{Text}
+use Rattle.language.specs.WordStage.{Scanned, noted, scan, scanFrom}
+use Rattle.language.specs.Words.{Position, Word, position, sign}
 use Rattle.records.proofs.ActionBack.{Sign}
 use Rattle.writing.specs.NearTexts.{ActionsNear, DeclarationsNear, EndsNear, ExpressionNear, ExtentNear, FunctionNear, LeftNear, OperationsNear, StatesNear, TextNear, ValueNear, WordsNear}
 use Rattle.writing.specs.Standing.{Near}
@@ -188,3 +193,26 @@ near (G.whole-text {us = us} {vs = vs} {ws = ws} x y z d) w =
     let u = right vs _ v in
     let decl = near x (left us _ w) in
     record { registers = decl .0; memories = decl .1 .0; terminals = decl .1 .1; operations = near y (left vs _ v); states = near z (left ws _ u) }
+
+-- ---- The words of a text of at most 32,768 bytes.
+
+noted-near : (p : Position) (i : Item) (r : Scanned) → Near p → WordsNear (r .words) → WordsNear (noted p i r .words)
+noted-near p S.gap r h g = g
+noted-near p (S.named n) r h g = (h, g)
+noted-near p (S.constant c) r h g = (h, g)
+noted-near p (S.sign k) r h g = (h, g)
+noted-near p (S.wrong n) r h g = g
+
+scanned-near : (k at : ℕ) (s : List ℕ) → (0 < length s → at + length s ≤ 32768) → WordsNear (scanFrom k at s .words)
+unfolding scanFrom
+scanned-near zero at s h = tt
+scanned-near (suc k) at [] h = tt
+scanned-near (suc k) at (b ∷ s) h =
+    let f = itemAt b s in
+    let l : at + suc (length s) ≤ 32768 = h (omega arith) in
+    noted-near (position at) (f .item) _ (omega arith)
+    (scanned-near k (at + f .size) (drop (f .size) (b ∷ s)) (λ g. omega (arith, length-drop (f .size) (b ∷ s))))
+
+pub text-near : (text : List ℕ) (t : Text) {h : ℕ} → length text ≤ 32768 → Is N.wholeText h (scan text .words) (N.text t) → TextNear t
+unfolding scan
+text-near text t l d = near d (scanned-near (length text) 0 text (λ g. omega arith))
