@@ -1,15 +1,17 @@
 -- THE DESCRIPTION OF A TIDY TEXT WHOSE WORDS STAND NEAR IS READABLE: sections and places beside them hold all of it.
+use mathlib.Core.Bool.{Bool, true, false, cond}
 use mathlib.Core.List.{List, [], _∷_, _++_, map}
-use mathlib.Core.Option.{Option, none}
+use mathlib.Core.Option.{Option, none, some}
 use mathlib.Core.Path.{_≡_, refl, sym, ap, _∙_, subst}
-use Prim.Native.Nat.{ℕ, zero, suc, _+_, _*_, _<_, _≤_}
+use Prim.Native.Nat.{ℕ, zero, suc, _+_, _-_, _*_, _<_, _≤_}
 use native.Mathlib.Nat.{zero-add}
 use native.Mathlib.Omega.{arith}
+use lib.Dec.{eqb, leb}
 use lib.ListN.{List·getD-map, getD, length, length-append, length-map}
 use Rattle.language.specs.Describe.{Noted, NotedAction, noted}
 use Rattle.language.specs.DescribeText.{describe, facilitiesOf, facilityNodes, facilitySize, labelOf, lengthAt, operationActions, operationExpressions, operationNodes, operationRecords, operationsOf, placesOf, stateActions, stateNodes, statesOf, valuePlace}
 use Rattle.language.specs.Description as D
-use Rattle.language.specs.Description.{Description, Facility, Node, Operation, Places, State, actionAt, actionPlace, facilityAt, facilityPlace, noFacility, noRun, nodeAt, nodePlace, operationAt, operationPlace, sequencingFrom, stateAt, statePlace}
+use Rattle.language.specs.Description.{Description, Facility, Node, Operation, Places, State, actionAt, actionPlace, facilityAt, facilityPlace, noFacility, noRun, nodeAt, nodePlace, operationAt, operationPlace, sequencingFrom, spanOf, stateAt, statePlace, wordLength}
 use Rattle.language.specs.Encode.{concat, nameBytes}
 use Rattle.language.specs.Naming.{Scope}
 use Rattle.language.specs.Tree as T
@@ -275,13 +277,42 @@ module _ (t : Text) (tidy : TextTidy t) (near : TextNear t) (l : Option ℕ) (fi
       states = λ n h. each-at (λ (p : D.StatePlaces). Near (p .at) × Near (p .value)) (record { at = D.nowhere; value = D.nowhere }) (placed .states) (state-places (t .states) (near .states)) n h;
     }
 
--- The sequencing register of a text, if it has one, is as long as values are.
+-- ---- The sequencing register.
+
+span-some : (b : D.Bounds) → 1 ≤ spanOf b
+unfolding spanOf
+span-some b = go (leb (b .first) (b .last))
+  where
+    go : (z : Bool) → 1 ≤ cond z (b .last - b .first + 1) (b .first - b .last + 1)
+    go true = omega arith
+    go false = omega arith
+
+word-some : (f : Facility) → 1 ≤ wordLength f
+unfolding wordLength
+word-some f = go (eqb (f .dimensions) 0)
+  where
+    go : (z : Bool) → 1 ≤ cond z 1 (spanOf (f .bits))
+    go true = omega arith
+    go false = span-some (f .bits)
+
+abbrev pub AtMost : ℕ → Option ℕ → Type 0
+AtMost m none = Unit {0}
+AtMost m (some l) = l ≤ m
+
+length-fits : (fs : List Facility) (n : Option ℕ) → AtMost 256 (lengthAt fs n) → LengthFits (lengthAt fs n)
+length-fits fs none h = tt
+length-fits fs (some n) h = (word-some (getD fs n noFacility), h)
+
+-- The sequencing register of a text, if it has one, is no longer than values are.
 abbrev pub Sequenced : Text → Type 0
-Sequenced t = LengthFits (lengthAt (facilitiesOf 0 (declarationsOf t)) (sequencingFrom 0 (facilitiesOf 0 (declarationsOf t))))
+Sequenced t = AtMost 256 (lengthAt (facilitiesOf 0 (declarationsOf t)) (sequencingFrom 0 (facilitiesOf 0 (declarationsOf t))))
 
 module _ (t : Text) (tidy : TextTidy t) (near : TextNear t) (q : Sequenced t) (few : Counted (describe t .description)) where
   abbrev length-of : Option ℕ
   length-of = lengthAt (facilitiesOf 0 (declarationsOf t)) (sequencingFrom 0 (facilitiesOf 0 (declarationsOf t)))
+
+  fitting : LengthFits length-of
+  fitting = length-fits (facilitiesOf 0 (declarationsOf t)) (sequencingFrom 0 (facilitiesOf 0 (declarationsOf t))) q
 
   abbrev scope-of : Scope
   scope-of = record { facilities = namesIn t; operations = map (λ o. o .name) (t .operations); states = map (λ s. labelOf (s .label)) (t .states) }
@@ -306,8 +337,8 @@ module _ (t : Text) (tidy : TextTidy t) (near : TextNear t) (q : Sequenced t) (f
 
   pub readable : Readable (describe t .description) (describe t .places)
   unfolding describe
-  readable = text-readable t tidy near length-of q scope-of few-names few-named few-labels few
+  readable = text-readable t tidy near length-of fitting scope-of few-names few-named few-labels few
 
   pub text-names : length (nameBytes (describe t .description)) ≤ 84480
   unfolding describe
-  text-names = names-few t tidy near length-of q scope-of few-names few-named few-labels few
+  text-names = names-few t tidy near length-of fitting scope-of few-names few-named few-labels few
