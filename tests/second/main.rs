@@ -1,9 +1,10 @@
 //! The command line: the trace program over `run.ddl` and standard input; with
 //! `--random SEED COUNT` the self-check; with `--text SEED` a text, and with
 //! `--input SEED LINES` input lines for `run.ddl`, to hold another simulator
-//! against this one.
+//! against this one; with `--images SEED MOST TEXT...` images that pass and
+//! that do not, those of the texts up to so many bytes among them.
 
-use second::trials::{check::check, supply};
+use second::trials::{check::check, forge, supply};
 use std::env;
 use std::fs;
 use std::io::{self, Read, Write};
@@ -16,7 +17,9 @@ fn main() -> ExitCode {
         [mode, seed, count] if mode == "--random" => checked(seed, count),
         [mode, seed] if mode == "--text" => supplied(seed, None),
         [mode, seed, lines] if mode == "--input" => supplied(seed, Some(lines)),
-        _ => Err("usage: second [--random SEED COUNT | --text SEED | --input SEED LINES]".to_string()),
+        [mode, seed, most, texts @ ..] if mode == "--images" => forged(seed, most, texts),
+        _ => Err("usage: second [--random SEED COUNT | --text SEED | --input SEED LINES | --images SEED MOST TEXT...]"
+            .to_string()),
     };
     match done {
         Ok(()) => ExitCode::SUCCESS,
@@ -48,6 +51,15 @@ fn supplied(seed: &str, lines: Option<&String>) -> Result<(), String> {
             supply::input(&text, seed, number(lines)? as usize)
         }
     };
+    io::stdout().write_all(&made).map_err(|error| error.to_string())
+}
+
+fn forged(seed: &str, most: &str, texts: &[String]) -> Result<(), String> {
+    let mut places = texts.to_vec();
+    places.sort();
+    let texts: Result<Vec<_>, _> = places.iter().map(fs::read).collect();
+    let texts = texts.map_err(|error| error.to_string())?;
+    let made = forge::cases(number(seed)?, number(most)? as usize, &texts);
     io::stdout().write_all(&made).map_err(|error| error.to_string())
 }
 

@@ -7,6 +7,7 @@ pub mod check;
 mod deeds;
 pub mod edges;
 pub mod faults;
+pub mod forge;
 pub mod generate;
 mod images;
 pub mod layout;
