@@ -1,10 +1,10 @@
 -- A working copy: made of the store's first bytes, and kept in front of what lies beyond them. Assumes nothing.
 use mathlib.Core.List.{List, [], _∷_}
 use mathlib.Core.Path.{_≡_, refl, sym, ap, _∙_}
-use Prim.Native.Nat.{ℕ, _≤_}
+use Prim.Native.Nat.{ℕ, _-_, _≤_}
 use native.Mathlib.Omega.{arith}
-use lib.ListN.{length, take}
-use lib.Seq.{take-length}
+use lib.ListN.{length, length-replicate, replicate, take}
+use lib.Seq.{length-take-le, take-length}
 use Rattle.language.specs.Calls.{over}
 use Rattle.language.specs.Description.{Facility}
 use Rattle.language.specs.Layout.{storeSizeOf}
@@ -19,6 +19,10 @@ copied-over [] [] h = refl
 copied-over [] (x ∷ xs) h = absurd (omega arith)
 copied-over (b ∷ bs) [] h = refl
 copied-over (b ∷ bs) (x ∷ xs) h = ap (λ (l : List ℕ). x ∷ l) (copied-over bs xs (omega arith))
+
+-- The first bytes of an array of zeroes.
+pub first-zeroes : (N n : ℕ) → n ≤ N → length (take {A = ℕ} (n - 0) (replicate N 0)) ≡ n
+first-zeroes N n h = length-take-le (n - 0) (replicate N 0) (omega (arith, length-replicate {A = ℕ} N 0)) ∙ omega arith
 
 -- A shorter copy has the first bytes.
 pub copied-front : (W B : List ℕ) → length W ≤ length B → copied W B ≡ take (length W) B

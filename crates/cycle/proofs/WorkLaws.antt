@@ -1,10 +1,10 @@
 -- An image that passes, as a cycle sees it: its sections, and few conflicts. Assumes nothing.
 use mathlib.Core.Bool.{true}
-use mathlib.Core.List.{List, _∷_}
-use mathlib.Core.Path.{_≡_, refl, ap, _∙_}
-use Prim.Native.Nat.{ℕ, zero, suc, _-_, _/_, _≤_, min}
+use mathlib.Core.List.{List}
+use mathlib.Core.Path.{_≡_, refl, ap}
+use Prim.Native.Nat.{ℕ, _/_, _≤_, min}
 use native.Mathlib.Omega.{arith}
-use lib.ListN.{length, length-replicate, replicate, take}
+use lib.ListN.{length}
 use Rattle.language.specs.Decode.{decode, sectionAt, sectionsIn}
 use Rattle.language.specs.Description.{Description}
 use Rattle.language.specs.Image.{passes}
@@ -19,22 +19,7 @@ use Rattle.act.specs.Acts.{Acts}
 use Rattle.lookups.proofs.PassLaws.{states-many}
 use Rattle.sound.proofs.PassedLaws.{passed-described, passed-fits, passed-register, passed-valued}
 use Rattle.step.specs.Register.{Enters}
-use Rattle.step.specs.Stepped.{Clear, counted}
-
--- ---- Arrays of zeroes, as long as the store.
-
-take-zeros : (n N : ℕ) → n ≤ N → take {A = ℕ} n (replicate N 0) ≡ replicate n 0
-take-zeros zero N h = refl
-take-zeros (suc n) zero h = absurd (omega arith)
-take-zeros (suc n) (suc N) h = ap (λ (l : List ℕ). 0 ∷ l) (take-zeros n N (omega arith))
-
-pub all-clear : (N : ℕ) (B : List ℕ) → length B ≤ N → Clear B (take (length B - 0) (replicate N 0)) (take (length B - 0) (replicate N 0))
-all-clear N B h =
-    let e : length B - 0 ≡ length B = omega arith in
-    let z = take-zeros (length B - 0) N (omega arith) ∙ ap (λ (n : ℕ). replicate n 0) e in
-    record { pending = ap length z ∙ length-replicate (length B) 0; mask = z }
-
--- ---- The image.
+use Rattle.step.specs.Stepped.{counted}
 
 module _ (image : List ℕ) (passed : passes image ≡ true) where
   abbrev d : Description

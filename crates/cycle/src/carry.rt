@@ -40,24 +40,27 @@ fn kept(a: Stepped, work: &[u8], store: &mut [u8], record: &mut [u8]) -> Answer
     }
 }
 
-// The cycle on a working copy, for which `work` has as many bytes as the store.
-fn carried(
+// The cycle on a working copy, with as many bytes as the store has for the copy, for delayed stores that wait, and for their mask.
+pub fn carried(
     image: &[u8],
     store: &mut [u8],
     record: &mut [u8],
     stimulus: &[u8],
     work: &mut [u8],
+    pending: &mut [u8],
+    mask: &mut [u8],
 ) -> Answer
-    requires { ⌜ (passes (now image) ≡ true) × (recordFrom (now «record») .held ≤ 16) × (length (now work) ≡ storeSize (decode (now image))) ⌝ }
-    ensures { λ r. ⌜ ((n : ℕ) → cycleRefusal (now (image .entry)) (now (store .entry)) (now («record» .entry)) (now (stimulus .entry)) n ≡ none → call r (now (store .exit)) (now («record» .exit)) (zeroes n) ≡ L.cycle (now (image .entry)) (now (store .entry)) (now («record» .entry)) (now (stimulus .entry)) n) ⌝ }
+    requires { ⌜ (passes (now image) ≡ true) × (recordFrom (now «record») .held ≤ 16) ⌝ }
+    ensures { λ r. ⌜ ((n : ℕ) → length (now (work .entry)) ≡ storeSize (decode (now (image .entry))) → length (now (pending .entry)) ≡ storeSize (decode (now (image .entry))) → length (now (mask .entry)) ≡ storeSize (decode (now (image .entry))) → cycleRefusal (now (image .entry)) (now (store .entry)) (now («record» .entry)) (now (stimulus .entry)) n ≡ none → call r (now (store .exit)) (now («record» .exit)) (zeroes n) ≡ L.cycle (now (image .entry)) (now (store .entry)) (now («record» .entry)) (now (stimulus .entry)) n) ⌝ }
 {
     slices::copy(work, store);
+    slices::zero(mask);
     let r = record::record_at(record);
-    let a = work::worked(image, r, stimulus, work);
+    let a = work::worked(image, r, stimulus, work, pending, mask);
     kept(a, work, store, record)
 }
 
-// The cycle that is owed, where nothing is refused. Scratch is zero afterwards.
+// The cycle that is owed, where nothing is refused. Scratch holds the working copy and is zero afterwards; delayed stores wait in arrays of the largest store's size, since one slice cannot be lent in three parts at once.
 pub fn carry_out(
     image: &[u8],
     store: &mut [u8],
@@ -69,7 +72,17 @@ pub fn carry_out(
     ensures { λ r. ⌜ call r (now (store .exit)) (now («record» .exit)) (now (scratch .exit)) ≡ L.cycle (now (image .entry)) (now (store .entry)) (now («record» .entry)) (now (stimulus .entry)) (length (now (scratch .entry))) ⌝ }
 {
     let n = sizes::store_size(sections::section(image, 0, 13));
-    let answer = carried(image, store, record, stimulus, &mut scratch[0..n]);
+    let mut pending = [0u8; 16384];
+    let mut mask = [0u8; 16384];
+    let answer = carried(
+        image,
+        store,
+        record,
+        stimulus,
+        &mut scratch[0..n],
+        &mut pending[0..n],
+        &mut mask[0..n],
+    );
     slices::zero(scratch);
     answer
 }

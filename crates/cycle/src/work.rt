@@ -13,21 +13,25 @@ ghost use Rattle.language.specs.Layout.{storeSize};
 ghost use Rattle.language.specs.Step as S;
 ghost use Rattle.language.specs.Store.{fromBytes, inputsOf};
 ghost use Rattle.next.specs.Seen.{recordMeant};
-ghost use Rattle.step.specs.Stepped.{stepped};
+ghost use Rattle.step.specs.Stepped.{Clear, stepped};
 
-// The cycle of an image that passes, on as many bytes as its store has. Delayed stores wait in arrays of the largest store's size: one slice cannot be lent in three parts at once.
-pub fn worked(image: &[u8], r: Record, stimulus: &[u8], store: &mut [u8]) -> Stepped
-    requires { ⌜ (passes (now image) ≡ true) × (r .held ≤ 16) × (length (now store) ≡ storeSize (decode (now image))) ⌝ }
-    ensures { λ a. ⌜ (stimulusSize (decode (now (image .entry))) ≤ length (now (stimulus .entry)) → stepped (decode (now (image .entry)) .facilities) a (now (store .exit)) ≡ S.step (decode (now (image .entry))) (fromBytes (decode (now (image .entry)) .facilities) (now (store .entry))) (recordMeant r) (fromBytes (inputsOf (decode (now (image .entry)) .facilities)) (now (stimulus .entry)))) ⌝ }
+// The cycle of an image that passes, on as many bytes as its store has; delayed stores wait in as many, under a clear mask.
+pub fn worked(
+    image: &[u8],
+    r: Record,
+    stimulus: &[u8],
+    store: &mut [u8],
+    pending: &mut [u8],
+    mask: &mut [u8],
+) -> Stepped
+    requires { ⌜ (passes (now image) ≡ true) × (r .held ≤ 16) ⌝ }
+    ensures { λ a. ⌜ (length (now (store .entry)) ≡ storeSize (decode (now (image .entry))) → stimulusSize (decode (now (image .entry))) ≤ length (now (stimulus .entry)) → Clear (now (store .entry)) (now (pending .entry)) (now (mask .entry)) → stepped (decode (now (image .entry)) .facilities) a (now (store .exit)) ≡ S.step (decode (now (image .entry))) (fromBytes (decode (now (image .entry)) .facilities) (now (store .entry))) (recordMeant r) (fromBytes (inputsOf (decode (now (image .entry)) .facilities)) (now (stimulus .entry)))) ⌝ }
 {
     let facilities = sections::section(image, 0, 13);
     let operations = sections::section(image, 1, 5);
     let expressions = sections::section(image, 2, 8);
     let actions = sections::section(image, 3, 7);
     let states = sections::section(image, 4, 7);
-    let mut pending = [0u8; 16384];
-    let mut mask = [0u8; 16384];
-    let n = store.len();
     step::step::step(
         facilities,
         operations,
@@ -37,7 +41,7 @@ pub fn worked(image: &[u8], r: Record, stimulus: &[u8], store: &mut [u8]) -> Ste
         r,
         stimulus,
         store,
-        &mut pending[0..n],
-        &mut mask[0..n],
+        pending,
+        mask,
     )
 }

@@ -1,3 +1,4 @@
+use mathlib.Core.Path.{_∙_}
 use Prim.Native.Nat.{_-_}
 use native.Mathlib.Omega.{arith}
 use lib.ListN.{length}
@@ -6,6 +7,7 @@ use Rattle.language.specs.Decode.{decode, sectionAt}
 use Rattle.language.specs.Layout.{storeSize}
 use Rattle.sound.proofs.PassedLaws.{passed-described, passed-size}
 use Rattle.cycle.proofs.CarryLaws.{few-held, free-passes, scratch-there}
+use Rattle.cycle.proofs.KeptLaws.{first-zeroes}
 use borrow.Author.Needs.{needs}
 use Rattle.cycle.proofs.carry.carry_out.Statement.{statement}
 use Rattle.cycle.proofs.carry.carry_out.Tie as tie
@@ -27,23 +29,62 @@ unfolding storeSize
 part-carried-end c =
     let a = c .before .before .before .before .before .before .before .before .before .args in
     let i = a .image .now in
-    let p = free-passes i (a .store .now) (a .«record» .now) (a .stimulus .now) (length (a .scratch .now)) (c .before .before .before .before .before .before .before .before .before .pre) in
+    let s = a .store .now in
+    let k = a .«record» .now in
+    let t = a .stimulus .now in
+    let m = length (a .scratch .now) in
+    let p = free-passes i s k t m (c .before .before .before .before .before .before .before .before .before .pre) in
     let size = c .before .before .store-size .ensures (decode i) (sectionAt 2 8 i) (rw (c .before .before .before .section .ensures) (passed-described i p)) (passed-size i p) in
-    omega (arith, size, scratch-there i (a .store .now) (a .«record» .now) (a .stimulus .now) (length (a .scratch .now)) (c .before .before .before .before .before .before .before .before .before .pre))
+    omega (arith, size, scratch-there i s k t m (c .before .before .before .before .before .before .before .before .before .pre))
 
-carried-requires : tie.Need-carried-requires
+sub-carried-2 : tie.Need-sub-carried-2
+sub-carried-2 c = search needs
+
+part-pending-start : tie.Need-part-pending-start
+part-pending-start c = search needs
+
+part-pending-end : tie.Need-part-pending-end
 unfolding storeSize
-carried-requires c κs =
+part-pending-end c =
     let a = c .before .before .before .before .before .before .before .before .before .before .args in
     let i = a .image .now in
-    let p = free-passes i (a .store .now) (a .«record» .now) (a .stimulus .now) (length (a .scratch .now)) (c .before .before .before .before .before .before .before .before .before .before .pre) in
+    let s = a .store .now in
+    let k = a .«record» .now in
+    let t = a .stimulus .now in
+    let m = length (a .scratch .now) in
+    let p = free-passes i s k t m (c .before .before .before .before .before .before .before .before .before .before .pre) in
     let size = c .before .before .before .store-size .ensures (decode i) (sectionAt 2 8 i) (rw (c .before .before .before .before .section .ensures) (passed-described i p)) (passed-size i p) in
-    let room = scratch-there i (a .store .now) (a .«record» .now) (a .stimulus .now) (length (a .scratch .now)) (c .before .before .before .before .before .before .before .before .before .before .pre) in
-    let long = length-take-le (c .before .before .before .store-size .result - 0) (a .scratch .now) (omega (arith, size, room)) in (
-      p,
-      few-held i (a .store .now) (a .«record» .now) (a .stimulus .now) (length (a .scratch .now)) (c .before .before .before .before .before .before .before .before .before .before .pre),
-      omega (arith, long, size),
-    )
+    omega (arith, size, passed-size i p)
+
+sub-carried-3 : tie.Need-sub-carried-3
+sub-carried-3 c = search needs
+
+part-mask-start : tie.Need-part-mask-start
+part-mask-start c = search needs
+
+part-mask-end : tie.Need-part-mask-end
+unfolding storeSize
+part-mask-end c =
+    let a = c .before .before .before .before .before .before .before .before .before .before .before .args in
+    let i = a .image .now in
+    let s = a .store .now in
+    let k = a .«record» .now in
+    let t = a .stimulus .now in
+    let m = length (a .scratch .now) in
+    let p = free-passes i s k t m (c .before .before .before .before .before .before .before .before .before .before .before .pre) in
+    let size = c .before .before .before .before .store-size .ensures (decode i) (sectionAt 2 8 i) (rw (c .before .before .before .before .before .section .ensures) (passed-described i p)) (passed-size i p) in
+    omega (arith, size, passed-size i p)
+
+carried-requires : tie.Need-carried-requires
+carried-requires c κs =
+    let a = c .before .before .before .before .before .before .before .before .before .before .before .before .args in
+    let i = a .image .now in
+    let s = a .store .now in
+    let k = a .«record» .now in
+    let t = a .stimulus .now in
+    let m = length (a .scratch .now) in
+    let p = free-passes i s k t m (c .before .before .before .before .before .before .before .before .before .before .before .before .pre) in
+    (p, few-held i s k t m (c .before .before .before .before .before .before .before .before .before .before .before .before .pre))
 
 zero-requires : tie.Need-zero-requires
 zero-requires c κs = search needs
@@ -58,8 +99,20 @@ same-length-3 : tie.Need-same-length-3
 same-length-3 c = search needs
 
 returns : tie.Need-returns
+unfolding storeSize
 returns c =
-    rw (c .before .before .zero .ensures, c .before .before .before .before .before .scratch .given .1) (c .before .before .before .before .before .before .before .before .before .before .carried .ensures (length (c .before .before .before .before .before .before .before .before .before .before .before .before .before .before .before .before .before .before .before .before .before .args .scratch .now)) (c .before .before .before .before .before .before .before .before .before .before .before .before .before .before .before .before .before .before .before .before .before .pre))
+    let a = c .before .before .before .before .before .before .before .before .before .before .before .before .before .before .before .before .before .before .before .before .before .before .before .before .before .args in
+    let i = a .image .now in
+    let s = a .store .now in
+    let k = a .«record» .now in
+    let t = a .stimulus .now in
+    let m = length (a .scratch .now) in
+    let p = free-passes i s k t m (c .before .before .before .before .before .before .before .before .before .before .before .before .before .before .before .before .before .before .before .before .before .before .before .before .before .pre) in
+    let size = c .before .before .before .before .before .before .before .before .before .before .before .before .before .before .before .before .before .before .store-size .ensures (decode i) (sectionAt 2 8 i) (rw (c .before .before .before .before .before .before .before .before .before .before .before .before .before .before .before .before .before .before .before .section .ensures) (passed-described i p)) (passed-size i p) in
+    let n = c .before .before .before .before .before .before .before .before .before .before .before .before .before .before .before .before .before .before .store-size .result in
+    let first = length-take-le (n - 0) (a .scratch .now) (omega (arith, size, scratch-there i s k t m (c .before .before .before .before .before .before .before .before .before .before .before .before .before .before .before .before .before .before .before .before .before .before .before .before .before .pre))) in
+    let zeroed = first-zeroes 16384 n (omega (arith, size, passed-size i p)) ∙ size in
+    rw (c .before .before .zero .ensures, c .before .before .before .before .before .before .before .scratch .given .1) (c .before .before .before .before .before .before .before .before .before .before .before .before .carried .ensures m (omega (arith, first, size)) zeroed zeroed (c .before .before .before .before .before .before .before .before .before .before .before .before .before .before .before .before .before .before .before .before .before .before .before .before .before .pre))
 
 pub carry-out-spec : {M : Type 1} → statement M
 carry-out-spec =
@@ -70,6 +123,12 @@ carry-out-spec =
     sub-carried
     part-carried-start
     part-carried-end
+    sub-carried-2
+    part-pending-start
+    part-pending-end
+    sub-carried-3
+    part-mask-start
+    part-mask-end
     carried-requires
     zero-requires
     same-length
