@@ -1,0 +1,10 @@
+pub mod Joining
+pub mod Keeping
+pub mod Standings
+pub mod ActionWords
+pub mod LeafLaws
+pub mod ReachedLaws
+pub mod EndLaws
+pub mod SignLaws
+pub mod StoreLaws
+pub mod KindTests
