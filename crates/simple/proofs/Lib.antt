@@ -1,0 +1,4 @@
+pub mod Joining
+pub mod Keeping
+pub mod Standings
+pub mod ActionWords
