@@ -24,14 +24,17 @@ pub record Gained (next : Word) (s : State) (bs ps w w′ : List ℕ) (r : Answe
   pub done : r .verdict ≡ Done → Behind next s bs ps w w′ r
   pub refused : (f : Fault) → r .verdict ≡ Refused f → ⊥
   pub full : r .verdict ≡ Full → mostNodes ≤ r .state .nodes
+  pub kept : r .verdict ≡ Full → r .state ≡ s
 
--- Records that are `size` in number behind the others, and the next word as it was.
+-- Records that are `size` in number behind the others, and never more, and the next word as it was.
 pub record Written (ns : List Noted) (size : ℕ) (next : Word) (s : State) (w w′ : List ℕ) (r : Answer) : Type 0 where
   pub word : r .next ≡ next
   pub state : r .verdict ≡ Done → r .state ≡ withNodeCount s (s .nodes + size)
   pub held : r .verdict ≡ Done → held (s .nodes + size) w′ ≡ withNodes (held (s .nodes) w) ns
   pub refused : (f : Fault) → r .verdict ≡ Refused f → ⊥
   pub full : r .verdict ≡ Full → mostNodes ≤ r .state .nodes
+  pub kept : r .state ≡ withNodeCount s (r .state .nodes)
+  pub most : r .state .nodes ≤ s .nodes + size
 
 -- One less is open.
 abbrev pub easedState : State → State

@@ -1,4 +1,5 @@
 pub mod Course
 pub mod Gained
+pub mod Pays
 pub mod Says
 pub mod Taken

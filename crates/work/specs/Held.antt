@@ -49,8 +49,9 @@ pub record Added (n : ℕ) (bs ps w w′ : List ℕ) (b : Bool) : Type 0 where
   pub added : b ≡ true → held (n + 1) w′ ≡ withBytes (held n w) bs ps
   pub full : b ≡ false → mostNodes ≤ n
 
--- What adding records that are `size` in number to n others leaves: them, where there was room.
+-- What adding records that are `size` in number to n others leaves: them, where there was room, and never more.
 pub record Grew (n : ℕ) (ns : List Noted) (size : ℕ) (w w′ : List ℕ) (r : Room) : Type 0 where
   pub nodes : r .enough ≡ true → r .nodes ≡ n + size
   pub added : r .enough ≡ true → held (r .nodes) w′ ≡ withNodes (held n w) ns
   pub full : r .enough ≡ false → mostNodes ≤ r .nodes
+  pub most : r .nodes ≤ n + size

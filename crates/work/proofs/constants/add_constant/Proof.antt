@@ -45,7 +45,7 @@ add-node-requires c κs = search needs
 
 returns : tie.Need-returns Inv-loop μ-loop
 returns c =
-    record { nodes = λ e. absurd (true≢false (sym e)); added = λ e. absurd (true≢false (sym e)); full = λ e. c .before .add-node .ensures .full (c .if1 .left) }
+    record { nodes = λ e. absurd (true≢false (sym e)); added = λ e. absurd (true≢false (sym e)); full = λ e. c .before .add-node .ensures .full (c .if1 .left); most = omega (arith, c .before .before .before .before .before .loop .inv .0, all-records (valued (c .before .before .before .before .before .before .before .before .args .v)) (positioned (c .before .before .before .before .before .before .before .before .args .at))) }
 
 add-k : tie.Need-add-k Inv-loop μ-loop
 unfolding mostNodes
@@ -75,11 +75,11 @@ add-t17 c =
 
 returns-2 : tie.Need-returns-2 Inv-loop μ-loop
 returns-2 c =
-    record { nodes = λ e. omega (arith, c .before .before .before .before .before .loop .inv .0, c .before .before .before .before .loop-test .left, all-records (valued (c .before .before .before .before .before .before .before .before .args .v)) (positioned (c .before .before .before .before .before .before .before .before .args .at))); added = λ e. sym (c .before .before .before .before .before .loop .inv .1 (positioned (c .before .before .before .before .before .before .before .before .args .at)) (c .before .before .before .before .before .before .before .plain .ensures) ∙ lowest-added (valued (c .before .before .before .before .before .before .before .before .args .v)) (positioned (c .before .before .before .before .before .before .before .before .args .at)) (c .before .add-node2 .ensures) (c .if2 .taken) (c .before .before .before .before .loop-test .left) (ap (λ (x : ℕ). nodeBytes (D.constant (value (c .before .before .before .before .before .before .before .before .args .v .length) x))) (c .before .before .before .digit-of2 .ensures)) (c .before .before .before .before .before .before .before .plain .ensures)); full = λ e. absurd (true≢false e) }
+    record { nodes = λ e. omega (arith, c .before .before .before .before .before .loop .inv .0, c .before .before .before .before .loop-test .left, all-records (valued (c .before .before .before .before .before .before .before .before .args .v)) (positioned (c .before .before .before .before .before .before .before .before .args .at))); added = λ e. sym (c .before .before .before .before .before .loop .inv .1 (positioned (c .before .before .before .before .before .before .before .before .args .at)) (c .before .before .before .before .before .before .before .plain .ensures) ∙ lowest-added (valued (c .before .before .before .before .before .before .before .before .args .v)) (positioned (c .before .before .before .before .before .before .before .before .args .at)) (c .before .add-node2 .ensures) (c .if2 .taken) (c .before .before .before .before .loop-test .left) (ap (λ (x : ℕ). nodeBytes (D.constant (value (c .before .before .before .before .before .before .before .before .args .v .length) x))) (c .before .before .before .digit-of2 .ensures)) (c .before .before .before .before .before .before .before .plain .ensures)); full = λ e. absurd (true≢false e); most = omega (arith, c .before .before .before .before .before .loop .inv .0, c .before .before .before .before .loop-test .left, all-records (valued (c .before .before .before .before .before .before .before .before .args .v)) (positioned (c .before .before .before .before .before .before .before .before .args .at))) }
 
 returns-3 : tie.Need-returns-3 Inv-loop μ-loop
 returns-3 c =
-    record { nodes = λ e. absurd (true≢false (sym e)); added = λ e. absurd (true≢false (sym e)); full = λ e. c .before .add-node2 .ensures .full (c .if2 .left) }
+    record { nodes = λ e. absurd (true≢false (sym e)); added = λ e. absurd (true≢false (sym e)); full = λ e. c .before .add-node2 .ensures .full (c .if2 .left); most = omega (arith, c .before .before .before .before .before .loop .inv .0, all-records (valued (c .before .before .before .before .before .before .before .before .args .v)) (positioned (c .before .before .before .before .before .before .before .before .args .at))) }
 
 pub add-constant-spec : {M : Type 1} → statement M
 add-constant-spec =
