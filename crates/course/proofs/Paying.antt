@@ -12,7 +12,7 @@ use Rattle.course.specs.declared.Bearing.{Bearing}
 use Rattle.course.specs.declared.State.{State}
 use Rattle.course.specs.declared.Verdict.the-variants.{Done, Full}
 use Rattle.course.specs.Course.{Seen, counts5, countsOf}
-use Rattle.course.specs.Gained.{Gained, Written, withNodeCount}
+use Rattle.course.specs.Gained.{Gained, Written, easedState}
 use Rattle.course.specs.Pays.{Comes, Pays, Spends}
 use Rattle.course.specs.Taken.{Expected, Keeps, Kept, Passed, Refuses, Took, Went}
 use Rattle.course.proofs.Answers.{done-full, done-refused, refused-full}
@@ -56,6 +56,9 @@ module _ {text : List ℕ} {w : Word} {s : State} where
       → Seen text w → Comes text 0 0 s w s′
   nests e z = record { pays = nodes-paid e (omega arith); seen = z }
 
+  pub eases : Seen text w → Comes text 0 0 s w (easedState s)
+  eases z = nests refl z
+
 -- ---- Answers.
 
 module _ {text : List ℕ} {p : ℕ} {w : Word} {s : State} {r : Answer} where
@@ -79,8 +82,8 @@ module _ {text : List ℕ} {p : ℕ} {w : Word} {s : State} {r : Answer} where
   pub not-took : {c : Counts} {w₁ : Word} {s₁ : State} → Took text w₁ c s₁ r → (r .verdict ≡ Done → ⊥) → Spends text p w s r
   not-took t n = unspent n (t .full)
 
-  pub not-expected : {k : ℕ} {g : Bearing} {w₁ : Word} {s₁ : State} → Expected text k g w₁ s₁ r → (r .verdict ≡ Done → ⊥) → Spends text p w s r
-  not-expected t n = unspent n (t .full)
+  pub unexpected : {k : ℕ} {g : Bearing} {w₁ : Word} {s₁ : State} → Expected text k g w₁ s₁ r → (r .verdict ≡ Done → ⊥) → Spends text p w s r
+  unexpected t n = unspent n (t .full)
 
 -- ---- Words.
 

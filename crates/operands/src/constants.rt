@@ -7,16 +7,18 @@ use course::adding;
 use course::kinds;
 use course::taking;
 use words::Word;
-ghost use mathlib.Core.List.{[], _∷_};
+ghost use mathlib.Core.List.{List, [], _∷_};
 ghost use mathlib.Core.Path.{_≡_};
+ghost use Prim.Native.Nat.{ℕ, _≤_};
 ghost use Rattle.language.specs.Machine.{ask, term};
 ghost use Rattle.course.specs.Course.{kindNo};
+ghost use Rattle.course.specs.Pays.{Spends};
 ghost use Rattle.course.specs.Says.{Parses};
 ghost use Rattle.operands.specs.Ended.{Closed, Counting, Ended};
 
 // A term that is a constant.
 pub fn constant(s: State, text: &[u8], w: Word, work: &mut [u8; 275296]) -> Answer
-    ensures { λ r. ⌜ (kindNo (w .kind) ≡ 2 → Parses (ask term ∷ []) (λ t b. b) (s .nesting) (now (text .entry)) w s (now (work .entry)) (now (work .exit)) r) ⌝ }
+    ensures { λ r. ⌜ (kindNo (w .kind) ≡ 2 → Parses (ask term ∷ []) (λ t b. b) (s .nesting) (now (text .entry)) w s (now (work .entry)) (now (work .exit)) r × Spends (now (text .entry)) 0 w s r) ⌝ }
 {
     let taken = taking::take(text, w, s, true, Bearing::Level);
     let verdict = taken.verdict;
@@ -30,7 +32,7 @@ pub fn constant(s: State, text: &[u8], w: Word, work: &mut [u8; 275296]) -> Answ
 
 // A constant in brackets that begins an expression: it was kept, and counts.
 pub fn counted(s: State, w: Word, next: Word, work: &mut [u8; 275296]) -> Answer
-    ensures { λ r. ⌜ Counting w next s (now (work .entry)) (now (work .exit)) r ⌝ }
+    ensures { λ r. ⌜ Counting w next s (now (work .entry)) (now (work .exit)) r × ((t : List ℕ) → w .value .length ≤ 256 → Spends t 0 next s r) ⌝ }
 {
     let passed = taking::pass(w, next, s, true, Bearing::Level);
     let verdict = passed.verdict;
@@ -50,7 +52,7 @@ pub struct Ends {
 
 // Two constants with a colon between them, and the bracket; they have been seen as far as the colon.
 pub fn ends_of(s: State, text: &[u8], w: Word) -> Ends
-    ensures { λ r. ⌜ Ended (now (text .entry)) w s r ⌝ }
+    ensures { λ r. ⌜ Ended (now (text .entry)) w s r × Spends (now (text .entry)) 1 w s (r .answer) ⌝ }
 {
     let first = taking::take(text, w, s, false, Bearing::Level);
     let verdict = first.verdict;
@@ -74,7 +76,7 @@ pub fn ends_of(s: State, text: &[u8], w: Word) -> Ends
 
 // The second constant of a part, and the bracket that closes it.
 fn closed(s: State, text: &[u8], w: Word) -> Ends
-    ensures { λ r. ⌜ Closed (now (text .entry)) w s r ⌝ }
+    ensures { λ r. ⌜ Closed (now (text .entry)) w s r × Spends (now (text .entry)) 1 w s (r .answer) ⌝ }
 {
     let kept = taking::keep_constant(text, w, s);
     let verdict = kept.verdict;

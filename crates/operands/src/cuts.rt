@@ -10,6 +10,7 @@ use work::bounds;
 use work::places;
 ghost use Rattle.course.specs.Course.{Seen};
 ghost use Rattle.course.specs.Gained.{Grows};
+ghost use Rattle.course.specs.Pays.{Spends};
 ghost use Rattle.operands.specs.Ended.{Cuts};
 
 // The count of a cut of kind `kind` whose word is at, and its record.
@@ -21,7 +22,7 @@ pub fn cut(
     w: Word,
     work: &mut [u8; 275296],
 ) -> Answer
-    ensures { λ r. ⌜ Cuts kind operator (now (text .entry)) w s (now (work .entry)) (now (work .exit)) r × (Seen (now (text .entry)) w → Grows s r) ⌝ }
+    ensures { λ r. ⌜ Cuts kind operator (now (text .entry)) w s (now (work .entry)) (now (work .exit)) r × (Seen (now (text .entry)) w → Grows s r) × Spends (now (text .entry)) 2 w s r ⌝ }
 {
     let kept = taking::keep_constant(text, w, s);
     let verdict = kept.verdict;

@@ -23,6 +23,7 @@ ghost use Rattle.language.specs.Description as D;
 ghost use Rattle.language.specs.Machine as L;
 ghost use Rattle.course.specs.Course.{ahead, kindNo};
 ghost use Rattle.course.specs.Gained.{easedState};
+ghost use Rattle.course.specs.Pays.{Spends};
 ghost use Rattle.course.specs.Says.{Parses};
 ghost use Rattle.course.specs.Taken.{endsAhead};
 ghost use Rattle.levels.specs.Orders.{operatorsOf};
@@ -107,7 +108,7 @@ pub fn at(s: State, nesting: u16) -> State
 
 // The word RED behind a reduction's sign; nothing behind another prefix operator.
 pub fn reducing(s: State, head: Head, text: &[u8], w: Word) -> Answer
-    ensures { λ r. ⌜ Unprefixed head (now (text .entry)) w s r ⌝ }
+    ensures { λ r. ⌜ Unprefixed head (now (text .entry)) w s r × Spends (now (text .entry)) 1 w s r ⌝ }
 {
     match head {
         Head::Plain => stay(s, w),
@@ -205,7 +206,7 @@ pub fn add_choice(
 
 // A part of a facility, between constants that have been seen.
 pub fn part(s: State, name: Word, text: &[u8], w: Word, work: &mut [u8; 275296]) -> Answer
-    ensures { λ r. ⌜ (endsAhead (ahead (now (text .entry)) w) ≡ true → Parses (L.ask L.subscript ∷ []) (afterName name) (s .nesting - 1) (now (text .entry)) w s (now (work .entry)) (now (work .exit)) r) ⌝ }
+    ensures { λ r. ⌜ (endsAhead (ahead (now (text .entry)) w) ≡ true → Parses (L.ask L.subscript ∷ []) (afterName name) (s .nesting - 1) (now (text .entry)) w s (now (work .entry)) (now (work .exit)) r) × Spends (now (text .entry)) 2 w s r ⌝ }
 {
     let ends = constants::ends_of(s, text, w);
     let answer = ends.answer;
@@ -221,7 +222,7 @@ pub fn part(s: State, name: Word, text: &[u8], w: Word, work: &mut [u8; 275296])
 
 // A part of a word, whose own subscript has been read.
 pub fn word_part(s: State, name: Word, text: &[u8], w: Word, work: &mut [u8; 275296]) -> Answer
-    ensures { λ r. ⌜ (endsAhead (ahead (now (text .entry)) w) ≡ true → Second L.second name (s .nesting - 1) (now (text .entry)) w s (now (work .entry)) (now (work .exit)) r) ⌝ }
+    ensures { λ r. ⌜ (endsAhead (ahead (now (text .entry)) w) ≡ true → Second L.second name (s .nesting - 1) (now (text .entry)) w s (now (work .entry)) (now (work .exit)) r) × Spends (now (text .entry)) 2 w s r ⌝ }
 {
     let ends = constants::ends_of(s, text, w);
     let answer = ends.answer;

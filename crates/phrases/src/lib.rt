@@ -17,10 +17,11 @@ use operands::nodes;
 use words::Word;
 ghost use mathlib.Core.List.{[], _∷_};
 ghost use mathlib.Core.Path.{_≡_};
-ghost use Prim.Native.Nat.{_-_};
+ghost use Prim.Native.Nat.{_-_, _≤_};
 ghost use Rattle.language.specs.Machine as L;
 ghost use Rattle.language.specs.Machine.{ask};
 ghost use Rattle.course.specs.Course.{kindNo};
+ghost use Rattle.course.specs.Pays.{Spends};
 ghost use Rattle.course.specs.Says.{Extends, Parses};
 ghost use Rattle.levels.specs.Orders.{stackOf, tailStack, tailsFrom};
 ghost use Rattle.phrases.specs.Phrases.{Arms, Begins, FirstArm, Inside, MoreArms, NextArm, Operates, Second, afterName, choiceWord, same};
@@ -35,7 +36,7 @@ pub struct Armed {
 
 // An expression of a level.
 pub fn start(s: State, level: Level, text: &[u8], w: Word, work: &mut [u8; 275296]) -> Answer
-    ensures { λ r. ⌜ Parses (stackOf level) same (s .nesting) (now (text .entry)) w s (now (work .entry)) (now (work .exit)) r ⌝ }
+    ensures { λ r. ⌜ Parses (stackOf level) same (s .nesting) (now (text .entry)) w s (now (work .entry)) (now (work .exit)) r × Spends (now (text .entry)) 0 w s r ⌝ }
 {
     let kind = w.kind;
     let head = heads::head_of(level, kinds::number(kind));
@@ -50,7 +51,7 @@ pub fn start(s: State, level: Level, text: &[u8], w: Word, work: &mut [u8; 27529
 
 // Its first operand, with what stands before it.
 fn opening(s: State, head: Head, text: &[u8], w: Word, work: &mut [u8; 275296]) -> Answer
-    ensures { λ r. ⌜ Begins head (now (text .entry)) w s (now (work .entry)) (now (work .exit)) r ⌝ }
+    ensures { λ r. ⌜ Begins head (now (text .entry)) w s (now (work .entry)) (now (work .exit)) r × Spends (now (text .entry)) 0 w s r ⌝ }
 {
     if let Head::Plain = head {
         return term(s, text, w, work);
@@ -80,7 +81,7 @@ fn opening(s: State, head: Head, text: &[u8], w: Word, work: &mut [u8; 275296]) 
 
 // The operators of a level from a rank on, behind an operand.
 fn rest(s: State, rank: Rank, level: Level, text: &[u8], w: Word, work: &mut [u8; 275296]) -> Answer
-    ensures { λ r. ⌜ Extends (tailsFrom rank level) [] (s .nesting) (now (text .entry)) w s (now (work .entry)) (now (work .exit)) r ⌝ }
+    ensures { λ r. ⌜ Extends (tailsFrom rank level) [] (s .nesting) (now (text .entry)) w s (now (work .entry)) (now (work .exit)) r × Spends (now (text .entry)) 1 w s r ⌝ }
 {
     if ranks::within(rank, level) {
         let more = tail(s, rank, text, w, work);
@@ -96,7 +97,7 @@ fn rest(s: State, rank: Rank, level: Level, text: &[u8], w: Word, work: &mut [u8
 
 // The operators of a rank; a relation comes at most once. Each writes a record, so that they end before the array is full.
 fn tail(s: State, rank: Rank, text: &[u8], w: Word, work: &mut [u8; 275296]) -> Answer
-    ensures { λ r. ⌜ Extends (tailStack rank) [] (s .nesting) (now (text .entry)) w s (now (work .entry)) (now (work .exit)) r ⌝ }
+    ensures { λ r. ⌜ Extends (tailStack rank) [] (s .nesting) (now (text .entry)) w s (now (work .entry)) (now (work .exit)) r × Spends (now (text .entry)) 1 w s r ⌝ }
 {
     let mut state = s;
     let mut next = w;
@@ -123,7 +124,7 @@ fn tail(s: State, rank: Rank, text: &[u8], w: Word, work: &mut [u8; 275296]) -> 
 
 // An operator of a rank and what is on its right.
 fn operation(s: State, rank: Rank, text: &[u8], w: Word, work: &mut [u8; 275296]) -> Answer
-    ensures { λ r. ⌜ Operates rank (now (text .entry)) w s (now (work .entry)) (now (work .exit)) r ⌝ }
+    ensures { λ r. ⌜ Operates rank (now (text .entry)) w s (now (work .entry)) (now (work .exit)) r × Spends (now (text .entry)) 1 w s r ⌝ }
 {
     let taken = taking::take(text, w, s, true, Bearing::Level);
     let verdict = taken.verdict;
@@ -148,7 +149,7 @@ fn operation(s: State, rank: Rank, text: &[u8], w: Word, work: &mut [u8; 275296]
 
 // A term.
 fn term(s: State, text: &[u8], w: Word, work: &mut [u8; 275296]) -> Answer
-    ensures { λ r. ⌜ Parses (ask L.term ∷ []) same (s .nesting) (now (text .entry)) w s (now (work .entry)) (now (work .exit)) r ⌝ }
+    ensures { λ r. ⌜ Parses (ask L.term ∷ []) same (s .nesting) (now (text .entry)) w s (now (work .entry)) (now (work .exit)) r × Spends (now (text .entry)) 0 w s r ⌝ }
 {
     let found = w.kind;
     let kind = kinds::number(found);
@@ -172,7 +173,7 @@ fn term(s: State, text: &[u8], w: Word, work: &mut [u8; 275296]) -> Answer
 
 // An expression in parentheses.
 fn group(s: State, text: &[u8], w: Word, work: &mut [u8; 275296]) -> Answer
-    ensures { λ r. ⌜ (kindNo (w .kind) ≡ 5 → Parses (ask L.term ∷ []) same (s .nesting) (now (text .entry)) w s (now (work .entry)) (now (work .exit)) r) ⌝ }
+    ensures { λ r. ⌜ (kindNo (w .kind) ≡ 5 → Parses (ask L.term ∷ []) same (s .nesting) (now (text .entry)) w s (now (work .entry)) (now (work .exit)) r) × Spends (now (text .entry)) 0 w s r ⌝ }
 {
     let opened = taking::take(text, w, s, false, Bearing::Opens);
     let verdict = opened.verdict;
@@ -193,7 +194,7 @@ fn group(s: State, text: &[u8], w: Word, work: &mut [u8; 275296]) -> Answer
 
 // A reference, from its name on.
 fn named(s: State, text: &[u8], w: Word, work: &mut [u8; 275296]) -> Answer
-    ensures { λ r. ⌜ (kindNo (w .kind) ≡ 1 → Parses (ask L.term ∷ []) same (s .nesting) (now (text .entry)) w s (now (work .entry)) (now (work .exit)) r) ⌝ }
+    ensures { λ r. ⌜ (kindNo (w .kind) ≡ 1 → Parses (ask L.term ∷ []) same (s .nesting) (now (text .entry)) w s (now (work .entry)) (now (work .exit)) r) × Spends (now (text .entry)) 0 w s r ⌝ }
 {
     let taken = taking::take(text, w, s, true, Bearing::Level);
     let verdict = taken.verdict;
@@ -207,7 +208,7 @@ fn named(s: State, text: &[u8], w: Word, work: &mut [u8; 275296]) -> Answer
 
 // The rest of a reference, behind its name.
 pub fn reference(s: State, name: Word, text: &[u8], w: Word, work: &mut [u8; 275296]) -> Answer
-    ensures { λ r. ⌜ Parses (ask L.subscripts ∷ []) (afterName name) (s .nesting) (now (text .entry)) w s (now (work .entry)) (now (work .exit)) r ⌝ }
+    ensures { λ r. ⌜ Parses (ask L.subscripts ∷ []) (afterName name) (s .nesting) (now (text .entry)) w s (now (work .entry)) (now (work .exit)) r × Spends (now (text .entry)) 2 w s r ⌝ }
 {
     let kind = w.kind;
     if kinds::number(kind) == kinds::OPEN_BRACKET {
@@ -225,7 +226,7 @@ pub fn reference(s: State, name: Word, text: &[u8], w: Word, work: &mut [u8; 275
 
 // A reference behind its first bracket.
 pub fn subscript(s: State, name: Word, text: &[u8], w: Word, work: &mut [u8; 275296]) -> Answer
-    ensures { λ r. ⌜ Parses (ask L.subscript ∷ []) (afterName name) (s .nesting - 1) (now (text .entry)) w s (now (work .entry)) (now (work .exit)) r ⌝ }
+    ensures { λ r. ⌜ Parses (ask L.subscript ∷ []) (afterName name) (s .nesting - 1) (now (text .entry)) w s (now (work .entry)) (now (work .exit)) r × Spends (now (text .entry)) 2 w s r ⌝ }
 {
     if taking::ends_ahead(text, w) {
         return leaves::part(s, name, text, w, work);
@@ -258,7 +259,7 @@ pub fn subscript(s: State, name: Word, text: &[u8], w: Word, work: &mut [u8; 275
 
 // A reference with one subscript, and perhaps a second one in brackets of its own.
 fn single(s: State, name: Word, text: &[u8], w: Word, work: &mut [u8; 275296]) -> Answer
-    ensures { λ r. ⌜ Second L.secondOption name (s .nesting) (now (text .entry)) w s (now (work .entry)) (now (work .exit)) r ⌝ }
+    ensures { λ r. ⌜ Second L.secondOption name (s .nesting) (now (text .entry)) w s (now (work .entry)) (now (work .exit)) r × Spends (now (text .entry)) 2 w s r ⌝ }
 {
     let kind = w.kind;
     if kinds::number(kind) == kinds::OPEN_BRACKET {
@@ -276,7 +277,7 @@ fn single(s: State, name: Word, text: &[u8], w: Word, work: &mut [u8; 275296]) -
 
 // A reference behind its first subscript.
 fn second(s: State, name: Word, text: &[u8], w: Word, work: &mut [u8; 275296]) -> Answer
-    ensures { λ r. ⌜ Second L.second name (s .nesting - 1) (now (text .entry)) w s (now (work .entry)) (now (work .exit)) r ⌝ }
+    ensures { λ r. ⌜ Second L.second name (s .nesting - 1) (now (text .entry)) w s (now (work .entry)) (now (work .exit)) r × Spends (now (text .entry)) 2 w s r ⌝ }
 {
     if taking::ends_ahead(text, w) {
         return leaves::word_part(s, name, text, w, work);
@@ -308,7 +309,7 @@ fn second(s: State, name: Word, text: &[u8], w: Word, work: &mut [u8; 275296]) -
 
 // An expression in brackets, which may begin with a constant that no colon follows.
 fn inside(s: State, later: bool, text: &[u8], w: Word, work: &mut [u8; 275296]) -> Answer
-    ensures { λ r. ⌜ Inside later (now (text .entry)) w s (now (work .entry)) (now (work .exit)) r ⌝ }
+    ensures { λ r. ⌜ Inside later (now (text .entry)) w s (now (work .entry)) (now (work .exit)) r × Spends (now (text .entry)) 0 w s r ⌝ }
 {
     let kind = w.kind;
     if kinds::number(kind) == kinds::CONSTANT {
@@ -337,7 +338,7 @@ fn inside(s: State, later: bool, text: &[u8], w: Word, work: &mut [u8; 275296]) 
 
 // A conditional: IF, or CASE.
 fn choice(s: State, case: bool, text: &[u8], w: Word, work: &mut [u8; 275296]) -> Answer
-    ensures { λ r. ⌜ (kindNo (w .kind) ≡ choiceWord case → Parses (ask L.term ∷ []) same (s .nesting) (now (text .entry)) w s (now (work .entry)) (now (work .exit)) r) ⌝ }
+    ensures { λ r. ⌜ (kindNo (w .kind) ≡ choiceWord case → Parses (ask L.term ∷ []) same (s .nesting) (now (text .entry)) w s (now (work .entry)) (now (work .exit)) r) × Spends (now (text .entry)) 0 w s r ⌝ }
 {
     let opened = taking::take(text, w, s, true, Bearing::Opens);
     let verdict = opened.verdict;
@@ -374,7 +375,7 @@ fn choice(s: State, case: bool, text: &[u8], w: Word, work: &mut [u8; 275296]) -
 
 // The arms of a conditional.
 fn arms(s: State, case: bool, text: &[u8], w: Word, work: &mut [u8; 275296]) -> Armed
-    ensures { λ r. ⌜ Arms case (now (text .entry)) w s (now (work .entry)) (now (work .exit)) r ⌝ }
+    ensures { λ r. ⌜ Arms case (now (text .entry)) w s (now (work .entry)) (now (work .exit)) r × Spends (now (text .entry)) 1 w s (r .answer) ⌝ }
 {
     let first = first_arm(s, leaves::first_word(case), text, w, work);
     let verdict = first.verdict;
@@ -399,7 +400,7 @@ fn arms(s: State, case: bool, text: &[u8], w: Word, work: &mut [u8; 275296]) -> 
 
 // The first arm, behind its word.
 fn first_arm(s: State, separator: u8, text: &[u8], w: Word, work: &mut [u8; 275296]) -> Answer
-    ensures { λ r. ⌜ FirstArm separator (now (text .entry)) w s (now (work .entry)) (now (work .exit)) r ⌝ }
+    ensures { λ r. ⌜ FirstArm separator (now (text .entry)) w s (now (work .entry)) (now (work .exit)) r × (3 ≤ separator → Spends (now (text .entry)) 1 w s r) ⌝ }
 {
     let word = taking::expect(text, w, s, separator, Bearing::Level);
     let verdict = word.verdict;
@@ -417,7 +418,7 @@ fn first_arm(s: State, separator: u8, text: &[u8], w: Word, work: &mut [u8; 2752
 
 // An arm behind others.
 fn next_arm(s: State, separator: u8, text: &[u8], w: Word, work: &mut [u8; 275296]) -> Answer
-    ensures { λ r. ⌜ NextArm separator (now (text .entry)) w s (now (work .entry)) (now (work .exit)) r ⌝ }
+    ensures { λ r. ⌜ NextArm separator (now (text .entry)) w s (now (work .entry)) (now (work .exit)) r × (3 ≤ separator → Spends (now (text .entry)) 1 w s r) ⌝ }
 {
     let word = taking::expect(text, w, s, separator, Bearing::Level);
     let verdict = word.verdict;
@@ -435,7 +436,7 @@ fn next_arm(s: State, separator: u8, text: &[u8], w: Word, work: &mut [u8; 27529
 
 // Further arms of CASE, behind n. Each writes a record, so that they end before the array is full.
 fn more_arms(s: State, case: bool, n: u16, text: &[u8], w: Word, work: &mut [u8; 275296]) -> Armed
-    ensures { λ r. ⌜ MoreArms case n (now (text .entry)) w s (now (work .entry)) (now (work .exit)) r ⌝ }
+    ensures { λ r. ⌜ MoreArms case n (now (text .entry)) w s (now (work .entry)) (now (work .exit)) r × Spends (now (text .entry)) 1 w s (r .answer) ⌝ }
 {
     let mut state = s;
     let mut next = w;

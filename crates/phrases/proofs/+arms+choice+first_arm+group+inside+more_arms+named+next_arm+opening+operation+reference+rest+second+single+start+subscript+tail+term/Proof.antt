@@ -6,11 +6,16 @@ use native.Mathlib.Omega.{arith}
 use Prim.Native.Nat.{suc, _+_, _-_, _*_, _≤_}
 use Rattle.language.specs.Machine.{Counts}
 use Rattle.course.specs.declared.State.{State}
+use Rattle.course.specs.Course.{Seen}
+use Rattle.course.specs.Pays.{Comes}
 use Rattle.course.proofs.Answers.{not-done}
+use Rattle.course.proofs.Narrow.{narrow}
+use Rattle.course.proofs.Paying.{begins, comes-as, counted-comes, eases, expected-comes, expected-spends, full-spends, gained-spends, goes-on, nests, not-took, refusal-unspent, spent, spent-seen, stays-spends, took-comes, unexpected}
 use Rattle.levels.specs.declared.Level.{Level}
 use Rattle.levels.specs.Orders.{rankNo, topNo}
 use Rattle.levels.proofs.TailWords.{top-most}
-use Rattle.phrases.proofs.ArmLaws.{Armings, armings-begin, armings-end, armings-full, armings-more, armings-not, arms-none, arms-one, arms-says, branches-not, choice-not, choice-says, condition-not, first-inner, first-not, first-says, last-not, next-inner, next-not, next-says}
+use Rattle.operands.proofs.OperandCosts.{adds-spends}
+use Rattle.phrases.proofs.ArmLaws.{Armings, armings-begin, armings-end, armings-full, armings-more, armings-not, arms-none, arms-one, arms-says, branches-not, choice-not, choice-says, closers, condition-not, first-inner, first-not, first-says, last-not, next-inner, next-not, next-says, others, separators}
 use Rattle.phrases.proofs.BracketLaws.{close-not, close-says, comma-not, comma-says, counted-not, end-not, ends-so, inside-expression, inside-not, inside-says, one-says, second-not, second-says, single-not, single-says, subscript-not}
 use Rattle.phrases.proofs.Falling.{next-up, not-cut, not-plain, operand-tighter}
 use Rattle.phrases.proofs.StartLaws.{opening-not, opening-says, operand-not, plain-opening, red-not, rest-none, rest-not, rest-says, start-not, start-says}
@@ -349,7 +354,7 @@ arms-enum-told t c = search needs
 
 arms-returns : (t : ℕ) → arms-lts.Need-returns (arms-calls t) (arms-at t) arms.Post
 arms-returns t c =
-    arms-none (c .before .before .before .before .before .args .case) (c .before .before .before .first-word .ensures) (c .before .first-arm .ensures) (not-done (c .match .keys2))
+    (arms-none (c .before .before .before .before .before .args .case) (c .before .before .before .first-word .ensures) (c .before .first-arm .ensures .0) (not-done (c .match .keys2)), c .before .first-arm .ensures .1 (rw (c .before .before .before .first-word .ensures) (separators (c .before .before .before .before .before .args .case))))
 
 arms-at-requires : (t : ℕ) → arms-lts.Need-at-requires (arms-calls t) (arms-at t) arms.Post
 arms-at-requires t c κs = search needs
@@ -366,7 +371,7 @@ arms-enum-told-2 t c = search needs
 
 arms-returns-2 : (t : ℕ) → arms-lts.Need-returns-2 (arms-calls t) (arms-at t) arms.Post
 arms-returns-2 t c =
-    arms-one (c .before .before .before .before .before .before .before .before .before .before .before .args .case) (c .before .before .before .before .before .before .before .before .before .first-word .ensures) (c .before .before .before .before .before .before .before .first-arm .ensures) (c .before .before .before .before .before .enum-told .given .1) (c .before .before .before .before .at .ensures) (c .before .before .before .other-word .ensures) (c .before .next-arm .ensures) (not-done (c .match2 .keys2))
+    (arms-one (c .before .before .before .before .before .before .before .before .before .before .before .args .case) (c .before .before .before .before .before .before .before .before .before .first-word .ensures) (c .before .before .before .before .before .before .before .first-arm .ensures .0) (c .before .before .before .before .before .enum-told .given .1) (c .before .before .before .before .at .ensures) (c .before .before .before .other-word .ensures) (c .before .next-arm .ensures .0) (not-done (c .match2 .keys2)), spent (goes-on (c .before .before .before .before .before .before .before .first-arm .ensures .1 (rw (c .before .before .before .before .before .before .before .before .before .first-word .ensures) (separators (c .before .before .before .before .before .before .before .before .before .before .before .args .case))) .done (c .before .before .before .before .before .enum-told .given .1)) (nests (c .before .before .before .before .at .ensures))) (c .before .next-arm .ensures .1 (rw (c .before .before .before .other-word .ensures) (others (c .before .before .before .before .before .before .before .before .before .before .before .args .case)))) (omega arith))
 
 arms-at-requires-2 : (t : ℕ) → arms-lts.Need-at-requires-2 (arms-calls t) (arms-at t) arms.Post
 arms-at-requires-2 t c κs = search needs
@@ -377,7 +382,7 @@ arms-more-arms-requires t c κs =
 
 arms-returns-3 : (t : ℕ) → arms-lts.Need-returns-3 (arms-calls t) (arms-at t) arms.Post
 arms-returns-3 t c =
-    arms-says (c .before .before .before .before .before .before .before .before .before .before .before .before .before .before .before .args .case) (c .before .before .before .before .before .before .before .before .before .before .before .before .before .first-word .ensures) (c .before .before .before .before .before .before .before .before .before .before .before .first-arm .ensures) (c .before .before .before .before .before .before .before .before .before .enum-told .given .1) (c .before .before .before .before .before .before .before .before .at .ensures) (c .before .before .before .before .before .before .before .other-word .ensures) (c .before .before .before .before .before .next-arm .ensures) (c .before .before .before .enum-told2 .given .1) (c .before .before .at2 .ensures) (c .more-arms .ensures)
+    (arms-says (c .before .before .before .before .before .before .before .before .before .before .before .before .before .before .before .args .case) (c .before .before .before .before .before .before .before .before .before .before .before .before .before .first-word .ensures) (c .before .before .before .before .before .before .before .before .before .before .before .first-arm .ensures .0) (c .before .before .before .before .before .before .before .before .before .enum-told .given .1) (c .before .before .before .before .before .before .before .before .at .ensures) (c .before .before .before .before .before .before .before .other-word .ensures) (c .before .before .before .before .before .next-arm .ensures .0) (c .before .before .before .enum-told2 .given .1) (c .before .before .at2 .ensures) (c .more-arms .ensures .0), spent (goes-on (c .before .before .before .before .before .before .before .before .before .before .before .first-arm .ensures .1 (rw (c .before .before .before .before .before .before .before .before .before .before .before .before .before .first-word .ensures) (separators (c .before .before .before .before .before .before .before .before .before .before .before .before .before .before .before .args .case))) .done (c .before .before .before .before .before .before .before .before .before .enum-told .given .1)) (goes-on (nests (c .before .before .before .before .before .before .before .before .at .ensures)) (goes-on (c .before .before .before .before .before .next-arm .ensures .1 (rw (c .before .before .before .before .before .before .before .other-word .ensures) (others (c .before .before .before .before .before .before .before .before .before .before .before .before .before .before .before .args .case))) .done (c .before .before .before .enum-told2 .given .1)) (nests (c .before .before .at2 .ensures))))) (c .more-arms .ensures .1) (omega arith))
 
 choice-take-requires : (t : ℕ) → choice-lts.Need-take-requires (choice-calls t) (choice-at t) choice.Post
 choice-take-requires t c κs = search needs
@@ -387,7 +392,7 @@ choice-enum-told t c = search needs
 
 choice-returns : (t : ℕ) → choice-lts.Need-returns (choice-calls t) (choice-at t) choice.Post
 choice-returns t c =
-    λ e. choice-not (c .before .before .before .args .case) e (c .before .take .ensures) (not-done (c .match .keys2))
+    (λ e. choice-not (c .before .before .before .args .case) e (c .before .take .ensures) (not-done (c .match .keys2)), not-took (c .before .take .ensures) (not-done (c .match .keys2)))
 
 choice-start-requires : (t : ℕ) → choice-lts.Need-start-requires (choice-calls t) (choice-at t) choice.Post
 choice-start-requires t c κs =
@@ -398,7 +403,7 @@ choice-enum-told-2 t c = search needs
 
 choice-returns-2 : (t : ℕ) → choice-lts.Need-returns-2 (choice-calls t) (choice-at t) choice.Post
 choice-returns-2 t c =
-    λ e. condition-not (c .before .before .before .before .before .before .before .before .args .case) e (c .before .before .before .before .before .before .take .ensures) (c .before .before .before .before .enum-told .given .1) (c .before .start .ensures) (not-done (c .match2 .keys2))
+    (λ e. condition-not (c .before .before .before .before .before .before .before .before .args .case) e (c .before .before .before .before .before .before .take .ensures) (c .before .before .before .before .enum-told .given .1) (c .before .start .ensures .0) (not-done (c .match2 .keys2)), spent (counted-comes (c .before .before .before .before .before .before .take .ensures) (c .before .before .before .before .enum-told .given .1)) (c .before .start .ensures .1) (omega arith))
 
 choice-at-requires : (t : ℕ) → choice-lts.Need-at-requires (choice-calls t) (choice-at t) choice.Post
 choice-at-requires t c κs = search needs
@@ -412,7 +417,7 @@ choice-enum-told-3 t c = search needs
 
 choice-returns-3 : (t : ℕ) → choice-lts.Need-returns-3 (choice-calls t) (choice-at t) choice.Post
 choice-returns-3 t c =
-    λ e. branches-not (c .before .before .before .before .before .before .before .before .before .before .before .before .before .before .args .case) e (c .before .before .before .before .before .before .before .before .before .before .before .before .take .ensures) (c .before .before .before .before .before .before .before .before .before .before .enum-told .given .1) (c .before .before .before .before .before .before .before .start .ensures) (c .before .before .before .before .before .enum-told2 .given .1) (c .before .before .before .before .at .ensures) (c .before .before .arms .ensures) (not-done (c .match3 .keys2))
+    (λ e. branches-not (c .before .before .before .before .before .before .before .before .before .before .before .before .before .before .args .case) e (c .before .before .before .before .before .before .before .before .before .before .before .before .take .ensures) (c .before .before .before .before .before .before .before .before .before .before .enum-told .given .1) (c .before .before .before .before .before .before .before .start .ensures .0) (c .before .before .before .before .before .enum-told2 .given .1) (c .before .before .before .before .at .ensures) (c .before .before .arms .ensures .0) (not-done (c .match3 .keys2)), spent (goes-on (counted-comes (c .before .before .before .before .before .before .before .before .before .before .before .before .take .ensures) (c .before .before .before .before .before .before .before .before .before .before .enum-told .given .1)) (goes-on (c .before .before .before .before .before .before .before .start .ensures .1 .done (c .before .before .before .before .before .enum-told2 .given .1)) (nests (c .before .before .before .before .at .ensures)))) (c .before .before .arms .ensures .1) (omega arith))
 
 choice-last-word-requires : (t : ℕ) → choice-lts.Need-last-word-requires (choice-calls t) (choice-at t) choice.Post
 choice-last-word-requires t c κs = search needs
@@ -425,7 +430,7 @@ choice-enum-told-4 t c = search needs
 
 choice-returns-4 : (t : ℕ) → choice-lts.Need-returns-4 (choice-calls t) (choice-at t) choice.Post
 choice-returns-4 t c =
-    λ e. last-not (c .before .before .before .before .before .before .before .before .before .before .before .before .before .before .before .before .before .before .args .case) e (c .before .before .before .before .before .before .before .before .before .before .before .before .before .before .before .before .take .ensures) (c .before .before .before .before .before .before .before .before .before .before .before .before .before .before .enum-told .given .1) (c .before .before .before .before .before .before .before .before .before .before .before .start .ensures) (c .before .before .before .before .before .before .before .before .before .enum-told2 .given .1) (c .before .before .before .before .before .before .before .before .at .ensures) (c .before .before .before .before .before .before .arms .ensures) (c .before .before .before .enum-told3 .given .1) (c .before .before .last-word .ensures) (c .before .expect .ensures) (not-done (c .match4 .keys2))
+    (λ e. last-not (c .before .before .before .before .before .before .before .before .before .before .before .before .before .before .before .before .before .before .args .case) e (c .before .before .before .before .before .before .before .before .before .before .before .before .before .before .before .before .take .ensures) (c .before .before .before .before .before .before .before .before .before .before .before .before .before .before .enum-told .given .1) (c .before .before .before .before .before .before .before .before .before .before .before .start .ensures .0) (c .before .before .before .before .before .before .before .before .before .enum-told2 .given .1) (c .before .before .before .before .before .before .before .before .at .ensures) (c .before .before .before .before .before .before .arms .ensures .0) (c .before .before .before .enum-told3 .given .1) (c .before .before .last-word .ensures) (c .before .expect .ensures) (not-done (c .match4 .keys2)), unexpected (c .before .expect .ensures) (not-done (c .match4 .keys2)))
 
 choice-last-requires : (t : ℕ) → choice-lts.Need-last-requires (choice-calls t) (choice-at t) choice.Post
 choice-last-requires t c κs = search needs
@@ -435,7 +440,7 @@ choice-add-choice-requires t c κs = search needs
 
 choice-returns-5 : (t : ℕ) → choice-lts.Need-returns-5 (choice-calls t) (choice-at t) choice.Post
 choice-returns-5 t c =
-    λ e. choice-says (c .before .before .before .before .before .before .before .before .before .before .before .before .before .before .before .before .before .before .before .before .before .before .args .case) e (c .before .before .before .before .before .before .before .before .before .before .before .before .before .before .before .before .before .before .before .before .take .ensures) (c .before .before .before .before .before .before .before .before .before .before .before .before .before .before .before .before .before .before .enum-told .given .1) (c .before .before .before .before .before .before .before .before .before .before .before .before .before .before .before .start .ensures) (c .before .before .before .before .before .before .before .before .before .before .before .before .before .enum-told2 .given .1) (c .before .before .before .before .before .before .before .before .before .before .before .before .at .ensures) (c .before .before .before .before .before .before .before .before .before .before .arms .ensures) (c .before .before .before .before .before .before .before .enum-told3 .given .1) (c .before .before .before .before .before .before .last-word .ensures) (c .before .before .before .before .before .expect .ensures) (c .before .before .before .enum-told4 .given .1) (c .before .before .last .ensures) (c .add-choice .ensures)
+    (λ e. choice-says (c .before .before .before .before .before .before .before .before .before .before .before .before .before .before .before .before .before .before .before .before .before .before .args .case) e (c .before .before .before .before .before .before .before .before .before .before .before .before .before .before .before .before .before .before .before .before .take .ensures) (c .before .before .before .before .before .before .before .before .before .before .before .before .before .before .before .before .before .before .enum-told .given .1) (c .before .before .before .before .before .before .before .before .before .before .before .before .before .before .before .start .ensures .0) (c .before .before .before .before .before .before .before .before .before .before .before .before .before .enum-told2 .given .1) (c .before .before .before .before .before .before .before .before .before .before .before .before .at .ensures) (c .before .before .before .before .before .before .before .before .before .before .arms .ensures .0) (c .before .before .before .before .before .before .before .enum-told3 .given .1) (c .before .before .before .before .before .before .last-word .ensures) (c .before .before .before .before .before .expect .ensures) (c .before .before .before .enum-told4 .given .1) (c .before .before .last .ensures) (c .add-choice .ensures), spent (goes-on (counted-comes (c .before .before .before .before .before .before .before .before .before .before .before .before .before .before .before .before .before .before .before .before .take .ensures) (c .before .before .before .before .before .before .before .before .before .before .before .before .before .before .before .before .before .before .enum-told .given .1)) (goes-on (c .before .before .before .before .before .before .before .before .before .before .before .before .before .before .before .start .ensures .1 .done (c .before .before .before .before .before .before .before .before .before .before .before .before .before .enum-told2 .given .1)) (goes-on (nests (c .before .before .before .before .before .before .before .before .before .before .before .before .at .ensures)) (goes-on (c .before .before .before .before .before .before .before .before .before .before .arms .ensures .1 .done (c .before .before .before .before .before .before .before .enum-told3 .given .1)) (expected-comes (c .before .before .before .before .before .expect .ensures) (rw (c .before .before .before .before .before .before .last-word .ensures) (closers (c .before .before .before .before .before .before .before .before .before .before .before .before .before .before .before .before .before .before .before .before .before .before .args .case))) (c .before .before .before .enum-told4 .given .1)))))) (gained-spends (c .add-choice .ensures)) (omega arith))
 
 first-arm-expect-requires : (t : ℕ) → first-arm-lts.Need-expect-requires (first-arm-calls t) (first-arm-at t) first-arm.Post
 first-arm-expect-requires t c κs = search needs
@@ -445,7 +450,7 @@ first-arm-enum-told t c = search needs
 
 first-arm-returns : (t : ℕ) → first-arm-lts.Need-returns (first-arm-calls t) (first-arm-at t) first-arm.Post
 first-arm-returns t c =
-    first-not (c .before .expect .ensures) (not-done (c .match .keys2))
+    (first-not (c .before .expect .ensures) (not-done (c .match .keys2)), λ l. unexpected (c .before .expect .ensures) (not-done (c .match .keys2)))
 
 first-arm-at-requires : (t : ℕ) → first-arm-lts.Need-at-requires (first-arm-calls t) (first-arm-at t) first-arm.Post
 first-arm-at-requires t c κs = search needs
@@ -459,14 +464,14 @@ first-arm-enum-told-2 t c = search needs
 
 first-arm-returns-2 : (t : ℕ) → first-arm-lts.Need-returns-2 (first-arm-calls t) (first-arm-at t) first-arm.Post
 first-arm-returns-2 t c =
-    first-inner (c .before .before .before .before .before .before .expect .ensures) (c .before .before .before .before .enum-told .given .1) (c .before .before .before .at .ensures) (c .before .start .ensures) (not-done (c .match2 .keys2))
+    (first-inner (c .before .before .before .before .before .before .expect .ensures) (c .before .before .before .before .enum-told .given .1) (c .before .before .before .at .ensures) (c .before .start .ensures .0) (not-done (c .match2 .keys2)), λ l. spent (goes-on (expected-comes (c .before .before .before .before .before .before .expect .ensures) l (c .before .before .before .before .enum-told .given .1)) (nests (c .before .before .before .at .ensures))) (c .before .start .ensures .1) (omega arith))
 
 first-arm-add-first-arm-requires : (t : ℕ) → first-arm-lts.Need-add-first-arm-requires (first-arm-calls t) (first-arm-at t) first-arm.Post
 first-arm-add-first-arm-requires t c κs = search needs
 
 first-arm-returns-3 : (t : ℕ) → first-arm-lts.Need-returns-3 (first-arm-calls t) (first-arm-at t) first-arm.Post
 first-arm-returns-3 t c =
-    first-says (c .before .before .before .before .before .before .before .before .before .expect .ensures) (c .before .before .before .before .before .before .before .enum-told .given .1) (c .before .before .before .before .before .before .at .ensures) (c .before .before .before .before .start .ensures) (c .before .before .enum-told2 .given .1) (c .add-first-arm .ensures)
+    (first-says (c .before .before .before .before .before .before .before .before .before .expect .ensures) (c .before .before .before .before .before .before .before .enum-told .given .1) (c .before .before .before .before .before .before .at .ensures) (c .before .before .before .before .start .ensures .0) (c .before .before .enum-told2 .given .1) (c .add-first-arm .ensures), λ l. spent (goes-on (expected-comes (c .before .before .before .before .before .before .before .before .before .expect .ensures) l (c .before .before .before .before .before .before .before .enum-told .given .1)) (goes-on (nests (c .before .before .before .before .before .before .at .ensures)) (c .before .before .before .before .start .ensures .1 .done (c .before .before .enum-told2 .given .1)))) (gained-spends (c .add-first-arm .ensures)) (omega arith))
 
 group-take-requires : (t : ℕ) → group-lts.Need-take-requires (group-calls t) (group-at t) group.Post
 group-take-requires t c κs = search needs
@@ -476,7 +481,7 @@ group-enum-told t c = search needs
 
 group-returns : (t : ℕ) → group-lts.Need-returns (group-calls t) (group-at t) group.Post
 group-returns t c =
-    λ e. group-not e (c .before .take .ensures) (not-done (c .match .keys2))
+    (λ e. group-not e (c .before .take .ensures) (not-done (c .match .keys2)), not-took (c .before .take .ensures) (not-done (c .match .keys2)))
 
 group-start-requires : (t : ℕ) → group-lts.Need-start-requires (group-calls t) (group-at t) group.Post
 group-start-requires t c κs =
@@ -487,14 +492,14 @@ group-enum-told-2 t c = search needs
 
 group-returns-2 : (t : ℕ) → group-lts.Need-returns-2 (group-calls t) (group-at t) group.Post
 group-returns-2 t c =
-    λ e. inner-not e (c .before .before .before .before .before .before .before .take .ensures) (c .before .before .before .before .before .enum-told .given .1) (c .before .start .ensures) (not-done (c .match2 .keys2))
+    (λ e. inner-not e (c .before .before .before .before .before .before .before .take .ensures) (c .before .before .before .before .before .enum-told .given .1) (c .before .start .ensures .0) (not-done (c .match2 .keys2)), spent (took-comes (c .before .before .before .before .before .before .before .take .ensures) (c .before .before .before .before .before .enum-told .given .1)) (c .before .start .ensures .1) (omega arith))
 
 group-expect-requires : (t : ℕ) → group-lts.Need-expect-requires (group-calls t) (group-at t) group.Post
 group-expect-requires t c κs = search needs
 
 group-returns-3 : (t : ℕ) → group-lts.Need-returns-3 (group-calls t) (group-at t) group.Post
 group-returns-3 t c =
-    λ e. group-says e (c .before .before .before .before .before .before .before .before .before .before .before .take .ensures) (c .before .before .before .before .before .before .before .before .before .enum-told .given .1) (c .before .before .before .before .before .start .ensures) (c .before .before .before .enum-told2 .given .1) (c .expect .ensures)
+    (λ e. group-says e (c .before .before .before .before .before .before .before .before .before .before .before .take .ensures) (c .before .before .before .before .before .before .before .before .before .enum-told .given .1) (c .before .before .before .before .before .start .ensures .0) (c .before .before .before .enum-told2 .given .1) (c .expect .ensures), spent (goes-on (took-comes (c .before .before .before .before .before .before .before .before .before .before .before .take .ensures) (c .before .before .before .before .before .before .before .before .before .enum-told .given .1)) (c .before .before .before .before .before .start .ensures .1 .done (c .before .before .before .enum-told2 .given .1))) (expected-spends (c .expect .ensures) (omega arith)) (omega arith))
 
 inside-number-requires : (t : ℕ) → inside-lts.Need-number-requires (inside-calls t) (inside-at t) inside.Post
 inside-number-requires t c κs = search needs
@@ -507,7 +512,7 @@ inside-enum-told t c = search needs
 
 inside-returns : (t : ℕ) → inside-lts.Need-returns (inside-calls t) (inside-at t) inside.Post
 inside-returns t c =
-    inside-not (c .before .before .before .before .before .args .later) (sym (c .before .before .before .number .ensures) ∙ c .before .before .if1 .taken) (c .before .take .ensures) (not-done (c .match .keys2))
+    (inside-not (c .before .before .before .before .before .args .later) (sym (c .before .before .before .number .ensures) ∙ c .before .before .if1 .taken) (c .before .take .ensures) (not-done (c .match .keys2)), not-took (c .before .take .ensures) (not-done (c .match .keys2)))
 
 inside-counted-requires : (t : ℕ) → inside-lts.Need-counted-requires (inside-calls t) (inside-at t) inside.Post
 inside-counted-requires t c κs = search needs
@@ -517,7 +522,7 @@ inside-enum-told-2 t c = search needs
 
 inside-returns-2 : (t : ℕ) → inside-lts.Need-returns-2 (inside-calls t) (inside-at t) inside.Post
 inside-returns-2 t c =
-    counted-not (c .before .before .before .before .before .before .before .before .before .args .later) (sym (c .before .before .before .before .before .before .before .number .ensures) ∙ c .before .before .before .before .before .before .if1 .taken) (c .before .before .before .before .before .take .ensures) (c .before .before .before .enum-told .given .1) (c .before .counted .ensures) (not-done (c .match2 .keys2))
+    (counted-not (c .before .before .before .before .before .before .before .before .before .args .later) (sym (c .before .before .before .before .before .before .before .number .ensures) ∙ c .before .before .before .before .before .before .if1 .taken) (c .before .before .before .before .before .take .ensures) (c .before .before .before .enum-told .given .1) (c .before .counted .ensures .0) (not-done (c .match2 .keys2)), spent-seen (λ z. spent (took-comes (c .before .before .before .before .before .take .ensures) (c .before .before .before .enum-told .given .1)) (c .before .counted .ensures .1 _ (narrow _ (c .before .before .before .before .before .before .before .before .before .args .w) z (sym (c .before .before .before .before .before .before .before .number .ensures) ∙ c .before .before .before .before .before .before .if1 .taken))) (omega arith)))
 
 inside-at-requires : (t : ℕ) → inside-lts.Need-at-requires (inside-calls t) (inside-at t) inside.Post
 inside-at-requires t c κs = search needs
@@ -528,24 +533,24 @@ inside-rest-requires t c κs =
 
 inside-returns-3 : (t : ℕ) → inside-lts.Need-returns-3 (inside-calls t) (inside-at t) inside.Post
 inside-returns-3 t c =
-    inside-says (c .before .before .before .before .before .before .before .before .before .before .before .before .before .args .later) (sym (c .before .before .before .before .before .before .before .before .before .before .before .number .ensures) ∙ c .before .before .before .before .before .before .before .before .before .before .if1 .taken) (c .before .before .before .before .before .before .before .before .before .take .ensures) (c .before .before .before .before .before .before .before .enum-told .given .1) (c .before .before .before .before .before .counted .ensures) (c .before .before .before .enum-told2 .given .1) (c .before .before .at .ensures) (c .rest .ensures)
+    (inside-says (c .before .before .before .before .before .before .before .before .before .before .before .before .before .args .later) (sym (c .before .before .before .before .before .before .before .before .before .before .before .number .ensures) ∙ c .before .before .before .before .before .before .before .before .before .before .if1 .taken) (c .before .before .before .before .before .before .before .before .before .take .ensures) (c .before .before .before .before .before .before .before .enum-told .given .1) (c .before .before .before .before .before .counted .ensures .0) (c .before .before .before .enum-told2 .given .1) (c .before .before .at .ensures) (c .rest .ensures .0), spent-seen (λ z. spent (goes-on (took-comes (c .before .before .before .before .before .before .before .before .before .take .ensures) (c .before .before .before .before .before .before .before .enum-told .given .1)) (goes-on ((c .before .before .before .before .before .counted .ensures .1 _ (narrow _ (c .before .before .before .before .before .before .before .before .before .before .before .before .before .args .w) z (sym (c .before .before .before .before .before .before .before .before .before .before .before .number .ensures) ∙ c .before .before .before .before .before .before .before .before .before .before .if1 .taken))) .done (c .before .before .before .enum-told2 .given .1)) (nests (c .before .before .at .ensures)))) (c .rest .ensures .1) (omega arith)))
 
 inside-start-requires : (t : ℕ) → inside-lts.Need-start-requires (inside-calls t) (inside-at t) inside.Post
 inside-start-requires t c κs = search needs
 
 inside-returns-4 : (t : ℕ) → inside-lts.Need-returns-4 (inside-calls t) (inside-at t) inside.Post
 inside-returns-4 t c =
-    inside-expression (c .before .before .before .before .before .args .later) (λ e. c .before .before .if1 .left (c .before .before .before .number .ensures ∙ e)) (c .start .ensures)
+    (inside-expression (c .before .before .before .before .before .args .later) (λ e. c .before .before .if1 .left (c .before .before .before .number .ensures ∙ e)) (c .start .ensures .0), c .start .ensures .1)
 
 abbrev more-arms-Inv-loop : more-arms-lts.InvT-loop
-more-arms-Inv-loop s case n text work₀ state₀ next₀ count₀ left₀ work state next count left = Armings case text next₀ s work₀ n next state work count left
+more-arms-Inv-loop s case n text work₀ state₀ next₀ count₀ left₀ work state next count left = Armings case text next₀ s work₀ n next state work count left × (Seen text next₀ → Comes text 0 0 s next state)
 
 abbrev more-arms-μ-loop : more-arms-lts.MeasureT-loop
 more-arms-μ-loop s case n text work₀ state₀ next₀ count₀ left₀ work state next count left = left
 
 more-arms-loop-holds : (t : ℕ) → more-arms-lts.Need-loop-holds (more-arms-calls t) (more-arms-at t) more-arms.Post more-arms-Inv-loop more-arms-μ-loop
 more-arms-loop-holds t c =
-    armings-begin (c .before .args .case)
+    (armings-begin (c .before .args .case), begins)
 
 more-arms-another-requires : (t : ℕ) → more-arms-lts.Need-another-requires (more-arms-calls t) (more-arms-at t) more-arms.Post more-arms-Inv-loop more-arms-μ-loop
 more-arms-another-requires t c κs = search needs
@@ -562,7 +567,7 @@ more-arms-enum-told t c = search needs
 
 more-arms-returns : (t : ℕ) → more-arms-lts.Need-returns (more-arms-calls t) (more-arms-at t) more-arms.Post more-arms-Inv-loop more-arms-μ-loop
 more-arms-returns t c =
-    armings-not (c .before .before .before .before .before .before .before .before .before .args .case) (c .before .before .before .before .before .before .before .loop .inv) (sym (c .before .before .before .before .before .another .ensures) ∙ c .before .before .before .before .if1 .taken) (c .before .before .before .at .ensures) (c .before .next-arm .ensures) (not-done (c .match .keys2))
+    (armings-not (c .before .before .before .before .before .before .before .before .before .args .case) (c .before .before .before .before .before .before .before .loop .inv .0) (sym (c .before .before .before .before .before .another .ensures) ∙ c .before .before .before .before .if1 .taken) (c .before .before .before .at .ensures) (c .before .next-arm .ensures .0) (not-done (c .match .keys2)), spent (goes-on (c .before .before .before .before .before .before .before .loop .inv .1) (nests (c .before .before .before .at .ensures))) (c .before .next-arm .ensures .1 (omega arith)) (omega arith))
 
 more-arms-one-more-requires : (t : ℕ) → more-arms-lts.Need-one-more-requires (more-arms-calls t) (more-arms-at t) more-arms.Post more-arms-Inv-loop more-arms-μ-loop
 more-arms-one-more-requires t c κs = search needs
@@ -575,21 +580,21 @@ more-arms-loop-less t c = search needs
 
 more-arms-loop-again : (t : ℕ) → more-arms-lts.Need-loop-again (more-arms-calls t) (more-arms-at t) more-arms.Post more-arms-Inv-loop more-arms-μ-loop
 more-arms-loop-again t c =
-    armings-more (c .before .before .before .before .before .before .before .before .before .before .before .before .before .args .case) (c .before .before .before .before .before .before .before .before .before .before .before .loop .inv) (sym (c .before .before .before .before .before .before .before .before .before .another .ensures) ∙ c .before .before .before .before .before .before .before .before .if1 .taken) (c .before .before .before .before .before .before .before .at .ensures) (c .before .before .before .before .before .next-arm .ensures) (c .before .before .before .enum-told .given .1) (c .one-more .ensures) (omega (arith, c .before .before .before .before .before .before .before .before .before .before .loop-test .taken))
+    (armings-more (c .before .before .before .before .before .before .before .before .before .before .before .before .before .args .case) (c .before .before .before .before .before .before .before .before .before .before .before .loop .inv .0) (sym (c .before .before .before .before .before .before .before .before .before .another .ensures) ∙ c .before .before .before .before .before .before .before .before .if1 .taken) (c .before .before .before .before .before .before .before .at .ensures) (c .before .before .before .before .before .next-arm .ensures .0) (c .before .before .before .enum-told .given .1) (c .one-more .ensures) (omega (arith, c .before .before .before .before .before .before .before .before .before .before .loop-test .taken)), comes-as (goes-on (c .before .before .before .before .before .before .before .before .before .before .before .loop .inv .1) (goes-on (nests (c .before .before .before .before .before .before .before .at .ensures)) (c .before .before .before .before .before .next-arm .ensures .1 (omega arith) .done (c .before .before .before .enum-told .given .1)))) (omega arith))
 
 more-arms-stay-requires : (t : ℕ) → more-arms-lts.Need-stay-requires (more-arms-calls t) (more-arms-at t) more-arms.Post more-arms-Inv-loop more-arms-μ-loop
 more-arms-stay-requires t c κs = search needs
 
 more-arms-returns-2 : (t : ℕ) → more-arms-lts.Need-returns-2 (more-arms-calls t) (more-arms-at t) more-arms.Post more-arms-Inv-loop more-arms-μ-loop
 more-arms-returns-2 t c =
-    armings-end (c .before .before .before .before .before .before .args .case) (c .before .before .before .before .loop .inv) (sym (c .before .before .another .ensures) ∙ c .before .if1 .left) (c .stay .ensures)
+    (armings-end (c .before .before .before .before .before .before .args .case) (c .before .before .before .before .loop .inv .0) (sym (c .before .before .another .ensures) ∙ c .before .if1 .left) (c .stay .ensures), spent (c .before .before .before .before .loop .inv .1) (stays-spends (c .stay .ensures)) (omega arith))
 
 more-arms-full-requires : (t : ℕ) → more-arms-lts.Need-full-requires (more-arms-calls t) (more-arms-at t) more-arms.Post more-arms-Inv-loop more-arms-μ-loop
 more-arms-full-requires t c κs = search needs
 
 more-arms-returns-3 : (t : ℕ) → more-arms-lts.Need-returns-3 (more-arms-calls t) (more-arms-at t) more-arms.Post more-arms-Inv-loop more-arms-μ-loop
 more-arms-returns-3 t c =
-    armings-full (c .before .before .before .before .args .case) (c .before .before .loop .inv) (c .before .loop-test .left) (c .full .ensures)
+    (armings-full (c .before .before .before .before .args .case) (c .before .before .loop .inv .0) (c .before .loop-test .left) (c .full .ensures), spent (c .before .before .loop .inv .1) (full-spends (c .full .ensures)) (omega arith))
 
 named-take-requires : (t : ℕ) → named-lts.Need-take-requires (named-calls t) (named-at t) named.Post
 named-take-requires t c κs = search needs
@@ -599,7 +604,7 @@ named-enum-told t c = search needs
 
 named-returns : (t : ℕ) → named-lts.Need-returns (named-calls t) (named-at t) named.Post
 named-returns t c =
-    λ e. named-not e (c .before .take .ensures) (not-done (c .match .keys2))
+    (λ e. named-not e (c .before .take .ensures) (not-done (c .match .keys2)), not-took (c .before .take .ensures) (not-done (c .match .keys2)))
 
 named-reference-requires : (t : ℕ) → named-lts.Need-reference-requires (named-calls t) (named-at t) named.Post
 named-reference-requires t c κs =
@@ -607,7 +612,7 @@ named-reference-requires t c κs =
 
 named-returns-2 : (t : ℕ) → named-lts.Need-returns-2 (named-calls t) (named-at t) named.Post
 named-returns-2 t c =
-    λ e. named-says e (c .before .before .before .before .before .before .take .ensures) (c .before .before .before .before .enum-told .given .1) (c .reference .ensures)
+    (λ e. named-says e (c .before .before .before .before .before .before .take .ensures) (c .before .before .before .before .enum-told .given .1) (c .reference .ensures .0), spent (counted-comes (c .before .before .before .before .before .before .take .ensures) (c .before .before .before .before .enum-told .given .1)) (c .reference .ensures .1) (omega arith))
 
 next-arm-expect-requires : (t : ℕ) → next-arm-lts.Need-expect-requires (next-arm-calls t) (next-arm-at t) next-arm.Post
 next-arm-expect-requires t c κs = search needs
@@ -617,7 +622,7 @@ next-arm-enum-told t c = search needs
 
 next-arm-returns : (t : ℕ) → next-arm-lts.Need-returns (next-arm-calls t) (next-arm-at t) next-arm.Post
 next-arm-returns t c =
-    next-not (c .before .expect .ensures) (not-done (c .match .keys2))
+    (next-not (c .before .expect .ensures) (not-done (c .match .keys2)), λ l. unexpected (c .before .expect .ensures) (not-done (c .match .keys2)))
 
 next-arm-at-requires : (t : ℕ) → next-arm-lts.Need-at-requires (next-arm-calls t) (next-arm-at t) next-arm.Post
 next-arm-at-requires t c κs = search needs
@@ -631,7 +636,7 @@ next-arm-enum-told-2 t c = search needs
 
 next-arm-returns-2 : (t : ℕ) → next-arm-lts.Need-returns-2 (next-arm-calls t) (next-arm-at t) next-arm.Post
 next-arm-returns-2 t c =
-    next-inner (c .before .before .before .before .before .before .expect .ensures) (c .before .before .before .before .enum-told .given .1) (c .before .before .before .at .ensures) (c .before .start .ensures) (not-done (c .match2 .keys2))
+    (next-inner (c .before .before .before .before .before .before .expect .ensures) (c .before .before .before .before .enum-told .given .1) (c .before .before .before .at .ensures) (c .before .start .ensures .0) (not-done (c .match2 .keys2)), λ l. spent (goes-on (expected-comes (c .before .before .before .before .before .before .expect .ensures) l (c .before .before .before .before .enum-told .given .1)) (nests (c .before .before .before .at .ensures))) (c .before .start .ensures .1) (omega arith))
 
 next-arm-last-requires : (t : ℕ) → next-arm-lts.Need-last-requires (next-arm-calls t) (next-arm-at t) next-arm.Post
 next-arm-last-requires t c κs = search needs
@@ -641,7 +646,7 @@ next-arm-add-next-arm-requires t c κs = search needs
 
 next-arm-returns-3 : (t : ℕ) → next-arm-lts.Need-returns-3 (next-arm-calls t) (next-arm-at t) next-arm.Post
 next-arm-returns-3 t c =
-    next-says (c .before .before .before .before .before .before .before .before .before .before .expect .ensures) (c .before .before .before .before .before .before .before .before .enum-told .given .1) (c .before .before .before .before .before .before .before .at .ensures) (c .before .before .before .before .before .start .ensures) (c .before .before .before .enum-told2 .given .1) (c .before .before .last .ensures) (c .add-next-arm .ensures)
+    (next-says (c .before .before .before .before .before .before .before .before .before .before .expect .ensures) (c .before .before .before .before .before .before .before .before .enum-told .given .1) (c .before .before .before .before .before .before .before .at .ensures) (c .before .before .before .before .before .start .ensures .0) (c .before .before .before .enum-told2 .given .1) (c .before .before .last .ensures) (c .add-next-arm .ensures), λ l. spent (goes-on (expected-comes (c .before .before .before .before .before .before .before .before .before .before .expect .ensures) l (c .before .before .before .before .before .before .before .before .enum-told .given .1)) (goes-on (nests (c .before .before .before .before .before .before .before .at .ensures)) (c .before .before .before .before .before .start .ensures .1 .done (c .before .before .before .enum-told2 .given .1)))) (gained-spends (c .add-next-arm .ensures)) (omega arith))
 
 opening-enum-told : (t : ℕ) → opening-lts.Need-enum-told (opening-calls t) (opening-at t) opening.Post
 opening-enum-told t c = search needs
@@ -651,7 +656,7 @@ opening-term-requires t c κs = search needs
 
 opening-returns : (t : ℕ) → opening-lts.Need-returns (opening-calls t) (opening-at t) opening.Post
 opening-returns t c =
-    plain-opening (c .before .before .enum-told .given .1) (c .term .ensures)
+    (plain-opening (c .before .before .enum-told .given .1) (c .term .ensures .0), c .term .ensures .1)
 
 opening-take-requires : (t : ℕ) → opening-lts.Need-take-requires (opening-calls t) (opening-at t) opening.Post
 opening-take-requires t c κs = search needs
@@ -661,7 +666,7 @@ opening-enum-told-2 t c = search needs
 
 opening-returns-2 : (t : ℕ) → opening-lts.Need-returns-2 (opening-calls t) (opening-at t) opening.Post
 opening-returns-2 t c =
-    opening-not (c .before .before .before .before .args .head) (not-plain (c .before .before .match .keys2)) (c .before .take .ensures) (not-done (c .match2 .keys2))
+    (opening-not (c .before .before .before .before .args .head) (not-plain (c .before .before .match .keys2)) (c .before .take .ensures) (not-done (c .match2 .keys2)), not-took (c .before .take .ensures) (not-done (c .match2 .keys2)))
 
 opening-reducing-requires : (t : ℕ) → opening-lts.Need-reducing-requires (opening-calls t) (opening-at t) opening.Post
 opening-reducing-requires t c κs = search needs
@@ -671,7 +676,7 @@ opening-enum-told-3 t c = search needs
 
 opening-returns-3 : (t : ℕ) → opening-lts.Need-returns-3 (opening-calls t) (opening-at t) opening.Post
 opening-returns-3 t c =
-    red-not (c .before .before .before .before .before .before .before .before .before .args .head) (not-plain (c .before .before .before .before .before .before .before .match .keys2)) (c .before .before .before .before .before .before .take .ensures) (c .before .before .before .before .enum-told2 .given .1) (c .before .reducing .ensures) (not-done (c .match3 .keys2))
+    (red-not (c .before .before .before .before .before .before .before .before .before .args .head) (not-plain (c .before .before .before .before .before .before .before .match .keys2)) (c .before .before .before .before .before .before .take .ensures) (c .before .before .before .before .enum-told2 .given .1) (c .before .reducing .ensures .0) (not-done (c .match3 .keys2)), spent (counted-comes (c .before .before .before .before .before .before .take .ensures) (c .before .before .before .before .enum-told2 .given .1)) (c .before .reducing .ensures .1) (omega arith))
 
 opening-at-requires : (t : ℕ) → opening-lts.Need-at-requires (opening-calls t) (opening-at t) opening.Post
 opening-at-requires t c κs = search needs
@@ -688,14 +693,14 @@ opening-enum-told-4 t c = search needs
 
 opening-returns-4 : (t : ℕ) → opening-lts.Need-returns-4 (opening-calls t) (opening-at t) opening.Post
 opening-returns-4 t c =
-    operand-not (c .before .before .before .before .before .before .before .before .before .before .before .before .before .before .before .args .head) (not-plain (c .before .before .before .before .before .before .before .before .before .before .before .before .before .match .keys2)) (c .before .before .before .before .before .before .before .before .before .before .before .before .take .ensures) (c .before .before .before .before .before .before .before .before .before .before .enum-told2 .given .1) (c .before .before .before .before .before .before .before .reducing .ensures) (c .before .before .before .before .before .enum-told3 .given .1) (c .before .before .before .prefixed .ensures) (c .before .before .before .before .at .ensures) (c .before .start .ensures) (not-done (c .match4 .keys2))
+    (operand-not (c .before .before .before .before .before .before .before .before .before .before .before .before .before .before .before .args .head) (not-plain (c .before .before .before .before .before .before .before .before .before .before .before .before .before .match .keys2)) (c .before .before .before .before .before .before .before .before .before .before .before .before .take .ensures) (c .before .before .before .before .before .before .before .before .before .before .enum-told2 .given .1) (c .before .before .before .before .before .before .before .reducing .ensures .0) (c .before .before .before .before .before .enum-told3 .given .1) (c .before .before .before .prefixed .ensures) (c .before .before .before .before .at .ensures) (c .before .start .ensures .0) (not-done (c .match4 .keys2)), spent (goes-on (counted-comes (c .before .before .before .before .before .before .before .before .before .before .before .before .take .ensures) (c .before .before .before .before .before .before .before .before .before .before .enum-told2 .given .1)) (goes-on (c .before .before .before .before .before .before .before .reducing .ensures .1 .done (c .before .before .before .before .before .enum-told3 .given .1)) (nests (c .before .before .before .before .at .ensures)))) (c .before .start .ensures .1) (omega arith))
 
 opening-add-prefix-requires : (t : ℕ) → opening-lts.Need-add-prefix-requires (opening-calls t) (opening-at t) opening.Post
 opening-add-prefix-requires t c κs = search needs
 
 opening-returns-5 : (t : ℕ) → opening-lts.Need-returns-5 (opening-calls t) (opening-at t) opening.Post
 opening-returns-5 t c =
-    opening-says (c .before .before .before .before .before .before .before .before .before .before .before .before .before .before .before .before .before .before .before .before .args .head) (not-plain (c .before .before .before .before .before .before .before .before .before .before .before .before .before .before .before .before .before .before .match .keys2)) (c .before .before .before .before .before .before .before .before .before .before .before .before .before .before .before .before .before .take .ensures) (c .before .before .before .before .before .before .before .before .before .before .before .before .before .before .before .enum-told2 .given .1) (c .before .before .before .before .before .before .before .before .before .before .before .before .reducing .ensures) (c .before .before .before .before .before .before .before .before .before .before .enum-told3 .given .1) (c .before .before .before .before .before .before .before .before .prefixed .ensures) (c .before .before .before .before .before .before .before .before .before .at .ensures) (c .before .before .before .before .before .before .start .ensures) (c .before .before .before .before .enum-told4 .given .1) (c .add-prefix .ensures)
+    (opening-says (c .before .before .before .before .before .before .before .before .before .before .before .before .before .before .before .before .before .before .before .before .args .head) (not-plain (c .before .before .before .before .before .before .before .before .before .before .before .before .before .before .before .before .before .before .match .keys2)) (c .before .before .before .before .before .before .before .before .before .before .before .before .before .before .before .before .before .take .ensures) (c .before .before .before .before .before .before .before .before .before .before .before .before .before .before .before .enum-told2 .given .1) (c .before .before .before .before .before .before .before .before .before .before .before .before .reducing .ensures .0) (c .before .before .before .before .before .before .before .before .before .before .enum-told3 .given .1) (c .before .before .before .before .before .before .before .before .prefixed .ensures) (c .before .before .before .before .before .before .before .before .before .at .ensures) (c .before .before .before .before .before .before .start .ensures .0) (c .before .before .before .before .enum-told4 .given .1) (c .add-prefix .ensures), spent (goes-on (counted-comes (c .before .before .before .before .before .before .before .before .before .before .before .before .before .before .before .before .before .take .ensures) (c .before .before .before .before .before .before .before .before .before .before .before .before .before .before .before .enum-told2 .given .1)) (goes-on (c .before .before .before .before .before .before .before .before .before .before .before .before .reducing .ensures .1 .done (c .before .before .before .before .before .before .before .before .before .before .enum-told3 .given .1)) (goes-on (nests (c .before .before .before .before .before .before .before .before .before .at .ensures)) (goes-on (c .before .before .before .before .before .before .start .ensures .1 .done (c .before .before .before .before .enum-told4 .given .1)) eases)))) (gained-spends (c .add-prefix .ensures)) (omega arith))
 
 operation-take-requires : (t : ℕ) → operation-lts.Need-take-requires (operation-calls t) (operation-at t) operation.Post
 operation-take-requires t c κs = search needs
@@ -705,7 +710,7 @@ operation-enum-told t c = search needs
 
 operation-returns : (t : ℕ) → operation-lts.Need-returns (operation-calls t) (operation-at t) operation.Post
 operation-returns t c =
-    operation-not (c .before .take .ensures) (c .before .before .before .args .rank) (not-done (c .match .keys2))
+    (operation-not (c .before .take .ensures) (c .before .before .before .args .rank) (not-done (c .match .keys2)), not-took (c .before .take .ensures) (not-done (c .match .keys2)))
 
 operation-enum-told-2 : (t : ℕ) → operation-lts.Need-enum-told-2 (operation-calls t) (operation-at t) operation.Post
 operation-enum-told-2 t c = search needs
@@ -718,7 +723,7 @@ operation-cut-requires t c κs = search needs
 
 operation-returns-2 : (t : ℕ) → operation-lts.Need-returns-2 (operation-calls t) (operation-at t) operation.Post
 operation-returns-2 t c =
-    cut-operation (c .before .before .before .before .before .before .before .before .before .take .ensures) (c .before .before .before .before .before .before .before .enum-told .given .1) (c .before .before .before .enum-told2 .given .1) (c .before .before .number .ensures) (c .cut .ensures)
+    (cut-operation (c .before .before .before .before .before .before .before .before .before .take .ensures) (c .before .before .before .before .before .before .before .enum-told .given .1) (c .before .before .before .enum-told2 .given .1) (c .before .before .number .ensures) (c .cut .ensures .0, c .cut .ensures .1), spent (counted-comes (c .before .before .before .before .before .before .before .before .before .take .ensures) (c .before .before .before .before .before .before .before .enum-told .given .1)) (c .cut .ensures .2) (omega arith))
 
 operation-operand-requires : (t : ℕ) → operation-lts.Need-operand-requires (operation-calls t) (operation-at t) operation.Post
 operation-operand-requires t c κs = search needs
@@ -732,7 +737,7 @@ operation-enum-told-3 t c = search needs
 
 operation-returns-3 : (t : ℕ) → operation-lts.Need-returns-3 (operation-calls t) (operation-at t) operation.Post
 operation-returns-3 t c =
-    right-not (c .before .before .before .before .before .before .before .before .before .take .ensures) (c .before .before .before .before .before .before .before .enum-told .given .1) (c .before .before .before .before .before .before .before .before .before .before .before .args .rank) (not-cut (c .before .before .before .before .match2 .keys2)) (c .before .before .before .operand .ensures) (c .before .start .ensures) (not-done (c .match3 .keys2))
+    (right-not (c .before .before .before .before .before .before .before .before .before .take .ensures) (c .before .before .before .before .before .before .before .enum-told .given .1) (c .before .before .before .before .before .before .before .before .before .before .before .args .rank) (not-cut (c .before .before .before .before .match2 .keys2)) (c .before .before .before .operand .ensures) (c .before .start .ensures .0) (not-done (c .match3 .keys2)), spent (counted-comes (c .before .before .before .before .before .before .before .before .before .take .ensures) (c .before .before .before .before .before .before .before .enum-told .given .1)) (c .before .start .ensures .1) (omega arith))
 
 operation-last-requires : (t : ℕ) → operation-lts.Need-last-requires (operation-calls t) (operation-at t) operation.Post
 operation-last-requires t c κs = search needs
@@ -742,7 +747,7 @@ operation-add-binary-requires t c κs = search needs
 
 operation-returns-4 : (t : ℕ) → operation-lts.Need-returns-4 (operation-calls t) (operation-at t) operation.Post
 operation-returns-4 t c =
-    operation-says (c .before .before .before .before .before .before .before .before .before .before .before .before .before .before .before .take .ensures) (c .before .before .before .before .before .before .before .before .before .before .before .before .before .enum-told .given .1) (c .before .before .before .before .before .before .before .before .before .before .before .before .before .before .before .before .before .args .rank) (not-cut (c .before .before .before .before .before .before .before .before .before .before .match2 .keys2)) (c .before .before .before .before .before .before .before .before .before .operand .ensures) (c .before .before .before .before .before .before .before .start .ensures) (c .before .before .before .before .before .enum-told3 .given .1) (c .before .before .last .ensures) (c .add-binary .ensures)
+    (operation-says (c .before .before .before .before .before .before .before .before .before .before .before .before .before .before .before .take .ensures) (c .before .before .before .before .before .before .before .before .before .before .before .before .before .enum-told .given .1) (c .before .before .before .before .before .before .before .before .before .before .before .before .before .before .before .before .before .args .rank) (not-cut (c .before .before .before .before .before .before .before .before .before .before .match2 .keys2)) (c .before .before .before .before .before .before .before .before .before .operand .ensures) (c .before .before .before .before .before .before .before .start .ensures .0) (c .before .before .before .before .before .enum-told3 .given .1) (c .before .before .last .ensures) (c .add-binary .ensures), spent (goes-on (counted-comes (c .before .before .before .before .before .before .before .before .before .before .before .before .before .before .before .take .ensures) (c .before .before .before .before .before .before .before .before .before .before .before .before .before .enum-told .given .1)) (c .before .before .before .before .before .before .before .start .ensures .1 .done (c .before .before .before .before .before .enum-told3 .given .1))) (gained-spends (c .add-binary .ensures)) (omega arith))
 
 reference-number-requires : (t : ℕ) → reference-lts.Need-number-requires (reference-calls t) (reference-at t) reference.Post
 reference-number-requires t c κs = search needs
@@ -755,7 +760,7 @@ reference-enum-told t c = search needs
 
 reference-returns : (t : ℕ) → reference-lts.Need-returns (reference-calls t) (reference-at t) reference.Post
 reference-returns t c =
-    reference-not (c .before .before .before .before .before .args .name) (sym (c .before .before .before .number .ensures) ∙ c .before .before .if1 .taken) (c .before .take .ensures) (not-done (c .match .keys2))
+    (reference-not (c .before .before .before .before .before .args .name) (sym (c .before .before .before .number .ensures) ∙ c .before .before .if1 .taken) (c .before .take .ensures) (not-done (c .match .keys2)), not-took (c .before .take .ensures) (not-done (c .match .keys2)))
 
 reference-subscript-requires : (t : ℕ) → reference-lts.Need-subscript-requires (reference-calls t) (reference-at t) reference.Post
 reference-subscript-requires t c κs =
@@ -763,14 +768,14 @@ reference-subscript-requires t c κs =
 
 reference-returns-2 : (t : ℕ) → reference-lts.Need-returns-2 (reference-calls t) (reference-at t) reference.Post
 reference-returns-2 t c =
-    reference-says (c .before .before .before .before .before .before .before .before .before .before .args .name) (sym (c .before .before .before .before .before .before .before .before .number .ensures) ∙ c .before .before .before .before .before .before .before .if1 .taken) (c .before .before .before .before .before .before .take .ensures) (c .before .before .before .before .enum-told .given .1) (c .subscript .ensures)
+    (reference-says (c .before .before .before .before .before .before .before .before .before .before .args .name) (sym (c .before .before .before .before .before .before .before .before .number .ensures) ∙ c .before .before .before .before .before .before .before .if1 .taken) (c .before .before .before .before .before .before .take .ensures) (c .before .before .before .before .enum-told .given .1) (c .subscript .ensures .0), spent (took-comes (c .before .before .before .before .before .before .take .ensures) (c .before .before .before .before .enum-told .given .1)) (c .subscript .ensures .1) (omega arith))
 
 reference-add-whole-requires : (t : ℕ) → reference-lts.Need-add-whole-requires (reference-calls t) (reference-at t) reference.Post
 reference-add-whole-requires t c κs = search needs
 
 reference-returns-3 : (t : ℕ) → reference-lts.Need-returns-3 (reference-calls t) (reference-at t) reference.Post
 reference-returns-3 t c =
-    whole-says (c .before .before .before .before .before .args .name) (c .before .before .before .number .ensures) (c .before .before .if1 .left) (c .add-whole .ensures)
+    (whole-says (c .before .before .before .before .before .args .name) (c .before .before .before .number .ensures) (c .before .before .if1 .left) (c .add-whole .ensures), adds-spends (c .add-whole .ensures))
 
 rest-within-requires : (t : ℕ) → rest-lts.Need-within-requires (rest-calls t) (rest-at t) rest.Post
 rest-within-requires t c κs = search needs
@@ -784,7 +789,7 @@ rest-enum-told t c = search needs
 
 rest-returns : (t : ℕ) → rest-lts.Need-returns (rest-calls t) (rest-at t) rest.Post
 rest-returns t c =
-    rest-not (c .before .before .before .before .before .before .args .rank) (c .before .before .before .before .before .before .args .level) (sym (c .before .before .before .before .within .ensures) ∙ c .before .before .before .if1 .taken) (c .before .tail .ensures) (not-done (c .match .keys2))
+    (rest-not (c .before .before .before .before .before .before .args .rank) (c .before .before .before .before .before .before .args .level) (sym (c .before .before .before .before .within .ensures) ∙ c .before .before .before .if1 .taken) (c .before .tail .ensures .0) (not-done (c .match .keys2)), c .before .tail .ensures .1)
 
 rest-at-requires : (t : ℕ) → rest-lts.Need-at-requires (rest-calls t) (rest-at t) rest.Post
 rest-at-requires t c κs = search needs
@@ -798,14 +803,14 @@ rest-rest-requires t c κs =
 
 rest-returns-2 : (t : ℕ) → rest-lts.Need-returns-2 (rest-calls t) (rest-at t) rest.Post
 rest-returns-2 t c =
-    rest-says (c .before .before .before .before .before .before .before .before .before .before .before .args .rank) (c .before .before .before .before .before .before .before .before .before .before .before .args .level) (sym (c .before .before .before .before .before .before .before .before .before .within .ensures) ∙ c .before .before .before .before .before .before .before .before .if1 .taken) (c .before .before .before .before .before .before .tail .ensures) (c .before .before .before .before .enum-told .given .1) (c .before .before .next .ensures) (c .before .before .before .at .ensures) (c .rest .ensures)
+    (rest-says (c .before .before .before .before .before .before .before .before .before .before .before .args .rank) (c .before .before .before .before .before .before .before .before .before .before .before .args .level) (sym (c .before .before .before .before .before .before .before .before .before .within .ensures) ∙ c .before .before .before .before .before .before .before .before .if1 .taken) (c .before .before .before .before .before .before .tail .ensures .0) (c .before .before .before .before .enum-told .given .1) (c .before .before .next .ensures) (c .before .before .before .at .ensures) (c .rest .ensures .0), spent (goes-on (c .before .before .before .before .before .before .tail .ensures .1 .done (c .before .before .before .before .enum-told .given .1)) (nests (c .before .before .before .at .ensures))) (c .rest .ensures .1) (omega arith))
 
 rest-stay-requires : (t : ℕ) → rest-lts.Need-stay-requires (rest-calls t) (rest-at t) rest.Post
 rest-stay-requires t c κs = search needs
 
 rest-returns-3 : (t : ℕ) → rest-lts.Need-returns-3 (rest-calls t) (rest-at t) rest.Post
 rest-returns-3 t c =
-    rest-none (c .before .before .before .before .args .rank) (c .before .before .before .before .args .level) (sym (c .before .before .within .ensures) ∙ c .before .if1 .left) (c .stay .ensures)
+    (rest-none (c .before .before .before .before .args .rank) (c .before .before .before .before .args .level) (sym (c .before .before .within .ensures) ∙ c .before .if1 .left) (c .stay .ensures), stays-spends (c .stay .ensures))
 
 second-ends-ahead-requires : (t : ℕ) → second-lts.Need-ends-ahead-requires (second-calls t) (second-at t) second.Post
 second-ends-ahead-requires t c κs = search needs
@@ -815,7 +820,7 @@ second-word-part-requires t c κs = search needs
 
 second-returns : (t : ℕ) → second-lts.Need-returns (second-calls t) (second-at t) second.Post
 second-returns t c =
-    λ sc h. c .word-part .ensures (ends-so true (c .before .before .before .ends-ahead .ensures) (c .before .before .if1 .taken) (h .seen)) sc h
+    (λ sc h. c .word-part .ensures .0 (ends-so true (c .before .before .before .ends-ahead .ensures) (c .before .before .if1 .taken) (h .seen)) sc h, c .word-part .ensures .1)
 
 second-inside-requires : (t : ℕ) → second-lts.Need-inside-requires (second-calls t) (second-at t) second.Post
 second-inside-requires t c κs = search needs
@@ -825,7 +830,7 @@ second-enum-told t c = search needs
 
 second-returns-2 : (t : ℕ) → second-lts.Need-returns-2 (second-calls t) (second-at t) second.Post
 second-returns-2 t c =
-    second-not (c .before .before .before .before .before .before .args .name) (c .before .before .before .before .ends-ahead .ensures) (c .before .before .before .if1 .left) (c .before .inside .ensures) (not-done (c .match .keys2))
+    (second-not (c .before .before .before .before .before .before .args .name) (c .before .before .before .before .ends-ahead .ensures) (c .before .before .before .if1 .left) (c .before .inside .ensures .0) (not-done (c .match .keys2)), spent begins (c .before .inside .ensures .1) (omega arith))
 
 second-expect-requires : (t : ℕ) → second-lts.Need-expect-requires (second-calls t) (second-at t) second.Post
 second-expect-requires t c κs = search needs
@@ -835,7 +840,7 @@ second-enum-told-2 t c = search needs
 
 second-returns-3 : (t : ℕ) → second-lts.Need-returns-3 (second-calls t) (second-at t) second.Post
 second-returns-3 t c =
-    end-not (c .before .before .before .before .before .before .before .before .before .before .before .args .name) (c .before .before .before .before .before .before .before .before .before .ends-ahead .ensures) (c .before .before .before .before .before .before .before .before .if1 .left) (c .before .before .before .before .before .before .inside .ensures) (c .before .before .before .before .enum-told .given .1) (c .before .expect .ensures) (not-done (c .match2 .keys2))
+    (end-not (c .before .before .before .before .before .before .before .before .before .before .before .args .name) (c .before .before .before .before .before .before .before .before .before .ends-ahead .ensures) (c .before .before .before .before .before .before .before .before .if1 .left) (c .before .before .before .before .before .before .inside .ensures .0) (c .before .before .before .before .enum-told .given .1) (c .before .expect .ensures) (not-done (c .match2 .keys2)), unexpected (c .before .expect .ensures) (not-done (c .match2 .keys2)))
 
 second-last-requires : (t : ℕ) → second-lts.Need-last-requires (second-calls t) (second-at t) second.Post
 second-last-requires t c κs = search needs
@@ -848,7 +853,7 @@ second-add-two-requires t c κs = search needs
 
 second-returns-4 : (t : ℕ) → second-lts.Need-returns-4 (second-calls t) (second-at t) second.Post
 second-returns-4 t c =
-    second-says (c .before .before .before .before .before .before .before .before .before .before .before .before .before .before .before .before .before .before .args .name) (c .before .before .before .before .before .before .before .before .before .before .before .before .before .before .before .before .ends-ahead .ensures) (c .before .before .before .before .before .before .before .before .before .before .before .before .before .before .before .if1 .left) (c .before .before .before .before .before .before .before .before .before .before .before .before .before .inside .ensures) (c .before .before .before .before .before .before .before .before .before .before .before .enum-told .given .1) (c .before .before .before .before .before .before .before .before .expect .ensures) (c .before .before .before .before .before .before .enum-told2 .given .1) (c .before .before .before .last .ensures) (c .before .before .last2 .ensures) (c .add-two .ensures)
+    (second-says (c .before .before .before .before .before .before .before .before .before .before .before .before .before .before .before .before .before .before .args .name) (c .before .before .before .before .before .before .before .before .before .before .before .before .before .before .before .before .ends-ahead .ensures) (c .before .before .before .before .before .before .before .before .before .before .before .before .before .before .before .if1 .left) (c .before .before .before .before .before .before .before .before .before .before .before .before .before .inside .ensures .0) (c .before .before .before .before .before .before .before .before .before .before .before .enum-told .given .1) (c .before .before .before .before .before .before .before .before .expect .ensures) (c .before .before .before .before .before .before .enum-told2 .given .1) (c .before .before .before .last .ensures) (c .before .before .last2 .ensures) (c .add-two .ensures), spent (goes-on (c .before .before .before .before .before .before .before .before .before .before .before .before .before .inside .ensures .1 .done (c .before .before .before .before .before .before .before .before .before .before .before .enum-told .given .1)) (expected-comes (c .before .before .before .before .before .before .before .before .expect .ensures) (omega arith) (c .before .before .before .before .before .before .enum-told2 .given .1))) (adds-spends (c .add-two .ensures)) (omega arith))
 
 single-number-requires : (t : ℕ) → single-lts.Need-number-requires (single-calls t) (single-at t) single.Post
 single-number-requires t c κs = search needs
@@ -861,7 +866,7 @@ single-enum-told t c = search needs
 
 single-returns : (t : ℕ) → single-lts.Need-returns (single-calls t) (single-at t) single.Post
 single-returns t c =
-    single-not (c .before .before .before .before .before .args .name) (sym (c .before .before .before .number .ensures) ∙ c .before .before .if1 .taken) (c .before .take .ensures) (not-done (c .match .keys2))
+    (single-not (c .before .before .before .before .before .args .name) (sym (c .before .before .before .number .ensures) ∙ c .before .before .if1 .taken) (c .before .take .ensures) (not-done (c .match .keys2)), not-took (c .before .take .ensures) (not-done (c .match .keys2)))
 
 single-second-requires : (t : ℕ) → single-lts.Need-second-requires (single-calls t) (single-at t) single.Post
 single-second-requires t c κs =
@@ -869,7 +874,7 @@ single-second-requires t c κs =
 
 single-returns-2 : (t : ℕ) → single-lts.Need-returns-2 (single-calls t) (single-at t) single.Post
 single-returns-2 t c =
-    single-says (c .before .before .before .before .before .before .before .before .before .before .args .name) (sym (c .before .before .before .before .before .before .before .before .number .ensures) ∙ c .before .before .before .before .before .before .before .if1 .taken) (c .before .before .before .before .before .before .take .ensures) (c .before .before .before .before .enum-told .given .1) (c .second .ensures)
+    (single-says (c .before .before .before .before .before .before .before .before .before .before .args .name) (sym (c .before .before .before .before .before .before .before .before .number .ensures) ∙ c .before .before .before .before .before .before .before .if1 .taken) (c .before .before .before .before .before .before .take .ensures) (c .before .before .before .before .enum-told .given .1) (c .second .ensures .0), spent (took-comes (c .before .before .before .before .before .before .take .ensures) (c .before .before .before .before .enum-told .given .1)) (c .second .ensures .1) (omega arith))
 
 single-last-requires : (t : ℕ) → single-lts.Need-last-requires (single-calls t) (single-at t) single.Post
 single-last-requires t c κs = search needs
@@ -879,7 +884,7 @@ single-add-one-requires t c κs = search needs
 
 single-returns-3 : (t : ℕ) → single-lts.Need-returns-3 (single-calls t) (single-at t) single.Post
 single-returns-3 t c =
-    one-says (c .before .before .before .before .before .before .args .name) (c .before .before .before .before .number .ensures) (c .before .before .before .if1 .left) (c .before .before .last .ensures) (c .add-one .ensures)
+    (one-says (c .before .before .before .before .before .before .args .name) (c .before .before .before .before .number .ensures) (c .before .before .before .if1 .left) (c .before .before .last .ensures) (c .add-one .ensures), adds-spends (c .add-one .ensures))
 
 start-number-requires : (t : ℕ) → start-lts.Need-number-requires (start-calls t) (start-at t) start.Post
 start-number-requires t c κs = search needs
@@ -896,7 +901,7 @@ start-enum-told t c = search needs
 
 start-returns : (t : ℕ) → start-lts.Need-returns (start-calls t) (start-at t) start.Post
 start-returns t c =
-    start-not (c .before .before .before .before .before .before .args .level) (c .before .before .before .before .number .ensures) (c .before .before .before .head-of .ensures) (c .before .opening .ensures) (not-done (c .match .keys2))
+    (start-not (c .before .before .before .before .before .before .args .level) (c .before .before .before .before .number .ensures) (c .before .before .before .head-of .ensures) (c .before .opening .ensures .0) (not-done (c .match .keys2)), c .before .opening .ensures .1)
 
 start-at-requires : (t : ℕ) → start-lts.Need-at-requires (start-calls t) (start-at t) start.Post
 start-at-requires t c κs = search needs
@@ -910,7 +915,7 @@ start-rest-requires t c κs =
 
 start-returns-2 : (t : ℕ) → start-lts.Need-returns-2 (start-calls t) (start-at t) start.Post
 start-returns-2 t c =
-    start-says (c .before .before .before .before .before .before .before .before .before .before .before .args .level) (c .before .before .before .before .before .before .before .before .before .number .ensures) (c .before .before .before .before .before .before .before .before .head-of .ensures) (c .before .before .before .before .before .before .opening .ensures) (c .before .before .before .before .enum-told .given .1) (c .before .before .after .ensures) (c .before .before .before .at .ensures) (c .rest .ensures)
+    (start-says (c .before .before .before .before .before .before .before .before .before .before .before .args .level) (c .before .before .before .before .before .before .before .before .before .number .ensures) (c .before .before .before .before .before .before .before .before .head-of .ensures) (c .before .before .before .before .before .before .opening .ensures .0) (c .before .before .before .before .enum-told .given .1) (c .before .before .after .ensures) (c .before .before .before .at .ensures) (c .rest .ensures .0), spent (goes-on (c .before .before .before .before .before .before .opening .ensures .1 .done (c .before .before .before .before .enum-told .given .1)) (nests (c .before .before .before .at .ensures))) (c .rest .ensures .1) (omega arith))
 
 subscript-ends-ahead-requires : (t : ℕ) → subscript-lts.Need-ends-ahead-requires (subscript-calls t) (subscript-at t) subscript.Post
 subscript-ends-ahead-requires t c κs = search needs
@@ -920,7 +925,7 @@ subscript-part-requires t c κs = search needs
 
 subscript-returns : (t : ℕ) → subscript-lts.Need-returns (subscript-calls t) (subscript-at t) subscript.Post
 subscript-returns t c =
-    λ sc h. c .part .ensures (ends-so true (c .before .before .before .ends-ahead .ensures) (c .before .before .if1 .taken) (h .seen)) sc h
+    (λ sc h. c .part .ensures .0 (ends-so true (c .before .before .before .ends-ahead .ensures) (c .before .before .if1 .taken) (h .seen)) sc h, c .part .ensures .1)
 
 subscript-inside-requires : (t : ℕ) → subscript-lts.Need-inside-requires (subscript-calls t) (subscript-at t) subscript.Post
 subscript-inside-requires t c κs = search needs
@@ -930,7 +935,7 @@ subscript-enum-told t c = search needs
 
 subscript-returns-2 : (t : ℕ) → subscript-lts.Need-returns-2 (subscript-calls t) (subscript-at t) subscript.Post
 subscript-returns-2 t c =
-    subscript-not (c .before .before .before .before .before .before .args .name) (c .before .before .before .before .ends-ahead .ensures) (c .before .before .before .if1 .left) (c .before .inside .ensures) (not-done (c .match .keys2))
+    (subscript-not (c .before .before .before .before .before .before .args .name) (c .before .before .before .before .ends-ahead .ensures) (c .before .before .before .if1 .left) (c .before .inside .ensures .0) (not-done (c .match .keys2)), spent begins (c .before .inside .ensures .1) (omega arith))
 
 subscript-number-requires : (t : ℕ) → subscript-lts.Need-number-requires (subscript-calls t) (subscript-at t) subscript.Post
 subscript-number-requires t c κs = search needs
@@ -943,7 +948,7 @@ subscript-enum-told-2 t c = search needs
 
 subscript-returns-3 : (t : ℕ) → subscript-lts.Need-returns-3 (subscript-calls t) (subscript-at t) subscript.Post
 subscript-returns-3 t c =
-    comma-not (c .before .before .before .before .before .before .before .before .before .before .before .before .before .args .name) (c .before .before .before .before .before .before .before .before .before .before .before .ends-ahead .ensures) (c .before .before .before .before .before .before .before .before .before .before .if1 .left) (c .before .before .before .before .before .before .before .before .inside .ensures) (c .before .before .before .before .before .before .enum-told .given .1) (sym (c .before .before .before .number .ensures) ∙ c .before .before .if2 .taken) (c .before .take .ensures) (not-done (c .match2 .keys2))
+    (comma-not (c .before .before .before .before .before .before .before .before .before .before .before .before .before .args .name) (c .before .before .before .before .before .before .before .before .before .before .before .ends-ahead .ensures) (c .before .before .before .before .before .before .before .before .before .before .if1 .left) (c .before .before .before .before .before .before .before .before .inside .ensures .0) (c .before .before .before .before .before .before .enum-told .given .1) (sym (c .before .before .before .number .ensures) ∙ c .before .before .if2 .taken) (c .before .take .ensures) (not-done (c .match2 .keys2)), not-took (c .before .take .ensures) (not-done (c .match2 .keys2)))
 
 subscript-at-requires : (t : ℕ) → subscript-lts.Need-at-requires (subscript-calls t) (subscript-at t) subscript.Post
 subscript-at-requires t c κs = search needs
@@ -954,7 +959,7 @@ subscript-second-requires t c κs =
 
 subscript-returns-4 : (t : ℕ) → subscript-lts.Need-returns-4 (subscript-calls t) (subscript-at t) subscript.Post
 subscript-returns-4 t c =
-    comma-says (c .before .before .before .before .before .before .before .before .before .before .before .before .before .before .before .before .before .args .name) (c .before .before .before .before .before .before .before .before .before .before .before .before .before .before .before .ends-ahead .ensures) (c .before .before .before .before .before .before .before .before .before .before .before .before .before .before .if1 .left) (c .before .before .before .before .before .before .before .before .before .before .before .before .inside .ensures) (c .before .before .before .before .before .before .before .before .before .before .enum-told .given .1) (sym (c .before .before .before .before .before .before .before .number .ensures) ∙ c .before .before .before .before .before .before .if2 .taken) (c .before .before .before .before .before .take .ensures) (c .before .before .before .enum-told2 .given .1) (c .before .before .at .ensures) (c .second .ensures)
+    (comma-says (c .before .before .before .before .before .before .before .before .before .before .before .before .before .before .before .before .before .args .name) (c .before .before .before .before .before .before .before .before .before .before .before .before .before .before .before .ends-ahead .ensures) (c .before .before .before .before .before .before .before .before .before .before .before .before .before .before .if1 .left) (c .before .before .before .before .before .before .before .before .before .before .before .before .inside .ensures .0) (c .before .before .before .before .before .before .before .before .before .before .enum-told .given .1) (sym (c .before .before .before .before .before .before .before .number .ensures) ∙ c .before .before .before .before .before .before .if2 .taken) (c .before .before .before .before .before .take .ensures) (c .before .before .before .enum-told2 .given .1) (c .before .before .at .ensures) (c .second .ensures .0), spent (goes-on (c .before .before .before .before .before .before .before .before .before .before .before .before .inside .ensures .1 .done (c .before .before .before .before .before .before .before .before .before .before .enum-told .given .1)) (goes-on (took-comes (c .before .before .before .before .before .take .ensures) (c .before .before .before .enum-told2 .given .1)) (nests (c .before .before .at .ensures)))) (c .second .ensures .1) (omega arith))
 
 subscript-expect-requires : (t : ℕ) → subscript-lts.Need-expect-requires (subscript-calls t) (subscript-at t) subscript.Post
 subscript-expect-requires t c κs = search needs
@@ -964,7 +969,7 @@ subscript-enum-told-3 t c = search needs
 
 subscript-returns-5 : (t : ℕ) → subscript-lts.Need-returns-5 (subscript-calls t) (subscript-at t) subscript.Post
 subscript-returns-5 t c =
-    close-not (c .before .before .before .before .before .before .before .before .before .before .before .before .before .args .name) (c .before .before .before .before .before .before .before .before .before .before .before .ends-ahead .ensures) (c .before .before .before .before .before .before .before .before .before .before .if1 .left) (c .before .before .before .before .before .before .before .before .inside .ensures) (c .before .before .before .before .before .before .enum-told .given .1) (λ e. c .before .before .if2 .left (c .before .before .before .number .ensures ∙ e)) (c .before .expect .ensures) (not-done (c .match3 .keys2))
+    (close-not (c .before .before .before .before .before .before .before .before .before .before .before .before .before .args .name) (c .before .before .before .before .before .before .before .before .before .before .before .ends-ahead .ensures) (c .before .before .before .before .before .before .before .before .before .before .if1 .left) (c .before .before .before .before .before .before .before .before .inside .ensures .0) (c .before .before .before .before .before .before .enum-told .given .1) (λ e. c .before .before .if2 .left (c .before .before .before .number .ensures ∙ e)) (c .before .expect .ensures) (not-done (c .match3 .keys2)), unexpected (c .before .expect .ensures) (not-done (c .match3 .keys2)))
 
 subscript-last-requires : (t : ℕ) → subscript-lts.Need-last-requires (subscript-calls t) (subscript-at t) subscript.Post
 subscript-last-requires t c κs = search needs
@@ -978,17 +983,17 @@ subscript-single-requires t c κs =
 
 subscript-returns-6 : (t : ℕ) → subscript-lts.Need-returns-6 (subscript-calls t) (subscript-at t) subscript.Post
 subscript-returns-6 t c =
-    close-says (c .before .before .before .before .before .before .before .before .before .before .before .before .before .before .before .before .before .before .args .name) (c .before .before .before .before .before .before .before .before .before .before .before .before .before .before .before .before .ends-ahead .ensures) (c .before .before .before .before .before .before .before .before .before .before .before .before .before .before .before .if1 .left) (c .before .before .before .before .before .before .before .before .before .before .before .before .before .inside .ensures) (c .before .before .before .before .before .before .before .before .before .before .before .enum-told .given .1) (λ e. c .before .before .before .before .before .before .before .if2 .left (c .before .before .before .before .before .before .before .before .number .ensures ∙ e)) (c .before .before .before .before .before .before .expect .ensures) (c .before .before .before .before .enum-told3 .given .1) (c .before .before .before .last .ensures) (c .before .before .at2 .ensures) (c .single .ensures)
+    (close-says (c .before .before .before .before .before .before .before .before .before .before .before .before .before .before .before .before .before .before .args .name) (c .before .before .before .before .before .before .before .before .before .before .before .before .before .before .before .before .ends-ahead .ensures) (c .before .before .before .before .before .before .before .before .before .before .before .before .before .before .before .if1 .left) (c .before .before .before .before .before .before .before .before .before .before .before .before .before .inside .ensures .0) (c .before .before .before .before .before .before .before .before .before .before .before .enum-told .given .1) (λ e. c .before .before .before .before .before .before .before .if2 .left (c .before .before .before .before .before .before .before .before .number .ensures ∙ e)) (c .before .before .before .before .before .before .expect .ensures) (c .before .before .before .before .enum-told3 .given .1) (c .before .before .before .last .ensures) (c .before .before .at2 .ensures) (c .single .ensures .0), spent (goes-on (c .before .before .before .before .before .before .before .before .before .before .before .before .before .inside .ensures .1 .done (c .before .before .before .before .before .before .before .before .before .before .before .enum-told .given .1)) (goes-on (expected-comes (c .before .before .before .before .before .before .expect .ensures) (omega arith) (c .before .before .before .before .enum-told3 .given .1)) (nests (c .before .before .at2 .ensures)))) (c .single .ensures .1) (omega arith))
 
 abbrev tail-Inv-loop : tail-lts.InvT-loop
-tail-Inv-loop s rank text work₀ state₀ next₀ left₀ work state next left = Tails rank text next₀ s work₀ next state work left
+tail-Inv-loop s rank text work₀ state₀ next₀ left₀ work state next left = Tails rank text next₀ s work₀ next state work left × (Seen text next₀ → Comes text 0 0 s next state)
 
 abbrev tail-μ-loop : tail-lts.MeasureT-loop
 tail-μ-loop s rank text work₀ state₀ next₀ left₀ work state next left = left
 
 tail-loop-holds : (t : ℕ) → tail-lts.Need-loop-holds (tail-calls t) (tail-at t) tail.Post tail-Inv-loop tail-μ-loop
 tail-loop-holds t c =
-    tails-begin (c .before .args .rank)
+    (tails-begin (c .before .args .rank), begins)
 
 tail-operates-requires : (t : ℕ) → tail-lts.Need-operates-requires (tail-calls t) (tail-at t) tail.Post tail-Inv-loop tail-μ-loop
 tail-operates-requires t c κs = search needs
@@ -1005,14 +1010,14 @@ tail-enum-told t c = search needs
 
 tail-returns : (t : ℕ) → tail-lts.Need-returns (tail-calls t) (tail-at t) tail.Post tail-Inv-loop tail-μ-loop
 tail-returns t c =
-    tails-not (c .before .before .before .before .before .before .before .before .before .args .rank) (c .before .before .before .before .before .before .before .loop .inv) (sym (c .before .before .before .before .before .operates .ensures) ∙ c .before .before .before .before .if1 .taken) (c .before .before .before .at .ensures) (c .before .operation .ensures) (not-done (c .match .keys2))
+    (tails-not (c .before .before .before .before .before .before .before .before .before .args .rank) (c .before .before .before .before .before .before .before .loop .inv .0) (sym (c .before .before .before .before .before .operates .ensures) ∙ c .before .before .before .before .if1 .taken) (c .before .before .before .at .ensures) (c .before .operation .ensures .0) (not-done (c .match .keys2)), spent (goes-on (c .before .before .before .before .before .before .before .loop .inv .1) (nests (c .before .before .before .at .ensures))) (c .before .operation .ensures .1) (omega arith))
 
 tail-once-requires : (t : ℕ) → tail-lts.Need-once-requires (tail-calls t) (tail-at t) tail.Post tail-Inv-loop tail-μ-loop
 tail-once-requires t c κs = search needs
 
 tail-returns-2 : (t : ℕ) → tail-lts.Need-returns-2 (tail-calls t) (tail-at t) tail.Post tail-Inv-loop tail-μ-loop
 tail-returns-2 t c =
-    tails-once (c .before .before .before .before .before .before .before .before .before .before .before .before .args .rank) (c .before .before .before .before .before .before .before .before .before .before .loop .inv) (sym (c .before .before .before .before .before .before .before .before .operates .ensures) ∙ c .before .before .before .before .before .before .before .if1 .taken) (c .before .before .before .before .before .before .at .ensures) (c .before .before .before .before .operation .ensures) (sym (c .before .once .ensures) ∙ c .if2 .taken)
+    (tails-once (c .before .before .before .before .before .before .before .before .before .before .before .before .args .rank) (c .before .before .before .before .before .before .before .before .before .before .loop .inv .0) (sym (c .before .before .before .before .before .before .before .before .operates .ensures) ∙ c .before .before .before .before .before .before .before .if1 .taken) (c .before .before .before .before .before .before .at .ensures) (c .before .before .before .before .operation .ensures .0) (sym (c .before .once .ensures) ∙ c .if2 .taken), spent (goes-on (c .before .before .before .before .before .before .before .before .before .before .loop .inv .1) (nests (c .before .before .before .before .before .before .at .ensures))) (c .before .before .before .before .operation .ensures .1) (omega arith))
 
 tail-sub-left : (t : ℕ) → tail-lts.Need-sub-left (tail-calls t) (tail-at t) tail.Post tail-Inv-loop tail-μ-loop
 tail-sub-left t c = search needs
@@ -1022,21 +1027,21 @@ tail-loop-less t c = search needs
 
 tail-loop-again : (t : ℕ) → tail-lts.Need-loop-again (tail-calls t) (tail-at t) tail.Post tail-Inv-loop tail-μ-loop
 tail-loop-again t c =
-    tails-more (c .before .before .before .before .before .before .before .before .before .before .before .before .before .before .args .rank) (c .before .before .before .before .before .before .before .before .before .before .before .before .loop .inv) (sym (c .before .before .before .before .before .before .before .before .before .before .operates .ensures) ∙ c .before .before .before .before .before .before .before .before .before .if1 .taken) (c .before .before .before .before .before .before .before .before .at .ensures) (c .before .before .before .before .before .before .operation .ensures) (c .before .before .before .before .enum-told .given .1) (sym (c .before .before .before .once .ensures) ∙ c .before .before .if2 .left) (omega (arith, c .before .before .before .before .before .before .before .before .before .before .before .loop-test .taken))
+    (tails-more (c .before .before .before .before .before .before .before .before .before .before .before .before .before .before .args .rank) (c .before .before .before .before .before .before .before .before .before .before .before .before .loop .inv .0) (sym (c .before .before .before .before .before .before .before .before .before .before .operates .ensures) ∙ c .before .before .before .before .before .before .before .before .before .if1 .taken) (c .before .before .before .before .before .before .before .before .at .ensures) (c .before .before .before .before .before .before .operation .ensures .0) (c .before .before .before .before .enum-told .given .1) (sym (c .before .before .before .once .ensures) ∙ c .before .before .if2 .left) (omega (arith, c .before .before .before .before .before .before .before .before .before .before .before .loop-test .taken)), comes-as (goes-on (c .before .before .before .before .before .before .before .before .before .before .before .before .loop .inv .1) (goes-on (nests (c .before .before .before .before .before .before .before .before .at .ensures)) (c .before .before .before .before .before .before .operation .ensures .1 .done (c .before .before .before .before .enum-told .given .1)))) (omega arith))
 
 tail-stay-requires : (t : ℕ) → tail-lts.Need-stay-requires (tail-calls t) (tail-at t) tail.Post tail-Inv-loop tail-μ-loop
 tail-stay-requires t c κs = search needs
 
 tail-returns-3 : (t : ℕ) → tail-lts.Need-returns-3 (tail-calls t) (tail-at t) tail.Post tail-Inv-loop tail-μ-loop
 tail-returns-3 t c =
-    tails-end (c .before .before .before .before .before .before .args .rank) (c .before .before .before .before .loop .inv) (sym (c .before .before .operates .ensures) ∙ c .before .if1 .left) (c .stay .ensures)
+    (tails-end (c .before .before .before .before .before .before .args .rank) (c .before .before .before .before .loop .inv .0) (sym (c .before .before .operates .ensures) ∙ c .before .if1 .left) (c .stay .ensures), spent (c .before .before .before .before .loop .inv .1) (stays-spends (c .stay .ensures)) (omega arith))
 
 tail-full-requires : (t : ℕ) → tail-lts.Need-full-requires (tail-calls t) (tail-at t) tail.Post tail-Inv-loop tail-μ-loop
 tail-full-requires t c κs = search needs
 
 tail-returns-4 : (t : ℕ) → tail-lts.Need-returns-4 (tail-calls t) (tail-at t) tail.Post tail-Inv-loop tail-μ-loop
 tail-returns-4 t c =
-    tails-full (c .before .before .before .before .args .rank) (c .before .before .loop .inv) (c .before .loop-test .left) (c .full .ensures)
+    (tails-full (c .before .before .before .before .args .rank) (c .before .before .loop .inv .0) (c .before .loop-test .left) (c .full .ensures), spent (c .before .before .loop .inv .1) (full-spends (c .full .ensures)) (omega arith))
 
 term-number-requires : (t : ℕ) → term-lts.Need-number-requires (term-calls t) (term-at t) term.Post
 term-number-requires t c κs = search needs
@@ -1053,35 +1058,35 @@ term-named-requires t c κs = search needs
 
 term-returns-2 : (t : ℕ) → term-lts.Need-returns-2 (term-calls t) (term-at t) term.Post
 term-returns-2 t c =
-    c .named .ensures (sym (c .before .before .before .before .number .ensures) ∙ c .before .before .if2 .taken)
+    (c .named .ensures .0 (sym (c .before .before .before .before .number .ensures) ∙ c .before .before .if2 .taken), c .named .ensures .1)
 
 term-group-requires : (t : ℕ) → term-lts.Need-group-requires (term-calls t) (term-at t) term.Post
 term-group-requires t c κs = search needs
 
 term-returns-3 : (t : ℕ) → term-lts.Need-returns-3 (term-calls t) (term-at t) term.Post
 term-returns-3 t c =
-    c .group .ensures (sym (c .before .before .before .before .before .number .ensures) ∙ c .before .before .if3 .taken)
+    (c .group .ensures .0 (sym (c .before .before .before .before .before .number .ensures) ∙ c .before .before .if3 .taken), c .group .ensures .1)
 
 term-choice-requires : (t : ℕ) → term-lts.Need-choice-requires (term-calls t) (term-at t) term.Post
 term-choice-requires t c κs = search needs
 
 term-returns-4 : (t : ℕ) → term-lts.Need-returns-4 (term-calls t) (term-at t) term.Post
 term-returns-4 t c =
-    c .choice .ensures (sym (c .before .before .before .before .before .before .number .ensures) ∙ c .before .before .if4 .taken)
+    (c .choice .ensures .0 (sym (c .before .before .before .before .before .before .number .ensures) ∙ c .before .before .if4 .taken), c .choice .ensures .1)
 
 term-choice-requires-2 : (t : ℕ) → term-lts.Need-choice-requires-2 (term-calls t) (term-at t) term.Post
 term-choice-requires-2 t c κs = search needs
 
 term-returns-5 : (t : ℕ) → term-lts.Need-returns-5 (term-calls t) (term-at t) term.Post
 term-returns-5 t c =
-    c .choice2 .ensures (sym (c .before .before .before .before .before .before .before .number .ensures) ∙ c .before .before .if5 .taken)
+    (c .choice2 .ensures .0 (sym (c .before .before .before .before .before .before .before .number .ensures) ∙ c .before .before .if5 .taken), c .choice2 .ensures .1)
 
 term-refuse-requires : (t : ℕ) → term-lts.Need-refuse-requires (term-calls t) (term-at t) term.Post
 term-refuse-requires t c κs = search needs
 
 term-returns-6 : (t : ℕ) → term-lts.Need-returns-6 (term-calls t) (term-at t) term.Post
 term-returns-6 t c =
-    term-not (c .before .before .before .before .before .before .number .ensures) (c .before .before .before .before .before .if1 .left) (c .before .before .before .before .if2 .left) (c .before .before .before .if3 .left) (c .before .before .if4 .left) (c .before .if5 .left) (c .refuse .ensures)
+    (term-not (c .before .before .before .before .before .before .number .ensures) (c .before .before .before .before .before .if1 .left) (c .before .before .before .before .if2 .left) (c .before .before .before .if3 .left) (c .before .before .if4 .left) (c .before .if5 .left) (c .refuse .ensures), refusal-unspent (c .refuse .ensures))
 
 pub +arms+choice+first-arm+group+inside+more-arms+named+next-arm+opening+operation+reference+rest+second+single+start+subscript+tail+term-spec :
     {M : Type 1} → statement M

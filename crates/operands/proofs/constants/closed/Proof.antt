@@ -1,3 +1,5 @@
+use native.Mathlib.Omega.{arith}
+use Rattle.course.proofs.Paying.{expected-spends, kept-comes, spent, unspent}
 use Rattle.operands.proofs.EndLaws.{closed-not, closed-says}
 use Rattle.course.proofs.Answers.{not-done}
 use borrow.Author.Needs.{needs}
@@ -12,14 +14,14 @@ enum-told c = search needs
 
 returns : tie.Need-returns
 returns c =
-    closed-not (c .before .keep-constant .ensures) (not-done (c .match .keys2))
+    (closed-not (c .before .keep-constant .ensures) (not-done (c .match .keys2)), unspent (not-done (c .match .keys2)) (c .before .keep-constant .ensures .full))
 
 expect-requires : tie.Need-expect-requires
 expect-requires c κs = search needs
 
 returns-2 : tie.Need-returns-2
 returns-2 c =
-    closed-says (c .before .before .before .before .before .keep-constant .ensures) (c .before .before .before .enum-told .given .1) (c .expect .ensures)
+    (closed-says (c .before .before .before .before .before .keep-constant .ensures) (c .before .before .before .enum-told .given .1) (c .expect .ensures), spent (kept-comes (c .before .before .before .before .before .keep-constant .ensures) (c .before .before .before .enum-told .given .1)) (expected-spends (c .expect .ensures) (omega arith)) (omega arith))
 
 pub closed-spec : {M : Type 1} → statement M
 closed-spec =

@@ -4,6 +4,8 @@ use Rattle.language.specs.Declaring.{treeSteps}
 use Rattle.language.specs.Machine.{make}
 use Rattle.course.proofs.Saying.{not-taken}
 use Rattle.course.specs.Taken.{constantWord}
+use Rattle.course.proofs.Paying.{not-took}
+use Rattle.operands.proofs.OperandCosts.{constant-spends}
 use Rattle.operands.proofs.OperandLaws.{constant-says, term-course}
 use Rattle.course.proofs.Answers.{not-done}
 use borrow.Author.Needs.{needs}
@@ -18,14 +20,14 @@ enum-told c = search needs
 
 returns : tie.Need-returns
 returns c =
-    λ e sc h. not-taken (c .before .take .ensures) (not-done (c .match .keys2)) (λ K. make (treeSteps .makeConstant) ∷ K) (λ b. keepWord (constantWord (c .before .before .before .args .w)) b) (term-course e h)
+    λ e. (λ sc h. not-taken (c .before .take .ensures) (not-done (c .match .keys2)) (λ K. make (treeSteps .makeConstant) ∷ K) (λ b. keepWord (constantWord (c .before .before .before .args .w)) b) (term-course e h), not-took (c .before .take .ensures) (not-done (c .match .keys2)))
 
 add-constant-requires : tie.Need-add-constant-requires
 add-constant-requires c κs = search needs
 
 returns-2 : tie.Need-returns-2
 returns-2 c =
-    λ e sc h. constant-says e h (c .before .before .before .before .before .before .take .ensures) (c .before .before .before .before .enum-told .given .1) (c .add-constant .ensures)
+    λ e. (λ sc h. constant-says e h (c .before .before .before .before .before .before .take .ensures) (c .before .before .before .before .enum-told .given .1) (c .add-constant .ensures), constant-spends e (c .before .before .before .before .before .before .take .ensures) (c .before .before .before .before .enum-told .given .1) (c .add-constant .ensures))
 
 pub constant-spec : {M : Type 1} → statement M
 constant-spec =

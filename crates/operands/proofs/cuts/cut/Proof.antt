@@ -1,4 +1,6 @@
+use native.Mathlib.Omega.{arith}
 use Rattle.course.proofs.NodeGained.{grown}
+use Rattle.course.proofs.Paying.{gained-spends, kept-comes, spent, unspent}
 use Rattle.words.specs.Meaning.{positioned}
 use Rattle.operands.proofs.OperandLaws.{cut-not, cut-says, kept-nodes}
 use Rattle.course.proofs.Answers.{not-done}
@@ -14,7 +16,7 @@ enum-told c = search needs
 
 returns : tie.Need-returns
 returns c =
-    (λ sc h q base t o. cut-not (c .before .before .before .args .kind) (positioned (c .before .before .before .args .operator .at)) h o (c .before .keep-constant .ensures) (not-done (c .match .keys2)), λ z d. absurd (not-done (c .match .keys2) d))
+    (λ sc h q base t o. cut-not (c .before .before .before .args .kind) (positioned (c .before .before .before .args .operator .at)) h o (c .before .keep-constant .ensures) (not-done (c .match .keys2)), λ z d. absurd (not-done (c .match .keys2) d), unspent (not-done (c .match .keys2)) (c .before .keep-constant .ensures .full))
 
 count-requires : tie.Need-count-requires
 count-requires c κs = search needs
@@ -30,7 +32,7 @@ add-requires c κs = search needs
 
 returns-2 : tie.Need-returns-2
 returns-2 c =
-    (λ sc h q base t o. cut-says (c .before .before .before .before .before .before .before .before .before .before .before .before .before .args .kind) (positioned (c .before .before .before .before .before .before .before .before .before .before .before .before .before .args .operator .at)) h o (c .before .before .before .before .before .before .before .before .before .before .before .keep-constant .ensures) (c .before .before .before .before .before .before .before .before .before .enum-told .given .1) (c .before .before .last .ensures) (c .before .before .before .before .before .count .ensures) (c .before .before .before .plain .ensures) (c .add .ensures), λ z. grown (c .add .ensures) (c .before .before .before .before .before .before .before .before .before .before .before .before .before .args .s) (kept-nodes (c .before .before .before .before .before .before .before .before .before .before .before .keep-constant .ensures) (c .before .before .before .before .before .before .before .before .before .enum-told .given .1) z))
+    (λ sc h q base t o. cut-says (c .before .before .before .before .before .before .before .before .before .before .before .before .before .args .kind) (positioned (c .before .before .before .before .before .before .before .before .before .before .before .before .before .args .operator .at)) h o (c .before .before .before .before .before .before .before .before .before .before .before .keep-constant .ensures) (c .before .before .before .before .before .before .before .before .before .enum-told .given .1) (c .before .before .last .ensures) (c .before .before .before .before .before .count .ensures) (c .before .before .before .plain .ensures) (c .add .ensures), λ z. grown (c .add .ensures) (c .before .before .before .before .before .before .before .before .before .before .before .before .before .args .s) (kept-nodes (c .before .before .before .before .before .before .before .before .before .before .before .keep-constant .ensures) (c .before .before .before .before .before .before .before .before .before .enum-told .given .1) z), spent (kept-comes (c .before .before .before .before .before .before .before .before .before .before .before .keep-constant .ensures) (c .before .before .before .before .before .before .before .before .before .enum-told .given .1)) (gained-spends (c .add .ensures)) (omega arith))
 
 pub cut-spec : {M : Type 1} → statement M
 cut-spec =

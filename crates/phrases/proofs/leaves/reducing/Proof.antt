@@ -1,3 +1,5 @@
+use native.Mathlib.Omega.{arith}
+use Rattle.course.proofs.Paying.{expected-spends, stays-spends}
 use Rattle.levels.specs.declared.Head.the-variants as H
 use Rattle.phrases.proofs.PartLaws.{red-prefixed, unprefixed}
 use mathlib.Core.Path.{refl}
@@ -32,19 +34,19 @@ stay-requires-3 c κs = search needs
 
 returns : tie.Need-returns
 returns c =
-    rw (c .before .enum-told .given .1) (unprefixed H.Plain (c .stay .ensures) (λ K. refl))
+    (rw (c .before .enum-told .given .1) (unprefixed H.Plain (c .stay .ensures) (λ K. refl)), stays-spends (c .stay .ensures))
 
 returns-2 : tie.Need-returns-2
 returns-2 c =
-    rw (c .before .enum-told2 .given .1) (unprefixed H.Negation (c .stay2 .ensures) (λ K. refl))
+    (rw (c .before .enum-told2 .given .1) (unprefixed H.Negation (c .stay2 .ensures) (λ K. refl)), stays-spends (c .stay2 .ensures))
 
 returns-3 : tie.Need-returns-3
 returns-3 c =
-    rw (c .before .enum-told3 .given .1) (red-prefixed (c .expect .ensures))
+    (rw (c .before .enum-told3 .given .1) (red-prefixed (c .expect .ensures)), expected-spends (c .expect .ensures) (omega arith))
 
 returns-4 : tie.Need-returns-4
 returns-4 c =
-    rw (c .before .enum-told4 .given .1) (unprefixed H.Complement (c .stay3 .ensures) (λ K. refl))
+    (rw (c .before .enum-told4 .given .1) (unprefixed H.Complement (c .stay3 .ensures) (λ K. refl)), stays-spends (c .stay3 .ensures))
 
 pub reducing-spec : {M : Type 1} → statement M
 reducing-spec =
