@@ -6,7 +6,6 @@ use Prim.Native.Nat.{ℕ, suc, _+_, _-_, _*_, _<_, _≤_}
 use native.Mathlib.Omega.{arith}
 use borrow.Author.Tests.{eqb-false, eqb-true}
 use lib.Dec.{eqb}
-use lib.ListN.{length}
 use Rattle.course.proofs.Ceilings.{few-counted}
 use Rattle.course.proofs.Saying.{makes-it}
 use Rattle.course.proofs.TakenWords.{took-done, took-refused}
@@ -19,21 +18,19 @@ use Rattle.course.specs.Taken.{Expected, Passed, Took, afterWord}
 use Rattle.grammar.specs.Conditionals.{joined-assoc}
 use Rattle.language.specs.Building.{Built, joined, listNo, withLists}
 use Rattle.language.specs.Declaring.{treeSteps}
-use Rattle.language.specs.Describe.{NotedAction, act, actionsIn, actionsOf, armsIn, expressionsIn, nodesIn}
+use Rattle.language.specs.Describe.{act, actionsIn, actionsOf, armsIn, expressionsIn, nodesIn}
 use Rattle.language.specs.Description as D
 use Rattle.language.specs.Encode.{actionBytes}
-use Rattle.language.specs.Machine.{ask, level, make, word}
+use Rattle.language.specs.Machine.{ask, make}
 use Rattle.language.specs.Naming.{Scope}
 use Rattle.language.specs.Tree as T
 use Rattle.language.specs.Tree.{Actions}
-use Rattle.language.specs.Words as L
 use Rattle.meanings.specs.declared.Counts.{Counts}
 use Rattle.phrases.proofs.StartLaws.{at-same}
 use Rattle.phrases.specs.Phrases.{atNesting, same}
 use Rattle.simple.proofs.Joining.{grown-two, written-then}
-use Rattle.simple.proofs.Keeping.{known-kept}
-use Rattle.simple.proofs.Standings.{few-states, standing-passed}
-use Rattle.simple.specs.Actions.{Acts, OthersKept, Paid, Reads, Standing, Written, grown}
+use Rattle.simple.proofs.Standings.{standing-passed}
+use Rattle.simple.specs.Actions.{Acts, Paid, Reads, Standing, grown}
 use Rattle.simple.specs.declared.Acted.{Acted}
 use Rattle.simple.specs.Leaves.{Puts}
 use Rattle.tables.specs.declared.Table.the-variants as Tb
@@ -44,35 +41,10 @@ use Rattle.words.specs.Meaning.{positioned}
 use Rattle.actions.proofs.Laying.{first-kept, headed, laid-added, laid-written}
 use Rattle.actions.proofs.ListLaws.{at-level, level-same}
 use Rattle.actions.proofs.ListWords.{do-comes, else-comes, no-do}
+use Rattle.actions.proofs.Room.{few-actions, few-nodes, standing-acts, standing-kept}
 use Rattle.actions.specs.declared.Armed.{Armed}
 use Rattle.actions.specs.Laid.{Laid}
 use Rattle.actions.specs.Lists.{Arm, ArmRead, Arms, ArmsRead, Else, NextArm, Told, actionAsk, armStack, armsAsk, elseStack, listStack, ownStack, restAsk}
-
--- ---- Where reading stands.
-
-module _ {text : List ℕ} {sc : Scope} {n : Counts} {w : Word} {s : State} {acts : ℕ} {work : List ℕ} where
-  pub standing-kept : {work′ : List ℕ} → Standing text sc n w s acts work → OthersKept work work′ → length work′ ≡ 275296 → Standing text sc n w s acts work′
-  standing-kept {work′} st o l = record {
-    seen = st .seen;
-    short = st .short;
-    whole = l;
-    within = st .within;
-    known = known-kept work′ o (st .known);
-    facilities = st .facilities;
-    nodes = st .nodes;
-    actions = st .actions;
-  }
-
-  -- Another number of action records.
-  pub standing-acts : (m : ℕ) → Standing text sc n w s acts work → m ≤ 2 * s .counted → Standing text sc n w s m work
-  standing-acts m st h = record { seen = st .seen; short = st .short; whole = st .whole; within = st .within; known = st .known; facilities = st .facilities; nodes = st .nodes; actions = h }
-
-  -- There is room.
-  pub few-actions : Standing text sc n w s acts work → acts ≤ 4096
-  few-actions st = omega (arith, st .actions, few-counted (countsOf s) (st .within))
-
-  pub few-nodes : Standing text sc n w s acts work → s .nodes ≤ 15888
-  few-nodes st = omega (arith, st .nodes, few-counted (countsOf s) (st .within), few-states (countsOf s) (st .within))
 
 -- ---- One arm.
 

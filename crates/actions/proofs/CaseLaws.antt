@@ -27,9 +27,9 @@ use Rattle.tables.specs.declared.Table.the-variants as Tb
 use Rattle.tables.specs.Rows.{Wrote}
 use Rattle.words.specs.declared.Word.{Word}
 use Rattle.words.specs.Meaning.{positioned}
-use Rattle.actions.proofs.ArmLaws.{few-actions, few-nodes}
 use Rattle.actions.proofs.EndLaws.{choose-written, concluded}
 use Rattle.actions.proofs.Laying.{headed}
+use Rattle.actions.proofs.Room.{few-actions, few-nodes}
 use Rattle.actions.specs.declared.Armed.{Armed}
 use Rattle.actions.specs.Lists.{Arms, ArmsRead, Condition, ConditionRead, Conditional, Told, actionAsk, armStack, signOf}
 

@@ -4,8 +4,6 @@ use mathlib.Core.List.{List, [], _∷_, _++_, append-nil}
 use mathlib.Core.Path.{_≡_, refl, sym, ap, _∙_, subst}
 use Prim.Native.Nat.{ℕ, suc, _+_, _*_, _≤_}
 use native.Mathlib.Omega.{arith}
-use lib.ListN.{length}
-use Rattle.course.proofs.Ceilings.{few-counted}
 use Rattle.course.proofs.Saying.{makes-it}
 use Rattle.course.proofs.TakenWords.{took-done, took-refused}
 use Rattle.course.specs.declared.Answer.{Answer}
@@ -18,9 +16,9 @@ use Rattle.course.specs.Says.{Parses, Read, Says, pushed}
 use Rattle.course.specs.Taken.{Expected, Passed, Took, afterWord}
 use Rattle.language.specs.Building.{Built, keepWord, withLists}
 use Rattle.language.specs.Declaring.{treeSteps}
-use Rattle.language.specs.Describe.{Noted, NotedAction, act, expressionSize, nodesOf}
+use Rattle.language.specs.Describe.{act, expressionSize, nodesOf}
 use Rattle.language.specs.Description as D
-use Rattle.language.specs.Machine.{Counts, ask, expression, level, make, withinCeilings, word}
+use Rattle.language.specs.Machine.{Counts, ask, expression, level, word}
 use Rattle.language.specs.Naming.{Scope}
 use Rattle.language.specs.Tree as T
 use Rattle.meanings.specs.declared.Counts as M
@@ -28,18 +26,19 @@ use Rattle.phrases.proofs.ArmLaws.{separators}
 use Rattle.phrases.proofs.StartLaws.{at-same}
 use Rattle.phrases.proofs.TermLaws.{from-kept}
 use Rattle.phrases.specs.Phrases.{atNesting, choiceWord, firstWord, same}
-use Rattle.simple.proofs.Keeping.{known-kept, whole-other}
-use Rattle.simple.proofs.Standings.{few-states, here-of, standing-passed, within-more}
+use Rattle.simple.proofs.ReachedLaws.{room-reached, standing-read, start-reached}
+use Rattle.simple.proofs.Standings.{here-of, standing-passed}
 use Rattle.simple.specs.Actions.{Standing}
 use Rattle.simple.specs.declared.Acted.{Acted}
 use Rattle.simple.specs.Leaves.{Puts}
 use Rattle.words.specs.declared.Position.{Position}
 use Rattle.words.specs.declared.Word.{Word}
 use Rattle.words.specs.Meaning.{positioned}
-use Rattle.work.specs.Held.{held, mostNodes}
-use Rattle.actions.proofs.Laying.{laid-added, laid-as, laid-expression, laid-then, other-held}
+use Rattle.work.specs.Held.{held}
+use Rattle.actions.proofs.Laying.{laid-added, laid-as, laid-expression, laid-then}
 use Rattle.actions.proofs.ListLaws.{level-same}
 use Rattle.actions.proofs.ListWords.{condition-comes, conditionStack}
+use Rattle.actions.proofs.Room.{few-actions, few-nodes, standing-acts, standing-kept}
 use Rattle.actions.specs.Laid.{Laid}
 use Rattle.actions.specs.Lists.{Condition, ConditionRead, Deeper, Entered, actionAsk, branchStack, branching, signOf}
 
@@ -74,12 +73,7 @@ module _ (case : Bool) {text : List ℕ} {n : M.Counts} {w : Word} {s : State} {
 
   -- There is room for the condition.
   room : {sc : Scope} → Standing text sc n w s acts work → c .verdict ≡ Full → ⊥
-  unfolding mostNodes
-  room st d =
-      let i = inside st in
-      let v = z .full d (i .seen) in
-      let few = few-counted (countsOf (t .state)) (i .within) in
-      omega (arith, says st .full d, v .nodes, v .ceiling few, few, i .nodes, few-states (countsOf (t .state)) (i .within))
+  room st d = room-reached (inside st) (start-reached (inside st)) (omega arith) (z .full d (inside st .seen)) (says st .full d)
 
   pub condition-not : (c .verdict ≡ Done → ⊥) → Condition case text n w s acts work work₁ (record { answer = c; actions = acts })
   condition-not m e q sc st = record {
@@ -118,8 +112,8 @@ module _ (case : Bool) {text : List ℕ} {n : M.Counts} {w : Word} {s : State} {
         comes : Comes text 0 1 (t .state) (c .next) (c .state)
         comes = z .done d₂ (inside st .seen)
 
-        few : c .state .counted ≤ 2048
-        few = comes .pays .ceiling (few-counted (countsOf (t .state)) (inside st .within))
+        behind-condition : Standing text sc n (c .next) (c .state) acts work₁
+        behind-condition = standing-read (inside st) (y sc (here-of (inside st)) .done d₂) comes
 
         entered : Entered s (c .state)
         entered =
@@ -136,29 +130,16 @@ module _ (case : Bool) {text : List ℕ} {n : M.Counts} {w : Word} {s : State} {
               nodes = omega (arith, one, a .nodes, x .done d₁ .kept .nodes);
             }
 
-        whole₁ : length work₁ ≡ 275296
-        whole₁ = whole-other work work₁ (other-held (s .nodes) (c .state .nodes) work work₁ (nodesOf sc (s .nodes) (read st .tree)) (read st .pending .records)) (st .whole)
-
-        few-records : c .state .nodes ≤ 15888
-        few-records = omega (arith, entered .nodes, entered .states, st .nodes, few, few-states (countsOf s) (st .within))
-
         laid : r .answer .verdict ≡ Done → Laid (expressionSize (read st .tree)) (nodesOf sc (s .nodes) (read st .tree)) 1 (act D.Action.broken (positioned (w .at)) ∷ []) s acts work (c .state) (acts + 1) work₂
-        laid d = laid-as (omega arith) (append-nil (nodesOf sc (s .nodes) (read st .tree))) (laid-then (laid-expression s work acts (read st .pending)) (laid-added (c .state) (p .added d) whole₁ few-records))
+        laid d = laid-as (omega arith) (append-nil (nodesOf sc (s .nodes) (read st .tree))) (laid-then (laid-expression s work acts (read st .pending)) (laid-added (c .state) (p .added d) (behind-condition .whole) (few-nodes behind-condition)))
 
         stands : r .answer .verdict ≡ Done → Standing text sc n (v .next) (c .state) (acts + 1 + 1) work₂
-        stands d = record {
-          seen = passes .seen;
-          short = st .short;
-          whole = p .whole;
-          within = within-more (countsOf (t .state)) (countsOf (c .state)) (inside st .within) (comes .pays .facilities) (comes .pays .operations) (comes .pays .states) few (read st .nesting);
-          known = known-kept work₂ (laid d .tables) (st .known);
-          facilities = st .facilities ∙ sym (entered .known);
-          nodes = omega (arith, st .nodes, entered .nodes, entered .states, entered .counted);
-          actions = omega (arith, st .actions, entered .counted);
-        }
+        stands d =
+            let i : Standing text sc n (v .next) (c .state) acts work₁ = subst (λ (h : State). Standing text sc n (v .next) h acts work₁) (level-same passes) (standing-passed false Level behind-condition passes) in
+            standing-acts (acts + 1 + 1) (standing-kept i (p .added d .kept refl .tables) (p .whole)) (omega (arith, st .actions, entered .counted))
 
       pub condition-says : Condition case text n w s acts work work₂ r
-      condition-says e q sc st = record { done = λ d. done d; refused = λ f d. absurd (p .refused f d); full = λ d. omega (arith, p .full d, st .actions, few-counted (countsOf s) (st .within)) }
+      condition-says e q sc st = record { done = λ d. done d; refused = λ f d. absurd (p .refused f d); full = λ d. omega (arith, p .full d, few-actions st) }
         where
           done : r .answer .verdict ≡ Done → ConditionRead case text sc n w s acts work work₂ r
           done d = record {

@@ -32,10 +32,11 @@ use Rattle.tables.specs.declared.Table.the-variants as Tb
 use Rattle.tables.specs.Rows.{Wrote}
 use Rattle.words.specs.declared.Word.{Word}
 use Rattle.words.specs.Meaning.{positioned}
-use Rattle.actions.proofs.ArmLaws.{few-actions, few-nodes, paid-arms, standing-acts}
+use Rattle.actions.proofs.ArmLaws.{paid-arms}
 use Rattle.actions.proofs.EndLaws.{choose-written, concluded, when-written}
 use Rattle.actions.proofs.Laying.{headed, place-again}
 use Rattle.actions.proofs.ListWords.{end-if-comes}
+use Rattle.actions.proofs.Room.{few-actions, few-nodes, standing-acts}
 use Rattle.actions.specs.Laid.{Laid}
 use Rattle.actions.specs.Lists.{Arm, ArmRead, Condition, ConditionRead, Conditional, Else, OneBranch, Told, actionAsk, elseStack, ownStack, restAsk, signOf}
 

@@ -8,4 +8,5 @@ pub mod ListLaws
 pub mod ListWords
 pub mod PlainLaws
 pub mod Rewriting
+pub mod Room
 pub mod Starts
