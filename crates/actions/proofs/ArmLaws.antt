@@ -1,8 +1,8 @@
 -- Arms: lists of their own, each behind a record.
 use mathlib.Core.Bool.{Bool, true, false}
 use mathlib.Core.List.{List, [], _∷_, _++_, append-nil}
-use mathlib.Core.Path.{_≡_, refl, sym, ap, _∙_, subst}
-use Prim.Native.Nat.{ℕ, suc, _+_, _-_, _*_, _<_, _≤_}
+use mathlib.Core.Path.{_≡_, refl, sym, ap, _∙_}
+use Prim.Native.Nat.{ℕ, _+_, _-_, _<_, _≤_}
 use native.Mathlib.Omega.{arith}
 use borrow.Author.Tests.{eqb-false, eqb-true}
 use lib.Dec.{eqb}
@@ -42,9 +42,8 @@ use Rattle.actions.proofs.Laying.{first-kept, headed, laid-added, laid-
 use Rattle.actions.proofs.ListLaws.{at-level, level-same}
 use Rattle.actions.proofs.ListWords.{do-comes, else-comes, no-do}
 use Rattle.actions.proofs.Room.{few-actions, few-nodes, standing-acts, standing-kept}
-use Rattle.actions.specs.declared.Armed.{Armed}
 use Rattle.actions.specs.Laid.{Laid}
-use Rattle.actions.specs.Lists.{Arm, ArmRead, Arms, ArmsRead, Else, NextArm, Told, actionAsk, armStack, armsAsk, elseStack, listStack, ownStack, restAsk}
+use Rattle.actions.specs.Lists.{Arm, ArmRead, Arms, ArmsRead, Else, NextArm, Told, armStack, armsAsk, elseStack, listStack, ownStack, restAsk}
 
 -- ---- One arm.
 

@@ -1,23 +1,23 @@
 -- CASE, by its arms.
-use mathlib.Core.Bool.{Bool, true, false}
-use mathlib.Core.List.{List, [], _∷_, _++_}
+use mathlib.Core.Bool.{Bool, true}
+use mathlib.Core.List.{List, [], _∷_}
 use mathlib.Core.Path.{_≡_, refl, sym, ap, _∙_}
-use Prim.Native.Nat.{ℕ, suc, _+_, _-_, _*_, _<_, _≤_}
+use Prim.Native.Nat.{ℕ, _-_, _<_}
 use native.Mathlib.Omega.{arith}
 use Rattle.course.specs.declared.Answer.{Answer}
 use Rattle.course.specs.declared.Bearing.the-variants.{Closes}
 use Rattle.course.specs.declared.State.{State}
 use Rattle.course.specs.declared.Verdict.the-variants.{Done}
-use Rattle.course.specs.Course.{Stack, kindNo, runs}
+use Rattle.course.specs.Course.{Stack, kindNo}
 use Rattle.course.specs.Says.{pushed}
 use Rattle.course.specs.Taken.{Expected}
 use Rattle.grammar.specs.Conditionals.{joined-done}
-use Rattle.language.specs.Building.{Built, expressionNo, joined, keepWord, listNo, withLists, wordNo}
+use Rattle.language.specs.Building.{expressionNo, joined, keepWord, listNo, withLists, wordNo}
 use Rattle.language.specs.Declaring.{treeSteps}
-use Rattle.language.specs.Describe.{actionsIn, armsIn}
+use Rattle.language.specs.Describe.{armsIn}
 use Rattle.language.specs.Description as D
 use Rattle.language.specs.Encode.{actionBytes}
-use Rattle.language.specs.Machine.{ask, closes, make, word}
+use Rattle.language.specs.Machine.{closes, make, word}
 use Rattle.language.specs.Naming.{Scope}
 use Rattle.language.specs.Tree as T
 use Rattle.meanings.specs.declared.Counts.{Counts}
@@ -31,7 +31,7 @@ use Rattle.actions.proofs.EndLaws.{choose-written, concluded}
 use Rattle.actions.proofs.Laying.{headed}
 use Rattle.actions.proofs.Room.{few-actions, few-nodes}
 use Rattle.actions.specs.declared.Armed.{Armed}
-use Rattle.actions.specs.Lists.{Arms, ArmsRead, Condition, ConditionRead, Conditional, Told, actionAsk, armStack, signOf}
+use Rattle.actions.specs.Lists.{Arms, ArmsRead, Condition, ConditionRead, Conditional, Told, armStack, signOf}
 
 module _ (q : Bool) {text : List ℕ} {n : Counts} {w : Word} {s : State} {acts : ℕ} {work work₁ : List ℕ} {c : Acted} (x : Condition true text n w s acts work work₁ c) where
   pub case-not : (c .answer .verdict ≡ Done → ⊥) → Conditional q true text n w s acts work work₁ c

@@ -1,8 +1,8 @@
 -- IF with one arm, and with ELSE.
 use mathlib.Core.Bool.{Bool, true, false}
 use mathlib.Core.List.{List, [], _∷_, _++_}
-use mathlib.Core.Path.{_≡_, refl, sym, ap, _∙_}
-use Prim.Native.Nat.{ℕ, suc, _+_, _-_, _*_, _<_, _≤_}
+use mathlib.Core.Path.{_≡_, refl, sym, _∙_}
+use Prim.Native.Nat.{ℕ, _+_, _-_, _<_}
 use native.Mathlib.Omega.{arith}
 use borrow.Author.Tests.{eqb-false, eqb-true}
 use lib.Dec.{eqb}
@@ -15,10 +15,10 @@ use Rattle.course.specs.Says.{pushed}
 use Rattle.course.specs.Taken.{Expected}
 use Rattle.language.specs.Building.{Built, expressionNo, joined, keepWord, listNo, withLists, wordNo}
 use Rattle.language.specs.Declaring.{treeSteps}
-use Rattle.language.specs.Describe.{act, actionsIn, actionsOf, armsIn, expressionSize, expressionsIn, nodesIn, nodesOf}
+use Rattle.language.specs.Describe.{act, actionsIn, actionsOf, armsIn}
 use Rattle.language.specs.Description as D
 use Rattle.language.specs.Encode.{actionBytes}
-use Rattle.language.specs.Machine.{ask, closes, make, word}
+use Rattle.language.specs.Machine.{ask}
 use Rattle.language.specs.Naming.{Scope}
 use Rattle.language.specs.Tree as T
 use Rattle.language.specs.Tree.{Actions, Expression}
@@ -37,7 +37,6 @@ use Rattle.actions.proofs.EndLaws.{choose-written, concluded, when-writ
 use Rattle.actions.proofs.Laying.{headed, place-again}
 use Rattle.actions.proofs.ListWords.{end-if-comes}
 use Rattle.actions.proofs.Room.{few-actions, few-nodes, standing-acts}
-use Rattle.actions.specs.Laid.{Laid}
 use Rattle.actions.specs.Lists.{Arm, ArmRead, Condition, ConditionRead, Conditional, Else, OneBranch, Told, actionAsk, elseStack, ownStack, restAsk, signOf}
 
 module _ (q : Bool) {text : List ℕ} {n : Counts} {w : Word} {s : State} {acts : ℕ} {work work₁ : List ℕ} {c : Acted} (x : Condition false text n w s acts work work₁ c) where

@@ -1,7 +1,7 @@
 -- Actions that are no conditionals: those that begin with a name, with a sign in a state, and what begins no action.
 use mathlib.Core.Bool.{Bool, true, false}
 use mathlib.Core.List.{List, [], _∷_, _++_}
-use mathlib.Core.Path.{_≡_, refl, sym, ap, _∙_}
+use mathlib.Core.Path.{_≡_, sym, ap, _∙_}
 use Prim.Native.Nat.{ℕ}
 use Rattle.course.proofs.Answers.{done-refused, refused-full, same-fault}
 use Rattle.course.proofs.TakenWords.{took-done, took-refused}
@@ -19,7 +19,7 @@ use Rattle.language.specs.Words.{fault}
 use Rattle.meanings.specs.declared.Counts.{Counts}
 use Rattle.phrases.specs.Phrases.{afterName, same}
 use Rattle.simple.proofs.Standings.{standing-passed}
-use Rattle.simple.specs.Actions.{Acts, Reads, Standing}
+use Rattle.simple.specs.Actions.{Acts, Reads}
 use Rattle.simple.specs.declared.Acted.{Acted}
 use Rattle.words.specs.declared.Word.{Word}
 use Rattle.words.specs.Meaning.{faulted, positioned}

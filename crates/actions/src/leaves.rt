@@ -56,7 +56,7 @@ pub fn behind(n: u16, count: u16) -> u16
 }
 
 // An answer, with how many action records there are.
-pub fn so(answer: Answer, actions: u16) -> Acted
+pub fn answered(answer: Answer, actions: u16) -> Acted
     ensures { λ r. ⌜ r ≡ record { answer = answer; actions = actions } ⌝ }
 {
     Acted { answer, actions }

@@ -73,7 +73,7 @@ fn another(
     let comma = taking::take(text, w, s, false, Bearing::Level);
     let verdict = comma.verdict;
     let Verdict::Done = verdict else {
-        return leaves::so(comma, acts);
+        return leaves::answered(comma, acts);
     };
     let state = phrases::leaves::at(comma.state, s.nesting);
     action(state, in_state, text, comma.next, work, n, acts)
@@ -116,19 +116,19 @@ fn condition(
     let opened = taking::take(text, w, s, true, Bearing::Opens);
     let verdict = opened.verdict;
     let Verdict::Done = verdict else {
-        return leaves::so(opened, acts);
+        return leaves::answered(opened, acts);
     };
     let state = opened.state;
     let read = phrases::start(state, Level::Expression, text, opened.next, work);
     let verdict = read.verdict;
     let Verdict::Done = verdict else {
-        return leaves::so(read, acts);
+        return leaves::answered(read, acts);
     };
     let kind = phrases::leaves::first_word(case);
     let word = taking::expect(text, read.next, read.state, kind, Bearing::Level);
     let verdict = word.verdict;
     let Verdict::Done = verdict else {
-        return leaves::so(word, acts);
+        return leaves::answered(word, acts);
     };
     let inner = phrases::leaves::at(word.state, state.nesting);
     let at = w.at;
@@ -164,7 +164,7 @@ fn when(
         let end = taking::expect(text, then.next, then.state, kinds::END_IF, Bearing::Closes);
         let at = w.at;
         leaves::when_again(work, acts, head.actions, number, first.actions, at);
-        return leaves::so(end, first.actions);
+        return leaves::answered(end, first.actions);
     }
     let state = phrases::leaves::at(then.state, read.state.nesting);
     let second = otherwise(state, in_state, text, then.next, work, n, first.actions);
@@ -181,7 +181,7 @@ fn when(
         Bearing::Closes,
     );
     leaves::choose_again(work, acts, number, 2, second.actions);
-    leaves::so(end, second.actions)
+    leaves::answered(end, second.actions)
 }
 
 // ELSE and its list.
@@ -199,7 +199,7 @@ fn otherwise(
     let word = taking::expect(text, w, s, kinds::ELSE, Bearing::Level);
     let verdict = word.verdict;
     let Verdict::Done = verdict else {
-        return leaves::so(word, acts);
+        return leaves::answered(word, acts);
     };
     let state = phrases::leaves::at(word.state, s.nesting);
     arm(state, in_state, text, word.next, work, n, acts)
@@ -239,7 +239,7 @@ fn cases(
         Bearing::Closes,
     );
     leaves::choose_again(work, acts, number, chosen.count, acted.actions);
-    leaves::so(end, acted.actions)
+    leaves::answered(end, acted.actions)
 }
 
 // The arms of CASE, behind the first DO. Each counts a word, of which there are at most 2,048.
@@ -289,7 +289,7 @@ fn next_arm(
     let word = taking::take(text, w, s, false, Bearing::Level);
     let verdict = word.verdict;
     let Verdict::Done = verdict else {
-        return leaves::so(word, acts);
+        return leaves::answered(word, acts);
     };
     let state = phrases::leaves::at(word.state, s.nesting);
     arm(state, in_state, text, word.next, work, n, acts)
@@ -343,7 +343,7 @@ fn plain(
     if in_state {
         return signed(s, text, w, work, n, acts);
     }
-    leaves::so(taking::refuse(w, s, 3), acts)
+    leaves::answered(taking::refuse(w, s, 3), acts)
 }
 
 // An action that begins with a name.
@@ -361,7 +361,7 @@ fn named(
     let name = taking::take(text, w, s, false, Bearing::Level);
     let verdict = name.verdict;
     let Verdict::Done = verdict else {
-        return leaves::so(name, acts);
+        return leaves::answered(name, acts);
     };
     let state = name.state;
     let next = name.next;
@@ -379,5 +379,5 @@ fn signed(s: State, text: &[u8], w: Word, work: &mut [u8; 275296], n: Counts, ac
     if leaves::signs(kinds::number(found)) {
         return simple::signed(s, text, w, work, n, acts);
     }
-    leaves::so(taking::refuse(w, s, 3), acts)
+    leaves::answered(taking::refuse(w, s, 3), acts)
 }

@@ -44,7 +44,7 @@ use Rattle.actions.proofs.condition.Reads as condition-reads
 use Rattle.actions.proofs.leaves.arm_again.Reads as arm-again-reads
 use Rattle.actions.proofs.leaves.choose_again.Reads as choose-again-reads
 use Rattle.actions.proofs.leaves.is.Reads as is-reads
-use Rattle.actions.proofs.leaves.so.Reads as so-reads
+use Rattle.actions.proofs.leaves.answered.Reads as answered-reads
 use Rattle.actions.proofs.leaves.when_again.Reads as when-again-reads
 use Rattle.actions.proofs.plain.Reads as plain-reads
 use Rattle.course.proofs.adding.last.Reads as last-reads
@@ -148,7 +148,7 @@ abbrev action-calls : ℕ → action-lts.Claims
 action-calls t = (number-reads.Asked, number-reads.Learnt, when-below t, when.Post, cases-below t, cases.Post, plain-reads.Asked, plain-reads.Learnt)
 
 abbrev another-calls : ℕ → another-lts.Claims
-another-calls t = (take-reads.Asked, take-reads.Learnt, so-reads.Asked, so-reads.Learnt, at-reads.Asked, at-reads.Learnt, action-below t, action.Post)
+another-calls t = (take-reads.Asked, take-reads.Learnt, answered-reads.Asked, answered-reads.Learnt, at-reads.Asked, at-reads.Learnt, action-below t, action.Post)
 
 abbrev arm-calls : ℕ → arm-lts.Claims
 arm-calls t = (position-reads.Asked, position-reads.Learnt, put-reads.Asked, put-reads.Learnt, list-below t, list.Post, arm-again-reads.Asked, arm-again-reads.Learnt)
@@ -157,19 +157,19 @@ abbrev arms-calls : ℕ → arms-lts.Claims
 arms-calls t = (arm-below t, arm.Post, is-reads.Asked, is-reads.Learnt, at-reads.Asked, at-reads.Learnt, next-arm-below t, next-arm.Post)
 
 abbrev cases-calls : ℕ → cases-lts.Claims
-cases-calls t = (condition-reads.Asked, condition-reads.Learnt, last-reads.Asked, last-reads.Learnt, arms-below t, arms.Post, expect-reads.Asked, expect-reads.Learnt, choose-again-reads.Asked, choose-again-reads.Learnt, so-reads.Asked, so-reads.Learnt)
+cases-calls t = (condition-reads.Asked, condition-reads.Learnt, last-reads.Asked, last-reads.Learnt, arms-below t, arms.Post, expect-reads.Asked, expect-reads.Learnt, choose-again-reads.Asked, choose-again-reads.Learnt, answered-reads.Asked, answered-reads.Learnt)
 
 abbrev list-calls : ℕ → list-lts.Claims
 list-calls t = (action-below t, action.Post, is-reads.Asked, is-reads.Learnt, at-reads.Asked, at-reads.Learnt, another-below t, another.Post)
 
 abbrev next-arm-calls : ℕ → next-arm-lts.Claims
-next-arm-calls t = (take-reads.Asked, take-reads.Learnt, so-reads.Asked, so-reads.Learnt, at-reads.Asked, at-reads.Learnt, arm-below t, arm.Post)
+next-arm-calls t = (take-reads.Asked, take-reads.Learnt, answered-reads.Asked, answered-reads.Learnt, at-reads.Asked, at-reads.Learnt, arm-below t, arm.Post)
 
 abbrev otherwise-calls : ℕ → otherwise-lts.Claims
-otherwise-calls t = (expect-reads.Asked, expect-reads.Learnt, so-reads.Asked, so-reads.Learnt, at-reads.Asked, at-reads.Learnt, arm-below t, arm.Post)
+otherwise-calls t = (expect-reads.Asked, expect-reads.Learnt, answered-reads.Asked, answered-reads.Learnt, at-reads.Asked, at-reads.Learnt, arm-below t, arm.Post)
 
 abbrev when-calls : ℕ → when-lts.Claims
-when-calls t = (condition-reads.Asked, condition-reads.Learnt, last-reads.Asked, last-reads.Learnt, arm-below t, arm.Post, is-reads.Asked, is-reads.Learnt, expect-reads.Asked, expect-reads.Learnt, when-again-reads.Asked, when-again-reads.Learnt, so-reads.Asked, so-reads.Learnt, at-reads.Asked, at-reads.Learnt, otherwise-below t, otherwise.Post, choose-again-reads.Asked, choose-again-reads.Learnt)
+when-calls t = (condition-reads.Asked, condition-reads.Learnt, last-reads.Asked, last-reads.Learnt, arm-below t, arm.Post, is-reads.Asked, is-reads.Learnt, expect-reads.Asked, expect-reads.Learnt, when-again-reads.Asked, when-again-reads.Learnt, answered-reads.Asked, answered-reads.Learnt, at-reads.Asked, at-reads.Learnt, otherwise-below t, otherwise.Post, choose-again-reads.Asked, choose-again-reads.Learnt)
 
 -- src/lib.rt:95:9
 action-number-requires : (t : ℕ) → action-lts.Need-number-requires (action-calls t) (action-at t) action.Post
@@ -210,13 +210,13 @@ another-enum-told : (t : ℕ) → another-lts.Need-enum-told (another-calls t) (
 another-enum-told t c = search needs
 
 -- src/lib.rt:76:9
-another-so-requires : (t : ℕ) → another-lts.Need-so-requires (another-calls t) (another-at t) another.Post
-another-so-requires t c κs = search needs
+another-answered-requires : (t : ℕ) → another-lts.Need-answered-requires (another-calls t) (another-at t) another.Post
+another-answered-requires t c κs = search needs
 
 -- src/lib.rt:76:9
 another-returns : (t : ℕ) → another-lts.Need-returns (another-calls t) (another-at t) another.Post
 another-returns t c =
-    rw (c .so .ensures) (another-not (c .before .before .before .before .args .in-state) (c .before .before .take .ensures) (not-done (c .before .match .keys2)))
+    rw (c .answered .ensures) (another-not (c .before .before .before .before .args .in-state) (c .before .before .take .ensures) (not-done (c .before .match .keys2)))
 
 -- src/lib.rt:78:9
 another-at-requires : (t : ℕ) → another-lts.Need-at-requires (another-calls t) (another-at t) another.Post
@@ -372,13 +372,13 @@ cases-choose-again-requires : (t : ℕ) → cases-lts.Need-choose-again-requires
 cases-choose-again-requires t c κs = search needs
 
 -- src/lib.rt:230:5
-cases-so-requires : (t : ℕ) → cases-lts.Need-so-requires (cases-calls t) (cases-at t) cases.Post
-cases-so-requires t c κs = search needs
+cases-answered-requires : (t : ℕ) → cases-lts.Need-answered-requires (cases-calls t) (cases-at t) cases.Post
+cases-answered-requires t c κs = search needs
 
 -- src/lib.rt:203:1
 cases-returns-3 : (t : ℕ) → cases-lts.Need-returns-3 (cases-calls t) (cases-at t) cases.Post
 cases-returns-3 t c =
-    rw (c .so .ensures) (case-says (c .before .before .before .before .before .before .before .before .before .before .before .before .before .before .before .before .before .args .in-state) (c .before .before .before .before .before .before .before .before .before .before .before .before .before .before .condition .ensures .0 (c .before .before .before .before .before .before .before .before .before .before .before .before .before .before .before .before .before .args .n)) (c .before .before .before .before .before .before .before .before .before .before .before .enum-told .given .1) (c .before .before .before .before .before .before .before .before .arms .ensures) (c .before .before .before .before .enum-told2 .given .1) (c .before .before .before .expect .ensures) (c .before .before .before .before .before .before .before .before .before .before .last .ensures) (c .before .choose-again .ensures))
+    rw (c .answered .ensures) (case-says (c .before .before .before .before .before .before .before .before .before .before .before .before .before .before .before .before .before .args .in-state) (c .before .before .before .before .before .before .before .before .before .before .before .before .before .before .condition .ensures .0 (c .before .before .before .before .before .before .before .before .before .before .before .before .before .before .before .before .before .args .n)) (c .before .before .before .before .before .before .before .before .before .before .before .enum-told .given .1) (c .before .before .before .before .before .before .before .before .arms .ensures) (c .before .before .before .before .enum-told2 .given .1) (c .before .before .before .expect .ensures) (c .before .before .before .before .before .before .before .before .before .before .last .ensures) (c .before .choose-again .ensures))
 
 abbrev list-Inv-loop : list-lts.InvT-loop
 list-Inv-loop s in-state text work₀ n acts read₀ count₀ work read count = ((w : Word) (v : List ℕ) → Going in-state text n w s acts v count₀ read₀ work₀ → Going in-state text n w s acts v count read work) × (count ≤ 2049)
@@ -453,13 +453,13 @@ next-arm-enum-told : (t : ℕ) → next-arm-lts.Need-enum-told (next-arm-calls t
 next-arm-enum-told t c = search needs
 
 -- src/lib.rt:280:9
-next-arm-so-requires : (t : ℕ) → next-arm-lts.Need-so-requires (next-arm-calls t) (next-arm-at t) next-arm.Post
-next-arm-so-requires t c κs = search needs
+next-arm-answered-requires : (t : ℕ) → next-arm-lts.Need-answered-requires (next-arm-calls t) (next-arm-at t) next-arm.Post
+next-arm-answered-requires t c κs = search needs
 
 -- src/lib.rt:280:9
 next-arm-returns : (t : ℕ) → next-arm-lts.Need-returns (next-arm-calls t) (next-arm-at t) next-arm.Post
 next-arm-returns t c =
-    rw (c .so .ensures) (next-arm-not (c .before .before .before .before .args .in-state) (c .before .before .take .ensures) (not-done (c .before .match .keys2)))
+    rw (c .answered .ensures) (next-arm-not (c .before .before .before .before .args .in-state) (c .before .before .take .ensures) (not-done (c .before .match .keys2)))
 
 -- src/lib.rt:282:9
 next-arm-at-requires : (t : ℕ) → next-arm-lts.Need-at-requires (next-arm-calls t) (next-arm-at t) next-arm.Post
@@ -483,13 +483,13 @@ otherwise-enum-told : (t : ℕ) → otherwise-lts.Need-enum-told (otherwise-call
 otherwise-enum-told t c = search needs
 
 -- src/lib.rt:196:9
-otherwise-so-requires : (t : ℕ) → otherwise-lts.Need-so-requires (otherwise-calls t) (otherwise-at t) otherwise.Post
-otherwise-so-requires t c κs = search needs
+otherwise-answered-requires : (t : ℕ) → otherwise-lts.Need-answered-requires (otherwise-calls t) (otherwise-at t) otherwise.Post
+otherwise-answered-requires t c κs = search needs
 
 -- src/lib.rt:196:9
 otherwise-returns : (t : ℕ) → otherwise-lts.Need-returns (otherwise-calls t) (otherwise-at t) otherwise.Post
 otherwise-returns t c =
-    rw (c .so .ensures) (else-not (c .before .before .before .before .args .in-state) (c .before .before .expect .ensures) (not-done (c .before .match .keys2)))
+    rw (c .answered .ensures) (else-not (c .before .before .before .before .args .in-state) (c .before .before .expect .ensures) (not-done (c .before .match .keys2)))
 
 -- src/lib.rt:198:9
 otherwise-at-requires : (t : ℕ) → otherwise-lts.Need-at-requires (otherwise-calls t) (otherwise-at t) otherwise.Post
@@ -547,13 +547,13 @@ when-when-again-requires : (t : ℕ) → when-lts.Need-when-again-requires (when
 when-when-again-requires t c κs = search needs
 
 -- src/lib.rt:167:9
-when-so-requires : (t : ℕ) → when-lts.Need-so-requires (when-calls t) (when-at t) when.Post
-when-so-requires t c κs = search needs
+when-answered-requires : (t : ℕ) → when-lts.Need-answered-requires (when-calls t) (when-at t) when.Post
+when-answered-requires t c κs = search needs
 
 -- src/lib.rt:167:9
 when-returns-3 : (t : ℕ) → when-lts.Need-returns-3 (when-calls t) (when-at t) when.Post
 when-returns-3 t c =
-    rw (c .so .ensures) (if-says (c .before .before .before .before .before .before .before .before .before .before .before .before .before .before .before .before .before .before .before .args .in-state) (c .before .before .before .before .before .before .before .before .before .before .before .before .before .before .before .before .condition .ensures .0 (c .before .before .before .before .before .before .before .before .before .before .before .before .before .before .before .before .before .before .before .args .n)) (c .before .before .before .before .before .before .before .before .before .before .before .before .before .enum-told .given .1) (c .before .before .before .before .before .before .before .before .before .before .arm .ensures) (c .before .before .before .before .before .before .before .enum-told2 .given .1) (c .before .before .before .before .before .before .is .ensures) (c .before .before .before .before .before .if1 .taken) (c .before .before .before .before .expect .ensures) (c .before .before .before .before .before .before .before .before .before .before .before .before .last .ensures) (c .before .when-again .ensures))
+    rw (c .answered .ensures) (if-says (c .before .before .before .before .before .before .before .before .before .before .before .before .before .before .before .before .before .before .before .args .in-state) (c .before .before .before .before .before .before .before .before .before .before .before .before .before .before .before .before .condition .ensures .0 (c .before .before .before .before .before .before .before .before .before .before .before .before .before .before .before .before .before .before .before .args .n)) (c .before .before .before .before .before .before .before .before .before .before .before .before .before .enum-told .given .1) (c .before .before .before .before .before .before .before .before .before .before .arm .ensures) (c .before .before .before .before .before .before .before .enum-told2 .given .1) (c .before .before .before .before .before .before .is .ensures) (c .before .before .before .before .before .if1 .taken) (c .before .before .before .before .expect .ensures) (c .before .before .before .before .before .before .before .before .before .before .before .before .last .ensures) (c .before .when-again .ensures))
 
 -- src/lib.rt:169:9
 when-at-requires : (t : ℕ) → when-lts.Need-at-requires (when-calls t) (when-at t) when.Post
@@ -581,13 +581,13 @@ when-choose-again-requires : (t : ℕ) → when-lts.Need-choose-again-requires (
 when-choose-again-requires t c κs = search needs
 
 -- src/lib.rt:178:5
-when-so-requires-2 : (t : ℕ) → when-lts.Need-so-requires-2 (when-calls t) (when-at t) when.Post
-when-so-requires-2 t c κs = search needs
+when-answered-requires-2 : (t : ℕ) → when-lts.Need-answered-requires-2 (when-calls t) (when-at t) when.Post
+when-answered-requires-2 t c κs = search needs
 
 -- src/lib.rt:139:1
 when-returns-5 : (t : ℕ) → when-lts.Need-returns-5 (when-calls t) (when-at t) when.Post
 when-returns-5 t c =
-    rw (c .so2 .ensures) (if-else-says (c .before .before .before .before .before .before .before .before .before .before .before .before .before .before .before .before .before .before .before .before .before .before .before .before .args .in-state) (c .before .before .before .before .before .before .before .before .before .before .before .before .before .before .before .before .before .before .before .before .before .condition .ensures .0 (c .before .before .before .before .before .before .before .before .before .before .before .before .before .before .before .before .before .before .before .before .before .before .before .before .args .n)) (c .before .before .before .before .before .before .before .before .before .before .before .before .before .before .before .before .before .before .enum-told .given .1) (c .before .before .before .before .before .before .before .before .before .before .before .before .before .before .before .arm .ensures) (c .before .before .before .before .before .before .before .before .before .before .before .before .enum-told2 .given .1) (c .before .before .before .before .before .before .before .before .before .before .before .is .ensures) (c .before .before .before .before .before .before .before .before .before .before .if1 .left) (c .before .before .before .before .before .before .before .before .before .at2 .ensures) (c .before .before .before .before .before .before .before .otherwise .ensures) (c .before .before .before .before .enum-told3 .given .1) (c .before .before .before .expect2 .ensures) (c .before .before .before .before .before .before .before .before .before .before .before .before .before .before .before .before .before .last .ensures) (c .before .choose-again .ensures))
+    rw (c .answered2 .ensures) (if-else-says (c .before .before .before .before .before .before .before .before .before .before .before .before .before .before .before .before .before .before .before .before .before .before .before .before .args .in-state) (c .before .before .before .before .before .before .before .before .before .before .before .before .before .before .before .before .before .before .before .before .before .condition .ensures .0 (c .before .before .before .before .before .before .before .before .before .before .before .before .before .before .before .before .before .before .before .before .before .before .before .before .args .n)) (c .before .before .before .before .before .before .before .before .before .before .before .before .before .before .before .before .before .before .enum-told .given .1) (c .before .before .before .before .before .before .before .before .before .before .before .before .before .before .before .arm .ensures) (c .before .before .before .before .before .before .before .before .before .before .before .before .enum-told2 .given .1) (c .before .before .before .before .before .before .before .before .before .before .before .is .ensures) (c .before .before .before .before .before .before .before .before .before .before .if1 .left) (c .before .before .before .before .before .before .before .before .before .at2 .ensures) (c .before .before .before .before .before .before .before .otherwise .ensures) (c .before .before .before .before .enum-told3 .given .1) (c .before .before .before .expect2 .ensures) (c .before .before .before .before .before .before .before .before .before .before .before .before .before .before .before .before .before .last .ensures) (c .before .choose-again .ensures))
 
 pub +action+another+arm+arms+cases+list+next-arm+otherwise+when-spec : {M : Type 1} → statement M
 +action+another+arm+arms+cases+list+next-arm+otherwise+when-spec =
@@ -616,7 +616,7 @@ pub +action+another+arm+arms+cases+list+next-arm+otherwise+when-spec : {M : Type
     another.Post
     (another-take-requires t)
     (another-enum-told t)
-    (another-so-requires t)
+    (another-answered-requires t)
     (another-returns t)
     (another-at-requires t)
     (another-action-requires t)
@@ -662,7 +662,7 @@ pub +action+another+arm+arms+cases+list+next-arm+otherwise+when-spec : {M : Type
     (cases-returns-2 t)
     (cases-expect-requires t)
     (cases-choose-again-requires t)
-    (cases-so-requires t)
+    (cases-answered-requires t)
     (cases-returns-3 t))
     (λ t. list-lts.spec (list-calls t)
     (list-at t)
@@ -686,7 +686,7 @@ pub +action+another+arm+arms+cases+list+next-arm+otherwise+when-spec : {M : Type
     next-arm.Post
     (next-arm-take-requires t)
     (next-arm-enum-told t)
-    (next-arm-so-requires t)
+    (next-arm-answered-requires t)
     (next-arm-returns t)
     (next-arm-at-requires t)
     (next-arm-arm-requires t)
@@ -696,7 +696,7 @@ pub +action+another+arm+arms+cases+list+next-arm+otherwise+when-spec : {M : Type
     otherwise.Post
     (otherwise-expect-requires t)
     (otherwise-enum-told t)
-    (otherwise-so-requires t)
+    (otherwise-answered-requires t)
     (otherwise-returns t)
     (otherwise-at-requires t)
     (otherwise-arm-requires t)
@@ -714,7 +714,7 @@ pub +action+another+arm+arms+cases+list+next-arm+otherwise+when-spec : {M : Type
     (when-is-requires t)
     (when-expect-requires t)
     (when-when-again-requires t)
-    (when-so-requires t)
+    (when-answered-requires t)
     (when-returns-3 t)
     (when-at-requires t)
     (when-otherwise-requires t)
@@ -722,5 +722,5 @@ pub +action+another+arm+arms+cases+list+next-arm+otherwise+when-spec : {M : Type
     (when-returns-4 t)
     (when-expect-requires-2 t)
     (when-choose-again-requires t)
-    (when-so-requires-2 t)
+    (when-answered-requires-2 t)
     (when-returns-5 t)

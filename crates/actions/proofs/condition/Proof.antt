@@ -10,12 +10,12 @@ take-requires c κs = search needs
 enum-told : tie.Need-enum-told
 enum-told c = search needs
 
-so-requires : tie.Need-so-requires
-so-requires c κs = search needs
+answered-requires : tie.Need-answered-requires
+answered-requires c κs = search needs
 
 returns : tie.Need-returns
 returns c =
-    rw (c .so .ensures) ((λ m. word-not (c .before .before .before .before .args .case) (c .before .before .take .ensures) (not-done (c .before .match .keys2))), λ d. absurd (not-done (c .before .match .keys2) d))
+    rw (c .answered .ensures) ((λ m. word-not (c .before .before .before .before .args .case) (c .before .before .take .ensures) (not-done (c .before .match .keys2))), λ d. absurd (not-done (c .before .match .keys2) d))
 
 start-requires : tie.Need-start-requires
 start-requires c κs = search needs
@@ -23,12 +23,12 @@ start-requires c κs = search needs
 enum-told-2 : tie.Need-enum-told-2
 enum-told-2 c = search needs
 
-so-requires-2 : tie.Need-so-requires-2
-so-requires-2 c κs = search needs
+answered-requires-2 : tie.Need-answered-requires-2
+answered-requires-2 c κs = search needs
 
 returns-2 : tie.Need-returns-2
 returns-2 c =
-    rw (c .so2 .ensures) ((λ m. condition-not (c .before .before .before .before .before .before .before .before .before .args .case) (c .before .before .before .before .before .before .before .take .ensures) (c .before .before .before .before .before .enum-told .given .1) (c .before .before .start .ensures .0) (c .before .before .start .ensures .1) (not-done (c .before .match2 .keys2))), λ d. absurd (not-done (c .before .match2 .keys2) d))
+    rw (c .answered2 .ensures) ((λ m. condition-not (c .before .before .before .before .before .before .before .before .before .args .case) (c .before .before .before .before .before .before .before .take .ensures) (c .before .before .before .before .before .enum-told .given .1) (c .before .before .start .ensures .0) (c .before .before .start .ensures .1) (not-done (c .before .match2 .keys2))), λ d. absurd (not-done (c .before .match2 .keys2) d))
 
 first-word-requires : tie.Need-first-word-requires
 first-word-requires c κs = search needs
@@ -39,12 +39,12 @@ expect-requires c κs = search needs
 enum-told-3 : tie.Need-enum-told-3
 enum-told-3 c = search needs
 
-so-requires-3 : tie.Need-so-requires-3
-so-requires-3 c κs = search needs
+answered-requires-3 : tie.Need-answered-requires-3
+answered-requires-3 c κs = search needs
 
 returns-3 : tie.Need-returns-3
 returns-3 c =
-    rw (c .so3 .ensures) ((λ m. branch-not (c .before .before .before .before .before .before .before .before .before .before .before .before .before .args .case) (c .before .before .before .before .before .before .before .before .before .before .before .take .ensures) (c .before .before .before .before .before .before .before .before .before .enum-told .given .1) (c .before .before .before .before .before .before .start .ensures .0) (c .before .before .before .before .before .before .start .ensures .1) (c .before .before .before .before .enum-told2 .given .1) (rw (c .before .before .before .first-word .ensures) at (c .before .before .expect .ensures)) (not-done (c .before .match3 .keys2))), λ d. absurd (not-done (c .before .match3 .keys2) d))
+    rw (c .answered3 .ensures) ((λ m. branch-not (c .before .before .before .before .before .before .before .before .before .before .before .before .before .args .case) (c .before .before .before .before .before .before .before .before .before .before .before .take .ensures) (c .before .before .before .before .before .before .before .before .before .enum-told .given .1) (c .before .before .before .before .before .before .start .ensures .0) (c .before .before .before .before .before .before .start .ensures .1) (c .before .before .before .before .enum-told2 .given .1) (rw (c .before .before .before .first-word .ensures) at (c .before .before .expect .ensures)) (not-done (c .before .match3 .keys2))), λ d. absurd (not-done (c .before .match3 .keys2) d))
 
 at-requires : tie.Need-at-requires
 at-requires c κs = search needs
@@ -62,16 +62,16 @@ condition-spec =
     (tie.spec
     take-requires
     enum-told
-    so-requires
+    answered-requires
     returns
     start-requires
     enum-told-2
-    so-requires-2
+    answered-requires-2
     returns-2
     first-word-requires
     expect-requires
     enum-told-3
-    so-requires-3
+    answered-requires-3
     returns-3
     at-requires
     put-requires

@@ -11,12 +11,12 @@ take-requires c κs = search needs
 enum-told : tie.Need-enum-told
 enum-told c = search needs
 
-so-requires : tie.Need-so-requires
-so-requires c κs = search needs
+answered-requires : tie.Need-answered-requires
+answered-requires c κs = search needs
 
 returns : tie.Need-returns
 returns c =
-    rw (c .so .ensures) (named-not (c .before .before .before .before .args .in-state) (c .before .before .take .ensures) (not-done (c .before .match .keys2)))
+    rw (c .answered .ensures) (named-not (c .before .before .before .before .args .in-state) (c .before .before .take .ensures) (not-done (c .before .match .keys2)))
 
 named-in-state-requires : tie.Need-named-in-state-requires
 named-in-state-requires c κs = search needs
@@ -38,7 +38,7 @@ named-spec =
     (tie.spec
     take-requires
     enum-told
-    so-requires
+    answered-requires
     returns
     named-in-state-requires
     returns-2

@@ -19,12 +19,12 @@ returns c =
 refuse-requires : tie.Need-refuse-requires
 refuse-requires c κs = search needs
 
-so-requires : tie.Need-so-requires
-so-requires c κs = search needs
+answered-requires : tie.Need-answered-requires
+answered-requires c κs = search needs
 
 returns-2 : tie.Need-returns-2
 returns-2 c =
-    rw (c .so .ensures) (signed-not (c .before .refuse .ensures) (c .before .before .before .before .number .ensures) (c .before .before .before .signs .ensures) (c .before .before .if1 .left))
+    rw (c .answered .ensures) (signed-not (c .before .refuse .ensures) (c .before .before .before .before .number .ensures) (c .before .before .before .signs .ensures) (c .before .before .if1 .left))
 
 pub signed-spec : {M : Type 1} → statement M
 signed-spec =
@@ -35,5 +35,5 @@ signed-spec =
     signed-requires
     returns
     refuse-requires
-    so-requires
+    answered-requires
     returns-2)
