@@ -45,11 +45,11 @@ unfolding withNodes concat
 nodes-none h = same-held (append-nil (h .nodes)) (append-nil (h .places)) refl
 
 -- The records in front, of what is held.
-front-held : (n m : ℕ) (w w′ : List ℕ) (ns : List Noted) → held m w′ ≡ withNodes (held n w) ns → frontOf m w′ ≡ withNodes (frontOf n w) ns
+pub front-held : (n m : ℕ) (w w′ : List ℕ) (ns : List Noted) → held m w′ ≡ withNodes (held n w) ns → frontOf m w′ ≡ withNodes (frontOf n w) ns
 unfolding frontOf withNodes
 front-held n m w w′ ns e = ap (λ (h : Held). record { nodes = h .nodes; places = h .places; other = [] }) e
 
-other-held : (n m : ℕ) (w w′ : List ℕ) (ns : List Noted) → held m w′ ≡ withNodes (held n w) ns → otherIn w′ ≡ otherIn w
+pub other-held : (n m : ℕ) (w w′ : List ℕ) (ns : List Noted) → held m w′ ≡ withNodes (held n w) ns → otherIn w′ ≡ otherIn w
 unfolding held withNodes
 other-held n m w w′ ns e = ap (λ (h : Held). h .other) e
 
