@@ -64,6 +64,17 @@ laid-then {k} {ns} {m} {xs} {s} {acts} {work} {k₁ = k₁} {ns₁} {m₁} {xs�
   tables = λ u e n h. y .tables u e n h ∙ x .tables u e n h;
 }
 
+pub laid-as : {k k′ : ℕ} {ns ns′ : List Noted} {m : ℕ} {xs : List NotedAction} {s : State} {acts : ℕ} {work : List ℕ} {s′ : State} {acts′ : ℕ} {work′ : List ℕ} → k ≡ k′ → ns ≡ ns′ → Laid k ns m xs s acts work s′ acts′ work′
+    → Laid k′ ns′ m xs s acts work s′ acts′ work′
+laid-as {s = s} {work = work} e f x = record {
+  nodes = x .nodes ∙ ap (λ (n : ℕ). s .nodes + n) e;
+  expressions = x .expressions ∙ ap (withNodes (frontOf (s .nodes) work)) f;
+  count = x .count;
+  records = x .records;
+  places = x .places;
+  tables = x .tables;
+}
+
 -- ---- An action's record.
 
 bytes-one : (f : NotedAction → List ℕ) (x : NotedAction) → f x ≡ concat f (x ∷ [])

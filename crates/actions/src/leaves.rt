@@ -1,7 +1,5 @@
 // What lists and conditionals are made of besides themselves: words looked for, and the records that are written again.
 use course::Answer;
-use course::State;
-use course::Verdict;
 use course::kinds;
 use records::actions::Action;
 use simple::Acted;
@@ -11,15 +9,17 @@ use tables::places;
 use tables::rows;
 use words::Position;
 use words::Word;
+ghost use mathlib.Core.List.{[], _∷_};
 ghost use mathlib.Core.Path.{_≡_};
 ghost use Prim.Native.Nat.{_-_, _<_};
 ghost use lib.Dec.{eqb};
 ghost use Rattle.course.specs.Course.{kindNo};
+ghost use Rattle.grammar.specs.Following.{among};
 ghost use Rattle.language.specs.Description as D;
 ghost use Rattle.language.specs.Encode.{actionBytes};
 ghost use Rattle.tables.specs.declared.Table.the-variants as T;
 ghost use Rattle.tables.specs.Rows.{Wrote};
-ghost use Rattle.actions.specs.Lists.{Blank, OneBranch};
+ghost use Rattle.actions.specs.Lists.{OneBranch};
 
 // Whether a word is of a kind.
 pub fn is(w: Word, kind: u8) -> bool
@@ -29,6 +29,25 @@ pub fn is(w: Word, kind: u8) -> bool
     kinds::number(found) == kind
 }
 
+// The signs with which an action begins in a state: `->`, `=>` and RETURN.
+const GOTO: u8 = 27;
+
+const CALL: u8 = 28;
+
+const RETURN: u8 = 47;
+
+pub fn signs(kind: u8) -> bool
+    ensures { λ r. ⌜ r ≡ among kind (27 ∷ 28 ∷ 47 ∷ []) ⌝ }
+{
+    if kind == GOTO {
+        return true;
+    }
+    if kind == CALL {
+        return true;
+    }
+    kind == RETURN
+}
+
 // How many of `count` records stand behind record n.
 pub fn behind(n: u16, count: u16) -> u16
     ensures { λ r. ⌜ r ≡ count - n - 1 ⌝ }
@@ -36,30 +55,11 @@ pub fn behind(n: u16, count: u16) -> u16
     if count <= n { 0 } else { count - n - 1 }
 }
 
-// Adds a record that is written again when those that belong to it are counted.
-pub fn blank(work: &mut [u8; 275296], acts: u16, at: Position, next: Word, s: State) -> Acted
-    ensures { λ r. ⌜ Blank acts at next s (now (work .entry)) (now (work .exit)) r ⌝ }
+// An answer, with how many action records there are.
+pub fn so(answer: Answer, actions: u16) -> Acted
+    ensures { λ r. ⌜ r ≡ record { answer = answer; actions = actions } ⌝ }
 {
-    if actions::add_action(work, acts, Action::Broken, at) {
-        let answer = Answer {
-            verdict: Verdict::Done,
-            next,
-            state: s,
-        };
-        return Acted {
-            answer,
-            actions: acts + 1,
-        };
-    }
-    let answer = Answer {
-        verdict: Verdict::Full,
-        next,
-        state: s,
-    };
-    Acted {
-        answer,
-        actions: acts,
-    }
+    Acted { answer, actions }
 }
 
 // Writes the record of an arm again: those behind it belong to it.
