@@ -2,7 +2,7 @@
 use mathlib.Core.Bool.{true, false}
 use mathlib.Core.List.{List, [], _∷_, _++_, append-nil}
 use mathlib.Core.Path.{_≡_, refl, sym, ap, _∙_, subst}
-use Prim.Native.Nat.{ℕ, suc, _+_, _*_, _≤_}
+use Prim.Native.Nat.{ℕ, _+_, _≤_}
 use native.Mathlib.Omega.{arith}
 use lib.ListN.{length}
 use Rattle.course.proofs.Ceilings.{few-counted}
@@ -16,7 +16,7 @@ use Rattle.course.specs.Pays.{Comes, Pays}
 use Rattle.course.specs.Says.{Here, Read}
 use Rattle.course.specs.Taken.{Took, afterWord}
 use Rattle.language.specs.Building.{Built}
-use Rattle.language.specs.Describe.{Noted, NotedAction, act, actionsIn, actionsOf, expressionSize, expressionsIn, nodesIn, nodesOf}
+use Rattle.language.specs.Describe.{Noted, act, actionsIn, actionsOf, expressionSize, expressionsIn, nodesIn, nodesOf}
 use Rattle.language.specs.Description as D
 use Rattle.language.specs.Encode.{actionBytes, concat}
 use Rattle.language.specs.Machine.{Counts, withinCeilings}
@@ -27,17 +27,15 @@ use Rattle.meanings.specs.Known.{Known}
 use Rattle.noted.specs.Noted.{placeBytes}
 use Rattle.tables.specs.Actions.{ActionAdded}
 use Rattle.tables.specs.declared.Table.the-variants as Tb
-use Rattle.tables.specs.Rows.{rows}
 use Rattle.words.specs.declared.Position.{Position}
 use Rattle.words.specs.declared.Word.{Word}
 use Rattle.words.specs.Meaning.{positioned}
-use Rattle.work.proofs.NodesAdded.{nodes-append, nodes-other}
+use Rattle.work.proofs.NodesAdded.{nodes-append}
 use Rattle.work.proofs.Regions.{same-held}
 use Rattle.work.specs.Held.{Held, held, mostNodes, otherIn, withNodes}
-use Rattle.work.specs.Names.{namesIn}
 use Rattle.simple.proofs.Keeping.{front-kept, known-kept, others-other, rows-other, whole-other}
 use Rattle.simple.proofs.Standings.{few-states, standing-after, within-more}
-use Rattle.simple.specs.Actions.{Paid, Standing, Written, actionBesides, actionRecords, frontOf, grown}
+use Rattle.simple.specs.Actions.{Paid, Standing, Written, frontOf, grown}
 use Rattle.simple.specs.declared.Acted.{Acted}
 use Rattle.simple.specs.Leaves.{Puts}
 use Rattle.simple.specs.Reached.{Ended, Ends, Reached}
