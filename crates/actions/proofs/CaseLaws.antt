@@ -57,10 +57,10 @@ module _ (q : Bool) {text : List ℕ} {n : Counts} {w : Word} {s : State} {acts 
       full = told e st .full;
     }
 
-    pub case-says : a .acted .answer .verdict ≡ Done → {t : Answer} → Expected text 32 Closes (a .acted .answer .next) (a .acted .answer .state) t → {k : ℕ} → k ≡ c .answer .state .nodes - 1 → {work₃ : List ℕ}
-        → (acts < 4352 → Wrote Tb.Actions acts (actionBytes (D.choose k (a .count) (a .acted .actions - acts - 1))) work₂ work₃) → Conditional q true text n w s acts work work₃ (record { answer = t; actions = a .acted .actions })
+    pub case-says : a .acted .answer .verdict ≡ Done → {t : Answer} → Expected text 32 Closes (a .acted .answer .next) (a .acted .answer .state) t → {work₃ : List ℕ}
+        → (acts < 4352 → Wrote Tb.Actions acts (actionBytes (D.choose (c .answer .state .nodes - 1) (a .count) (a .acted .actions - acts - 1))) work₂ work₃) → Conditional q true text n w s acts work work₃ (record { answer = t; actions = a .acted .actions })
     unfolding wordNo expressionNo listNo joined ending armsIn
-    case-says d {t} u {k} g {work₃} v₀ e sc st =
+    case-says d {t} u {work₃} v₀ e sc st =
         concluded q st (h .entered) (h .laid .count) (o .paid) (o .standing) (v .still) (T.choose (positioned (w .at)) (h .tree) (o .tree) T.done) written u (omega arith) (treeSteps .makeChoose)
         (λ b. withLists (pushed (h .tree) (keepWord (signOf true w) b)) (o .tree ∷ b .lists))
         (λ K b. h .course q K b ∙ o .course (ending K) (withLists (pushed (h .tree) (keepWord (signOf true w) b)) (T.done ∷ b .lists))) (λ b p. refl)
@@ -71,7 +71,7 @@ module _ (q : Bool) {text : List ℕ} {n : Counts} {w : Word} {s : State} {acts 
         o : ArmsRead (a .count) (armStack q) [] text sc n (c .answer .next) (c .answer .state) (c .actions) work₁ work₂ (a .acted)
         o = told e st .done d
 
-        v : Wrote Tb.Actions acts (actionBytes (D.choose k (a .count) (a .acted .actions - acts - 1))) work₂ work₃
+        v : Wrote Tb.Actions acts (actionBytes (D.choose (c .answer .state .nodes - 1) (a .count) (a .acted .actions - acts - 1))) work₂ work₃
         v = v₀ (omega (arith, few-actions st))
 
         number : a .count ≡ armsIn (o .tree)
@@ -79,5 +79,5 @@ module _ (q : Bool) {text : List ℕ} {n : Counts} {w : Word} {s : State} {acts 
 
         written : Written sc (T.choose (positioned (w .at)) (h .tree) (o .tree) T.done) s acts work (a .acted .answer .state) (a .acted .actions) work₃
         written =
-            choose-written (positioned (w .at)) (h .tree) (o .tree) (h .laid .nodes) g number (omega (arith, h .laid .count, o .written .count))
-            (headed (o .tree) (D.choose k (a .count) (a .acted .actions - acts - 1)) (st .whole) (omega (arith, few-actions (o .standing))) (few-nodes (o .standing)) (h .laid) (o .written) v)
+            choose-written (positioned (w .at)) (h .tree) (o .tree) (h .laid .nodes) refl number (omega (arith, h .laid .count, o .written .count))
+            (headed (o .tree) (D.choose (c .answer .state .nodes - 1) (a .count) (a .acted .actions - acts - 1)) (st .whole) (omega (arith, few-actions (o .standing))) (few-nodes (o .standing)) (h .laid) (o .written) v)

@@ -72,13 +72,16 @@ module _ (q : Bool) {text : List ℕ} {n : Counts} {w : Word} {s : State} {acts 
 
       -- ---- One arm.
 
-      pub if-says : {z : Bool} → z ≡ eqb (kindNo (a .answer .next .kind)) 36 → z ≡ true → {t : Answer} → Expected text 36 Closes (a .answer .next) (a .answer .state) t → {k : ℕ} → k ≡ c .answer .state .nodes - 1 → {work₃ : List ℕ}
-          → (acts < 4352 → c .actions < 4352 → OneBranch acts (c .actions) k (a .actions) (w .at) work₂ work₃) → Conditional q false text n w s acts work work₃ (record { answer = t; actions = a .actions })
+      pub if-says : {z : Bool} → z ≡ eqb (kindNo (a .answer .next .kind)) 36 → z ≡ true → {t : Answer} → Expected text 36 Closes (a .answer .next) (a .answer .state) t → {work₃ : List ℕ}
+          → (acts < 4352 → c .actions < 4352 → OneBranch acts (c .actions) (c .answer .state .nodes - 1) (a .actions) (w .at) work₂ work₃) → Conditional q false text n w s acts work work₃ (record { answer = t; actions = a .actions })
       unfolding wordNo expressionNo listNo actionsOf actionsIn
-      if-says f₁ f₂ {t} u {k} g {work₃} v₀ e sc st =
+      if-says f₁ f₂ {t} u {work₃} v₀ e sc st =
           concluded q st (h .entered) (h .laid .count) (o .paid) (o .standing) (v .place .still) (T.when (positioned (w .at)) (h .tree) (o .tree) T.done) written u (omega arith) (treeSteps .makeWhen) (held (h .tree) (o .tree))
           (λ K b. first-course e st K b ∙ end-if-comes text (a .answer .next) (o .standing .seen) (held (h .tree) (o .tree) b) (countsOf (a .answer .state)) (eqb-true (kindNo (a .answer .next .kind)) 36 (sym f₁ ∙ f₂)) q K) (λ b p. refl)
         where
+          k : ℕ
+          k = c .answer .state .nodes - 1
+
           h : ConditionRead false text sc n w s acts work work₁ c
           h = head e st
 
@@ -93,7 +96,7 @@ module _ (q : Bool) {text : List ℕ} {n : Counts} {w : Word} {s : State} {acts 
 
           written : Written sc (T.when (positioned (w .at)) (h .tree) (o .tree) T.done) s acts work (a .answer .state) (a .actions) work₃
           written =
-              when-written (positioned (w .at)) (h .tree) (o .tree) (h .laid .nodes) g (omega (arith, h .laid .count, o .written .count))
+              when-written (positioned (w .at)) (h .tree) (o .tree) (h .laid .nodes) refl (omega (arith, h .laid .count, o .written .count))
               (place-again (st .whole) (omega (arith, few-actions (o .standing))) (few-nodes (o .standing)) (act (D.when k m) (positioned (w .at))) (act (D.arm (actionsIn (o .tree))) D.nowhere) (actionsOf sc (c .answer .state .nodes) (o .tree) ++ []) (positioned (w .at))
               (h .laid .count) (omega arith)
               (headed (T.arm (o .tree) T.done) (D.when k m) (st .whole) (omega (arith, few-actions (o .standing))) (few-nodes (o .standing)) (h .laid) (o .written) (v .again)) (v .place))
@@ -116,13 +119,16 @@ module _ (q : Bool) {text : List ℕ} {n : Counts} {w : Word} {s : State} {acts 
           full = other-told e st .full;
         }
 
-        pub if-else-says : o .answer .verdict ≡ Done → {t : Answer} → Expected text 36 Closes (o .answer .next) (o .answer .state) t → {k : ℕ} → k ≡ c .answer .state .nodes - 1 → {work₄ : List ℕ}
-            → (acts < 4352 → Wrote Tb.Actions acts (actionBytes (D.choose k 2 (o .actions - acts - 1))) work₃ work₄) → Conditional q false text n w s acts work work₄ (record { answer = t; actions = o .actions })
+        pub if-else-says : o .answer .verdict ≡ Done → {t : Answer} → Expected text 36 Closes (o .answer .next) (o .answer .state) t → {work₄ : List ℕ}
+            → (acts < 4352 → Wrote Tb.Actions acts (actionBytes (D.choose (c .answer .state .nodes - 1) 2 (o .actions - acts - 1))) work₃ work₄) → Conditional q false text n w s acts work work₄ (record { answer = t; actions = o .actions })
         unfolding wordNo expressionNo listNo joined armsIn
-        if-else-says d {t} u {k} j {work₄} v₀ e sc st =
+        if-else-says d {t} u {work₄} v₀ e sc st =
             concluded q st (h .entered) (h .laid .count) (paid-arms (c .actions) (p .paid) (r .paid)) (r .standing) (v .still) (T.choose (positioned (w .at)) (h .tree) arms T.done) written u (omega arith) (treeSteps .makeIf)
             (λ b. withLists (pushed (h .tree) (keepWord (signOf false w) b)) (r .tree ∷ p .tree ∷ b .lists)) (λ K b. first-course e st K b ∙ r .course K (held (h .tree) (p .tree) b)) (λ b y. refl)
           where
+            k : ℕ
+            k = c .answer .state .nodes - 1
+
             h : ConditionRead false text sc n w s acts work work₁ c
             h = head e st
 
@@ -146,5 +152,5 @@ module _ (q : Bool) {text : List ℕ} {n : Counts} {w : Word} {s : State} {acts 
 
             written : Written sc (T.choose (positioned (w .at)) (h .tree) arms T.done) s acts work (o .answer .state) (o .actions) work₄
             written =
-                choose-written (positioned (w .at)) (h .tree) arms (h .laid .nodes) j two (omega (arith, h .laid .count, both .count))
+                choose-written (positioned (w .at)) (h .tree) arms (h .laid .nodes) refl two (omega (arith, h .laid .count, both .count))
                 (headed arms (D.choose k 2 (o .actions - acts - 1)) (st .whole) (omega (arith, few-actions (r .standing))) (few-nodes (r .standing)) (h .laid) both v)

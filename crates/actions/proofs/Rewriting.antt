@@ -16,10 +16,10 @@ use Rattle.actions.specs.Lists.{OneBranch}
 pub again : {n : ℕ} {a a′ : D.Action} {w w′ : List ℕ} → a ≡ a′ → (n < 4352 → Wrote Tb.Actions n (actionBytes a) w w′) → n < 4352 → Wrote Tb.Actions n (actionBytes a′) w w′
 again {n} {w = w} {w′} e f h = subst (λ (v : D.Action). Wrote Tb.Actions n (actionBytes v) w w′) e (f h)
 
-pub one-branch : {acts arm condition count m : ℕ} {at : Position} {ps w w₁ w₂ : List ℕ} → m ≡ count - acts - 1 → (acts < 4352 → Wrote Tb.Actions acts (actionBytes (D.when condition m)) w w₁)
+pub one-branch : {acts arm condition count k m : ℕ} {at : Position} {ps w w₁ w₂ : List ℕ} → k ≡ condition → m ≡ count - acts - 1 → (acts < 4352 → Wrote Tb.Actions acts (actionBytes (D.when k m)) w w₁)
     → ps ≡ placeBytes 0 (positioned at) → (length ps ≡ 2 → arm < 4352 → Wrote Tb.ActionPlaces arm ps w₁ w₂) → acts < 4352 → arm < 4352 → OneBranch acts arm condition count at w w₂
-one-branch {acts} {arm} {condition} {count} {at = at} {w₁ = w₁} {w₂} e f p g h k = record {
+one-branch {acts} {arm} {condition} {count} {m = m} {at = at} {w₁ = w₁} {w₂} d e f p g h k = record {
   between = w₁;
-  again = again (ap (D.when condition) e) f h;
+  again = again (ap (λ (v : ℕ). D.when v m) d ∙ ap (D.when condition) e) f h;
   place = subst (λ (v : List ℕ). Wrote Tb.ActionPlaces arm v w₁ w₂) p (g (ap length p ∙ place-length 0 (positioned at)) k);
 }

@@ -4,12 +4,13 @@ use mathlib.Core.List.{List, [], _∷_}
 use mathlib.Core.Path.{_≡_}
 use Prim.Native.Nat.{ℕ}
 use native.Mathlib.Omega.{arith}
-use Rattle.course.proofs.Looking.{name-ahead, sign-ahead}
+use borrow.Author.Tests.{ne-eqb}
+use Rattle.course.proofs.Looking.{View, begun, ended, name-ahead, sign-ahead, view}
 use Rattle.course.specs.Course.{Seen, Stack, ahead, kindNo, runsOn}
 use Rattle.grammar.specs.Following.{among}
-use Rattle.language.specs.Building.{Built}
+use Rattle.language.specs.Building.{Built, wordNo}
 use Rattle.language.specs.Declaring.{treeSteps}
-use Rattle.language.specs.Machine.{Counts, Parsed, ask, choose, feed, more, run, state, stateAction, stateBody, stateRest, stateStart, tallied}
+use Rattle.language.specs.Machine.{Counts, Parsed, ask, choose, feed, finish, firstName, more, run, state, stateAction, stateBody, stateName, stateRest, stateStart, tallied}
 use Rattle.language.specs.Sections.{ruleOf}
 use Rattle.language.specs.Words as L
 use Rattle.levels.proofs.HeadWords.{among-first-or, among-none}
@@ -52,3 +53,12 @@ module _ (text : List ℕ) (w : Word) (b : Built) (c : Counts) where
       among-first-or k 47 (33 ∷ 30 ∷ []) e₂ (λ q. rw (sign-ahead text w 47 q (omega arith))) λ e₃.
       among-first-or k 33 (30 ∷ []) e₃ (λ q. rw (sign-ahead text w 33 q (omega arith))) λ e₄.
       among-first-or k 30 [] e₄ (λ q. rw (sign-ahead text w 30 q (omega arith))) (among-none k)
+
+  -- A name first, which is no label.
+  pub name-acts : Seen text w → (k ≡ 13 → ⊥) → (k ≡ 5 → ⊥) → (K : Stack) → on (ask firstName ∷ K) ≡ runsOn text (ask stateName ∷ K) (ahead text w) (treeSteps .beginAtName at b) c
+  unfolding runsOn run feed finish choose ruleOf wordNo
+  name-acts z n m K = go (view text w z)
+    where
+      go : View text w → on (ask firstName ∷ K) ≡ runsOn text (ask stateName ∷ K) (ahead text w) (treeSteps .beginAtName at b) c
+      go (ended x y e) = rw x
+      go (begun v x e y) = rw (x, e, ne-eqb k 13 n, ne-eqb k 5 m)

@@ -1,19 +1,23 @@
 // What lists and conditionals are made of besides themselves: words looked for, and the records that are written again.
 use course::Answer;
+use course::Bearing;
+use course::adding;
 use course::kinds;
+use course::taking;
 use records::actions::Action;
 use simple::Acted;
 use tables::Table;
 use tables::actions;
 use tables::places;
 use tables::rows;
-use words::Position;
 use words::Word;
 ghost use mathlib.Core.List.{[], _∷_};
 ghost use mathlib.Core.Path.{_≡_};
 ghost use Prim.Native.Nat.{_-_, _<_};
 ghost use lib.Dec.{eqb};
 ghost use Rattle.course.specs.Course.{kindNo};
+ghost use Rattle.course.specs.declared.Bearing.the-variants.{Closes};
+ghost use Rattle.course.specs.Taken.{Expected};
 ghost use Rattle.grammar.specs.Following.{among};
 ghost use Rattle.language.specs.Description as D;
 ghost use Rattle.language.specs.Encode.{actionBytes};
@@ -69,26 +73,28 @@ pub fn arm_again(work: &mut [u8; 275296], acts: u16, count: u16)
     actions::rewrite_action(work, acts, Action::Arm(behind(acts, count)));
 }
 
-// Writes the record of a conditional with arms again.
-pub fn choose_again(work: &mut [u8; 275296], acts: u16, condition: u16, arms: u16, count: u16)
-    ensures { λ _. ⌜ (acts < 4352 → Wrote T.Actions acts (actionBytes (D.choose condition arms (count - acts - 1))) (now (work .entry)) (now (work .exit))) ⌝ }
+// Writes the record of a conditional with arms again; the last of `nodes` records is its condition's.
+pub fn choose_again(work: &mut [u8; 275296], acts: u16, nodes: u16, arms: u16, count: u16)
+    ensures { λ _. ⌜ (acts < 4352 → Wrote T.Actions acts (actionBytes (D.choose (nodes - 1) arms (count - acts - 1))) (now (work .entry)) (now (work .exit))) ⌝ }
 {
-    let action = Action::Choose(condition, arms, behind(acts, count));
+    let action = Action::Choose(adding::last(nodes), arms, behind(acts, count));
     actions::rewrite_action(work, acts, action);
 }
 
-// Writes the record of IF without ELSE again; its one arm has its place.
-pub fn when_again(
-    work: &mut [u8; 275296],
-    acts: u16,
-    arm: u16,
-    condition: u16,
-    count: u16,
-    at: Position,
-)
-    ensures { λ _. ⌜ (acts < 4352 → arm < 4352 → OneBranch acts arm condition count at (now (work .entry)) (now (work .exit))) ⌝ }
+// Writes the record of IF without ELSE again, whose word is w; its one arm has its place.
+pub fn when_again(work: &mut [u8; 275296], acts: u16, arm: u16, nodes: u16, count: u16, w: Word)
+    ensures { λ _. ⌜ (acts < 4352 → arm < 4352 → OneBranch acts arm (nodes - 1) count (w .at) (now (work .entry)) (now (work .exit))) ⌝ }
 {
-    actions::rewrite_action(work, acts, Action::When(condition, behind(acts, count)));
+    let action = Action::When(adding::last(nodes), behind(acts, count));
+    actions::rewrite_action(work, acts, action);
+    let at = w.at;
     let beside = places::place_row(at);
     rows::write(work, Table::ActionPlaces, arm, &beside);
+}
+
+// The word ENDIF behind what an answer has read.
+pub fn end_if(text: &[u8], a: Answer) -> Answer
+    ensures { λ r. ⌜ Expected (now (text .entry)) 36 Closes (a .next) (a .state) r ⌝ }
+{
+    taking::expect(text, a.next, a.state, kinds::END_IF, Bearing::Closes)
 }

@@ -2,7 +2,6 @@
 use course::Bearing;
 use course::State;
 use course::Verdict;
-use course::adding;
 use course::kinds;
 use course::taking;
 use levels::Level;
@@ -153,7 +152,6 @@ fn when(
     let Verdict::Done = verdict else {
         return head;
     };
-    let number = adding::last(read.state.nodes);
     let first = arm(read.state, in_state, text, read.next, work, n, head.actions);
     let then = first.answer;
     let verdict = then.verdict;
@@ -161,9 +159,8 @@ fn when(
         return first;
     };
     if leaves::is(then.next, kinds::END_IF) {
-        let end = taking::expect(text, then.next, then.state, kinds::END_IF, Bearing::Closes);
-        let at = w.at;
-        leaves::when_again(work, acts, head.actions, number, first.actions, at);
+        let end = leaves::end_if(text, then);
+        leaves::when_again(work, acts, head.actions, read.state.nodes, first.actions, w);
         return leaves::answered(end, first.actions);
     }
     let state = phrases::leaves::at(then.state, read.state.nesting);
@@ -173,14 +170,8 @@ fn when(
     let Verdict::Done = verdict else {
         return second;
     };
-    let end = taking::expect(
-        text,
-        other.next,
-        other.state,
-        kinds::END_IF,
-        Bearing::Closes,
-    );
-    leaves::choose_again(work, acts, number, 2, second.actions);
+    let end = leaves::end_if(text, other);
+    leaves::choose_again(work, acts, read.state.nodes, 2, second.actions);
     leaves::answered(end, second.actions)
 }
 
@@ -223,7 +214,6 @@ fn cases(
     let Verdict::Done = verdict else {
         return head;
     };
-    let number = adding::last(read.state.nodes);
     let chosen = arms(read.state, in_state, text, read.next, work, n, head.actions);
     let acted = chosen.acted;
     let last = acted.answer;
@@ -238,7 +228,7 @@ fn cases(
         kinds::END_CASE,
         Bearing::Closes,
     );
-    leaves::choose_again(work, acts, number, chosen.count, acted.actions);
+    leaves::choose_again(work, acts, read.state.nodes, chosen.count, acted.actions);
     leaves::answered(end, acted.actions)
 }
 

@@ -41,13 +41,13 @@ use Rattle.actions.proofs.when.Reads as when
 use Rattle.actions.proofs.when.Kinds as when-kinds
 use Rattle.actions.proofs.+action+another+arm+arms+cases+list+next_arm+otherwise+when.Lts-when as when-lts
 use Rattle.actions.proofs.condition.Reads as condition-reads
+use Rattle.actions.proofs.leaves.answered.Reads as answered-reads
 use Rattle.actions.proofs.leaves.arm_again.Reads as arm-again-reads
 use Rattle.actions.proofs.leaves.choose_again.Reads as choose-again-reads
+use Rattle.actions.proofs.leaves.end_if.Reads as end-if-reads
 use Rattle.actions.proofs.leaves.is.Reads as is-reads
-use Rattle.actions.proofs.leaves.answered.Reads as answered-reads
 use Rattle.actions.proofs.leaves.when_again.Reads as when-again-reads
 use Rattle.actions.proofs.plain.Reads as plain-reads
-use Rattle.course.proofs.adding.last.Reads as last-reads
 use Rattle.course.proofs.kinds.number.Reads as number-reads
 use Rattle.course.proofs.taking.expect.Reads as expect-reads
 use Rattle.course.proofs.taking.take.Reads as take-reads
@@ -157,7 +157,7 @@ abbrev arms-calls : ℕ → arms-lts.Claims
 arms-calls t = (arm-below t, arm.Post, is-reads.Asked, is-reads.Learnt, at-reads.Asked, at-reads.Learnt, next-arm-below t, next-arm.Post)
 
 abbrev cases-calls : ℕ → cases-lts.Claims
-cases-calls t = (condition-reads.Asked, condition-reads.Learnt, last-reads.Asked, last-reads.Learnt, arms-below t, arms.Post, expect-reads.Asked, expect-reads.Learnt, choose-again-reads.Asked, choose-again-reads.Learnt, answered-reads.Asked, answered-reads.Learnt)
+cases-calls t = (condition-reads.Asked, condition-reads.Learnt, arms-below t, arms.Post, expect-reads.Asked, expect-reads.Learnt, choose-again-reads.Asked, choose-again-reads.Learnt, answered-reads.Asked, answered-reads.Learnt)
 
 abbrev list-calls : ℕ → list-lts.Claims
 list-calls t = (action-below t, action.Post, is-reads.Asked, is-reads.Learnt, at-reads.Asked, at-reads.Learnt, another-below t, another.Post)
@@ -169,102 +169,82 @@ abbrev otherwise-calls : ℕ → otherwise-lts.Claims
 otherwise-calls t = (expect-reads.Asked, expect-reads.Learnt, answered-reads.Asked, answered-reads.Learnt, at-reads.Asked, at-reads.Learnt, arm-below t, arm.Post)
 
 abbrev when-calls : ℕ → when-lts.Claims
-when-calls t = (condition-reads.Asked, condition-reads.Learnt, last-reads.Asked, last-reads.Learnt, arm-below t, arm.Post, is-reads.Asked, is-reads.Learnt, expect-reads.Asked, expect-reads.Learnt, when-again-reads.Asked, when-again-reads.Learnt, answered-reads.Asked, answered-reads.Learnt, at-reads.Asked, at-reads.Learnt, otherwise-below t, otherwise.Post, choose-again-reads.Asked, choose-again-reads.Learnt)
+when-calls t = (condition-reads.Asked, condition-reads.Learnt, arm-below t, arm.Post, is-reads.Asked, is-reads.Learnt, end-if-reads.Asked, end-if-reads.Learnt, when-again-reads.Asked, when-again-reads.Learnt, answered-reads.Asked, answered-reads.Learnt, at-reads.Asked, at-reads.Learnt, otherwise-below t, otherwise.Post, choose-again-reads.Asked, choose-again-reads.Learnt)
 
--- src/lib.rt:95:9
 action-number-requires : (t : ℕ) → action-lts.Need-number-requires (action-calls t) (action-at t) action.Post
 action-number-requires t c κs = search needs
 
--- src/lib.rt:97:9
 action-when-requires : (t : ℕ) → action-lts.Need-when-requires (action-calls t) (action-at t) action.Post
 action-when-requires t c κs = search needs
 
--- src/lib.rt:97:9
 action-returns : (t : ℕ) → action-lts.Need-returns (action-calls t) (action-at t) action.Post
 action-returns t c =
     c .when .ensures (sym (c .before .before .before .number .ensures) ∙ c .before .before .if1 .taken)
 
--- src/lib.rt:100:9
 action-cases-requires : (t : ℕ) → action-lts.Need-cases-requires (action-calls t) (action-at t) action.Post
 action-cases-requires t c κs = search needs
 
--- src/lib.rt:100:9
 action-returns-2 : (t : ℕ) → action-lts.Need-returns-2 (action-calls t) (action-at t) action.Post
 action-returns-2 t c =
     c .cases .ensures (sym (c .before .before .before .before .number .ensures) ∙ c .before .before .if2 .taken)
 
--- src/lib.rt:102:5
 action-plain-requires : (t : ℕ) → action-lts.Need-plain-requires (action-calls t) (action-at t) action.Post
 action-plain-requires t c κs = search needs
 
--- src/lib.rt:83:1
 action-returns-3 : (t : ℕ) → action-lts.Need-returns-3 (action-calls t) (action-at t) action.Post
 action-returns-3 t c =
     c .plain .ensures (λ e. c .before .before .before .if1 .left (c .before .before .before .before .number .ensures ∙ e)) (λ e. c .before .before .if2 .left (c .before .before .before .before .number .ensures ∙ e))
 
--- src/lib.rt:73:9
 another-take-requires : (t : ℕ) → another-lts.Need-take-requires (another-calls t) (another-at t) another.Post
 another-take-requires t c κs = search needs
 
 another-enum-told : (t : ℕ) → another-lts.Need-enum-told (another-calls t) (another-at t) another.Post
 another-enum-told t c = search needs
 
--- src/lib.rt:76:9
 another-answered-requires : (t : ℕ) → another-lts.Need-answered-requires (another-calls t) (another-at t) another.Post
 another-answered-requires t c κs = search needs
 
--- src/lib.rt:76:9
 another-returns : (t : ℕ) → another-lts.Need-returns (another-calls t) (another-at t) another.Post
 another-returns t c =
     rw (c .answered .ensures) (another-not (c .before .before .before .before .args .in-state) (c .before .before .take .ensures) (not-done (c .before .match .keys2)))
 
--- src/lib.rt:78:9
 another-at-requires : (t : ℕ) → another-lts.Need-at-requires (another-calls t) (another-at t) another.Post
 another-at-requires t c κs = search needs
 
--- src/lib.rt:79:5
 another-action-requires : (t : ℕ) → another-lts.Need-action-requires (another-calls t) (another-at t) another.Post
 another-action-requires t c κs =
     let h : c .before .at .result .nesting ≡ c .before .before .before .before .before .before .args .s .nesting = ap (λ (q : State). q .nesting) (c .before .at .ensures) in search needs
 
--- src/lib.rt:62:1
 another-returns-2 : (t : ℕ) → another-lts.Need-returns-2 (another-calls t) (another-at t) another.Post
 another-returns-2 t c =
     another-says (c .before .before .before .before .before .before .before .args .in-state) (c .before .before .before .before .before .take .ensures) (c .before .before .before .enum-told .given .1) (c .before .before .at .ensures) (c .action .ensures)
 
--- src/lib.rt:298:9
 arm-position-requires : (t : ℕ) → arm-lts.Need-position-requires (arm-calls t) (arm-at t) arm.Post
 arm-position-requires t c κs = search needs
 
--- src/lib.rt:299:9
 arm-put-requires : (t : ℕ) → arm-lts.Need-put-requires (arm-calls t) (arm-at t) arm.Post
 arm-put-requires t c κs = search needs
 
 arm-enum-told : (t : ℕ) → arm-lts.Need-enum-told (arm-calls t) (arm-at t) arm.Post
 arm-enum-told t c = search needs
 
--- src/lib.rt:303:9
 arm-returns : (t : ℕ) → arm-lts.Need-returns (arm-calls t) (arm-at t) arm.Post
 arm-returns t c =
     arm-full (c .before .before .before .before .before .before .args .in-state) (c .before .before .put .ensures) (not-done (c .match .keys2))
 
--- src/lib.rt:305:9
 arm-list-requires : (t : ℕ) → arm-lts.Need-list-requires (arm-calls t) (arm-at t) arm.Post
 arm-list-requires t c κs = search needs
 
 arm-enum-told-2 : (t : ℕ) → arm-lts.Need-enum-told-2 (arm-calls t) (arm-at t) arm.Post
 arm-enum-told-2 t c = search needs
 
--- src/lib.rt:309:9
 arm-returns-2 : (t : ℕ) → arm-lts.Need-returns-2 (arm-calls t) (arm-at t) arm.Post
 arm-returns-2 t c =
     arm-not (c .before .before .before .before .before .before .before .before .before .before .before .args .in-state) (c .before .before .before .before .before .before .before .put .ensures) (c .before .before .before .before .enum-told .given .1) (c .before .before .list .ensures) (not-done (c .match2 .keys2))
 
--- src/lib.rt:311:5
 arm-arm-again-requires : (t : ℕ) → arm-lts.Need-arm-again-requires (arm-calls t) (arm-at t) arm.Post
 arm-arm-again-requires t c κs = search needs
 
--- src/lib.rt:287:1
 arm-returns-3 : (t : ℕ) → arm-lts.Need-returns-3 (arm-calls t) (arm-at t) arm.Post
 arm-returns-3 t c =
     arm-says (c .before .before .before .before .before .before .before .before .before .before .before .before .before .before .args .in-state) (c .before .before .before .before .before .before .before .before .before .before .put .ensures) (c .before .before .before .before .before .before .before .enum-told .given .1) (c .before .before .before .before .before .list .ensures) (c .before .before .before .before .before .before .before .before .before .before .before .before .position .ensures) (c .before .before .enum-told2 .given .1) (c .arm-again .ensures)
@@ -275,12 +255,10 @@ arms-Inv-loop s in-state text work₀ n acts read₀ count₀ work read count = 
 abbrev arms-μ-loop : arms-lts.MeasureT-loop
 arms-μ-loop s in-state text work₀ n acts read₀ count₀ work read count = 2049 - count
 
--- src/lib.rt:245:9
 arms-arm-requires : (t : ℕ) → arms-lts.Need-arm-requires (arms-calls t) (arms-at t) arms.Post arms-Inv-loop arms-μ-loop
 arms-arm-requires t c κs =
     search needs
 
--- src/lib.rt:247:5
 arms-loop-holds : (t : ℕ) → arms-lts.Need-loop-holds (arms-calls t) (arms-at t) arms.Post arms-Inv-loop arms-μ-loop
 arms-loop-holds t c =
     ((λ w v g. g), omega arith)
@@ -289,96 +267,75 @@ arms-enum-told : (t : ℕ) → arms-lts.Need-enum-told (arms-calls t) (arms-at t
 arms-enum-told t c =
     search needs
 
--- src/lib.rt:251:13
 arms-returns : (t : ℕ) → arms-lts.Need-returns (arms-calls t) (arms-at t) arms.Post arms-Inv-loop arms-μ-loop
 arms-returns t c =
     arms-not (c .before .before .before .before .before .before .before .args .in-state) (c .before .before .before .loop .inv .0 _ _ (arming-begin (c .before .before .before .before .before .before .before .args .in-state) (c .before .before .before .before .arm .ensures))) (not-done (c .match .keys2))
 
--- src/lib.rt:254:12
 arms-is-requires : (t : ℕ) → arms-lts.Need-is-requires (arms-calls t) (arms-at t) arms.Post arms-Inv-loop arms-μ-loop
 arms-is-requires t c κs =
     search needs
 
--- src/lib.rt:255:17
 arms-at-requires : (t : ℕ) → arms-lts.Need-at-requires (arms-calls t) (arms-at t) arms.Post arms-Inv-loop arms-μ-loop
 arms-at-requires t c κs =
     search needs
 
--- src/lib.rt:256:13
 arms-next-arm-requires : (t : ℕ) → arms-lts.Need-next-arm-requires (arms-calls t) (arms-at t) arms.Post arms-Inv-loop arms-μ-loop
 arms-next-arm-requires t c κs =
     let h : c .before .at .result .nesting ≡ c .before .before .before .before .before .before .before .before .before .before .before .before .before .args .s .nesting = ap (λ (q : State). q .nesting) (c .before .at .ensures) in search needs
 
--- src/lib.rt:257:13
 arms-add-count : (t : ℕ) → arms-lts.Need-add-count (arms-calls t) (arms-at t) arms.Post arms-Inv-loop arms-μ-loop
 arms-add-count t c =
     omega (arith, c .before .before .before .before .before .before .before .before .before .before .loop .inv .1, c .before .before .before .before .before .before .before .before .before .loop-test .taken)
 
--- src/lib.rt:247:5
 arms-loop-less : (t : ℕ) → arms-lts.Need-loop-less (arms-calls t) (arms-at t) arms.Post arms-Inv-loop arms-μ-loop
 arms-loop-less t c =
     omega (arith, c .before .before .before .before .before .before .before .before .before .loop-test .taken)
 
--- src/lib.rt:247:5
 arms-loop-again : (t : ℕ) → arms-lts.Need-loop-again (arms-calls t) (arms-at t) arms.Post arms-Inv-loop arms-μ-loop
 arms-loop-again t c =
     ((λ w v g. arming-more (c .before .before .before .before .before .before .before .before .before .before .before .before .before .before .args .in-state) (c .before .before .before .before .before .before .before .before .before .before .loop .inv .0 w v g) (c .before .before .before .before .before .before .enum-told .given .1) (c .before .before .before .before .is .ensures) (c .before .before .before .if1 .taken) (c .before .before .at .ensures) (c .next-arm .ensures) refl), omega (arith, c .before .before .before .before .before .before .before .before .before .loop-test .taken))
 
--- src/lib.rt:259:13
 arms-returns-2 : (t : ℕ) → arms-lts.Need-returns-2 (arms-calls t) (arms-at t) arms.Post arms-Inv-loop arms-μ-loop
 arms-returns-2 t c =
     arms-end (c .before .before .before .before .before .before .before .before .before .before .before .args .in-state) (c .before .before .before .before .before .before .before .loop .inv .0 _ _ (arming-begin (c .before .before .before .before .before .before .before .before .before .before .before .args .in-state) (c .before .before .before .before .before .before .before .before .arm .ensures))) (c .before .is .ensures) (c .if1 .left)
 
--- src/lib.rt:234:1
 arms-returns-3 : (t : ℕ) → arms-lts.Need-returns-3 (arms-calls t) (arms-at t) arms.Post arms-Inv-loop arms-μ-loop
 arms-returns-3 t c =
     arms-long (c .before .before .before .before .before .args .in-state) (c .before .loop .inv .0 _ _ (arming-begin (c .before .before .before .before .before .args .in-state) (c .before .before .arm .ensures))) (omega (arith, c .loop-test .left))
 
--- src/lib.rt:214:9
 cases-condition-requires : (t : ℕ) → cases-lts.Need-condition-requires (cases-calls t) (cases-at t) cases.Post
 cases-condition-requires t c κs = search needs
 
 cases-enum-told : (t : ℕ) → cases-lts.Need-enum-told (cases-calls t) (cases-at t) cases.Post
 cases-enum-told t c = search needs
 
--- src/lib.rt:218:9
 cases-returns : (t : ℕ) → cases-lts.Need-returns (cases-calls t) (cases-at t) cases.Post
 cases-returns t c =
     case-not (c .before .before .before .before .before .args .in-state) (c .before .before .condition .ensures .0 (c .before .before .before .before .before .args .n)) (not-done (c .match .keys2))
 
--- src/lib.rt:220:9
-cases-last-requires : (t : ℕ) → cases-lts.Need-last-requires (cases-calls t) (cases-at t) cases.Post
-cases-last-requires t c κs = search needs
-
--- src/lib.rt:221:9
 cases-arms-requires : (t : ℕ) → cases-lts.Need-arms-requires (cases-calls t) (cases-at t) cases.Post
 cases-arms-requires t c κs =
-    let p = c .before .before .before .before .before .condition .ensures .1 (c .before .before .enum-told .given .1) in let g : c .before .before .before .before .before .condition .result .answer .state .nesting ≡ suc (c .before .before .before .before .before .before .before .before .args .s .nesting) = p .0 in let d : c .before .before .before .before .before .condition .result .answer .state .nesting ≤ 24 = p .1 in search needs
+    let p = c .before .before .before .before .condition .ensures .1 (c .before .enum-told .given .1) in let g : c .before .before .before .before .condition .result .answer .state .nesting ≡ suc (c .before .before .before .before .before .before .before .args .s .nesting) = p .0 in let d : c .before .before .before .before .condition .result .answer .state .nesting ≤ 24 = p .1 in search needs
 
 cases-enum-told-2 : (t : ℕ) → cases-lts.Need-enum-told-2 (cases-calls t) (cases-at t) cases.Post
 cases-enum-told-2 t c = search needs
 
--- src/lib.rt:226:9
 cases-returns-2 : (t : ℕ) → cases-lts.Need-returns-2 (cases-calls t) (cases-at t) cases.Post
 cases-returns-2 t c =
-    arms-refused (c .before .before .before .before .before .before .before .before .before .before .before .before .args .in-state) (c .before .before .before .before .before .before .before .before .before .condition .ensures .0 (c .before .before .before .before .before .before .before .before .before .before .before .before .args .n)) (c .before .before .before .before .before .before .enum-told .given .1) (c .before .before .before .arms .ensures) (not-done (c .match2 .keys2))
+    arms-refused (c .before .before .before .before .before .before .before .before .before .before .before .args .in-state) (c .before .before .before .before .before .before .before .before .condition .ensures .0 (c .before .before .before .before .before .before .before .before .before .before .before .args .n)) (c .before .before .before .before .before .enum-told .given .1) (c .before .before .before .arms .ensures) (not-done (c .match2 .keys2))
 
--- src/lib.rt:228:9
 cases-expect-requires : (t : ℕ) → cases-lts.Need-expect-requires (cases-calls t) (cases-at t) cases.Post
 cases-expect-requires t c κs = search needs
 
--- src/lib.rt:229:5
 cases-choose-again-requires : (t : ℕ) → cases-lts.Need-choose-again-requires (cases-calls t) (cases-at t) cases.Post
 cases-choose-again-requires t c κs = search needs
 
--- src/lib.rt:230:5
 cases-answered-requires : (t : ℕ) → cases-lts.Need-answered-requires (cases-calls t) (cases-at t) cases.Post
 cases-answered-requires t c κs = search needs
 
--- src/lib.rt:203:1
 cases-returns-3 : (t : ℕ) → cases-lts.Need-returns-3 (cases-calls t) (cases-at t) cases.Post
 cases-returns-3 t c =
-    rw (c .answered .ensures) (case-says (c .before .before .before .before .before .before .before .before .before .before .before .before .before .before .before .before .before .args .in-state) (c .before .before .before .before .before .before .before .before .before .before .before .before .before .before .condition .ensures .0 (c .before .before .before .before .before .before .before .before .before .before .before .before .before .before .before .before .before .args .n)) (c .before .before .before .before .before .before .before .before .before .before .before .enum-told .given .1) (c .before .before .before .before .before .before .before .before .arms .ensures) (c .before .before .before .before .enum-told2 .given .1) (c .before .before .before .expect .ensures) (c .before .before .before .before .before .before .before .before .before .before .last .ensures) (c .before .choose-again .ensures))
+    rw (c .answered .ensures) (case-says (c .before .before .before .before .before .before .before .before .before .before .before .before .before .before .before .before .args .in-state) (c .before .before .before .before .before .before .before .before .before .before .before .before .before .condition .ensures .0 (c .before .before .before .before .before .before .before .before .before .before .before .before .before .before .before .before .args .n)) (c .before .before .before .before .before .before .before .before .before .before .enum-told .given .1) (c .before .before .before .before .before .before .before .before .arms .ensures) (c .before .before .before .before .enum-told2 .given .1) (c .before .before .before .expect .ensures) (c .before .choose-again .ensures))
 
 abbrev list-Inv-loop : list-lts.InvT-loop
 list-Inv-loop s in-state text work₀ n acts read₀ count₀ work read count = ((w : Word) (v : List ℕ) → Going in-state text n w s acts v count₀ read₀ work₀ → Going in-state text n w s acts v count read work) × (count ≤ 2049)
@@ -386,12 +343,10 @@ list-Inv-loop s in-state text work₀ n acts read₀ count₀ work read count = 
 abbrev list-μ-loop : list-lts.MeasureT-loop
 list-μ-loop s in-state text work₀ n acts read₀ count₀ work read count = 2049 - count
 
--- src/lib.rt:41:9
 list-action-requires : (t : ℕ) → list-lts.Need-action-requires (list-calls t) (list-at t) list.Post list-Inv-loop list-μ-loop
 list-action-requires t c κs =
     search needs
 
--- src/lib.rt:43:5
 list-loop-holds : (t : ℕ) → list-lts.Need-loop-holds (list-calls t) (list-at t) list.Post list-Inv-loop list-μ-loop
 list-loop-holds t c =
     ((λ w v g. g), omega arith)
@@ -400,194 +355,153 @@ list-enum-told : (t : ℕ) → list-lts.Need-enum-told (list-calls t) (list-at t
 list-enum-told t c =
     search needs
 
--- src/lib.rt:47:13
 list-returns : (t : ℕ) → list-lts.Need-returns (list-calls t) (list-at t) list.Post list-Inv-loop list-μ-loop
 list-returns t c =
     list-not (c .before .before .before .loop .inv .0 _ _ (going-begin (c .before .before .before .before .before .before .before .args .in-state) (c .before .before .before .before .action .ensures))) (not-done (c .match .keys2))
 
--- src/lib.rt:50:12
 list-is-requires : (t : ℕ) → list-lts.Need-is-requires (list-calls t) (list-at t) list.Post list-Inv-loop list-μ-loop
 list-is-requires t c κs =
     search needs
 
--- src/lib.rt:51:17
 list-at-requires : (t : ℕ) → list-lts.Need-at-requires (list-calls t) (list-at t) list.Post list-Inv-loop list-μ-loop
 list-at-requires t c κs =
     search needs
 
--- src/lib.rt:52:13
 list-another-requires : (t : ℕ) → list-lts.Need-another-requires (list-calls t) (list-at t) list.Post list-Inv-loop list-μ-loop
 list-another-requires t c κs =
     let h : c .before .at .result .nesting ≡ c .before .before .before .before .before .before .before .before .before .before .before .before .before .args .s .nesting = ap (λ (q : State). q .nesting) (c .before .at .ensures) in search needs
 
--- src/lib.rt:53:13
 list-add-count : (t : ℕ) → list-lts.Need-add-count (list-calls t) (list-at t) list.Post list-Inv-loop list-μ-loop
 list-add-count t c =
     omega (arith, c .before .before .before .before .before .before .before .before .before .before .loop .inv .1, c .before .before .before .before .before .before .before .before .before .loop-test .taken)
 
--- src/lib.rt:43:5
 list-loop-less : (t : ℕ) → list-lts.Need-loop-less (list-calls t) (list-at t) list.Post list-Inv-loop list-μ-loop
 list-loop-less t c =
     omega (arith, c .before .before .before .before .before .before .before .before .before .loop-test .taken)
 
--- src/lib.rt:43:5
 list-loop-again : (t : ℕ) → list-lts.Need-loop-again (list-calls t) (list-at t) list.Post list-Inv-loop list-μ-loop
 list-loop-again t c =
     ((λ w v g. going-more (c .before .before .before .before .before .before .before .before .before .before .loop .inv .0 w v g) (c .before .before .before .before .before .before .enum-told .given .1) (c .before .before .before .before .is .ensures) (c .before .before .before .if1 .taken) (c .before .before .at .ensures) (c .another .ensures) refl), omega (arith, c .before .before .before .before .before .before .before .before .before .loop-test .taken))
 
--- src/lib.rt:55:13
 list-returns-2 : (t : ℕ) → list-lts.Need-returns-2 (list-calls t) (list-at t) list.Post list-Inv-loop list-μ-loop
 list-returns-2 t c =
     list-ends (c .before .before .before .before .before .before .before .loop .inv .0 _ _ (going-begin (c .before .before .before .before .before .before .before .before .before .before .before .args .in-state) (c .before .before .before .before .before .before .before .before .action .ensures))) (c .before .is .ensures) (c .if1 .left)
 
--- src/lib.rt:30:1
 list-returns-3 : (t : ℕ) → list-lts.Need-returns-3 (list-calls t) (list-at t) list.Post list-Inv-loop list-μ-loop
 list-returns-3 t c =
     list-long (c .before .loop .inv .0 _ _ (going-begin (c .before .before .before .before .before .args .in-state) (c .before .before .action .ensures))) (omega (arith, c .loop-test .left))
 
--- src/lib.rt:277:9
 next-arm-take-requires : (t : ℕ) → next-arm-lts.Need-take-requires (next-arm-calls t) (next-arm-at t) next-arm.Post
 next-arm-take-requires t c κs = search needs
 
 next-arm-enum-told : (t : ℕ) → next-arm-lts.Need-enum-told (next-arm-calls t) (next-arm-at t) next-arm.Post
 next-arm-enum-told t c = search needs
 
--- src/lib.rt:280:9
 next-arm-answered-requires : (t : ℕ) → next-arm-lts.Need-answered-requires (next-arm-calls t) (next-arm-at t) next-arm.Post
 next-arm-answered-requires t c κs = search needs
 
--- src/lib.rt:280:9
 next-arm-returns : (t : ℕ) → next-arm-lts.Need-returns (next-arm-calls t) (next-arm-at t) next-arm.Post
 next-arm-returns t c =
     rw (c .answered .ensures) (next-arm-not (c .before .before .before .before .args .in-state) (c .before .before .take .ensures) (not-done (c .before .match .keys2)))
 
--- src/lib.rt:282:9
 next-arm-at-requires : (t : ℕ) → next-arm-lts.Need-at-requires (next-arm-calls t) (next-arm-at t) next-arm.Post
 next-arm-at-requires t c κs = search needs
 
--- src/lib.rt:283:5
 next-arm-arm-requires : (t : ℕ) → next-arm-lts.Need-arm-requires (next-arm-calls t) (next-arm-at t) next-arm.Post
 next-arm-arm-requires t c κs =
     let h : c .before .at .result .nesting ≡ c .before .before .before .before .before .before .args .s .nesting = ap (λ (q : State). q .nesting) (c .before .at .ensures) in search needs
 
--- src/lib.rt:266:1
 next-arm-returns-2 : (t : ℕ) → next-arm-lts.Need-returns-2 (next-arm-calls t) (next-arm-at t) next-arm.Post
 next-arm-returns-2 t c =
     next-arm-says (c .before .before .before .before .before .before .before .args .in-state) (c .before .before .before .before .before .take .ensures) (c .before .before .before .enum-told .given .1) (c .before .before .at .ensures) (c .arm .ensures)
 
--- src/lib.rt:193:9
 otherwise-expect-requires : (t : ℕ) → otherwise-lts.Need-expect-requires (otherwise-calls t) (otherwise-at t) otherwise.Post
 otherwise-expect-requires t c κs = search needs
 
 otherwise-enum-told : (t : ℕ) → otherwise-lts.Need-enum-told (otherwise-calls t) (otherwise-at t) otherwise.Post
 otherwise-enum-told t c = search needs
 
--- src/lib.rt:196:9
 otherwise-answered-requires : (t : ℕ) → otherwise-lts.Need-answered-requires (otherwise-calls t) (otherwise-at t) otherwise.Post
 otherwise-answered-requires t c κs = search needs
 
--- src/lib.rt:196:9
 otherwise-returns : (t : ℕ) → otherwise-lts.Need-returns (otherwise-calls t) (otherwise-at t) otherwise.Post
 otherwise-returns t c =
     rw (c .answered .ensures) (else-not (c .before .before .before .before .args .in-state) (c .before .before .expect .ensures) (not-done (c .before .match .keys2)))
 
--- src/lib.rt:198:9
 otherwise-at-requires : (t : ℕ) → otherwise-lts.Need-at-requires (otherwise-calls t) (otherwise-at t) otherwise.Post
 otherwise-at-requires t c κs = search needs
 
--- src/lib.rt:199:5
 otherwise-arm-requires : (t : ℕ) → otherwise-lts.Need-arm-requires (otherwise-calls t) (otherwise-at t) otherwise.Post
 otherwise-arm-requires t c κs =
     let h : c .before .at .result .nesting ≡ c .before .before .before .before .before .before .args .s .nesting = ap (λ (q : State). q .nesting) (c .before .at .ensures) in search needs
 
--- src/lib.rt:182:1
 otherwise-returns-2 : (t : ℕ) → otherwise-lts.Need-returns-2 (otherwise-calls t) (otherwise-at t) otherwise.Post
 otherwise-returns-2 t c =
     else-says (c .before .before .before .before .before .before .before .args .in-state) (c .before .before .before .before .before .expect .ensures) (c .before .before .before .enum-told .given .1) (c .before .before .at .ensures) (c .arm .ensures)
 
--- src/lib.rt:150:9
 when-condition-requires : (t : ℕ) → when-lts.Need-condition-requires (when-calls t) (when-at t) when.Post
 when-condition-requires t c κs = search needs
 
 when-enum-told : (t : ℕ) → when-lts.Need-enum-told (when-calls t) (when-at t) when.Post
 when-enum-told t c = search needs
 
--- src/lib.rt:154:9
 when-returns : (t : ℕ) → when-lts.Need-returns (when-calls t) (when-at t) when.Post
 when-returns t c =
     if-not (c .before .before .before .before .before .args .in-state) (c .before .before .condition .ensures .0 (c .before .before .before .before .before .args .n)) (not-done (c .match .keys2))
 
--- src/lib.rt:156:9
-when-last-requires : (t : ℕ) → when-lts.Need-last-requires (when-calls t) (when-at t) when.Post
-when-last-requires t c κs = search needs
-
--- src/lib.rt:157:9
 when-arm-requires : (t : ℕ) → when-lts.Need-arm-requires (when-calls t) (when-at t) when.Post
 when-arm-requires t c κs =
-    let p = c .before .before .before .before .before .condition .ensures .1 (c .before .before .enum-told .given .1) in let g : c .before .before .before .before .before .condition .result .answer .state .nesting ≡ suc (c .before .before .before .before .before .before .before .before .args .s .nesting) = p .0 in let d : c .before .before .before .before .before .condition .result .answer .state .nesting ≤ 24 = p .1 in search needs
+    let p = c .before .before .before .before .condition .ensures .1 (c .before .enum-told .given .1) in let g : c .before .before .before .before .condition .result .answer .state .nesting ≡ suc (c .before .before .before .before .before .before .before .args .s .nesting) = p .0 in let d : c .before .before .before .before .condition .result .answer .state .nesting ≤ 24 = p .1 in search needs
 
 when-enum-told-2 : (t : ℕ) → when-lts.Need-enum-told-2 (when-calls t) (when-at t) when.Post
 when-enum-told-2 t c = search needs
 
--- src/lib.rt:161:9
 when-returns-2 : (t : ℕ) → when-lts.Need-returns-2 (when-calls t) (when-at t) when.Post
 when-returns-2 t c =
-    then-not (c .before .before .before .before .before .before .before .before .before .before .before .args .in-state) (c .before .before .before .before .before .before .before .before .condition .ensures .0 (c .before .before .before .before .before .before .before .before .before .before .before .args .n)) (c .before .before .before .before .before .enum-told .given .1) (c .before .before .arm .ensures) (not-done (c .match2 .keys2))
+    then-not (c .before .before .before .before .before .before .before .before .before .before .args .in-state) (c .before .before .before .before .before .before .before .condition .ensures .0 (c .before .before .before .before .before .before .before .before .before .before .args .n)) (c .before .before .before .before .enum-told .given .1) (c .before .before .arm .ensures) (not-done (c .match2 .keys2))
 
--- src/lib.rt:163:8
 when-is-requires : (t : ℕ) → when-lts.Need-is-requires (when-calls t) (when-at t) when.Post
 when-is-requires t c κs = search needs
 
--- src/lib.rt:164:13
-when-expect-requires : (t : ℕ) → when-lts.Need-expect-requires (when-calls t) (when-at t) when.Post
-when-expect-requires t c κs = search needs
+when-end-if-requires : (t : ℕ) → when-lts.Need-end-if-requires (when-calls t) (when-at t) when.Post
+when-end-if-requires t c κs = search needs
 
--- src/lib.rt:166:9
 when-when-again-requires : (t : ℕ) → when-lts.Need-when-again-requires (when-calls t) (when-at t) when.Post
 when-when-again-requires t c κs = search needs
 
--- src/lib.rt:167:9
 when-answered-requires : (t : ℕ) → when-lts.Need-answered-requires (when-calls t) (when-at t) when.Post
 when-answered-requires t c κs = search needs
 
--- src/lib.rt:167:9
 when-returns-3 : (t : ℕ) → when-lts.Need-returns-3 (when-calls t) (when-at t) when.Post
 when-returns-3 t c =
-    rw (c .answered .ensures) (if-says (c .before .before .before .before .before .before .before .before .before .before .before .before .before .before .before .before .before .before .before .args .in-state) (c .before .before .before .before .before .before .before .before .before .before .before .before .before .before .before .before .condition .ensures .0 (c .before .before .before .before .before .before .before .before .before .before .before .before .before .before .before .before .before .before .before .args .n)) (c .before .before .before .before .before .before .before .before .before .before .before .before .before .enum-told .given .1) (c .before .before .before .before .before .before .before .before .before .before .arm .ensures) (c .before .before .before .before .before .before .before .enum-told2 .given .1) (c .before .before .before .before .before .before .is .ensures) (c .before .before .before .before .before .if1 .taken) (c .before .before .before .before .expect .ensures) (c .before .before .before .before .before .before .before .before .before .before .before .before .last .ensures) (c .before .when-again .ensures))
+    rw (c .answered .ensures) (if-says (c .before .before .before .before .before .before .before .before .before .before .before .before .before .before .before .before .before .args .in-state) (c .before .before .before .before .before .before .before .before .before .before .before .before .before .before .condition .ensures .0 (c .before .before .before .before .before .before .before .before .before .before .before .before .before .before .before .before .before .args .n)) (c .before .before .before .before .before .before .before .before .before .before .before .enum-told .given .1) (c .before .before .before .before .before .before .before .before .before .arm .ensures) (c .before .before .before .before .before .before .enum-told2 .given .1) (c .before .before .before .before .before .is .ensures) (c .before .before .before .before .if1 .taken) (c .before .before .before .end-if .ensures) (c .before .when-again .ensures))
 
--- src/lib.rt:169:9
 when-at-requires : (t : ℕ) → when-lts.Need-at-requires (when-calls t) (when-at t) when.Post
 when-at-requires t c κs = search needs
 
--- src/lib.rt:170:9
 when-otherwise-requires : (t : ℕ) → when-lts.Need-otherwise-requires (when-calls t) (when-at t) when.Post
 when-otherwise-requires t c κs =
-    let e = c .before .before .before .before .before .before .before .before .before .before .before .before .before .before .before .before .pre .0 in let p = c .before .before .before .before .before .before .before .before .before .before .before .before .before .condition .ensures .1 (c .before .before .before .before .before .before .before .before .before .before .enum-told .given .1) in let g : c .before .before .before .before .before .before .before .before .before .before .before .before .before .condition .result .answer .state .nesting ≡ suc (c .before .before .before .before .before .before .before .before .before .before .before .before .before .before .before .before .args .s .nesting) = p .0 in let d : c .before .before .before .before .before .before .before .before .before .before .before .before .before .condition .result .answer .state .nesting ≤ 24 = p .1 in let h : c .before .at2 .result .nesting ≡ c .before .before .before .before .before .before .before .before .before .before .before .before .before .condition .result .answer .state .nesting = ap (λ (q : State). q .nesting) (c .before .at2 .ensures) in search needs
+    let e = c .before .before .before .before .before .before .before .before .before .before .before .before .before .before .before .pre .0 in let p = c .before .before .before .before .before .before .before .before .before .before .before .before .condition .ensures .1 (c .before .before .before .before .before .before .before .before .before .enum-told .given .1) in let g : c .before .before .before .before .before .before .before .before .before .before .before .before .condition .result .answer .state .nesting ≡ suc (c .before .before .before .before .before .before .before .before .before .before .before .before .before .before .before .args .s .nesting) = p .0 in let d : c .before .before .before .before .before .before .before .before .before .before .before .before .condition .result .answer .state .nesting ≤ 24 = p .1 in let h : c .before .at .result .nesting ≡ c .before .before .before .before .before .before .before .before .before .before .before .before .condition .result .answer .state .nesting = ap (λ (q : State). q .nesting) (c .before .at .ensures) in search needs
 
 when-enum-told-3 : (t : ℕ) → when-lts.Need-enum-told-3 (when-calls t) (when-at t) when.Post
 when-enum-told-3 t c = search needs
 
--- src/lib.rt:174:9
 when-returns-4 : (t : ℕ) → when-lts.Need-returns-4 (when-calls t) (when-at t) when.Post
 when-returns-4 t c =
-    other-not (c .before .before .before .before .before .before .before .before .before .before .before .before .before .before .before .before .before .before .before .args .in-state) (c .before .before .before .before .before .before .before .before .before .before .before .before .before .before .before .before .condition .ensures .0 (c .before .before .before .before .before .before .before .before .before .before .before .before .before .before .before .before .before .before .before .args .n)) (c .before .before .before .before .before .before .before .before .before .before .before .before .before .enum-told .given .1) (c .before .before .before .before .before .before .before .before .before .before .arm .ensures) (c .before .before .before .before .before .before .before .enum-told2 .given .1) (c .before .before .before .before .before .before .is .ensures) (c .before .before .before .before .before .if1 .left) (c .before .before .before .before .at2 .ensures) (c .before .before .otherwise .ensures) (not-done (c .match3 .keys2))
+    other-not (c .before .before .before .before .before .before .before .before .before .before .before .before .before .before .before .before .before .before .args .in-state) (c .before .before .before .before .before .before .before .before .before .before .before .before .before .before .before .condition .ensures .0 (c .before .before .before .before .before .before .before .before .before .before .before .before .before .before .before .before .before .before .args .n)) (c .before .before .before .before .before .before .before .before .before .before .before .before .enum-told .given .1) (c .before .before .before .before .before .before .before .before .before .before .arm .ensures) (c .before .before .before .before .before .before .before .enum-told2 .given .1) (c .before .before .before .before .before .before .is .ensures) (c .before .before .before .before .before .if1 .left) (c .before .before .before .before .at .ensures) (c .before .before .otherwise .ensures) (not-done (c .match3 .keys2))
 
--- src/lib.rt:176:9
-when-expect-requires-2 : (t : ℕ) → when-lts.Need-expect-requires-2 (when-calls t) (when-at t) when.Post
-when-expect-requires-2 t c κs = search needs
+when-end-if-requires-2 : (t : ℕ) → when-lts.Need-end-if-requires-2 (when-calls t) (when-at t) when.Post
+when-end-if-requires-2 t c κs = search needs
 
--- src/lib.rt:177:5
 when-choose-again-requires : (t : ℕ) → when-lts.Need-choose-again-requires (when-calls t) (when-at t) when.Post
 when-choose-again-requires t c κs = search needs
 
--- src/lib.rt:178:5
 when-answered-requires-2 : (t : ℕ) → when-lts.Need-answered-requires-2 (when-calls t) (when-at t) when.Post
 when-answered-requires-2 t c κs = search needs
 
--- src/lib.rt:139:1
 when-returns-5 : (t : ℕ) → when-lts.Need-returns-5 (when-calls t) (when-at t) when.Post
 when-returns-5 t c =
-    rw (c .answered2 .ensures) (if-else-says (c .before .before .before .before .before .before .before .before .before .before .before .before .before .before .before .before .before .before .before .before .before .before .before .before .args .in-state) (c .before .before .before .before .before .before .before .before .before .before .before .before .before .before .before .before .before .before .before .before .before .condition .ensures .0 (c .before .before .before .before .before .before .before .before .before .before .before .before .before .before .before .before .before .before .before .before .before .before .before .before .args .n)) (c .before .before .before .before .before .before .before .before .before .before .before .before .before .before .before .before .before .before .enum-told .given .1) (c .before .before .before .before .before .before .before .before .before .before .before .before .before .before .before .arm .ensures) (c .before .before .before .before .before .before .before .before .before .before .before .before .enum-told2 .given .1) (c .before .before .before .before .before .before .before .before .before .before .before .is .ensures) (c .before .before .before .before .before .before .before .before .before .before .if1 .left) (c .before .before .before .before .before .before .before .before .before .at2 .ensures) (c .before .before .before .before .before .before .before .otherwise .ensures) (c .before .before .before .before .enum-told3 .given .1) (c .before .before .before .expect2 .ensures) (c .before .before .before .before .before .before .before .before .before .before .before .before .before .before .before .before .before .last .ensures) (c .before .choose-again .ensures))
+    rw (c .answered2 .ensures) (if-else-says (c .before .before .before .before .before .before .before .before .before .before .before .before .before .before .before .before .before .before .before .before .before .before .before .args .in-state) (c .before .before .before .before .before .before .before .before .before .before .before .before .before .before .before .before .before .before .before .before .condition .ensures .0 (c .before .before .before .before .before .before .before .before .before .before .before .before .before .before .before .before .before .before .before .before .before .before .before .args .n)) (c .before .before .before .before .before .before .before .before .before .before .before .before .before .before .before .before .before .enum-told .given .1) (c .before .before .before .before .before .before .before .before .before .before .before .before .before .before .before .arm .ensures) (c .before .before .before .before .before .before .before .before .before .before .before .before .enum-told2 .given .1) (c .before .before .before .before .before .before .before .before .before .before .before .is .ensures) (c .before .before .before .before .before .before .before .before .before .before .if1 .left) (c .before .before .before .before .before .before .before .before .before .at .ensures) (c .before .before .before .before .before .before .before .otherwise .ensures) (c .before .before .before .before .enum-told3 .given .1) (c .before .before .before .end-if2 .ensures) (c .before .choose-again .ensures))
 
 pub +action+another+arm+arms+cases+list+next-arm+otherwise+when-spec : {M : Type 1} → statement M
 +action+another+arm+arms+cases+list+next-arm+otherwise+when-spec =
@@ -656,7 +570,6 @@ pub +action+another+arm+arms+cases+list+next-arm+otherwise+when-spec : {M : Type
     (cases-condition-requires t)
     (cases-enum-told t)
     (cases-returns t)
-    (cases-last-requires t)
     (cases-arms-requires t)
     (cases-enum-told-2 t)
     (cases-returns-2 t)
@@ -707,12 +620,11 @@ pub +action+another+arm+arms+cases+list+next-arm+otherwise+when-spec : {M : Type
     (when-condition-requires t)
     (when-enum-told t)
     (when-returns t)
-    (when-last-requires t)
     (when-arm-requires t)
     (when-enum-told-2 t)
     (when-returns-2 t)
     (when-is-requires t)
-    (when-expect-requires t)
+    (when-end-if-requires t)
     (when-when-again-requires t)
     (when-answered-requires t)
     (when-returns-3 t)
@@ -720,7 +632,7 @@ pub +action+another+arm+arms+cases+list+next-arm+otherwise+when-spec : {M : Type
     (when-otherwise-requires t)
     (when-enum-told-3 t)
     (when-returns-4 t)
-    (when-expect-requires-2 t)
+    (when-end-if-requires-2 t)
     (when-choose-again-requires t)
     (when-answered-requires-2 t)
     (when-returns-5 t)
