@@ -3,7 +3,7 @@ use mathlib.Core.Bool.{cond}
 use mathlib.Core.List.{List, [], _∷_, _++_, map}
 use mathlib.Core.Option.{Option, none, some}
 use Prim.Native.Nat.{ℕ, _+_, _^_}
-use lib.Dec.{ltb}
+use lib.Dec.{leb, ltb}
 use lib.ListN.{length}
 use Rattle.language.specs.Describe.{Noted, NotedAction, actionsIn, actionsOf, boundsOf, constantNodes, constantSize, expressionSize, expressionsIn, lastOf, nodesIn, nodesOf}
 use Rattle.language.specs.Description.{Bounds, Description, Facility, FacilityPlaces, Operation, Places, Run, State, bounds, nowhere, sequencingFrom, wordLength}
@@ -11,7 +11,7 @@ use Rattle.language.specs.Description as D
 use Rattle.language.specs.Naming.{Scope}
 use Rattle.language.specs.Tree as T
 use Rattle.language.specs.Tree.{Declaration, Extent, Function, Name, StateValue, Text}
-use Rattle.language.specs.Value.{Value, value}
+use Rattle.language.specs.Value.{Value, longest, value}
 use Rattle.language.specs.Words.{Constant, Position}
 
 -- ---- Facilities.
@@ -164,9 +164,13 @@ pub record Described : Type 0 where
   pub description : Description
   pub places : Places
 
+-- A register longer than any value is refused where it is declared, before all states; it lends its length to none.
+abbrev pub lent : ℕ → Option ℕ
+lent l = cond (leb l longest) (some l) none
+
 abbrev pub lengthAt : List Facility → Option ℕ → Option ℕ
 lengthAt fs none = none
-lengthAt fs (some n) = some (wordLength (lib.ListN.getD fs n D.noFacility))
+lengthAt fs (some n) = lent (wordLength (lib.ListN.getD fs n D.noFacility))
 
 unfoldable pub describe : Text → Described
 describe t =

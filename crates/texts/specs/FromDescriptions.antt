@@ -5,7 +5,7 @@ use mathlib.Core.Option.{Option, none, some}
 use mathlib.Core.Path.{_≡_, refl, sym, ap, _∙_}
 use native.Mathlib.Omega.{arith}
 use Prim.Native.Nat.{ℕ, zero, suc, _+_, _-_, _≤_, _<_}
-use borrow.Author.Tests.{eqb-true, leb-true, ltb-true}
+use borrow.Author.Tests.{eqb-true, le-leb, leb-true, ltb-true}
 use lib.Dec.{eqb, leb, ltb}
 use lib.ListN.{getD, length, length-append}
 use Rattle.language.specs.Canonical.{actionCount, all, canonical, countedRecords, countsRight, facilitiesRight, labelRight, leftCount, nameRight, nodeCount, total}
@@ -317,11 +317,11 @@ module _ (d : Description) (form : legalForm d ≡ true) (plain : (f : ℕ) → 
 
   length-same : X.lengthAt (d .facilities) (sequencingFrom 0 (d .facilities)) ≡ sequencingLength d noPlaces
   unfolding sequencingLength sequencingOf facilityAt
-  length-same = go (sequencingFrom 0 (d .facilities))
+  length-same = go (sequencingFrom 0 (d .facilities)) refl
     where
-      go : (x : Option ℕ) → X.lengthAt (d .facilities) x ≡ Rules.lengthAt d noPlaces x
-      go none = refl
-      go (some n) = refl
+      go : (x : Option ℕ) → sequencingFrom 0 (d .facilities) ≡ x → X.lengthAt (d .facilities) x ≡ Rules.lengthAt d noPlaces x
+      go none q = refl
+      go (some n) q = rw (le-leb (wordLength (facilityAt d n)) longest (register-length (wordLength (facilityAt d n)) (ap (Rules.lengthAt d noPlaces) q) .1))
 
   first-same : facilitySize declarations ≡ ends .first
   first-same = let z = declared .size in omega (arith, z)

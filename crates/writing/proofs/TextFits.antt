@@ -6,6 +6,7 @@ use mathlib.Core.Path.{_≡_, refl, sym, ap, _∙_, subst}
 use Prim.Native.Nat.{ℕ, zero, suc, _+_, _-_, _*_, _<_, _≤_}
 use native.Mathlib.Nat.{zero-add}
 use native.Mathlib.Omega.{arith}
+use borrow.Author.Tests.{leb-true}
 use lib.Dec.{eqb, leb}
 use lib.ListN.{List·getD-map, getD, length, length-append, length-map}
 use Rattle.language.specs.Describe.{Noted, NotedAction, noted}
@@ -16,6 +17,7 @@ use Rattle.language.specs.Encode.{concat, nameBytes}
 use Rattle.language.specs.Naming.{Scope}
 use Rattle.language.specs.Tree as T
 use Rattle.language.specs.Tree.{Declaration, Text}
+use Rattle.language.specs.Value.{longest}
 use Rattle.legal.specs.InOrder.{stateExpressions}
 use Rattle.legal.specs.LegalTexts.{facilities-nodes, operations-nodes, states-nodes}
 use Rattle.legal.specs.Runs.{operations-size, stateRecords, states-size}
@@ -295,24 +297,22 @@ word-some f = go (eqb (f .dimensions) 0)
     go true = omega arith
     go false = span-some (f .bits)
 
-abbrev pub AtMost : ℕ → Option ℕ → Type 0
-AtMost m none = Unit {0}
-AtMost m (some l) = l ≤ m
+-- The sequencing register lends no length that values have not.
+length-fits : (fs : List Facility) (n : Option ℕ) → LengthFits (lengthAt fs n)
+unfolding longest
+length-fits fs none = tt
+length-fits fs (some n) = go (leb (wordLength (getD fs n noFacility)) 256) refl
+  where
+    go : (z : Bool) → leb (wordLength (getD fs n noFacility)) 256 ≡ z → LengthFits (cond z (some (wordLength (getD fs n noFacility))) none)
+    go true e = (word-some (getD fs n noFacility), leb-true _ _ e)
+    go false e = tt
 
-length-fits : (fs : List Facility) (n : Option ℕ) → AtMost 256 (lengthAt fs n) → LengthFits (lengthAt fs n)
-length-fits fs none h = tt
-length-fits fs (some n) h = (word-some (getD fs n noFacility), h)
-
--- The sequencing register of a text, if it has one, is no longer than values are.
-abbrev pub Sequenced : Text → Type 0
-Sequenced t = AtMost 256 (lengthAt (facilitiesOf 0 (declarationsOf t)) (sequencingFrom 0 (facilitiesOf 0 (declarationsOf t))))
-
-module _ (t : Text) (tidy : TextTidy t) (near : TextNear t) (q : Sequenced t) (few : Counted (describe t .description)) where
+module _ (t : Text) (tidy : TextTidy t) (near : TextNear t) (few : Counted (describe t .description)) where
   abbrev length-of : Option ℕ
   length-of = lengthAt (facilitiesOf 0 (declarationsOf t)) (sequencingFrom 0 (facilitiesOf 0 (declarationsOf t)))
 
   fitting : LengthFits length-of
-  fitting = length-fits (facilitiesOf 0 (declarationsOf t)) (sequencingFrom 0 (facilitiesOf 0 (declarationsOf t))) q
+  fitting = length-fits (facilitiesOf 0 (declarationsOf t)) (sequencingFrom 0 (facilitiesOf 0 (declarationsOf t)))
 
   abbrev scope-of : Scope
   scope-of = record { facilities = namesIn t; operations = map (λ o. o .name) (t .operations); states = map (λ s. labelOf (s .label)) (t .states) }

@@ -27,7 +27,7 @@ use Rattle.writing.proofs.BodyLaws.{row-most}
 use Rattle.writing.proofs.NearTrees.{text-near}
 use Rattle.writing.proofs.NotedBack.{faults-stand}
 use Rattle.writing.proofs.StandingLaws.{names-stand}
-use Rattle.writing.proofs.TextFits.{Counted, Sequenced, readable, text-names}
+use Rattle.writing.proofs.TextFits.{Counted, readable, text-names}
 use Rattle.writing.specs.declared.Tally.{Tally}
 use Rattle.writing.specs.Sections.{Few, besideHeld, namesHeld, sectionsHeld}
 use Rattle.writing.specs.Standing.{Stands, StandsBeside}
@@ -47,14 +47,14 @@ counted {w = w} {c} d few h = record {
 }
 
 -- The text is at most 32,768 bytes long, and the grammar derives the tree from its words.
-module _ (text w : List ℕ) (c : Tally) (t : Text) {n : ℕ} (short : length text ≤ 32768) (derived : Is wholeText n (scan text .words) (N.text t)) (q : Sequenced t) (few : Few c) (h : Stands text w c (describe t .description)) where
+module _ (text w : List ℕ) (c : Tally) (t : Text) {n : ℕ} (short : length text ≤ 32768) (derived : Is wholeText n (scan text .words) (N.text t)) (few : Few c) (h : Stands text w c (describe t .description)) where
   text-tidy : TextTidy t
   text-tidy = tidy derived (words-right text)
 
   -- Its names have room where judging puts them.
   pub names-room : length (namesHeld text w c) ≤ 84480
-  names-room = rw (names-stand h) (text-names t text-tidy (text-near text t short derived) q (counted (describe t .description) few h))
+  names-room = rw (names-stand h) (text-names t text-tidy (text-near text t short derived) (counted (describe t .description) few h))
 
   pub text-judged : StandsBeside w c (describe t .description) (describe t .places)
       → least (faults (notedDescription (sectionsHeld text w c) (besideHeld w c)) (placesIn (besideHeld w c))) ≡ least (faults (describe t .description) (describe t .places))
-  text-judged b = faults-stand text w c (describe t .description) (describe t .places) h b (readable t text-tidy (text-near text t short derived) q (counted (describe t .description) few h))
+  text-judged b = faults-stand text w c (describe t .description) (describe t .places) h b (readable t text-tidy (text-near text t short derived) (counted (describe t .description) few h))
