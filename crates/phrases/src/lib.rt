@@ -26,7 +26,7 @@ ghost use Rattle.course.specs.Says.{Extends, Parses};
 ghost use Rattle.levels.specs.Orders.{stackOf, tailStack, tailsFrom};
 ghost use Rattle.phrases.specs.Phrases.{Arms, Begins, FirstArm, Inside, MoreArms, NextArm, Operates, Second, afterName, choiceWord, same};
 
-mod leaves;
+pub mod leaves;
 
 // An answer, and how many arms there are.
 pub struct Armed {

@@ -1,1 +1,3 @@
 pub mod Actions
+pub mod Leaves
+pub mod Reached

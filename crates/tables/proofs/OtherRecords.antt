@@ -60,6 +60,7 @@ action-added {n} {a} {at} {ps} {w} {w₁} {w₂} h f e g = all (f h) (g (ap leng
       room = λ d. h;
       records = λ d. j .kept .tables T.Actions refl (n + 1) few ∙ i .behind;
       places = λ d. j .behind ∙ rw (i .kept .tables T.ActionPlaces refl n (omega arith), e);
+      whole = λ d. j .still;
       kept = λ d. kept-more (i .kept) (j .kept);
       full = λ d. absurd (true≢false d);
     }
@@ -69,6 +70,7 @@ action-full h = record {
   room = λ d. absurd (true≢false (sym d));
   records = λ d. absurd (true≢false (sym d));
   places = λ d. absurd (true≢false (sym d));
+  whole = λ d. absurd (true≢false (sym d));
   kept = λ d. absurd (true≢false (sym d));
   full = λ d. h;
 }

@@ -131,7 +131,7 @@ module _ (t : Table) (n : ℕ) (w bs : List ℕ) (l : length w ≡ 275296) (b : 
   row-front = before-kept w bs (from t + size t * n) fits 222432 (omega (arith, begins-behind t))
 
   pub written : Wrote t n bs w (placed w (from t + size t * n) bs)
-  written = record { whole = l; behind = row-behind; instead = row-instead; kept = record { tables = λ u a. row-apart u (one u a); front = row-front } }
+  written = record { whole = l; still = placed-length w bs (from t + size t * n) ∙ l; behind = row-behind; instead = row-instead; kept = record { tables = λ u a. row-apart u (one u a); front = row-front } }
     where
       one : (u : Table) → cond (apart u t) true false ≡ true → apart u t ≡ true
       one u a = go (apart u t) a

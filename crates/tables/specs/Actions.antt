@@ -3,6 +3,7 @@ use mathlib.Core.Bool.{Bool, true, false}
 use mathlib.Core.List.{List, [], _∷_, _++_}
 use mathlib.Core.Path.{_≡_}
 use Prim.Native.Nat.{ℕ, _+_, _<_, _≤_}
+use lib.ListN.{length}
 use Rattle.language.specs.Description.{Action}
 use Rattle.language.specs.Encode.{actionBytes}
 use Rattle.noted.specs.Noted.{placeBytes}
@@ -16,5 +17,6 @@ pub record ActionAdded (n : ℕ) (a : Action) (at : Position) (w w′ : List ℕ
   pub room : b ≡ true → n < 4352
   pub records : b ≡ true → rows T.Actions (n + 1) w′ ≡ rows T.Actions n w ++ actionBytes a
   pub places : b ≡ true → rows T.ActionPlaces (n + 1) w′ ≡ rows T.ActionPlaces n w ++ placeBytes 0 (positioned at)
+  pub whole : b ≡ true → length w′ ≡ 275296
   pub kept : b ≡ true → Kept (T.Actions ∷ T.ActionPlaces ∷ []) w w′
   pub full : b ≡ false → 4352 ≤ n

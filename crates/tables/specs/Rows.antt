@@ -80,6 +80,7 @@ pub record Kept (ts : List Table) (w w′ : List ℕ) : Type 0 where
 -- Record n of a table was written: behind those before it, or in the place of the one that was there.
 pub record Wrote (t : Table) (n : ℕ) (bs w w′ : List ℕ) : Type 0 where
   pub whole : length w ≡ 275296
+  pub still : length w′ ≡ 275296
   pub behind : rows t (n + 1) w′ ≡ rows t n w ++ bs
   pub instead : (m : ℕ) → n < m → m ≤ most t → rows t m w′ ≡ placed (rows t m w) (size t * n) bs
   pub kept : Kept (t ∷ []) w w′

@@ -1,0 +1,6 @@
+pub mod Joining
+pub mod Keeping
+pub mod Standings
+pub mod ActionWords
+pub mod LeafLaws
+pub mod ReachedLaws

@@ -1,0 +1,119 @@
+// What simple actions are made of: names, and the records of actions.
+use crate::Acted;
+use course::Answer;
+use course::Bearing;
+use course::State;
+use course::Verdict;
+use course::kinds;
+use course::taking;
+use meanings::Counts;
+use meanings::Meaning;
+use records::actions::Action;
+use tables::actions;
+use words::Position;
+use words::Word;
+use words::places;
+ghost use mathlib.Core.Path.{_≡_};
+ghost use lib.ListN.{length};
+ghost use Rattle.language.specs.Description as D;
+ghost use Rattle.language.specs.Naming.{ofOperation, ofState};
+ghost use Rattle.meanings.specs.Known as K;
+ghost use Rattle.records.specs.Actions.{meant};
+ghost use Rattle.simple.specs.Leaves.{KeepsName, NameMeans, Performs, Puts};
+
+// Keeps a name that must come; it is not counted.
+pub fn keep_name(text: &[u8], w: Word, s: State) -> Answer
+    ensures { λ r. ⌜ KeepsName (now (text .entry)) w s r ⌝ }
+{
+    let kind = w.kind;
+    if kinds::number(kind) == kinds::NAME {
+        return taking::take(text, w, s, false, Bearing::Level);
+    }
+    taking::refuse(w, s, 3)
+}
+
+// The array has all its bytes: said, so that it is known behind a write.
+fn whole(work: &[u8; 275296]) -> usize
+    ensures { λ r. ⌜ length (now (work .entry)) ≡ 275296 ⌝ }
+{
+    let s: &[u8] = work;
+    s.len()
+}
+
+// Adds an action's record, whose word is at; the word behind the action has been seen.
+pub fn put(
+    s: State,
+    action: Action,
+    at: Position,
+    next: Word,
+    work: &mut [u8; 275296],
+    acts: u16,
+) -> Acted
+    ensures { λ r. ⌜ Puts (meant action) at next s acts (now (work .entry)) (now (work .exit)) r ⌝ }
+{
+    let room = actions::add_action(work, acts, action, at);
+    whole(work);
+    if room {
+        let answer = Answer {
+            verdict: Verdict::Done,
+            next,
+            state: s,
+        };
+        return Acted {
+            answer,
+            actions: acts + 1,
+        };
+    }
+    let answer = Answer {
+        verdict: Verdict::Full,
+        next,
+        state: s,
+    };
+    Acted {
+        answer,
+        actions: acts,
+    }
+}
+
+// The record of a name that performs an operation; broken where it means none.
+pub fn performing(m: Meaning) -> Action
+    ensures { λ r. ⌜ meant r ≡ ofOperation (K.meant m) D.perform ⌝ }
+{
+    match m {
+        Meaning::Facility(_) => Action::Broken,
+        Meaning::Operation(k) => Action::Perform(k as u16),
+        Meaning::State(_) => Action::Broken,
+        Meaning::Unknown => Action::Broken,
+    }
+}
+
+// The records of names behind `->` and `=>`; broken where they mean no state.
+pub fn going(m: Meaning) -> Action
+    ensures { λ r. ⌜ meant r ≡ ofState (K.meant m) D.goto ⌝ }
+{
+    match m {
+        Meaning::Facility(_) => Action::Broken,
+        Meaning::Operation(_) => Action::Broken,
+        Meaning::State(k) => Action::Goto(k as u16),
+        Meaning::Unknown => Action::Broken,
+    }
+}
+
+pub fn calling(m: Meaning) -> Action
+    ensures { λ r. ⌜ meant r ≡ ofState (K.meant m) D.call ⌝ }
+{
+    match m {
+        Meaning::Facility(_) => Action::Broken,
+        Meaning::Operation(_) => Action::Broken,
+        Meaning::State(k) => Action::Call(k as u16),
+        Meaning::Unknown => Action::Broken,
+    }
+}
+
+// What a name means, by its word.
+pub fn meaning(text: &[u8], work: &[u8; 275296], n: Counts, name: Word) -> Meaning
+    ensures { λ r. ⌜ NameMeans (now (text .entry)) (now (work .entry)) n name r ⌝ }
+{
+    let at = name.at;
+    meanings::what(text, work, n, places::place(at), name.size)
+}
