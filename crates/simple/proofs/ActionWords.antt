@@ -10,7 +10,7 @@ use Rattle.course.proofs.Looking.{View, begun, ended, name-ahead, nameWord, sig
 use Rattle.course.proofs.TakenWords.{onTaken, taken-on}
 use Rattle.course.specs.Course.{Seen, Stack, ahead, behind, kindNo, runsOn}
 use Rattle.course.specs.Says.{pushed}
-use Rattle.grammar.specs.Following.{among}
+use Rattle.grammar.specs.Following.{among, among-first, among-rest}
 use Rattle.grammar.specs.Stacks.{asks, asks-end, choose-none, kindsOf}
 use Rattle.language.specs.Building.{Built, expressionNo, keepWord, listNo, withLefts, wordNo}
 use Rattle.language.specs.Declaring.{treeSteps}
@@ -86,21 +86,28 @@ module _ (text : List ℕ) (w : Word) (z : Seen text w) (b : Built) (c : Counts)
   abbrev right : Stack → Stack
   right K = ask expression ∷ make (treeSteps .makeStore) ∷ K
 
-  pub delayed-comes : k ≡ 29 → (K : Stack) → on (ask storeSign ∷ K) ≡ onTaken text w (right K) (keepWord (L.sign 29 at) b) one
+  delayed-comes : k ≡ 29 → (K : Stack) → on (ask storeSign ∷ K) ≡ onTaken text w (right K) (keepWord (L.sign 29 at) b) one
   unfolding runsOn run feed choose ruleOf tallied
   delayed-comes e K = rw (sign-ahead text w 29 e (omega arith)) (taken-on text at _ (behind text w) _ _)
 
-  pub equal-comes : k ≡ 16 → (K : Stack) → on (ask storeSign ∷ K) ≡ onTaken text w (right K) (keepWord (L.sign 16 at) b) one
+  equal-comes : k ≡ 16 → (K : Stack) → on (ask storeSign ∷ K) ≡ onTaken text w (right K) (keepWord (L.sign 16 at) b) one
   unfolding runsOn run feed choose ruleOf tallied
   equal-comes e K = rw (sign-ahead text w 16 e (omega arith)) (taken-on text at _ (behind text w) _ _)
 
-  pub no-store : (k ≡ 29 → ⊥) → (k ≡ 16 → ⊥) → (K : Stack) → on (ask storeSign ∷ K) ≡ refused (fault at 3)
+  pub store-comes : among k (29 ∷ 16 ∷ []) ≡ true → (K : Stack) → on (ask storeSign ∷ K) ≡ onTaken text w (right K) (keepWord (L.sign k at) b) one
+  store-comes e K =
+      let kept : (j : ℕ) → k ≡ j → onTaken text w (right K) (keepWord (L.sign j at) b) one ≡ onTaken text w (right K) (keepWord (L.sign k at) b) one =
+      λ j q. ap (λ (i : ℕ). onTaken text w (right K) (keepWord (L.sign i at) b) one) (sym q) in
+      among-first-or k 29 (16 ∷ []) e (λ q. delayed-comes q K ∙ kept 29 q) λ e₁.
+      among-first-or k 16 [] e₁ (λ q. equal-comes q K ∙ kept 16 q) (among-none k)
+
+  pub no-store : among k (29 ∷ 16 ∷ []) ≡ false → (K : Stack) → on (ask storeSign ∷ K) ≡ refused (fault at 3)
   unfolding runsOn run feed finish choose ruleOf
-  no-store n m K = go (view text w z)
+  no-store h K = go (view text w z)
     where
       go : View text w → on (ask storeSign ∷ K) ≡ refused (fault at 3)
       go (ended x y q) = rw (x, y)
-      go (begun v x q y) = rw (x, q, ne-eqb k 29 n, ne-eqb k 16 m, y)
+      go (begun v x q y) = rw (x, q, among-first k 29 (16 ∷ []) h, among-first k 16 [] (among-rest k 29 (16 ∷ []) h), y)
 
   -- CON joins a second reference.
   pub con-comes : k ≡ 38 → (K : Stack) → on (ask leftRest ∷ K) ≡ onTaken text w (keep 1 ∷ ask subscripts ∷ make (treeSteps .makePair) ∷ ask storeSign ∷ K) b c

@@ -4,3 +4,7 @@ pub mod Standings
 pub mod ActionWords
 pub mod LeafLaws
 pub mod ReachedLaws
+pub mod EndLaws
+pub mod SignLaws
+pub mod StoreLaws
+pub mod KindTests

@@ -23,6 +23,7 @@ use Rattle.language.specs.Machine.{Counts, withinCeilings}
 use Rattle.language.specs.Naming.{Scope}
 use Rattle.language.specs.Tree.{Actions}
 use Rattle.meanings.specs.declared.Counts as M
+use Rattle.meanings.specs.Known.{Known}
 use Rattle.noted.specs.Noted.{placeBytes}
 use Rattle.tables.specs.Actions.{ActionAdded}
 use Rattle.tables.specs.declared.Table.the-variants as Tb
@@ -34,7 +35,7 @@ use Rattle.work.proofs.NodesAdded.{nodes-append, nodes-other}
 use Rattle.work.proofs.Regions.{same-held}
 use Rattle.work.specs.Held.{Held, held, mostNodes, otherIn, withNodes}
 use Rattle.work.specs.Names.{namesIn}
-use Rattle.simple.proofs.Keeping.{front-kept, rows-other, whole-other}
+use Rattle.simple.proofs.Keeping.{front-kept, known-kept, others-other, rows-other, whole-other}
 use Rattle.simple.proofs.Standings.{few-states, standing-after, within-more}
 use Rattle.simple.specs.Actions.{Paid, Standing, Written, actionBesides, actionRecords, frontOf, grown}
 use Rattle.simple.specs.declared.Acted.{Acted}
@@ -65,6 +66,18 @@ reached-as {s = s} {work} x e f = record {
   nodes = x .nodes ∙ ap (λ (m : ℕ). s .nodes + m) f;
 }
 
+-- More may be owed.
+pub cheaper : {text : List ℕ} {sc : Scope} {more pay size : ℕ} {ns : List Noted} {s : State} {work : List ℕ} {w₁ : Word} {s₁ : State} {work₁ : List ℕ} → Reached text sc more pay ns size s work w₁ s₁ work₁
+    → {owed : ℕ} → pay ≤ owed → Reached text sc more owed ns size s work w₁ s₁ work₁
+cheaper {s₁ = s₁} x h = record {
+  seen = x .seen;
+  pays = pays-on (x .pays) (pays-refl s₁) (omega (arith, h));
+  counted = x .counted;
+  nesting = x .nesting;
+  held = x .held;
+  nodes = x .nodes;
+}
+
 module _ {text : List ℕ} {sc : Scope} {n : M.Counts} {w : Word} {s : State} {acts : ℕ} {work : List ℕ} (st : Standing text sc n w s acts work) where
   pub start-reached : Reached text sc 0 0 [] 0 s work w s work
   start-reached = record {
@@ -85,6 +98,9 @@ module _ {text : List ℕ} {sc : Scope} {n : M.Counts} {w : Word} {s : State} {a
       seen = x .seen;
       names = st .known .facilities ∙ rw (st .facilities, other-reached, x .pays .known);
     }
+
+    pub known-reached : Known text sc n work₁
+    known-reached = known-kept work₁ (others-other work work₁ other-reached) (st .known)
 
     few : s₁ .counted ≤ 2048
     few = x .pays .ceiling (few-counted (countsOf s) (st .within))

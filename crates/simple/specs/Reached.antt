@@ -1,17 +1,21 @@
 -- What is reached within an action, and what its end then answers.
-use mathlib.Core.Bool.{true, false}
+use mathlib.Core.Bool.{Bool, true, false}
 use mathlib.Core.List.{List, [], _∷_, _++_}
 use mathlib.Core.Path.{_≡_}
 use Prim.Native.Nat.{ℕ, _+_, _≤_}
 use Rattle.course.specs.declared.State.{State}
 use Rattle.course.specs.declared.Verdict.the-variants.{Done, Full, Refused}
-use Rattle.course.specs.Course.{Seen, Stack, kindNo, runs}
+use Rattle.course.specs.Course.{Seen, Stack, runs}
 use Rattle.course.specs.Pays.{Pays}
 use Rattle.course.specs.Says.{pushed}
 use Rattle.language.specs.Building.{Built, withLefts}
 use Rattle.language.specs.Describe.{Noted, expressionSize, lastOf, leftNodes, leftSize, nodesOf}
-use Rattle.language.specs.Machine.{Ask, ask, leftRest, refused, setSign, storeSign}
+use Rattle.language.specs.Declaring.{treeSteps}
+use Rattle.language.specs.Description as D
+use Rattle.language.specs.Kinds.{aName}
+use Rattle.language.specs.Machine.{Ask, ask, keep, make, refused, storeSign}
 use Rattle.language.specs.Naming.{Scope}
+use Rattle.language.specs.Steps.{Step}
 use Rattle.language.specs.Tree as T
 use Rattle.language.specs.Tree.{Actions, Expression, Left}
 use Rattle.meanings.specs.declared.Counts.{Counts}
@@ -46,6 +50,17 @@ pub record Ends (text : List ℕ) (sc : Scope) (n : Counts) (P : Stack) (pre : B
   pub refused : (f : Fault) → r .answer .verdict ≡ Refused f → (K : Stack) (b : Built) → runs text (P ++ K) w₁ (pre b) s₁ ≡ refused (faulted f)
   pub full : r .answer .verdict ≡ Full → ⊥
 
+-- ---- Behind `->` and `=>`.
+
+abbrev pub arrowStep : Bool → Step Built
+arrowStep false = treeSteps .makeGoto
+arrowStep true = treeSteps .makeCall
+
+abbrev pub Arrows : Bool → List ℕ → Counts → Word → State → ℕ → List ℕ → List ℕ → Acted → Type 0
+Arrows call text n w₁ s₁ acts work₁ work′ r =
+    (sc : Scope) (w : Word) (s : State) (work : List ℕ) → Standing text sc n w s acts work → Reached text sc 1 0 [] 0 s work w₁ s₁ work₁
+    → Ends text sc n (keep aName ∷ make (arrowStep call) ∷ []) (λ b. b) w₁ s₁ s acts work work′ r
+
 -- ---- Behind a reference on the left.
 
 abbrev pub AfterLeft : Ask → List ℕ → Word → State → ℕ → List ℕ → List ℕ → Acted → Type 0
@@ -57,6 +72,11 @@ AfterLeft a text w₁ s₁ acts work₁ work′ r =
 abbrev pub sidesOf : ℕ → Left → Sides
 sidesOf base (T.single e) = One (lastOf base (expressionSize e))
 sidesOf base (T.pair e f) = Two (lastOf base (expressionSize e)) (lastOf (base + expressionSize e) (expressionSize f))
+
+-- The record of a store, by those of its sides.
+abbrev pub sided : ℕ → Sides → ℕ → D.Action
+sided k (One l) r = D.store k l r
+sided k (Two l m) r = D.storePair k l m r
 
 -- A left side waits for its store.
 abbrev pub withLeft : Left → Built → Built

@@ -1,11 +1,205 @@
 // Simple actions (the manual, 7.1 and 8.2), read as the machine of the grammar reads them.
 use course::Answer;
+use course::Bearing;
+use course::State;
+use course::Verdict;
+use course::kinds;
+use course::taking;
+use meanings::Counts;
+use records::actions::Action;
+use words::Word;
+ghost use mathlib.Core.Bool.{true};
+ghost use mathlib.Core.List.{[], _∷_};
+ghost use mathlib.Core.Path.{_≡_};
+ghost use Rattle.course.specs.Course.{kindNo};
+ghost use Rattle.grammar.specs.Following.{among};
+ghost use Rattle.language.specs.Machine as L;
+ghost use Rattle.language.specs.Machine.{ask};
+ghost use Rattle.phrases.specs.Phrases.{afterName, same};
+ghost use Rattle.simple.specs.Actions.{Acts};
+ghost use Rattle.simple.specs.Leaves.{Performs};
+ghost use Rattle.simple.specs.Reached.{Arrows};
 
 pub mod leaves;
 mod stores;
+
+// The signs in a state besides `->`.
+const CALL: u8 = 28;
+
+const RETURN: u8 = 47;
 
 // What became of actions, and where they are done how many action records there are.
 pub struct Acted {
     pub answer: Answer,
     pub actions: u16,
+}
+
+// A name alone: it performs an operation, and counts.
+fn perform(
+    s: State,
+    name: Word,
+    text: &[u8],
+    w: Word,
+    work: &mut [u8; 275296],
+    n: Counts,
+    acts: u16,
+) -> Acted
+    ensures { λ r. ⌜ Performs name (now (text .entry)) n w s acts (now (work .entry)) (now (work .exit)) r ⌝ }
+{
+    let counted = taking::pass(name, w, s, true, Bearing::Level);
+    let verdict = counted.verdict;
+    let Verdict::Done = verdict else {
+        return Acted {
+            answer: counted,
+            actions: acts,
+        };
+    };
+    let m = leaves::meaning(text, work, n, name);
+    let at = name.at;
+    let state = counted.state;
+    leaves::put(state, leaves::performing(m), at, w, work, acts)
+}
+
+// A state's name behind `->` or `=>`.
+fn arrow(
+    s: State,
+    call: bool,
+    text: &[u8],
+    w: Word,
+    work: &mut [u8; 275296],
+    n: Counts,
+    acts: u16,
+) -> Acted
+    ensures { λ r. ⌜ Arrows call (now (text .entry)) n w s acts (now (work .entry)) (now (work .exit)) r ⌝ }
+{
+    let kept = leaves::keep_name(text, w, s);
+    let verdict = kept.verdict;
+    let Verdict::Done = verdict else {
+        return Acted {
+            answer: kept,
+            actions: acts,
+        };
+    };
+    let m = leaves::meaning(text, work, n, w);
+    let at = w.at;
+    let state = kept.state;
+    let next = kept.next;
+    if call {
+        return leaves::put(state, leaves::calling(m), at, next, work, acts);
+    }
+    leaves::put(state, leaves::going(m), at, next, work, acts)
+}
+
+// What begins with a sign in a state: `->`, `=>` or RETURN.
+pub fn signed(
+    s: State,
+    text: &[u8],
+    w: Word,
+    work: &mut [u8; 275296],
+    n: Counts,
+    acts: u16,
+) -> Acted
+    ensures { λ r. ⌜ (among (kindNo (w .kind)) (27 ∷ 28 ∷ 47 ∷ []) ≡ true → Acts (ask L.stateAction ∷ []) same (now (text .entry)) n w s acts (now (work .entry)) (now (work .exit)) r) ⌝ }
+{
+    let taken = taking::take(text, w, s, true, Bearing::Level);
+    let verdict = taken.verdict;
+    let Verdict::Done = verdict else {
+        return Acted {
+            answer: taken,
+            actions: acts,
+        };
+    };
+    let state = taken.state;
+    let next = taken.next;
+    let found = w.kind;
+    let kind = kinds::number(found);
+    if kind == RETURN {
+        let at = w.at;
+        return leaves::put(state, Action::Return, at, next, work, acts);
+    }
+    arrow(state, kind == CALL, text, next, work, n, acts)
+}
+
+// Whether a reference goes on behind a name in an operation: `[`, CON, `@`, `<-` or `=` comes.
+fn refers(kind: u8) -> bool
+    ensures { λ r. ⌜ r ≡ among kind (19 ∷ 38 ∷ 18 ∷ 29 ∷ 16 ∷ []) ⌝ }
+{
+    if kind == kinds::OPEN_BRACKET {
+        return true;
+    }
+    if kind == stores::CON {
+        return true;
+    }
+    if kind == stores::AT {
+        return true;
+    }
+    stores::signs(kind)
+}
+
+// The same in a state: `[` or `@` comes.
+fn sets(kind: u8) -> bool
+    ensures { λ r. ⌜ r ≡ among kind (19 ∷ 18 ∷ []) ⌝ }
+{
+    if kind == kinds::OPEN_BRACKET {
+        return true;
+    }
+    kind == stores::AT
+}
+
+// An action of an operation, behind its first name.
+pub fn named_in_operation(
+    s: State,
+    name: Word,
+    text: &[u8],
+    w: Word,
+    work: &mut [u8; 275296],
+    n: Counts,
+    acts: u16,
+) -> Acted
+    ensures { λ r. ⌜ Acts (ask L.operationName ∷ []) (afterName name) (now (text .entry)) n w s acts (now (work .entry)) (now (work .exit)) r ⌝ }
+{
+    let kind = w.kind;
+    if refers(kinds::number(kind)) {
+        let first = phrases::reference(s, name, text, w, work);
+        let verdict = first.verdict;
+        let Verdict::Done = verdict else {
+            return Acted {
+                answer: first,
+                actions: acts,
+            };
+        };
+        let state = first.state;
+        let next = first.next;
+        return stores::rest(state, text, next, work, acts);
+    }
+    perform(s, name, text, w, work, n, acts)
+}
+
+// An action of a state, behind its first name.
+pub fn named_in_state(
+    s: State,
+    name: Word,
+    text: &[u8],
+    w: Word,
+    work: &mut [u8; 275296],
+    n: Counts,
+    acts: u16,
+) -> Acted
+    ensures { λ r. ⌜ Acts (ask L.stateName ∷ []) (afterName name) (now (text .entry)) n w s acts (now (work .entry)) (now (work .exit)) r ⌝ }
+{
+    let kind = w.kind;
+    if sets(kinds::number(kind)) {
+        let first = phrases::reference(s, name, text, w, work);
+        let verdict = first.verdict;
+        let Verdict::Done = verdict else {
+            return Acted {
+                answer: first,
+                actions: acts,
+            };
+        };
+        let state = first.state;
+        let next = first.next;
+        return stores::set(state, text, next, work, acts);
+    }
+    perform(s, name, text, w, work, n, acts)
 }

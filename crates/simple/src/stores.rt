@@ -1,7 +1,160 @@
-// What follows a reference on the left of a store or before `@`.
+// What follows a reference on the left: `@`, a store's sign, or CON and a second reference.
+use crate::Acted;
+use crate::leaves;
+use course::Bearing;
+use course::State;
+use course::Verdict;
+use course::adding;
+use course::kinds;
+use course::taking;
+use levels::Level;
+use records::actions;
+use records::actions::Action;
+use words::Word;
+ghost use mathlib.Core.List.{[], _∷_};
+ghost use mathlib.Core.Path.{_≡_};
+ghost use Rattle.course.specs.Course.{kindNo};
+ghost use Rattle.grammar.specs.Following.{among};
+ghost use Rattle.language.specs.Machine as L;
+ghost use Rattle.records.specs.Actions.{meant};
+ghost use Rattle.simple.specs.Reached.{AfterLeft, Stores, sided};
+
+pub const AT: u8 = 18;
+
+pub const CON: u8 = 38;
 
 // The records of a left side: one reference, or two joined by CON.
 pub enum Sides {
     One(u16),
     Two(u16, u16),
+}
+
+// Whether a kind is a store's sign.
+pub fn signs(kind: u8) -> bool
+    ensures { λ r. ⌜ r ≡ among kind (29 ∷ 16 ∷ []) ⌝ }
+{
+    if kind == actions::DELAYED {
+        return true;
+    }
+    kind == actions::IMMEDIATE
+}
+
+// A store's record.
+fn storing(kind: u8, left: Sides, right: u16) -> Action
+    ensures { λ r. ⌜ meant r ≡ sided kind left right ⌝ }
+{
+    match left {
+        Sides::One(l) => Action::Store(kind, l, right),
+        Sides::Two(l, m) => Action::StorePair(kind, l, m, right),
+    }
+}
+
+// `@` behind a reference.
+pub fn set(s: State, text: &[u8], w: Word, work: &mut [u8; 275296], acts: u16) -> Acted
+    ensures { λ r. ⌜ AfterLeft L.setSign (now (text .entry)) w s acts (now (work .entry)) (now (work .exit)) r ⌝ }
+{
+    let found = w.kind;
+    if kinds::number(found) == AT {
+        let taken = taking::take(text, w, s, true, Bearing::Level);
+        let verdict = taken.verdict;
+        let Verdict::Done = verdict else {
+            return Acted {
+                answer: taken,
+                actions: acts,
+            };
+        };
+        let at = w.at;
+        let state = taken.state;
+        let next = taken.next;
+        let action = Action::Set(adding::last(state.nodes));
+        return leaves::put(state, action, at, next, work, acts);
+    }
+    Acted {
+        answer: taking::refuse(w, s, 3),
+        actions: acts,
+    }
+}
+
+// A store, from its sign on.
+fn store(s: State, left: Sides, text: &[u8], w: Word, work: &mut [u8; 275296], acts: u16) -> Acted
+    ensures { λ r. ⌜ Stores left (now (text .entry)) w s acts (now (work .entry)) (now (work .exit)) r ⌝ }
+{
+    let found = w.kind;
+    let kind = kinds::number(found);
+    if signs(kind) {
+        let taken = taking::take(text, w, s, true, Bearing::Level);
+        let verdict = taken.verdict;
+        let Verdict::Done = verdict else {
+            return Acted {
+                answer: taken,
+                actions: acts,
+            };
+        };
+        let right = phrases::start(taken.state, Level::Expression, text, taken.next, work);
+        let verdict = right.verdict;
+        let Verdict::Done = verdict else {
+            return Acted {
+                answer: right,
+                actions: acts,
+            };
+        };
+        let at = w.at;
+        let state = right.state;
+        let action = storing(kind, left, adding::last(state.nodes));
+        return leaves::put(state, action, at, right.next, work, acts);
+    }
+    Acted {
+        answer: taking::refuse(w, s, 3),
+        actions: acts,
+    }
+}
+
+// CON, a second reference, and the store.
+fn second(s: State, text: &[u8], w: Word, work: &mut [u8; 275296], acts: u16) -> Acted
+    ensures { λ r. ⌜ (kindNo (w .kind) ≡ 38 → AfterLeft L.leftRest (now (text .entry)) w s acts (now (work .entry)) (now (work .exit)) r) ⌝ }
+{
+    let taken = taking::take(text, w, s, false, Bearing::Level);
+    let verdict = taken.verdict;
+    let Verdict::Done = verdict else {
+        return Acted {
+            answer: taken,
+            actions: acts,
+        };
+    };
+    let name = taken.next;
+    let kept = leaves::keep_name(text, name, taken.state);
+    let verdict = kept.verdict;
+    let Verdict::Done = verdict else {
+        return Acted {
+            answer: kept,
+            actions: acts,
+        };
+    };
+    let other = phrases::reference(kept.state, name, text, kept.next, work);
+    let verdict = other.verdict;
+    let Verdict::Done = verdict else {
+        return Acted {
+            answer: other,
+            actions: acts,
+        };
+    };
+    let state = other.state;
+    let left = Sides::Two(adding::last(s.nodes), adding::last(state.nodes));
+    store(state, left, text, other.next, work, acts)
+}
+
+// What follows the first reference in an operation.
+pub fn rest(s: State, text: &[u8], w: Word, work: &mut [u8; 275296], acts: u16) -> Acted
+    ensures { λ r. ⌜ AfterLeft L.leftRest (now (text .entry)) w s acts (now (work .entry)) (now (work .exit)) r ⌝ }
+{
+    let found = w.kind;
+    let kind = kinds::number(found);
+    if kind == CON {
+        return second(s, text, w, work, acts);
+    }
+    if kind == AT {
+        return set(s, text, w, work, acts);
+    }
+    let left = Sides::One(adding::last(s.nodes));
+    store(s, left, text, w, work, acts)
 }

@@ -1,0 +1,135 @@
+-- Actions of a word or two: an operation performed, `->`, `=>` and RETURN.
+use mathlib.Core.Bool.{Bool, true, false}
+use mathlib.Core.List.{List, [], _∷_, _++_}
+use mathlib.Core.Path.{_≡_, refl, sym, ap, _∙_, subst}
+use Prim.Native.Nat.{ℕ, suc, _+_, _≤_}
+use native.Mathlib.Omega.{arith}
+use lib.Dec.{eqb}
+use Rattle.course.proofs.Paying.{pays-on, pays-refl, went-pays}
+use Rattle.course.proofs.Saying.{makes-it}
+use Rattle.course.proofs.TakenWords.{onTaken, took-done}
+use Rattle.course.specs.declared.Answer.{Answer}
+use Rattle.course.specs.declared.Bearing.the-variants.{Level}
+use Rattle.course.specs.declared.State.{State}
+use Rattle.course.specs.declared.Verdict.the-variants.{Done}
+use Rattle.course.specs.Course.{Seen, Stack, countsOf, kindNo, runs, runsOn}
+use Rattle.course.specs.Taken.{Took, Went, WentOn, afterWord}
+use Rattle.grammar.specs.Following.{among}
+use Rattle.language.specs.Building.{Built, keepWord, listNo, wordNo}
+use Rattle.language.specs.Declaring.{treeSteps}
+use Rattle.language.specs.Describe.{NotedAction, act, actionsIn, actionsOf, expressionsIn, nodesIn}
+use Rattle.language.specs.Description as D
+use Rattle.language.specs.Machine as Mc
+use Rattle.language.specs.Machine.{Counts, ask, keep, make, stateAction}
+use Rattle.language.specs.Naming as N
+use Rattle.language.specs.Naming.{Scope, meaning, ofOperation, ofState}
+use Rattle.language.specs.Tree as T
+use Rattle.language.specs.Words as L
+use Rattle.levels.proofs.HeadWords.{among-first-or, among-none}
+use Rattle.meanings.specs.declared.Counts as M
+use Rattle.meanings.specs.declared.Meaning.{Meaning}
+use Rattle.meanings.specs.Known.{meant}
+use Rattle.operands.specs.References.{lettersOf}
+use Rattle.phrases.specs.Phrases.{afterName, same}
+use Rattle.words.specs.declared.Word.{Word}
+use Rattle.words.specs.Meaning.{positioned}
+use Rattle.work.specs.Held.{held}
+use Rattle.simple.proofs.ActionWords.{call-comes, goto-comes, return-comes}
+use Rattle.simple.proofs.EndLaws.{ends-through, ends-unnamed, ends-untaken, reads-ended}
+use Rattle.simple.proofs.ReachedLaws.{counted-reached, ends-with, known-reached, nodes-none, passed-reached, start-reached, within-reached}
+use Rattle.simple.specs.Actions.{Acts, Standing, grown}
+use Rattle.simple.specs.declared.Acted.{Acted}
+use Rattle.simple.specs.Leaves.{KeepsName, NameMeans, Performs, Puts}
+use Rattle.simple.specs.Reached.{Arrows, Ends, Reached, arrowStep}
+
+-- ---- An operation performed.
+
+module _ {text : List ℕ} {n : M.Counts} {name w : Word} {s : State} {acts : ℕ} {work : List ℕ} {a : Answer} (t : Went name w (afterWord true Level s) s a) where
+  pub unperformed : {k : ℕ} → (a .verdict ≡ Done → ⊥) → Performs name text n w s acts work work (record { answer = a; actions = k })
+  unperformed m q g sc st = record {
+    done = λ d. absurd (m d);
+    refused = λ f d K b. let e = t .refused f d in g (st .seen) K b ∙ rw (e .0, e .1);
+    full = λ d. absurd (t .full d);
+  }
+
+  pub performs : a .verdict ≡ Done → (m : Meaning) → NameMeans text work n name m → {x : D.Action} → x ≡ ofOperation (meant m) D.perform → {work′ : List ℕ} {r : Acted} → Puts x (name .at) w (a .state) acts work work′ r
+      → Performs name text n w s acts work work′ r
+  unfolding expressionsIn nodesIn actionsIn actionsOf
+  performs d m f {x} e y q g sc st =
+      reads-ended (ends-with st reached y (T.perform (lettersOf text name) (positioned (name .at)) T.done) refl refl refl
+      (ap (λ (v : D.Action). act v (positioned (name .at)) ∷ []) (sym (e ∙ ap (λ (v : N.Meaning). ofOperation v D.perform) (f sc (st .known)))))
+      (λ K b. g (st .seen) K b ∙ rw (p .fits, p .counts)))
+    where
+      p : WentOn name w (afterWord true Level s) s a
+      p = t .done d
+
+      reached : Reached text sc 1 0 [] 0 s work w (a .state) work
+      reached = record {
+        seen = st .seen;
+        pays = pays-on (went-pays t d) (pays-refl (a .state)) (omega arith);
+        counted = omega (arith, ap (λ (v : Counts). v .counted) (p .counts));
+        nesting = ap (λ (v : Counts). v .nesting) (p .counts);
+        held = ap (λ (v : ℕ). held v work) (p .kept .nodes) ∙ sym (nodes-none (held (s .nodes) work));
+        nodes = omega (arith, p .kept .nodes);
+      }
+
+-- ---- Behind an arrow.
+
+module _ {text : List ℕ} {n : M.Counts} {w₁ : Word} {s₁ : State} {acts : ℕ} {work₁ : List ℕ} {a : Answer} (t : KeepsName text w₁ s₁ a) where
+  pub arrow-unnamed : (call : Bool) {k : ℕ} → (a .verdict ≡ Done → ⊥) → Arrows call text n w₁ s₁ acts work₁ work₁ (record { answer = a; actions = k })
+  arrow-unnamed call m sc w s work st x = ends-unnamed t m (x .seen) (within-reached st x) (λ K. make (arrowStep call) ∷ K) (λ b. b) (λ K b. refl)
+
+  module _ (d : a .verdict ≡ Done) (m : Meaning) (f : NameMeans text work₁ n w₁ m) {x : D.Action} {work₂ : List ℕ} {r : Acted} (y : Puts x (w₁ .at) (a .next) (a .state) acts work₁ work₂ r) where
+    pub arrow-goes : {call : Bool} → call ≡ false → x ≡ ofState (meant m) D.goto → Arrows call text n w₁ s₁ acts work₁ work₂ r
+    unfolding expressionsIn nodesIn actionsIn actionsOf wordNo listNo
+    arrow-goes {call} q e sc w s work st z =
+        let k = t .done d (z .seen) in
+        let g = T.goto (lettersOf text w₁) (positioned (w₁ .at)) T.done in
+        rw q
+        (ends-with st (passed-reached st z d (k .took)) y g refl refl refl
+        (ap (λ (v : D.Action). act v (positioned (w₁ .at)) ∷ []) (sym (e ∙ ap (λ (v : N.Meaning). ofState v D.goto) (f sc (known-reached st z)))))
+        (λ K b. k .course (make (treeSteps .makeGoto) ∷ K) b ∙ makes-it text (treeSteps .makeGoto) K (a .next) (afterName w₁ text b) (grown g b) (a .state) (λ p. refl)))
+
+    pub arrow-calls : {call : Bool} → call ≡ true → x ≡ ofState (meant m) D.call → Arrows call text n w₁ s₁ acts work₁ work₂ r
+    unfolding expressionsIn nodesIn actionsIn actionsOf wordNo listNo
+    arrow-calls {call} q e sc w s work st z =
+        let k = t .done d (z .seen) in
+        let g = T.call (lettersOf text w₁) (positioned (w₁ .at)) T.done in
+        rw q
+        (ends-with st (passed-reached st z d (k .took)) y g refl refl refl
+        (ap (λ (v : D.Action). act v (positioned (w₁ .at)) ∷ []) (sym (e ∙ ap (λ (v : N.Meaning). ofState v D.call) (f sc (known-reached st z)))))
+        (λ K b. k .course (make (treeSteps .makeCall) ∷ K) b ∙ makes-it text (treeSteps .makeCall) K (a .next) (afterName w₁ text b) (grown g b) (a .state) (λ p. refl)))
+
+-- ---- A sign.
+
+module _ (text : List ℕ) (w : Word) (s : State) (e : among (kindNo (w .kind)) (27 ∷ 28 ∷ 47 ∷ []) ≡ true) where
+  arrow-comes : (kindNo (w .kind) ≡ 47 → ⊥) → Seen text w → (K : Stack) (b : Built)
+      → runs text (ask stateAction ∷ K) w b s ≡ onTaken text w (keep 1 ∷ make (arrowStep (eqb (kindNo (w .kind)) 28)) ∷ K) b (afterWord true Level s)
+  arrow-comes m z K b =
+      let i = kindNo (w .kind) in
+      among-first-or i 27 (28 ∷ 47 ∷ []) e (λ q. goto-comes text w z b (countsOf s) q K ∙ ap (λ (j : ℕ). onTaken text w (keep 1 ∷ make (arrowStep (eqb j 28)) ∷ K) b (afterWord true Level s)) (sym q)) λ e₁.
+      among-first-or i 28 (47 ∷ []) e₁ (λ q. call-comes text w z b (countsOf s) q K ∙ ap (λ (j : ℕ). onTaken text w (keep 1 ∷ make (arrowStep (eqb j 28)) ∷ K) b (afterWord true Level s)) (sym q)) λ e₂.
+      among-first-or i 47 [] e₂ (λ q. absurd (m q)) (among-none i)
+
+  module _ {n : M.Counts} {acts : ℕ} {work : List ℕ} {a : Answer} (t : Took text w (afterWord true Level s) s a) where
+    pub sign-untaken : {i : ℕ} → (a .verdict ≡ Done → ⊥) → Acts (ask stateAction ∷ []) same text n w s acts work work (record { answer = a; actions = i })
+    sign-untaken m sc st =
+        let i = kindNo (w .kind) in
+        among-first-or i 27 (28 ∷ 47 ∷ []) e (λ q. reads-ended (ends-untaken t m (λ K. keep 1 ∷ make (treeSteps .makeGoto) ∷ K) (λ b. b) (λ K b. goto-comes text w (st .seen) b (countsOf s) q K))) λ e₁.
+        among-first-or i 28 (47 ∷ []) e₁ (λ q. reads-ended (ends-untaken t m (λ K. keep 1 ∷ make (treeSteps .makeCall) ∷ K) (λ b. b) (λ K b. call-comes text w (st .seen) b (countsOf s) q K))) λ e₂.
+        among-first-or i 47 [] e₂ (λ q. reads-ended (ends-untaken t m (λ K. make (treeSteps .makeReturn) ∷ K) (λ b. keepWord (L.sign 47 (positioned (w .at))) b) (λ K b. return-comes text w (st .seen) b (countsOf s) q K))) (among-none i)
+
+    module _ (d : a .verdict ≡ Done) {work′ : List ℕ} {r : Acted} where
+      pub sign-arrow : (kindNo (w .kind) ≡ 47 → ⊥) → {call : Bool} → call ≡ eqb (kindNo (w .kind)) 28 → Arrows call text n (a .next) (a .state) acts work work′ r → Acts (ask stateAction ∷ []) same text n w s acts work work′ r
+      sign-arrow m {call} q y sc st =
+          reads-ended (ends-through (y sc w s work st (counted-reached st (start-reached st) d (omega arith) t))
+          (λ K b. arrow-comes m (st .seen) K b ∙ took-done (t .done d) (st .seen) (keep 1 ∷ make (arrowStep (eqb (kindNo (w .kind)) 28)) ∷ K) b ∙ rw q))
+
+      pub sign-returns : kindNo (w .kind) ≡ 47 → Puts D.return (w .at) (a .next) (a .state) acts work work′ r → Acts (ask stateAction ∷ []) same text n w s acts work work′ r
+      unfolding expressionsIn nodesIn actionsIn actionsOf wordNo listNo
+      sign-returns q y sc st =
+          let g = T.return (positioned (w .at)) T.done in
+          let kept : Built → Built = λ b. keepWord (L.sign 47 (positioned (w .at))) b in
+          reads-ended (ends-with st (counted-reached st (start-reached st) d (omega arith) t) y g refl refl refl refl
+          (λ K b. return-comes text w (st .seen) b (countsOf s) q K ∙ took-done (t .done d) (st .seen) (make (treeSteps .makeReturn) ∷ K) (kept b)
+          ∙ makes-it text (treeSteps .makeReturn) K (a .next) (kept b) (grown g b) (a .state) (λ p. refl)))

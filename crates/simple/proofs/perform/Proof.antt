@@ -1,0 +1,40 @@
+use Rattle.course.proofs.Answers.{not-done}
+use Rattle.simple.proofs.SignLaws.{performs, unperformed}
+use borrow.Author.Needs.{needs}
+use Rattle.simple.proofs.perform.Statement.{statement}
+use Rattle.simple.proofs.perform.Tie as tie
+
+pass-requires : tie.Need-pass-requires
+pass-requires c κs = search needs
+
+enum-told : tie.Need-enum-told
+enum-told c = search needs
+
+returns : tie.Need-returns
+returns c =
+    unperformed (c .before .pass .ensures) (not-done (c .match .keys2))
+
+meaning-requires : tie.Need-meaning-requires
+meaning-requires c κs = search needs
+
+performing-requires : tie.Need-performing-requires
+performing-requires c κs = search needs
+
+put-requires : tie.Need-put-requires
+put-requires c κs = search needs
+
+returns-2 : tie.Need-returns-2
+returns-2 c =
+    performs (c .before .before .before .before .before .before .before .before .before .pass .ensures) (c .before .before .before .before .before .before .before .enum-told .given .1) (c .before .before .before .before .before .meaning .result) (c .before .before .before .before .before .meaning .ensures) (c .before .before .performing .ensures) (c .put .ensures)
+
+pub perform-spec : {M : Type 1} → statement M
+perform-spec =
+    tie.close
+    (tie.spec
+    pass-requires
+    enum-told
+    returns
+    meaning-requires
+    performing-requires
+    put-requires
+    returns-2)

@@ -1,0 +1,74 @@
+use borrow.Author.Needs.{needs}
+use Rattle.grammar.specs.Following.{among}
+use Prim.Native.Nat.{ℕ}
+use Rattle.course.proofs.Answers.{not-done}
+use mathlib.Core.List.{[], _∷_}
+use mathlib.Core.Path.{sym, ap, _∙_}
+use Rattle.simple.proofs.StoreLaws.{right-unread, sign-untaken, stores, unstored}
+use Rattle.simple.proofs.stores.store.Statement.{statement}
+use Rattle.simple.proofs.stores.store.Tie as tie
+
+number-requires : tie.Need-number-requires
+number-requires c κs = search needs
+
+signs-requires : tie.Need-signs-requires
+signs-requires c κs = search needs
+
+take-requires : tie.Need-take-requires
+take-requires c κs = search needs
+
+enum-told : tie.Need-enum-told
+enum-told c = search needs
+
+returns : tie.Need-returns
+returns c =
+    sign-untaken (c .before .before .before .before .before .before .args .left) (ap (λ (j : ℕ). among j (29 ∷ 16 ∷ [])) (sym (c .before .before .before .before .number .ensures)) ∙ sym (c .before .before .before .signs .ensures) ∙ c .before .before .if1 .taken) (c .before .take .ensures) (not-done (c .match .keys2))
+
+start-requires : tie.Need-start-requires
+start-requires c κs = search needs
+
+enum-told-2 : tie.Need-enum-told-2
+enum-told-2 c = search needs
+
+returns-2 : tie.Need-returns-2
+returns-2 c =
+    right-unread (c .before .before .before .before .before .before .before .before .before .before .args .left) (ap (λ (j : ℕ). among j (29 ∷ 16 ∷ [])) (sym (c .before .before .before .before .before .before .before .before .number .ensures)) ∙ sym (c .before .before .before .before .before .before .before .signs .ensures) ∙ c .before .before .before .before .before .before .if1 .taken) (c .before .before .before .before .before .take .ensures) (c .before .before .before .enum-told .given .1) (c .before .start .ensures .0) (c .before .start .ensures .1) (not-done (c .match2 .keys2))
+
+last-requires : tie.Need-last-requires
+last-requires c κs = search needs
+
+storing-requires : tie.Need-storing-requires
+storing-requires c κs = search needs
+
+put-requires : tie.Need-put-requires
+put-requires c κs = search needs
+
+returns-3 : tie.Need-returns-3
+returns-3 c =
+    stores (c .before .before .before .before .before .before .before .before .before .before .before .before .before .before .before .before .before .args .left) (ap (λ (j : ℕ). among j (29 ∷ 16 ∷ [])) (sym (c .before .before .before .before .before .before .before .before .before .before .before .before .before .before .before .number .ensures)) ∙ sym (c .before .before .before .before .before .before .before .before .before .before .before .before .before .before .signs .ensures) ∙ c .before .before .before .before .before .before .before .before .before .before .before .before .before .if1 .taken) (c .before .before .before .before .before .before .before .before .before .before .before .before .take .ensures) (c .before .before .before .before .before .before .before .before .before .before .enum-told .given .1) (c .before .before .before .before .before .before .before .before .start .ensures .0) (c .before .before .before .before .before .before .before .before .start .ensures .1) (c .before .before .before .before .before .before .enum-told2 .given .1) (c .before .before .before .before .before .before .before .before .before .before .before .before .before .before .before .number .ensures) (c .before .before .before .last .ensures) (c .before .before .storing .ensures) (c .put .ensures)
+
+refuse-requires : tie.Need-refuse-requires
+refuse-requires c κs = search needs
+
+returns-4 : tie.Need-returns-4
+returns-4 c =
+    unstored (c .before .before .before .before .before .args .left) (ap (λ (j : ℕ). among j (29 ∷ 16 ∷ [])) (sym (c .before .before .before .number .ensures)) ∙ sym (c .before .before .signs .ensures) ∙ c .before .if1 .left) (c .refuse .ensures)
+
+pub store-spec : {M : Type 1} → statement M
+store-spec =
+    tie.close
+    (tie.spec
+    number-requires
+    signs-requires
+    take-requires
+    enum-told
+    returns
+    start-requires
+    enum-told-2
+    returns-2
+    last-requires
+    storing-requires
+    put-requires
+    returns-3
+    refuse-requires
+    returns-4)
