@@ -1,10 +1,11 @@
 -- Arms: lists of their own, each behind a record.
 use mathlib.Core.Bool.{Bool, true, false}
 use mathlib.Core.List.{List, [], _∷_, _++_, append-nil}
-use mathlib.Core.Path.{_≡_, refl, sym, ap, _∙_, subst}
-use Prim.Native.Nat.{ℕ, suc, _+_, _-_, _*_, _<_, _≤_}
+use mathlib.Core.Path.{_≡_, refl, sym, ap, _∙_}
+use Prim.Native.Nat.{ℕ, _+_, _-_, _<_, _≤_}
 use native.Mathlib.Omega.{arith}
-use lib.ListN.{length}
+use borrow.Author.Tests.{eqb-false, eqb-true}
+use lib.Dec.{eqb}
 use Rattle.course.proofs.Ceilings.{few-counted}
 use Rattle.course.proofs.Saying.{makes-it}
 use Rattle.course.proofs.TakenWords.{took-done, took-refused}
@@ -17,22 +18,21 @@ use Rattle.course.specs.Taken.{Expected, Passed, Took, afterWord}
 use Rattle.grammar.specs.Conditionals.{joined-assoc}
 use Rattle.language.specs.Building.{Built, joined, listNo, withLists}
 use Rattle.language.specs.Declaring.{treeSteps}
-use Rattle.language.specs.Describe.{NotedAction, act, actionsIn, actionsOf, armsIn, expressionsIn, nodesIn}
+use Rattle.language.specs.Describe.{act, actionsIn, actionsOf, armsIn, expressionsIn, nodesIn}
 use Rattle.language.specs.Description as D
 use Rattle.language.specs.Encode.{actionBytes}
-use Rattle.language.specs.Machine.{ask, level, make, word}
+use Rattle.language.specs.Machine.{ask, make}
 use Rattle.language.specs.Naming.{Scope}
 use Rattle.language.specs.Tree as T
 use Rattle.language.specs.Tree.{Actions}
-use Rattle.language.specs.Words as L
 use Rattle.meanings.specs.declared.Counts.{Counts}
 use Rattle.phrases.proofs.StartLaws.{at-same}
 use Rattle.phrases.specs.Phrases.{atNesting, same}
 use Rattle.simple.proofs.Joining.{grown-two, written-then}
-use Rattle.simple.proofs.Keeping.{known-kept}
-use Rattle.simple.proofs.Standings.{few-states, standing-passed}
-use Rattle.simple.specs.Actions.{Acts, OthersKept, Paid, Reads, Standing, Written, grown}
+use Rattle.simple.proofs.Standings.{standing-passed}
+use Rattle.simple.specs.Actions.{Acts, Paid, Reads, Standing, grown}
 use Rattle.simple.specs.declared.Acted.{Acted}
+use Rattle.simple.specs.Leaves.{Puts}
 use Rattle.tables.specs.declared.Table.the-variants as Tb
 use Rattle.tables.specs.Rows.{Wrote}
 use Rattle.words.specs.declared.Position.{Position}
@@ -41,48 +41,22 @@ use Rattle.words.specs.Meaning.{positioned}
 use Rattle.actions.proofs.Laying.{first-kept, headed, laid-added, laid-written}
 use Rattle.actions.proofs.ListLaws.{at-level, level-same}
 use Rattle.actions.proofs.ListWords.{do-comes, else-comes, no-do}
-use Rattle.actions.specs.declared.Armed.{Armed}
+use Rattle.actions.proofs.Room.{few-actions, few-nodes, standing-acts, standing-kept}
 use Rattle.actions.specs.Laid.{Laid}
-use Rattle.actions.specs.Lists.{Arm, ArmRead, Arms, ArmsRead, Blank, Else, NextArm, Told, actionAsk, armStack, armsAsk, elseStack, listStack, ownStack, restAsk}
-
--- ---- Where reading stands.
-
-module _ {text : List ℕ} {sc : Scope} {n : Counts} {w : Word} {s : State} {acts : ℕ} {work : List ℕ} where
-  pub standing-kept : {work′ : List ℕ} → Standing text sc n w s acts work → OthersKept work work′ → length work′ ≡ 275296 → Standing text sc n w s acts work′
-  standing-kept {work′} st o l = record {
-    seen = st .seen;
-    short = st .short;
-    whole = l;
-    within = st .within;
-    known = known-kept work′ o (st .known);
-    facilities = st .facilities;
-    nodes = st .nodes;
-    actions = st .actions;
-  }
-
-  -- Another number of action records.
-  pub standing-acts : (m : ℕ) → Standing text sc n w s acts work → m ≤ 2 * s .counted → Standing text sc n w s m work
-  standing-acts m st h = record { seen = st .seen; short = st .short; whole = st .whole; within = st .within; known = st .known; facilities = st .facilities; nodes = st .nodes; actions = h }
-
-  -- There is room.
-  pub few-actions : Standing text sc n w s acts work → acts ≤ 4096
-  few-actions st = omega (arith, st .actions, few-counted (countsOf s) (st .within))
-
-  pub few-nodes : Standing text sc n w s acts work → s .nodes ≤ 15888
-  few-nodes st = omega (arith, st .nodes, few-counted (countsOf s) (st .within), few-states (countsOf s) (st .within))
+use Rattle.actions.specs.Lists.{Arm, ArmRead, Arms, ArmsRead, Else, NextArm, Told, armStack, armsAsk, elseStack, listStack, ownStack, restAsk}
 
 -- ---- One arm.
 
-module _ (q : Bool) {text : List ℕ} {n : Counts} {w : Word} {s : State} {acts : ℕ} {at : Position} {work work₁ : List ℕ} {f : Acted} (x : Blank acts at w s work work₁ f) where
+module _ (q : Bool) {text : List ℕ} {n : Counts} {w : Word} {s : State} {acts : ℕ} {at : Position} {work work₁ : List ℕ} {f : Acted} (x : Puts D.Action.broken at w s acts work work₁ f) where
   pub arm-full : (f .answer .verdict ≡ Done → ⊥) → Arm q text n w s acts work work₁ f
   arm-full m sc st = record { done = λ d. absurd (m d); refused = λ g d. absurd (x .refused g d); full = λ d. omega (arith, x .full d, few-actions st) }
 
   module _ (d₁ : f .answer .verdict ≡ Done) {work₂ : List ℕ} {r : Acted} (y₀ : Acts (listStack q) same text n w s (f .actions) work₁ work₂ r) where
     list-in : (sc : Scope) → Standing text sc n w s (acts + 1) work → Reads text sc n (listStack q) [] (same text) w s (acts + 1) work₁ work₂ r
     list-in sc st =
-        let a = x .done d₁ .2 in
-        let y : Acts (listStack q) same text n w s (acts + 1) work₁ work₂ r = rw (x .done d₁ .1) at y₀ in
-        y sc (standing-kept st (a .kept refl .tables) (a .whole refl))
+        let a = x .added d₁ in
+        let y : Acts (listStack q) same text n w s (acts + 1) work₁ work₂ r = rw (x .count d₁) at y₀ in
+        y sc (standing-kept st (a .kept refl .tables) (x .whole))
 
     begins : (K : Stack) (b : Built) → runs text (ownStack q ++ K) w b s ≡ runs text (listStack q ++ K) w (withLists b (T.done ∷ b .lists)) s
     begins K b = makes-it text (treeSteps .beginArm) (listStack q ++ K) w b (withLists b (T.done ∷ b .lists)) s (λ p. refl)
@@ -98,7 +72,7 @@ module _ (q : Bool) {text : List ℕ} {n : Counts} {w : Word} {s : State} {acts 
         let v = v₀ (omega (arith, few-actions st)) in
         let m : r .actions - acts - 1 ≡ actionsIn l = omega (arith, y .written .count) in
         let z : Laid (0 + expressionsIn l) ([] ++ nodesIn sc (s .nodes) l) (1 + actionsIn l) (act (D.arm (r .actions - acts - 1)) (positioned at) ∷ actionsOf sc (s .nodes) l) s acts work (r .answer .state) (r .actions) work₃ =
-        headed l (D.arm (r .actions - acts - 1)) (st .whole) (omega (arith, few-actions (y .standing))) (few-nodes (y .standing)) (laid-added s (x .done d₁ .2) (st .whole) (few-nodes st)) (y .written) v in
+        headed l (D.arm (r .actions - acts - 1)) (st .whole) (omega (arith, few-actions (y .standing))) (few-nodes (y .standing)) (laid-added s (x .added d₁) (st .whole) (few-nodes st)) (y .written) v in
         let e : act (D.arm (r .actions - acts - 1)) (positioned at) ∷ actionsOf sc (s .nodes) l ≡ act (D.arm (actionsIn l)) D.nowhere ∷ (actionsOf sc (s .nodes) l ++ []) = rw (m, p, append-nil (actionsOf sc (s .nodes) l)) in
         record {
           done = λ u. record {
@@ -193,24 +167,27 @@ module _ (q : Bool) {text : List ℕ} {n : Counts} {w : Word} {s : State} {acts 
       y = made-arms q (rw (at-level p g ∙ level-same p) at (y₀ sc (rw (at-level p g) (standing-passed false Level st p))))
 
 -- Arms behind arms.
+pub paid-arms : {s s₁ s₂ : State} (acts : ℕ) {acts₁ acts₂ : ℕ} → Paid s (acts + 1) s₁ acts₁ → Paid s₁ (acts₁ + 1) s₂ acts₂ → Paid s (acts + 1) s₂ acts₂
+paid-arms acts x y = record {
+  facilities = y .facilities ∙ x .facilities;
+  operations = y .operations ∙ x .operations;
+  states = y .states ∙ x .states;
+  known = y .known ∙ x .known;
+  nesting = y .nesting ∙ x .nesting;
+  counted = omega (arith, x .counted, y .counted);
+  nodes = omega (arith, x .nodes, y .nodes);
+  actions = omega (arith, x .actions, y .actions);
+}
+
 arms-then : {j k : ℕ} {P Q R : Stack} {text : List ℕ} {sc : Scope} {n : Counts} {w : Word} {s : State} {acts : ℕ} {work work₁ work₂ : List ℕ} {r r₂ : Acted} → ArmsRead j P Q text sc n w s acts work work₁ r
     → ArmsRead k Q R text sc n (r .answer .next) (r .answer .state) (r .actions) work₁ work₂ r₂ → (m : ℕ) → m ≡ j + k → ArmsRead m P R text sc n w s acts work work₂ r₂
-arms-then {j} {k} {r = r} x y m e = record {
+arms-then {j} {k} {acts = acts} {r = r} x y m e = record {
   tree = joined (x .tree) (y .tree);
   arms = λ t. ap armsIn (joined-assoc (x .tree) (y .tree) t) ∙ x .arms (joined (y .tree) t) ∙ ap (λ (v : ℕ). j + v) (y .arms t) ∙ omega (arith, e);
   counted = omega (arith, x .counted, y .counted);
   course = λ K b. x .course K b ∙ y .course K (grown (x .tree) b) ∙ rw (grown-two (x .tree) (y .tree) b);
   written = written-then (x .written) (y .written);
-  paid = record {
-    facilities = y .paid .facilities ∙ x .paid .facilities;
-    operations = y .paid .operations ∙ x .paid .operations;
-    states = y .paid .states ∙ x .paid .states;
-    known = y .paid .known ∙ x .paid .known;
-    nesting = y .paid .nesting ∙ x .paid .nesting;
-    counted = omega (arith, x .paid .counted, y .paid .counted);
-    nodes = omega (arith, x .paid .nodes, y .paid .nodes);
-    actions = omega (arith, x .paid .actions, y .paid .actions);
-  };
+  paid = paid-arms acts (x .paid) (y .paid);
   standing = y .standing;
 }
 
@@ -223,13 +200,13 @@ pub arming-begin : (q : Bool) {text : List ℕ} {n : Counts} {w : Word} {s : Sta
 arming-begin q x sc st = made-arms q (x sc st)
 
 module _ (q : Bool) {text : List ℕ} {n : Counts} {w : Word} {s : State} {acts : ℕ} {work : List ℕ} {count : ℕ} {r : Acted} {work′ : List ℕ} (g : Arming q text n w s acts work count r work′) where
-  pub arming-more : r .answer .verdict ≡ Done → kindNo (r .answer .next .kind) ≡ 31 → {i : State} → i ≡ atNesting (r .answer .state) (s .nesting) → {work₂ : List ℕ} {r₂ : Acted} → NextArm q text n (r .answer .next) i (r .actions) work′ work₂ r₂
+  pub arming-more : r .answer .verdict ≡ Done → {z : Bool} → z ≡ eqb (kindNo (r .answer .next .kind)) 31 → z ≡ true → {i : State} → i ≡ atNesting (r .answer .state) (s .nesting) → {work₂ : List ℕ} {r₂ : Acted} → NextArm q text n (r .answer .next) i (r .actions) work′ work₂ r₂
       → {m : ℕ} → m ≡ count + 1 → Arming q text n w s acts work m r₂ work₂
-  arming-more d e {i} h {work₂} {r₂} y₀ {m} f sc st =
+  arming-more d e₁ e₂ {i} h {work₂} {r₂} y₀ {m} f sc st =
       let x = g sc st .done d in
       let j : i ≡ r .answer .state = h ∙ at-same (r .answer .state) (s .nesting) (x .paid .nesting) in
       let y₁ : NextArm q text n (r .answer .next) (r .answer .state) (r .actions) work′ work₂ r₂ = rw j at y₀ in
-      let y = y₁ e sc (standing-acts (r .actions + 1) (x .standing) (omega (arith, x .paid .actions, st .actions))) in
+      let y = y₁ (eqb-true (kindNo (r .answer .next .kind)) 31 (sym e₁ ∙ e₂)) sc (standing-acts (r .actions + 1) (x .standing) (omega (arith, x .paid .actions, st .actions))) in
       record {
         done = λ u. arms-then x (y .done u) m f;
         refused = λ v u K b. x .course K b ∙ y .refused v u K (grown (x .tree) b);
@@ -239,8 +216,8 @@ module _ (q : Bool) {text : List ℕ} {n : Counts} {w : Word} {s : State} {acts 
   pub arms-not : (r .answer .verdict ≡ Done → ⊥) → Arms q text n w s acts work work′ (record { acted = r; count = count })
   arms-not m sc st = let y = g sc st in record { done = λ d. absurd (m d); refused = y .refused; full = y .full }
 
-  pub arms-end : (kindNo (r .answer .next .kind) ≡ 31 → ⊥) → Arms q text n w s acts work work′ (record { acted = r; count = count })
-  arms-end m sc st =
+  pub arms-end : {z : Bool} → z ≡ eqb (kindNo (r .answer .next .kind)) 31 → z ≡ false → Arms q text n w s acts work work′ (record { acted = r; count = count })
+  arms-end e₁ e₂ sc st =
       let y = g sc st in
       record {
         done = λ d. let z = y .done d in
@@ -248,7 +225,7 @@ module _ (q : Bool) {text : List ℕ} {n : Counts} {w : Word} {s : State} {acts 
               tree = z .tree;
               arms = z .arms;
               counted = z .counted;
-              course = λ K b. z .course K b ∙ no-do text (r .answer .next) (z .standing .seen) (grown (z .tree) b) (countsOf (r .answer .state)) m q K;
+              course = λ K b. z .course K b ∙ no-do text (r .answer .next) (z .standing .seen) (grown (z .tree) b) (countsOf (r .answer .state)) (eqb-false (kindNo (r .answer .next .kind)) 31 (sym e₁ ∙ e₂)) q K;
               written = z .written;
               paid = z .paid;
               standing = z .standing;

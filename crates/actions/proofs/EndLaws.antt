@@ -1,15 +1,14 @@
 -- The end of a conditional: its last word, its action, and all that it wrote.
-use mathlib.Core.Bool.{Bool, true, false}
+use mathlib.Core.Bool.{Bool}
 use mathlib.Core.List.{List, [], _∷_, _++_, append-nil}
-use mathlib.Core.Path.{_≡_, refl, sym, ap, _∙_}
-use Prim.Native.Nat.{ℕ, suc, _+_, _-_, _*_, _<_, _≤_}
+use mathlib.Core.Path.{_≡_, ap, _∙_}
+use Prim.Native.Nat.{ℕ, suc, _+_, _-_, _≤_}
 use native.Mathlib.Omega.{arith}
 use lib.ListN.{length}
 use Rattle.course.proofs.Saying.{makes-it}
 use Rattle.course.specs.declared.Answer.{Answer}
 use Rattle.course.specs.declared.Bearing.the-variants.{Closes}
 use Rattle.course.specs.declared.State.{State}
-use Rattle.course.specs.declared.Verdict.the-variants.{Done}
 use Rattle.course.specs.Course.{Stack, counts5, countsOf, runs}
 use Rattle.course.specs.Taken.{Expected}
 use Rattle.language.specs.Building.{Built}
@@ -25,7 +24,6 @@ use Rattle.meanings.specs.declared.Counts as M
 use Rattle.phrases.specs.Phrases.{same}
 use Rattle.simple.proofs.Standings.{standing-after}
 use Rattle.simple.specs.Actions.{Paid, Reads, Standing, Written, frontOf, grown}
-use Rattle.simple.specs.declared.Acted.{Acted}
 use Rattle.words.specs.declared.Word.{Word}
 use Rattle.actions.proofs.Laying.{laid-written}
 use Rattle.actions.specs.Laid.{Laid}

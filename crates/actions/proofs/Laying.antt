@@ -15,12 +15,12 @@ use Rattle.language.specs.Naming.{Scope}
 use Rattle.language.specs.Tree.{Actions, Expression}
 use Rattle.language.specs.Words as L
 use Rattle.noted.specs.Noted.{placeBytes}
-use Rattle.phrases.proofs.PartLaws.{with-nothing}
 use Rattle.records.proofs.ActionLaws.{action-length}
 use Rattle.records.proofs.ByteLaws.{placed-whole}
 use Rattle.records.specs.Placed.{placed}
 use Rattle.simple.proofs.Joining.{bytes-append}
 use Rattle.simple.proofs.Keeping.{front-kept, others-other, rows-other}
+use Rattle.simple.proofs.ReachedLaws.{front-held, nodes-none, other-held}
 use Rattle.simple.specs.Actions.{OthersKept, Written, actionBesides, actionRecords, frontOf}
 use Rattle.tables.proofs.OtherRecords.{place-length}
 use Rattle.tables.proofs.RowLaws.{kept-more}
@@ -64,6 +64,17 @@ laid-then {k} {ns} {m} {xs} {s} {acts} {work} {k₁ = k₁} {ns₁} {m₁} {xs�
   tables = λ u e n h. y .tables u e n h ∙ x .tables u e n h;
 }
 
+pub laid-as : {k k′ : ℕ} {ns ns′ : List Noted} {m : ℕ} {xs : List NotedAction} {s : State} {acts : ℕ} {work : List ℕ} {s′ : State} {acts′ : ℕ} {work′ : List ℕ} → k ≡ k′ → ns ≡ ns′ → Laid k ns m xs s acts work s′ acts′ work′
+    → Laid k′ ns′ m xs s acts work s′ acts′ work′
+laid-as {s = s} {work = work} e f x = record {
+  nodes = x .nodes ∙ ap (λ (n : ℕ). s .nodes + n) e;
+  expressions = x .expressions ∙ ap (withNodes (frontOf (s .nodes) work)) f;
+  count = x .count;
+  records = x .records;
+  places = x .places;
+  tables = x .tables;
+}
+
 -- ---- An action's record.
 
 bytes-one : (f : NotedAction → List ℕ) (x : NotedAction) → f x ≡ concat f (x ∷ [])
@@ -74,7 +85,7 @@ pub laid-added : {acts : ℕ} {a : D.Action} {at : Position} {work work′ : Lis
     → Laid 0 [] 1 (act a (positioned at) ∷ []) s acts work s (acts + 1) work′
 laid-added {acts} {a} {at} {work} {work′} s x l h = record {
   nodes = omega arith;
-  expressions = front-kept work work′ l (x .whole refl) (x .kept refl .front) (s .nodes) h ∙ with-nothing (frontOf (s .nodes) work);
+  expressions = front-kept work work′ l (x .whole refl) (x .kept refl .front) (s .nodes) h ∙ sym (nodes-none (frontOf (s .nodes) work));
   count = refl;
   records = x .records refl ∙ ap (λ (v : List ℕ). rows T.Actions acts work ++ v) (bytes-one (λ v. actionBytes (v .action)) (act a (positioned at)));
   places = x .places refl ∙ ap (λ (v : List ℕ). rows T.ActionPlaces acts work ++ v) (bytes-one (λ v. placeBytes 0 (v .at)) (act a (positioned at)));
@@ -82,14 +93,6 @@ laid-added {acts} {a} {at} {work} {work′} s x l h = record {
 }
 
 -- ---- An expression's records.
-
-pub other-held : (n m : ℕ) (w w′ : List ℕ) (ns : List Noted) → held m w′ ≡ withNodes (held n w) ns → otherIn w′ ≡ otherIn w
-unfolding held withNodes
-other-held n m w w′ ns e = ap (λ (h : Held). h .other) e
-
-front-held : (n m : ℕ) (w w′ : List ℕ) (ns : List Noted) → held m w′ ≡ withNodes (held n w) ns → frontOf m w′ ≡ withNodes (frontOf n w) ns
-unfolding frontOf withNodes
-front-held n m w w′ ns e = ap (λ (h : Held). record { nodes = h .nodes; places = h .places; other = [] }) e
 
 no-bytes : (f : NotedAction → List ℕ) (xs : List ℕ) → xs ≡ xs ++ concat f []
 unfolding concat

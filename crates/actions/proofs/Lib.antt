@@ -1,6 +1,12 @@
 pub mod ArmLaws
+pub mod CaseLaws
+pub mod ConditionLaws
 pub mod EndLaws
+pub mod IfLaws
 pub mod Laying
 pub mod ListLaws
 pub mod ListWords
+pub mod PlainLaws
 pub mod Rewriting
+pub mod Room
+pub mod Starts

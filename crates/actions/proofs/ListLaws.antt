@@ -1,9 +1,11 @@
 -- Lists of actions: one action, and another behind each comma.
 use mathlib.Core.Bool.{Bool, true, false}
-use mathlib.Core.List.{List, [], _∷_, _++_}
-use mathlib.Core.Path.{_≡_, refl, sym, ap, _∙_, subst}
-use Prim.Native.Nat.{ℕ, _+_, _*_, _≤_}
+use mathlib.Core.List.{List, [], _∷_}
+use mathlib.Core.Path.{_≡_, sym, ap, _∙_}
+use Prim.Native.Nat.{ℕ, _+_, _≤_}
 use native.Mathlib.Omega.{arith}
+use borrow.Author.Tests.{eqb-false, eqb-true}
+use lib.Dec.{eqb}
 use Rattle.course.proofs.Ceilings.{few-counted}
 use Rattle.course.proofs.TakenWords.{took-done, took-refused}
 use Rattle.course.specs.declared.Answer.{Answer}
@@ -111,9 +113,9 @@ going-begin q {text} {n} {w} {s} {acts} {work} {work′} {r} x = record { reads 
         }
 
 module _ {q : Bool} {text : List ℕ} {n : Counts} {w : Word} {s : State} {acts : ℕ} {work : List ℕ} {count : ℕ} {r : Acted} {work′ : List ℕ} (g : Going q text n w s acts work count r work′) where
-  pub going-more : r .answer .verdict ≡ Done → kindNo (r .answer .next .kind) ≡ 9 → {i : State} → i ≡ atNesting (r .answer .state) (s .nesting) → {work₂ : List ℕ} {r₂ : Acted} → Another q text n (r .answer .next) i (r .actions) work′ work₂ r₂
+  pub going-more : r .answer .verdict ≡ Done → {z : Bool} → z ≡ eqb (kindNo (r .answer .next .kind)) 9 → z ≡ true → {i : State} → i ≡ atNesting (r .answer .state) (s .nesting) → {work₂ : List ℕ} {r₂ : Acted} → Another q text n (r .answer .next) i (r .actions) work′ work₂ r₂
       → {m : ℕ} → m ≡ count + 1 → Going q text n w s acts work m r₂ work₂
-  going-more d e {i} h {work₂} {r₂} y₀ {m} f = record { reads = λ sc st. reads-then (first sc st) (next sc st); counted = λ sc st u. omega (arith, f, g .counted sc st d, counts-one (next sc st .done u)) }
+  going-more d e₁ e₂ {i} h {work₂} {r₂} y₀ {m} f = record { reads = λ sc st. reads-then (first sc st) (next sc st); counted = λ sc st u. omega (arith, f, g .counted sc st d, counts-one (next sc st .done u)) }
     where
       first : (sc : Scope) (st : Standing text sc n w s acts work) → ActionsRead text sc n (listStack q) (ask (moreAsk q) ∷ []) (same text) w s acts work work′ r
       first sc st = g .reads sc st .done d
@@ -122,19 +124,19 @@ module _ {q : Bool} {text : List ℕ} {n : Counts} {w : Word} {s : State} {acts 
       next sc st =
           let j : i ≡ r .answer .state = h ∙ at-same (r .answer .state) (s .nesting) (first sc st .paid .nesting) in
           let y : Another q text n (r .answer .next) (r .answer .state) (r .actions) work′ work₂ r₂ = rw j at y₀ in
-          y e sc (first sc st .standing)
+          y (eqb-true (kindNo (r .answer .next .kind)) 9 (sym e₁ ∙ e₂)) sc (first sc st .standing)
 
   pub list-not : (r .answer .verdict ≡ Done → ⊥) → Acts (listStack q) same text n w s acts work work′ r
   list-not m sc st = reads-not (g .reads sc st) m []
 
-  pub list-ends : (kindNo (r .answer .next .kind) ≡ 9 → ⊥) → Acts (listStack q) same text n w s acts work work′ r
-  list-ends m sc st =
+  pub list-ends : {z : Bool} → z ≡ eqb (kindNo (r .answer .next .kind)) 9 → z ≡ false → Acts (listStack q) same text n w s acts work work′ r
+  list-ends e₁ e₂ sc st =
       let y = g .reads sc st in
       record {
         done = λ d. let z = y .done d in
             record {
               tree = z .tree;
-              course = λ K b. z .course K b ∙ no-comma text (r .answer .next) (z .standing .seen) (grown (z .tree) b) (countsOf (r .answer .state)) m q K;
+              course = λ K b. z .course K b ∙ no-comma text (r .answer .next) (z .standing .seen) (grown (z .tree) b) (countsOf (r .answer .state)) (eqb-false (kindNo (r .answer .next .kind)) 9 (sym e₁ ∙ e₂)) q K;
               written = z .written;
               paid = z .paid;
               standing = z .standing;

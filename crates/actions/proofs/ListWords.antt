@@ -1,17 +1,17 @@
 -- The machine's words of lists of actions, of conditionals and of their arms.
 use mathlib.Core.Bool.{Bool, true, false}
 use mathlib.Core.List.{List, [], _∷_, _++_}
-use mathlib.Core.Path.{_≡_, refl, sym, ap, _∙_}
+use mathlib.Core.Path.{_≡_}
 use Prim.Native.Nat.{ℕ, suc}
 use native.Mathlib.Omega.{arith}
 use borrow.Author.Tests.{ne-eqb}
 use Rattle.course.proofs.Looking.{View, begun, ended, name-ahead, nameWord, sign-ahead, view}
 use Rattle.course.proofs.TakenWords.{onTaken, taken-on}
 use Rattle.course.specs.Course.{Seen, Stack, ahead, behind, kindNo, runsOn}
-use Rattle.grammar.specs.Following.{among}
+use Rattle.grammar.specs.Following.{among, among-first, among-rest}
 use Rattle.language.specs.Building.{Built, keepWord}
 use Rattle.language.specs.Declaring.{treeSteps}
-use Rattle.language.specs.Machine.{Counts, Parsed, ask, choose, closes, expression, feed, finish, level, make, operationName, refused, run, stateName, tallied, word}
+use Rattle.language.specs.Machine.{Counts, Parsed, ask, choose, closes, expression, feed, finish, level, make, refused, run, tallied, word}
 use Rattle.language.specs.Sections.{ruleOf}
 use Rattle.language.specs.Words as L
 use Rattle.language.specs.Words.{fault}
@@ -19,7 +19,7 @@ use Rattle.operands.proofs.TermWords.{countsAfter}
 use Rattle.phrases.specs.Phrases.{choiceWord}
 use Rattle.words.specs.declared.Word.{Word}
 use Rattle.words.specs.Meaning.{positioned}
-use Rattle.actions.specs.Lists.{actionAsk, armsAsk, armStack, branchStack, elseStack, moreAsk, ownStack, restAsk, signOf}
+use Rattle.actions.specs.Lists.{actionAsk, armsAsk, armStack, branchStack, elseStack, moreAsk, nameAsk, ownStack, restAsk, signOf}
 
 -- What is still to come behind the condition.
 abbrev pub conditionStack : Bool → Bool → Stack
@@ -97,13 +97,10 @@ module _ (text : List ℕ) (w : Word) (z : Seen text w) (b : Built) (c : Counts)
 
   -- ---- Names, and what begins no action.
 
-  pub name-operates : k ≡ 1 → (K : Stack) → on (ask (actionAsk false) ∷ K) ≡ onTaken text w (ask operationName ∷ K) (keepWord (nameWord text w) b) c
+  pub name-comes : k ≡ 1 → (q : Bool) (K : Stack) → on (ask (actionAsk q) ∷ K) ≡ onTaken text w (ask (nameAsk q) ∷ K) (keepWord (nameWord text w) b) c
   unfolding runsOn run feed choose ruleOf tallied
-  name-operates e K = rw (name-ahead text w z e) (taken-on text at _ (behind text w) _ _)
-
-  pub name-controls : k ≡ 1 → (K : Stack) → on (ask (actionAsk true) ∷ K) ≡ onTaken text w (ask stateName ∷ K) (keepWord (nameWord text w) b) c
-  unfolding runsOn run feed choose ruleOf tallied
-  name-controls e K = rw (name-ahead text w z e) (taken-on text at _ (behind text w) _ _)
+  name-comes e false K = rw (name-ahead text w z e) (taken-on text at _ (behind text w) _ _)
+  name-comes e true K = rw (name-ahead text w z e) (taken-on text at _ (behind text w) _ _)
 
   pub no-operation : (k ≡ 1 → ⊥) → (k ≡ 33 → ⊥) → (k ≡ 30 → ⊥) → (K : Stack) → on (ask (actionAsk false) ∷ K) ≡ refused (fault at 3)
   unfolding runsOn run feed finish choose ruleOf
@@ -113,10 +110,14 @@ module _ (text : List ℕ) (w : Word) (z : Seen text w) (b : Built) (c : Counts)
       go (ended x y e) = rw (x, y)
       go (begun v x e y) = rw (x, e, ne-eqb k 1 n₁, ne-eqb k 33 n₂, ne-eqb k 30 n₃, y)
 
-  pub no-control : (k ≡ 1 → ⊥) → (k ≡ 27 → ⊥) → (k ≡ 28 → ⊥) → (k ≡ 47 → ⊥) → (k ≡ 33 → ⊥) → (k ≡ 30 → ⊥) → (K : Stack) → on (ask (actionAsk true) ∷ K) ≡ refused (fault at 3)
+  pub no-control : (k ≡ 1 → ⊥) → among k (27 ∷ 28 ∷ 47 ∷ []) ≡ false → (k ≡ 33 → ⊥) → (k ≡ 30 → ⊥) → (K : Stack) → on (ask (actionAsk true) ∷ K) ≡ refused (fault at 3)
   unfolding runsOn run feed finish choose ruleOf
-  no-control n₁ n₂ n₃ n₄ n₅ n₆ K = go (view text w z)
+  no-control n₁ a n₂ n₃ K = go (view text w z)
     where
+      a₁ : among k (28 ∷ 47 ∷ []) ≡ false
+      a₁ = among-rest k 27 (28 ∷ 47 ∷ []) a
+
       go : View text w → on (ask (actionAsk true) ∷ K) ≡ refused (fault at 3)
       go (ended x y e) = rw (x, y)
-      go (begun v x e y) = rw (x, e, ne-eqb k 1 n₁, ne-eqb k 27 n₂, ne-eqb k 28 n₃, ne-eqb k 47 n₄, ne-eqb k 33 n₅, ne-eqb k 30 n₆, y)
+      go (begun v x e y) =
+          rw (x, e, ne-eqb k 1 n₁, among-first k 27 (28 ∷ 47 ∷ []) a, among-first k 28 (47 ∷ []) a₁, among-first k 47 [] (among-rest k 28 (47 ∷ []) a₁), ne-eqb k 33 n₂, ne-eqb k 30 n₃, y)

@@ -13,18 +13,17 @@ use Rattle.language.specs.Declaring.{treeSteps}
 use Rattle.language.specs.Describe.{act, armsIn, expressionSize, nodesOf}
 use Rattle.language.specs.Description as D
 use Rattle.language.specs.Encode.{actionBytes}
-use Rattle.language.specs.Kinds.{comma, doWord, endCaseWord, endIfWord}
-use Rattle.language.specs.Machine.{Ask, ask, closes, make, operationAction, operationArms, operationIfRest, operationMore, refused, stateAction, stateArms, stateIfRest, stateMore, word}
+use Rattle.language.specs.Kinds.{aName, caseWord, comma, doWord, endCaseWord, endIfWord, ifWord}
+use Rattle.language.specs.Machine.{Ask, ask, closes, make, operationAction, operationArms, operationIfRest, operationMore, operationName, refused, stateAction, stateArms, stateIfRest, stateMore, stateName, word}
 use Rattle.language.specs.Naming.{Scope}
 use Rattle.language.specs.Tree as T
 use Rattle.language.specs.Tree.{Actions, Expression}
 use Rattle.language.specs.Words as L
 use Rattle.meanings.specs.declared.Counts.{Counts}
 use Rattle.noted.specs.Noted.{placeBytes}
-use Rattle.phrases.specs.Phrases.{choiceWord, same, stayed}
+use Rattle.phrases.specs.Phrases.{choiceWord, same}
 use Rattle.simple.specs.Actions.{Acts, Paid, Reads, Standing, Written, grown}
 use Rattle.simple.specs.declared.Acted.{Acted}
-use Rattle.tables.specs.Actions.{ActionAdded}
 use Rattle.tables.specs.declared.Table.the-variants as Tb
 use Rattle.tables.specs.Rows.{Wrote}
 use Rattle.words.specs.declared.Fault.{Fault}
@@ -51,6 +50,10 @@ restAsk true = stateIfRest
 abbrev pub armsAsk : Bool → Ask
 armsAsk false = operationArms
 armsAsk true = stateArms
+
+abbrev pub nameAsk : Bool → Ask
+nameAsk false = operationName
+nameAsk true = stateName
 
 -- A list; a list of its own; an arm of CASE and those behind it.
 abbrev pub listStack : Bool → Stack
@@ -118,6 +121,20 @@ Arms q text n w s acts work work′ r =
     (sc : Scope) → Standing text sc n w s (acts + 1) work
     → Told text (armStack q) w s (r .acted .answer) (ArmsRead (r .count) (armStack q) [] text sc n w s acts work work′ (r .acted))
 
+-- An action that begins with a name.
+abbrev pub Named : Bool → List ℕ → Counts → Word → State → ℕ → List ℕ → List ℕ → Acted → Type 0
+Named q text n w s acts work work′ r = kindNo (w .kind) ≡ aName → Acts (ask (actionAsk q) ∷ []) same text n w s acts work work′ r
+
+-- An action of a state that begins with no name and is no conditional.
+abbrev pub Signed : List ℕ → Counts → Word → State → ℕ → List ℕ → List ℕ → Acted → Type 0
+Signed text n w s acts work work′ r =
+    (kindNo (w .kind) ≡ aName → ⊥) → (kindNo (w .kind) ≡ ifWord → ⊥) → (kindNo (w .kind) ≡ caseWord → ⊥) → Acts (ask stateAction ∷ []) same text n w s acts work work′ r
+
+-- An action that is no conditional.
+abbrev pub Plain : Bool → List ℕ → Counts → Word → State → ℕ → List ℕ → List ℕ → Acted → Type 0
+Plain q text n w s acts work work′ r =
+    (kindNo (w .kind) ≡ ifWord → ⊥) → (kindNo (w .kind) ≡ caseWord → ⊥) → Acts (ask (actionAsk q) ∷ []) same text n w s acts work work′ r
+
 -- ---- Conditionals.
 
 -- What is still to come behind the word before the first arm.
@@ -164,12 +181,6 @@ Conditional q case text n w s acts work work′ r =
     kindNo (w .kind) ≡ choiceWord case → Acts (ask (actionAsk q) ∷ []) same text n w s acts work work′ r
 
 -- ---- Records.
-
--- A record that is to be written again stands behind the others.
-pub record Blank (acts : ℕ) (at : Position) (next : Word) (s : State) (work work′ : List ℕ) (r : Acted) : Type 0 where
-  pub done : r .answer .verdict ≡ Vd.Done → (r .answer ≡ stayed s next) × (r .actions ≡ acts + 1) × ActionAdded acts D.Action.broken at work work′ true
-  pub refused : (f : Fault) → r .answer .verdict ≡ Vd.Refused f → ⊥
-  pub full : r .answer .verdict ≡ Vd.Full → 4352 ≤ acts
 
 -- The record of IF, and the place of its arm, which is that of IF.
 pub record OneBranch (acts arm condition count : ℕ) (at : Position) (work work′ : List ℕ) : Type 0 where

@@ -1,10 +1,373 @@
 // Lists of actions and conditionals (the manual, 7.1 and 8.2), read as the machine of the grammar reads them.
+use course::Bearing;
+use course::State;
+use course::Verdict;
+use course::kinds;
+use course::taking;
+use levels::Level;
+use meanings::Counts;
+use records::actions::Action;
 use simple::Acted;
+use words::Word;
+ghost use mathlib.Core.Bool.{true, false};
+ghost use mathlib.Core.List.{[], _∷_};
+ghost use Rattle.language.specs.Machine.{ask};
+ghost use Rattle.meanings.specs.declared.Counts as M;
+ghost use Rattle.phrases.specs.Phrases.{same};
+ghost use Rattle.simple.specs.Actions.{Acts};
+ghost use Rattle.actions.specs.Lists.{Another, Arm, Arms, Condition, Conditional, Deeper, Else, Named, NextArm, Plain, Signed, actionAsk, listStack};
 
-pub mod leaves;
+mod leaves;
 
 // What became of the arms of CASE, and how many there are.
 pub struct Armed {
     pub acted: Acted,
     pub count: u16,
+}
+
+// A list of actions, in an operation or in a state. Each action counts a word, of which there are at most 2,048.
+pub fn list(
+    s: State,
+    in_state: bool,
+    text: &[u8],
+    w: Word,
+    work: &mut [u8; 275296],
+    n: Counts,
+    acts: u16,
+) -> Acted
+    ensures { λ r. ⌜ Acts (listStack in_state) same (now (text .entry)) n w s acts (now (work .entry)) (now (work .exit)) r ⌝ }
+{
+    let mut read = action(s, in_state, text, w, work, n, acts);
+    let mut count: u16 = 1;
+    while count < 2049 {
+        let answer = read.answer;
+        let verdict = answer.verdict;
+        let Verdict::Done = verdict else {
+            return read;
+        };
+        let next = answer.next;
+        if leaves::is(next, kinds::COMMA) {
+            let state = phrases::leaves::at(answer.state, s.nesting);
+            read = another(state, in_state, text, next, work, n, read.actions);
+            count += 1;
+        } else {
+            return read;
+        }
+    }
+    read
+}
+
+// A comma and the action behind it.
+fn another(
+    s: State,
+    in_state: bool,
+    text: &[u8],
+    w: Word,
+    work: &mut [u8; 275296],
+    n: Counts,
+    acts: u16,
+) -> Acted
+    ensures { λ r. ⌜ Another in_state (now (text .entry)) n w s acts (now (work .entry)) (now (work .exit)) r ⌝ }
+{
+    let comma = taking::take(text, w, s, false, Bearing::Level);
+    let verdict = comma.verdict;
+    let Verdict::Done = verdict else {
+        return leaves::answered(comma, acts);
+    };
+    let state = phrases::leaves::at(comma.state, s.nesting);
+    action(state, in_state, text, comma.next, work, n, acts)
+}
+
+// An action.
+pub fn action(
+    s: State,
+    in_state: bool,
+    text: &[u8],
+    w: Word,
+    work: &mut [u8; 275296],
+    n: Counts,
+    acts: u16,
+) -> Acted
+    ensures { λ r. ⌜ Acts (ask (actionAsk in_state) ∷ []) same (now (text .entry)) n w s acts (now (work .entry)) (now (work .exit)) r ⌝ }
+{
+    let found = w.kind;
+    let kind = kinds::number(found);
+    if kind == kinds::IF {
+        return when(s, in_state, text, w, work, n, acts);
+    }
+    if kind == kinds::CASE {
+        return cases(s, in_state, text, w, work, n, acts);
+    }
+    plain(s, in_state, text, w, work, n, acts)
+}
+
+// A conditional up to its first arm. Its record is written again when those that belong to it are counted.
+fn condition(
+    s: State,
+    case: bool,
+    text: &[u8],
+    w: Word,
+    work: &mut [u8; 275296],
+    acts: u16,
+) -> Acted
+    ensures { λ r. ⌜ ((m : M.Counts) → Condition case (now (text .entry)) m w s acts (now (work .entry)) (now (work .exit)) r) × Deeper s (r .answer) ⌝ }
+{
+    let opened = taking::take(text, w, s, true, Bearing::Opens);
+    let verdict = opened.verdict;
+    let Verdict::Done = verdict else {
+        return leaves::answered(opened, acts);
+    };
+    let state = opened.state;
+    let read = phrases::start(state, Level::Expression, text, opened.next, work);
+    let verdict = read.verdict;
+    let Verdict::Done = verdict else {
+        return leaves::answered(read, acts);
+    };
+    let kind = phrases::leaves::first_word(case);
+    let word = taking::expect(text, read.next, read.state, kind, Bearing::Level);
+    let verdict = word.verdict;
+    let Verdict::Done = verdict else {
+        return leaves::answered(word, acts);
+    };
+    let inner = phrases::leaves::at(word.state, state.nesting);
+    let at = w.at;
+    simple::leaves::put(inner, Action::Broken, at, word.next, work, acts)
+}
+
+// IF, with or without ELSE.
+fn when(
+    s: State,
+    in_state: bool,
+    text: &[u8],
+    w: Word,
+    work: &mut [u8; 275296],
+    n: Counts,
+    acts: u16,
+) -> Acted
+    ensures { λ r. ⌜ Conditional in_state false (now (text .entry)) n w s acts (now (work .entry)) (now (work .exit)) r ⌝ }
+{
+    let head = condition(s, false, text, w, work, acts);
+    let read = head.answer;
+    let verdict = read.verdict;
+    let Verdict::Done = verdict else {
+        return head;
+    };
+    let first = arm(read.state, in_state, text, read.next, work, n, head.actions);
+    let then = first.answer;
+    let verdict = then.verdict;
+    let Verdict::Done = verdict else {
+        return first;
+    };
+    if leaves::is(then.next, kinds::END_IF) {
+        let end = leaves::end_if(text, then);
+        leaves::when_again(work, acts, head.actions, read.state.nodes, first.actions, w);
+        return leaves::answered(end, first.actions);
+    }
+    let state = phrases::leaves::at(then.state, read.state.nesting);
+    let second = otherwise(state, in_state, text, then.next, work, n, first.actions);
+    let other = second.answer;
+    let verdict = other.verdict;
+    let Verdict::Done = verdict else {
+        return second;
+    };
+    let end = leaves::end_if(text, other);
+    leaves::choose_again(work, acts, read.state.nodes, 2, second.actions);
+    leaves::answered(end, second.actions)
+}
+
+// ELSE and its list.
+fn otherwise(
+    s: State,
+    in_state: bool,
+    text: &[u8],
+    w: Word,
+    work: &mut [u8; 275296],
+    n: Counts,
+    acts: u16,
+) -> Acted
+    ensures { λ r. ⌜ Else in_state (now (text .entry)) n w s acts (now (work .entry)) (now (work .exit)) r ⌝ }
+{
+    let word = taking::expect(text, w, s, kinds::ELSE, Bearing::Level);
+    let verdict = word.verdict;
+    let Verdict::Done = verdict else {
+        return leaves::answered(word, acts);
+    };
+    let state = phrases::leaves::at(word.state, s.nesting);
+    arm(state, in_state, text, word.next, work, n, acts)
+}
+
+// CASE.
+fn cases(
+    s: State,
+    in_state: bool,
+    text: &[u8],
+    w: Word,
+    work: &mut [u8; 275296],
+    n: Counts,
+    acts: u16,
+) -> Acted
+    ensures { λ r. ⌜ Conditional in_state true (now (text .entry)) n w s acts (now (work .entry)) (now (work .exit)) r ⌝ }
+{
+    let head = condition(s, true, text, w, work, acts);
+    let read = head.answer;
+    let verdict = read.verdict;
+    let Verdict::Done = verdict else {
+        return head;
+    };
+    let chosen = arms(read.state, in_state, text, read.next, work, n, head.actions);
+    let acted = chosen.acted;
+    let last = acted.answer;
+    let verdict = last.verdict;
+    let Verdict::Done = verdict else {
+        return acted;
+    };
+    let end = taking::expect(
+        text,
+        last.next,
+        last.state,
+        kinds::END_CASE,
+        Bearing::Closes,
+    );
+    leaves::choose_again(work, acts, read.state.nodes, chosen.count, acted.actions);
+    leaves::answered(end, acted.actions)
+}
+
+// The arms of CASE, behind the first DO. Each counts a word, of which there are at most 2,048.
+fn arms(
+    s: State,
+    in_state: bool,
+    text: &[u8],
+    w: Word,
+    work: &mut [u8; 275296],
+    n: Counts,
+    acts: u16,
+) -> Armed
+    ensures { λ r. ⌜ Arms in_state (now (text .entry)) n w s acts (now (work .entry)) (now (work .exit)) r ⌝ }
+{
+    let mut read = arm(s, in_state, text, w, work, n, acts);
+    let mut count: u16 = 1;
+    while count < 2049 {
+        let answer = read.answer;
+        let verdict = answer.verdict;
+        let Verdict::Done = verdict else {
+            return Armed { acted: read, count };
+        };
+        let next = answer.next;
+        if leaves::is(next, kinds::DO) {
+            let state = phrases::leaves::at(answer.state, s.nesting);
+            read = next_arm(state, in_state, text, next, work, n, read.actions);
+            count += 1;
+        } else {
+            return Armed { acted: read, count };
+        }
+    }
+    Armed { acted: read, count }
+}
+
+// DO and its list.
+fn next_arm(
+    s: State,
+    in_state: bool,
+    text: &[u8],
+    w: Word,
+    work: &mut [u8; 275296],
+    n: Counts,
+    acts: u16,
+) -> Acted
+    ensures { λ r. ⌜ NextArm in_state (now (text .entry)) n w s acts (now (work .entry)) (now (work .exit)) r ⌝ }
+{
+    let word = taking::take(text, w, s, false, Bearing::Level);
+    let verdict = word.verdict;
+    let Verdict::Done = verdict else {
+        return leaves::answered(word, acts);
+    };
+    let state = phrases::leaves::at(word.state, s.nesting);
+    arm(state, in_state, text, word.next, work, n, acts)
+}
+
+// A list of its own, behind the record of an arm, which is written again when the list's records are counted.
+fn arm(
+    s: State,
+    in_state: bool,
+    text: &[u8],
+    w: Word,
+    work: &mut [u8; 275296],
+    n: Counts,
+    acts: u16,
+) -> Acted
+    ensures { λ r. ⌜ Arm in_state (now (text .entry)) n w s acts (now (work .entry)) (now (work .exit)) r ⌝ }
+{
+    let at = words::places::position(0);
+    let begun = simple::leaves::put(s, Action::Broken, at, w, work, acts);
+    let answer = begun.answer;
+    let verdict = answer.verdict;
+    let Verdict::Done = verdict else {
+        return begun;
+    };
+    let read = list(s, in_state, text, w, work, n, begun.actions);
+    let answer = read.answer;
+    let verdict = answer.verdict;
+    let Verdict::Done = verdict else {
+        return read;
+    };
+    leaves::arm_again(work, acts, read.actions);
+    read
+}
+
+// An action that is no conditional.
+fn plain(
+    s: State,
+    in_state: bool,
+    text: &[u8],
+    w: Word,
+    work: &mut [u8; 275296],
+    n: Counts,
+    acts: u16,
+) -> Acted
+    ensures { λ r. ⌜ Plain in_state (now (text .entry)) n w s acts (now (work .entry)) (now (work .exit)) r ⌝ }
+{
+    let found = w.kind;
+    if kinds::number(found) == kinds::NAME {
+        return named(s, in_state, text, w, work, n, acts);
+    }
+    if in_state {
+        return signed(s, text, w, work, n, acts);
+    }
+    leaves::answered(taking::refuse(w, s, 3), acts)
+}
+
+// An action that begins with a name.
+fn named(
+    s: State,
+    in_state: bool,
+    text: &[u8],
+    w: Word,
+    work: &mut [u8; 275296],
+    n: Counts,
+    acts: u16,
+) -> Acted
+    ensures { λ r. ⌜ Named in_state (now (text .entry)) n w s acts (now (work .entry)) (now (work .exit)) r ⌝ }
+{
+    let name = taking::take(text, w, s, false, Bearing::Level);
+    let verdict = name.verdict;
+    let Verdict::Done = verdict else {
+        return leaves::answered(name, acts);
+    };
+    let state = name.state;
+    let next = name.next;
+    if in_state {
+        return simple::named_in_state(state, w, text, next, work, n, acts);
+    }
+    simple::named_in_operation(state, w, text, next, work, n, acts)
+}
+
+// An action of a state that begins with a sign.
+fn signed(s: State, text: &[u8], w: Word, work: &mut [u8; 275296], n: Counts, acts: u16) -> Acted
+    ensures { λ r. ⌜ Signed (now (text .entry)) n w s acts (now (work .entry)) (now (work .exit)) r ⌝ }
+{
+    let found = w.kind;
+    if leaves::signs(kinds::number(found)) {
+        return simple::signed(s, text, w, work, n, acts);
+    }
+    leaves::answered(taking::refuse(w, s, 3), acts)
 }

@@ -1,10 +1,10 @@
 -- The machine's words where a simple action begins or goes on.
 use mathlib.Core.Bool.{Bool, true, false, cond}
-use mathlib.Core.List.{List, [], _∷_, _++_}
-use mathlib.Core.Path.{_≡_, refl, sym, ap, _∙_, subst}
+use mathlib.Core.List.{List, [], _∷_}
+use mathlib.Core.Path.{_≡_, refl, sym, ap, _∙_}
 use Prim.Native.Nat.{ℕ, suc}
 use native.Mathlib.Omega.{arith}
-use borrow.Author.Tests.{eq-eqb, ne-eqb}
+use borrow.Author.Tests.{ne-eqb}
 use lib.ListN.{length}
 use Rattle.course.proofs.Looking.{View, begun, ended, name-ahead, nameWord, sign-ahead, view}
 use Rattle.course.proofs.TakenWords.{onTaken, taken-on}
@@ -14,7 +14,7 @@ use Rattle.grammar.specs.Following.{among, among-first, among-rest}
 use Rattle.grammar.specs.Stacks.{asks, asks-end, choose-none, kindsOf}
 use Rattle.language.specs.Building.{Built, expressionNo, keepWord, listNo, withLefts, wordNo}
 use Rattle.language.specs.Declaring.{treeSteps}
-use Rattle.language.specs.Machine.{Alternative, Ask, Counts, Fed, Parsed, Reading, after, ask, choose, counted, expression, feed, finish, keep, leave, leftRest, make, more, operand, operationName, reading, refused, run, setSign, stateAction, stateName, storeSign, subscripts, tallied, withinCeilings, wrong}
+use Rattle.language.specs.Machine.{Alternative, Ask, Counts, Fed, Parsed, Reading, after, ask, choose, counted, expression, feed, finish, keep, leftRest, make, more, operand, operationName, reading, refused, run, setSign, stateAction, stateName, storeSign, subscripts, tallied, withinCeilings, wrong}
 use Rattle.language.specs.Sections.{ruleOf}
 use Rattle.language.specs.Tree as T
 use Rattle.language.specs.Tree.{Expression, Name}

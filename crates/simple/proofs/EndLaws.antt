@@ -3,7 +3,6 @@ use mathlib.Core.Bool.{true}
 use mathlib.Core.List.{List, [], _∷_, _++_}
 use mathlib.Core.Path.{_≡_, sym, ap, _∙_}
 use Prim.Native.Nat.{ℕ, _+_, _≤_}
-use native.Mathlib.Omega.{arith}
 use Rattle.course.proofs.Answers.{done-refused, refused-full, same-fault}
 use Rattle.course.proofs.TakenWords.{onTaken, took-refused}
 use Rattle.course.specs.declared.Answer.{Answer}
@@ -23,7 +22,7 @@ use Rattle.meanings.specs.declared.Counts as M
 use Rattle.words.specs.declared.Word.{Word}
 use Rattle.words.specs.Meaning.{faulted, positioned}
 use Rattle.work.specs.Held.{Held}
-use Rattle.simple.proofs.ReachedLaws.{room-reached, within-reached}
+use Rattle.simple.proofs.ReachedLaws.{room-reached}
 use Rattle.simple.specs.Actions.{Reads, Standing}
 use Rattle.simple.specs.declared.Acted.{Acted}
 use Rattle.simple.specs.Leaves.{KeepsName}

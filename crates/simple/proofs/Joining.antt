@@ -1,12 +1,12 @@
 -- Lists of actions joined: their records, and what reading one after the other leaves.
 use mathlib.Core.List.{List, [], _∷_, _++_, append-assoc}
 use mathlib.Core.Path.{_≡_, refl, sym, ap, _∙_}
-use Prim.Native.Nat.{ℕ, suc, _+_, _*_, _≤_}
+use Prim.Native.Nat.{ℕ, _+_}
 use native.Mathlib.Omega.{arith}
 use Rattle.course.specs.declared.State.{State}
 use Rattle.grammar.specs.Conditionals.{joined-assoc}
 use Rattle.language.specs.Building.{Built, joined, listNo}
-use Rattle.language.specs.Describe.{Noted, NotedAction, actionsIn, actionsOf, expressionSize, expressionsIn, leftNodes, leftSize, nodesIn, nodesOf}
+use Rattle.language.specs.Describe.{NotedAction, actionsIn, actionsOf, expressionSize, expressionsIn, leftNodes, leftSize, nodesIn, nodesOf}
 use Rattle.language.specs.Encode.{concat}
 use Rattle.language.specs.Naming.{Scope}
 use Rattle.language.specs.Tree as T
@@ -14,8 +14,8 @@ use Rattle.language.specs.Tree.{Actions}
 use Rattle.tables.specs.declared.Table.the-variants as Tb
 use Rattle.tables.specs.Rows.{rows}
 use Rattle.work.proofs.NodesAdded.{nodes-append}
-use Rattle.work.specs.Held.{Held, withNodes}
-use Rattle.simple.specs.Actions.{OthersKept, Paid, Written, actionBesides, actionRecords, frontOf, grown}
+use Rattle.work.specs.Held.{withNodes}
+use Rattle.simple.specs.Actions.{Paid, Written, actionBesides, actionRecords, frontOf, grown}
 
 -- ---- How many records there are.
 

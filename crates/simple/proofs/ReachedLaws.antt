@@ -2,7 +2,7 @@
 use mathlib.Core.Bool.{true, false}
 use mathlib.Core.List.{List, [], _∷_, _++_, append-nil}
 use mathlib.Core.Path.{_≡_, refl, sym, ap, _∙_, subst}
-use Prim.Native.Nat.{ℕ, suc, _+_, _*_, _≤_}
+use Prim.Native.Nat.{ℕ, _+_, _≤_}
 use native.Mathlib.Omega.{arith}
 use lib.ListN.{length}
 use Rattle.course.proofs.Ceilings.{few-counted}
@@ -16,7 +16,7 @@ use Rattle.course.specs.Pays.{Comes, Pays}
 use Rattle.course.specs.Says.{Here, Read}
 use Rattle.course.specs.Taken.{Took, afterWord}
 use Rattle.language.specs.Building.{Built}
-use Rattle.language.specs.Describe.{Noted, NotedAction, act, actionsIn, actionsOf, expressionSize, expressionsIn, nodesIn, nodesOf}
+use Rattle.language.specs.Describe.{Noted, act, actionsIn, actionsOf, expressionSize, expressionsIn, nodesIn, nodesOf}
 use Rattle.language.specs.Description as D
 use Rattle.language.specs.Encode.{actionBytes, concat}
 use Rattle.language.specs.Machine.{Counts, withinCeilings}
@@ -27,17 +27,15 @@ use Rattle.meanings.specs.Known.{Known}
 use Rattle.noted.specs.Noted.{placeBytes}
 use Rattle.tables.specs.Actions.{ActionAdded}
 use Rattle.tables.specs.declared.Table.the-variants as Tb
-use Rattle.tables.specs.Rows.{rows}
 use Rattle.words.specs.declared.Position.{Position}
 use Rattle.words.specs.declared.Word.{Word}
 use Rattle.words.specs.Meaning.{positioned}
-use Rattle.work.proofs.NodesAdded.{nodes-append, nodes-other}
+use Rattle.work.proofs.NodesAdded.{nodes-append}
 use Rattle.work.proofs.Regions.{same-held}
 use Rattle.work.specs.Held.{Held, held, mostNodes, otherIn, withNodes}
-use Rattle.work.specs.Names.{namesIn}
 use Rattle.simple.proofs.Keeping.{front-kept, known-kept, others-other, rows-other, whole-other}
 use Rattle.simple.proofs.Standings.{few-states, standing-after, within-more}
-use Rattle.simple.specs.Actions.{Paid, Standing, Written, actionBesides, actionRecords, frontOf, grown}
+use Rattle.simple.specs.Actions.{Paid, Standing, Written, frontOf, grown}
 use Rattle.simple.specs.declared.Acted.{Acted}
 use Rattle.simple.specs.Leaves.{Puts}
 use Rattle.simple.specs.Reached.{Ended, Ends, Reached}
@@ -47,11 +45,11 @@ unfolding withNodes concat
 nodes-none h = same-held (append-nil (h .nodes)) (append-nil (h .places)) refl
 
 -- The records in front, of what is held.
-front-held : (n m : ℕ) (w w′ : List ℕ) (ns : List Noted) → held m w′ ≡ withNodes (held n w) ns → frontOf m w′ ≡ withNodes (frontOf n w) ns
+pub front-held : (n m : ℕ) (w w′ : List ℕ) (ns : List Noted) → held m w′ ≡ withNodes (held n w) ns → frontOf m w′ ≡ withNodes (frontOf n w) ns
 unfolding frontOf withNodes
 front-held n m w w′ ns e = ap (λ (h : Held). record { nodes = h .nodes; places = h .places; other = [] }) e
 
-other-held : (n m : ℕ) (w w′ : List ℕ) (ns : List Noted) → held m w′ ≡ withNodes (held n w) ns → otherIn w′ ≡ otherIn w
+pub other-held : (n m : ℕ) (w w′ : List ℕ) (ns : List Noted) → held m w′ ≡ withNodes (held n w) ns → otherIn w′ ≡ otherIn w
 unfolding held withNodes
 other-held n m w w′ ns e = ap (λ (h : Held). h .other) e
 
@@ -146,6 +144,24 @@ module _ {text : List ℕ} {sc : Scope} {n : M.Counts} {w : Word} {s : State} {a
       held = y .pending .records ∙ ap (λ (h : Held). withNodes h (nodesOf sc (s₁ .nodes) (y .tree))) (x .held) ∙ sym (nodes-append (held (s .nodes) work) ns (nodesOf sc (s₁ .nodes) (y .tree)));
       nodes = omega (arith, y .pending .nodes, x .nodes);
     }
+
+  -- ---- Where all is paid for, reading stands there.
+
+  pub standing-reached : {more : ℕ} {ns : List Noted} {size : ℕ} {w₁ : Word} {s₁ : State} {work₁ : List ℕ} → Reached text sc more 0 ns size s work w₁ s₁ work₁ → Standing text sc n w₁ s₁ acts work₁
+  standing-reached {work₁ = work₁} x = record {
+    seen = x .seen;
+    short = st .short;
+    whole = whole-other work work₁ (other-reached x) (st .whole);
+    within = within-reached x;
+    known = known-reached x;
+    facilities = st .facilities ∙ sym (x .pays .known);
+    nodes = omega (arith, st .nodes, x .pays .nodes, x .pays .states);
+    actions = omega (arith, st .actions, x .pays .counted);
+  }
+
+  pub standing-read : {P : Stack} {pre : Built → Built} {r : Answer} {work₁ : List ℕ} → Read text sc P [] pre (held (s .nodes) work) (s .nodes) (s .nesting) w s r work₁ → Comes text 0 1 s (r .next) (r .state)
+      → Standing text sc n (r .next) (r .state) acts work₁
+  standing-read y c = standing-reached (read-reached start-reached y c)
 
   -- ---- The record of the action.
 

@@ -1,8 +1,8 @@
 -- Actions of a word or two: an operation performed, `->`, `=>` and RETURN.
 use mathlib.Core.Bool.{Bool, true, false}
-use mathlib.Core.List.{List, [], _∷_, _++_}
-use mathlib.Core.Path.{_≡_, refl, sym, ap, _∙_, subst}
-use Prim.Native.Nat.{ℕ, suc, _+_, _≤_}
+use mathlib.Core.List.{List, [], _∷_}
+use mathlib.Core.Path.{_≡_, refl, sym, ap, _∙_}
+use Prim.Native.Nat.{ℕ}
 use native.Mathlib.Omega.{arith}
 use lib.Dec.{eqb}
 use Rattle.course.proofs.Paying.{pays-on, pays-refl, went-pays}
@@ -12,18 +12,18 @@ use Rattle.course.specs.declared.Answer.{Answer}
 use Rattle.course.specs.declared.Bearing.the-variants.{Level}
 use Rattle.course.specs.declared.State.{State}
 use Rattle.course.specs.declared.Verdict.the-variants.{Done}
-use Rattle.course.specs.Course.{Seen, Stack, countsOf, kindNo, runs, runsOn}
+use Rattle.course.specs.Course.{Seen, Stack, countsOf, kindNo, runs}
 use Rattle.course.specs.Taken.{Took, Went, WentOn, afterWord}
 use Rattle.grammar.specs.Following.{among}
 use Rattle.language.specs.Building.{Built, keepWord, listNo, wordNo}
 use Rattle.language.specs.Declaring.{treeSteps}
-use Rattle.language.specs.Describe.{NotedAction, act, actionsIn, actionsOf, expressionsIn, nodesIn}
+use Rattle.language.specs.Describe.{act, actionsIn, actionsOf, expressionsIn, nodesIn}
 use Rattle.language.specs.Description as D
-use Rattle.language.specs.Machine as Mc
 use Rattle.language.specs.Machine.{Counts, ask, keep, make, stateAction}
 use Rattle.language.specs.Naming as N
 use Rattle.language.specs.Naming.{Scope, meaning, ofOperation, ofState}
 use Rattle.language.specs.Tree as T
+use Rattle.language.specs.Tree.{Actions, Name}
 use Rattle.language.specs.Words as L
 use Rattle.levels.proofs.HeadWords.{among-first-or, among-none}
 use Rattle.meanings.specs.declared.Counts as M
@@ -37,10 +37,10 @@ use Rattle.work.specs.Held.{held}
 use Rattle.simple.proofs.ActionWords.{call-comes, goto-comes, return-comes}
 use Rattle.simple.proofs.EndLaws.{ends-through, ends-unnamed, ends-untaken, reads-ended}
 use Rattle.simple.proofs.ReachedLaws.{counted-reached, ends-with, known-reached, nodes-none, passed-reached, start-reached, within-reached}
-use Rattle.simple.specs.Actions.{Acts, Standing, grown}
+use Rattle.simple.specs.Actions.{Acts, grown}
 use Rattle.simple.specs.declared.Acted.{Acted}
 use Rattle.simple.specs.Leaves.{KeepsName, NameMeans, Performs, Puts}
-use Rattle.simple.specs.Reached.{Arrows, Ends, Reached, arrowStep}
+use Rattle.simple.specs.Reached.{Arrows, Reached, arrowAction, arrowStep}
 
 -- ---- An operation performed.
 
@@ -75,30 +75,37 @@ module _ {text : List ℕ} {n : M.Counts} {name w : Word} {s : State} {acts : �
 
 -- ---- Behind an arrow.
 
+abbrev arrowTree : Bool → Name → L.Position → Actions
+arrowTree false m p = T.goto m p T.done
+arrowTree true m p = T.call m p T.done
+
+-- What an arrow's action takes, and its step.
+record ArrowLaws (sc : Scope) (call : Bool) (m : Name) (p : L.Position) : Type 0 where
+  size : expressionsIn (arrowTree call m p) ≡ 0
+  nodes : (base : ℕ) → nodesIn sc base (arrowTree call m p) ≡ []
+  count : actionsIn (arrowTree call m p) ≡ 1
+  records : (base : ℕ) → actionsOf sc base (arrowTree call m p) ≡ act (ofState (meaning sc m) (arrowAction call)) p ∷ []
+  step : (b : Built) (q : L.Position) → arrowStep call q (keepWord (L.name m p) b) ≡ grown (arrowTree call m p) b
+
+arrow-laws : (sc : Scope) (call : Bool) (m : Name) (p : L.Position) → ArrowLaws sc call m p
+unfolding expressionsIn nodesIn actionsIn actionsOf wordNo listNo
+arrow-laws sc false m p = record { size = refl; nodes = λ i. refl; count = refl; records = λ i. refl; step = λ b q. refl }
+arrow-laws sc true m p = record { size = refl; nodes = λ i. refl; count = refl; records = λ i. refl; step = λ b q. refl }
+
 module _ {text : List ℕ} {n : M.Counts} {w₁ : Word} {s₁ : State} {acts : ℕ} {work₁ : List ℕ} {a : Answer} (t : KeepsName text w₁ s₁ a) where
   pub arrow-unnamed : (call : Bool) {k : ℕ} → (a .verdict ≡ Done → ⊥) → Arrows call text n w₁ s₁ acts work₁ work₁ (record { answer = a; actions = k })
   arrow-unnamed call m sc w s work st x = ends-unnamed t m (x .seen) (within-reached st x) (λ K. make (arrowStep call) ∷ K) (λ b. b) (λ K b. refl)
 
   module _ (d : a .verdict ≡ Done) (m : Meaning) (f : NameMeans text work₁ n w₁ m) {x : D.Action} {work₂ : List ℕ} {r : Acted} (y : Puts x (w₁ .at) (a .next) (a .state) acts work₁ work₂ r) where
-    pub arrow-goes : {call : Bool} → call ≡ false → x ≡ ofState (meant m) D.goto → Arrows call text n w₁ s₁ acts work₁ work₂ r
-    unfolding expressionsIn nodesIn actionsIn actionsOf wordNo listNo
-    arrow-goes {call} q e sc w s work st z =
+    pub arrow-leads : (call : Bool) → x ≡ ofState (meant m) (arrowAction call) → Arrows call text n w₁ s₁ acts work₁ work₂ r
+    arrow-leads call e sc w s work st z =
         let k = t .done d (z .seen) in
-        let g = T.goto (lettersOf text w₁) (positioned (w₁ .at)) T.done in
-        rw q
-        (ends-with st (passed-reached st z d (k .took)) y g refl refl refl
-        (ap (λ (v : D.Action). act v (positioned (w₁ .at)) ∷ []) (sym (e ∙ ap (λ (v : N.Meaning). ofState v D.goto) (f sc (known-reached st z)))))
-        (λ K b. k .course (make (treeSteps .makeGoto) ∷ K) b ∙ makes-it text (treeSteps .makeGoto) K (a .next) (afterName w₁ text b) (grown g b) (a .state) (λ p. refl)))
-
-    pub arrow-calls : {call : Bool} → call ≡ true → x ≡ ofState (meant m) D.call → Arrows call text n w₁ s₁ acts work₁ work₂ r
-    unfolding expressionsIn nodesIn actionsIn actionsOf wordNo listNo
-    arrow-calls {call} q e sc w s work st z =
-        let k = t .done d (z .seen) in
-        let g = T.call (lettersOf text w₁) (positioned (w₁ .at)) T.done in
-        rw q
-        (ends-with st (passed-reached st z d (k .took)) y g refl refl refl
-        (ap (λ (v : D.Action). act v (positioned (w₁ .at)) ∷ []) (sym (e ∙ ap (λ (v : N.Meaning). ofState v D.call) (f sc (known-reached st z)))))
-        (λ K b. k .course (make (treeSteps .makeCall) ∷ K) b ∙ makes-it text (treeSteps .makeCall) K (a .next) (afterName w₁ text b) (grown g b) (a .state) (λ p. refl)))
+        let g = arrowTree call (lettersOf text w₁) (positioned (w₁ .at)) in
+        let v : x ≡ ofState (meaning sc (lettersOf text w₁)) (arrowAction call) = e ∙ ap (λ (q : N.Meaning). ofState q (arrowAction call)) (f sc (known-reached st z)) in
+        let l = arrow-laws sc call (lettersOf text w₁) (positioned (w₁ .at)) in
+        ends-with st (passed-reached st z d (k .took)) y g (l .size) (l .nodes (s .nodes)) (l .count)
+        (l .records (s .nodes) ∙ ap (λ (q : D.Action). act q (positioned (w₁ .at)) ∷ []) (sym v))
+        (λ K b. k .course (make (arrowStep call) ∷ K) b ∙ makes-it text (arrowStep call) K (a .next) (afterName w₁ text b) (grown g b) (a .state) (l .step b))
 
 -- ---- A sign.
 

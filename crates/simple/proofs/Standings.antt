@@ -1,17 +1,17 @@
 -- Where reading actions stands, from where it stood.
 use mathlib.Core.Bool.{Bool, true, false}
 use mathlib.Core.List.{List}
-use mathlib.Core.Path.{_≡_, refl, sym, ap, _∙_}
-use Prim.Native.Nat.{ℕ, suc, _+_, _*_, _≤_}
+use mathlib.Core.Path.{_≡_, sym, ap, _∙_}
+use Prim.Native.Nat.{ℕ, _≤_}
 use native.Mathlib.Omega.{arith}
 use borrow.Author.Tests.{le-leb, leb-true}
 use lib.Dec.{leb}
 use lib.ListN.{length}
-use Rattle.course.proofs.Ceilings.{both-true, by-nesting, few-counted, few-open}
+use Rattle.course.proofs.Ceilings.{both-true, by-nesting, few-open}
 use Rattle.course.specs.declared.Answer.{Answer}
 use Rattle.course.specs.declared.Bearing.{Bearing}
 use Rattle.course.specs.declared.State.{State}
-use Rattle.course.specs.Course.{Seen, counts5, countsOf}
+use Rattle.course.specs.Course.{Seen, countsOf}
 use Rattle.course.specs.Says.{Here}
 use Rattle.course.specs.Taken.{Passed, afterWord, tallyOf}
 use Rattle.language.specs.Machine.{Counts, both, deepest, mostCounted, mostFacilities, mostOperations, mostStates, withinCeilings}
@@ -22,7 +22,7 @@ use Rattle.words.specs.declared.Word.{Word}
 use Rattle.work.specs.Held.{otherIn}
 use Rattle.work.specs.Names.{namesIn}
 use Rattle.simple.proofs.Keeping.{known-kept}
-use Rattle.simple.specs.Actions.{OthersKept, Paid, Standing, Written}
+use Rattle.simple.specs.Actions.{Paid, Standing, Written}
 
 -- ---- Ceilings.
 

@@ -1,45 +1,41 @@
 -- What follows a reference on the left.
-use mathlib.Core.Bool.{Bool, true, false}
+use mathlib.Core.Bool.{true, false}
 use mathlib.Core.List.{List, [], _∷_, _++_, append-nil}
-use mathlib.Core.Path.{_≡_, refl, sym, ap, _∙_, subst}
-use Prim.Native.Nat.{ℕ, suc, _+_, _-_, _≤_}
+use mathlib.Core.Path.{_≡_, refl, sym, ap, _∙_}
+use Prim.Native.Nat.{ℕ, _+_, _-_}
 use native.Mathlib.Omega.{arith}
 use Rattle.course.proofs.Saying.{makes-it}
-use Rattle.course.proofs.TakenWords.{onTaken, took-done}
+use Rattle.course.proofs.TakenWords.{took-done}
 use Rattle.course.specs.declared.Answer.{Answer}
 use Rattle.course.specs.declared.Bearing.the-variants.{Level}
 use Rattle.course.specs.declared.State.{State}
 use Rattle.course.specs.declared.Verdict.the-variants.{Done}
 use Rattle.course.specs.Course.{Seen, Stack, countsOf, kindNo, runs}
 use Rattle.course.specs.Pays.{Spends}
-use Rattle.course.specs.Says.{Parses, Read, pushed}
+use Rattle.course.specs.Says.{Parses, pushed}
 use Rattle.course.specs.Taken.{Refuses, Took, afterWord}
 use Rattle.grammar.specs.Following.{among}
 use Rattle.language.specs.Building.{Built, expressionNo, keepWord, listNo, wordNo}
 use Rattle.language.specs.Declaring.{treeSteps}
-use Rattle.language.specs.Describe.{Noted, NotedAction, act, actionsIn, actionsOf, expressionSize, expressionsIn, lastOf, leftNodes, leftSize, nodesIn, nodesOf, storeOf}
+use Rattle.language.specs.Describe.{Noted, act, actionsIn, actionsOf, expressionSize, expressionsIn, lastOf, leftNodes, leftSize, nodesIn, nodesOf, storeOf}
 use Rattle.language.specs.Description as D
 use Rattle.language.specs.Machine.{Ask, ask, expression, keep, leftRest, make, setSign, storeSign, subscripts}
-use Rattle.language.specs.Naming.{Scope}
 use Rattle.language.specs.Tree as T
 use Rattle.language.specs.Tree.{Expression, Left}
 use Rattle.language.specs.Words as L
-use Rattle.levels.proofs.HeadWords.{among-first-or, among-none}
 use Rattle.meanings.specs.declared.Counts as M
-use Rattle.operands.specs.References.{lettersOf}
 use Rattle.phrases.specs.Phrases.{afterName, same}
 use Rattle.words.specs.declared.Word.{Word}
 use Rattle.words.specs.Meaning.{positioned}
-use Rattle.work.specs.Held.{held}
 use Rattle.simple.proofs.ActionWords.{con-comes, no-set, no-store, set-comes, set-left, store-comes, store-left}
 use Rattle.simple.proofs.EndLaws.{ends-refused, ends-through, ends-unnamed, ends-unread, ends-untaken, reads-ended}
 use Rattle.simple.proofs.ReachedLaws.{cheaper, counted-reached, ends-with, here-reached, passed-reached, reached-as, read-reached, start-reached, within-reached}
-use Rattle.simple.specs.Actions.{Acts, Standing, grown}
+use Rattle.simple.specs.Actions.{Acts, grown}
 use Rattle.simple.specs.declared.Acted.{Acted}
 use Rattle.simple.specs.declared.stores.Sides.{Sides}
 use Rattle.simple.specs.declared.stores.Sides.the-variants.{One, Two}
 use Rattle.simple.specs.Leaves.{KeepsName, Puts}
-use Rattle.simple.specs.Reached.{AfterLeft, Ends, Reached, Stores, sided, sidesOf, withLeft}
+use Rattle.simple.specs.Reached.{AfterLeft, Stores, sided, sidesOf, withLeft}
 
 -- ---- What the machine keeps of a sign, and what then comes.
 

@@ -56,6 +56,10 @@ abbrev pub arrowStep : Bool → Step Built
 arrowStep false = treeSteps .makeGoto
 arrowStep true = treeSteps .makeCall
 
+abbrev pub arrowAction : Bool → ℕ → D.Action
+arrowAction false k = D.goto k
+arrowAction true k = D.call k
+
 abbrev pub Arrows : Bool → List ℕ → Counts → Word → State → ℕ → List ℕ → List ℕ → Acted → Type 0
 Arrows call text n w₁ s₁ acts work₁ work′ r =
     (sc : Scope) (w : Word) (s : State) (work : List ℕ) → Standing text sc n w s acts work → Reached text sc 1 0 [] 0 s work w₁ s₁ work₁

@@ -19,7 +19,8 @@ ghost use Rattle.language.specs.Description as D;
 ghost use Rattle.language.specs.Naming.{ofOperation, ofState};
 ghost use Rattle.meanings.specs.Known as K;
 ghost use Rattle.records.specs.Actions.{meant};
-ghost use Rattle.simple.specs.Leaves.{KeepsName, NameMeans, Performs, Puts};
+ghost use Rattle.simple.specs.Leaves.{KeepsName, NameMeans, Puts};
+ghost use Rattle.simple.specs.Reached.{arrowAction};
 
 // Keeps a name that must come; it is not counted.
 pub fn keep_name(text: &[u8], w: Word, s: State) -> Answer
@@ -87,25 +88,25 @@ pub fn performing(m: Meaning) -> Action
     }
 }
 
-// The records of names behind `->` and `=>`; broken where they mean no state.
-pub fn going(m: Meaning) -> Action
-    ensures { λ r. ⌜ meant r ≡ ofState (K.meant m) D.goto ⌝ }
+// The record of `=>` or `->` with a state.
+fn leading(call: bool, k: u8) -> Action
+    ensures { λ r. ⌜ meant r ≡ arrowAction call k ⌝ }
 {
-    match m {
-        Meaning::Facility(_) => Action::Broken,
-        Meaning::Operation(_) => Action::Broken,
-        Meaning::State(k) => Action::Goto(k as u16),
-        Meaning::Unknown => Action::Broken,
+    if call {
+        Action::Call(k as u16)
+    } else {
+        Action::Goto(k as u16)
     }
 }
 
-pub fn calling(m: Meaning) -> Action
-    ensures { λ r. ⌜ meant r ≡ ofState (K.meant m) D.call ⌝ }
+// The record of a name behind `=>` or `->`; broken where it means no state.
+pub fn going(call: bool, m: Meaning) -> Action
+    ensures { λ r. ⌜ meant r ≡ ofState (K.meant m) (arrowAction call) ⌝ }
 {
     match m {
         Meaning::Facility(_) => Action::Broken,
         Meaning::Operation(_) => Action::Broken,
-        Meaning::State(k) => Action::Call(k as u16),
+        Meaning::State(k) => leading(call, k),
         Meaning::Unknown => Action::Broken,
     }
 }

@@ -84,10 +84,7 @@ fn arrow(
     let at = w.at;
     let state = kept.state;
     let next = kept.next;
-    if call {
-        return leaves::put(state, leaves::calling(m), at, next, work, acts);
-    }
-    leaves::put(state, leaves::going(m), at, next, work, acts)
+    leaves::put(state, leaves::going(call, m), at, next, work, acts)
 }
 
 // What begins with a sign in a state: `->`, `=>` or RETURN.

@@ -1,5 +1,5 @@
 use Rattle.course.proofs.Answers.{not-done}
-use Rattle.simple.proofs.SignLaws.{arrow-calls, arrow-goes, arrow-unnamed}
+use Rattle.simple.proofs.SignLaws.{arrow-leads, arrow-unnamed}
 use borrow.Author.Needs.{needs}
 use Rattle.simple.proofs.arrow.Statement.{statement}
 use Rattle.simple.proofs.arrow.Tie as tie
@@ -17,25 +17,15 @@ returns c =
 meaning-requires : tie.Need-meaning-requires
 meaning-requires c κs = search needs
 
-calling-requires : tie.Need-calling-requires
-calling-requires c κs = search needs
+going-requires : tie.Need-going-requires
+going-requires c κs = search needs
 
 put-requires : tie.Need-put-requires
 put-requires c κs = search needs
 
 returns-2 : tie.Need-returns-2
 returns-2 c =
-    arrow-calls (c .before .before .before .before .before .before .before .before .before .before .before .keep-name .ensures) (c .before .before .before .before .before .before .before .before .before .enum-told .given .1) (c .before .before .before .before .before .before .before .meaning .result) (c .before .before .before .before .before .before .before .meaning .ensures) (c .put .ensures) (c .before .before .before .if1 .taken) (c .before .before .calling .ensures)
-
-going-requires : tie.Need-going-requires
-going-requires c κs = search needs
-
-put-requires-2 : tie.Need-put-requires-2
-put-requires-2 c κs = search needs
-
-returns-3 : tie.Need-returns-3
-returns-3 c =
-    arrow-goes (c .before .before .before .before .before .before .before .before .before .before .before .keep-name .ensures) (c .before .before .before .before .before .before .before .before .before .enum-told .given .1) (c .before .before .before .before .before .before .before .meaning .result) (c .before .before .before .before .before .before .before .meaning .ensures) (c .put2 .ensures) (c .before .before .before .if1 .left) (c .before .before .going .ensures)
+    arrow-leads (c .before .before .before .before .before .before .before .before .before .before .keep-name .ensures) (c .before .before .before .before .before .before .before .before .enum-told .given .1) (c .before .before .before .before .before .before .meaning .result) (c .before .before .before .before .before .before .meaning .ensures) (c .put .ensures) (c .before .before .before .before .before .before .before .before .before .before .before .before .args .call) (c .before .before .going .ensures)
 
 pub arrow-spec : {M : Type 1} → statement M
 arrow-spec =
@@ -45,9 +35,6 @@ arrow-spec =
     enum-told
     returns
     meaning-requires
-    calling-requires
-    put-requires
-    returns-2
     going-requires
-    put-requires-2
-    returns-3)
+    put-requires
+    returns-2)

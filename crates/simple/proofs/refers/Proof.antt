@@ -1,6 +1,6 @@
 use mathlib.Core.List.{[], _∷_}
 use mathlib.Core.Path.{_∙_}
-use Rattle.simple.proofs.KindTests.{among-is, among-last, among-past}
+use Rattle.simple.proofs.KindTests.{among-is, among-past}
 use borrow.Author.Needs.{needs}
 use Rattle.simple.proofs.refers.Statement.{statement}
 use Rattle.simple.proofs.refers.Tie as tie

@@ -3,6 +3,9 @@ use borrow.Author.Needs.{needs}
 use Rattle.actions.proofs.leaves.when_again.Statement.{statement}
 use Rattle.actions.proofs.leaves.when_again.Tie as tie
 
+last-requires : tie.Need-last-requires
+last-requires c κs = search needs
+
 behind-requires : tie.Need-behind-requires
 behind-requires c κs = search needs
 
@@ -20,12 +23,13 @@ write-requires c κs = search needs
 
 returns : tie.Need-returns
 returns c =
-    one-branch (c .before .before .before .before .before .behind .ensures) (c .before .before .before .before .rewrite-action .ensures) (c .before .before .before .place-row .ensures) (c .write .ensures)
+    one-branch (c .before .before .before .before .before .before .before .before .last .ensures) (c .before .before .before .before .before .before .before .behind .ensures) (c .before .before .before .before .before .rewrite-action .ensures) (c .before .before .before .place-row .ensures) (c .write .ensures)
 
 pub when-again-spec : {M : Type 1} → statement M
 when-again-spec =
     tie.close
     (tie.spec
+    last-requires
     behind-requires
     rewrite-action-requires
     place-row-requires

@@ -1,3 +1,4 @@
+use mathlib.Core.Path.{_∙_}
 use borrow.Author.Needs.{needs}
 use Rattle.simple.proofs.leaves.going.Statement.{statement}
 use Rattle.simple.proofs.leaves.going.Tie as tie
@@ -11,8 +12,8 @@ enum-told-2 c = search needs
 enum-known-m : tie.Need-enum-known-m
 enum-known-m c = search needs
 
-cast-t4 : tie.Need-cast-t4
-cast-t4 c = search needs
+leading-requires : tie.Need-leading-requires
+leading-requires c κs = search needs
 
 enum-told-3 : tie.Need-enum-told-3
 enum-told-3 c = search needs
@@ -24,7 +25,8 @@ returns-2 : tie.Need-returns-2
 returns-2 c = search needs
 
 returns-3 : tie.Need-returns-3
-returns-3 c = rw (c .before .m .given .1)
+returns-3 c =
+    c .leading .ensures ∙ rw (c .before .before .m .given .1)
 
 returns-4 : tie.Need-returns-4
 returns-4 c = search needs
@@ -36,7 +38,7 @@ going-spec =
     enum-told
     enum-told-2
     enum-known-m
-    cast-t4
+    leading-requires
     enum-told-3
     returns
     returns-2
