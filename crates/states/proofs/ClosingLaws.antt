@@ -1,8 +1,8 @@
--- A state added to its tables: what then stands, and that names and records before it are kept.
+-- A state added to its tables, and what then stands of it.
 use mathlib.Core.Bool.{Bool, true, false, cond, true≢false}
 use mathlib.Core.List.{List, [], _∷_, _++_, append-nil}
 use mathlib.Core.Path.{_≡_, refl, sym, ap, _∙_}
-use Prim.Native.Nat.{ℕ, _+_, _-_, _*_, _<_, _≤_, min}
+use Prim.Native.Nat.{ℕ, _+_, _-_, _*_, _<_, _≤_}
 use native.Mathlib.Omega.{arith}
 use lib.ListN.{drop, length, length-drop}
 use lib.Seq.{length-take-le}
@@ -18,23 +18,21 @@ use Rattle.language.specs.Encode.{concat, stateRecord}
 use Rattle.language.specs.Naming.{Scope}
 use Rattle.language.specs.Tree as T
 use Rattle.meanings.specs.declared.Counts.{Counts}
-use Rattle.meanings.specs.Known.{Known}
-use Rattle.simple.proofs.Keeping.{front-kept, rows-other}
+use Rattle.simple.proofs.Keeping.{front-kept, known-by, rows-other}
 use Rattle.simple.proofs.Standings.{few-states}
 use Rattle.simple.specs.Actions.{Standing, actionBesides, actionRecords, frontOf}
 use Rattle.simple.specs.declared.Acted.{Acted}
-use Rattle.tables.proofs.NamesGrown.{facility-names, names-behind}
+use Rattle.tables.proofs.NamesGrown.{names-behind}
 use Rattle.tables.proofs.RowLaws.{kept-more}
 use Rattle.tables.specs.declared.Table.{Table}
 use Rattle.tables.specs.declared.Table.the-variants as Tb
 use Rattle.tables.specs.Names.{nameRow, namesOf}
-use Rattle.tables.specs.Rows.{Kept, Wrote, apart, apartFrom, most, rows, size}
+use Rattle.tables.specs.Rows.{Wrote, apart, apartFrom, most, rows, size}
 use Rattle.tables.specs.States.{StateAdded}
 use Rattle.words.specs.declared.Word.{Word}
 use Rattle.words.specs.Meaning.{positioned}
 use Rattle.work.proofs.NodesAdded.{nodes-append}
-use Rattle.work.specs.Held.{Held, otherIn, withNodes}
-use Rattle.work.specs.Names.{namesIn}
+use Rattle.work.specs.Held.{Held, withNodes}
 use Rattle.states.specs.Begins.{lengthOf, moreStates}
 use Rattle.states.specs.Bodies.{BodyRead}
 use Rattle.states.specs.declared.Begun.{Begun}
@@ -83,28 +81,6 @@ module _ (u : Table) (e : apartFrom u (Tb.Actions ∷ Tb.ActionPlaces ∷ Tb.Sta
 
   three-of : apartFrom u (Tb.Labels ∷ Tb.States ∷ Tb.StatePlaces ∷ []) ≡ true
   three-of = rw (e₅, e₃ .0, e₄ .0)
-
--- ---- The names known, by the tables of names alone.
-
-module _ (text : List ℕ) where
-  few-names : (v : List ℕ) (n : ℕ) → namesIn text v n ≡ namesIn text v (min n 256)
-  unfolding namesIn
-  few-names v n = let e : min (min n 256) 256 ≡ min n 256 = omega arith in rw e
-
-  names-kept : (w w′ : List ℕ) → ((m : ℕ) → m ≤ 256 → rows Tb.FacilityNames m w′ ≡ rows Tb.FacilityNames m w) → (n : ℕ) → namesIn text (otherIn w′) n ≡ namesIn text (otherIn w) n
-  names-kept w w′ o n =
-      let h : min n 256 ≤ 256 = omega arith in
-      few-names (otherIn w′) n ∙ facility-names text w′ (min n 256) h ∙ ap (λ (r : List ℕ). namesOf text r (min n 256)) (o (min n 256) h)
-      ∙ sym (facility-names text w (min n 256) h) ∙ sym (few-names (otherIn w) n)
-
-known-closed : {text : List ℕ} {sc : Scope} {n : Counts} {w : List ℕ} (w′ : List ℕ) → Kept (Tb.Labels ∷ Tb.States ∷ Tb.StatePlaces ∷ []) w w′ → Known text sc n w → Known text sc n w′
-known-closed {text} {n = n} {w} w′ o k = record {
-  facilities = k .facilities ∙ sym (names-kept text w w′ (o .tables Tb.FacilityNames refl) (n .facilities));
-  operations = k .operations ∙ ap (λ (r : List ℕ). namesOf text r (n .operations)) (sym (o .tables Tb.OperationNames refl (n .operations) (k .fewOperations)));
-  states = k .states ∙ ap (λ (r : List ℕ). namesOf text r (n .states)) (sym (o .tables Tb.StateNames refl (n .states) (k .fewStates)));
-  fewOperations = k .fewOperations;
-  fewStates = k .fewStates;
-}
 
 -- ---- One state.
 
@@ -211,7 +187,7 @@ module _ {text : List ℕ} {sc : Scope} {n : Counts} {l : ℕ} {name : Word} {P 
     short = st .short;
     whole = c .whole;
     within = y .standing .within;
-    known = known-closed work₃ (c .kept) (y .standing .known);
+    known = known-by work₃ (c .kept .tables Tb.FacilityNames refl) (c .kept .tables Tb.OperationNames refl) (c .kept .tables Tb.StateNames refl) (y .standing .known);
     facilities = y .standing .facilities;
     nodes = y .standing .nodes;
     actions = y .standing .actions;

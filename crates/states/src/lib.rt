@@ -3,13 +3,13 @@ use course::Answer;
 use image::states::StateValue;
 use words::Position;
 
-pub mod bodies;
-pub mod closing;
-pub mod ends;
-pub mod heads;
-pub mod kinds;
+mod bodies;
+mod closing;
+mod ends;
+mod heads;
+mod kinds;
 pub mod reading;
-pub mod values;
+mod values;
 
 // A state before its actions: where it stands, how long its label is, its value and where that stands.
 pub struct Head {
