@@ -62,7 +62,7 @@ places-by p f T.single = refl
 places-by p f (T.row x) = refl
 places-by p f (T.table x y) = refl
 
-letters-length : (text : List ℕ) (place size : ℕ) → place + size ≤ length text → length (letters text place size) ≡ size
+pub letters-length : (text : List ℕ) (place size : ℕ) → place + size ≤ length text → length (letters text place size) ≡ size
 unfolding letters
 letters-length text place size h = length-map (take size (drop place text)) folded ∙ length-take-le size (drop place text) (omega (arith, length-drop place text))
 

@@ -70,7 +70,7 @@ module _ (text : List ℕ) where
   unfolding namesIn
   few-names v n = let e : min (min n 256) 256 ≡ min n 256 = omega arith in rw e
 
-  names-kept : (w w′ : List ℕ) → ((m : ℕ) → m ≤ 256 → rows T.FacilityNames m w′ ≡ rows T.FacilityNames m w) → (n : ℕ) → namesIn text (otherIn w′) n ≡ namesIn text (otherIn w) n
+  pub names-kept : (w w′ : List ℕ) → ((m : ℕ) → m ≤ 256 → rows T.FacilityNames m w′ ≡ rows T.FacilityNames m w) → (n : ℕ) → namesIn text (otherIn w′) n ≡ namesIn text (otherIn w) n
   names-kept w w′ o n =
       let h : min n 256 ≤ 256 = omega arith in
       few-names (otherIn w′) n ∙ facility-names text w′ (min n 256) h ∙ ap (λ (r : List ℕ). namesOf text r (min n 256)) (o (min n 256) h)

@@ -34,7 +34,7 @@ pub fn keep_name(text: &[u8], w: Word, s: State) -> Answer
 }
 
 // The array has all its bytes: said, so that it is known behind a write.
-pub fn whole(work: &[u8; 275296]) -> usize
+fn whole(work: &[u8; 275296]) -> usize
     ensures { λ r. ⌜ length (now (work .entry)) ≡ 275296 ⌝ }
 {
     let s: &[u8] = work;

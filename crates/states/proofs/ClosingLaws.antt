@@ -43,12 +43,12 @@ use Rattle.states.specs.Written.{Closed, Written, stateBeside, statesAct
 -- ---- The tables.
 
 pub closed : {n : ℕ} {x : Head} {actions : Run} {w w₁ w₂ : List ℕ} → (size Tb.Labels ≡ 4 → n < most Tb.Labels → Wrote Tb.Labels n (nameRow (x .at .place) (x .size)) w w₁)
-    → (n < 256 → StateAdded n (positioned (x .at)) (x .size) (valueMeant (x .value)) (positioned (x .spot)) (runMeant actions) w₁ w₂) → length w₂ ≡ 275296 → n < 256 → Closed n x actions w w₂
-closed {n} {w = w} {w₁} {w₂} f g e h =
+    → (n < 256 → StateAdded n (positioned (x .at)) (x .size) (valueMeant (x .value)) (positioned (x .spot)) (runMeant actions) w₁ w₂) → n < 256 → Closed n x actions w w₂
+closed {n} f g h =
     let a = f refl h in
     let b = g h in
     record {
-      whole = e;
+      whole = b .still;
       records = λ name k. b .records name k ∙ rw (a .kept .tables Tb.States refl n (omega arith));
       places = b .places ∙ rw (a .kept .tables Tb.StatePlaces refl n (omega arith));
       labels = b .kept .tables Tb.Labels refl (n + 1) (omega arith) ∙ a .behind;

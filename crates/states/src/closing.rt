@@ -1,7 +1,6 @@
 // A state added to its tables, with its label.
 use crate::Head;
 use image::runs::Run;
-use simple::leaves;
 use tables::Table;
 use tables::names;
 use tables::states;
@@ -26,5 +25,4 @@ pub fn close(work: &mut [u8; 275296], n: u16, x: Head, actions: Run)
     let spot = x.spot;
     names::add_name(work, Table::Labels, n, at, x.size);
     states::add_state(work, n, at, x.size, value, spot, actions);
-    leaves::whole(work);
 }

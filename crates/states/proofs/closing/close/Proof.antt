@@ -9,12 +9,9 @@ add-name-requires c κs = search needs
 add-state-requires : tie.Need-add-state-requires
 add-state-requires c κs = search needs
 
-whole-requires : tie.Need-whole-requires
-whole-requires c κs = search needs
-
 returns : tie.Need-returns
 returns c =
-    closed (c .before .before .before .before .add-name .ensures) (c .before .before .add-state .ensures) (c .whole .ensures)
+    closed (c .before .before .add-name .ensures) (c .add-state .ensures)
 
 pub close-spec : {M : Type 1} → statement M
-close-spec = tie.close (tie.spec add-name-requires add-state-requires whole-requires returns)
+close-spec = tie.close (tie.spec add-name-requires add-state-requires returns)
