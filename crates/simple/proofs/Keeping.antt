@@ -76,11 +76,16 @@ module _ (text : List ℕ) where
       few-names (otherIn w′) n ∙ facility-names text w′ (min n 256) h ∙ ap (λ (r : List ℕ). namesOf text r (min n 256)) (o (min n 256) h)
       ∙ sym (facility-names text w (min n 256) h) ∙ sym (few-names (otherIn w) n)
 
-pub known-kept : {text : List ℕ} {sc : Scope} {n : Counts} {w : List ℕ} (w′ : List ℕ) → OthersKept w w′ → Known text sc n w → Known text sc n w′
-known-kept {text} {n = n} {w} w′ o k = record {
-  facilities = k .facilities ∙ sym (names-kept text w w′ (o T.FacilityNames refl) (n .facilities));
-  operations = k .operations ∙ ap (λ (r : List ℕ). namesOf text r (n .operations)) (sym (o T.OperationNames refl (n .operations) (k .fewOperations)));
-  states = k .states ∙ ap (λ (r : List ℕ). namesOf text r (n .states)) (sym (o T.StateNames refl (n .states) (k .fewStates)));
+-- Where the tables of names are as they were.
+pub known-by : {text : List ℕ} {sc : Scope} {n : Counts} {w : List ℕ} (w′ : List ℕ) → ((m : ℕ) → m ≤ 256 → rows T.FacilityNames m w′ ≡ rows T.FacilityNames m w)
+    → ((m : ℕ) → m ≤ 128 → rows T.OperationNames m w′ ≡ rows T.OperationNames m w) → ((m : ℕ) → m ≤ 256 → rows T.StateNames m w′ ≡ rows T.StateNames m w) → Known text sc n w → Known text sc n w′
+known-by {text} {n = n} {w} w′ f o s k = record {
+  facilities = k .facilities ∙ sym (names-kept text w w′ f (n .facilities));
+  operations = k .operations ∙ ap (λ (r : List ℕ). namesOf text r (n .operations)) (sym (o (n .operations) (k .fewOperations)));
+  states = k .states ∙ ap (λ (r : List ℕ). namesOf text r (n .states)) (sym (s (n .states) (k .fewStates)));
   fewOperations = k .fewOperations;
   fewStates = k .fewStates;
 }
+
+pub known-kept : {text : List ℕ} {sc : Scope} {n : Counts} {w : List ℕ} (w′ : List ℕ) → OthersKept w w′ → Known text sc n w → Known text sc n w′
+known-kept w′ o k = known-by w′ (o T.FacilityNames refl) (o T.OperationNames refl) (o T.StateNames refl) k

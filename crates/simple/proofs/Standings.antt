@@ -26,7 +26,7 @@ use Rattle.simple.specs.Actions.{Paid, Standing, Written}
 
 -- ---- Ceilings.
 
-first-three : (c : Counts) → withinCeilings c ≡ true → (c .facilities ≤ 256) × (c .operations ≤ 128) × (c .states ≤ 256)
+pub first-three : (c : Counts) → withinCeilings c ≡ true → (c .facilities ≤ 256) × (c .operations ≤ 128) × (c .states ≤ 256)
 unfolding withinCeilings mostFacilities mostOperations mostStates mostCounted deepest
 first-three c e =
     let last = both (leb (c .counted) 2048) (leb (c .nesting) 24) in

@@ -142,6 +142,7 @@ state-added n at size v vat b {bs} {ps} {w} {w₁} {w₂} h f e a c =
     all : Wrote T.States n bs w w₁ → Wrote T.StatePlaces n ps w₁ w₂ → StateAdded n at size v vat b w w₂
     all i j = record {
       whole = i .whole;
+      still = j .still;
       records = λ name l. j .kept .tables T.States refl (n + 1) (omega arith) ∙ i .behind ∙ ap (λ (u : List ℕ). rows T.States n w ++ u) (f name l);
       places = j .behind ∙ rw (i .kept .tables T.StatePlaces refl n (omega arith), e);
       kept = kept-more (i .kept) (j .kept);

@@ -1,0 +1,10 @@
+pub mod StateWords
+pub mod ValueLaws
+pub mod CountLaws
+pub mod BodyLaws
+pub mod BracketLaws
+pub mod HeadLaws
+pub mod WrittenLaws
+pub mod ClosingLaws
+pub mod EndLaws
+pub mod StateLaws

@@ -1,0 +1,44 @@
+use Rattle.course.proofs.Answers.{not-done}
+use Rattle.states.proofs.HeadLaws.{value-not, value-read}
+use borrow.Author.Needs.{needs}
+use Rattle.states.proofs.heads.valued.Statement.{statement}
+use Rattle.states.proofs.heads.valued.Tie as tie
+
+in-brackets-requires : tie.Need-in-brackets-requires
+in-brackets-requires c κs = search needs
+
+enum-told : tie.Need-enum-told
+enum-told c = search needs
+
+plain-requires : tie.Need-plain-requires
+plain-requires c κs = search needs
+
+returns : tie.Need-returns
+returns c =
+    value-not (c .before .before .before .before .before .before .args .name) (c .before .before .before .before .in-brackets .ensures) (not-done (c .before .match .keys2))
+
+stated-requires : tie.Need-stated-requires
+stated-requires c κs = search needs
+
+add-constant-requires : tie.Need-add-constant-requires
+add-constant-requires c κs = search needs
+
+last-requires : tie.Need-last-requires
+last-requires c κs = search needs
+
+returns-2 : tie.Need-returns-2
+returns-2 c =
+    value-read (c .before .before .before .before .before .before .before .before .before .before .before .before .before .args .name) (c .before .before .before .before .before .before .before .before .before .before .before .in-brackets .ensures) (c .before .before .before .before .before .before .before .enum-told .given .1) (c .before .before .before .before .stated .ensures) (c .before .before .add-constant .ensures) (c .last .ensures)
+
+pub valued-spec : {M : Type 1} → statement M
+valued-spec =
+    tie.close
+    (tie.spec
+    in-brackets-requires
+    enum-told
+    plain-requires
+    returns
+    stated-requires
+    add-constant-requires
+    last-requires
+    returns-2)

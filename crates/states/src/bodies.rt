@@ -1,0 +1,120 @@
+// The actions of a state, separated by commas, and the `/` that ends it.
+use crate::kinds as signs;
+use course::Bearing;
+use course::State;
+use course::Verdict;
+use course::kinds;
+use course::taking;
+use meanings::Counts;
+use simple::Acted;
+use words::Word;
+ghost use Rattle.states.specs.Bodies.{Bodies, Firsts, Lists, Rests, Stands};
+
+// The first action, whose name was taken or not.
+fn first(
+    s: State,
+    named: bool,
+    name: Word,
+    text: &[u8],
+    w: Word,
+    work: &mut [u8; 275296],
+    n: Counts,
+    acts: u16,
+) -> Acted
+    ensures { λ r. ⌜ Firsts named name (now (text .entry)) n w s acts (now (work .entry)) (now (work .exit)) r ⌝ }
+{
+    if named {
+        return simple::named_in_state(s, name, text, w, work, n, acts);
+    }
+    actions::action(s, true, text, w, work, n, acts)
+}
+
+// Behind an action: a comma and another, or the `/`. Each counts a word, so that there are not too many.
+fn rest(s: State, text: &[u8], w: Word, work: &mut [u8; 275296], n: Counts, acts: u16) -> Acted
+    requires { ⌜ Stands (now text) n w s acts (now work) ⌝ }
+    ensures { λ r. ⌜ Rests (now (text .entry)) n w s acts (now (work .entry)) (now (work .exit)) r ⌝ }
+{
+    let mut next = w;
+    let mut state = s;
+    let mut after = acts;
+    loop {
+        let kind = next.kind;
+        if kinds::number(kind) != kinds::COMMA {
+            let answer = taking::expect(text, next, state, signs::SLASH, Bearing::Level);
+            return Acted {
+                answer,
+                actions: after,
+            };
+        }
+        let comma = taking::take(text, next, state, false, Bearing::Level);
+        let verdict = comma.verdict;
+        let Verdict::Done = verdict else {
+            return Acted {
+                answer: comma,
+                actions: after,
+            };
+        };
+        let another = actions::action(comma.state, true, text, comma.next, work, n, after);
+        let answer = another.answer;
+        let verdict = answer.verdict;
+        let Verdict::Done = verdict else {
+            return another;
+        };
+        next = answer.next;
+        state = answer.state;
+        after = another.actions;
+    }
+}
+
+// Some actions, and the `/`.
+fn list(
+    s: State,
+    named: bool,
+    name: Word,
+    text: &[u8],
+    w: Word,
+    work: &mut [u8; 275296],
+    n: Counts,
+    acts: u16,
+) -> Acted
+    requires { ⌜ Stands (now text) n w s acts (now work) ⌝ }
+    ensures { λ r. ⌜ Lists named name (now (text .entry)) n w s acts (now (work .entry)) (now (work .exit)) r ⌝ }
+{
+    let one = first(s, named, name, text, w, work, n, acts);
+    let answer = one.answer;
+    let verdict = answer.verdict;
+    let Verdict::Done = verdict else {
+        return one;
+    };
+    let next = answer.next;
+    let state = answer.state;
+    rest(state, text, next, work, n, one.actions)
+}
+
+// The actions of a state, of which the first one's name was taken or not; there may be none.
+pub fn body(
+    s: State,
+    named: bool,
+    name: Word,
+    text: &[u8],
+    w: Word,
+    work: &mut [u8; 275296],
+    n: Counts,
+    acts: u16,
+) -> Acted
+    requires { ⌜ Stands (now text) n w s acts (now work) ⌝ }
+    ensures { λ r. ⌜ Bodies named name (now (text .entry)) n w s acts (now (work .entry)) (now (work .exit)) r ⌝ }
+{
+    if named {
+        return list(s, true, name, text, w, work, n, acts);
+    }
+    let kind = w.kind;
+    if kinds::number(kind) == signs::SLASH {
+        let answer = taking::take(text, w, s, false, Bearing::Level);
+        return Acted {
+            answer,
+            actions: acts,
+        };
+    }
+    list(s, false, name, text, w, work, n, acts)
+}

@@ -1,0 +1,222 @@
+// How a state begins: a label with or without a value, or at once its actions.
+use crate::Begun;
+use crate::Head;
+use crate::kinds as signs;
+use crate::values;
+use course::Answer;
+use course::Bearing;
+use course::State;
+use course::Verdict;
+use course::adding;
+use course::kinds;
+use course::taking;
+use image::states::StateValue;
+use words::Position;
+use words::Word;
+use words::places;
+ghost use mathlib.Core.Path.{_≡_};
+ghost use Rattle.grammar.specs.Following.{among};
+ghost use Rattle.states.specs.Heads.{AfterName, Brackets, Counted, Heads, PlainHead, Valued, stateKinds};
+
+// A constant that was read in parentheses with the colon behind them.
+pub struct Bracketed {
+    pub answer: Answer,
+    pub constant: Word,
+}
+
+// Whether a state may begin with a word of a kind.
+fn begins(kind: u8) -> bool
+    ensures { λ r. ⌜ r ≡ among kind stateKinds ⌝ }
+{
+    match kind {
+        kinds::NAME => true,
+        signs::SLASH => true,
+        signs::GOTO => true,
+        signs::CALL => true,
+        signs::RETURN => true,
+        kinds::IF => true,
+        kinds::CASE => true,
+        _ => false,
+    }
+}
+
+// Counts a state at its first word, which is not yet taken.
+fn count(w: Word, s: State) -> Answer
+    ensures { λ r. ⌜ Counted w s r ⌝ }
+{
+    if s.states < 256 {
+        let state = State {
+            facilities: s.facilities,
+            operations: s.operations,
+            states: s.states + 1,
+            counted: s.counted,
+            nesting: s.nesting,
+            nodes: s.nodes,
+            known: s.known,
+        };
+        return Answer {
+            verdict: Verdict::Done,
+            next: w,
+            state,
+        };
+    }
+    let kind = w.kind;
+    if begins(kinds::number(kind)) {
+        return taking::refuse(w, s, 10);
+    }
+    taking::refuse(w, s, 3)
+}
+
+// A state without a value; its label's word is at its place.
+fn plain(at: Position, size: usize) -> Head
+    ensures { λ r. ⌜ PlainHead at size r ⌝ }
+{
+    let spot = places::position(0);
+    Head {
+        at,
+        size,
+        value: StateValue::None,
+        spot,
+    }
+}
+
+// A constant in parentheses, and the colon.
+fn in_brackets(text: &[u8], w: Word, s: State) -> Bracketed
+    ensures { λ r. ⌜ Brackets (now (text .entry)) w s r ⌝ }
+{
+    let open = taking::take(text, w, s, false, Bearing::Opens);
+    let verdict = open.verdict;
+    let Verdict::Done = verdict else {
+        return Bracketed {
+            answer: open,
+            constant: w,
+        };
+    };
+    let constant = open.next;
+    let kept = values::keep_value(text, constant, open.state);
+    let verdict = kept.verdict;
+    let Verdict::Done = verdict else {
+        return Bracketed {
+            answer: kept,
+            constant,
+        };
+    };
+    let close = taking::expect(
+        text,
+        kept.next,
+        kept.state,
+        kinds::CLOSE_PAREN,
+        Bearing::Closes,
+    );
+    let verdict = close.verdict;
+    let Verdict::Done = verdict else {
+        return Bracketed {
+            answer: close,
+            constant,
+        };
+    };
+    let answer = taking::expect(text, close.next, close.state, kinds::COLON, Bearing::Level);
+    Bracketed { answer, constant }
+}
+
+// A label's value, whose records are written.
+fn valued(text: &[u8], name: Word, w: Word, work: &mut [u8; 275296], s: State, l: u16) -> Begun
+    ensures { λ r. ⌜ Valued l name (now (text .entry)) w s (now (work .entry)) (now (work .exit)) r ⌝ }
+{
+    let read = in_brackets(text, w, s);
+    let answer = read.answer;
+    let at = name.at;
+    let verdict = answer.verdict;
+    let Verdict::Done = verdict else {
+        let head = plain(at, name.size);
+        return Begun {
+            answer,
+            head,
+            named: false,
+        };
+    };
+    let constant = read.constant;
+    let spot = constant.at;
+    let v = values::stated(constant, l);
+    let added = adding::add_constant(work, v, answer.next, answer.state);
+    let state = added.state;
+    let value = StateValue::At(adding::last(state.nodes));
+    let head = Head {
+        at,
+        size: name.size,
+        value,
+        spot,
+    };
+    Begun {
+        answer: added,
+        head,
+        named: false,
+    }
+}
+
+// Behind the name that a state begins with: it was a label, or the first action's.
+fn after_name(text: &[u8], name: Word, w: Word, work: &mut [u8; 275296], s: State, l: u16) -> Begun
+    ensures { λ r. ⌜ AfterName l name (now (text .entry)) w s (now (work .entry)) (now (work .exit)) r ⌝ }
+{
+    let kind = w.kind;
+    let k = kinds::number(kind);
+    if k == kinds::OPEN_PAREN {
+        return valued(text, name, w, work, s, l);
+    }
+    let at = name.at;
+    if k == kinds::COLON {
+        let answer = taking::take(text, w, s, false, Bearing::Level);
+        let head = plain(at, name.size);
+        return Begun {
+            answer,
+            head,
+            named: false,
+        };
+    }
+    let answer = Answer {
+        verdict: Verdict::Done,
+        next: w,
+        state: s,
+    };
+    let head = plain(at, 0);
+    Begun {
+        answer,
+        head,
+        named: true,
+    }
+}
+
+// The head of a state.
+pub fn head(text: &[u8], w: Word, work: &mut [u8; 275296], s: State, l: u16) -> Begun
+    ensures { λ r. ⌜ Heads l (now (text .entry)) w s (now (work .entry)) (now (work .exit)) r ⌝ }
+{
+    let counted = count(w, s);
+    let at = w.at;
+    let head = plain(at, 0);
+    let verdict = counted.verdict;
+    let Verdict::Done = verdict else {
+        return Begun {
+            answer: counted,
+            head,
+            named: false,
+        };
+    };
+    let kind = w.kind;
+    if kinds::number(kind) != kinds::NAME {
+        return Begun {
+            answer: counted,
+            head,
+            named: false,
+        };
+    }
+    let name = taking::take(text, w, counted.state, false, Bearing::Level);
+    let verdict = name.verdict;
+    let Verdict::Done = verdict else {
+        return Begun {
+            answer: name,
+            head,
+            named: false,
+        };
+    };
+    after_name(text, w, name.next, work, name.state, l)
+}

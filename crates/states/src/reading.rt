@@ -1,0 +1,111 @@
+// States, one after the other, to the end of the text.
+use crate::bodies;
+use crate::closing;
+use crate::ends;
+use crate::heads;
+use crate::kinds as signs;
+use course::State;
+use course::Verdict;
+use course::kinds;
+use meanings::Counts;
+use simple::Acted;
+use words::Word;
+ghost use Rattle.states.specs.Bodies.{Stands};
+ghost use Rattle.states.specs.States.{All, One, moreStack, startStack};
+
+// One state; l is the length of the sequencing register, and 0 where there is none.
+fn one(
+    s: State,
+    text: &[u8],
+    w: Word,
+    work: &mut [u8; 275296],
+    n: Counts,
+    acts: u16,
+    l: u16,
+) -> Acted
+    requires { ⌜ Stands (now text) n w s acts (now work) ⌝ }
+    ensures { λ r. ⌜ One l (now (text .entry)) n w s acts (now (work .entry)) (now (work .exit)) r ⌝ }
+{
+    let begun = heads::head(text, w, work, s, l);
+    let answer = begun.answer;
+    let verdict = answer.verdict;
+    let Verdict::Done = verdict else {
+        return Acted {
+            answer,
+            actions: acts,
+        };
+    };
+    let next = answer.next;
+    let state = answer.state;
+    let read = bodies::body(state, begun.named, w, text, next, work, n, acts);
+    let after = read.answer;
+    let verdict = after.verdict;
+    let Verdict::Done = verdict else {
+        return read;
+    };
+    let head = begun.head;
+    let actions = closing::run(acts, read.actions);
+    closing::close(work, s.states, head, actions);
+    read
+}
+
+// Behind a state: others, and the end of the text. Each is counted, so that there are not too many.
+fn more(
+    s: State,
+    text: &[u8],
+    w: Word,
+    work: &mut [u8; 275296],
+    n: Counts,
+    acts: u16,
+    l: u16,
+) -> Acted
+    requires { ⌜ Stands (now text) n w s acts (now work) ⌝ }
+    ensures { λ r. ⌜ All moreStack l (now (text .entry)) n w s acts (now (work .entry)) (now (work .exit)) r ⌝ }
+{
+    let mut next = w;
+    let mut state = s;
+    let mut after = acts;
+    loop {
+        let kind = next.kind;
+        let k = kinds::number(kind);
+        if k == signs::PERIOD {
+            return ends::ended(text, next, state, after);
+        }
+        if k == signs::END {
+            return ends::ended(text, next, state, after);
+        }
+        let another = one(state, text, next, work, n, after, l);
+        let answer = another.answer;
+        let verdict = answer.verdict;
+        let Verdict::Done = verdict else {
+            return another;
+        };
+        next = answer.next;
+        state = answer.state;
+        after = another.actions;
+    }
+}
+
+// All states, to the end of the text.
+pub fn states(
+    s: State,
+    text: &[u8],
+    w: Word,
+    work: &mut [u8; 275296],
+    n: Counts,
+    acts: u16,
+    l: u16,
+) -> Acted
+    requires { ⌜ Stands (now text) n w s acts (now work) ⌝ }
+    ensures { λ r. ⌜ All startStack l (now (text .entry)) n w s acts (now (work .entry)) (now (work .exit)) r ⌝ }
+{
+    let first = one(s, text, w, work, n, acts, l);
+    let answer = first.answer;
+    let verdict = answer.verdict;
+    let Verdict::Done = verdict else {
+        return first;
+    };
+    let next = answer.next;
+    let state = answer.state;
+    more(state, text, next, work, n, first.actions, l)
+}
