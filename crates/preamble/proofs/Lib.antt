@@ -1,0 +1,5 @@
+pub mod SectionWords
+pub mod ListLaws
+pub mod ReadyLaws
+pub mod SectionLaws
+pub mod StartLaws

@@ -1,0 +1,34 @@
+use Rattle.course.proofs.Answers.{not-done}
+use Rattle.declarations.specs.Lists.{terminals}
+use Rattle.preamble.proofs.ListLaws.{section-not, section-read, section-stands}
+use borrow.Author.Needs.{needs}
+use Rattle.preamble.proofs.lists.defined.Statement.{statement}
+use Rattle.preamble.proofs.lists.defined.Tie as tie
+
+take-requires : tie.Need-take-requires
+take-requires c κs = search needs
+
+enum-told : tie.Need-enum-told
+enum-told c = search needs
+
+returns : tie.Need-returns
+returns c =
+    section-not terminals (c .before .before .before .pre) (c .before .take .ensures) (not-done (c .match .keys2))
+
+terminals-requires : tie.Need-terminals-requires
+terminals-requires c κs =
+    section-stands terminals (c .before .before .before .before .before .before .before .pre) (c .before .before .before .before .before .take .ensures) (c .before .before .before .enum-told .given .1)
+
+returns-2 : tie.Need-returns-2
+returns-2 c =
+    section-read terminals (c .before .before .before .before .before .before .before .before .pre) (c .before .before .before .before .before .before .take .ensures) (c .before .before .before .before .enum-told .given .1) (c .terminals .ensures)
+
+pub defined-spec : {M : Type 1} → statement M
+defined-spec =
+    tie.close
+    (tie.spec
+    take-requires
+    enum-told
+    returns
+    terminals-requires
+    returns-2)
