@@ -1,0 +1,4 @@
+pub mod AddsLaws
+pub mod BitLaws
+pub mod DecimalLaws
+pub mod TextLaws

@@ -1,0 +1,3 @@
+// What the trace program prints and takes, line by line.
+pub mod out;
+pub mod shown;
