@@ -1,4 +1,6 @@
 pub mod AddsLaws
 pub mod BitLaws
 pub mod DecimalLaws
+pub mod LineLoop
+pub mod NameLoop
 pub mod TextLaws
