@@ -1,0 +1,7 @@
+pub mod AddsLaws
+pub mod BitLaws
+pub mod DecimalLaws
+pub mod LabelLaws
+pub mod LineLoop
+pub mod NameLoop
+pub mod TextLaws
