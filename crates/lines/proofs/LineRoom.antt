@@ -6,10 +6,11 @@ use Prim.Native.Nat.{ℕ, zero, suc, _+_, _/_, _%_, _≤_}
 use native.Mathlib.Omega.{arith}
 use lib.Dec.{eqb}
 use lib.ListN.{length, length-append}
-use Rattle.language.specs.Description.{Facility, wordLength}
+use Rattle.language.specs.Description.{Description, Facility, stateAt, wordLength}
 use Rattle.language.specs.Scan.{bytes}
-use Rattle.language.specs.Store.{Words}
-use Rattle.language.specs.Trace.{bits, decimalFrom, facilitiesLine, firstWord, shown}
+use Rattle.language.specs.Store.{Words, fromBytes}
+use Rattle.language.specs.Trace.{bits, cycleLine, decimal, decimalFrom, facilitiesLine, firstWord, labelOf, lineEnd, shown}
+use Rattle.language.specs.Tree.{Name}
 use Rattle.lines.specs.Room.{lineRoom}
 use Rattle.lines.proofs.BitLaws.{length-bits}
 
@@ -38,3 +39,16 @@ facilities-short (f ∷ fs) (ws ∷ s) = go (shown f) (facilities-short fs s)
     go true i =
         omega (arith, length-append (f .name) (61 ∷ (word ++ rest)), length-append word rest, length-bits (wordLength f) (firstWord ws))
     go false i = omega arith
+
+label-short : (n : Name) → length (labelOf n) ≤ 1 + length n
+unfolding bytes
+label-short [] = omega arith
+label-short (b ∷ n) = omega arith
+
+-- A whole line: at most 20 digits, a blank, the label or a dash, the facilities, and the end.
+pub cycle-short : (d : Description) (number state : ℕ) (B : List ℕ) → length (cycleLine d number state B) ≤ 23 + length (stateAt d state .name) + lineRoom (d .facilities)
+unfolding cycleLine bytes
+cycle-short d number state B =
+    let l = labelOf (stateAt d state .name) in
+    let t = facilitiesLine (d .facilities) (fromBytes (d .facilities) B) in
+    omega (arith, decimal-short 20 number [], label-short (stateAt d state .name), facilities-short (d .facilities) (fromBytes (d .facilities) B), length-append (decimal number) (32 ∷ (l ++ (t ++ lineEnd))), length-append l (t ++ lineEnd), length-append t lineEnd)
