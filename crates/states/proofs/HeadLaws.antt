@@ -6,8 +6,7 @@ use mathlib.Core.Path.{_≡_, refl, sym, ap, _∙_, subst}
 use Prim.Native.Nat.{ℕ, _+_, _-_, _<_, _≤_}
 use native.Mathlib.Omega.{arith}
 use borrow.Author.Tests.{le-leb}
-use lib.ListN.{drop, length, length-drop, length-map, take}
-use lib.Seq.{length-take-le}
+use lib.ListN.{length}
 use Rattle.actions.proofs.ListLaws.{level-same}
 use Rattle.course.proofs.Answers.{done-full, done-refused}
 use Rattle.course.proofs.Ceilings.{by-nesting, few-counted, few-open}
@@ -21,10 +20,10 @@ use Rattle.course.specs.declared.Verdict.the-variants.{Done}
 use Rattle.course.specs.Course.{Seen, Stack, countsOf, kindNo, runs}
 use Rattle.course.specs.Gained as G
 use Rattle.course.specs.Taken.{Passed, Took, afterWord, constantWord}
+use Rattle.declarations.proofs.Unexpressed.{letters-length}
 use Rattle.image.specs.declared.states.StateValue.the-variants as Sv
 use Rattle.image.specs.Declarations.{valueMeant}
 use Rattle.language.specs.Building.{Built, keepWord, wordNo}
-use Rattle.language.specs.Characters.{folded}
 use Rattle.language.specs.Declaring.{treeSteps}
 use Rattle.language.specs.Describe.{constantNodes, constantSize}
 use Rattle.language.specs.DescribeText.{stateConstant, valueNodes, valueSize}
@@ -57,10 +56,6 @@ use Rattle.states.specs.declared.heads.Bracketed.{Bracketed}
 use Rattle.states.specs.Heads.{AfterName, Brackets, BracketsRead, Counted, HeadRead, Heads, PlainHead, Says, Stated, Valued}
 
 -- ---- What heads say.
-
-letters-length : (text : List ℕ) (place size : ℕ) → place + size ≤ length text → length (letters text place size) ≡ size
-unfolding letters
-letters-length text place size h = length-map (take size (drop place text)) folded ∙ length-take-le size (drop place text) (omega (arith, length-drop place text))
 
 -- A label by its word.
 abbrev labelled : List ℕ → Word → T.State
