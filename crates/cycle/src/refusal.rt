@@ -16,7 +16,7 @@ pub enum Refusal {
 }
 
 // Whether the buffers lent are long enough for a store of this size.
-fn roomy(size: usize, store: usize, record: usize, scratch: usize) -> bool
+pub fn roomy(size: usize, store: usize, record: usize, scratch: usize) -> bool
     ensures { λ r. ⌜ ((d : Description) → size ≡ storeSize d → r ≡ L.roomy d store «record» scratch) ⌝ }
 {
     if store < size {

@@ -1,0 +1,3 @@
+pub mod FormLaws
+pub mod RefusalLaws
+pub mod RunLaws

@@ -1,0 +1,43 @@
+// Many cycles: all that a caller is owed, on every input.
+use crate::answer::Answer;
+use crate::carry;
+use crate::refusal;
+use cycle::refusal::Refusal;
+use store::slices;
+ghost use mathlib.Core.Path.{_≡_};
+ghost use lib.ListN.{length};
+ghost use Rattle.language.specs.Calls as L;
+ghost use Rattle.run.specs.Called.{call};
+
+// Refused or carried out. The trace is zero beyond the stores of completed cycles, and scratch is zero.
+pub fn run(
+    image: &[u8],
+    store: &mut [u8],
+    record: &mut [u8],
+    stimuli: &[u8],
+    cycles: u32,
+    scratch: &mut [u8],
+    trace: &mut [u8],
+) -> Answer
+    ensures { λ r. ⌜ call r (now (store .exit)) (now («record» .exit)) (now (scratch .exit)) (now (trace .exit)) ≡ L.run (now (image .entry)) (now (store .entry)) (now («record» .entry)) (now (stimuli .entry)) cycles (length (now (scratch .entry))) (length (now (trace .entry))) ⌝ }
+{
+    slices::zero(trace);
+    match refusal::run_refusal(
+        image,
+        store,
+        record,
+        stimuli,
+        cycles,
+        scratch.len(),
+        trace.len(),
+    ) {
+        Refusal::At(n) => {
+            slices::zero(scratch);
+            Answer::Refused(n)
+        }
+        Refusal::None => {
+            let tally = carry::carry_out(image, store, record, stimuli, cycles, scratch, trace);
+            Answer::Ran(tally)
+        }
+    }
+}
