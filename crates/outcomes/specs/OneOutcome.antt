@@ -1,0 +1,171 @@
+-- One outcome for each public call (01, "What each public call owes"): two answers, with two sets of later buffers, that meet a call's contract for the same inputs are the same. Buffers that are only written may have held other bytes before: their lengths alone are asked to be equal.
+use mathlib.Core.Bool.{Bool, true, false, cond}
+use mathlib.Core.List.{List}
+use mathlib.Core.Option.{Option, none, some}
+use mathlib.Core.Path.{_≡_, refl, sym, ap, ap₂, _∙_}
+use Prim.Native.Nat.{ℕ}
+use native.Mathlib.Omega.{arith}
+use lib.ListN.{length}
+use Rattle.language.specs.Calls as L
+use Rattle.language.specs.Decode.{decode}
+use Rattle.language.specs.Description as D
+use Rattle.language.specs.Description.{facilityAt, isComputed}
+use Rattle.language.specs.Image as I
+use Rattle.language.specs.Lookups as Lk
+use Rattle.language.specs.Reading as R
+use Rattle.language.specs.Tree as T
+use Rattle.language.specs.Tree.{Name}
+use Rattle.image.specs.Declarations.{boundsMeant, facilityMeant, kindMeant}
+use Rattle.image.specs.Names.{partMeant}
+use Rattle.image.specs.declared.facilities.Bounds.{Bounds}
+use Rattle.image.specs.declared.facilities.Facility.{Facility}
+use Rattle.image.specs.declared.facilities.Kind.{Kind}
+use Rattle.image.specs.declared.facilities.Kind.the-variants as K
+use Rattle.image.specs.declared.names.Part.{Part}
+use Rattle.lookups.specs.Answers.{answered, nameMeant}
+use Rattle.lookups.specs.declared.declared.Looked.{Looked}
+use Rattle.lookups.specs.declared.declared.Looked.the-variants as F
+use Rattle.lookups.specs.declared.named.Answer as Named
+use Rattle.lookups.specs.declared.named.Answer.the-variants as N
+
+-- ---- The check, and names as parts of the image: the contract names the answer itself.
+
+pub passes-one : (image : List ℕ) (a b : Bool) → a ≡ I.passes image → b ≡ I.passes image → a ≡ b
+passes-one image a b p q = p ∙ sym q
+
+pub facility-name-one : (image : List ℕ) (n : ℕ) (a b : List ℕ) → a ≡ Lk.partOf image (Lk.facilityName image n) → b ≡ Lk.partOf image (Lk.facilityName image n) → a ≡ b
+facility-name-one image n a b p q = p ∙ sym q
+
+pub state-name-one : (image : List ℕ) (n : ℕ) (a b : List ℕ) → a ≡ Lk.partOf image (Lk.stateName image n) → b ≡ Lk.partOf image (Lk.stateName image n) → a ≡ b
+state-name-one image n a b p q = p ∙ sym q
+
+-- ---- Where a name stands.
+
+part-one : (p q : Part) → partMeant p ≡ partMeant q → p ≡ q
+part-one p q e =
+    ap₂ (λ (o n : ℕ). record { offset = o; length = n }) (ap (λ (x : Lk.Part). x .offset) e) (ap (λ (x : Lk.Part). x .length) e)
+
+abbrev partIn : Lk.Part → Lk.NameAnswer → Lk.Part
+partIn p (Lk.named q) = q
+partIn p (Lk.refused n) = p
+
+name-one : (a b : Named.Answer) → nameMeant a ≡ nameMeant b → a ≡ b
+name-one (N.Named p) (N.Named q) e = ap N.Named (part-one p q (ap (partIn (partMeant p)) e))
+name-one (N.Refused m) (N.Refused n) e =
+    let z : m ≡ n = cc in
+    ap N.Refused z
+name-one (N.Named p) (N.Refused n) e =
+    let z : _≡_ {A = ℕ} 0 1 = cc in
+    absurd (omega arith)
+name-one (N.Refused n) (N.Named p) e =
+    let z : _≡_ {A = ℕ} 0 1 = cc in
+    absurd (omega arith)
+
+pub facility-part-one : (image : List ℕ) (n : ℕ) (a b : Named.Answer) → nameMeant a ≡ Lk.facilityName image n → nameMeant b ≡ Lk.facilityName image n → a ≡ b
+facility-part-one image n a b p q = name-one a b (p ∙ sym q)
+
+pub state-part-one : (image : List ℕ) (n : ℕ) (a b : Named.Answer) → nameMeant a ≡ Lk.stateName image n → nameMeant b ≡ Lk.stateName image n → a ≡ b
+state-part-one image n a b p q = name-one a b (p ∙ sym q)
+
+-- ---- A declaration. Its contract is silent on the length of the name that stands beside it, so the answers are the same but for that.
+
+abbrev kindBack : T.Kind → Kind
+kindBack T.register = K.Register
+kindBack T.sequencing = K.Sequencing
+kindBack T.memory = K.Memory
+kindBack T.plain = K.Plain
+kindBack T.input = K.Input
+kindBack T.computed = K.Computed
+
+kind-back : (k : Kind) → kindBack (kindMeant k) ≡ k
+kind-back K.Register = refl
+kind-back K.Sequencing = refl
+kind-back K.Memory = refl
+kind-back K.Plain = refl
+kind-back K.Input = refl
+kind-back K.Computed = refl
+
+kind-one : (k l : Kind) → kindMeant k ≡ kindMeant l → k ≡ l
+kind-one k l e = sym (kind-back k) ∙ ap kindBack e ∙ kind-back l
+
+bounds-one : (a b : Bounds) → boundsMeant a ≡ boundsMeant b → a ≡ b
+bounds-one a b e = ap₂ (λ (m n : ℕ). record { first = m; last = n }) (ap (λ (x : D.Bounds). x .first) e) (ap (λ (x : D.Bounds). x .last) e)
+
+-- A place is told by the expression or by the place in the store.
+place-one : (b c : Bool) (x y : ℕ) → b ≡ c → cond b x 0 ≡ cond c y 0 → cond b none (some x) ≡ cond c none (some y) → x ≡ y
+place-one true true x y h e p = e
+place-one false false x y h e p = cc
+place-one true false x y h e p =
+    let z : _≡_ {A = ℕ} 0 1 = cc in
+    absurd (omega arith)
+place-one false true x y h e p =
+    let z : _≡_ {A = ℕ} 0 1 = cc in
+    absurd (omega arith)
+
+abbrev pub unnamed : Facility → Facility
+unnamed f = record { kind = f .kind; dimensions = f .dimensions; name = 0; words = f .words; bits = f .bits; place = f .place }
+
+abbrev placed : Facility → Option ℕ
+placed f = cond (isComputed (kindMeant (f .kind))) none (some (f .place))
+
+unnamed-one : (name : Name) (f g : Facility) → facilityMeant name f ≡ facilityMeant name g → placed f ≡ placed g → unnamed f ≡ unnamed g
+unnamed-one name f g e p =
+    let k : kindMeant (f .kind) ≡ kindMeant (g .kind) = ap (λ (x : D.Facility). x .kind) e in
+    let a : f .kind ≡ g .kind = kind-one (f .kind) (g .kind) k in
+    let b : f .dimensions ≡ g .dimensions = ap (λ (x : D.Facility). x .dimensions) e in
+    let c : f .words ≡ g .words = bounds-one (f .words) (g .words) (ap (λ (x : D.Facility). x .words) e) in
+    let d : f .bits ≡ g .bits = bounds-one (f .bits) (g .bits) (ap (λ (x : D.Facility). x .bits) e) in
+    let q : f .place ≡ g .place = place-one (isComputed (kindMeant (f .kind))) (isComputed (kindMeant (g .kind))) (f .place) (g .place) (ap isComputed k) (ap (λ (x : D.Facility). x .expression) e) p in
+    rw (a, b, c, d, q)
+
+abbrev pub shown : Looked → Looked
+shown (F.Declared f) = F.Declared (unnamed f)
+shown (F.Refused n) = F.Refused n
+
+abbrev facilityIn : D.Facility → Lk.FacilityAnswer → D.Facility
+facilityIn f (Lk.declared g p) = g
+facilityIn f (Lk.unknown n) = f
+
+abbrev placeIn : Lk.FacilityAnswer → Option ℕ
+placeIn (Lk.declared g p) = p
+placeIn (Lk.unknown n) = none
+
+looked-one : (name : Name) (a b : Looked) → answered name a ≡ answered name b → shown a ≡ shown b
+looked-one name (F.Declared f) (F.Declared g) e = ap F.Declared (unnamed-one name f g (ap (facilityIn (facilityMeant name f)) e) (ap placeIn e))
+looked-one name (F.Refused m) (F.Refused n) e =
+    let z : m ≡ n = cc in
+    ap F.Refused z
+looked-one name (F.Declared f) (F.Refused n) e =
+    let z : _≡_ {A = ℕ} 0 1 = cc in
+    absurd (omega arith)
+looked-one name (F.Refused n) (F.Declared f) e =
+    let z : _≡_ {A = ℕ} 0 1 = cc in
+    absurd (omega arith)
+
+pub facility-one : (image : List ℕ) (n : ℕ) (a b : Looked) → answered (facilityAt (decode image) n .name) a ≡ Lk.facility image n → answered (facilityAt (decode image) n .name) b ≡ Lk.facility image n → shown a ≡ shown b
+facility-one image n a b p q = looked-one (facilityAt (decode image) n .name) a b (p ∙ sym q)
+
+-- That length is left open: an answer without it means the same.
+pub length-unsaid : (name : Name) (a : Looked) → answered name (shown a) ≡ answered name a
+length-unsaid name (F.Declared f) = refl
+length-unsaid name (F.Refused n) = refl
+
+-- ---- Reading and running, for any answer whose values have meanings of their own.
+
+abbrev readCalled : R.ReadAnswer → List ℕ → R.ReadCall
+readCalled a image = record { answer = a; image = image }
+
+module _ {A : Type 0} (meant : A → R.ReadAnswer) (apart : (a b : A) → meant a ≡ meant b → a ≡ b) (text image image′ : List ℕ) (s : length image ≡ length image′) where
+  pub read-one : (a b : A) (x y : List ℕ) → readCalled (meant a) x ≡ R.read text (length image) → readCalled (meant b) y ≡ R.read text (length image′) → (a ≡ b) × (x ≡ y)
+  read-one a b x y p q =
+      let e : readCalled (meant a) x ≡ readCalled (meant b) y = p ∙ ap (R.read text) s ∙ sym q in
+      (apart a b (ap (λ (c : R.ReadCall). c .answer) e), ap (λ (c : R.ReadCall). c .image) e)
+
+abbrev runCalled : L.RunAnswer → List ℕ → List ℕ → List ℕ → List ℕ → L.RunCall
+runCalled a store kept scratch trace = record { answer = a; store = store; record′ = kept; scratch = scratch; trace = trace }
+
+module _ {A : Type 0} (meant : A → L.RunAnswer) (apart : (a b : A) → meant a ≡ meant b → a ≡ b) (image store kept stimuli : List ℕ) (count : ℕ) (scratch scratch′ trace trace′ : List ℕ) (s : length scratch ≡ length scratch′) (t : length trace ≡ length trace′) where
+  pub run-one : (a b : A) (x y u v w z m n : List ℕ) → runCalled (meant a) x u w m ≡ L.run image store kept stimuli count (length scratch) (length trace) → runCalled (meant b) y v z n ≡ L.run image store kept stimuli count (length scratch′) (length trace′) → (a ≡ b) × ((x ≡ y) × ((u ≡ v) × ((w ≡ z) × (m ≡ n))))
+  run-one a b x y u v w z m n p q =
+      let e : runCalled (meant a) x u w m ≡ runCalled (meant b) y v z n = p ∙ ap₂ (λ (i j : ℕ). L.run image store kept stimuli count i j) s t ∙ sym q in
+      (apart a b (ap (λ (c : L.RunCall). c .answer) e), (ap (λ (c : L.RunCall). c .store) e, (ap (λ (c : L.RunCall). c .record′) e, (ap (λ (c : L.RunCall). c .scratch) e, ap (λ (c : L.RunCall). c .trace) e))))
