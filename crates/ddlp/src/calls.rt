@@ -6,6 +6,7 @@ ghost use lib.ListN.{length};
 ghost use Rattle.language.specs.Calls as L;
 ghost use Rattle.ddlp.specs.Numbers.{cycleNumbers, openNumber};
 
+// A store and a record at the first state, or zero and the number of the refusal.
 #[no_mangle]
 pub extern "C" fn ddlp_open(image: &[u8], store: &mut [u8], record: &mut [u8]) -> u32
     ensures { λ r. ⌜ r ≡ openNumber (L.open′ (now (image .entry)) (length (now (store .entry))) (length (now («record» .entry))) .answer) ⌝ }
@@ -16,6 +17,7 @@ pub extern "C" fn ddlp_open(image: &[u8], store: &mut [u8], record: &mut [u8]) -
     numbers::open_number(answer)
 }
 
+// Store and record a cycle further, or as they were; scratch zero.
 #[no_mangle]
 pub extern "C" fn ddlp_cycle(
     image: &[u8],

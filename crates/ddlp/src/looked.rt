@@ -7,6 +7,7 @@ ghost use mathlib.Core.Path.{_≡_};
 ghost use Rattle.language.specs.Lookups as L;
 ghost use Rattle.ddlp.specs.Numbers.{facilityNumbers, nameNumbers};
 
+// The name of a facility.
 #[no_mangle]
 pub extern "C" fn ddlp_facility_name(image: &[u8], number: u32) -> NameAnswer
     ensures { λ r. ⌜ r ≡ nameNumbers (L.facilityName (now (image .entry)) number) ⌝ }
@@ -14,6 +15,7 @@ pub extern "C" fn ddlp_facility_name(image: &[u8], number: u32) -> NameAnswer
     numbers::name_numbers(looked::facility_part(image, number))
 }
 
+// The label of a state, which may be empty.
 #[no_mangle]
 pub extern "C" fn ddlp_state_name(image: &[u8], number: u32) -> NameAnswer
     ensures { λ r. ⌜ r ≡ nameNumbers (L.stateName (now (image .entry)) number) ⌝ }
@@ -21,6 +23,7 @@ pub extern "C" fn ddlp_state_name(image: &[u8], number: u32) -> NameAnswer
     numbers::name_numbers(looked::state_part(image, number))
 }
 
+// The declaration of a facility, and its place in the store.
 #[no_mangle]
 pub extern "C" fn ddlp_facility(image: &[u8], number: u32) -> FacilityAnswer
     ensures { λ r. ⌜ r ≡ facilityNumbers (L.facility (now (image .entry)) number) ⌝ }

@@ -17,6 +17,7 @@ ghost use Rattle.lookups.specs.declared.declared.Looked.the-variants as Looked;
 ghost use Rattle.open.specs.Called as Opened;
 ghost use Rattle.ddlp.specs.Numbers.{Short, cycleNumbers, facilityNumbers, nameNumbers, openNumber, shown};
 
+// The refusal, or 0.
 pub fn open_number(a: opened::Answer) -> u32
     ensures { λ r. ⌜ r ≡ openNumber (Opened.answered a) ⌝ }
 {
@@ -26,6 +27,7 @@ pub fn open_number(a: opened::Answer) -> u32
     }
 }
 
+// The conflicts of a completed cycle, a stop or a refusal.
 pub fn cycle_numbers(a: cycled::Answer) -> CycleAnswer
     ensures { λ r. ⌜ r ≡ cycleNumbers (Cycled.answered a) ⌝ }
 {
@@ -48,6 +50,7 @@ pub fn cycle_numbers(a: cycled::Answer) -> CycleAnswer
     }
 }
 
+// Where a name stands, which has 32 bits, since the total length of an image has.
 pub fn name_numbers(a: named::Answer) -> NameAnswer
     requires { ⌜ Short (nameMeant a) ⌝ }
     ensures { λ r. ⌜ r ≡ nameNumbers (nameMeant a) ⌝ }
@@ -86,6 +89,7 @@ fn shown(f: Facility, stored: u32, place: u32) -> FacilityAnswer
     }
 }
 
+// A computed terminal has no place.
 fn declared(f: Facility) -> FacilityAnswer
     ensures { λ r. ⌜ ((name : Name) → r ≡ facilityNumbers (answered name (Looked.Declared f))) ⌝ }
 {
@@ -97,6 +101,7 @@ fn declared(f: Facility) -> FacilityAnswer
     }
 }
 
+// No facility.
 fn unknown(n: u8) -> FacilityAnswer
     ensures { λ r. ⌜ ((name : Name) → r ≡ facilityNumbers (answered name (Looked.Refused n))) ⌝ }
 {
@@ -113,6 +118,7 @@ fn unknown(n: u8) -> FacilityAnswer
     }
 }
 
+// A declaration or a refusal.
 pub fn facility_numbers(a: Looked) -> FacilityAnswer
     ensures { λ r. ⌜ ((name : Name) → r ≡ facilityNumbers (answered name a)) ⌝ }
 {
