@@ -6,22 +6,11 @@
 //! is a slip that a simulator could well have (see `FAULTS`).
 
 mod faults;
+mod lent;
 
 use faults::Fault;
+use lent::{lent, lent_mut};
 use second::calls::{self, CycleAnswer, FacilityAnswer, Lent, NameAnswer, ReadAnswer, RunAnswer};
-use std::slice::{from_raw_parts, from_raw_parts_mut};
-
-/// # Safety
-/// The caller lends `length` bytes at the pointer, which is not null.
-unsafe fn lent<'a>(bytes: *const u8, length: usize) -> &'a [u8] {
-    from_raw_parts(bytes, length)
-}
-
-/// # Safety
-/// As above; no other part lent to the call overlaps these bytes.
-unsafe fn lent_mut<'a>(bytes: *mut u8, length: usize) -> &'a mut [u8] {
-    from_raw_parts_mut(bytes, length)
-}
 
 /// # Safety
 /// As include/ddlp.h says; so for each function below.
