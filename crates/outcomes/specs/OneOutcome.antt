@@ -27,6 +27,12 @@ use Rattle.lookups.specs.declared.declared.Looked.{Looked}
 use Rattle.lookups.specs.declared.declared.Looked.the-variants as F
 use Rattle.lookups.specs.declared.named.Answer as Named
 use Rattle.lookups.specs.declared.named.Answer.the-variants as N
+use Rattle.open.specs.Called as Open
+use Rattle.open.specs.declared.open.Answer as OpenAnswer
+use Rattle.open.specs.declared.open.Answer.the-variants as O
+use Rattle.cycle.specs.Called as Cycle
+use Rattle.cycle.specs.declared.answer.Answer as CycleAnswer
+use Rattle.cycle.specs.declared.answer.Answer.the-variants as C
 
 -- ---- The check, and names as parts of the image: the contract names the answer itself.
 
@@ -149,6 +155,63 @@ facility-one image n a b p q = looked-one (facilityAt (decode image) n .name) a 
 pub length-unsaid : (name : Name) (a : Looked) → answered name (shown a) ≡ answered name a
 length-unsaid name (F.Declared f) = refl
 length-unsaid name (F.Refused n) = refl
+
+-- ---- Opening.
+
+opened-one : (a b : OpenAnswer.Answer) → Open.answered a ≡ Open.answered b → a ≡ b
+opened-one O.Opened O.Opened e = refl
+opened-one (O.Refused m) (O.Refused n) e =
+    let z : m ≡ n = cc in
+    ap O.Refused z
+opened-one O.Opened (O.Refused n) e =
+    let z : _≡_ {A = ℕ} 0 1 = cc in
+    absurd (omega arith)
+opened-one (O.Refused n) O.Opened e =
+    let z : _≡_ {A = ℕ} 0 1 = cc in
+    absurd (omega arith)
+
+module _ (image store store′ kept kept′ : List ℕ) (s : length store ≡ length store′) (k : length kept ≡ length kept′) where
+  pub open-one : (a b : OpenAnswer.Answer) (x y u v : List ℕ) → Open.called a x u ≡ L.open′ image (length store) (length kept) → Open.called b y v ≡ L.open′ image (length store′) (length kept′) → (a ≡ b) × ((x ≡ y) × (u ≡ v))
+  open-one a b x y u v p q =
+      let e : Open.called a x u ≡ Open.called b y v = p ∙ ap₂ (λ (m n : ℕ). L.open′ image m n) s k ∙ sym q in
+      (opened-one a b (ap (λ (c : L.OpenCall). c .answer) e), (ap (λ (c : L.OpenCall). c .store) e, ap (λ (c : L.OpenCall). c .record′) e))
+
+-- ---- A cycle: store, record and stimulus are read, scratch is not.
+
+cycled-one : (a b : CycleAnswer.Answer) → Cycle.answered a ≡ Cycle.answered b → a ≡ b
+cycled-one (C.Cycled m) (C.Cycled n) e =
+    let z : m ≡ n = cc in
+    ap C.Cycled z
+cycled-one (C.Stopped m) (C.Stopped n) e =
+    let z : m ≡ n = cc in
+    ap C.Stopped z
+cycled-one (C.Refused m) (C.Refused n) e =
+    let z : m ≡ n = cc in
+    ap C.Refused z
+cycled-one (C.Cycled m) (C.Stopped n) e =
+    let z : _≡_ {A = ℕ} 0 1 = cc in
+    absurd (omega arith)
+cycled-one (C.Cycled m) (C.Refused n) e =
+    let z : _≡_ {A = ℕ} 0 1 = cc in
+    absurd (omega arith)
+cycled-one (C.Stopped m) (C.Cycled n) e =
+    let z : _≡_ {A = ℕ} 0 1 = cc in
+    absurd (omega arith)
+cycled-one (C.Stopped m) (C.Refused n) e =
+    let z : _≡_ {A = ℕ} 0 1 = cc in
+    absurd (omega arith)
+cycled-one (C.Refused m) (C.Cycled n) e =
+    let z : _≡_ {A = ℕ} 0 1 = cc in
+    absurd (omega arith)
+cycled-one (C.Refused m) (C.Stopped n) e =
+    let z : _≡_ {A = ℕ} 0 1 = cc in
+    absurd (omega arith)
+
+module _ (image store kept stimulus scratch scratch′ : List ℕ) (s : length scratch ≡ length scratch′) where
+  pub cycle-one : (a b : CycleAnswer.Answer) (x y u v w z : List ℕ) → Cycle.call a x u w ≡ L.cycle image store kept stimulus (length scratch) → Cycle.call b y v z ≡ L.cycle image store kept stimulus (length scratch′) → (a ≡ b) × ((x ≡ y) × ((u ≡ v) × (w ≡ z)))
+  cycle-one a b x y u v w z p q =
+      let e : Cycle.call a x u w ≡ Cycle.call b y v z = p ∙ ap (L.cycle image store kept stimulus) s ∙ sym q in
+      (cycled-one a b (ap (λ (c : L.CycleCall). c .answer) e), (ap (λ (c : L.CycleCall). c .store) e, (ap (λ (c : L.CycleCall). c .record′) e, ap (λ (c : L.CycleCall). c .scratch) e)))
 
 -- ---- Reading and running, for any answer whose values have meanings of their own.
 
