@@ -55,7 +55,9 @@ fn supplied(seed: &str, lines: Option<&String>) -> Result<(), String> {
 }
 
 fn forged(seed: &str, most: &str, texts: &[String]) -> Result<(), String> {
-    let texts: Result<Vec<_>, _> = texts.iter().map(fs::read).collect();
+    let mut places = texts.to_vec();
+    places.sort();
+    let texts: Result<Vec<_>, _> = places.iter().map(fs::read).collect();
     let texts = texts.map_err(|error| error.to_string())?;
     let made = forge::cases(number(seed)?, number(most)? as usize, &texts);
     io::stdout().write_all(&made).map_err(|error| error.to_string())

@@ -61,9 +61,22 @@ pub length-last : {A : Type 0} (xs : List A) (x : A) → length (xs ++ x ∷ [])
 length-last [] x = refl
 length-last (y ∷ xs) x = ap suc (length-last xs x)
 
--- A declaration without an expression adds no expression record.
-pub nodes-plain : (before : List Name) (base : ℕ) (ds : List Declaration) (d : Declaration) → ((sc : Scope) (n : ℕ) → functionNodes sc n (d .function) ≡ []) → facilityNodes before base (ds ++ d ∷ []) ≡ facilityNodes before base ds
-unfolding facilityNodes
-nodes-plain before base [] d h = rw (h (record { facilities = before; operations = []; states = [] }) base)
-nodes-plain before base (e ∷ ds) d h =
-    ap (λ (l : List Noted). functionNodes (record { facilities = before; operations = []; states = [] }) base (e .function) ++ l) (nodes-plain (before ++ e .name ∷ []) (base + functionSize (e .function)) ds d h)
+-- An expression knows the facilities declared before it.
+abbrev pub scopeOf : List Name → Scope
+scopeOf names = record { facilities = names; operations = []; states = [] }
+
+abbrev pub namesOf : List Declaration → List Name
+namesOf ds = map (λ (x : Declaration). x .name) ds
+
+pub nodes-last : (before : List Name) (base : ℕ) (ds : List Declaration) (d : Declaration)
+    → facilityNodes before base (ds ++ d ∷ []) ≡ facilityNodes before base ds ++ functionNodes (scopeOf (before ++ namesOf ds)) (base + facilitySize ds) (d .function)
+unfolding facilityNodes facilitySize
+nodes-last before base [] d =
+    let e : base + 0 ≡ base = omega arith in
+    rw (e, append-nil before) (append-nil (functionNodes (scopeOf before) base (d .function)))
+nodes-last before base (e ∷ ds) d =
+    ap (λ (l : List Noted). functionNodes (scopeOf before) base (e .function) ++ l)
+    (nodes-last (before ++ e .name ∷ []) (base + functionSize (e .function)) ds d
+    ∙ ap (λ (ns : List Name). facilityNodes (before ++ e .name ∷ []) (base + functionSize (e .function)) ds ++ functionNodes (scopeOf ns) (base + functionSize (e .function) + facilitySize ds) (d .function)) (append-assoc before (e .name ∷ []) (namesOf ds))
+    ∙ ap (λ (n : ℕ). facilityNodes (before ++ e .name ∷ []) (base + functionSize (e .function)) ds ++ functionNodes (scopeOf (before ++ e .name ∷ namesOf ds)) n (d .function)) (shift base (functionSize (e .function)) (facilitySize ds)))
+    ∙ sym (append-assoc (functionNodes (scopeOf before) base (e .function)) (facilityNodes (before ++ e .name ∷ []) (base + functionSize (e .function)) ds) (functionNodes (scopeOf (before ++ e .name ∷ namesOf ds)) (base + (functionSize (e .function) + facilitySize ds)) (d .function)))

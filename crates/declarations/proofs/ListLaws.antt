@@ -10,6 +10,7 @@ use Rattle.course.specs.declared.State.{State}
 use Rattle.course.specs.declared.Verdict.the-variants.{Done}
 use Rattle.course.specs.Course.{Stack, countsOf, kindNo, runs}
 use Rattle.course.specs.Taken.{Took}
+use Rattle.dimensions.proofs.States.{state-of}
 use Rattle.dimensions.proofs.Telling.{through}
 use Rattle.dimensions.specs.Telling.{Tells, same}
 use Rattle.image.specs.declared.facilities.Kind.the-variants as F
@@ -20,28 +21,28 @@ use Rattle.words.specs.declared.Word.{Word}
 use Rattle.declarations.proofs.Appended.{length-last}
 use Rattle.declarations.proofs.ListWords.{comma-taken}
 use Rattle.declarations.proofs.NameWords.{few-facilities}
-use Rattle.declarations.proofs.StoredLaws.{standing-passed, standing-same}
+use Rattle.declarations.proofs.StoredLaws.{others-same, others-then, standing-passed, standing-same}
 use Rattle.declarations.specs.declared.List as C
 use Rattle.declarations.specs.declared.List.the-variants.{Memories, Registers}
 use Rattle.declarations.specs.declared.Progress.{Progress}
 use Rattle.declarations.specs.Declares as D
 use Rattle.declarations.specs.Declares.{OneRead, Standing, Stores, put}
-use Rattle.declarations.specs.Lists.{EndRead, Ends, Lists, Mores, Ones, SomeRead, Stands, kindIn, moreIn, putAll, specIn}
+use Rattle.declarations.specs.Lists.{EndRead, Ends, Listing, Lists, Mores, Ones, SomeRead, Stands, kindIn, listing, moreIn, putAll, specIn}
 
 -- ---- One declaration.
 
-pub one-register : {l : C.List} {text : List ℕ} {w : Word} {s : State} {place : ℕ} {work work′ : List ℕ} {r : Progress} → l ≡ Registers → D.Registers text w s place work work′ r → Ones l text w s place work work′ r
-one-register {text = text} {w} {s} {place} {work} {work′} {r} e f = subst (λ (k : C.List). Ones k text w s place work work′ r) (sym e) f
+pub one-register : {l : C.List} {text : List ℕ} {w : Word} {s : State} {place : ℕ} {work work′ : List ℕ} {r : Progress} → l ≡ Registers → D.Registers text w s place work work′ r → Ones (listing l) text w s place work work′ r
+one-register {text = text} {w} {s} {place} {work} {work′} {r} e f = subst (λ (k : C.List). Ones (listing k) text w s place work work′ r) (sym e) f
 
-pub one-memory : {l : C.List} {text : List ℕ} {w : Word} {s : State} {place : ℕ} {work work′ : List ℕ} {r : Progress} → l ≡ Memories → Stores text w s place F.Memory work work′ r → Ones l text w s place work work′ r
-one-memory {text = text} {w} {s} {place} {work} {work′} {r} e f = subst (λ (k : C.List). Ones k text w s place work work′ r) (sym e) (λ ds st. f tt tt ds st)
+pub one-memory : {l : C.List} {text : List ℕ} {w : Word} {s : State} {place : ℕ} {work work′ : List ℕ} {r : Progress} → l ≡ Memories → Stores text w s place F.Memory work work′ r → Ones (listing l) text w s place work work′ r
+one-memory {text = text} {w} {s} {place} {work} {work′} {r} e f = subst (λ (k : C.List). Ones (listing k) text w s place work work′ r) (sym e) (λ ds st. f tt tt ds st)
 
 -- ---- Counting them.
 
 pub count-of : {text : List ℕ} {ds : List Declaration} {place : ℕ} {w : Word} {s : State} {work : List ℕ} → Standing text ds place w s work → s .facilities ≡ length ds
 count-of st = st .listed .counted ∙ st .listed .tabled .known
 
-put-last : (l : C.List) (ds : List Declaration) (d : Declaration) (t : Text) → putAll l (ds ++ d ∷ []) t ≡ put (kindIn l) d (putAll l ds t)
+put-last : (l : Listing) (ds : List Declaration) (d : Declaration) (t : Text) → putAll l (ds ++ d ∷ []) t ≡ put (kindIn l) d (putAll l ds t)
 unfolding putAll
 put-last l [] d t = refl
 put-last l (e ∷ ds) d t = put-last l ds d (put (kindIn l) e t)
@@ -49,14 +50,14 @@ put-last l (e ∷ ds) d t = put-last l ds d (put (kindIn l) e t)
 -- ---- Behind a declaration.
 
 -- From w and s on, declarations have been read up to here.
-abbrev pub Here : List ℕ → List Declaration → C.List → Word → State → Word → State → ℕ → List ℕ → Type 0
+abbrev pub Here : List ℕ → List Declaration → Listing → Word → State → Word → State → ℕ → List ℕ → Type 0
 Here text ds l w s next state place work = SomeRead text ds l (ask (moreIn l) ∷ []) (ask (moreIn l) ∷ []) w s next state place work
 
-module _ (text : List ℕ) (ds : List Declaration) (l : C.List) (w : Word) (s : State) where
+module _ (text : List ℕ) (ds : List Declaration) (l : Listing) (w : Word) (s : State) where
   -- Nothing more yet.
   pub none-yet : {place : ℕ} {work : List ℕ} → Standing text ds place w s work → Here text ds l w s w s place work
   unfolding putAll
-  none-yet {place} {work} st = record { trees = []; course = λ K b. refl; standing = subst (λ (v : List Declaration). Standing text v place w s work) (sym (append-nil ds)) st }
+  none-yet {place} {work} st = record { trees = []; course = λ K b. refl; standing = subst (λ (v : List Declaration). Standing text v place w s work) (sym (append-nil ds)) st; others = others-same refl }
 
   module _ {next : Word} {state : State} {place : ℕ} {work : List ℕ} (h : Here text ds l w s next state place work) where
     pub list-ended : (kindNo (next .kind) ≡ 9 → ⊥) → {r : Progress} → Ends text next state place r
@@ -68,6 +69,7 @@ module _ (text : List ℕ) (ds : List Declaration) (l : C.List) (w : Word) (s : 
           trees = h .trees;
           course = λ K b. h .course K b ∙ y .course K (withText b (putAll l (h .trees) (b .text)));
           standing = standing-same (h .standing) (y .state) (y .store) (y .seen);
+          others = others-then (h .others) (others-same (y .state));
         }
 
     module _ (k : kindNo (next .kind) ≡ 9) {a : Answer} (t : Took text next (countsOf state) state a) where
@@ -105,6 +107,7 @@ module _ (text : List ℕ) (ds : List Declaration) (l : C.List) (w : Word) (s : 
             course = λ K b. to-spec K b ∙ y .course (ask (moreIn l) ∷ K) (withText b (putAll l (h .trees) (b .text)))
                 ∙ ap (λ (v : Text). runs text (ask (moreIn l) ∷ K) (r .answer .next) (withText b v) (r .answer .state)) (sym (put-last l (h .trees) (y .tree) (b .text)));
             standing = subst (λ (v : List Declaration). Standing text v (r .place) (r .answer .next) (r .answer .state) work′) (append-assoc ds (h .trees) (y .tree ∷ [])) (y .standing);
+            others = others-then (h .others) (others-then (others-same (state-of (t .done done .counts) (t .done done .kept))) (y .others));
           }
 
           -- There is one facility more, and they are not too many.
@@ -113,7 +116,7 @@ module _ (text : List ℕ) (ds : List Declaration) (l : C.List) (w : Word) (s : 
 
 -- ---- The whole list.
 
-module _ {text : List ℕ} (l : C.List) {w : Word} {s : State} {place : ℕ} {work work₁ : List ℕ} {r : Progress} (f : Ones l text w s place work work₁ r) where
+module _ {text : List ℕ} (l : Listing) {w : Word} {s : State} {place : ℕ} {work work₁ : List ℕ} {r : Progress} (f : Ones l text w s place work work₁ r) where
   pub list-not : (r .answer .verdict ≡ Done → ⊥) → Lists l text w s place work work₁ r
   list-not n ds st = let t = f ds st in record { done = λ d. absurd (n d); refused = λ i d K b. t .refused i d (ask (moreIn l) ∷ K) b; full = t .full }
 
@@ -133,4 +136,5 @@ module _ {text : List ℕ} (l : C.List) {w : Word} {s : State} {place : ℕ} {wo
         trees = y .tree ∷ v .trees;
         course = λ K b. y .course (ask (moreIn l) ∷ K) b ∙ v .course K (withText b (put (kindIn l) (y .tree) (b .text)));
         standing = subst (λ (z : List Declaration). Standing text z (q .place) (q .answer .next) (q .answer .state) work₂) (append-assoc ds (y .tree ∷ []) (v .trees)) (v .standing);
+        others = others-then (y .others) (v .others);
       }

@@ -19,40 +19,43 @@ use Rattle.language.specs.Sections.{ruleOf}
 use Rattle.language.specs.Words.{fault}
 use Rattle.words.specs.declared.Word.{Word}
 use Rattle.words.specs.Meaning.{positioned}
-use Rattle.declarations.specs.declared.List as C
-use Rattle.declarations.specs.declared.List.the-variants.{Memories, Registers}
-use Rattle.declarations.specs.Lists.{EndRead, Ends, moreIn, specIn}
+use Rattle.declarations.specs.Lists.{EndRead, Ends, Listing, memories, moreIn, registers, specIn, terminals}
 
 module _ (text : List ℕ) (w : Word) (K : Stack) (b : Built) (s : State) where
-  pub comma-taken : (l : C.List) → kindNo (w .kind) ≡ 9 → runs text (ask (moreIn l) ∷ K) w b s ≡ onTaken text w (ask (specIn l) ∷ ask (moreIn l) ∷ K) b (countsOf s)
+  pub comma-taken : (l : Listing) → kindNo (w .kind) ≡ 9 → runs text (ask (moreIn l) ∷ K) w b s ≡ onTaken text w (ask (specIn l) ∷ ask (moreIn l) ∷ K) b (countsOf s)
   unfolding runsOn run feed choose ruleOf tallied
-  comma-taken Registers e = rw (sign-ahead text w 9 e (omega arith)) (taken-on text (positioned (w .at)) (ask (specIn Registers) ∷ ask (moreIn Registers) ∷ K) (behind text w) b (countsOf s))
-  comma-taken Memories e = rw (sign-ahead text w 9 e (omega arith)) (taken-on text (positioned (w .at)) (ask (specIn Memories) ∷ ask (moreIn Memories) ∷ K) (behind text w) b (countsOf s))
+  comma-taken registers e = rw (sign-ahead text w 9 e (omega arith)) (taken-on text (positioned (w .at)) (ask (specIn registers) ∷ ask (moreIn registers) ∷ K) (behind text w) b (countsOf s))
+  comma-taken memories e = rw (sign-ahead text w 9 e (omega arith)) (taken-on text (positioned (w .at)) (ask (specIn memories) ∷ ask (moreIn memories) ∷ K) (behind text w) b (countsOf s))
+  comma-taken terminals e = rw (sign-ahead text w 9 e (omega arith)) (taken-on text (positioned (w .at)) (ask (specIn terminals) ∷ ask (moreIn terminals) ∷ K) (behind text w) b (countsOf s))
 
-  pub period-taken : (l : C.List) → kindNo (w .kind) ≡ 11 → runs text (ask (moreIn l) ∷ K) w b s ≡ onTaken text w K b (countsOf s)
+  pub period-taken : (l : Listing) → kindNo (w .kind) ≡ 11 → runs text (ask (moreIn l) ∷ K) w b s ≡ onTaken text w K b (countsOf s)
   unfolding runsOn run feed choose ruleOf tallied
-  period-taken Registers e = rw (sign-ahead text w 11 e (omega arith)) (taken-on text (positioned (w .at)) K (behind text w) b (countsOf s))
-  period-taken Memories e = rw (sign-ahead text w 11 e (omega arith)) (taken-on text (positioned (w .at)) K (behind text w) b (countsOf s))
+  period-taken registers e = rw (sign-ahead text w 11 e (omega arith)) (taken-on text (positioned (w .at)) K (behind text w) b (countsOf s))
+  period-taken memories e = rw (sign-ahead text w 11 e (omega arith)) (taken-on text (positioned (w .at)) K (behind text w) b (countsOf s))
+  period-taken terminals e = rw (sign-ahead text w 11 e (omega arith)) (taken-on text (positioned (w .at)) K (behind text w) b (countsOf s))
 
-  pub end-taken : (l : C.List) → kindNo (w .kind) ≡ 37 → runs text (ask (moreIn l) ∷ K) w b s ≡ onTaken text w K b (countsOf s)
+  pub end-taken : (l : Listing) → kindNo (w .kind) ≡ 37 → runs text (ask (moreIn l) ∷ K) w b s ≡ onTaken text w K b (countsOf s)
   unfolding runsOn run feed choose ruleOf tallied
-  end-taken Registers e = rw (sign-ahead text w 37 e (omega arith)) (taken-on text (positioned (w .at)) K (behind text w) b (countsOf s))
-  end-taken Memories e = rw (sign-ahead text w 37 e (omega arith)) (taken-on text (positioned (w .at)) K (behind text w) b (countsOf s))
+  end-taken registers e = rw (sign-ahead text w 37 e (omega arith)) (taken-on text (positioned (w .at)) K (behind text w) b (countsOf s))
+  end-taken memories e = rw (sign-ahead text w 37 e (omega arith)) (taken-on text (positioned (w .at)) K (behind text w) b (countsOf s))
+  end-taken terminals e = rw (sign-ahead text w 37 e (omega arith)) (taken-on text (positioned (w .at)) K (behind text w) b (countsOf s))
 
-  pub more-stuck : (l : C.List) → Seen text w → (kindNo (w .kind) ≡ 9 → ⊥) → (kindNo (w .kind) ≡ 11 → ⊥) → (kindNo (w .kind) ≡ 37 → ⊥) → runs text (ask (moreIn l) ∷ K) w b s ≡ refused (fault (positioned (w .at)) 3)
+  pub more-stuck : (l : Listing) → Seen text w → (kindNo (w .kind) ≡ 9 → ⊥) → (kindNo (w .kind) ≡ 11 → ⊥) → (kindNo (w .kind) ≡ 37 → ⊥) → runs text (ask (moreIn l) ∷ K) w b s ≡ refused (fault (positioned (w .at)) 3)
   unfolding runsOn run feed finish choose ruleOf
   more-stuck l z n m o = by-view l (view text w z)
     where
-      by-view : (l : C.List) → View text w → runs text (ask (moreIn l) ∷ K) w b s ≡ refused (fault (positioned (w .at)) 3)
-      by-view Registers (ended e p q) = rw (e, p)
-      by-view Registers (begun v e q p) = rw (e, q, ne-eqb (kindNo (w .kind)) 9 n, ne-eqb (kindNo (w .kind)) 11 m, ne-eqb (kindNo (w .kind)) 37 o, p)
-      by-view Memories (ended e p q) = rw (e, p)
-      by-view Memories (begun v e q p) = rw (e, q, ne-eqb (kindNo (w .kind)) 9 n, ne-eqb (kindNo (w .kind)) 11 m, ne-eqb (kindNo (w .kind)) 37 o, p)
+      by-view : (l : Listing) → View text w → runs text (ask (moreIn l) ∷ K) w b s ≡ refused (fault (positioned (w .at)) 3)
+      by-view registers (ended e p q) = rw (e, p)
+      by-view registers (begun v e q p) = rw (e, q, ne-eqb (kindNo (w .kind)) 9 n, ne-eqb (kindNo (w .kind)) 11 m, ne-eqb (kindNo (w .kind)) 37 o, p)
+      by-view memories (ended e p q) = rw (e, p)
+      by-view memories (begun v e q p) = rw (e, q, ne-eqb (kindNo (w .kind)) 9 n, ne-eqb (kindNo (w .kind)) 11 m, ne-eqb (kindNo (w .kind)) 37 o, p)
+      by-view terminals (ended e p q) = rw (e, p)
+      by-view terminals (begun v e q p) = rw (e, q, ne-eqb (kindNo (w .kind)) 9 n, ne-eqb (kindNo (w .kind)) 11 m, ne-eqb (kindNo (w .kind)) 37 o, p)
 
 -- ---- The end of a list.
 
 module _ {text : List ℕ} {w : Word} {s : State} {place : ℕ} {a : Answer} where
-  end-read : (l : C.List) → Seen text w → ((K : Stack) (b : Built) → runs text (ask (moreIn l) ∷ K) w b s ≡ onTaken text w K b (countsOf s)) → Passed text w (countsOf s) s a
+  end-read : (l : Listing) → Seen text w → ((K : Stack) (b : Built) → runs text (ask (moreIn l) ∷ K) w b s ≡ onTaken text w K b (countsOf s)) → Passed text w (countsOf s) s a
       → EndRead text l w s place (record { answer = a; place = place })
   end-read l z g p = record { course = λ K b. g K b ∙ took-done p z K b; state = state-of (p .counts) (p .kept); store = refl; seen = p .seen }
 

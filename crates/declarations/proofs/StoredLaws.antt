@@ -1,7 +1,7 @@
 -- Registers and memories, as the code reads them.
 use mathlib.Core.List.{List, [], _∷_, _++_}
 use mathlib.Core.Path.{_≡_, refl, sym, ap, _∙_, subst}
-use Prim.Native.Nat.{ℕ}
+use Prim.Native.Nat.{ℕ, _*_, _≤_}
 use native.Mathlib.Omega.{arith}
 use Rattle.course.proofs.Answers.{done-full, done-refused}
 use Rattle.course.proofs.Looking.{sign-ahead}
@@ -30,11 +30,19 @@ use Rattle.language.specs.Tree.{Declaration, Extent}
 use Rattle.words.specs.declared.Position as P
 use Rattle.words.specs.declared.Word.{Word}
 use Rattle.words.specs.Meaning.{positioned}
-use Rattle.declarations.proofs.Unexpressed.{bare-awaits, bare-said, declarationOf, saidOf}
+use Rattle.declarations.proofs.Unexpressed.{bare-awaits, bare-said, saidOf}
 use Rattle.declarations.specs.declared.Progress.{Progress}
-use Rattle.declarations.specs.Declares.{OneRead, Registers, Standing, Stored, Stores, put}
+use Rattle.declarations.specs.Declares.{OneRead, OthersKept, Registers, Standing, Stored, Stores, put}
 use Rattle.declarations.specs.Listed.{Added, Adds, Awaiting, Listed, knownState}
-use Rattle.declarations.specs.Specs.{NameRead, Names, endOf, moreState, namedWord, specOf, whoseOf}
+use Rattle.declarations.specs.Specs.{NameRead, Names, declarationOf, endOf, moreState, namedWord, specOf, whoseOf}
+
+-- ---- Counts that declarations do not touch.
+
+pub others-same : {s s′ : State} → s′ ≡ s → OthersKept s s′
+others-same e = record { operations = ap (λ (j : State). j .operations) e; states = ap (λ (j : State). j .states) e; nesting = ap (λ (j : State). j .nesting) e }
+
+pub others-then : {s s₁ s₂ : State} → OthersKept s s₁ → OthersKept s₁ s₂ → OthersKept s s₂
+others-then x y = record { operations = y .operations ∙ x .operations; states = y .states ∙ x .states; nesting = y .nesting ∙ x .nesting }
 
 -- ---- Where reading stands, when a word is taken that counts nothing.
 
@@ -45,6 +53,7 @@ standing-same {text} {ds} {place} {place′} {next = next} {s} {s′} {work} st 
   short = st .short;
   within = ap (λ (j : State). withinCeilings (countsOf j)) e ∙ st .within;
   listed = subst (λ (j : State). Listed text ds place′ j work) (sym e) (subst (λ (n : ℕ). Listed text ds n s work) (sym f) (st .listed));
+  paid = subst (λ (j : State). j .nodes ≤ 7 * j .counted) (sym e) (st .paid);
 }
 
 pub standing-passed : {text : List ℕ} {ds : List Declaration} {place : ℕ} {w : Word} {s : State} {work : List ℕ} {a : Answer} → Standing text ds place w s work → Passed text w (countsOf s) s a
@@ -73,7 +82,7 @@ module _ {text : List ℕ} {w : Word} {s : State} {place : ℕ} {k : Kind} {work
         let t = g (whoseOf k) (y .seen) in
         record { done = λ d. absurd (n d); refused = λ i d K b. y .course K b ∙ t .refused i d (endOf k ++ K) (keepWord (namedWord text w) b); full = t .full }
 
-    pub stored-read : m .answer .verdict ≡ Done → {e : P.Position} → positioned e ≡ nowhere → {r : Progress} → Adds (m .answer .next) (m .answer .state) place (saidOf k w (m .extent) e) work work′ r
+    pub stored-read : m .answer .verdict ≡ Done → {e : P.Position} → positioned e ≡ nowhere → {r : Progress} → Adds (m .answer .next) (m .answer .state) place (saidOf k w (m .extent) 0 e) work work′ r
         → Stores text w s place k work work′ r
     stored-read measured o {r} f h q ds st = record {
       done = λ d. read;
@@ -100,6 +109,9 @@ module _ {text : List ℕ} {w : Word} {s : State} {place : ℕ} {k : Kind} {work
         known : r .answer .state ≡ knownState (moreState s)
         known = v .state ∙ ap knownState counted
 
+        untouched : OthersKept s (r .answer .state)
+        untouched = record { operations = ap (λ (j : State). j .operations) known; states = ap (λ (j : State). j .states) known; nesting = ap (λ (j : State). j .nesting) known }
+
         course : (K : Stack) (b : Built) → runs text (ask (specOf k) ∷ K) w b s ≡ runs text K (r .answer .next) (withText b (put k d (b .text))) (r .answer .state)
         course K b =
             y .course K b ∙ z .course (endOf k ++ K) (keepWord (namedWord text w) b) ∙ ends text k h w (m .answer .next) (z .tree) K b (m .answer .state)
@@ -114,7 +126,9 @@ module _ {text : List ℕ} {w : Word} {s : State} {place : ℕ} {k : Kind} {work
             short = st .short;
             within = ap (λ (j : State). withinCeilings (countsOf j)) known ∙ y .within;
             listed = v .listed;
+            paid = subst (λ (j : State). j .nodes ≤ 7 * j .counted) (sym known) (st .paid);
           };
+          others = untouched;
         }
 
 -- ---- Registers.
@@ -141,4 +155,4 @@ module _ {text : List ℕ} {w : Word} {s : State} {place : ℕ} {work work′ : 
         to-name K b = hash-taken text w s hash K b ∙ took-done p (st .seen) (ask sequencingSpec ∷ K) b
 
         read : OneRead text ds (ask sequencingSpec ∷ []) F.Sequencing (a .next) (a .state) work′ r → OneRead text ds (ask registerSpec ∷ []) F.Register w s work′ r
-        read y = record { tree = y .tree; course = λ K b. to-name K b ∙ y .course K b; standing = y .standing }
+        read y = record { tree = y .tree; course = λ K b. to-name K b ∙ y .course K b; standing = y .standing; others = others-then (others-same (state-of (p .counts) (p .kept))) (y .others) }

@@ -1,5 +1,5 @@
--- Declarations without an expression: what the code says of them, and what they wait for.
-use mathlib.Core.List.{List, [], _∷_, _++_}
+-- What the code says of a declaration; and declarations without an expression.
+use mathlib.Core.List.{List, [], _∷_, _++_, append-nil}
 use mathlib.Core.Path.{_≡_, refl, sym, ap, _∙_}
 use Prim.Native.Nat.{ℕ, suc, _+_, _<_, _≤_}
 use native.Mathlib.Omega.{arith}
@@ -9,12 +9,11 @@ use Rattle.course.specs.declared.State.{State}
 use Rattle.course.specs.Course.{Seen}
 use Rattle.dimensions.specs.Extents.{Sized, bitsLeft, bitsRight, wordsLeft, wordsRight}
 use Rattle.image.specs.declared.facilities.Kind.{Kind}
-use Rattle.image.specs.Declarations.{kindMeant}
 use Rattle.language.specs.Characters.{folded}
-use Rattle.language.specs.DescribeText.{equalsPlace, functionNodes, functionNumber, functionSize, placesOf}
+use Rattle.language.specs.Describe.{Noted}
+use Rattle.language.specs.DescribeText.{equalsPlace, facilityNodes, facilitySize, functionNodes, functionNumber, functionSize, placesOf}
 use Rattle.language.specs.Description.{nowhere}
 use Rattle.language.specs.Naming.{Scope}
-use Rattle.language.specs.Notions.{facilityOf}
 use Rattle.language.specs.Tree as T
 use Rattle.language.specs.Tree.{Declaration, Extent, Function}
 use Rattle.language.specs.Words.{Position}
@@ -25,9 +24,9 @@ use Rattle.words.specs.declared.Word.{Word}
 use Rattle.words.specs.Meaning.{positioned}
 use Rattle.work.specs.Held.{otherIn, withNodes}
 use Rattle.work.specs.Names.{letters}
-use Rattle.declarations.proofs.Appended.{nodes-plain, size-last}
+use Rattle.declarations.proofs.Appended.{namesOf, nodes-last, scopeOf, size-last}
 use Rattle.declarations.specs.Listed.{Awaiting, Expressed, Listed, Says, noneHeld}
-use Rattle.declarations.specs.Specs.{moreState}
+use Rattle.declarations.specs.Specs.{declarationOf, moreState}
 
 -- A function that is no expression.
 abbrev pub Bare : Function → Type 0
@@ -62,33 +61,37 @@ places-by p f T.single = refl
 places-by p f (T.row x) = refl
 places-by p f (T.table x y) = refl
 
-letters-length : (text : List ℕ) (place size : ℕ) → place + size ≤ length text → length (letters text place size) ≡ size
+pub letters-length : (text : List ℕ) (place size : ℕ) → place + size ≤ length text → length (letters text place size) ≡ size
 unfolding letters
 letters-length text place size h = length-map (take size (drop place text)) folded ∙ length-take-le size (drop place text) (omega (arith, length-drop place text))
 
--- The declaration that begins with the name w.
-abbrev pub declarationOf : List ℕ → Kind → Word → Extent → Function → Declaration
-declarationOf text k w x f = facilityOf (kindMeant k) (letters text (w .at .place) (w .size)) (positioned (w .at)) x f
+abbrev pub saidOf : Kind → Word → C.Extent → ℕ → P.Position → Declared
+saidOf k w e n p = record { kind = k; at = w .at; size = w .size; extent = e; expression = n; equals = p }
 
-abbrev pub saidOf : Kind → Word → C.Extent → P.Position → Declared
-saidOf k w e p = record { kind = k; at = w .at; size = w .size; extent = e; expression = 0; equals = p }
+-- What the code says of a declaration, by what it says of the function.
+pub said : (text : List ℕ) (k : Kind) (w : Word) (x : Extent) (f : Function) (base : ℕ) {e : C.Extent} {n : ℕ} {p : P.Position} → Seen text w → length text < 65536 → Sized x e
+    → functionNumber base f ≡ n → equalsPlace f ≡ positioned p → Says text base (declarationOf text k w x f) (saidOf k w e n p)
+said text k w x f base z l g i q = record {
+  facility = rw (g .dimensions, g .words, g .bits, i);
+  places = places-by (positioned (w .at)) f x ∙ rw (g .wordsFrom, g .wordsTo, g .bitsFrom, g .bitsTo, q);
+  name = refl;
+  length = letters-length text (w .at .place) (w .size) (z .next .within);
+  near = omega (arith, z .next .within);
+  short = omega (arith, z .next .within);
+}
 
 module _ (text : List ℕ) (k : Kind) (w : Word) (x : Extent) (f : Function) (h : Bare f) where
-  pub bare-said : (base : ℕ) {e : C.Extent} {p : P.Position} → Seen text w → length text < 65536 → Sized x e → positioned p ≡ nowhere → Says text base (declarationOf text k w x f) (saidOf k w e p)
-  bare-said base {e} {p} z l g q = record {
-    facility = rw (g .dimensions, g .words, g .bits, bare-number base f h);
-    places = places-by (positioned (w .at)) f x ∙ rw (g .wordsFrom, g .wordsTo, g .bitsFrom, g .bitsTo, bare-place f h, ← q);
-    name = refl;
-    length = letters-length text (w .at .place) (w .size) (z .next .within);
-    near = omega (arith, z .next .within);
-    short = omega (arith, z .next .within);
-  }
+  pub bare-said : (base : ℕ) {e : C.Extent} {p : P.Position} → Seen text w → length text < 65536 → Sized x e → positioned p ≡ nowhere → Says text base (declarationOf text k w x f) (saidOf k w e 0 p)
+  bare-said base z l g q = said text k w x f base z l g (bare-number base f h) (bare-place f h ∙ sym q)
+
+  none-more : (ds : List Declaration) → facilityNodes [] 0 ds ++ functionNodes (scopeOf (namesOf ds)) (0 + facilitySize ds) f ≡ facilityNodes [] 0 ds
+  none-more ds = ap (λ (l : List Noted). facilityNodes [] 0 ds ++ l) (bare-nodes f h (scopeOf (namesOf ds)) (0 + facilitySize ds)) ∙ append-nil (facilityNodes [] 0 ds)
 
   expressed-more : (ds : List Declaration) (n : ℕ) (work : List ℕ) → Expressed ds n work → Expressed (ds ++ declarationOf text k w x f ∷ []) n work
   expressed-more ds n work e = record {
     nodes = omega (arith, e .nodes, size-last ds (declarationOf text k w x f), bare-size f h);
     few = e .few;
-    records = e .records ∙ ap (withNodes (noneHeld (otherIn work))) (sym (nodes-plain [] 0 ds (declarationOf text k w x f) (bare-nodes f h)));
+    records = e .records ∙ ap (withNodes (noneHeld (otherIn work))) (sym (nodes-last [] 0 ds (declarationOf text k w x f) ∙ none-more ds));
   }
 
   pub bare-awaits : (ds : List Declaration) (place : ℕ) (s : State) (work : List ℕ) → Listed text ds place s work → s .facilities < 256 → Awaiting text ds (declarationOf text k w x f) place (moreState s) work

@@ -2,7 +2,7 @@
 use mathlib.Core.Bool.{true}
 use mathlib.Core.List.{List, [], _∷_, _++_}
 use mathlib.Core.Path.{_≡_}
-use Prim.Native.Nat.{ℕ, _<_}
+use Prim.Native.Nat.{ℕ, _*_, _<_, _≤_}
 use lib.ListN.{length}
 use Rattle.course.specs.declared.State.{State}
 use Rattle.course.specs.Course.{Seen, Stack, countsOf, runs}
@@ -18,12 +18,13 @@ use Rattle.declarations.specs.declared.Progress.{Progress}
 use Rattle.declarations.specs.Listed.{Listed}
 use Rattle.declarations.specs.Specs.{Plainly, specOf}
 
--- Where reading declarations stands.
+-- Where reading declarations stands. Words that were counted pay for the records of expressions, each for seven.
 pub record Standing (text : List ℕ) (ds : List Declaration) (place : ℕ) (w : Word) (s : State) (work : List ℕ) : Type 0 where
   pub seen : Seen text w
   pub short : length text < 65536
   pub within : withinCeilings (countsOf s) ≡ true
   pub listed : Listed text ds place s work
+  pub paid : s .nodes ≤ 7 * s .counted
 
 -- A declaration at the end of its list.
 abbrev pub put : Kind → Declaration → Text → Text
@@ -43,10 +44,17 @@ Stored K.Plain = ⊥
 Stored K.Input = ⊥
 Stored K.Computed = ⊥
 
+-- Operations, states and what is open are counted as before.
+pub record OthersKept (s s′ : State) : Type 0 where
+  pub operations : s′ .operations ≡ s .operations
+  pub states : s′ .states ≡ s .states
+  pub nesting : s′ .nesting ≡ s .nesting
+
 pub record OneRead (text : List ℕ) (ds : List Declaration) (P : Stack) (k : Kind) (w : Word) (s : State) (work′ : List ℕ) (r : Progress) : Type 0 where
   pub tree : Declaration
   pub course : (K : Stack) (b : Built) → runs text (P ++ K) w b s ≡ runs text K (r .answer .next) (withText b (put k tree (b .text))) (r .answer .state)
   pub standing : Standing text (ds ++ tree ∷ []) (r .place) (r .answer .next) (r .answer .state) work′
+  pub others : OthersKept s (r .answer .state)
 
 abbrev pub Stores : List ℕ → Word → State → ℕ → Kind → List ℕ → List ℕ → Progress → Type 0
 Stores text w s place k work work′ r =

@@ -10,9 +10,12 @@ use Rattle.dimensions.specs.Extents.{Whose, ofOther, ofTerminal, askOf}
 use Rattle.dimensions.specs.Telling.{Tells, same}
 use Rattle.image.specs.declared.facilities.Kind.{Kind}
 use Rattle.image.specs.declared.facilities.Kind.the-variants as K
+use Rattle.image.specs.Declarations.{kindMeant}
 use Rattle.language.specs.Building.{Built, keepWord}
 use Rattle.language.specs.Declaring.{makeMemory, makeRegister, makeSequencing}
 use Rattle.language.specs.Machine.{Ask, ask, make, memorySpec, registerSpec, sequencingSpec, terminalSpec, withinCeilings}
+use Rattle.language.specs.Notions.{facilityOf}
+use Rattle.language.specs.Tree.{Declaration, Extent, Function}
 use Rattle.language.specs.Words as L
 use Rattle.words.specs.declared.Word.{Word}
 use Rattle.words.specs.Meaning.{positioned}
@@ -55,6 +58,10 @@ Plainly K.Computed w = Unit {0}
 -- A name as the language's word.
 abbrev pub namedWord : List ℕ → Word → L.Word
 namedWord text w = L.name (letters text (w .at .place) (w .size)) (positioned (w .at))
+
+-- The declaration that begins with the name w.
+abbrev pub declarationOf : List ℕ → Kind → Word → Extent → Function → Declaration
+declarationOf text k w x f = facilityOf (kindMeant k) (letters text (w .at .place) (w .size)) (positioned (w .at)) x f
 
 -- One facility more.
 abbrev pub moreState : State → State

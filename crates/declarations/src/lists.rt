@@ -9,11 +9,11 @@ use course::Verdict;
 use course::taking;
 use image::facilities::Kind;
 use words::Word;
-ghost use Rattle.declarations.specs.Lists.{Ends, Lists, Mores, Ones, Stands};
+ghost use Rattle.declarations.specs.Lists.{Ends, Lists, Mores, Ones, Stands, listing};
 
 // One declaration of a list.
 fn one(text: &[u8], w: Word, work: &mut [u8; 275296], s: State, place: u16, list: List) -> Progress
-    ensures { λ r. ⌜ Ones list (now (text .entry)) w s place (now (work .entry)) (now (work .exit)) r ⌝ }
+    ensures { λ r. ⌜ Ones (listing list) (now (text .entry)) w s place (now (work .entry)) (now (work .exit)) r ⌝ }
 {
     match list {
         List::Registers => stored::register(text, w, work, s, place),
@@ -22,7 +22,7 @@ fn one(text: &[u8], w: Word, work: &mut [u8; 275296], s: State, place: u16, list
 }
 
 // The end of a list, where no comma follows.
-fn ended(text: &[u8], w: Word, s: State, place: u16) -> Progress
+pub fn ended(text: &[u8], w: Word, s: State, place: u16) -> Progress
     ensures { λ r. ⌜ Ends (now (text .entry)) w s place r ⌝ }
 {
     let kind = w.kind;
@@ -49,7 +49,7 @@ pub fn declarations(
     list: List,
 ) -> Progress
     requires { ⌜ Stands (now text) place w s (now work) ⌝ }
-    ensures { λ r. ⌜ Lists list (now (text .entry)) w s place (now (work .entry)) (now (work .exit)) r ⌝ }
+    ensures { λ r. ⌜ Lists (listing list) (now (text .entry)) w s place (now (work .entry)) (now (work .exit)) r ⌝ }
 {
     let first = one(text, w, work, s, place, list);
     let answer = first.answer;
@@ -65,7 +65,7 @@ pub fn declarations(
 // Behind a declaration: others, and the end. Each counts a facility, so that there are not too many.
 fn more(text: &[u8], w: Word, work: &mut [u8; 275296], s: State, place: u16, list: List) -> Progress
     requires { ⌜ Stands (now text) place w s (now work) ⌝ }
-    ensures { λ r. ⌜ Mores list (now (text .entry)) w s place (now (work .entry)) (now (work .exit)) r ⌝ }
+    ensures { λ r. ⌜ Mores (listing list) (now (text .entry)) w s place (now (work .entry)) (now (work .exit)) r ⌝ }
 {
     let mut next = w;
     let mut state = s;

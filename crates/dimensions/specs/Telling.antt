@@ -1,7 +1,7 @@
 -- What a parsing function answers, as a claim of the machine, whatever stack K stands below and whatever was built.
 use mathlib.Core.List.{List, _++_}
 use mathlib.Core.Path.{_≡_}
-use Prim.Native.Nat.{ℕ, _≤_}
+use Prim.Native.Nat.{ℕ}
 use Rattle.course.specs.declared.Answer.{Answer}
 use Rattle.course.specs.declared.State.{State}
 use Rattle.course.specs.declared.Verdict.the-variants as Vd
@@ -11,13 +11,12 @@ use Rattle.language.specs.Machine.{refused}
 use Rattle.words.specs.declared.Fault.{Fault}
 use Rattle.words.specs.declared.Word.{Word}
 use Rattle.words.specs.Meaning.{faulted}
-use Rattle.work.specs.Held.{mostNodes}
 
--- From the stack P and what `pre` makes of what was built: what was read, or the machine's refusal, or no more room for expressions.
+-- From the stack P and what `pre` makes of what was built: what was read, or the machine's refusal; there is room for everything.
 pub record Tells (text : List ℕ) (P : Stack) (pre : Built → Built) (w : Word) (s : State) (a : Answer) (Read : Type 0) : Type 0 where
   pub done : a .verdict ≡ Vd.Done → Read
   pub refused : (f : Fault) → a .verdict ≡ Vd.Refused f → (K : Stack) (b : Built) → runs text (P ++ K) w (pre b) s ≡ refused (faulted f)
-  pub full : a .verdict ≡ Vd.Full → mostNodes ≤ a .state .nodes
+  pub full : a .verdict ≡ Vd.Full → ⊥
 
 -- Nothing went before.
 abbrev pub same : Built → Built

@@ -15,7 +15,8 @@ use Rattle.image.specs.Declarations.{facilityIn}
 use Rattle.image.specs.Names.{facilityPart, named}
 use Rattle.written.specs.Begins.{begins-passes, begins-read, passes-begins}
 use Rattle.written.specs.Whole.{decode-encode}
-use Rattle.exact.specs.Legal.{Plain}
+use Rattle.exact.specs.Depth.{bounded}
+use Rattle.exact.specs.Legal.{Plain, bounded-so}
 use Rattle.exact.specs.Ranges.{in-range}
 
 -- What is read has expressions only in computed terminals.
@@ -36,6 +37,10 @@ described-plain x n l = subst PlainOne (sym (facility-described x n)) (read-plai
 pub decoded-plain : (image : List ℕ) → Plain (decode image)
 unfolding decode
 decoded-plain image = described-plain _
+
+-- The walks over what passes are bounded.
+pub passes-bounded : (image : List ℕ) → passes image ≡ true → bounded (decode image) ≡ true
+passes-bounded image h = bounded-so (decode image) (passes-begins image h .legal)
 
 -- ---- What is written is read back.
 

@@ -17,6 +17,7 @@ use Rattle.theorems.specs.Ordered.{tree-first}
 use Rattle.theorems.specs.Starts.{none-some}
 use Rattle.exact.specs.Acts.{Own, SaneAct, acts}
 use Rattle.exact.specs.Counted.{count, count-add}
+use Rattle.exact.specs.Depth.{depthAt}
 use Rattle.exact.specs.Trees.{Sane, counts}
 
 -- ---- Each element of a list.
@@ -47,12 +48,14 @@ module _ (d : Description) where
     pub sane : (m : ℕ) → at ≤ m → m < end → Sane d m (nodeAt d m)
     pub few : many ≤ 8 * count (counts d) at many
     pub each : roots ≤ count (counts d) at many
+    -- a record's tree leaves at least one to each other root
+    pub deep : (m : ℕ) → at ≤ m → m < end → depthAt d m + 2 * roots ≤ 2 * count (counts d) at many + 1
 
   pub trees-cover : (at : ℕ) (rs : List ℕ) (end : ℕ) → treesEnd d at rs ≡ some end → Each (Own d) rs → Trees at end (length rs)
   unfolding treesEnd count
   trees-cover at [] end e o =
       let z : at ≡ end = cc in
-      record { many = 0; ends = omega arith; sane = λ m l r. absurd (omega arith); few = omega arith; each = omega arith }
+      record { many = 0; ends = omega arith; sane = λ m l r. absurd (omega arith); few = omega arith; each = omega arith; deep = λ m l r. absurd (omega arith) }
   trees-cover at (r ∷ rs) end e o =
       let t = tree-first d at r rs end e in
       let y = o .0 at (t .start) in
@@ -63,15 +66,16 @@ module _ (d : Description) where
       record {
         many = y .many + rest .many;
         ends = omega (arith, rest .ends);
-        sane = λ m l q. split (y .sane) (rest .sane) m l q (ltb m (r + 1)) refl;
+        sane = λ m l q. split (λ k. Sane d k (nodeAt d k)) (y .sane) (rest .sane) m l q (ltb m (r + 1)) refl;
         few = omega (arith, c, rest .few);
         each = omega (arith, c, rest .each);
+        deep = λ m l q. split (λ k. depthAt d k + 2 * suc (length rs) ≤ 2 * count (counts d) at (y .many + rest .many) + 1)
+            (λ k i j. omega (arith, c, y .under k i j, y .deeper refl, rest .each)) (λ k i j. omega (arith, c, rest .deep k i j)) m l q (ltb m (r + 1)) refl;
       }
     where
-      split : ((m : ℕ) → at ≤ m → m ≤ r → Sane d m (nodeAt d m)) → ((m : ℕ) → r + 1 ≤ m → m < end → Sane d m (nodeAt d m))
-          → (m : ℕ) → at ≤ m → m < end → (b : Bool) → ltb m (r + 1) ≡ b → Sane d m (nodeAt d m)
-      split f g m l q true t = f m l (omega (arith, ltb-true m (r + 1) t))
-      split f g m l q false t = g m (ltb-false m (r + 1) t) q
+      split : (P : ℕ → Type 0) → ((m : ℕ) → at ≤ m → m ≤ r → P m) → ((m : ℕ) → r + 1 ≤ m → m < end → P m) → (m : ℕ) → at ≤ m → m < end → (b : Bool) → ltb m (r + 1) ≡ b → P m
+      split P f g m l q true t = f m l (omega (arith, ltb-true m (r + 1) t))
+      split P f g m l q false t = g m (ltb-false m (r + 1) t) q
 
   -- ---- Roots.
 

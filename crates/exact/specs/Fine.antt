@@ -27,7 +27,8 @@ use Rattle.theorems.specs.Starts.{none-some, one-before, start-le, start-lt, tw
 use Rattle.records.proofs.NodeBack.{Half}
 use Rattle.written.specs.Whole.{both-left, both-right}
 use Rattle.exact.specs.Counted.{count-more}
-use Rattle.exact.specs.Trees.{Sane, Tree, binary-kind, counts, cut-count, cut-kind, digits-sane, leaf, over-arm, over-next, over-one, over-two, prefix-kind, selects-few, within-bounds}
+use Rattle.exact.specs.Depth.{depth-leaf, depth-one, depth-two}
+use Rattle.exact.specs.Trees.{Digit, Sane, Tree, binary-kind, counts, cut-count, cut-kind, digits-sane, leaf, over-arm, over-next, over-one, over-two, prefix-kind, selects-few, within-bounds}
 
 -- ---- Constants.
 
@@ -57,18 +58,22 @@ constant-tree d n s v e l h o arms =
     let f = further-few (v .length) h in
     let own : Sane d n (nodeAt d n) = rw e (l, h, c .fits, c .digits) in
     let one : nodeCount (nodeAt d n) ≡ 1 = rw e in
+    let q = depth-leaf d n _ e (λ f. refl) in
     let more = count-more (counts d) s k n (omega (arith, c .from, g .0)) in
     record {
       many = k + 1;
       ends = omega (arith, c .from, g .0);
-      sane = λ m p q. all own (g .1) m (omega (arith, c .from, g .0)) q (eqb m n) refl;
+      sane = λ m p r. all (own, q) (g .1) m (omega (arith, c .from, g .0)) r (eqb m n) refl .0;
       few = omega (arith, more, one, f);
       fewer = λ z. omega (arith, more, one, f);
+      under = λ m p r. omega (arith, q, all (own, q) (g .1) m (omega (arith, c .from, g .0)) r (eqb m n) refl .1);
+      deep = omega (arith, more, one, q);
+      deeper = λ z. omega (arith, more, one, q);
     }
   where
-    all : Sane d n (nodeAt d n) → ((m : ℕ) → n ≤ m + furtherDigits (v .length) → m < n → Sane d m (nodeAt d m)) → (m : ℕ) → n ≤ m + furtherDigits (v .length) → m ≤ n
-        → (b : Bool) → eqb m n ≡ b → Sane d m (nodeAt d m)
-    all own f m p q true t = subst (λ (k : ℕ). Sane d k (nodeAt d k)) (sym (eqb-true m n t)) own
+    all : Digit d n → ((m : ℕ) → n ≤ m + furtherDigits (v .length) → m < n → Digit d m) → (m : ℕ) → n ≤ m + furtherDigits (v .length) → m ≤ n
+        → (b : Bool) → eqb m n ≡ b → Digit d m
+    all own f m p q true t = subst (Digit d) (sym (eqb-true m n t)) own
     all own f m p q false t = f m p (omega (arith, eqb-false m n t))
 
 -- ---- Expressions: `known` facilities may be named, whose bounds have room.
@@ -108,14 +113,14 @@ module _ (d : Description) (p : Places) (terminals : ℕ → Judged) (known : �
       whole-tree : {w : Worth} → nodeAt d n ≡ D.whole f → referenceJudged d p terminals ev own known (record { facility = f; subscripts = R.whole }) at ≡ fine w → Tree d n n arms
       whole-tree e j =
           let r = refers R.whole j in
-          leaf d n (rw e (omega (arith, r .known-here))) (rw e) arms
+          leaf d n (rw e (omega (arith, r .known-here))) (depth-leaf d n _ e (λ f. refl)) (rw e) arms
 
       part-tree : (b : Bounds) {w : Worth} → nodeAt d n ≡ D.part f b → referenceJudged d p terminals ev own known (record { facility = f; subscripts = R.part b }) at ≡ fine w → Tree d n n arms
       unfolding boundFaults
       part-tree b e j =
           let r = refers (R.part b) j in
           let h = ends-in b (r .known-here) (r .right .bound) in
-          leaf d n (rw e (omega (arith, r .known-here), h .0, h .1)) (rw e) arms
+          leaf d n (rw e (omega (arith, r .known-here), h .0, h .1)) (depth-leaf d n _ e (λ f. refl)) (rw e) arms
 
       one-tree : (a s : ℕ) {w : Worth} → nodeAt d n ≡ D.one f a → justBefore d (startBelow d n) a n ≡ some s
           → referenceJudged d p terminals ev own known (record { facility = f; subscripts = R.one a }) at ≡ fine w → Tree d n s arms
@@ -125,7 +130,7 @@ module _ (d : Description) (p : Places) (terminals : ℕ → Judged) (known : �
           let y = one-before d a n s o in
           let l : a < n = omega (arith, y .last) in
           let t = proper-fine (nodePlace p a .at) (ev a) (r .right .worked) in
-          over-one d n (rw e (omega (arith, r .known-here), l)) a s (y .last) _ (part a s _ l (y .start) (t .same)) (rw e) arms
+          over-one d n (rw e (omega (arith, r .known-here), l)) a s (y .last) (depth-one d n _ e a l (λ f. refl)) _ (part a s _ l (y .start) (t .same)) (rw e) arms
 
       word-part-tree : (a s : ℕ) (b : Bounds) {w : Worth} → nodeAt d n ≡ D.wordPart f a b → justBefore d (startBelow d n) a n ≡ some s
           → referenceJudged d p terminals ev own known (record { facility = f; subscripts = R.wordPart a b }) at ≡ fine w → Tree d n s arms
@@ -136,7 +141,7 @@ module _ (d : Description) (p : Places) (terminals : ℕ → Judged) (known : �
           let l : a < n = omega (arith, y .last) in
           let t = proper-fine (nodePlace p a .at) (ev a) (r .right .worked) in
           let h = ends-in b (r .known-here) (append-none-right (subscriptFaults d p terminals (facilityAt d f .words) a) _ (r .right .bound)) in
-          over-one d n (rw e (omega (arith, r .known-here), l, h .0, h .1)) a s (y .last) _ (part a s _ l (y .start) (t .same)) (rw e) arms
+          over-one d n (rw e (omega (arith, r .known-here), l, h .0, h .1)) a s (y .last) (depth-one d n _ e a l (λ f. refl)) _ (part a s _ l (y .start) (t .same)) (rw e) arms
 
       two-tree : (a g s : ℕ) {w : Worth} → nodeAt d n ≡ D.two f a g → twoBefore d (startBelow d n) a g n ≡ some s
           → referenceJudged d p terminals ev own known (record { facility = f; subscripts = R.two a g }) at ≡ fine w → Tree d n s arms
@@ -150,7 +155,7 @@ module _ (d : Description) (p : Places) (terminals : ℕ → Judged) (known : �
           let t = both-fine (subscriptWorth d p terminals ev a) (subscriptWorth d p terminals ev g) _ (r .right .worked) in
           let u = proper-fine (nodePlace p a .at) (ev a) (t .left) in
           let v = proper-fine (nodePlace p g .at) (ev g) (t .right) in
-          over-two d n (rw e (omega (arith, r .known-here), l, m)) a g s (y .middle) (y .next) (y .last) _ _
+          over-two d n (rw e (omega (arith, r .known-here), l, m)) a g s (y .middle) (y .next) (y .last) (depth-two d n _ e a g l m (λ f. refl)) _ _
           (part a s _ l (sym (start-lt d n a l) ∙ y .left) (u .same)) (part g (y .middle) _ m (y .right) (v .same)) (rw e) arms
 
     -- ---- Every kind of record.
@@ -176,7 +181,7 @@ module _ (d : Description) (p : Places) (terminals : ℕ → Judged) (known : �
           let u = proper-fine (nodePlace p a .at) (ev a) (t .left) in
           let v = proper-fine (nodePlace p b .at) (ev b) (t .right) in
           let z = sized-fine (at .at) (binaryLength k (t .u .length) (t .v .length)) _ (t .own) in
-          over-two d n (rw q (binary-kind k _ _ (z .some), l, m)) a b s (y .middle) (y .next) (y .last) _ _
+          over-two d n (rw q (binary-kind k _ _ (z .some), l, m)) a b s (y .middle) (y .next) (y .last) (depth-two d n _ q a b l m (λ f. refl)) _ _
           (part a s _ l (sym (start-lt d n a l) ∙ y .left) (u .same)) (part b (y .middle) _ m (y .right) (v .same)) (rw q) (w .arms)
       node-tree (D.prefix k a) w q e o =
           let y = one-before d a n s o in
@@ -184,21 +189,21 @@ module _ (d : Description) (p : Places) (terminals : ℕ → Judged) (known : �
           let t = given-fine (properAt d p terminals known ev a) _ e in
           let u = proper-fine (nodePlace p a .at) (ev a) (t .part) in
           let z = sized-fine (at .at) (prefixLength k (t .v .length)) _ (t .own) in
-          over-one d n (rw q (prefix-kind k _ (z .some), l)) a s (y .last) _ (part a s _ l (y .start) (u .same)) (rw q) (w .arms)
+          over-one d n (rw q (prefix-kind k _ (z .some), l)) a s (y .last) (depth-one d n _ q a l (λ f. refl)) _ (part a s _ l (y .start) (u .same)) (rw q) (w .arms)
       node-tree (D.cut k a c) w q e o =
           let y = one-before d a n s o in
           let l : a < n = omega (arith, y .last) in
           let t = given-fine (properAt d p terminals known ev a) _ e in
           let u = proper-fine (nodePlace p a .at) (ev a) (t .part) in
           let z = sized-fine (at .at) (cutLengthOf k (t .v .length) c) _ (t .own) in
-          over-one d n (rw q (cut-kind k _ c (z .some), l, omega (arith, cut-count k (t .v .length) c (z .some) (z .most)))) a s (y .last) _ (part a s _ l (y .start) (u .same)) (rw q) (w .arms)
+          over-one d n (rw q (cut-kind k _ c (z .some), l, omega (arith, cut-count k (t .v .length) c (z .some) (z .most)))) a s (y .last) (depth-one d n _ q a l (λ f. refl)) _ (part a s _ l (y .start) (u .same)) (rw q) (w .arms)
       node-tree (D.firstArm a) w q e o =
           let y = one-before d a n s o in
           let l : a < n = omega (arith, y .last) in
           let t = given-fine (properAt d p terminals known ev a) _ e in
           let u = proper-fine (nodePlace p a .at) (ev a) (t .part) in
           let z : 1 ≡ w .arms = let k : worth (t .v .length) 1 (t .v .work) ≡ fine w = t .own in cc in
-          subst (λ (k : ℕ). Tree d n s k) z (over-arm d n (rw q l) a s (y .last) _ (part a s _ l (y .start) (u .same)) (u .arms) 0)
+          subst (λ (k : ℕ). Tree d n s k) z (over-arm d n (rw q l) a s (y .last) (depth-one d n _ q a l (λ f. refl)) _ (part a s _ l (y .start) (u .same)) (u .arms) 0)
       node-tree (D.nextArm a b) w q e o =
           let y = two-before d a b n s o in
           let g : y .middle ≤ b = start-le d b (y .middle) (y .right) in
@@ -209,7 +214,7 @@ module _ (d : Description) (p : Places) (terminals : ℕ → Judged) (known : �
           let v = proper-fine (nodePlace p b .at) (ev b) (t .right) in
           let z : suc (t .u .arms) ≡ w .arms = arms-are (t .own) in
           subst (λ (k : ℕ). Tree d n s k) z
-          (over-next d n (rw q (l, m)) a b s (y .middle) (y .next) (y .last) _ _
+          (over-next d n (rw q (l, m)) a b s (y .middle) (y .next) (y .last) (depth-two d n _ q a b l m (λ f. refl)) _ _
           (part a s _ l (sym (start-lt d n a l) ∙ y .left) (u .same)) (part b (y .middle) _ m (y .right) (v .same)) (v .arms) (t .u .arms))
         where
           arms-are : {l k m : ℕ} → worth l k m ≡ fine w → k ≡ w .arms
@@ -222,7 +227,7 @@ module _ (d : Description) (p : Places) (terminals : ℕ → Judged) (known : �
           let t = both-fine (properAt d p terminals known ev a) (armList (at .at) (ev b)) _ e in
           let u = proper-fine (nodePlace p a .at) (ev a) (t .left) in
           let v = arms-fine (at .at) (ev b) (t .right) in
-          over-two d n (rw q (l, m, omega (arith, few c (t .u) (t .v) (t .own)))) a b s (y .middle) (y .next) (y .last) _ _
+          over-two d n (rw q (l, m, omega (arith, few c (t .u) (t .v) (t .own)))) a b s (y .middle) (y .next) (y .last) (depth-two d n _ q a b l m (λ f. refl)) _ _
           (part a s _ l (sym (start-lt d n a l) ∙ y .left) (u .same)) (part b (y .middle) _ m (y .right) (v .same)) (rw q) (w .arms)
         where
           few : (c : ℕ) (u v : Worth) → choiceJudged d p terminals known (at .at) c u v ≡ fine w → c ≤ 64

@@ -6,7 +6,7 @@ use mathlib.Core.Path.{_≡_, refl, sym, ap, _∙_}
 use native.Mathlib.Nat.{mul-add, mul-suc}
 use native.Mathlib.Omega.{arith}
 use Prim.Native.Nat.{ℕ, zero, suc, _+_, _-_, _*_, _≤_, _<_}
-use borrow.Author.Tests.{eqb-true, leb-true, ltb-false, ltb-true}
+use borrow.Author.Tests.{eqb-true, le-leb, leb-true, ltb-false, ltb-true}
 use lib.Dec.{eqb, leb, ltb}
 use lib.ListN.{getD, length, length-append}
 use Rattle.language.specs.ActionRules as J
@@ -32,6 +32,7 @@ use Rattle.records.proofs.NodeBack.{Half}
 use Rattle.exact.specs.Acts.{Own, run-sane}
 use Rattle.exact.specs.Counted.{count, count-add, count-all}
 use Rattle.exact.specs.Covered.{Computed, Covered, Each, Inside, Sound, Trees, each-append, each-of, facility-own, lefts-most, operations-cover, states-cover, trees-cover}
+use Rattle.exact.specs.Depth.{bounded, depthAt, mostActions, mostExpressions, shallow, shallow-so}
 use Rattle.exact.specs.Fine.{constant-tree, proper-tree, side-tree}
 use Rattle.exact.specs.Trees.{counts}
 
@@ -364,23 +365,40 @@ module _ (d : Description) (h : legalForm d ≡ true) where
       at-most none s e = rw e (omega arith)
       at-most (some n) s e = rw e (omega arith)
 
+  -- All that counts, with what does not.
+  counted-all : count (counts d) 0 (trees-all .many) + total actionCount (d .actions) ≤ 2048 + (total leftCount (d .actions) + total valueCount (d .states))
+  unfolding countedRecords
+  counted-all = omega (arith, nodes-sum, few-counted)
+
+  -- Left sides and values are roots.
+  rooted : total leftCount (d .actions) + total valueCount (d .states) ≤ length roots
+  rooted =
+      omega (
+        arith,
+        operations-all .0 .lefts-in,
+        states-all .0 .lefts-in,
+        over-actions leftCount,
+        length-append (facilityRoots d (d .facilities)) (operationRoots d (d .operations) ++ stateRoots d (d .states)),
+        length-append (operationRoots d (d .operations)) (stateRoots d (d .states)),
+      )
+
   abbrev pub Few : Type 0
-  Few = (length (d .expressions) ≤ 65534) × (end ≤ 65534)
+  Few = (length (d .expressions) ≤ 34816) × (end ≤ 4096)
 
   pub few-records : Few
-  unfolding countedRecords
   few-records =
       let t = trees-all in
       let o = operations-all .0 in
       let s = states-all .0 in
       let a = over-actions actionCount in
-      let l = over-actions leftCount in
       let m = total-most leftCount actionCount 2 (lefts-most d) (d .actions) in
-      let n = nodes-sum in
-      let c = few-counted in
-      let v = values-few in
-      let r1 = length-append (facilityRoots d (d .facilities)) (operationRoots d (d .operations) ++ stateRoots d (d .states)) in
-      let r2 = length-append (operationRoots d (d .operations)) (stateRoots d (d .states)) in (
-        omega (arith, t .few, t .each, t .ends, o .lefts-in, s .lefts-in, a, l, m, n, c, v, r1, r2),
-        omega (arith, t .few, t .each, t .ends, o .lefts-in, s .lefts-in, o .few, s .few, o .ends, s .ends, a, l, m, n, c, v, r1, r2),
-      )
+      (omega (arith, t .few, t .each, t .ends, m, counted-all, rooted, values-few), omega (arith, t .each, o .few, s .few, o .ends, s .ends, a, counted-all, rooted))
+
+  -- No expression is deep.
+  pub not-deep : (n : ℕ) → n < length (d .expressions) → depthAt d n ≤ 4097
+  not-deep n l = omega (arith, trees-all .deep n (omega arith) l, counted-all, rooted)
+
+  -- So the walks over a description in legal form are bounded.
+  pub bounded-so : bounded d ≡ true
+  unfolding bounded shallow mostExpressions mostActions
+  bounded-so = rw (le-leb _ _ (few-records .0), le-leb _ _ (few-records .1)) (shallow-so d (length (d .expressions)) not-deep)

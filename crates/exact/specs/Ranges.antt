@@ -160,14 +160,14 @@ module _ (d : Description) (h : legalForm d ≡ true) (plain-ones : Plain d) whe
 
   state-value : (n : ℕ) → n < length (d .states) → ValueFits (stateAt d n .value)
   unfolding stateAt
-  state-value n l = state-below d last (d .states) (few-records d h .0) states-below n l
+  state-value n l = state-below d last (d .states) (omega (arith, few-records d h .0)) states-below n l
 
   action-fits : (n : ℕ) → n < length (d .actions) → A.Fits (actionAt d n)
   action-fits n l =
       let o = operations-all d h .0 in
       let s = states-all d h .0 in
       let L = legal d h in
-      action-range d (L .base) last (end d h) (actionAt d n) (few-records d h .0) (few-records d h .1) (split (o .sane) (s .sane) (ltb n (middle d h)) refl) (L .actions-order n)
+      action-range d (L .base) last (end d h) (actionAt d n) (omega (arith, few-records d h .0)) (omega (arith, few-records d h .1)) (split (o .sane) (s .sane) (ltb n (middle d h)) refl) (L .actions-order n)
     where
       split : ((j : ℕ) → 0 ≤ j → j < middle d h → SaneAct d (end d h) (actionAt d j)) → ((j : ℕ) → middle d h ≤ j → j < end d h → SaneAct d (end d h) (actionAt d j))
           → (b : Bool) → ltb n (middle d h) ≡ b → SaneAct d (end d h) (actionAt d n)

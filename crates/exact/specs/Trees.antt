@@ -1,9 +1,9 @@
--- Every record of a tree that is judged fine is sane, and a tree has few records for what it counts.
+-- Every record of a tree that is judged fine is sane, and a tree has few records for what it counts and is no deeper than that allows.
 use mathlib.Core.Bool.{Bool, true, false, cond, true≢false, _||_}
 use mathlib.Core.Path.{_≡_, refl, sym, subst, _∙_}
 use native.Mathlib.Nat.{mod-lt, suc-mul}
 use native.Mathlib.Omega.{arith}
-use Prim.Native.Nat.{ℕ, zero, suc, _+_, _*_, _/_, _%_, _^_, _≤_, _<_}
+use Prim.Native.Nat.{ℕ, zero, suc, max, _+_, _*_, _/_, _%_, _^_, _≤_, _<_}
 use borrow.Author.Tests.{eqb-false, eqb-true, leb-false, leb-true, ltb-false, ltb-true, ne-eqb}
 use lib.Dec.{eqb, leb, ltb}
 use lib.ListN.{length}
@@ -20,6 +20,7 @@ use Rattle.written.specs.Back.{is-digit}
 use Rattle.written.specs.Whole.{both-left, both-right}
 use Rattle.records.proofs.NodeBack.{Half}
 use Rattle.exact.specs.Counted.{count, count-add, count-more, count-one}
+use Rattle.exact.specs.Depth.{depth-leaf, depthAt}
 
 -- ---- Sane records: what they name stands before them.
 
@@ -40,7 +41,7 @@ Sane d n (D.nextArm a e) = (a < n) × (e < n)
 Sane d n (D.choice e a m) = (e < n) × (a < n) × Half m
 Sane d n D.Node.broken = Unit {0}
 
--- ---- A tree: its records are sane, and there are few for what it counts; fewer for an expression proper.
+-- ---- A tree: its records are sane and no deeper than its root; there are few for what it counts and the root is not deep, less so for an expression proper.
 
 abbrev pub counts : Description → ℕ → ℕ
 counts d n = nodeCount (nodeAt d n)
@@ -51,37 +52,64 @@ pub record Tree (d : Description) (n s arms : ℕ) : Type 0 where
   pub sane : (m : ℕ) → s ≤ m → m ≤ n → Sane d m (nodeAt d m)
   pub few : many + 1 ≤ 8 * count (counts d) s many
   pub fewer : arms ≡ 0 → many + 2 ≤ 8 * count (counts d) s many
+  pub under : (m : ℕ) → s ≤ m → m ≤ n → depthAt d m ≤ depthAt d n
+  pub deep : depthAt d n ≤ 2 * count (counts d) s many
+  pub deeper : arms ≡ 0 → depthAt d n + 1 ≤ 2 * count (counts d) s many
+
+-- What holds of the records up to the one before n, and of n.
+with-own : (P : ℕ → Type 0) (n : ℕ) → P n → (s a : ℕ) → a + 1 ≡ n → ((m : ℕ) → s ≤ m → m ≤ a → P m) → (m : ℕ) → s ≤ m → m ≤ n → P m
+with-own P n own s a h f m l r = by-test (eqb m n) refl
+  where
+    by-test : (b : Bool) → eqb m n ≡ b → P m
+    by-test true e = subst P (sym (eqb-true m n e)) own
+    by-test false e = f m l (omega (arith, eqb-false m n e))
+
+-- What holds of two trees one after the other, and of n.
+with-both : (P : ℕ → Type 0) (n : ℕ) → P n → (s a m b : ℕ) → a + 1 ≡ m → b + 1 ≡ n → ((k : ℕ) → s ≤ k → k ≤ a → P k) → ((k : ℕ) → m ≤ k → k ≤ b → P k)
+    → (k : ℕ) → s ≤ k → k ≤ n → P k
+with-both P n own s a m b next last f g = with-own P n own s b last (λ k l r. by-test k l r (leb k a) refl)
+  where
+    by-test : (k : ℕ) → s ≤ k → k ≤ b → (y : Bool) → leb k a ≡ y → P k
+    by-test k l r true z = f k l (leb-true k a z)
+    by-test k l r false z = g k (omega (arith, leb-false k a z)) r
 
 module _ (d : Description) (n : ℕ) (own : Sane d n (nodeAt d n)) where
-  -- Records up to the one before, and this one.
-  with-own : (s a : ℕ) → a + 1 ≡ n → ((m : ℕ) → s ≤ m → m ≤ a → Sane d m (nodeAt d m)) → (m : ℕ) → s ≤ m → m ≤ n → Sane d m (nodeAt d m)
-  with-own s a h f m l r = by-test (eqb m n) refl
-    where
-      by-test : (b : Bool) → eqb m n ≡ b → Sane d m (nodeAt d m)
-      by-test true e = subst (λ (k : ℕ). Sane d k (nodeAt d k)) (sym (eqb-true m n e)) own
-      by-test false e = f m l (omega (arith, eqb-false m n e))
+  abbrev SaneAt : ℕ → Type 0
+  SaneAt m = Sane d m (nodeAt d m)
 
-  pub leaf : nodeCount (nodeAt d n) ≡ 1 → (arms : ℕ) → Tree d n n arms
-  leaf c arms = record {
+  abbrev Under : ℕ → Type 0
+  Under m = depthAt d m ≤ depthAt d n
+
+  pub leaf : depthAt d n ≡ 1 → nodeCount (nodeAt d n) ≡ 1 → (arms : ℕ) → Tree d n n arms
+  leaf q c arms = record {
     many = 1;
     ends = omega arith;
-    sane = λ m l r. let e : n ≡ m = omega arith in subst (λ (k : ℕ). Sane d k (nodeAt d k)) e own;
+    sane = λ m l r. let e : n ≡ m = omega arith in subst SaneAt e own;
     few = omega (arith, count-one (counts d) n);
     fewer = λ z. omega (arith, count-one (counts d) n);
+    under = λ m l r. let e : m ≡ n = omega arith in rw e (omega arith);
+    deep = omega (arith, count-one (counts d) n);
+    deeper = λ z. omega (arith, count-one (counts d) n);
   }
 
-  module _ (a s : ℕ) (last : a + 1 ≡ n) (arms : ℕ) (t : Tree d a s arms) where
+  module _ (a s : ℕ) (last : a + 1 ≡ n) (q : depthAt d n ≡ suc (depthAt d a)) (arms : ℕ) (t : Tree d a s arms) where
     total-one : count (counts d) s (t .many + 1) ≡ count (counts d) s (t .many) + nodeCount (nodeAt d n)
     total-one = count-more (counts d) s (t .many) n (omega (arith, t .ends))
+
+    under-one : (m : ℕ) → s ≤ m → m ≤ n → Under m
+    under-one = with-own Under n (omega arith) s a last (λ m l r. omega (arith, t .under m l r))
 
     -- An operator with one operand.
     pub over-one : nodeCount (nodeAt d n) ≡ 1 → (arms′ : ℕ) → Tree d n s arms′
     over-one c arms′ = record {
       many = t .many + 1;
       ends = omega (arith, t .ends);
-      sane = with-own s a last (t .sane);
+      sane = with-own SaneAt n own s a last (t .sane);
       few = omega (arith, total-one, t .few);
       fewer = λ z. omega (arith, total-one, t .few);
+      under = under-one;
+      deep = omega (arith, total-one, t .deep);
+      deeper = λ z. omega (arith, total-one, t .deep);
     }
 
     -- The first arm of a list.
@@ -89,18 +117,20 @@ module _ (d : Description) (n : ℕ) (own : Sane d n (nodeAt d n)) where
     over-arm z k = record {
       many = t .many + 1;
       ends = omega (arith, t .ends);
-      sane = with-own s a last (t .sane);
+      sane = with-own SaneAt n own s a last (t .sane);
       few = omega (arith, total-one, t .fewer z);
       fewer = λ y. absurd (omega arith);
+      under = under-one;
+      deep = omega (arith, total-one, t .deeper z);
+      deeper = λ y. absurd (omega arith);
     }
 
-  module _ (a b s m : ℕ) (next : a + 1 ≡ m) (last : b + 1 ≡ n) (p q : ℕ) (t : Tree d a s p) (u : Tree d b m q) where
-    pair-sane : (k : ℕ) → s ≤ k → k ≤ n → Sane d k (nodeAt d k)
-    pair-sane = with-own s b last (λ k l r. by-test k l r (leb k a) refl)
-      where
-        by-test : (k : ℕ) → s ≤ k → k ≤ b → (y : Bool) → leb k a ≡ y → Sane d k (nodeAt d k)
-        by-test k l r true z = t .sane k l (leb-true k a z)
-        by-test k l r false z = u .sane k (omega (arith, leb-false k a z)) r
+  module _ (a b s m : ℕ) (next : a + 1 ≡ m) (last : b + 1 ≡ n) (w : depthAt d n ≡ suc (max (depthAt d a) (depthAt d b))) (p q : ℕ) (t : Tree d a s p) (u : Tree d b m q) where
+    pair-sane : (k : ℕ) → s ≤ k → k ≤ n → SaneAt k
+    pair-sane = with-both SaneAt n own s a m b next last (t .sane) (u .sane)
+
+    pair-under : (k : ℕ) → s ≤ k → k ≤ n → Under k
+    pair-under = with-both Under n (omega arith) s a m b next last (λ k l r. omega (arith, t .under k l r)) (λ k l r. omega (arith, u .under k l r))
 
     total-two : count (counts d) s (t .many + u .many + 1) ≡ count (counts d) s (t .many) + count (counts d) m (u .many) + nodeCount (nodeAt d n)
     total-two =
@@ -115,6 +145,9 @@ module _ (d : Description) (n : ℕ) (own : Sane d n (nodeAt d n)) where
       sane = pair-sane;
       few = omega (arith, total-two, t .few, u .few);
       fewer = λ z. omega (arith, total-two, t .few, u .few);
+      under = pair-under;
+      deep = omega (arith, total-two, t .deep, u .deep);
+      deeper = λ z. omega (arith, total-two, t .deep, u .deep);
     }
 
     -- A further arm.
@@ -125,6 +158,9 @@ module _ (d : Description) (n : ℕ) (own : Sane d n (nodeAt d n)) where
       sane = pair-sane;
       few = omega (arith, total-two, t .few, u .fewer z);
       fewer = λ y. absurd (omega arith);
+      under = pair-under;
+      deep = omega (arith, total-two, t .deep, u .deeper z);
+      deeper = λ y. absurd (omega arith);
     }
 
 -- ---- Kinds and counts of operators.
@@ -216,7 +252,11 @@ within-bounds b x p q e = by-test (leb (b .first) (b .last)) e
 
 -- ---- Digits.
 
-pub digits-sane : (d : Description) (k n x : ℕ) → digitsStand d k n x ≡ true → (k ≤ n) × ((m : ℕ) → n ≤ m + k → m < n → Sane d m (nodeAt d m))
+-- A record before a constant, which is one of its digits.
+abbrev pub Digit : Description → ℕ → Type 0
+Digit d m = Sane d m (nodeAt d m) × (depthAt d m ≡ 1)
+
+pub digits-sane : (d : Description) (k n x : ℕ) → digitsStand d k n x ≡ true → (k ≤ n) × ((m : ℕ) → n ≤ m + k → m < n → Digit d m)
 unfolding digitsStand digitLength
 digits-sane d zero n x e = (omega arith, λ m l r. absurd (omega arith))
 digits-sane d (suc k) zero x e = absurd (true≢false (sym e))
@@ -226,6 +266,6 @@ digits-sane d (suc k) (suc n) x e =
     let rest = digits-sane d k n (x / 2 ^ 48) (both-right (isDigit48 d (nodeAt d n) y) (digitsStand d k n (x / 2 ^ 48)) e) in
     (omega (arith, rest .0), λ m l r. by-test here (rest .1) m l r (eqb m n) refl)
   where
-    by-test : nodeAt d n ≡ D.more (x % 2 ^ 48) → ((m : ℕ) → n ≤ m + k → m < n → Sane d m (nodeAt d m)) → (m : ℕ) → suc n ≤ m + suc k → m < suc n → (b : Bool) → eqb m n ≡ b → Sane d m (nodeAt d m)
-    by-test here f m l r true t = rw (eqb-true m n t, here) (mod-lt x (omega arith))
+    by-test : nodeAt d n ≡ D.more (x % 2 ^ 48) → ((m : ℕ) → n ≤ m + k → m < n → Digit d m) → (m : ℕ) → suc n ≤ m + suc k → m < suc n → (b : Bool) → eqb m n ≡ b → Digit d m
+    by-test here f m l r true t = rw (eqb-true m n t) (rw here (mod-lt x (omega arith)), depth-leaf d n _ here (λ f. refl))
     by-test here f m l r false t = f m (omega arith) (omega (arith, eqb-false m n t))

@@ -21,7 +21,7 @@ pub enum Shape {
     Two(u16, u16),
 }
 
-fn shape_of(node: Node) -> Shape
+pub fn shape_of(node: Node) -> Shape
     ensures { λ r. ⌜ r ≡ shapeOf node ⌝ }
 {
     match node {

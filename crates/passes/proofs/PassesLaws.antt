@@ -1,8 +1,8 @@
--- The form and the rules together: what an image of the right form owes the rules, and what the least of its faults says.
-use mathlib.Core.Bool.{true, false}
+-- Bounds, form and rules together: what an image that is not bounded comes to, what one of the right form owes the rules, and what the least of its faults says.
+use mathlib.Core.Bool.{Bool, true, false}
 use mathlib.Core.List.{List, [], _∷_}
 use mathlib.Core.Option.{none, some}
-use mathlib.Core.Path.{_≡_, refl, sym, ap}
+use mathlib.Core.Path.{_≡_, refl, sym, ap, _∙_}
 use Prim.Native.Nat.{ℕ, _/_, _≤_}
 use native.Mathlib.Omega.{arith}
 use borrow.Author.Tests.{leb-true, ne-eqb}
@@ -22,7 +22,11 @@ use Rattle.image.proofs.DescribedLaws.{facilities-count, operations-count}
 use Rattle.noted.proofs.NotedLaws.{noted-none}
 use Rattle.noted.specs.Noted.{noted, notedDescription, nothingBeside, placesIn}
 use Rattle.written.specs.Whole.{both-left, both-right, bytesRight}
+use Rattle.order.proofs.HoldsLaws.{actions-held, nodes-held}
+use Rattle.order.specs.Holds.{Actions, Nodes}
 use Rattle.form.specs.Form.{formRight, passes-form}
+use Rattle.exact.specs.CheckExact.{passes-bounded}
+use Rattle.exact.specs.Depth.{bounded}
 
 -- ---- The least of no faults.
 
@@ -41,9 +45,24 @@ pub least-plain : (x : Sections) → least (faults (notedDescription x nothingBe
 unfolding noted
 least-plain x = ap (λ (d : Described). least (faults (d .description) (d .places))) (noted-none x)
 
--- ---- The form first.
+-- ---- Bounds first, then the form.
 
 module _ (image : List ℕ) where
+  pub nodes-in : {s : List ℕ} → s ≡ sectionAt 2 8 image → Nodes (decode image) s
+  unfolding decode sectionsIn
+  nodes-in e = rw e (nodes-held (sectionsIn image))
+
+  pub actions-in : {s : List ℕ} → s ≡ sectionAt 3 7 image → Actions (decode image) s
+  unfolding decode sectionsIn
+  actions-in e = rw e (actions-held (sectionsIn image))
+
+  pub unbounded : bounded (decode image) ≡ false → false ≡ passes image
+  unbounded e = by-test (passes image) refl
+    where
+      by-test : (b : Bool) → passes image ≡ b → false ≡ b
+      by-test true q = sym e ∙ passes-bounded image q
+      by-test false q = refl
+
   pub unformed : formRight image ≡ false → false ≡ passes image
   unformed e = rw (passes-form image, e)
 

@@ -1,4 +1,4 @@
-// The check of an image: its form, then the rules over what it describes.
+// The check of an image: what bounds the walks over it, its form, then the rules over what it describes.
 pub mod looked;
 
 use image::sections;
@@ -26,17 +26,20 @@ fn faultless(fs: &[u8], os: &[u8], es: &[u8], acts: &[u8], ss: &[u8], ns: &[u8])
     }
 }
 
-// Whether an image passes, whatever stands behind its total length.
+// Whether an image passes, whatever stands behind its total length. An image that is not bounded does not pass; the walks over it could be too deep.
 pub fn passes(image: &[u8]) -> bool
     ensures { λ r. ⌜ r ≡ L.passes (now (image .entry)) ⌝ }
 {
+    let exprs = sections::section(image, 2, 8);
+    let acts = sections::section(image, 3, 7);
+    if !shallow::bounded(exprs, acts) {
+        return false;
+    }
     if !form::form(image) {
         return false;
     }
     let facilities = sections::section(image, 0, 13);
     let operations = sections::section(image, 1, 5);
-    let exprs = sections::section(image, 2, 8);
-    let acts = sections::section(image, 3, 7);
     let states = sections::section(image, 4, 7);
     let names = sections::section(image, 5, 1);
     faultless(facilities, operations, exprs, acts, states, names)

@@ -70,15 +70,15 @@ module _ (text : List ℕ) where
   unfolding namesIn
   few-names v n = let e : min (min n 256) 256 ≡ min n 256 = omega arith in rw e
 
-  names-kept : (w w′ : List ℕ) → OthersKept w w′ → (n : ℕ) → namesIn text (otherIn w′) n ≡ namesIn text (otherIn w) n
+  pub names-kept : (w w′ : List ℕ) → ((m : ℕ) → m ≤ 256 → rows T.FacilityNames m w′ ≡ rows T.FacilityNames m w) → (n : ℕ) → namesIn text (otherIn w′) n ≡ namesIn text (otherIn w) n
   names-kept w w′ o n =
       let h : min n 256 ≤ 256 = omega arith in
-      few-names (otherIn w′) n ∙ facility-names text w′ (min n 256) h ∙ ap (λ (r : List ℕ). namesOf text r (min n 256)) (o T.FacilityNames refl (min n 256) h)
+      few-names (otherIn w′) n ∙ facility-names text w′ (min n 256) h ∙ ap (λ (r : List ℕ). namesOf text r (min n 256)) (o (min n 256) h)
       ∙ sym (facility-names text w (min n 256) h) ∙ sym (few-names (otherIn w) n)
 
 pub known-kept : {text : List ℕ} {sc : Scope} {n : Counts} {w : List ℕ} (w′ : List ℕ) → OthersKept w w′ → Known text sc n w → Known text sc n w′
 known-kept {text} {n = n} {w} w′ o k = record {
-  facilities = k .facilities ∙ sym (names-kept text w w′ o (n .facilities));
+  facilities = k .facilities ∙ sym (names-kept text w w′ (o T.FacilityNames refl) (n .facilities));
   operations = k .operations ∙ ap (λ (r : List ℕ). namesOf text r (n .operations)) (sym (o T.OperationNames refl (n .operations) (k .fewOperations)));
   states = k .states ∙ ap (λ (r : List ℕ). namesOf text r (n .states)) (sym (o T.StateNames refl (n .states) (k .fewStates)));
   fewOperations = k .fewOperations;

@@ -35,6 +35,9 @@ first-three c e =
     let d = both-true (leb (c .states) 256) last (b .1) in
     (leb-true (c .facilities) 256 (a .0), leb-true (c .operations) 128 (b .0), leb-true (c .states) 256 (d .0))
 
+pub few-operations : (c : Counts) → withinCeilings c ≡ true → c .operations ≤ 128
+few-operations c e = first-three c e .1
+
 pub few-states : (c : Counts) → withinCeilings c ≡ true → c .states ≤ 256
 few-states c e = first-three c e .2
 

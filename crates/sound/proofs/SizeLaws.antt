@@ -1,5 +1,5 @@
 -- The bytes of a facility, and the size of a store facility by facility. Assumes nothing.
-use mathlib.Core.Bool.{true, false}
+use mathlib.Core.Bool.{true}
 use mathlib.Core.List.{List}
 use mathlib.Core.Path.{_≡_, ap, _∙_}
 use Prim.Native.Nat.{ℕ, suc, _+_, _*_, _^_, _<_}
@@ -7,7 +7,7 @@ use native.Mathlib.Nat.{mul-le-mul}
 use native.Mathlib.Omega.{arith}
 use lib.ListN.{drop, getD, length}
 use lib.Seq.{drop-cons}
-use Rattle.language.specs.Description.{Facility, isComputed, noFacility, wordCount, wordLength}
+use Rattle.language.specs.Description.{Facility, isComputed, noFacility}
 use Rattle.language.specs.Layout.{facilityBytes, storeSizeOf, wordBytes}
 
 -- The words of 32-bit bounds fit 64 bits.
@@ -18,10 +18,6 @@ few-bytes {w} {l} {b} p q e = let m = mul-le-mul {n₁ = w} {m₁ = b} {n₂ = 4
 pub computed-bytes : (f : Facility) → isComputed (f .kind) ≡ true → 0 ≡ facilityBytes f
 unfolding facilityBytes
 computed-bytes f e = rw e
-
-pub stored-bytes : (f : Facility) → isComputed (f .kind) ≡ false → facilityBytes f ≡ wordCount f * wordBytes (wordLength f)
-unfolding facilityBytes
-stored-bytes f e = rw e
 
 -- Facility n and those after it.
 pub size-here : (fs : List Facility) (n : ℕ) (f : Facility) → n < length fs → getD fs n noFacility ≡ f → storeSizeOf (drop n fs) ≡ facilityBytes f + storeSizeOf (drop (suc n) fs)

@@ -3,14 +3,14 @@ use mathlib.Core.Bool.{true, false}
 use mathlib.Core.List.{List}
 use mathlib.Core.Option.{some}
 use mathlib.Core.Path.{_≡_, refl, sym, ap, _∙_}
-use Prim.Native.Nat.{ℕ, _+_, _*_, _^_, _≤_, _<_}
+use Prim.Native.Nat.{ℕ, _*_, _^_, _≤_, _<_}
 use native.Mathlib.Nat.{lt-of-lt-of-le}
 use native.Mathlib.Omega.{arith}
 use lib.ListN.{getD, length}
 use lib.Pow.{pow-mono}
 use Rattle.language.specs.Decode.{nodeOf}
 use Rattle.language.specs.Description as D
-use Rattle.language.specs.Description.{Description, constantValue, facilityAt, isComputed, isSequencing, noFacility, nodeAt, sequencingOf, wordCount, wordLength}
+use Rattle.language.specs.Description.{Description, constantValue, facilityAt, isComputed, isSequencing, noFacility, nodeAt, sequencingOf, wordLength}
 use Rattle.language.specs.Layout.{storeSizeOf, wordBytes}
 use Rattle.language.specs.Step.{numberAt, stateNumber}
 use Rattle.language.specs.Store.{fromBytes, setWord, wordOf}

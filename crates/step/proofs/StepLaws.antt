@@ -1,10 +1,10 @@
 -- A whole cycle: how it ends at once, and what the run of its actions over bytes tells of it. Assumes nothing.
 use mathlib.Core.List.{List}
-use mathlib.Core.Path.{_≡_, refl, sym, ap, _∙_, subst}
+use mathlib.Core.Path.{_≡_, sym, ap, _∙_, subst}
 use Prim.Native.Nat.{ℕ, _≤_, _<_}
 use native.Mathlib.Omega.{arith}
 use borrow.Author.Tests.{le-leb, le-ltb, lt-leb, lt-ltb}
-use lib.ListN.{length, length-replicate, replicate}
+use lib.ListN.{length, length-replicate}
 use Rattle.language.specs.Acting as T
 use Rattle.language.specs.Calls.{over, stimulusSize}
 use Rattle.language.specs.Description.{Description, stateAt}
@@ -14,7 +14,7 @@ use Rattle.language.specs.Step as S
 use Rattle.language.specs.Step.{lastCycle, nothingDone}
 use Rattle.language.specs.Store.{Held, Words, begin, fromBytes, inputsOf, numbers, toBytes}
 use Rattle.store.proofs.Zeros.{Zeros}
-use Rattle.store.specs.InBytes.{InBytes, bytes}
+use Rattle.store.specs.InBytes.{bytes}
 use Rattle.store.specs.Layout.{Bytes}
 use Rattle.store.specs.Slices.{landed}
 use Rattle.evaluate.specs.Worth.{stuckMeant}

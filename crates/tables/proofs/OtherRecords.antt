@@ -107,6 +107,7 @@ operation-added n at size body {bs} {ps} {w} {w₁} {w₂} {w₃} h f e a b c =
     all : Wrote T.Operations n bs w w₁ → Wrote T.OperationPlaces n ps w₁ w₂ → Wrote T.OperationNames n (nameRow (at .place) size) w₂ w₃ → OperationAdded n at size body w w₃
     all i j k = record {
       whole = i .whole;
+      still = k .still;
       records = λ name l. k .kept .tables T.Operations refl (n + 1) few ∙ j .kept .tables T.Operations refl (n + 1) few ∙ i .behind ∙ ap (λ (v : List ℕ). rows T.Operations n w ++ v) (f name l);
       places = k .kept .tables T.OperationPlaces refl (n + 1) few ∙ j .behind ∙ rw (i .kept .tables T.OperationPlaces refl n (omega arith), e);
       names = k .behind ∙ ap (λ (v : List ℕ). v ++ nameRow (at .place) size) (j .kept .tables T.OperationNames refl n (omega arith) ∙ i .kept .tables T.OperationNames refl n (omega arith));

@@ -16,6 +16,7 @@ use Rattle.tables.specs.Rows.{Kept, rows}
 
 pub record OperationAdded (n : ℕ) (at : Position) (size : ℕ) (body : Run) (w w′ : List ℕ) : Type 0 where
   pub whole : length w ≡ 275296
+  pub still : length w′ ≡ 275296
   pub records : (name : Name) → length name ≡ size → rows T.Operations (n + 1) w′ ≡ rows T.Operations n w ++ operationRecord (record { name = name; body = runMeant body })
   pub places : rows T.OperationPlaces (n + 1) w′ ≡ rows T.OperationPlaces n w ++ placeBytes 0 (positioned at)
   pub names : rows T.OperationNames (n + 1) w′ ≡ rows T.OperationNames n w ++ nameRow (at .place) size

@@ -1,6 +1,7 @@
 use Rattle.course.proofs.Answers.{not-done}
 use Rattle.declarations.proofs.ListLaws.{list-more, list-not, list-stands}
 use borrow.Author.Needs.{needs}
+use Rattle.declarations.specs.Lists.{listing}
 use Rattle.declarations.proofs.lists.declarations.Statement.{statement}
 use Rattle.declarations.proofs.lists.declarations.Tie as tie
 
@@ -12,15 +13,15 @@ enum-told c = search needs
 
 returns : tie.Need-returns
 returns c =
-    list-not (c .before .before .before .before .before .args .list) (c .before .before .one .ensures) (not-done (c .match .keys2))
+    list-not (listing (c .before .before .before .before .before .args .list)) (c .before .before .one .ensures) (not-done (c .match .keys2))
 
 more-requires : tie.Need-more-requires
 more-requires c κs =
-    list-stands (c .before .before .before .before .before .before .before .before .before .args .list) (c .before .before .before .before .before .before .one .ensures) (c .before .before .before .enum-told .given .1) (c .before .before .before .before .before .before .before .before .before .pre)
+    list-stands (listing (c .before .before .before .before .before .before .before .before .before .args .list)) (c .before .before .before .before .before .before .one .ensures) (c .before .before .before .enum-told .given .1) (c .before .before .before .before .before .before .before .before .before .pre)
 
 returns-2 : tie.Need-returns-2
 returns-2 c =
-    list-more (c .before .before .before .before .before .before .before .before .before .before .args .list) (c .before .before .before .before .before .before .before .one .ensures) (c .before .before .before .before .enum-told .given .1) (c .more .ensures)
+    list-more (listing (c .before .before .before .before .before .before .before .before .before .before .args .list)) (c .before .before .before .before .before .before .before .one .ensures) (c .before .before .before .before .enum-told .given .1) (c .more .ensures)
 
 pub declarations-spec : {M : Type 1} → statement M
 declarations-spec = tie.close (tie.spec one-requires enum-told returns more-requires returns-2)

@@ -1,4 +1,5 @@
 use borrow.Author.Needs.{needs}
+use Rattle.declarations.specs.Lists.{listing}
 use mathlib.Core.List.{List}
 use mathlib.Core.Path.{sym, _∙_}
 use Prim.Native.Nat.{_-_}
@@ -11,7 +12,7 @@ use Rattle.declarations.proofs.lists.more.Tie as tie
 
 abbrev Inv-loop : tie.InvT-loop
 Inv-loop text work₀ place list next₀ state₀ after₀ work next state after =
-    (ds : List Declaration) → Standing text ds after₀ next₀ state₀ work₀ → Here text ds list next₀ state₀ next state after work
+    (ds : List Declaration) → Standing text ds after₀ next₀ state₀ work₀ → Here text ds (listing list) next₀ state₀ next state after work
 
 abbrev μ-loop : tie.MeasureT-loop
 μ-loop text work₀ place list next₀ state₀ after₀ work next state after =
@@ -19,7 +20,7 @@ abbrev μ-loop : tie.MeasureT-loop
 
 loop-holds : tie.Need-loop-holds Inv-loop μ-loop
 loop-holds c =
-    λ ds st. none-yet (c .before .args .text .now) ds (c .before .args .list) (c .before .args .w) (c .before .args .s) st
+    λ ds st. none-yet (c .before .args .text .now) ds (listing (c .before .args .list)) (c .before .args .w) (c .before .args .s) st
 
 number-requires : tie.Need-number-requires Inv-loop μ-loop
 number-requires c κs = search needs
@@ -29,7 +30,7 @@ ended-requires c κs = search needs
 
 returns : tie.Need-returns Inv-loop μ-loop
 returns c =
-    λ ds st. list-ended (c .before .before .before .before .before .args .text .now) ds (c .before .before .before .before .before .args .list) (c .before .before .before .before .before .args .w) (c .before .before .before .before .before .args .s) (c .before .before .before .loop .inv ds st) (λ e. c .before .if1 .taken (c .before .before .number .ensures ∙ e)) (c .ended .ensures)
+    λ ds st. list-ended (c .before .before .before .before .before .args .text .now) ds (listing (c .before .before .before .before .before .args .list)) (c .before .before .before .before .before .args .w) (c .before .before .before .before .before .args .s) (c .before .before .before .loop .inv ds st) (λ e. c .before .if1 .taken (c .before .before .number .ensures ∙ e)) (c .ended .ensures)
 
 take-requires : tie.Need-take-requires Inv-loop μ-loop
 take-requires c κs = search needs
@@ -39,7 +40,7 @@ enum-told c = search needs
 
 returns-2 : tie.Need-returns-2 Inv-loop μ-loop
 returns-2 c =
-    λ ds st. comma-not (c .before .before .before .before .before .before .args .text .now) ds (c .before .before .before .before .before .before .args .list) (c .before .before .before .before .before .before .args .w) (c .before .before .before .before .before .before .args .s) (c .before .before .before .before .loop .inv ds st) (sym (c .before .before .before .number .ensures) ∙ c .before .before .if1 .left) (c .before .take .ensures) (not-done (c .match .keys2))
+    λ ds st. comma-not (c .before .before .before .before .before .before .args .text .now) ds (listing (c .before .before .before .before .before .before .args .list)) (c .before .before .before .before .before .before .args .w) (c .before .before .before .before .before .before .args .s) (c .before .before .before .before .loop .inv ds st) (sym (c .before .before .before .number .ensures) ∙ c .before .before .if1 .left) (c .before .take .ensures) (not-done (c .match .keys2))
 
 one-requires : tie.Need-one-requires Inv-loop μ-loop
 one-requires c κs = search needs
@@ -49,15 +50,15 @@ enum-told-2 c = search needs
 
 returns-3 : tie.Need-returns-3 Inv-loop μ-loop
 returns-3 c =
-    λ ds st. another-not (c .before .before .before .before .before .before .before .before .before .before .before .args .text .now) ds (c .before .before .before .before .before .before .before .before .before .before .before .args .list) (c .before .before .before .before .before .before .before .before .before .before .before .args .w) (c .before .before .before .before .before .before .before .before .before .before .before .args .s) (c .before .before .before .before .before .before .before .before .before .loop .inv ds st) (sym (c .before .before .before .before .before .before .before .before .number .ensures) ∙ c .before .before .before .before .before .before .before .if1 .left) (c .before .before .before .before .before .before .take .ensures) (c .before .before .before .before .enum-told .given .1) (c .before .before .one .ensures) (not-done (c .match2 .keys2))
+    λ ds st. another-not (c .before .before .before .before .before .before .before .before .before .before .before .args .text .now) ds (listing (c .before .before .before .before .before .before .before .before .before .before .before .args .list)) (c .before .before .before .before .before .before .before .before .before .before .before .args .w) (c .before .before .before .before .before .before .before .before .before .before .before .args .s) (c .before .before .before .before .before .before .before .before .before .loop .inv ds st) (sym (c .before .before .before .before .before .before .before .before .number .ensures) ∙ c .before .before .before .before .before .before .before .if1 .left) (c .before .before .before .before .before .before .take .ensures) (c .before .before .before .before .enum-told .given .1) (c .before .before .one .ensures) (not-done (c .match2 .keys2))
 
 loop-less : tie.Need-loop-less Inv-loop μ-loop
 loop-less c =
-    one-fewer (c .before .before .before .before .before .before .before .before .before .before .before .before .before .before .args .text .now) (c .before .before .before .before .before .before .before .before .before .before .before .before .before .before .pre .declared) (c .before .before .before .before .before .before .before .before .before .before .before .before .before .before .args .list) (c .before .before .before .before .before .before .before .before .before .before .before .before .before .before .args .w) (c .before .before .before .before .before .before .before .before .before .before .before .before .before .before .args .s) (c .before .before .before .before .before .before .before .before .before .before .before .before .loop .inv (c .before .before .before .before .before .before .before .before .before .before .before .before .before .before .pre .declared) (c .before .before .before .before .before .before .before .before .before .before .before .before .before .before .pre .standing)) (sym (c .before .before .before .before .before .before .before .before .before .before .before .number .ensures) ∙ c .before .before .before .before .before .before .before .before .before .before .if1 .left) (c .before .before .before .before .before .before .before .before .before .take .ensures) (c .before .before .before .before .before .before .before .enum-told .given .1) (c .before .before .before .before .before .one .ensures) (c .before .before .enum-told2 .given .1)
+    one-fewer (c .before .before .before .before .before .before .before .before .before .before .before .before .before .before .args .text .now) (c .before .before .before .before .before .before .before .before .before .before .before .before .before .before .pre .declared) (listing (c .before .before .before .before .before .before .before .before .before .before .before .before .before .before .args .list)) (c .before .before .before .before .before .before .before .before .before .before .before .before .before .before .args .w) (c .before .before .before .before .before .before .before .before .before .before .before .before .before .before .args .s) (c .before .before .before .before .before .before .before .before .before .before .before .before .loop .inv (c .before .before .before .before .before .before .before .before .before .before .before .before .before .before .pre .declared) (c .before .before .before .before .before .before .before .before .before .before .before .before .before .before .pre .standing)) (sym (c .before .before .before .before .before .before .before .before .before .before .before .number .ensures) ∙ c .before .before .before .before .before .before .before .before .before .before .if1 .left) (c .before .before .before .before .before .before .before .before .before .take .ensures) (c .before .before .before .before .before .before .before .enum-told .given .1) (c .before .before .before .before .before .one .ensures) (c .before .before .enum-told2 .given .1)
 
 loop-again : tie.Need-loop-again Inv-loop μ-loop
 loop-again c =
-    λ ds st. another (c .before .before .before .before .before .before .before .before .before .before .before .before .before .before .args .text .now) ds (c .before .before .before .before .before .before .before .before .before .before .before .before .before .before .args .list) (c .before .before .before .before .before .before .before .before .before .before .before .before .before .before .args .w) (c .before .before .before .before .before .before .before .before .before .before .before .before .before .before .args .s) (c .before .before .before .before .before .before .before .before .before .before .before .before .loop .inv ds st) (sym (c .before .before .before .before .before .before .before .before .before .before .before .number .ensures) ∙ c .before .before .before .before .before .before .before .before .before .before .if1 .left) (c .before .before .before .before .before .before .before .before .before .take .ensures) (c .before .before .before .before .before .before .before .enum-told .given .1) (c .before .before .before .before .before .one .ensures) (c .before .before .enum-told2 .given .1)
+    λ ds st. another (c .before .before .before .before .before .before .before .before .before .before .before .before .before .before .args .text .now) ds (listing (c .before .before .before .before .before .before .before .before .before .before .before .before .before .before .args .list)) (c .before .before .before .before .before .before .before .before .before .before .before .before .before .before .args .w) (c .before .before .before .before .before .before .before .before .before .before .before .before .before .before .args .s) (c .before .before .before .before .before .before .before .before .before .before .before .before .loop .inv ds st) (sym (c .before .before .before .before .before .before .before .before .before .before .before .number .ensures) ∙ c .before .before .before .before .before .before .before .before .before .before .if1 .left) (c .before .before .before .before .before .before .before .before .before .take .ensures) (c .before .before .before .before .before .before .before .enum-told .given .1) (c .before .before .before .before .before .one .ensures) (c .before .before .enum-told2 .given .1)
 
 pub more-spec : {M : Type 1} → statement M
 more-spec =

@@ -1,7 +1,8 @@
 use mathlib.Core.Path.{sym, ap, ap₂, _∙_}
 use Prim.Native.Nat.{ℕ, _*_}
 use Rattle.language.specs.Layout.{wordBytes}
-use Rattle.sound.proofs.SizeLaws.{computed-bytes, few-bytes, stored-bytes}
+use Rattle.begin.proofs.SizeLaws.{stored-bytes}
+use Rattle.sound.proofs.SizeLaws.{computed-bytes, few-bytes}
 use borrow.Author.Needs.{needs}
 use Rattle.sound.proofs.sizes.facility_bytes.Statement.{statement}
 use Rattle.sound.proofs.sizes.facility_bytes.Tie as tie

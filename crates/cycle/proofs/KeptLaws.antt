@@ -1,0 +1,38 @@
+-- A working copy: made of the store's first bytes, and kept in front of what lies beyond them. Assumes nothing.
+use mathlib.Core.List.{List, [], _∷_}
+use mathlib.Core.Path.{_≡_, refl, sym, ap, _∙_}
+use Prim.Native.Nat.{ℕ, _-_, _≤_}
+use native.Mathlib.Omega.{arith}
+use lib.ListN.{length, length-replicate, replicate, take}
+use lib.Seq.{length-take-le, take-length}
+use Rattle.language.specs.Calls.{over}
+use Rattle.language.specs.Description.{Facility}
+use Rattle.language.specs.Layout.{storeSizeOf}
+use Rattle.language.specs.Store.{fromBytes, toBytes}
+use Rattle.store.proofs.Inverse.{bytes-again}
+use Rattle.store.specs.Layout.{Bytes}
+use Rattle.store.specs.Slices.{copied}
+
+pub copied-over : (B X : List ℕ) → length X ≤ length B → copied B X ≡ over X B
+unfolding copied
+copied-over [] [] h = refl
+copied-over [] (x ∷ xs) h = absurd (omega arith)
+copied-over (b ∷ bs) [] h = refl
+copied-over (b ∷ bs) (x ∷ xs) h = ap (λ (l : List ℕ). x ∷ l) (copied-over bs xs (omega arith))
+
+-- The first bytes of an array of zeroes.
+pub first-zeroes : (N n : ℕ) → n ≤ N → length (take {A = ℕ} (n - 0) (replicate N 0)) ≡ n
+first-zeroes N n h = length-take-le (n - 0) (replicate N 0) (omega (arith, length-replicate {A = ℕ} N 0)) ∙ omega arith
+
+-- A shorter copy has the first bytes.
+pub copied-front : (W B : List ℕ) → length W ≤ length B → copied W B ≡ take (length W) B
+unfolding copied
+copied-front [] B h = refl
+copied-front (w ∷ ws) [] h = absurd (omega arith)
+copied-front (w ∷ ws) (b ∷ bs) h = ap (λ (l : List ℕ). b ∷ l) (copied-front ws bs (omega arith))
+
+-- The bytes of its words are the copy itself.
+pub copy-kept : (fs : List Facility) (B X : List ℕ) → Bytes X → length X ≡ storeSizeOf fs → storeSizeOf fs ≤ length B → copied B X ≡ over (toBytes fs (fromBytes fs X)) B
+copy-kept fs B X are e h =
+    let t : toBytes fs (fromBytes fs X) ≡ X = bytes-again fs X are (omega (arith, e)) ∙ (ap (λ (n : ℕ). take n X) (sym e) ∙ take-length X) in
+    copied-over B X (omega (arith, e, h)) ∙ ap (λ (l : List ℕ). over l B) (sym t)

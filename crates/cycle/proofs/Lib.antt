@@ -1,0 +1,4 @@
+pub mod CarryLaws
+pub mod KeptLaws
+pub mod RefusalLaws
+pub mod WorkLaws

@@ -1,0 +1,29 @@
+// One cycle: all that a caller is owed, on every input.
+use crate::answer::Answer;
+use crate::carry;
+use crate::refusal;
+use crate::refusal::Refusal;
+use store::slices;
+ghost use mathlib.Core.Path.{_≡_};
+ghost use lib.ListN.{length};
+ghost use Rattle.language.specs.Calls as L;
+ghost use Rattle.cycle.specs.Called.{call};
+
+// Refused or carried out. Scratch is zero afterwards.
+pub fn cycle(
+    image: &[u8],
+    store: &mut [u8],
+    record: &mut [u8],
+    stimulus: &[u8],
+    scratch: &mut [u8],
+) -> Answer
+    ensures { λ r. ⌜ call r (now (store .exit)) (now («record» .exit)) (now (scratch .exit)) ≡ L.cycle (now (image .entry)) (now (store .entry)) (now («record» .entry)) (now (stimulus .entry)) (length (now (scratch .entry))) ⌝ }
+{
+    match refusal::first_refusal(image, store, record, stimulus, scratch.len()) {
+        Refusal::At(n) => {
+            slices::zero(scratch);
+            Answer::Refused(n)
+        }
+        Refusal::None => carry::carry_out(image, store, record, stimulus, scratch),
+    }
+}

@@ -1,0 +1,62 @@
+// Why a cycle is refused: an image that does not pass, too little room, store or record not sound, a stimulus of another form.
+use image::sections;
+use sound::sizes;
+use sound::soundness;
+ghost use mathlib.Core.Path.{_≡_};
+ghost use lib.ListN.{length};
+ghost use Rattle.language.specs.Calls as L;
+ghost use Rattle.language.specs.Calls.{cycleRefusal};
+ghost use Rattle.language.specs.Description.{Description};
+ghost use Rattle.language.specs.Layout.{storeSize};
+ghost use Rattle.cycle.specs.Called.{refusalMeant};
+
+pub enum Refusal {
+    At(u8),
+    None,
+}
+
+// Whether the buffers lent are long enough for a store of this size.
+fn roomy(size: usize, store: usize, record: usize, scratch: usize) -> bool
+    ensures { λ r. ⌜ ((d : Description) → size ≡ storeSize d → r ≡ L.roomy d store «record» scratch) ⌝ }
+{
+    if store < size {
+        return false;
+    }
+    if record < 80 {
+        return false;
+    }
+    size <= scratch / 4
+}
+
+// The first refusal, if there is one: 13, 12, 14, 15 in this order. `scratch` is the length of that buffer.
+pub fn first_refusal(
+    image: &[u8],
+    store: &[u8],
+    record: &[u8],
+    stimulus: &[u8],
+    scratch: usize,
+) -> Refusal
+    ensures { λ r. ⌜ refusalMeant r ≡ cycleRefusal (now (image .entry)) (now (store .entry)) (now («record» .entry)) (now (stimulus .entry)) scratch ⌝ }
+{
+    if !passes::passes(image) {
+        return Refusal::At(13);
+    }
+    let facilities = sections::section(image, 0, 13);
+    let expressions = sections::section(image, 2, 8);
+    let states = sections::section(image, 4, 7);
+    if !roomy(
+        sizes::store_size(facilities),
+        store.len(),
+        record.len(),
+        scratch,
+    ) {
+        return Refusal::At(12);
+    }
+    if !soundness::sound(facilities, expressions, states, store, record) {
+        return Refusal::At(14);
+    }
+    if !begin::stimulus::well_formed(facilities, stimulus) {
+        return Refusal::At(15);
+    }
+    Refusal::None
+}

@@ -1,0 +1,3 @@
+pub mod Heads
+pub mod Listed
+pub mod Lists

@@ -1,0 +1,5 @@
+pub mod FunctionWords
+pub mod InputLaws
+pub mod FunctionLaws
+pub mod ComputedLaws
+pub mod TerminalLaws

@@ -1,0 +1,50 @@
+// A terminal declared: a name, its dimensions and its function.
+use crate::functions;
+use course::State;
+use course::Verdict;
+use declarations::Progress;
+use declarations::adding;
+use declarations::naming;
+use dimensions::extents;
+use tables::facilities::Declared;
+use words::Word;
+ghost use Rattle.declarations.specs.Lists.{Ones, terminals};
+
+// Reads a terminal and adds it to the facilities.
+pub fn terminal(text: &[u8], w: Word, work: &mut [u8; 275296], s: State, place: u16) -> Progress
+    ensures { λ r. ⌜ Ones terminals (now (text .entry)) w s place (now (work .entry)) (now (work .exit)) r ⌝ }
+{
+    let named = naming::facility_name(text, w, s);
+    let verdict = named.verdict;
+    let Verdict::Done = verdict else {
+        return Progress {
+            answer: named,
+            place,
+        };
+    };
+    let measured = extents::dimensions(text, named.next, named.state);
+    let answer = measured.answer;
+    let verdict = answer.verdict;
+    let Verdict::Done = verdict else {
+        return Progress { answer, place };
+    };
+    let extent = measured.extent;
+    let defined = functions::function(text, w, extent.dimensions, answer.next, work, answer.state);
+    let answer = defined.answer;
+    let verdict = answer.verdict;
+    let Verdict::Done = verdict else {
+        return Progress { answer, place };
+    };
+    let kind = defined.kind;
+    let at = w.at;
+    let equals = defined.equals;
+    let x = Declared {
+        kind,
+        at,
+        size: w.size,
+        extent,
+        expression: defined.expression,
+        equals,
+    };
+    adding::declare(work, answer.next, answer.state, place, x)
+}

@@ -1,0 +1,18 @@
+// Terminals (the manual, 6), read as the machine of the grammar reads them: plain, of an input, or computed by an expression.
+use course::Answer;
+use image::facilities::Kind;
+use words::Position;
+
+pub mod declaring;
+pub mod functions;
+pub mod inputs;
+pub mod kinds;
+pub mod lists;
+
+// What became of a terminal's function, and where it is done what it makes of the terminal: its kind, the number of its expression and the place of its `=`.
+pub struct Defined {
+    pub answer: Answer,
+    pub kind: Kind,
+    pub expression: u16,
+    pub equals: Position,
+}

@@ -1,0 +1,58 @@
+// The list of terminals: separated by commas, and ended by a period or END.
+use crate::declaring;
+use course::Bearing;
+use course::State;
+use course::Verdict;
+use course::kinds;
+use course::taking;
+use declarations::Progress;
+use declarations::lists;
+use words::Word;
+ghost use Rattle.declarations.specs.Lists.{Lists, Mores, Stands, terminals};
+
+// Reads the terminals and the word that ends them.
+pub fn terminals(text: &[u8], w: Word, work: &mut [u8; 275296], s: State, place: u16) -> Progress
+    requires { ⌜ Stands (now text) place w s (now work) ⌝ }
+    ensures { λ r. ⌜ Lists terminals (now (text .entry)) w s place (now (work .entry)) (now (work .exit)) r ⌝ }
+{
+    let first = declaring::terminal(text, w, work, s, place);
+    let answer = first.answer;
+    let verdict = answer.verdict;
+    let Verdict::Done = verdict else {
+        return first;
+    };
+    more(text, answer.next, work, answer.state, first.place)
+}
+
+// Behind a terminal: others, and the end. Each counts a facility, so that there are not too many.
+fn more(text: &[u8], w: Word, work: &mut [u8; 275296], s: State, place: u16) -> Progress
+    requires { ⌜ Stands (now text) place w s (now work) ⌝ }
+    ensures { λ r. ⌜ Mores terminals (now (text .entry)) w s place (now (work .entry)) (now (work .exit)) r ⌝ }
+{
+    let mut next = w;
+    let mut state = s;
+    let mut after = place;
+    loop {
+        let kind = next.kind;
+        if kinds::number(kind) != kinds::COMMA {
+            return lists::ended(text, next, state, after);
+        }
+        let comma = taking::take(text, next, state, false, Bearing::Level);
+        let verdict = comma.verdict;
+        let Verdict::Done = verdict else {
+            return Progress {
+                answer: comma,
+                place: after,
+            };
+        };
+        let another = declaring::terminal(text, comma.next, work, comma.state, after);
+        let answer = another.answer;
+        let verdict = answer.verdict;
+        let Verdict::Done = verdict else {
+            return another;
+        };
+        next = answer.next;
+        state = answer.state;
+        after = another.place;
+    }
+}

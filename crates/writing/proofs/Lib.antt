@@ -1,0 +1,16 @@
+pub mod ActionsFit
+pub mod BodyLaws
+pub mod DeclarationsFit
+pub mod FilledLaws
+pub mod JudgedLaws
+pub mod LetterLaws
+pub mod NarrowBack
+pub mod NearTrees
+pub mod NodesFit
+pub mod NotedBack
+pub mod PlacesBack
+pub mod StandingLaws
+pub mod TextFits
+pub mod TextNodesFit
+pub mod TextsStand
+pub mod WholeLaws

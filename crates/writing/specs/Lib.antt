@@ -1,0 +1,4 @@
+pub mod Sections
+pub mod Calls
+pub mod Standing
+pub mod NearTexts
