@@ -1,0 +1,5 @@
+pub mod Fronts
+pub mod LabelLaws
+pub mod LengthLaws
+pub mod TwiceLaws
+pub mod WholeLaws
