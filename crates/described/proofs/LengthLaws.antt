@@ -32,10 +32,10 @@ not-long zero h = refl
 not-long (suc l) h = ap (λ (b : Bool). cond (cond b (leb (suc l) 256) false) (some (suc l)) none) (lt-ltb 0 (suc l) (omega arith))
 
 -- What is wanted of the rows fs and fp, as the tables have them.
-abbrev Wanted : ℕ → List ℕ → List ℕ → Type 0
+abbrev pub Wanted : ℕ → List ℕ → List ℕ → Type 0
 Wanted r fs fp = (es ep : List ℕ) (d : Description) (p : Places) → Declared fs es fp ep d p → wantedLength r ≡ sequencingLength d p
 
-abbrev Lends : ℕ → List ℕ → List ℕ → Type 0
+abbrev pub Lends : ℕ → List ℕ → List ℕ → Type 0
 Lends l fs fp = (es ep : List ℕ) (d : Description) (p : Places) → Declared fs es fp ep d p → lengthOf l ≡ lending (sequencingLength d p)
 
 pub lends-none : (r : ℕ) {fs fp fs′ fp′ : List ℕ} → 256 < r → fs′ ≡ fs → fp′ ≡ fp → Wanted r fs′ fp′ → Lends 0 fs fp

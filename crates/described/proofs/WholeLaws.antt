@@ -54,7 +54,7 @@ unfolding statesOf
 states-named l base a [] = refl
 states-named l base a (s ∷ ss) = ap (λ (n : List Name). labelOf (s .label) ∷ n) (states-named l (base + stateSize l s) (a + actionsIn (s .actions)) ss)
 
-besides-zipped : (base : ℕ) (ds : List Declaration) → besides base ds ≡ zipped facilityBesideBytes (facilitiesOf base ds) (map (λ (d : Declaration). placesOf (d .at) (d .function) (d .extent)) ds)
+pub besides-zipped : (base : ℕ) (ds : List Declaration) → besides base ds ≡ zipped facilityBesideBytes (facilitiesOf base ds) (map (λ (d : Declaration). placesOf (d .at) (d .function) (d .extent)) ds)
 unfolding besides zipped facilitiesOf
 besides-zipped base [] = refl
 besides-zipped base (d ∷ ds) =
