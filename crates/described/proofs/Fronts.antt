@@ -1,14 +1,13 @@
 -- What stood before more was written behind it: the first records are the same.
-use mathlib.Core.List.{List, [], _∷_, _++_, append-assoc, map, map-append}
+use mathlib.Core.List.{List, [], _∷_, _++_, map}
 use mathlib.Core.Path.{_≡_, refl, sym, ap, _∙_}
 use Prim.Native.Nat.{ℕ, _+_, _*_, _≤_}
 use native.Mathlib.Nat.{mul-le-mul-left}
 use native.Mathlib.Omega.{arith}
 use lib.ListN.{drop, length, length-drop, take}
 use lib.Seq.{length-take-le, take-at, take-take}
-use Rattle.language.specs.Describe.{Noted, NotedAction}
-use Rattle.language.specs.Encode.{concat, nodeBytes}
-use Rattle.noted.specs.Noted.{nodeBesideBytes}
+use Rattle.language.specs.Describe.{Noted}
+use Rattle.language.specs.Encode.{concat}
 use Rattle.simple.specs.Actions.{frontOf}
 use Rattle.tables.proofs.RowLaws.{ends-within}
 use Rattle.tables.specs.declared.Table.{Table}

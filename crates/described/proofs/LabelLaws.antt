@@ -1,12 +1,12 @@
 -- One label after the other, copied.
 use mathlib.Core.List.{List, [], _∷_, _++_}
 use mathlib.Core.Path.{_≡_, refl, sym, ap, _∙_}
-use Prim.Native.Nat.{ℕ, suc, _+_, _*_, _<_, _≤_}
+use Prim.Native.Nat.{ℕ, suc, _+_, _*_, _<_}
 use native.Mathlib.Omega.{arith}
 use lib.ListN.{drop, getD, length, take}
 use lib.Seq.{drop-cons, drop-drop, take-add}
 use Rattle.tables.specs.declared.Table.the-variants as T
-use Rattle.tables.specs.Rows.{Kept, Wrote, rows}
+use Rattle.tables.specs.Rows.{Wrote, rows}
 use Rattle.described.specs.Labels.{Copied}
 
 one-more : (n : ℕ) (s : List ℕ) (p q : ℕ) → p < length s → q ≡ p + 1 → take (suc n) (drop p s) ≡ getD s p 0 ∷ take n (drop q s)

@@ -1,7 +1,7 @@
 -- The facilities of a text, as the tables have them, show the length of its sequencing register.
-use mathlib.Core.List.{List, [], _∷_, _++_, map}
+use mathlib.Core.List.{List, [], _∷_, _++_}
 use mathlib.Core.Option.{Option, none, some}
-use mathlib.Core.Path.{_≡_, refl, sym, ap, _∙_}
+use mathlib.Core.Path.{_≡_, refl, ap, _∙_}
 use Prim.Native.Nat.{ℕ, _+_, _≤_}
 use native.Mathlib.Omega.{arith}
 use lib.ListN.{getD, length, length-append, length-map}
@@ -15,8 +15,7 @@ use Rattle.language.specs.Encode.{facilityRecords, sectionsOf}
 use Rattle.language.specs.Naming.{Scope}
 use Rattle.language.specs.Rules as R
 use Rattle.language.specs.Rules.{sequencingLength}
-use Rattle.language.specs.Tree as T
-use Rattle.language.specs.Tree.{Declaration, Text}
+use Rattle.language.specs.Tree.{Text}
 use Rattle.legal.specs.LegalTexts.{facilities-nodes}
 use Rattle.legal.specs.Sizes.{facilities-count}
 use Rattle.legal.specs.Tidy.{TextTidy}

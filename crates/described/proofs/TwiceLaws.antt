@@ -16,7 +16,6 @@ use Rattle.language.specs.Machine.{Parsed, parsed, refused}
 use Rattle.language.specs.Tree as T
 use Rattle.language.specs.Tree.{Declaration, Operation}
 use Rattle.meanings.specs.declared.Counts.{Counts}
-use Rattle.operations.specs.Listed as O
 use Rattle.simple.proofs.Keeping.{front-kept, names-kept}
 use Rattle.simple.proofs.Standings.{few-operations, few-states}
 use Rattle.simple.specs.Actions.{Standing, frontOf}

@@ -2,12 +2,11 @@
 use mathlib.Core.List.{List, [], _∷_, _++_, map}
 use mathlib.Core.Option.{Option}
 use mathlib.Core.Path.{_≡_, refl, sym, ap, _∙_}
-use Prim.Native.Nat.{ℕ, _+_, _≤_}
-use native.Mathlib.Omega.{arith}
+use Prim.Native.Nat.{ℕ, _+_}
 use Rattle.course.specs.declared.State.{State}
 use Rattle.declarations.specs.Listed.{besides, noneHeld}
 use Rattle.language.specs.Describe.{Noted, NotedAction}
-use Rattle.language.specs.DescribeText.{describe, facilitiesOf, facilityNodes, facilityOf, facilitySize, functionSize, labelOf, operationActions, operationExpressions, operationNodes, operationRecords, operationsOf, placesOf, runOf, stateActions, stateNodes, stateSize, statesOf, valueNumber, valuePlace}
+use Rattle.language.specs.DescribeText.{describe, facilitiesOf, facilityNodes, facilityOf, facilitySize, functionSize, labelOf, operationActions, operationExpressions, operationNodes, operationRecords, operationsOf, placesOf, stateActions, stateNodes, stateSize, statesOf, valuePlace}
 use Rattle.language.specs.Describe.{actionsIn}
 use Rattle.language.specs.Description.{Facility, Operation, State as Said}
 use Rattle.language.specs.Encode.{actionBytes, concat, nodeBytes, stateRecord}
@@ -16,7 +15,7 @@ use Rattle.language.specs.Tree as T
 use Rattle.language.specs.Tree.{Declaration, Name, Text}
 use Rattle.legal.specs.WithinCounts.{declarationsOf}
 use Rattle.noted.specs.Noted.{facilityBesideBytes, nodeBesideBytes, placeBytes, stateBesideBytes}
-use Rattle.simple.specs.Actions.{actionBesides, actionRecords, frontOf}
+use Rattle.simple.specs.Actions.{frontOf}
 use Rattle.states.specs.Begins.{lengthOf}
 use Rattle.states.specs.Written.{Written, labelsOf}
 use Rattle.tables.proofs.NamesGrown.{facility-names}
@@ -29,7 +28,7 @@ use Rattle.work.specs.Held.{Held, held, withNodes}
 use Rattle.writing.proofs.LetterLaws.{concat-append}
 use Rattle.writing.proofs.StandingLaws.{zipped-one}
 use Rattle.writing.specs.Sections.{Few}
-use Rattle.writing.specs.Standing.{Stands, StandsBeside, zipped}
+use Rattle.writing.specs.Standing.{zipped}
 use Rattle.described.proofs.Fronts.{concat-mapped, rows-none}
 use Rattle.described.specs.Ready.{Ready, Whole, lengthIn, tallied}
 
