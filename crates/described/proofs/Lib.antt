@@ -1,0 +1,6 @@
+pub mod Fronts
+pub mod LabelLaws
+pub mod LengthLaws
+pub mod Sequenced
+pub mod TwiceLaws
+pub mod WholeLaws

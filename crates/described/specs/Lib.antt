@@ -1,0 +1,3 @@
+pub mod Labels
+pub mod Lengths
+pub mod Ready

@@ -1,0 +1,68 @@
+-- Where the states begin: what stands of the sections before them; and what stands when they have been read.
+use mathlib.Core.List.{List, [], map}
+use mathlib.Core.Option.{Option}
+use mathlib.Core.Path.{_≡_}
+use Prim.Native.Nat.{ℕ, _%_}
+use Rattle.course.specs.declared.State.{State}
+use Rattle.course.specs.declared.Verdict.the-variants as Vd
+use Rattle.course.specs.Course.{runs}
+use Rattle.declarations.specs.Listed.{Tabled, noneHeld}
+use Rattle.language.specs.Building.{Built, withText}
+use Rattle.language.specs.DescribeText.{describe, facilitiesOf, facilityNodes, facilitySize, lengthAt}
+use Rattle.language.specs.Description.{sequencingFrom}
+use Rattle.language.specs.Layout.{storeSizeOf}
+use Rattle.language.specs.Machine.{parsed, refused}
+use Rattle.language.specs.Tree as T
+use Rattle.language.specs.Tree.{Declaration, Operation, Text}
+use Rattle.legal.specs.WithinCounts.{declarationsOf}
+use Rattle.operations.specs.Listed.{Standing}
+use Rattle.simple.specs.declared.Acted.{Acted}
+use Rattle.states.specs.Begins.{lengthOf}
+use Rattle.states.specs.States.{moreOf, startStack}
+use Rattle.words.specs.declared.Fault.{Fault}
+use Rattle.words.specs.declared.Word.{Word}
+use Rattle.words.specs.Meaning.{faulted}
+use Rattle.work.specs.Held.{withNodes}
+use Rattle.writing.specs.declared.Tally.{Tally}
+use Rattle.writing.specs.Sections.{Few}
+use Rattle.writing.specs.Standing.{Stands, StandsBeside}
+
+-- The tables hold the facilities ds and the operations os, the expressions those of both.
+pub record Ready (text : List ℕ) (ds : List Declaration) (os : List Operation) (w : Word) (s : State) (acts : ℕ) (work : List ℕ) : Type 0 where
+  pub counted : s .facilities ≡ s .known
+  pub facilities : Tabled text ds (storeSizeOf (facilitiesOf 0 ds) % 65536) (s .known) work
+  pub standing : Standing text (map (λ d. d .name) ds) (facilitySize ds) (withNodes (noneHeld []) (facilityNodes [] 0 ds)) os w s acts work
+
+-- For some facilities and operations.
+pub record Behind (text : List ℕ) (w : Word) (s : State) (acts : ℕ) (work : List ℕ) : Type 0 where
+  pub declared : List Declaration
+  pub operations : List Operation
+  pub ready : Ready text declared operations w s acts work
+
+-- The length that a bare value takes where these facilities are declared.
+abbrev pub lengthIn : List Declaration → Option ℕ
+lengthIn ds = lengthAt (facilitiesOf 0 ds) (sequencingFrom 0 (facilitiesOf 0 ds))
+
+-- How many records there are, where the states began in s and ended in s′.
+abbrev pub tallied : State → State → ℕ → Tally
+tallied s s′ acts = record { facilities = s .known; operations = s .operations; nodes = s′ .nodes; actions = acts; states = s′ .states }
+
+-- The array holds the description of a text, and the places of its words.
+pub record Whole (text work : List ℕ) (c : Tally) (t : Text) : Type 0 where
+  pub few : Few c
+  pub stands : Stands text work c (describe t .description)
+  pub beside : StandsBeside work c (describe t .description) (describe t .places)
+
+-- The states were read to the end of the text; where their values took the length that they should, the array holds the text.
+pub record Finished (text : List ℕ) (ds : List Declaration) (os : List Operation) (l : ℕ) (w : Word) (s : State) (work′ : List ℕ) (r : Acted) : Type 0 where
+  pub trees : List T.State
+  pub course : (b : Built) → runs text startStack w b s ≡ parsed (withText b (moreOf trees (b .text)))
+  pub whole : (t : Text) → declarationsOf t ≡ ds → t .operations ≡ os → t .states ≡ trees → lengthOf l ≡ lengthIn ds → Whole text work′ (tallied s (r .answer .state) (r .actions)) t
+
+pub record Closes (text : List ℕ) (ds : List Declaration) (os : List Operation) (l : ℕ) (w : Word) (s : State) (work′ : List ℕ) (r : Acted) : Type 0 where
+  pub done : r .answer .verdict ≡ Vd.Done → Finished text ds os l w s work′ r
+  pub refused : (f : Fault) → r .answer .verdict ≡ Vd.Refused f → (b : Built) → runs text startStack w b s ≡ refused (faulted f)
+  pub full : r .answer .verdict ≡ Vd.Full → ⊥
+
+abbrev pub Twice : List ℕ → ℕ → Word → State → ℕ → List ℕ → List ℕ → Acted → Type 0
+Twice text l w s acts work work′ r = (ds : List Declaration) (os : List Operation) → Ready text ds os w s acts work → Closes text ds os l w s work′ r
