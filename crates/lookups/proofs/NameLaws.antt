@@ -71,7 +71,7 @@ module _ (image : List ℕ) (h : passes image ≡ true) (n : ℕ) where
     offset-is : namesLength n 2 13 (sectionAt 0 13 image) ≡ L.nameLengths (take n (decode image .facilities))
     offset-is = ap (namesLength n 2 13) (facilities-are image h) ∙ facility-names (decode image) (range-so image h) n (omega (arith, inside))
 
-    length-is : nameLengthIn 13 2 (sectionAt 0 13 image) n ≡ length (facilityAt (decode image) n .name)
+    pub length-is : nameLengthIn 13 2 (sectionAt 0 13 image) n ≡ length (facilityAt (decode image) n .name)
     length-is =
         name-whole 13 2 (sectionAt 0 13 image) n (omega arith)
         ∙ ap (λ (s : List ℕ). getD s (13 * n + 2) 0) (facilities-are image h) ∙ facility-byte (decode image) (range-so image h) n inside

@@ -24,8 +24,9 @@ use Rattle.image.specs.Declarations.{FacilityRead, facilityMeant, kindMeant}
 use Rattle.image.specs.declared.facilities.Facility as F
 use Rattle.written.specs.Back.{facility-stands}
 use Rattle.order.proofs.DeclaredLaws.{facility-is}
+use Rattle.lookups.proofs.NameLaws.{length-is}
 use Rattle.lookups.proofs.PassLaws.{facilities-are, facilities-many, held, legal-so, range-so}
-use Rattle.lookups.specs.Answers.{answered}
+use Rattle.lookups.specs.Answers.{Looks, answered}
 use Rattle.lookups.specs.declared.declared.Looked.the-variants as A
 
 store-fits : (d : Description) (n : ℕ) (another : Bool) (before : ℕ) (f : Facility) → facilityFaults d noPlaces n another before f (facilityPlace noPlaces n) ≡ []
@@ -51,13 +52,16 @@ place-low d n another before (f ∷ fs) e b (suc i) h =
     omega (arith, place-low d (suc n) (another || isSequencing (f .kind)) (before + facilityBytes f) fs rest m i (omega arith))
 
 module _ (image : List ℕ) (n : ℕ) where
-  pub lookup-refused : passes image ≡ false → L.unknown 13 ≡ L.facility image n
-  unfolding L.facility
-  lookup-refused e = rw e
+  refused-so : (k : ℕ) → L.unknown k ≡ L.facility image n → Looks image n (A.Refused k)
+  refused-so k e = record { facility = e; name = λ f q. absurd (let z : _≡_ {A = ℕ} 0 1 = cc in omega arith) }
 
-  pub lookup-none : passes image ≡ true → length (sectionAt 0 13 image) / 13 ≤ n → L.unknown 6 ≡ L.facility image n
+  pub lookup-refused : passes image ≡ false → Looks image n (A.Refused 13)
   unfolding L.facility
-  lookup-none e h = rw (e, le-ltb n (length (decode image .facilities)) (omega (arith, facilities-many image)))
+  lookup-refused e = refused-so 13 (rw e)
+
+  pub lookup-none : passes image ≡ true → length (sectionAt 0 13 image) / 13 ≤ n → Looks image n (A.Refused 6)
+  unfolding L.facility
+  lookup-none e h = refused-so 6 (rw (e, le-ltb n (length (decode image .facilities)) (omega (arith, facilities-many image))))
 
   module _ (h : passes image ≡ true) (l : n < length (sectionAt 0 13 image) / 13) where
     inside : n < length (decode image .facilities)
@@ -92,6 +96,11 @@ module _ (image : List ℕ) (n : ℕ) where
           (ap (λ (g : Facility). L.declared g (cond (isComputed (kindMeant (f .kind))) none (some (placeIn (decode image .facilities) n)))) (sym is))
 
 -- The same of a section in hand.
-pub lookup-found : (image : List ℕ) (n : ℕ) {s : List ℕ} {f : F.Facility} → passes image ≡ true → s ≡ sectionAt 0 13 image → n < length s / 13 → FacilityRead s n f
-    → answered (facilityAt (decode image) n .name) (A.Declared f) ≡ L.facility image n
-lookup-found image n {s} {f} h e l r = lookup-declared image n h (rw e at l) (subst (λ (t : List ℕ). FacilityRead t n f) e r)
+pub lookup-found : (image : List ℕ) (n : ℕ) {s : List ℕ} {f : F.Facility} → passes image ≡ true → s ≡ sectionAt 0 13 image → n < length s / 13 → FacilityRead s n f → Looks image n (A.Declared f)
+lookup-found image n {s} {f} h e l r =
+    let i : n < length (sectionAt 0 13 image) / 13 = rw e at l in
+    let q : FacilityRead (sectionAt 0 13 image) n f = subst (λ (t : List ℕ). FacilityRead t n f) e r in
+    record {
+      facility = lookup-declared image n h i q;
+      name = λ g z. let same : f ≡ g = cc in ap (λ (x : F.Facility). x .name) (sym same) ∙ q .name ∙ length-is image h n i;
+    }

@@ -5,11 +5,8 @@ use image::facilities;
 use image::facilities::Facility;
 use image::sections;
 ghost use mathlib.Core.Path.{_≡_};
-ghost use Rattle.language.specs.Decode.{decode};
-ghost use Rattle.language.specs.Description.{facilityAt};
 ghost use Rattle.language.specs.Image.{passes};
-ghost use Rattle.language.specs.Lookups as L;
-ghost use Rattle.lookups.specs.Answers.{answered};
+ghost use Rattle.lookups.specs.Answers.{Looks};
 
 pub enum Looked {
     // its `place` is the first byte in the store; of a computed terminal, the number of its expression
@@ -19,7 +16,7 @@ pub enum Looked {
 
 pub fn facility(image: &[u8], passed: bool, n: u32) -> Looked
     requires { ⌜ passed ≡ passes (now image) ⌝ }
-    ensures { λ r. ⌜ answered (facilityAt (decode (now (image .entry))) n .name) r ≡ L.facility (now (image .entry)) n ⌝ }
+    ensures { λ r. ⌜ Looks (now (image .entry)) n r ⌝ }
 {
     if !passed {
         return Looked::Refused(NO_IMAGE);

@@ -22,7 +22,7 @@ use Rattle.image.specs.declared.facilities.Facility.{Facility}
 use Rattle.image.specs.declared.facilities.Kind.{Kind}
 use Rattle.image.specs.declared.facilities.Kind.the-variants as K
 use Rattle.image.specs.declared.names.Part.{Part}
-use Rattle.lookups.specs.Answers.{answered, nameMeant}
+use Rattle.lookups.specs.Answers.{Looks, answered, nameMeant}
 use Rattle.lookups.specs.declared.declared.Looked.{Looked}
 use Rattle.lookups.specs.declared.declared.Looked.the-variants as F
 use Rattle.lookups.specs.declared.named.Answer as Named
@@ -73,7 +73,7 @@ facility-part-one image n a b p q = name-one a b (p ∙ sym q)
 pub state-part-one : (image : List ℕ) (n : ℕ) (a b : Named.Answer) → nameMeant a ≡ Lk.stateName image n → nameMeant b ≡ Lk.stateName image n → a ≡ b
 state-part-one image n a b p q = name-one a b (p ∙ sym q)
 
--- ---- A declaration. Its contract is silent on the length of the name that stands beside it, so the answers are the same but for that.
+-- ---- A declaration, its place and the length of its name.
 
 abbrev kindBack : T.Kind → Kind
 kindBack T.register = K.Register
@@ -108,25 +108,19 @@ place-one false true x y h e p =
     let z : _≡_ {A = ℕ} 0 1 = cc in
     absurd (omega arith)
 
-abbrev pub unnamed : Facility → Facility
-unnamed f = record { kind = f .kind; dimensions = f .dimensions; name = 0; words = f .words; bits = f .bits; place = f .place }
-
 abbrev placed : Facility → Option ℕ
 placed f = cond (isComputed (kindMeant (f .kind))) none (some (f .place))
 
-unnamed-one : (name : Name) (f g : Facility) → facilityMeant name f ≡ facilityMeant name g → placed f ≡ placed g → unnamed f ≡ unnamed g
-unnamed-one name f g e p =
+declared-one : (name : Name) (f g : Facility) → f .name ≡ g .name → facilityMeant name f ≡ facilityMeant name g → placed f ≡ placed g → f ≡ g
+declared-one name f g n e p =
     let k : kindMeant (f .kind) ≡ kindMeant (g .kind) = ap (λ (x : D.Facility). x .kind) e in
     let a : f .kind ≡ g .kind = kind-one (f .kind) (g .kind) k in
     let b : f .dimensions ≡ g .dimensions = ap (λ (x : D.Facility). x .dimensions) e in
     let c : f .words ≡ g .words = bounds-one (f .words) (g .words) (ap (λ (x : D.Facility). x .words) e) in
     let d : f .bits ≡ g .bits = bounds-one (f .bits) (g .bits) (ap (λ (x : D.Facility). x .bits) e) in
     let q : f .place ≡ g .place = place-one (isComputed (kindMeant (f .kind))) (isComputed (kindMeant (g .kind))) (f .place) (g .place) (ap isComputed k) (ap (λ (x : D.Facility). x .expression) e) p in
-    rw (a, b, c, d, q)
-
-abbrev pub shown : Looked → Looked
-shown (F.Declared f) = F.Declared (unnamed f)
-shown (F.Refused n) = F.Refused n
+    let r : f ≡ record { kind = g .kind; dimensions = g .dimensions; name = g .name; words = g .words; bits = g .bits; place = g .place } = rw (← a, ← b, ← n, ← c, ← d, ← q) in
+    r
 
 abbrev facilityIn : D.Facility → Lk.FacilityAnswer → D.Facility
 facilityIn f (Lk.declared g p) = g
@@ -136,25 +130,23 @@ abbrev placeIn : Lk.FacilityAnswer → Option ℕ
 placeIn (Lk.declared g p) = p
 placeIn (Lk.unknown n) = none
 
-looked-one : (name : Name) (a b : Looked) → answered name a ≡ answered name b → shown a ≡ shown b
-looked-one name (F.Declared f) (F.Declared g) e = ap F.Declared (unnamed-one name f g (ap (facilityIn (facilityMeant name f)) e) (ap placeIn e))
-looked-one name (F.Refused m) (F.Refused n) e =
-    let z : m ≡ n = cc in
+pub facility-one : (image : List ℕ) (n : ℕ) (a b : Looked) → Looks image n a → Looks image n b → a ≡ b
+facility-one image n (F.Declared f) (F.Declared g) p q =
+    let name = facilityAt (decode image) n .name in
+    let e : answered name (F.Declared f) ≡ answered name (F.Declared g) = p .facility ∙ sym (q .facility) in
+    ap F.Declared (declared-one name f g (p .name f refl ∙ sym (q .name g refl)) (ap (facilityIn (facilityMeant name f)) e) (ap placeIn e))
+facility-one image n (F.Refused k) (F.Refused m) p q =
+    let e : Lk.unknown k ≡ Lk.unknown m = p .facility ∙ sym (q .facility) in
+    let z : k ≡ m = cc in
     ap F.Refused z
-looked-one name (F.Declared f) (F.Refused n) e =
+facility-one image n (F.Declared f) (F.Refused m) p q =
+    let e = p .facility ∙ sym (q .facility) in
     let z : _≡_ {A = ℕ} 0 1 = cc in
     absurd (omega arith)
-looked-one name (F.Refused n) (F.Declared f) e =
+facility-one image n (F.Refused k) (F.Declared g) p q =
+    let e = p .facility ∙ sym (q .facility) in
     let z : _≡_ {A = ℕ} 0 1 = cc in
     absurd (omega arith)
-
-pub facility-one : (image : List ℕ) (n : ℕ) (a b : Looked) → answered (facilityAt (decode image) n .name) a ≡ Lk.facility image n → answered (facilityAt (decode image) n .name) b ≡ Lk.facility image n → shown a ≡ shown b
-facility-one image n a b p q = looked-one (facilityAt (decode image) n .name) a b (p ∙ sym q)
-
--- That length is left open: an answer without it means the same.
-pub length-unsaid : (name : Name) (a : Looked) → answered name (shown a) ≡ answered name a
-length-unsaid name (F.Declared f) = refl
-length-unsaid name (F.Refused n) = refl
 
 -- ---- Opening.
 

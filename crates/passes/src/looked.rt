@@ -5,10 +5,8 @@ use lookups::declared::Looked;
 use lookups::named;
 use lookups::named::Answer;
 ghost use mathlib.Core.Path.{_≡_};
-ghost use Rattle.language.specs.Decode.{decode};
-ghost use Rattle.language.specs.Description.{facilityAt};
 ghost use Rattle.language.specs.Lookups as L;
-ghost use Rattle.lookups.specs.Answers.{answered, nameMeant};
+ghost use Rattle.lookups.specs.Answers.{Looks, nameMeant};
 
 // Where the name of facility n stands.
 pub fn facility_part(image: &[u8], n: u32) -> Answer
@@ -40,7 +38,7 @@ pub fn state_name(image: &[u8], n: u32) -> &[u8]
 
 // The declaration of facility n and its place in the store.
 pub fn facility(image: &[u8], n: u32) -> Looked
-    ensures { λ r. ⌜ answered (facilityAt (decode (now (image .entry))) n .name) r ≡ L.facility (now (image .entry)) n ⌝ }
+    ensures { λ r. ⌜ Looks (now (image .entry)) n r ⌝ }
 {
     declared::facility(image, passes(image), n)
 }

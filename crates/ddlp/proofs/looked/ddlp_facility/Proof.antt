@@ -15,7 +15,7 @@ facility-numbers-requires c κs = search needs
 returns : tie.Need-returns
 returns c =
     let a = c .before .before .before .args in
-    c .facility-numbers .ensures (facilityAt (decode (a .image .now)) (a .number) .name) ∙ ap facilityNumbers (c .before .facility .ensures)
+    c .facility-numbers .ensures (facilityAt (decode (a .image .now)) (a .number) .name) ∙ ap facilityNumbers (c .before .facility .ensures .facility)
 
 pub ddlp-facility-spec : {M : Type 1} → statement M
 ddlp-facility-spec = tie.close (tie.spec facility-requires facility-numbers-requires returns)
