@@ -1,5 +1,5 @@
 -- A text is in the array: behind the sections and the states, where the text is not refused.
-use mathlib.Core.List.{List, [], _∷_, _++_}
+use mathlib.Core.List.{List, _++_}
 use mathlib.Core.Option.{Option, none, some}
 use mathlib.Core.Path.{_≡_, refl, _∙_}
 use Prim.Native.Nat.{ℕ, _≤_}
@@ -12,7 +12,7 @@ use Rattle.course.specs.declared.Verdict.the-variants as Vd
 use Rattle.declarations.proofs.NameWords.{few-facilities}
 use Rattle.grammar.specs.Exact.{exact-text}
 use Rattle.language.specs.Building.{Built, nothingBuilt, withText}
-use Rattle.language.specs.DescribeText.{facilitiesOf, facilitySize, lengthAt}
+use Rattle.language.specs.DescribeText.{facilitiesOf, lengthAt}
 use Rattle.language.specs.Description.{Facility, sequencingFrom}
 use Rattle.language.specs.Grammar.{Is}
 use Rattle.language.specs.Machine.{deepest, parsed}
@@ -29,10 +29,9 @@ use Rattle.simple.specs.declared.Acted.{Acted}
 use Rattle.states.specs.Begins.{lengthOf}
 use Rattle.tables.specs.declared.Table.the-variants as Tb
 use Rattle.tables.specs.Rows.{rows}
-use Rattle.words.specs.declared.Word.{Word}
 use Rattle.writing.proofs.NearTrees.{text-near}
 use Rattle.described.proofs.LengthLaws.{Lends}
-use Rattle.described.proofs.Sequenced.{lengthNo, register-lent, registerLength}
+use Rattle.described.proofs.Sequenced.{lengthNo, register-lent}
 use Rattle.described.proofs.OutcomeLaws.{done-so, refused-so}
 use Rattle.described.specs.declared.Outcome.{Outcome}
 use Rattle.described.specs.declared.Outcome.the-variants as Oc
