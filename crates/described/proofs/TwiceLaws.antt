@@ -16,6 +16,7 @@ use Rattle.language.specs.Machine.{Parsed, parsed, refused}
 use Rattle.language.specs.Tree as T
 use Rattle.language.specs.Tree.{Declaration, Operation}
 use Rattle.meanings.specs.declared.Counts.{Counts}
+use Rattle.preamble.specs.Sections.{Ready}
 use Rattle.simple.proofs.Keeping.{front-kept, names-kept}
 use Rattle.simple.proofs.Standings.{few-operations, few-states}
 use Rattle.simple.specs.Actions.{Standing, frontOf}
@@ -33,7 +34,7 @@ use Rattle.work.specs.Names.{namesIn}
 use Rattle.described.proofs.Fronts.{front-before, rows-before}
 use Rattle.described.proofs.WholeLaws.{named, whole-at}
 use Rattle.described.specs.Labels.{Copied}
-use Rattle.described.specs.Ready.{Behind, Closes, Finished, Ready}
+use Rattle.described.specs.Ready.{Behind, Closes, Finished}
 
 abbrev pub counts : State → ℕ → Counts
 counts s n = record { facilities = s .known; operations = s .operations; states = n }
@@ -127,6 +128,7 @@ module _ {text : List ℕ} {ds : List Declaration} {os : List Operation} {w : Wo
           again : Ready text ds os w s acts w₂
           again = record {
             counted = a .counted;
+            level = a .level;
             facilities = record {
               known = a .facilities .known;
               records = kept Tb.Facilities refl refl (s .known) few-known ∙ a .facilities .records;

@@ -15,6 +15,7 @@ use Rattle.language.specs.Tree as T
 use Rattle.language.specs.Tree.{Declaration, Name, Text}
 use Rattle.legal.specs.WithinCounts.{declarationsOf}
 use Rattle.noted.specs.Noted.{facilityBesideBytes, nodeBesideBytes, placeBytes, stateBesideBytes}
+use Rattle.preamble.specs.Sections.{Ready}
 use Rattle.simple.specs.Actions.{frontOf}
 use Rattle.states.specs.Begins.{lengthOf}
 use Rattle.states.specs.Written.{Written, labelsOf}
@@ -30,7 +31,7 @@ use Rattle.writing.proofs.StandingLaws.{zipped-one}
 use Rattle.writing.specs.Sections.{Few}
 use Rattle.writing.specs.Standing.{zipped}
 use Rattle.described.proofs.Fronts.{concat-mapped, rows-none}
-use Rattle.described.specs.Ready.{Ready, Whole, lengthIn, tallied}
+use Rattle.described.specs.Ready.{Whole, lengthIn, tallied}
 
 -- The names known with some labels.
 abbrev pub named : List Declaration → List T.Operation → List Name → Scope

@@ -1,10 +1,8 @@
--- The length that a sequencing register lends to values: none where it is longer than they are.
-use mathlib.Core.Bool.{cond}
+-- The length that a sequencing register lends to values, where there is one.
 use mathlib.Core.Option.{Option, none, some}
 use Prim.Native.Nat.{ℕ}
-use lib.Dec.{leb}
-use Rattle.language.specs.Value.{longest}
+use Rattle.language.specs.DescribeText.{lent}
 
 abbrev pub lending : Option ℕ → Option ℕ
 lending none = none
-lending (some l) = cond (leb l longest) (some l) none
+lending (some l) = lent l

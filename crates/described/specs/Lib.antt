@@ -1,3 +1,4 @@
 pub mod Labels
 pub mod Lengths
+pub mod Outcomes
 pub mod Ready

@@ -1,37 +1,28 @@
--- Where the states begin: what stands of the sections before them; and what stands when they have been read.
-use mathlib.Core.List.{List, [], map}
+-- What stands when the states behind the other sections have been read.
+use mathlib.Core.List.{List}
 use mathlib.Core.Option.{Option}
 use mathlib.Core.Path.{_≡_}
-use Prim.Native.Nat.{ℕ, _%_}
+use Prim.Native.Nat.{ℕ}
 use Rattle.course.specs.declared.State.{State}
 use Rattle.course.specs.declared.Verdict.the-variants as Vd
 use Rattle.course.specs.Course.{runs}
-use Rattle.declarations.specs.Listed.{Tabled, noneHeld}
 use Rattle.language.specs.Building.{Built, withText}
-use Rattle.language.specs.DescribeText.{describe, facilitiesOf, facilityNodes, facilitySize, lengthAt}
+use Rattle.language.specs.DescribeText.{describe, facilitiesOf, lengthAt}
 use Rattle.language.specs.Description.{sequencingFrom}
-use Rattle.language.specs.Layout.{storeSizeOf}
 use Rattle.language.specs.Machine.{parsed, refused}
 use Rattle.language.specs.Tree as T
 use Rattle.language.specs.Tree.{Declaration, Operation, Text}
 use Rattle.legal.specs.WithinCounts.{declarationsOf}
-use Rattle.operations.specs.Listed.{Standing}
+use Rattle.preamble.specs.Sections.{Ready}
 use Rattle.simple.specs.declared.Acted.{Acted}
 use Rattle.states.specs.Begins.{lengthOf}
 use Rattle.states.specs.States.{moreOf, startStack}
 use Rattle.words.specs.declared.Fault.{Fault}
 use Rattle.words.specs.declared.Word.{Word}
 use Rattle.words.specs.Meaning.{faulted}
-use Rattle.work.specs.Held.{withNodes}
 use Rattle.writing.specs.declared.Tally.{Tally}
 use Rattle.writing.specs.Sections.{Few}
 use Rattle.writing.specs.Standing.{Stands, StandsBeside}
-
--- The tables hold the facilities ds and the operations os, the expressions those of both.
-pub record Ready (text : List ℕ) (ds : List Declaration) (os : List Operation) (w : Word) (s : State) (acts : ℕ) (work : List ℕ) : Type 0 where
-  pub counted : s .facilities ≡ s .known
-  pub facilities : Tabled text ds (storeSizeOf (facilitiesOf 0 ds) % 65536) (s .known) work
-  pub standing : Standing text (map (λ d. d .name) ds) (facilitySize ds) (withNodes (noneHeld []) (facilityNodes [] 0 ds)) os w s acts work
 
 -- For some facilities and operations.
 pub record Behind (text : List ℕ) (w : Word) (s : State) (acts : ℕ) (work : List ℕ) : Type 0 where

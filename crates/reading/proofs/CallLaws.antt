@@ -1,0 +1,105 @@
+-- The stages of reading, one behind the other.
+use mathlib.Core.Bool.{Bool, cond, false, true}
+use mathlib.Core.List.{List}
+use mathlib.Core.Option.{Option}
+use mathlib.Core.Path.{_≡_, refl, sym, ap, _∙_}
+use Prim.Native.Nat.{ℕ, _≤_}
+use borrow.Author.Tests.{ltb-false}
+use lib.Dec.{ltb}
+use lib.ListN.{length}
+use Rattle.described.specs.declared.Outcome.{Outcome}
+use Rattle.described.specs.declared.Outcome.the-variants as Oc
+use Rattle.described.specs.Outcomes.{Described, Parses}
+use Rattle.grammar.specs.Exact.{exact-text}
+use Rattle.language.specs.Building.{Built}
+use Rattle.language.specs.DescribeText.{describe}
+use Rattle.language.specs.Encode.{imageOf}
+use Rattle.language.specs.Grammar.{Is}
+use Rattle.language.specs.Machine.{Parsed, deepest}
+use Rattle.language.specs.Notions as N
+use Rattle.language.specs.Notions.{wholeText}
+use Rattle.language.specs.Reading.{ReadCall, afterGrammar, afterWords, longestText, orLegal, read, readCall, readRefused, readText, restOf, withRoom}
+use Rattle.language.specs.Rules.{faults}
+use Rattle.language.specs.Sections.{parse}
+use Rattle.language.specs.Tree.{Text}
+use Rattle.language.specs.Words as L
+use Rattle.language.specs.WordStage.{least, scan, wordFault}
+use Rattle.noted.specs.Noted.{notedDescription, placesIn}
+use Rattle.words.specs.declared.Fault.{Fault}
+use Rattle.words.specs.declared.Judged.{Judged}
+use Rattle.words.specs.declared.Judged.the-variants as J
+use Rattle.words.specs.Meaning.{judged}
+use Rattle.writing.proofs.StandingLaws.{image-stands}
+use Rattle.writing.proofs.TextsStand.{names-room, text-judged}
+use Rattle.writing.specs.declared.Tally.{Tally}
+use Rattle.writing.specs.Sections.{Few, besideHeld, namesHeld, sectionsHeld}
+
+-- ---- The rest of the rules.
+
+-- What judging says of the array.
+abbrev Judges : List ℕ → List ℕ → Tally → Judged → Type 0
+Judges text work c j = Few c → length (namesHeld text work c) ≤ 84480 → judged j ≡ least (faults (notedDescription (sectionsHeld text work c) (besideHeld work c)) (placesIn (besideHeld work c)))
+
+module _ {text work : List ℕ} {c : Tally} (p : Parses text work c) (short : length text ≤ 32768) where
+  abbrev t : Text
+  t = p .built .text
+
+  derived : Is wholeText deepest (scan text .words) (N.text t)
+  derived = exact-text text (length text) t .1 (p .built, p .course, refl) .0
+
+  rest-judged : (j : Judged) → Judges text work c j → restOf (describe t) ≡ orLegal (describe t .description) (judged j)
+  unfolding restOf
+  rest-judged j h =
+      ap (orLegal (describe t .description))
+      (sym (h (p .whole .few) (names-room text work c t short derived (p .whole .few) (p .whole .stands)) ∙ text-judged text work c t short derived (p .whole .few) (p .whole .stands) (p .whole .beside)))
+
+  pub rest-written : (n : ℕ) {j : Judged} {x y : ReadCall} → Judges text work c j → j ≡ J.Passed → y ≡ x
+      → (Few c → x ≡ withRoom n (imageOf (sectionsHeld text work c))) → y ≡ readCall n (restOf (describe t))
+  rest-written n {j} h e a b =
+      a ∙ b (p .whole .few) ∙ ap (withRoom n) (image-stands (p .whole .stands))
+      ∙ ap (λ (o : Option L.Fault). readCall n (orLegal (describe t .description) o)) (sym (ap judged e)) ∙ ap (readCall n) (sym (rest-judged j h))
+
+  pub rest-refused : (n : ℕ) {j : Judged} {f : Fault} {y : ReadCall} → Judges text work c j → j ≡ J.Refused f → y ≡ readRefused n (f .number) (f .at .place)
+      → y ≡ readCall n (restOf (describe t))
+  rest-refused n {j} h e a =
+      a ∙ ap (λ (o : Option L.Fault). readCall n (orLegal (describe t .description) o)) (sym (ap judged e)) ∙ ap (readCall n) (sym (rest-judged j h))
+
+-- ---- The grammar.
+
+abbrev parsing : List ℕ → Parsed Built
+parsing text = parse (scan text .words) (length text)
+
+pub grammar-refused : (n : ℕ) {text work : List ℕ} {r : Outcome} {f : Fault} {y : ReadCall} → Described text work r → r ≡ Oc.Refused f → y ≡ readRefused n (f .number) (f .at .place)
+    → y ≡ readCall n (afterGrammar (parsing text))
+grammar-refused n {f = f} d e a = a ∙ ap (λ (x : Parsed Built). readCall n (afterGrammar x)) (sym (d .refused f e))
+
+pub grammar-done : (n : ℕ) {text work : List ℕ} {c : Tally} {y : ReadCall} (p : Parses text work c) → y ≡ readCall n (restOf (describe (p .built .text))) → y ≡ readCall n (afterGrammar (parsing text))
+grammar-done n p a = a ∙ ap (λ (x : Parsed Built). readCall n (afterGrammar x)) (sym (p .course))
+
+-- ---- The words, and the length.
+
+cond-yes : {A : Type 0} (b : Bool) (x y : A) → b ≡ true → x ≡ cond b x y
+cond-yes b x y e = rw e
+
+cond-no : {A : Type 0} (b : Bool) (x y : A) → b ≡ false → y ≡ cond b x y
+cond-no b x y e = rw e
+
+pub too-long : (text : List ℕ) (n : ℕ) {y : ReadCall} → ltb longestText (length text) ≡ true → y ≡ readRefused n 1 0 → y ≡ read text n
+unfolding read readText
+too-long text n e a = a ∙ ap (readCall n) (cond-yes (ltb longestText (length text)) _ _ e)
+
+read-words : (text : List ℕ) (n : ℕ) → ltb longestText (length text) ≡ false → readCall n (afterWords text (wordFault text)) ≡ read text n
+unfolding read readText
+read-words text n e = ap (readCall n) (cond-no (ltb longestText (length text)) _ _ e)
+
+pub words-refused : (text : List ℕ) (n : ℕ) {j : Judged} {f : Fault} {y : ReadCall} → ltb longestText (length text) ≡ false → judged j ≡ wordFault text → j ≡ J.Refused f
+    → y ≡ readRefused n (f .number) (f .at .place) → y ≡ read text n
+words-refused text n l h e a = a ∙ ap (λ (o : Option L.Fault). readCall n (afterWords text o)) (sym (ap judged e) ∙ h) ∙ read-words text n l
+
+pub words-passed : (text : List ℕ) (n : ℕ) {j : Judged} {y : ReadCall} → ltb longestText (length text) ≡ false → judged j ≡ wordFault text → j ≡ J.Passed
+    → y ≡ readCall n (afterGrammar (parsing text)) → y ≡ read text n
+words-passed text n l h e a = a ∙ ap (λ (o : Option L.Fault). readCall n (afterWords text o)) (sym (ap judged e) ∙ h) ∙ read-words text n l
+
+pub short-text : (text : List ℕ) → ltb longestText (length text) ≡ false → length text ≤ 32768
+unfolding longestText
+short-text text e = ltb-false 32768 (length text) e

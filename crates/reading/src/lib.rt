@@ -1,0 +1,87 @@
+// Reading a text (01, "Refusal numbers"): its length, its words, its grammar and the rest of the rules, and at last its image.
+use described::Outcome;
+use described::whole;
+use store::slices;
+use words::Fault;
+use words::Judged;
+use words::Position;
+use words::stage;
+use writing::Tally;
+use writing::judging;
+use writing::whole::Written;
+use writing::whole::write_image;
+ghost use mathlib.Core.Path.{_≡_};
+ghost use Prim.Native.Nat.{_≤_};
+ghost use lib.ListN.{length};
+ghost use Rattle.language.specs.Reading as L;
+ghost use Rattle.language.specs.Sections.{parse};
+ghost use Rattle.language.specs.WordStage.{scan};
+ghost use Rattle.reading.specs.Calls.{Tells, Writes, called};
+
+pub enum Answer {
+    // The image's length.
+    Accepted(usize),
+    // The refusal's number and place.
+    Refused(u8, usize),
+}
+
+// A refusal leaves nothing in the buffer.
+fn refuse(image: &mut [u8], f: Fault) -> Answer
+    ensures { λ r. ⌜ called r (now (image .exit)) ≡ L.readRefused (length (now (image .entry))) (f .number) (f .at .place) ⌝ }
+{
+    slices::zero(image);
+    let at = f.at;
+    Answer::Refused(f.number, at.place)
+}
+
+// What writing an image answers.
+fn told(w: Written) -> Answer
+    ensures { λ r. ⌜ Tells w r ⌝ }
+{
+    match w {
+        Written::Done(n) => Answer::Accepted(n),
+        Written::NoRoom => Answer::Refused(12, 0),
+    }
+}
+
+// The text that the array holds, judged and written.
+fn written(text: &[u8], work: &[u8; 275296], c: Tally, image: &mut [u8]) -> Answer
+    ensures { λ r. ⌜ Writes (now (text .entry)) (now (work .entry)) c (length (now (image .entry))) (called r (now (image .exit))) ⌝ }
+{
+    let fault = judging::judge(text, work, c);
+    match fault {
+        Judged::Passed => told(write_image(text, work, c, image)),
+        Judged::Refused(f) => refuse(image, f),
+    }
+}
+
+// A text whose words are right.
+fn parsed(text: &[u8], image: &mut [u8]) -> Answer
+    requires { ⌜ length (now text) ≤ 32768 ⌝ }
+    ensures { λ r. ⌜ called r (now (image .exit)) ≡ L.readCall (length (now (image .entry))) (L.afterGrammar (parse (scan (now (text .entry)) .words) (length (now (text .entry))))) ⌝ }
+{
+    let mut work = [0u8; 275296];
+    let outcome = whole::described(text, &mut work);
+    match outcome {
+        Outcome::Refused(f) => refuse(image, f),
+        Outcome::Done(c) => written(text, &work, c, image),
+    }
+}
+
+// Writes the image of a legal text; refuses any other, and a buffer that the image has no room in.
+pub fn read(text: &[u8], image: &mut [u8]) -> Answer
+    ensures { λ r. ⌜ called r (now (image .exit)) ≡ L.read (now (text .entry)) (length (now (image .entry))) ⌝ }
+{
+    if stage::too_long(text) {
+        let f = Fault {
+            at: Position { place: 0 },
+            number: 1,
+        };
+        return refuse(image, f);
+    }
+    let fault = stage::word_fault(text);
+    match fault {
+        Judged::Passed => parsed(text, image),
+        Judged::Refused(f) => refuse(image, f),
+    }
+}
