@@ -1,17 +1,49 @@
 // The run record advanced where it stands: the one function that lends it mutably.
-use next::record;
 use next::record::Record;
-use storing::doing::Doing;
+use step::outcome::Stepped;
+use step::outcome::Verdict;
+use step::step as one;
 ghost use mathlib.Core.Path.{_≡_};
-ghost use Prim.Native.Nat.{_≤_, _<_};
-ghost use Rattle.next.specs.Seen.{recordMeant, recordSeen};
+ghost use Prim.Native.Nat.{_/_, _≤_};
+ghost use lib.ListN.{length};
+ghost use Rattle.language.specs.Calls.{stimulusSize};
+ghost use Rattle.language.specs.Description.{Description};
+ghost use Rattle.language.specs.Layout.{storeSizeOf};
+ghost use Rattle.language.specs.Step as S;
+ghost use Rattle.language.specs.Store.{fromBytes, inputsOf};
+ghost use Rattle.act.specs.Acts.{Acts};
+ghost use Rattle.next.specs.Seen.{recordMeant};
+ghost use Rattle.step.specs.Register.{Enters};
+ghost use Rattle.step.specs.Stepped.{Clear, counted, stepped};
 
-// The record lent is the one after a cycle with this plain next state. Answers the state entered.
-pub fn advance(r: &mut Record, g: Doing, next: u32) -> u32
-    requires { ⌜ (now r .cycle < 4294967295) × (now r .held ≤ 16) ⌝ }
-    ensures { λ s. ⌜ (recordMeant (now (r .exit)) ≡ recordSeen (recordMeant (now (r .entry))) g next) × (s ≡ now (r .exit) .state) ⌝ }
+// A cycle from the record lent, which is left as the record of the answer.
+pub fn advance(
+    facilities: &[u8],
+    operations: &[u8],
+    expressions: &[u8],
+    actions: &[u8],
+    states: &[u8],
+    r: &mut Record,
+    stimulus: &[u8],
+    store: &mut [u8],
+    pending: &mut [u8],
+    mask: &mut [u8],
+) -> Stepped
+    requires { ⌜ (length (now facilities) / 13 ≤ 65536) × (length (now states) / 7 ≤ 65536) × (now r .held ≤ 16) ⌝ }
+    ensures { λ a. ⌜ ((d : Description) → Enters d (now (facilities .entry)) (now (expressions .entry)) (now (states .entry)) → Acts d (now (facilities .entry)) (now (operations .entry)) (now (expressions .entry)) (now (actions .entry)) (length (now (states .entry)) / 7) → length (d .operations) ≡ length (now (operations .entry)) / 5 → storeSizeOf (d .facilities) ≤ length (now (store .entry)) → stimulusSize d ≤ length (now (stimulus .entry)) → Clear (now (store .entry)) (now (pending .entry)) (now (mask .entry)) → stepped (d .facilities) a (now (store .exit)) ≡ counted (S.step d (fromBytes (d .facilities) (now (store .entry))) (recordMeant (now (r .entry))) (fromBytes (inputsOf (d .facilities)) (now (stimulus .entry))))) × (now (r .exit) ≡ a .record) ⌝ }
 {
-    let after = record::next_record(*r, g, next);
-    *r = after;
-    after.state
+    let s = one::step(
+        facilities,
+        operations,
+        expressions,
+        actions,
+        states,
+        *r,
+        stimulus,
+        store,
+        pending,
+        mask,
+    );
+    *r = s.record;
+    s
 }
