@@ -53,10 +53,11 @@ use Rattle.step.specs.Stepped.{Clear, counted, stepped}
 use Rattle.step.specs.declared.outcome.Stepped.{Stepped}
 use Rattle.step.proofs.outcome.Stepped as O
 use Rattle.step.proofs.outcome.Stepped.Laws as O′
-use Rattle.step.proofs.step.step as step
-use Rattle.step.proofs.step.step.Symbol as step-def
-use Rattle.step.proofs.step.step.Symbol.{name as #step}
-use Rattle.step.proofs.step.step.Met as step-thm
+use Rattle.advance.specs.Kept.{kept}
+use Rattle.advance.proofs.settle as step
+use Rattle.advance.proofs.settle.Symbol as step-def
+use Rattle.advance.proofs.settle.Symbol.{name as #step}
+use Rattle.advance.proofs.settle.Met as step-thm
 use Rattle.advance.proofs.advance.Key.{name as #advance}
 use Rattle.advance.proofs.advance as f
 use Rattle.advance.proofs.advance.Statement as stated
@@ -74,7 +75,7 @@ stayed = (stay-dropped (shrSliceOf (0 ∷ []) tt (plain (λ _. u8))) yes, (stay-
 
 -- What the call ensures of its answer a and the store C that it leaves.
 abbrev Ensured : (F O E A T : List ℕ) (h : Record) (G B P M : List ℕ) (a : Stepped) (C : List ℕ) → Type 0
-Ensured F O E A T h G B P M a C = (d : Description) → Enters d F E T → Acts d F O E A (length T / 7) → length (d .operations) ≡ length O / 5 → storeSizeOf (d .facilities) ≤ length B → stimulusSize d ≤ length G → Clear B P M → stepped (d .facilities) a C ≡ counted (S.step d (fromBytes (d .facilities) B) (recordMeant h) (fromBytes (inputsOf (d .facilities)) G))
+Ensured F O E A T h G B P M a C = ((d : Description) → Enters d F E T → Acts d F O E A (length T / 7) → length (d .operations) ≡ length O / 5 → storeSizeOf (d .facilities) ≤ length B → stimulusSize d ≤ length G → Clear B P M → stepped (d .facilities) a C ≡ counted (S.step d (fromBytes (d .facilities) B) (recordMeant h) (fromBytes (inputsOf (d .facilities)) G))) × (a .record ≡ kept (a .verdict) h (a .record))
 
 module _ {M : Type 1} (𝓤 : URA M) (H : Heap 𝓤) (A : Atoms 𝓤) (mem : Memory → SProp 𝓤) (run : Routine → Fun 𝓤) where
   -- The contract that the proof cites.
@@ -134,7 +135,7 @@ module _ {M : Type 1} (𝓤 : URA M) (H : Heap 𝓤) (A : Atoms 𝓤) (W : Given
   exits a B P M′ e e7 e8 e9 =
       qed W (‵ (fobs γ (T.the-row .coded .code (a .record))) ∷ ‵ (fbor κ5 (Body (mem T.the-row) b o γ)) ∷ ‵ (flft κ5 q5) ∷ (‵ (flft κ0 q0) ⊛ ‵ (flft κ1 q1) ⊛ ‵ (flft κ2 q2) ⊛ ‵ (flft κ3 q3) ⊛ ‵ (flft κ4 q4) ⊛ ‵ (flft κ6 q6) ⊛ ‵ (flft κ7 q7) ⊛ ‵ (flft κ8 q8) ⊛ ‵ (flft κ9 q9) ⊛ ‵ ftrue) ∷ ‵ (finally u8 (s7 .name) B) ∷ ‵ (finally u8 (s8 .name) P) ∷ ‵ (finally u8 (s9 .name) M′) ∷ ‵ (O.the-row .own a (out a ∷ [])) ∷ []) ∵
       suffices ! _ (ends-at 𝓤 H A f.ended stayed (f.clauses 𝓤 H A at-mem run) W (((κ0, (κ1, (κ2, (κ3, (κ4, (κ5, (κ6, (κ7, (κ8, (κ9, tt)))))))))), (q0, (q1, (q2, (q3, (q4, (q5, (q6, (q7, (q8, (q9, tt)))))))))), tt, x, at), tt) (out a) a (tt, (tt, (tt, (tt, (tt, (a .record, (tt, (B, (P, (M′, tt)))))))))) (tt, (tt, (tt, (tt, (tt, (tt, (tt, (e7, (e8, (e9, tt))))))))))) $
-      says ! (e, refl) $ move ! (3 ∷ []) $ split ! $ move ! (1 ∷ []) $ split ! $ move ! (1 ∷ []) $ split ! $ move ! (1 ∷ []) $ split ! $
+      says ! (e .0, e .1, refl) $ move ! (3 ∷ []) $ split ! $ move ! (1 ∷ []) $ split ! $ move ! (1 ∷ []) $ split ! $ move ! (1 ∷ []) $ split ! $
       move ! (1 ∷ []) $ split ! $ move ! (1 ∷ []) $ split ! $ move ! (1 ∷ []) $ split ! $ move ! (1 ∷ []) $ split ! $ move ! (1 ∷ []) $ split ! $
       join ! $ move ! (1 ∷ 0 ∷ []) $ join ! $ move ! (1 ∷ 0 ∷ []) $ join ! $ move ! (1 ∷ 0 ∷ []) $ join ! $ move ! (8 ∷ 0 ∷ []) $ join ! $
       move ! (1 ∷ 0 ∷ []) $ join ! $ move ! (1 ∷ 0 ∷ []) $ join ! $ move ! (1 ∷ 0 ∷ []) $ join ! $ move ! (1 ∷ 0 ∷ []) $ join ! $
@@ -237,4 +238,4 @@ advance-spec 𝓤 H 𝓜 𝓖 𝓡 =
     entered 𝓤 H (tripleOf 𝓤 H (𝓖 .A) f.signature (f.spec 𝓤 H (𝓖 .A) (𝓜 .mem) (𝓡 .run)))
     (tables 𝓤 H 𝓜 𝓡 code.env .C) (tables 𝓤 H 𝓜 𝓡 code.env .Λ) #advance code.function (code.unfolded 𝓤 H 𝓜 𝓡)
     (advance-meets 𝓤 H (𝓖 .A) (givenOf 𝓤 H 𝓜 𝓖) (𝓜 .mem) (𝓡 .run) (tablesOf 𝓤 H 𝓜 (tables 𝓤 H 𝓜 𝓡 code.env))
-    (cited 𝓤 H (Callee 𝓤 H (𝓖 .A) (𝓜 .mem) (𝓡 .run)) 𝓜 𝓡 code.env #step step-def.routine code.calls-step·step·step (step-thm.met 𝓤 H 𝓜 𝓖 𝓡)))
+    (cited 𝓤 H (Callee 𝓤 H (𝓖 .A) (𝓜 .mem) (𝓡 .run)) 𝓜 𝓡 code.env #step step-def.routine code.calls-advance·settle (step-thm.met 𝓤 H 𝓜 𝓖 𝓡)))
