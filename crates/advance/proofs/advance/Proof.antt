@@ -14,8 +14,9 @@ use prog.Routine.{Routine}
 use prog.Wp.{Heap, Calls, Loops, WpFn, Tables}
 use ghost.Atoms.{Atoms}
 use contract.Monad.{Fun, fact}
+use contract.Lifetimes.{Lfts, Shares}
 use contract.Running.{givenOf, tables, tablesOf}
-use types.Kit.{Given, ‵, raw, _⊛_, ⋆, some, later, _$_, _∵_, !, qed, by, move, keep, drop, use1, rewrite, split, join, pick, fsplit, fsplit3, fjoin, fjoin3, feqI, feqL, suffices, frame, await, done}
+use types.Kit.{Given, Item, ‵, raw, _⊛_, ⋆, some, later, _$_, _∵_, !, qed, by, move, keep, drop, use1, rewrite, split, join, pick, fsplit, fsplit3, fjoin, fjoin3, feqI, feqL, suffices, frame, await, done}
 use types.Run.{look, init, store, forget, stop, hop, fld, from, load, of-opd, addr, and-then, no-more, land, assigns, returns, enter, alloc1, alloc0, params1, pass1, pass0, free1, free0}
 use types.Part.{whole, sub, look-in, agg}
 use types.SemTy.{Body}
@@ -54,10 +55,10 @@ use Rattle.step.specs.declared.outcome.Stepped.{Stepped}
 use Rattle.step.proofs.outcome.Stepped as O
 use Rattle.step.proofs.outcome.Stepped.Laws as O′
 use Rattle.advance.specs.Kept.{kept}
-use Rattle.advance.proofs.settle as step
-use Rattle.advance.proofs.settle.Symbol as step-def
-use Rattle.advance.proofs.settle.Symbol.{name as #step}
-use Rattle.advance.proofs.settle.Met as step-thm
+use Rattle.advance.proofs.settle as settle
+use Rattle.advance.proofs.settle.Symbol as settle-def
+use Rattle.advance.proofs.settle.Symbol.{name as #settle}
+use Rattle.advance.proofs.settle.Met as settle-thm
 use Rattle.advance.proofs.advance.Key.{name as #advance}
 use Rattle.advance.proofs.advance as f
 use Rattle.advance.proofs.advance.Statement as stated
@@ -79,40 +80,32 @@ Ensured F O E A T h G B P M a C = ((d : Description) → Enters d F E T → Acts
 
 module _ {M : Type 1} (𝓤 : URA M) (H : Heap 𝓤) (A : Atoms 𝓤) (mem : Memory → SProp 𝓤) (run : Routine → Fun 𝓤) where
   -- The contract that the proof cites.
-  abbrev Callee : Contract 𝓤
-  Callee = tripleOf 𝓤 H A step.signature (step.spec 𝓤 H A mem run)
+  abbrev Settle : Contract 𝓤
+  Settle = tripleOf 𝓤 H A settle.signature (settle.spec 𝓤 H A mem run)
 
 module _ {M : Type 1} (𝓤 : URA M) (H : Heap 𝓤) (A : Atoms 𝓤) (W : Given 𝓤 H A) (at-mem : Memory → SProp 𝓤) (run : Routine → Fun 𝓤) (κ0 κ1 κ2 κ3 κ4 κ5 κ6 κ7 κ8 κ9 : Lft) (q0 q1 q2 q3 q4 q5 q6 q7 q8 q9 : Share) (s0 s1 s2 s3 s4 s6 s7 s8 s9 : RefT (List ℕ)) (b o : ℕ) (γ : GName) (h : Record) where
+  -- The lifetimes, their shares and the parameters: of this function, and with a mark those of the call.
+  abbrev κs : Lfts 10
+  κs = (κ0, (κ1, (κ2, (κ3, (κ4, (κ5, (κ6, (κ7, (κ8, (κ9, tt))))))))))
+
+  abbrev κs′ : Lfts 9
+  κs′ = (κ0, (κ1, (κ2, (κ3, (κ4, (κ6, (κ7, (κ8, (κ9, tt)))))))))
+
+  abbrev qs : Shares 10
+  qs = (q0, (q1, (q2, (q3, (q4, (q5, (q6, (q7, (q8, (q9, tt))))))))))
+
+  abbrev qs′ : Shares 9
+  qs′ = (q0, (q1, (q2, (q3, (q4, (q6, (q7, (q8, (q9, tt)))))))))
+
   abbrev x : Arg
   x = (s0, (s1, (s2, (s3, (s4, (record { ptr = (b, o); name = γ; now = h }, (s6, (s7, (s8, (s9, tt))))))))))
 
+  abbrev x′ : RefT (List ℕ) × (RefT (List ℕ) × (RefT (List ℕ) × (RefT (List ℕ) × (RefT (List ℕ) × (Record × (RefT (List ℕ) × (RefT (List ℕ) × (RefT (List ℕ) × (RefT (List ℕ) × Unit {0})))))))))
+  x′ = (s0, (s1, (s2, (s3, (s4, (h, (s6, (s7, (s8, (s9, tt))))))))))
+
   -- The machine values: of the slices, of a record and of an answer.
-  abbrev v0 : Val
-  v0 = sliceVal (s0 .ptr) (length (s0 .now))
-
-  abbrev v1 : Val
-  v1 = sliceVal (s1 .ptr) (length (s1 .now))
-
-  abbrev v2 : Val
-  v2 = sliceVal (s2 .ptr) (length (s2 .now))
-
-  abbrev v3 : Val
-  v3 = sliceVal (s3 .ptr) (length (s3 .now))
-
-  abbrev v4 : Val
-  v4 = sliceVal (s4 .ptr) (length (s4 .now))
-
-  abbrev v6 : Val
-  v6 = sliceVal (s6 .ptr) (length (s6 .now))
-
-  abbrev v7 : Val
-  v7 = sliceVal (s7 .ptr) (length (s7 .now))
-
-  abbrev v8 : Val
-  v8 = sliceVal (s8 .ptr) (length (s8 .now))
-
-  abbrev v9 : Val
-  v9 = sliceVal (s9 .ptr) (length (s9 .now))
+  abbrev v : RefT (List ℕ) → Val
+  v s = sliceVal (s .ptr) (length (s .now))
 
   abbrev mach : Record → Val
   mach r = LL.tuple-val T.the-type T′.the-laws (T.the-type .to r)
@@ -121,20 +114,34 @@ module _ {M : Type 1} (𝓤 : URA M) (H : Heap 𝓤) (A : Atoms 𝓤) (W : Given
   out a = LL.tuple-val O.the-type O′.the-laws (O.the-type .to a)
 
   abbrev at : List Val × (List Val × (List Val × (List Val × (List Val × (List Val × (List Val × (List Val × (List Val × (List Val × Unit {0})))))))))
-  at = (v0 ∷ [], (v1 ∷ [], (v2 ∷ [], (v3 ∷ [], (v4 ∷ [], (vptr b o ∷ [], (v6 ∷ [], (v7 ∷ [], (v8 ∷ [], (v9 ∷ [], tt))))))))))
+  at = (v s0 ∷ [], (v s1 ∷ [], (v s2 ∷ [], (v s3 ∷ [], (v s4 ∷ [], (vptr b o ∷ [], (v s6 ∷ [], (v s7 ∷ [], (v s8 ∷ [], (v s9 ∷ [], tt))))))))))
+
+  abbrev at′ : List Val × (List Val × (List Val × (List Val × (List Val × (List Val × (List Val × (List Val × (List Val × (List Val × Unit {0})))))))))
+  at′ = (v s0 ∷ [], (v s1 ∷ [], (v s2 ∷ [], (v s3 ∷ [], (v s4 ∷ [], (mach h ∷ [], (v s6 ∷ [], (v s7 ∷ [], (v s8 ∷ [], (v s9 ∷ [], tt))))))))))
 
   abbrev Post : Val → SProp 𝓤
-  Post = walkOf 𝓤 H A f.ended stayed (f.clauses 𝓤 H A at-mem run) .post (((κ0, (κ1, (κ2, (κ3, (κ4, (κ5, (κ6, (κ7, (κ8, (κ9, tt)))))))))), (q0, (q1, (q2, (q3, (q4, (q5, (q6, (q7, (q8, (q9, tt)))))))))), tt, x, at), tt)
+  Post = walkOf 𝓤 H A f.ended stayed (f.clauses 𝓤 H A at-mem run) .post ((κs, qs, tt, x, at), tt)
+
+  -- The tokens of the call's lifetimes.
+  abbrev Tokens : Item 𝓤
+  Tokens = ‵ (flft κ0 q0) ⊛ ‵ (flft κ1 q1) ⊛ ‵ (flft κ2 q2) ⊛ ‵ (flft κ3 q3) ⊛ ‵ (flft κ4 q4) ⊛ ‵ (flft κ6 q6) ⊛ ‵ (flft κ7 q7) ⊛ ‵ (flft κ8 q8) ⊛ ‵ (flft κ9 q9) ⊛ ‵ ftrue
+
+  abbrev Told : Stepped → List ℕ → Type 0
+  Told = Ensured (s0 .now) (s1 .now) (s2 .now) (s3 .now) (s4 .now) h (s6 .now) (s7 .now) (s8 .now) (s9 .now)
+
+  -- What is left at the end, at the answer a and the last bytes of the three slices.
+  abbrev Left : Stepped → List ℕ → List ℕ → List ℕ → List (Item 𝓤)
+  Left a B P M′ = ‵ (fobs γ (T.the-row .coded .code (a .record))) ∷ ‵ (fbor κ5 (Body (mem T.the-row) b o γ)) ∷ ‵ (flft κ5 q5) ∷ Tokens ∷ ‵ (finally u8 (s7 .name) B) ∷ ‵ (finally u8 (s8 .name) P) ∷ ‵ (finally u8 (s9 .name) M′) ∷ ‵ (O.the-row .own a (out a ∷ [])) ∷ []
 
   -- What whoever holds an answer knows of the record in it.
   held : (a : Stepped) (vs : List Val) → Is O.the-row a vs → Is T.the-row (a .record) (mach (a .record) ∷ [])
   held a vs is = LL.owed O.the-type O′.the-laws a vs is .1 .0
 
-  exits : (a : Stepped) (B P M′ : List ℕ) → Ensured (s0 .now) (s1 .now) (s2 .now) (s3 .now) (s4 .now) h (s6 .now) (s7 .now) (s8 .now) (s9 .now) a B → length B ≡ length (s7 .now) → length P ≡ length (s8 .now) → length M′ ≡ length (s9 .now)
-      → ent 𝓤 (⋆ 𝓤 H A (‵ (fobs γ (T.the-row .coded .code (a .record))) ∷ ‵ (fbor κ5 (Body (mem T.the-row) b o γ)) ∷ ‵ (flft κ5 q5) ∷ (‵ (flft κ0 q0) ⊛ ‵ (flft κ1 q1) ⊛ ‵ (flft κ2 q2) ⊛ ‵ (flft κ3 q3) ⊛ ‵ (flft κ4 q4) ⊛ ‵ (flft κ6 q6) ⊛ ‵ (flft κ7 q7) ⊛ ‵ (flft κ8 q8) ⊛ ‵ (flft κ9 q9) ⊛ ‵ ftrue) ∷ ‵ (finally u8 (s7 .name) B) ∷ ‵ (finally u8 (s8 .name) P) ∷ ‵ (finally u8 (s9 .name) M′) ∷ ‵ (O.the-row .own a (out a ∷ [])) ∷ [])) (Post (out a))
+  exits : (a : Stepped) (B P M′ : List ℕ) → Told a B → length B ≡ length (s7 .now) → length P ≡ length (s8 .now) → length M′ ≡ length (s9 .now)
+      → ent 𝓤 (⋆ 𝓤 H A (‵ (fobs γ (T.the-row .coded .code (a .record))) ∷ ‵ (fbor κ5 (Body (mem T.the-row) b o γ)) ∷ ‵ (flft κ5 q5) ∷ Tokens ∷ ‵ (finally u8 (s7 .name) B) ∷ ‵ (finally u8 (s8 .name) P) ∷ ‵ (finally u8 (s9 .name) M′) ∷ ‵ (O.the-row .own a (out a ∷ [])) ∷ [])) (Post (out a))
   exits a B P M′ e e7 e8 e9 =
-      qed W (‵ (fobs γ (T.the-row .coded .code (a .record))) ∷ ‵ (fbor κ5 (Body (mem T.the-row) b o γ)) ∷ ‵ (flft κ5 q5) ∷ (‵ (flft κ0 q0) ⊛ ‵ (flft κ1 q1) ⊛ ‵ (flft κ2 q2) ⊛ ‵ (flft κ3 q3) ⊛ ‵ (flft κ4 q4) ⊛ ‵ (flft κ6 q6) ⊛ ‵ (flft κ7 q7) ⊛ ‵ (flft κ8 q8) ⊛ ‵ (flft κ9 q9) ⊛ ‵ ftrue) ∷ ‵ (finally u8 (s7 .name) B) ∷ ‵ (finally u8 (s8 .name) P) ∷ ‵ (finally u8 (s9 .name) M′) ∷ ‵ (O.the-row .own a (out a ∷ [])) ∷ []) ∵
-      suffices ! _ (ends-at 𝓤 H A f.ended stayed (f.clauses 𝓤 H A at-mem run) W (((κ0, (κ1, (κ2, (κ3, (κ4, (κ5, (κ6, (κ7, (κ8, (κ9, tt)))))))))), (q0, (q1, (q2, (q3, (q4, (q5, (q6, (q7, (q8, (q9, tt)))))))))), tt, x, at), tt) (out a) a (tt, (tt, (tt, (tt, (tt, (a .record, (tt, (B, (P, (M′, tt)))))))))) (tt, (tt, (tt, (tt, (tt, (tt, (tt, (e7, (e8, (e9, tt))))))))))) $
+      qed W (‵ (fobs γ (T.the-row .coded .code (a .record))) ∷ ‵ (fbor κ5 (Body (mem T.the-row) b o γ)) ∷ ‵ (flft κ5 q5) ∷ Tokens ∷ ‵ (finally u8 (s7 .name) B) ∷ ‵ (finally u8 (s8 .name) P) ∷ ‵ (finally u8 (s9 .name) M′) ∷ ‵ (O.the-row .own a (out a ∷ [])) ∷ []) ∵
+      suffices ! _ (ends-at 𝓤 H A f.ended stayed (f.clauses 𝓤 H A at-mem run) W ((κs, qs, tt, x, at), tt) (out a) a (tt, (tt, (tt, (tt, (tt, (a .record, (tt, (B, (P, (M′, tt)))))))))) (tt, (tt, (tt, (tt, (tt, (tt, (tt, (e7, (e8, (e9, tt))))))))))) $
       says ! (e .0, e .1, refl) $ move ! (3 ∷ []) $ split ! $ move ! (1 ∷ []) $ split ! $ move ! (1 ∷ []) $ split ! $ move ! (1 ∷ []) $ split ! $
       move ! (1 ∷ []) $ split ! $ move ! (1 ∷ []) $ split ! $ move ! (1 ∷ []) $ split ! $ move ! (1 ∷ []) $ split ! $ move ! (1 ∷ []) $ split ! $
       join ! $ move ! (1 ∷ 0 ∷ []) $ join ! $ move ! (1 ∷ 0 ∷ []) $ join ! $ move ! (1 ∷ 0 ∷ []) $ join ! $ move ! (8 ∷ 0 ∷ []) $ join ! $
@@ -143,18 +150,18 @@ module _ {M : Type 1} (𝓤 : URA M) (H : Heap 𝓤) (A : Atoms 𝓤) (W : Given
       fjoin ! $ move ! (3 ∷ 0 ∷ []) $ fjoin ! $ move ! (2 ∷ 0 ∷ []) $ fjoin ! $ nothing ! $ fjoin ! $ move ! (1 ∷ 0 ∷ []) $ fjoin ! $ nothing ! $
       fjoin ! $ nothing ! $ fjoin ! $ nothing ! $ fjoin ! $ nothing ! $ fjoin ! $ nothing ! $ fjoin ! $ done !
 
-  abbrev to-step : Callee 𝓤 H A at-mem run .Ghost
-  to-step = (((κ0, (κ1, (κ2, (κ3, (κ4, (κ6, (κ7, (κ8, (κ9, tt))))))))), (q0, (q1, (q2, (q3, (q4, (q6, (q7, (q8, (q9, tt))))))))), tt, (s0, (s1, (s2, (s3, (s4, (h, (s6, (s7, (s8, (s9, tt)))))))))), (v0 ∷ [], (v1 ∷ [], (v2 ∷ [], (v3 ∷ [], (v4 ∷ [], (mach h ∷ [], (v6 ∷ [], (v7 ∷ [], (v8 ∷ [], (v9 ∷ [], tt))))))))))), tt)
+  abbrev to-settle : Settle 𝓤 H A at-mem run .Ghost
+  to-settle = ((κs′, qs′, tt, x′, at′), tt)
 
   abbrev Owned : Fml
-  Owned = owns (ShrSlice (named 0) κ0 u8 ∷ ShrSlice (named 1) κ1 u8 ∷ ShrSlice (named 2) κ2 u8 ∷ ShrSlice (named 3) κ3 u8 ∷ ShrSlice (named 4) κ4 u8 ∷ T.the-row ∷ ShrSlice (named 5) κ6 u8 ∷ MutSlice (named 6) κ7 u8 ∷ MutSlice (named 7) κ8 u8 ∷ MutSlice (named 8) κ9 u8 ∷ []) (s0, (s1, (s2, (s3, (s4, (h, (s6, (s7, (s8, (s9, tt)))))))))) (v0 ∷ [], (v1 ∷ [], (v2 ∷ [], (v3 ∷ [], (v4 ∷ [], (mach h ∷ [], (v6 ∷ [], (v7 ∷ [], (v8 ∷ [], (v9 ∷ [], tt))))))))))
+  Owned = owns (ShrSlice (named 0) κ0 u8 ∷ ShrSlice (named 1) κ1 u8 ∷ ShrSlice (named 2) κ2 u8 ∷ ShrSlice (named 3) κ3 u8 ∷ ShrSlice (named 4) κ4 u8 ∷ T.the-row ∷ ShrSlice (named 5) κ6 u8 ∷ MutSlice (named 6) κ7 u8 ∷ MutSlice (named 7) κ8 u8 ∷ MutSlice (named 8) κ9 u8 ∷ []) x′ at′
 
-  goes-step : (length (s0 .now) / 13 ≤ 65536) × (length (s4 .now) / 7 ≤ 65536) × (h .held ≤ 16) → ent 𝓤 (⋆ 𝓤 H A (((‵ (flft κ0 q0) ⊛ ‵ (flft κ1 q1) ⊛ ‵ (flft κ2 q2) ⊛ ‵ (flft κ3 q3) ⊛ ‵ (flft κ4 q4) ⊛ ‵ (flft κ6 q6) ⊛ ‵ (flft κ7 q7) ⊛ ‵ (flft κ8 q8) ⊛ ‵ (flft κ9 q9) ⊛ ‵ ftrue) ⊛ ‵ Owned) ∷ [])) (Callee 𝓤 H A at-mem run .pre to-step)
-  goes-step need = qed W (((‵ (flft κ0 q0) ⊛ ‵ (flft κ1 q1) ⊛ ‵ (flft κ2 q2) ⊛ ‵ (flft κ3 q3) ⊛ ‵ (flft κ4 q4) ⊛ ‵ (flft κ6 q6) ⊛ ‵ (flft κ7 q7) ⊛ ‵ (flft κ8 q8) ⊛ ‵ (flft κ9 q9) ⊛ ‵ ftrue) ⊛ ‵ Owned) ∷ []) ∵ says ! need $ split ! $ done !
+  goes-settle : (length (s0 .now) / 13 ≤ 65536) × (length (s4 .now) / 7 ≤ 65536) × (h .held ≤ 16) → ent 𝓤 (⋆ 𝓤 H A ((Tokens ⊛ ‵ Owned) ∷ [])) (Settle 𝓤 H A at-mem run .pre to-settle)
+  goes-settle need = qed W ((Tokens ⊛ ‵ Owned) ∷ []) ∵ says ! need $ split ! $ done !
 
-  module _ (C : Calls 𝓤 H) (Λ : Loops 𝓤 H) (fm : FmC 𝓤 H (W .laws) C) (known : Triple 𝓤 (C #step) (Callee 𝓤 H A at-mem run)) where
-    walk : (p0 : Is (ShrSlice (named 0) κ0 u8) s0 (v0 ∷ [])) → (p1 : Is (ShrSlice (named 1) κ1 u8) s1 (v1 ∷ [])) → (p2 : Is (ShrSlice (named 2) κ2 u8) s2 (v2 ∷ [])) → (p3 : Is (ShrSlice (named 3) κ3 u8) s3 (v3 ∷ [])) → (p4 : Is (ShrSlice (named 4) κ4 u8) s4 (v4 ∷ [])) → (p6 : Is (ShrSlice (named 6) κ6 u8) s6 (v6 ∷ [])) → (p7 : Is (MutSlice (named 7) κ7 u8) s7 (v7 ∷ [])) → (p8 : Is (MutSlice (named 8) κ8 u8) s8 (v8 ∷ [])) → (p9 : Is (MutSlice (named 9) κ9 u8) s9 (v9 ∷ [])) → (length (s0 .now) / 13 ≤ 65536) × (length (s4 .now) / 7 ≤ 65536) × (h .held ≤ 16)
-        → ent 𝓤 (onEntry 𝓤 H A f.signature (κ0, (κ1, (κ2, (κ3, (κ4, (κ5, (κ6, (κ7, (κ8, (κ9, tt)))))))))) (q0, (q1, (q2, (q3, (q4, (q5, (q6, (q7, (q8, (q9, tt)))))))))) x at) (WpFn 𝓤 H C Λ code.function (v0 ∷ v1 ∷ v2 ∷ v3 ∷ v4 ∷ vptr b o ∷ v6 ∷ v7 ∷ v8 ∷ v9 ∷ []) Post)
+  module _ (C : Calls 𝓤 H) (Λ : Loops 𝓤 H) (fm : FmC 𝓤 H (W .laws) C) (known : Triple 𝓤 (C #settle) (Settle 𝓤 H A at-mem run)) where
+    walk : (p0 : Is (ShrSlice (named 0) κ0 u8) s0 (v s0 ∷ [])) → (p1 : Is (ShrSlice (named 1) κ1 u8) s1 (v s1 ∷ [])) → (p2 : Is (ShrSlice (named 2) κ2 u8) s2 (v s2 ∷ [])) → (p3 : Is (ShrSlice (named 3) κ3 u8) s3 (v s3 ∷ [])) → (p4 : Is (ShrSlice (named 4) κ4 u8) s4 (v s4 ∷ [])) → (p6 : Is (ShrSlice (named 6) κ6 u8) s6 (v s6 ∷ [])) → (p7 : Is (MutSlice (named 7) κ7 u8) s7 (v s7 ∷ [])) → (p8 : Is (MutSlice (named 8) κ8 u8) s8 (v s8 ∷ [])) → (p9 : Is (MutSlice (named 9) κ9 u8) s9 (v s9 ∷ [])) → (length (s0 .now) / 13 ≤ 65536) × (length (s4 .now) / 7 ≤ 65536) × (h .held ≤ 16)
+        → ent 𝓤 (onEntry 𝓤 H A f.signature κs qs x at) (WpFn 𝓤 H C Λ code.function (v s0 ∷ v s1 ∷ v s2 ∷ v s3 ∷ v s4 ∷ vptr b o ∷ v s6 ∷ v s7 ∷ v s8 ∷ v s9 ∷ []) Post)
     walk p0 p1 p2 p3 p4 p6 p7 p8 p9 need =
         qed W ((‵ (flft κ0 q0) ⊛ ‵ (flft κ1 q1) ⊛ ‵ (flft κ2 q2) ⊛ ‵ (flft κ3 q3) ⊛ ‵ (flft κ4 q4) ⊛ ‵ (flft κ5 q5) ⊛ ‵ (flft κ6 q6) ⊛ ‵ (flft κ7 q7) ⊛ ‵ (flft κ8 q8) ⊛ ‵ (flft κ9 q9) ⊛ ‵ ftrue) ∷ ‵ (owns (ShrSlice (named 0) κ0 u8 ∷ ShrSlice (named 1) κ1 u8 ∷ ShrSlice (named 2) κ2 u8 ∷ ShrSlice (named 3) κ3 u8 ∷ ShrSlice (named 4) κ4 u8 ∷ MutRef (named 5) κ5 T.the-row ∷ ShrSlice (named 6) κ6 u8 ∷ MutSlice (named 7) κ7 u8 ∷ MutSlice (named 8) κ8 u8 ∷ MutSlice (named 9) κ9 u8 ∷ []) x at) ∷ []) ∵
         split ! $ move ! (1 ∷ []) $ split ! $ move ! (1 ∷ []) $ split ! $ move ! (1 ∷ []) $ split ! $ move ! (1 ∷ []) $ split ! $ move ! (1 ∷ []) $
@@ -162,18 +169,20 @@ module _ {M : Type 1} (𝓤 : URA M) (H : Heap 𝓤) (A : Atoms 𝓤) (W : Given
         drop ! $ move ! (10 ∷ []) $ fsplit ! $ move ! (1 ∷ []) $ fsplit ! $ move ! (1 ∷ []) $ fsplit ! $ move ! (1 ∷ []) $ fsplit ! $
         move ! (1 ∷ []) $ fsplit ! $ move ! (1 ∷ []) $ fsplit ! $ move ! (1 ∷ []) $ fsplit ! $ move ! (1 ∷ []) $ fsplit ! $ move ! (1 ∷ []) $
         fsplit ! $ move ! (1 ∷ []) $ fsplit ! $ move ! (1 ∷ []) $ drop ! $ move ! (4 ∷ []) $ fsplit3 ! $ drop ! $
-        enter ! C Λ code.function (v0 ∷ v1 ∷ v2 ∷ v3 ∷ v4 ∷ vptr b o ∷ v6 ∷ v7 ∷ v8 ∷ v9 ∷ []) _ $ alloc1 ! (λ l0. alloc1 ! (λ l1. alloc1 ! (λ l2.
+        -- The code: room for each local, and the parameters in theirs.
+        enter ! C Λ code.function (v s0 ∷ v s1 ∷ v s2 ∷ v s3 ∷ v s4 ∷ vptr b o ∷ v s6 ∷ v s7 ∷ v s8 ∷ v s9 ∷ []) _ $ alloc1 ! (λ l0. alloc1 ! (λ l1. alloc1 ! (λ l2.
         alloc1 ! (λ l3. alloc1 ! (λ l4. alloc1 ! (λ l5. alloc1 ! (λ l6. alloc1 ! (λ l7. alloc1 ! (λ l8. alloc1 ! (λ l9. alloc1 ! (λ l10.
         alloc1 ! (λ l11. alloc1 ! (λ l12. alloc1 ! (λ l13. alloc1 ! (λ l14. alloc1 ! (λ l15. alloc1 ! (λ l16. alloc1 ! (λ l17. alloc1 ! (λ l18.
-        alloc0 ! $ params1 ! $ pass1 ! (init ! 34 refl (shr-slice-lawful 𝓤 H A W (named 0) κ0 u8 .typed s0 (v0 ∷ []) p0 .0)) $
-        pass1 ! (init ! 32 refl (shr-slice-lawful 𝓤 H A W (named 1) κ1 u8 .typed s1 (v1 ∷ []) p1 .0)) $
-        pass1 ! (init ! 30 refl (shr-slice-lawful 𝓤 H A W (named 2) κ2 u8 .typed s2 (v2 ∷ []) p2 .0)) $
-        pass1 ! (init ! 28 refl (shr-slice-lawful 𝓤 H A W (named 3) κ3 u8 .typed s3 (v3 ∷ []) p3 .0)) $
-        pass1 ! (init ! 26 refl (shr-slice-lawful 𝓤 H A W (named 4) κ4 u8 .typed s4 (v4 ∷ []) p4 .0)) $ pass1 ! (init ! 24 refl (tt, tt)) $
-        pass1 ! (init ! 22 refl (shr-slice-lawful 𝓤 H A W (named 6) κ6 u8 .typed s6 (v6 ∷ []) p6 .0)) $
-        pass1 ! (init ! 20 refl (mut-slice-lawful 𝓤 H A W (named 7) κ7 u8 .typed s7 (v7 ∷ []) p7 .0)) $
-        pass1 ! (init ! 18 refl (mut-slice-lawful 𝓤 H A W (named 8) κ8 u8 .typed s8 (v8 ∷ []) p8 .0)) $
-        pass1 ! (init ! 16 refl (mut-slice-lawful 𝓤 H A W (named 9) κ9 u8 .typed s9 (v9 ∷ []) p9 .0)) $ pass0 ! $ move ! (38 ∷ 39 ∷ 53 ∷ []) $
+        alloc0 ! $ params1 ! $ pass1 ! (init ! 34 refl (shr-slice-lawful 𝓤 H A W (named 0) κ0 u8 .typed s0 (v s0 ∷ []) p0 .0)) $
+        pass1 ! (init ! 32 refl (shr-slice-lawful 𝓤 H A W (named 1) κ1 u8 .typed s1 (v s1 ∷ []) p1 .0)) $
+        pass1 ! (init ! 30 refl (shr-slice-lawful 𝓤 H A W (named 2) κ2 u8 .typed s2 (v s2 ∷ []) p2 .0)) $
+        pass1 ! (init ! 28 refl (shr-slice-lawful 𝓤 H A W (named 3) κ3 u8 .typed s3 (v s3 ∷ []) p3 .0)) $
+        pass1 ! (init ! 26 refl (shr-slice-lawful 𝓤 H A W (named 4) κ4 u8 .typed s4 (v s4 ∷ []) p4 .0)) $ pass1 ! (init ! 24 refl (tt, tt)) $
+        pass1 ! (init ! 22 refl (shr-slice-lawful 𝓤 H A W (named 6) κ6 u8 .typed s6 (v s6 ∷ []) p6 .0)) $
+        pass1 ! (init ! 20 refl (mut-slice-lawful 𝓤 H A W (named 7) κ7 u8 .typed s7 (v s7 ∷ []) p7 .0)) $
+        pass1 ! (init ! 18 refl (mut-slice-lawful 𝓤 H A W (named 8) κ8 u8 .typed s8 (v s8 ∷ []) p8 .0)) $
+        pass1 ! (init ! 16 refl (mut-slice-lawful 𝓤 H A W (named 9) κ9 u8 .typed s9 (v s9 ∷ []) p9 .0)) $ pass0 ! $ move ! (38 ∷ 39 ∷ 53 ∷ []) $
+        -- The borrow is opened and the record is copied out; the three slices that are written are lent on whole.
         opens ! tt T.the-row {h = h} b o (λ vs. spelt ! T.the-row (Is T.the-row) (shows 𝓤 H A T.the-row) (LL.vals T.the-type T′.the-laws) (LL.tells T.the-type T′.the-laws) fullShare h vs b o $
         use1 W (‵ (fat fullShare T′.mir b o (mach h))) (W .laws .raw-at fullShare T′.mir b o (mach h)) $ move ! (1 ∷ []) $
         peeks ! T.the-row (Is T.the-row) (shows 𝓤 H A T.the-row) h (mach h ∷ []) (λ was. move ! (1 ∷ 0 ∷ []) $
@@ -189,17 +198,20 @@ module _ {M : Type 1} (𝓤 : URA M) (H : Heap 𝓤) (A : Atoms 𝓤) (W : Given
         move ! (43 ∷ 0 ∷ []) $ fjoin ! $ move ! (43 ∷ 0 ∷ []) $ fjoin ! $ nothing ! $ move ! (44 ∷ 0 ∷ []) $ join ! $ move ! (44 ∷ 0 ∷ []) $ join ! $
         move ! (44 ∷ 0 ∷ []) $ join ! $ move ! (44 ∷ 0 ∷ []) $ join ! $ move ! (44 ∷ 0 ∷ []) $ join ! $ move ! (44 ∷ 0 ∷ []) $ join ! $
         move ! (44 ∷ 0 ∷ []) $ join ! $ move ! (44 ∷ 0 ∷ []) $ join ! $ move ! (44 ∷ 0 ∷ []) $ join ! $ join ! $
-        use1 W (raw (Callee 𝓤 H A at-mem run .pre to-step)) (goes-step need) $
-        calls-at ! fm (Callee 𝓤 H A at-mem run) known to-step (and-then ! (load ! (from ! (stop !)) (look ! 39 refl)) (and-then ! (load ! (from ! (stop !)) (look ! 37 refl)) (and-then ! (load ! (from ! (stop !)) (look ! 35 refl)) (and-then ! (load ! (from ! (stop !)) (look ! 33 refl)) (and-then ! (load ! (from ! (stop !)) (look ! 31 refl)) (and-then ! (load ! (from ! (stop !)) (look ! 17 refl)) (and-then ! (load ! (from ! (stop !)) (look ! 27 refl)) (and-then ! (load ! (from ! (stop !)) (look ! 13 refl)) (and-then ! (load ! (from ! (stop !)) (look ! 9 refl)) (and-then ! (load ! (from ! (stop !)) (look ! 5 refl)) (no-more !))))))))))) (λ u.
-        use1 W (later (some (λ (a : Stepped). ((‵ (flft κ0 q0) ⊛ ‵ (flft κ1 q1) ⊛ ‵ (flft κ2 q2) ⊛ ‵ (flft κ3 q3) ⊛ ‵ (flft κ4 q4) ⊛ ‵ (flft κ6 q6) ⊛ ‵ (flft κ7 q7) ⊛ ‵ (flft κ8 q8) ⊛ ‵ (flft κ9 q9) ⊛ ‵ ftrue) ⊛ ‵ (O.the-row .own a (u ∷ []))) ⊛ raw (ensured 𝓤 H A step.ended (step.clauses 𝓤 H A at-mem run) (κ0, (κ1, (κ2, (κ3, (κ4, (κ6, (κ7, (κ8, (κ9, tt))))))))) (s0, (s1, (s2, (s3, (s4, (h, (s6, (s7, (s8, (s9, tt)))))))))) tt a)))) (id⊢ 𝓤 _) $
+        -- The call.
+        use1 W (raw (Settle 𝓤 H A at-mem run .pre to-settle)) (goes-settle need) $
+        calls-at ! fm (Settle 𝓤 H A at-mem run) known to-settle (and-then ! (load ! (from ! (stop !)) (look ! 39 refl)) (and-then ! (load ! (from ! (stop !)) (look ! 37 refl)) (and-then ! (load ! (from ! (stop !)) (look ! 35 refl)) (and-then ! (load ! (from ! (stop !)) (look ! 33 refl)) (and-then ! (load ! (from ! (stop !)) (look ! 31 refl)) (and-then ! (load ! (from ! (stop !)) (look ! 17 refl)) (and-then ! (load ! (from ! (stop !)) (look ! 27 refl)) (and-then ! (load ! (from ! (stop !)) (look ! 13 refl)) (and-then ! (load ! (from ! (stop !)) (look ! 9 refl)) (and-then ! (load ! (from ! (stop !)) (look ! 5 refl)) (no-more !))))))))))) (λ u.
+        use1 W (later (some (λ (a : Stepped). (Tokens ⊛ ‵ (O.the-row .own a (u ∷ []))) ⊛ raw (ensured 𝓤 H A settle.ended (settle.clauses 𝓤 H A at-mem run) κs′ x′ tt a)))) (id⊢ 𝓤 _) $
         await ! tt $ pick ! (λ a. split ! $ move ! (1 ∷ []) $
-        use1 W (some (λ (ws : Ws). ‵ (lasts step.ended (κ0, (κ1, (κ2, (κ3, (κ4, (κ6, (κ7, (κ8, (κ9, tt))))))))) (s0, (s1, (s2, (s3, (s4, (h, (s6, (s7, (s8, (s9, tt)))))))))) ws) ⊛ raw (fact 𝓤 (Ensured (s0 .now) (s1 .now) (s2 .now) (s3 .now) (s4 .now) h (s6 .now) (s7 .now) (s8 .now) (s9 .now) a (ws .1 .1 .1 .1 .1 .1 .1 .0))))) (id⊢ 𝓤 _) $
+        use1 W (some (λ (ws : Ws). ‵ (lasts settle.ended κs′ x′ ws) ⊛ raw (fact 𝓤 (Told a (ws .1 .1 .1 .1 .1 .1 .1 .0))))) (id⊢ 𝓤 _) $
+        -- What it ensures, and the last bytes of the three slices.
         pick ! (λ ws. split ! $ move ! (1 ∷ []) $
-        heard ! (Ensured (s0 .now) (s1 .now) (s2 .now) (s3 .now) (s4 .now) h (s6 .now) (s7 .now) (s8 .now) (s9 .now) a (ws .1 .1 .1 .1 .1 .1 .1 .0)) (λ e.
+        heard ! (Told a (ws .1 .1 .1 .1 .1 .1 .1 .0)) (λ e.
         fsplit ! $ drop ! $ fsplit ! $ drop ! $ fsplit ! $ drop ! $ fsplit ! $ drop ! $ fsplit ! $ drop ! $ fsplit ! $ drop ! $ fsplit ! $ drop ! $
         fsplit ! $ fsplit ! $ move ! (1 ∷ []) $ feqL ! (λ e7. move ! (1 ∷ []) $ fsplit ! $ fsplit ! $ move ! (1 ∷ []) $ feqL ! (λ e8.
         move ! (1 ∷ []) $ fsplit ! $ fsplit ! $ move ! (1 ∷ []) $ feqL ! (λ e9. move ! (1 ∷ []) $ drop ! $ move ! (3 ∷ []) $ split ! $
         move ! (1 ∷ []) $ peeks ! O.the-row (Is O.the-row) (shows 𝓤 H A O.the-row) a (u ∷ []) (λ is.
+        -- The answer lands, its record is stored back, and the borrow is closed at it.
         land ! (from ! (stop !)) (init ! 23 refl (LL.lawful O.the-type O′.the-laws 𝓤 H A W .typed a _ is .0)) $
         rewrite ! 23 (λ (w : Val). ‵ (fat fullShare O′.mir l11 0 w)) (ap only (LL.tells O.the-type O′.the-laws a (u ∷ []) is)) refl $
         rewrite ! 0 (λ (w : Val). ‵ (O.the-row .own a (w ∷ []))) (ap only (LL.tells O.the-type O′.the-laws a (u ∷ []) is)) refl $
@@ -220,7 +232,7 @@ module _ {M : Type 1} (𝓤 : URA M) (H : Heap 𝓤) (A : Atoms 𝓤) (W : Given
         by ! (exits a (ws .1 .1 .1 .1 .1 .1 .1 .0) (ws .1 .1 .1 .1 .1 .1 .1 .1 .0) (ws .1 .1 .1 .1 .1 .1 .1 .1 .1 .0) e e7 e8 e9))))))))))))))))))))))))))))))
 
 module _ {M : Type 1} (𝓤 : URA M) (H : Heap 𝓤) (A : Atoms 𝓤) (W : Given 𝓤 H A) (at-mem : Memory → SProp 𝓤) (run : Routine → Fun 𝓤) where
-  advance-walks : (C : Calls 𝓤 H) (Λ : Loops 𝓤 H) → FmC 𝓤 H (W .laws) C → Triple 𝓤 (C #step) (Callee 𝓤 H A at-mem run) → Walks 𝓤 H A f.ended stayed (WpFn 𝓤 H C Λ code.function) (f.clauses 𝓤 H A at-mem run)
+  advance-walks : (C : Calls 𝓤 H) (Λ : Loops 𝓤 H) → FmC 𝓤 H (W .laws) C → Triple 𝓤 (C #settle) (Settle 𝓤 H A at-mem run) → Walks 𝓤 H A f.ended stayed (WpFn 𝓤 H C Λ code.function) (f.clauses 𝓤 H A at-mem run)
   advance-walks C Λ fm known = walked 𝓤 H A f.ended stayed (f.clauses 𝓤 H A at-mem run) (WpFn 𝓤 H C Λ code.function) (λ κs. (slice-vals, (slice-vals, (slice-vals, (slice-vals, (slice-vals, (ptr-vals, (slice-vals, (slice-vals, (slice-vals, (slice-vals, tt))))))))))) (λ κs. (shr-slice-tells (named 0) (κs .0) u8, (shr-slice-tells (named 1) (κs .1 .0) u8, (shr-slice-tells (named 2) (κs .1 .1 .0) u8, (shr-slice-tells (named 3) (κs .1 .1 .1 .0) u8, (shr-slice-tells (named 4) (κs .1 .1 .1 .1 .0) u8, (mut-tells (named 5) (κs .1 .1 .1 .1 .1 .0) T.the-row, (shr-slice-tells (named 6) (κs .1 .1 .1 .1 .1 .1 .0) u8, (mut-slice-tells (named 7) (κs .1 .1 .1 .1 .1 .1 .1 .0) u8, (mut-slice-tells (named 8) (κs .1 .1 .1 .1 .1 .1 .1 .1 .0) u8, (mut-slice-tells (named 9) (κs .1 .1 .1 .1 .1 .1 .1 .1 .1 .0) u8, tt)))))))))))
       (λ κs qs bounds a _ are. needs 𝓤 ((length (a .0 .now) / 13 ≤ 65536) × (length (a .1 .1 .1 .1 .0 .now) / 7 ≤ 65536) × (a .1 .1 .1 .1 .1 .0 .now .held ≤ 16)) _
       (walk 𝓤 H A W at-mem run (κs .0) (κs .1 .0) (κs .1 .1 .0) (κs .1 .1 .1 .0) (κs .1 .1 .1 .1 .0) (κs .1 .1 .1 .1 .1 .0) (κs .1 .1 .1 .1 .1 .1 .0) (κs .1 .1 .1 .1 .1 .1 .1 .0) (κs .1 .1 .1 .1 .1 .1 .1 .1 .0) (κs .1 .1 .1 .1 .1 .1 .1 .1 .1 .0) (qs .0) (qs .1 .0) (qs .1 .1 .0) (qs .1 .1 .1 .0) (qs .1 .1 .1 .1 .0) (qs .1 .1 .1 .1 .1 .0) (qs .1 .1 .1 .1 .1 .1 .0) (qs .1 .1 .1 .1 .1 .1 .1 .0) (qs .1 .1 .1 .1 .1 .1 .1 .1 .0) (qs .1 .1 .1 .1 .1 .1 .1 .1 .1 .0) (a .0) (a .1 .0) (a .1 .1 .0) (a .1 .1 .1 .0) (a .1 .1 .1 .1 .0) (a .1 .1 .1 .1 .1 .1 .0) (a .1 .1 .1 .1 .1 .1 .1 .0) (a .1 .1 .1 .1 .1 .1 .1 .1 .0) (a .1 .1 .1 .1 .1 .1 .1 .1 .1 .0) (a .1 .1 .1 .1 .1 .0 .ptr .0) (a .1 .1 .1 .1 .1 .0 .ptr .1) (a .1 .1 .1 .1 .1 .0 .name) (a .1 .1 .1 .1 .1 .0 .now) C Λ fm known (are .0) (are .1 .0) (are .1 .1 .0) (are .1 .1 .1 .0) (are .1 .1 .1 .1 .0) (are .1 .1 .1 .1 .1 .1 .0) (are .1 .1 .1 .1 .1 .1 .1 .0) (are .1 .1 .1 .1 .1 .1 .1 .1 .0) (are .1 .1 .1 .1 .1 .1 .1 .1 .1 .0)))
@@ -228,7 +240,7 @@ module _ {M : Type 1} (𝓤 : URA M) (H : Heap 𝓤) (A : Atoms 𝓤) (W : Given
   goes : AllGo 𝓤 H A W 10 (f.signature .params) (f.ended .kept) stayed
   goes = (goes-dropped 𝓤 H A W 10 (shrSliceOf (0 ∷ []) tt (plain (λ _. u8))) yes (λ κs x f. refl), (goes-dropped 𝓤 H A W 10 (shrSliceOf (1 ∷ []) tt (plain (λ _. u8))) yes (λ κs x f. refl), (goes-dropped 𝓤 H A W 10 (shrSliceOf (2 ∷ []) tt (plain (λ _. u8))) yes (λ κs x f. refl), (goes-dropped 𝓤 H A W 10 (shrSliceOf (3 ∷ []) tt (plain (λ _. u8))) yes (λ κs x f. refl), (goes-dropped 𝓤 H A W 10 (shrSliceOf (4 ∷ []) tt (plain (λ _. u8))) yes (λ κs x f. refl), (goes-ref 𝓤 H A W 10 5 tt (plain (λ _. T.the-row)), (goes-dropped 𝓤 H A W 10 (shrSliceOf (6 ∷ []) tt (plain (λ _. u8))) yes (λ κs x f. refl), (goes-gave-slice 𝓤 H A W 10 7 tt (plain (λ _. u8)), (goes-gave-slice 𝓤 H A W 10 8 tt (plain (λ _. u8)), (goes-gave-slice 𝓤 H A W 10 9 tt (plain (λ _. u8)), tt))))))))))
 
-advance-meets : {M : Type 1} (𝓤 : URA M) (H : Heap 𝓤) (A : Atoms 𝓤) → Given 𝓤 H A → (at-mem : Memory → SProp 𝓤) (run : Routine → Fun 𝓤) (𝓣 : Tables 𝓤 H) → Triple 𝓤 (𝓣 .C #step) (Callee 𝓤 H A at-mem run)
+advance-meets : {M : Type 1} (𝓤 : URA M) (H : Heap 𝓤) (A : Atoms 𝓤) → Given 𝓤 H A → (at-mem : Memory → SProp 𝓤) (run : Routine → Fun 𝓤) (𝓣 : Tables 𝓤 H) → Triple 𝓤 (𝓣 .C #settle) (Settle 𝓤 H A at-mem run)
     → Meets 𝓤 H A f.signature (WpFn 𝓤 H (𝓣 .C) (𝓣 .Λ) code.function) (f.spec 𝓤 H A at-mem run)
 advance-meets 𝓤 H A W at-mem run 𝓣 known = walk-meets 𝓤 H A f.ended stayed W (goes 𝓤 H A W at-mem run) (f.clauses 𝓤 H A at-mem run) (WpFn 𝓤 H (𝓣 .C) (𝓣 .Λ) code.function) (WpFn-mono 𝓤 H (W .laws) 𝓣 code.function) (advance-walks 𝓤 H A W at-mem run (𝓣 .C) (𝓣 .Λ) (fmOf 𝓤 H (W .laws) 𝓣) known)
 
@@ -238,4 +250,4 @@ advance-spec 𝓤 H 𝓜 𝓖 𝓡 =
     entered 𝓤 H (tripleOf 𝓤 H (𝓖 .A) f.signature (f.spec 𝓤 H (𝓖 .A) (𝓜 .mem) (𝓡 .run)))
     (tables 𝓤 H 𝓜 𝓡 code.env .C) (tables 𝓤 H 𝓜 𝓡 code.env .Λ) #advance code.function (code.unfolded 𝓤 H 𝓜 𝓡)
     (advance-meets 𝓤 H (𝓖 .A) (givenOf 𝓤 H 𝓜 𝓖) (𝓜 .mem) (𝓡 .run) (tablesOf 𝓤 H 𝓜 (tables 𝓤 H 𝓜 𝓡 code.env))
-    (cited 𝓤 H (Callee 𝓤 H (𝓖 .A) (𝓜 .mem) (𝓡 .run)) 𝓜 𝓡 code.env #step step-def.routine code.calls-advance·settle (step-thm.met 𝓤 H 𝓜 𝓖 𝓡)))
+    (cited 𝓤 H (Settle 𝓤 H (𝓖 .A) (𝓜 .mem) (𝓡 .run)) 𝓜 𝓡 code.env #settle settle-def.routine code.calls-advance·settle (settle-thm.met 𝓤 H 𝓜 𝓖 𝓡)))
