@@ -1,7 +1,7 @@
 -- Invariant: k labels are copied.
 use borrow.Author.Needs.{needs}
 use Prim.Native.Nat.{_-_, _≤_}
-use mathlib.Core.Path.{_≡_, refl}
+use mathlib.Core.Path.{_≡_}
 use native.Mathlib.Omega.{arith}
 use Rattle.described.proofs.LabelLaws.{none-copied, one-copied}
 use Rattle.described.specs.Labels.{Copied}
