@@ -71,6 +71,7 @@ Arg = RefT (List ℕ) × (RefT (List ℕ) × (RefT (List ℕ) × (RefT (List ℕ
 abbrev Ws : Type 0
 Ws = Unit {0} × (Unit {0} × (Unit {0} × (Unit {0} × (Unit {0} × (Unit {0} × (Unit {0} × (List ℕ × (List ℕ × (List ℕ × Unit {0})))))))))
 
+-- At exit the record's borrow is still had; the slices were given to the call, which tells the last bytes of those it writes.
 abbrev stayed : Stays (f.ended .signature .params) (f.ended .kept)
 stayed = (stay-dropped (shrSliceOf (0 ∷ []) tt (plain (λ _. u8))) yes, (stay-dropped (shrSliceOf (1 ∷ []) tt (plain (λ _. u8))) yes, (stay-dropped (shrSliceOf (2 ∷ []) tt (plain (λ _. u8))) yes, (stay-dropped (shrSliceOf (3 ∷ []) tt (plain (λ _. u8))) yes, (stay-dropped (shrSliceOf (4 ∷ []) tt (plain (λ _. u8))) yes, (stay-ref (5 ∷ []) tt (plain (λ _. T.the-row)), (stay-dropped (shrSliceOf (6 ∷ []) tt (plain (λ _. u8))) yes, (gave-slice (7 ∷ []) tt (plain (λ _. u8)), (gave-slice (8 ∷ []) tt (plain (λ _. u8)), (gave-slice (9 ∷ []) tt (plain (λ _. u8)), tt))))))))))
 
@@ -126,6 +127,7 @@ module _ {M : Type 1} (𝓤 : URA M) (H : Heap 𝓤) (A : Atoms 𝓤) (W : Given
   abbrev Tokens : Item 𝓤
   Tokens = ‵ (flft κ0 q0) ⊛ ‵ (flft κ1 q1) ⊛ ‵ (flft κ2 q2) ⊛ ‵ (flft κ3 q3) ⊛ ‵ (flft κ4 q4) ⊛ ‵ (flft κ6 q6) ⊛ ‵ (flft κ7 q7) ⊛ ‵ (flft κ8 q8) ⊛ ‵ (flft κ9 q9) ⊛ ‵ ftrue
 
+  -- What the call ensures, at the parameters.
   abbrev Told : Stepped → List ℕ → Type 0
   Told = Ensured (s0 .now) (s1 .now) (s2 .now) (s3 .now) (s4 .now) h (s6 .now) (s7 .now) (s8 .now) (s9 .now)
 
@@ -137,10 +139,11 @@ module _ {M : Type 1} (𝓤 : URA M) (H : Heap 𝓤) (A : Atoms 𝓤) (W : Given
   held : (a : Stepped) (vs : List Val) → Is O.the-row a vs → Is T.the-row (a .record) (mach (a .record) ∷ [])
   held a vs is = LL.owed O.the-type O′.the-laws a vs is .1 .0
 
+  -- How the walk ends.
   exits : (a : Stepped) (B P M′ : List ℕ) → Told a B → length B ≡ length (s7 .now) → length P ≡ length (s8 .now) → length M′ ≡ length (s9 .now)
-      → ent 𝓤 (⋆ 𝓤 H A (‵ (fobs γ (T.the-row .coded .code (a .record))) ∷ ‵ (fbor κ5 (Body (mem T.the-row) b o γ)) ∷ ‵ (flft κ5 q5) ∷ Tokens ∷ ‵ (finally u8 (s7 .name) B) ∷ ‵ (finally u8 (s8 .name) P) ∷ ‵ (finally u8 (s9 .name) M′) ∷ ‵ (O.the-row .own a (out a ∷ [])) ∷ [])) (Post (out a))
+      → ent 𝓤 (⋆ 𝓤 H A (Left a B P M′)) (Post (out a))
   exits a B P M′ e e7 e8 e9 =
-      qed W (‵ (fobs γ (T.the-row .coded .code (a .record))) ∷ ‵ (fbor κ5 (Body (mem T.the-row) b o γ)) ∷ ‵ (flft κ5 q5) ∷ Tokens ∷ ‵ (finally u8 (s7 .name) B) ∷ ‵ (finally u8 (s8 .name) P) ∷ ‵ (finally u8 (s9 .name) M′) ∷ ‵ (O.the-row .own a (out a ∷ [])) ∷ []) ∵
+      qed W (Left a B P M′) ∵
       suffices ! _ (ends-at 𝓤 H A f.ended stayed (f.clauses 𝓤 H A at-mem run) W ((κs, qs, tt, x, at), tt) (out a) a (tt, (tt, (tt, (tt, (tt, (a .record, (tt, (B, (P, (M′, tt)))))))))) (tt, (tt, (tt, (tt, (tt, (tt, (tt, (e7, (e8, (e9, tt))))))))))) $
       says ! (e .0, e .1, refl) $ move ! (3 ∷ []) $ split ! $ move ! (1 ∷ []) $ split ! $ move ! (1 ∷ []) $ split ! $ move ! (1 ∷ []) $ split ! $
       move ! (1 ∷ []) $ split ! $ move ! (1 ∷ []) $ split ! $ move ! (1 ∷ []) $ split ! $ move ! (1 ∷ []) $ split ! $ move ! (1 ∷ []) $ split ! $
