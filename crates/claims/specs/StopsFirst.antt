@@ -5,9 +5,10 @@ use mathlib.Core.Option.{Option, none, some}
 use mathlib.Core.Path.{_≡_, refl, sym, _∙_}
 use native.Mathlib.Omega.{arith}
 use Prim.Native.Nat.{ℕ, _≤_}
+use borrow.Author.Tests.{eqb-true}
 use lib.Dec.{eqb}
 use lib.ListN.{length}
-use Rattle.language.specs.Acting.{Ran, runActions}
+use Rattle.language.specs.Acting.{Ran, runActions, went}
 use Rattle.language.specs.Calls.{CycleAnswer, afterStep, cycle, cycleRefusal, cycled, soundBytes, stimulusSize, stoppedFor, wellFormed}
 use Rattle.language.specs.Decode.{decode}
 use Rattle.language.specs.Description.{Description, stateAt}
@@ -15,13 +16,17 @@ use Rattle.language.specs.RecordBytes.{marked, recordFrom}
 use Rattle.language.specs.Rules.{mostWork}
 use Rattle.language.specs.Step.{Outcome, Record, completed, nothingDone, step}
 use Rattle.language.specs.Store.{Held, Words, begin, fromBytes, inputsOf, numbers}
-use Rattle.theorems.specs.Cycle.{Sound, Well}
+use Rattle.language.specs.Stops.{noArm, outsideBounds}
+use Rattle.theorems.specs.Acts.{Good}
+use Rattle.theorems.specs.Cycle.{Sound, Well, run-good}
+use Rattle.theorems.specs.Executes as E
 use Rattle.theorems.specs.FewConflicts.{few-conflicts}
-use Rattle.theorems.specs.Fitting.{Fit}
+use Rattle.theorems.specs.Fitting.{Fit, Inv, numbers-keep}
 use Rattle.theorems.specs.LegalForm.{Legal, right-of}
 use Rattle.theorems.specs.NeverStuck.{legal-image, never-stuck}
 use Rattle.theorems.specs.Soundness.{bytes-fit, sound-so}
-use Rattle.theorems.specs.StopOrder.{Condition, conditions, firstOf, stopOf, stops-in-order}
+use Rattle.theorems.specs.StopOrder.{Condition, conditions, firstOf, met, stopOf, stops-in-order}
+use Rattle.claims.specs.OutsideMet.{Outside, Stopped, halts, outside-met}
 use Rattle.stays.specs.StaysSound.{Unrefused, unrefused}
 
 -- One of the eight reasons of 01.
@@ -29,49 +34,73 @@ pub record Listed (n : ℕ) : Type 0 where
   pub least : 1 ≤ n
   pub most : n ≤ 8
 
-abbrev AllListed : List Condition → Type 0
-AllListed [] = Unit {0}
-AllListed (c ∷ cs) = Listed (c .stop) × AllListed cs
+-- What holds of the stop of every condition that holds itself.
+abbrev AllThat : (ℕ → Type 0) → List Condition → Type 0
+AllThat P [] = Unit {0}
+AllThat P (c ∷ cs) = (c .holds ≡ true → P (c .stop)) × AllThat P cs
 
-first-listed : (cs : List Condition) (n : ℕ) → AllListed cs → firstOf cs ≡ some n → Listed n
+first-has : (P : ℕ → Type 0) (cs : List Condition) (n : ℕ) → AllThat P cs → firstOf cs ≡ some n → P n
 unfolding firstOf
-first-listed [] n h e = absurd (let z : _≡_ {A = ℕ} 0 1 = cc in omega arith)
-first-listed (c ∷ cs) n h e = go (first-listed cs n (h .1)) (c .holds) e
+first-has P [] n h e = absurd (let z : _≡_ {A = ℕ} 0 1 = cc in omega arith)
+first-has P (c ∷ cs) n h e = go (first-has P cs n (h .1)) (c .holds) refl e
   where
-    go : (firstOf cs ≡ some n → Listed n) → (b : Bool) → cond b (some (c .stop)) (firstOf cs) ≡ some n → Listed n
-    go on true q = let z : c .stop ≡ n = cc in rw (← z) (h .0)
-    go on false q = on q
+    go : (firstOf cs ≡ some n → P n) → (b : Bool) → c .holds ≡ b → cond b (some (c .stop)) (firstOf cs) ≡ some n → P n
+    go on true k q = let z : c .stop ≡ n = cc in rw (← z) (h .0 k)
+    go on false k q = on q
 
-conditions-listed : (d : Description) (r : Record) (run : Ran Held) → AllListed (conditions d r run)
-unfolding conditions
-conditions-listed d r run =
-    let listed : (n : ℕ) → 1 ≤ n → n ≤ 8 → Listed n = λ n a b. record { least = a; most = b } in (
-      listed 7 (omega arith) (omega arith),
+module _ (d : Description) (r : Record) (run : Ran Held) where
+  -- Six of the eight by their numbers, S1 and S8 by what was met.
+  by-number : (P : ℕ → Type 0) → (met d r outsideBounds run ≡ true → P 1) → (met d r noArm run ≡ true → P 8) → ((n : ℕ) → 2 ≤ n → n ≤ 7 → P n) → AllThat P (conditions d r run)
+  unfolding conditions
+  by-number P one eight other = (
+    (λ h. other 7 (omega arith) (omega arith)),
+    (
+      one,
       (
-        listed 1 (omega arith) (omega arith),
+        eight,
         (
-          listed 8 (omega arith) (omega arith),
+          (λ h. other 2 (omega arith) (omega arith)),
           (
-            listed 2 (omega arith) (omega arith),
+            (λ h. other 4 (omega arith) (omega arith)),
             (
-              listed 4 (omega arith) (omega arith),
+              (λ h. other 3 (omega arith) (omega arith)),
               (
-                listed 3 (omega arith) (omega arith),
-                (
-                  listed 6 (omega arith) (omega arith),
-                  (listed 5 (omega arith) (omega arith), tt),
-                ),
+                (λ h. other 6 (omega arith) (omega arith)),
+                ((λ h. other 5 (omega arith) (omega arith)), tt),
               ),
             ),
           ),
         ),
       ),
-    )
+    ),
+  )
+
+  conditions-listed : AllThat Listed (conditions d r run)
+  conditions-listed = by-number Listed (λ h. record { least = omega arith; most = omega arith }) (λ h. record { least = omega arith; most = omega arith }) (λ n a b. record { least = omega arith; most = omega arith })
+
+  -- A subscript outside its bounds.
+  abbrev Subscript : ℕ → Type 0
+  Subscript n = n ≡ 1 → (x : Held) × Outside (numbers d) d x
+
+  met-outside : (x : Ran Held) → Stopped (numbers d) d x → met d r outsideBounds x ≡ true → (y : Held) × Outside (numbers d) d y
+  met-outside (went c) h e = absurd (let z : _≡_ {A = ℕ} 0 1 = cc in omega arith)
+  met-outside (Ran.stopped m) (halts h) e = h (eqb-true m 1 e)
+  met-outside (Ran.stuck m) h e = absurd (let z : _≡_ {A = ℕ} 0 1 = cc in omega arith)
+
+  one-met : Stopped (numbers d) d run → AllThat Subscript (conditions d r run)
+  one-met h = by-number Subscript (λ e z. met-outside run h e) (λ e z. absurd (omega (arith, z))) (λ n a b z. absurd (omega (arith, z)))
+
+  met-no-arm : (L : Legal d) (x : Ran Held) → Good (numbers d) d (Inv d) (numbers-keep d) L x → met d r noArm x ≡ true → ⊥
+  met-no-arm L (went c) h e = absurd (let z : _≡_ {A = ℕ} 0 1 = cc in omega arith)
+  met-no-arm L (Ran.stopped m) E.stops-so e = absurd (let z : _≡_ {A = ℕ} 0 1 = cc in omega arith)
+
+  no-eight : (L : Legal d) → Good (numbers d) d (Inv d) (numbers-keep d) L run → AllThat (λ n. n ≡ 8 → ⊥) (conditions d r run)
+  no-eight L h = by-number (λ n. n ≡ 8 → ⊥) (λ e z. omega (arith, z)) (λ e z. met-no-arm L run h e) (λ n a b z. omega (arith, z))
 
 -- What a cycle answers, by the first condition that holds.
 pub data Ends : Option ℕ → CycleAnswer → Type 0 where
   goes-on : {n : ℕ} → n ≤ mostWork → Ends none (cycled n)
-  halts : {n : ℕ} → Listed n → Ends (some n) (stoppedFor n)
+  halts-for : {n : ℕ} → Listed n → Ends (some n) (stoppedFor n)
 
 -- The first of 01's conditions that holds in a cycle from these bytes.
 unfoldable pub firstStop : List ℕ → List ℕ → List ℕ → List ℕ → Option ℕ
@@ -119,4 +148,17 @@ module _ (image store record′ stimulus : List ℕ) (scratch : ℕ) (none-refus
     where
       go : (o : Outcome) → step d words kept inputs ≡ o → Well d o → Ends (stopOf o) (afterStep d store record′ scratch o .answer)
       go (completed s r n) q h = goes-on (few-conflicts d legal-there words kept inputs q)
-      go (Outcome.stopped n) q h = halts (first-listed _ n (conditions-listed d kept _) (sym first-so ∙ rw q refl))
+      go (Outcome.stopped n) q h = halts-for (first-has Listed _ n (conditions-listed d kept _) (sym first-so ∙ rw q refl))
+
+  abbrev run-here : Ran Held
+  run-here = runActions (numbers d) d (stateAt d (kept .state) .actions) (nothingDone d (begin (d .facilities) words inputs))
+
+  -- S1 is for a subscript whose value lies outside its bounds.
+  pub one-outside : firstStop image store record′ stimulus ≡ some 1 → (x : Held) × Outside (numbers (decode image)) (decode image) x
+  unfolding firstStop
+  one-outside e = first-has (Subscript d kept run-here) _ 1 (one-met d kept run-here (outside-met (numbers d) d (stateAt d (kept .state) .actions) (nothingDone d (begin (d .facilities) words inputs)))) e refl
+
+  -- No passing image meets S8: a CASE has an arm for every value.
+  pub eight-never : firstStop image store record′ stimulus ≡ some 8 → ⊥
+  unfolding firstStop
+  eight-never e = first-has (λ n. n ≡ 8 → ⊥) _ 8 (no-eight d kept run-here legal-there (run-good d legal-there words kept inputs sound-words inputs-fit)) e refl
