@@ -7,5 +7,6 @@ pub mod EachCycle
 pub mod Lengths
 -- ---- What a completed cycle did: its delayed stores, when they land, and what no store names.
 pub mod LandsLast
+pub mod Beyond
 -- ---- From a text to its cycles.
 pub mod EndToEnd
