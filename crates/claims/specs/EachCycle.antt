@@ -4,7 +4,7 @@ use mathlib.Core.Option.{Option, none, some}
 use mathlib.Core.Path.{_≡_, refl}
 use native.Mathlib.Omega.{arith}
 use Prim.Native.Nat.{ℕ, _*_, _≤_}
-use Rattle.language.specs.Calls.{afterStep, cycle, cycleRefusal, cycleWith, open′, openRefusal, stoppedFor, wellFormed}
+use Rattle.language.specs.Calls.{CycleAnswer, afterStep, cycle, cycleRefusal, cycleWith, cycled, open′, openRefusal, stoppedFor, wellFormed}
 use Rattle.language.specs.Decode.{decode}
 use Rattle.language.specs.Description.{Description}
 use Rattle.language.specs.Layout.{storeSize}
@@ -16,26 +16,29 @@ use Rattle.stays.specs.StaysSound.{stays-sound}
 use Rattle.claims.specs.StopsFirst.{Ends, firstStop, stops-first}
 use mathlib.Core.Bool.{true}
 
--- ---- A stop leaves store and record as found.
+-- ---- A cycle that does not complete leaves store and record as found.
 
-module _ (image store record′ stimulus : List ℕ) (scratch n : ℕ) where
+module _ (image store record′ stimulus : List ℕ) (scratch : ℕ) where
   abbrev d : Description
   d = decode image
 
-  pub as-found : cycle image store record′ stimulus scratch .answer ≡ stoppedFor n
+  pub as-found : ((n : ℕ) → cycle image store record′ stimulus scratch .answer ≡ cycled n → ⊥)
       → (cycle image store record′ stimulus scratch .store ≡ store) × (cycle image store record′ stimulus scratch .record′ ≡ record′)
   unfolding cycle
   as-found e = refused (cycleRefusal image store record′ stimulus scratch) e
     where
-      after : (o : Outcome) → afterStep d store record′ scratch o .answer ≡ stoppedFor n → (afterStep d store record′ scratch o .store ≡ store) × (afterStep d store record′ scratch o .record′ ≡ record′)
-      after (completed s r m) q = absurd (let z : _≡_ {A = ℕ} 0 1 = cc in omega arith)
+      after : (o : Outcome) → ((n : ℕ) → afterStep d store record′ scratch o .answer ≡ cycled n → ⊥) → (afterStep d store record′ scratch o .store ≡ store) × (afterStep d store record′ scratch o .record′ ≡ record′)
+      after (completed s r m) q = absurd (q m refl)
       after (Outcome.stopped m) q = (refl, refl)
       after (Outcome.stuck m) q = (refl, refl)
 
-      refused : (x : Option ℕ) → cycleWith d store record′ scratch stimulus x .answer ≡ stoppedFor n
+      refused : (x : Option ℕ) → ((n : ℕ) → cycleWith d store record′ scratch stimulus x .answer ≡ cycled n → ⊥)
           → (cycleWith d store record′ scratch stimulus x .store ≡ store) × (cycleWith d store record′ scratch stimulus x .record′ ≡ record′)
       refused none q = after (step d (fromBytes (d .facilities) store) (recordFrom record′) (fromBytes (inputsOf (d .facilities)) stimulus)) q
       refused (some m) q = (refl, refl)
+
+not-cycled : {a : CycleAnswer} {n m : ℕ} → a ≡ stoppedFor n → a ≡ cycled m → ⊥
+not-cycled e z = let y : _≡_ {A = ℕ} 0 1 = cc in omega arith
 
 -- ---- Cycle after cycle.
 
@@ -51,7 +54,7 @@ module _ (image store record′ stimulus : List ℕ) (scratch : ℕ) (ready : Re
     where
       go : Answered image store record′ stimulus scratch → Ready image (cycle image store record′ stimulus scratch .store) (cycle image store record′ stimulus scratch .record′) scratch
       go (completed-so n e l) = record { unrefused-with = λ later w. stays-sound image store record′ stimulus scratch (ready .unrefused-with stimulus form) n later e w }
-      go (stopped-so n e) = let same = as-found image store record′ stimulus scratch n e in rw (same .0, same .1) ready
+      go (stopped-so n e) = let same = as-found image store record′ stimulus scratch (λ m z. not-cycled e z) in rw (same .0, same .1) ready
 
 pub each-cycle : (image store record′ : List ℕ) (scratch : ℕ) (is : List (List ℕ)) → Ready image store record′ scratch → AllFormed (decode image) is → Follows image scratch store record′ is
 each-cycle image store record′ scratch [] h k = over
