@@ -10,7 +10,7 @@ use borrow.Author.Tests.{le-leb}
 use lib.Dec.{leb}
 use lib.ListN.{List·getD-append, drop, length, length-append, length-drop, take}
 use lib.Seq.{drop-append-le, take-append-le}
-use Rattle.language.specs.Calls.{CycleAnswer, CycleCall, afterStep, cycle, cycleRefusal, cycleWith, over, roomy, soundBytes}
+use Rattle.language.specs.Calls.{CycleAnswer, CycleCall, RunCall, Running, afterCycle, afterStep, cycle, cycleRefusal, cycleWith, cycled, cycles, over, refusedFor, roomy, run, runRefusal, soundBytes, stimulusSize, stoppedFor}
 use Rattle.language.specs.Decode.{decode, numberAt}
 use Rattle.language.specs.Description.{Description, Facility, isComputed, wordCount, wordLength}
 use Rattle.language.specs.Layout.{facilityBytes, storeSize, storeSizeOf, wordBytes, wordFromBytes}
@@ -53,7 +53,7 @@ store-front (f ∷ fs) s x h =
 
 -- ---- So is the record.
 
-number-front : (n at : ℕ) (r u : List ℕ) → at + n ≤ length r → numberAt n at (r ++ u) ≡ numberAt n at r
+pub number-front : (n at : ℕ) (r u : List ℕ) → at + n ≤ length r → numberAt n at (r ++ u) ≡ numberAt n at r
 unfolding numberAt
 number-front zero at r u h = refl
 number-front (suc n) at r u h =
@@ -84,12 +84,16 @@ module _ (r u : List ℕ) (long : length r ≡ recordSize) where
 over-front : (bs s x : List ℕ) → length bs ≤ length s → over bs (s ++ x) ≡ over bs s ++ x
 over-front bs s x h = ap (λ (y : List ℕ). bs ++ y) (drop-append-le (length bs) s x h) ∙ sym (append-assoc bs (drop (length bs) s) x)
 
+-- The same call with x behind its store and u behind its record.
+abbrev pub behind : List ℕ → List ℕ → CycleCall → CycleCall
+behind x u c = record { answer = c .answer; store = c .store ++ x; record′ = c .record′ ++ u; scratch = c .scratch }
+
+abbrev pub runBehind : List ℕ → List ℕ → RunCall → RunCall
+runBehind x u c = record { answer = c .answer; store = c .store ++ x; record′ = c .record′ ++ u; scratch = c .scratch; trace = c .trace }
+
 module _ (image store record′ stimulus : List ℕ) (scratch : ℕ) (store-long : length store ≡ storeSize (decode image)) (record-long : length record′ ≡ recordSize) (x u : List ℕ) where
   abbrev d : Description
   d = decode image
-
-  abbrev beyond : CycleCall → CycleCall
-  beyond c = record { answer = c .answer; store = c .store ++ x; record′ = c .record′ ++ u; scratch = c .scratch }
 
   words-same : fromBytes (d .facilities) (store ++ x) ≡ fromBytes (d .facilities) store
   unfolding storeSize
@@ -114,22 +118,102 @@ module _ (image store record′ stimulus : List ℕ) (scratch : ℕ) (store-long
   abbrev outcome : Outcome
   outcome = step d (fromBytes (d .facilities) store) (recordFrom record′) (fromBytes (inputsOf (d .facilities)) stimulus)
 
-  pub beyond-kept : cycle image (store ++ x) (record′ ++ u) stimulus scratch
-      ≡ record { answer = cycle image store record′ stimulus scratch .answer; store = cycle image store record′ stimulus scratch .store ++ x; record′ = cycle image store record′ stimulus scratch .record′ ++ u; scratch = cycle image store record′ stimulus scratch .scratch }
+  pub beyond-kept : cycle image (store ++ x) (record′ ++ u) stimulus scratch ≡ behind x u (cycle image store record′ stimulus scratch)
   unfolding cycle storeSize
   beyond-kept = rw refusal-same (by-refusal (cycleRefusal image store record′ stimulus scratch) refl)
     where
       completed-same : (s : Words) (r : Record) (n : ℕ) → length (toBytes (d .facilities) s) ≤ length store → length (recordBytes r) ≤ length record′
-          → afterStep d (store ++ x) (record′ ++ u) scratch (completed s r n) ≡ beyond (afterStep d store record′ scratch (completed s r n))
+          → afterStep d (store ++ x) (record′ ++ u) scratch (completed s r n) ≡ behind x u (afterStep d store record′ scratch (completed s r n))
       completed-same s r n h k = rw (over-front (toBytes (d .facilities) s) store x h, over-front (recordBytes r) record′ u k) refl
 
-      after : (o : Outcome) → Well d o → afterStep d (store ++ x) (record′ ++ u) scratch o ≡ beyond (afterStep d store record′ scratch o)
+      after : (o : Outcome) → Well d o → afterStep d (store ++ x) (record′ ++ u) scratch o ≡ behind x u (afterStep d store record′ scratch o)
       after (completed s r n) (completes h) =
           let a = store-length (d .facilities) s (h .words) in
           let b = record-length r (h .returns-in .places) in
           completed-same s r n (omega (arith, a, store-long)) (omega (arith, b, record-long))
       after (Outcome.stopped n) h = refl
 
-      by-refusal : (y : Option ℕ) → cycleRefusal image store record′ stimulus scratch ≡ y → cycleWith d (store ++ x) (record′ ++ u) scratch stimulus y ≡ beyond (cycleWith d store record′ scratch stimulus y)
+      by-refusal : (y : Option ℕ) → cycleRefusal image store record′ stimulus scratch ≡ y → cycleWith d (store ++ x) (record′ ++ u) scratch stimulus y ≡ behind x u (cycleWith d store record′ scratch stimulus y)
       by-refusal (some n) e = refl
       by-refusal none e = rw (words-same, record-front record′ u record-long) (after outcome (never-stuck image store record′ stimulus scratch e))
+
+-- ---- A run.
+
+-- A cycle keeps the lengths of store and record.
+module _ (image store record′ stimulus : List ℕ) (scratch : ℕ) (store-long : length store ≡ storeSize (decode image)) (record-long : length record′ ≡ recordSize) where
+  over-long : (bs s : List ℕ) → length bs ≡ length s → length (over bs s) ≡ length s
+  over-long bs s h = let a = length-append bs (drop (length bs) s) in let b = length-drop (length bs) s in omega (arith, a, b, h)
+
+  cycle-long : (length (cycle image store record′ stimulus scratch .store) ≡ length store) × (length (cycle image store record′ stimulus scratch .record′) ≡ length record′)
+  unfolding cycle storeSize
+  cycle-long = by-refusal (cycleRefusal image store record′ stimulus scratch) refl
+    where
+      e : Description
+      e = decode image
+
+      after : (o : Outcome) → Well e o → (length (afterStep e store record′ scratch o .store) ≡ length store) × (length (afterStep e store record′ scratch o .record′) ≡ length record′)
+      after (completed s r n) (completes h) =
+          let a = store-length (e .facilities) s (h .words) in
+          let b = record-length r (h .returns-in .places) in
+          (over-long (toBytes (e .facilities) s) store (omega (arith, a, store-long)), over-long (recordBytes r) record′ (omega (arith, b, record-long)))
+      after (Outcome.stopped n) h = (refl, refl)
+
+      by-refusal : (y : Option ℕ) → cycleRefusal image store record′ stimulus scratch ≡ y
+          → (length (cycleWith e store record′ scratch stimulus y .store) ≡ length store) × (length (cycleWith e store record′ scratch stimulus y .record′) ≡ length record′)
+      by-refusal (some n) q = (refl, refl)
+      by-refusal none q = after (step e (fromBytes (e .facilities) store) (recordFrom record′) (fromBytes (inputsOf (e .facilities)) stimulus)) (never-stuck image store record′ stimulus scratch q)
+
+module _ (image : List ℕ) (scratch : ℕ) (x u : List ℕ) where
+  abbrev size : ℕ
+  size = storeSize (decode image)
+
+  abbrev further : Running → Running
+  further r = record { completed′ = r .completed′; conflicts = r .conflicts; store = r .store ++ x; record′ = r .record′ ++ u; trace = r .trace }
+
+  abbrev nextOf : CycleCall → ℕ → Running → Running
+  nextOf c n r = record { completed′ = suc (r .completed′); conflicts = r .conflicts + n; store = c .store; record′ = c .record′; trace = r .trace ++ take size (c .store) }
+
+  after-beyond : (each : ℕ) (c : CycleCall) (r : Running) (on : Running → Running × ℕ) → length (c .store) ≡ size → ((n : ℕ) → on (further (nextOf c n r)) ≡ (further (on (nextOf c n r) .0), on (nextOf c n r) .1))
+      → afterCycle image scratch size each (behind x u c) (further r) on ≡ (further (afterCycle image scratch size each c r on .0), afterCycle image scratch size each c r on .1)
+  after-beyond each c r on long h = go (c .answer) refl
+    where
+      front : take size (c .store ++ x) ≡ take size (c .store)
+      front = take-append-le size (c .store) x (omega (arith, long))
+
+      go : (a : CycleAnswer) → c .answer ≡ a → afterCycle image scratch size each (behind x u c) (further r) on ≡ (further (afterCycle image scratch size each c r on .0), afterCycle image scratch size each c r on .1)
+      go (cycled n) e = rw (e, front) (h n)
+      go (stoppedFor n) e = rw e refl
+      go (refusedFor n) e = rw e refl
+
+  cycles-beyond : (each k : ℕ) (stimuli : List ℕ) (r : Running) → length (r .store) ≡ storeSize (decode image) → length (r .record′) ≡ recordSize
+      → cycles image scratch size each k stimuli (further r) ≡ (further (cycles image scratch size each k stimuli r .0), cycles image scratch size each k stimuli r .1)
+  unfolding cycles
+  cycles-beyond each zero stimuli r s q = refl
+  cycles-beyond each (suc k) stimuli r s q =
+      let now = take each stimuli in
+      let long = cycle-long image (r .store) (r .record′) now scratch s q in
+      let c = cycle image (r .store) (r .record′) now scratch in
+      rw (beyond-kept image (r .store) (r .record′) now scratch s q x u)
+      (after-beyond each c r (cycles image scratch size each k (drop each stimuli)) (long .0 ∙ s) (λ n. cycles-beyond each k (drop each stimuli) (nextOf c n r) (long .0 ∙ s) (long .1 ∙ q)))
+
+module _ (image store record′ stimuli : List ℕ) (count scratch trace : ℕ) (store-long : length store ≡ storeSize (decode image)) (record-long : length record′ ≡ recordSize) (x u : List ℕ) where
+  run-refusal-same : runRefusal image (store ++ x) (record′ ++ u) stimuli count scratch trace ≡ runRefusal image store record′ stimuli count scratch trace
+  unfolding runRefusal soundBytes
+  run-refusal-same =
+      rw (
+        roomy-both image store record′ [] scratch store-long record-long x u,
+        mark-front record′ u record-long,
+        words-same image store record′ [] scratch store-long record-long x u,
+        record-front record′ u record-long,
+      ) refl
+
+  pub run-beyond : run image (store ++ x) (record′ ++ u) stimuli count scratch trace ≡ runBehind x u (run image store record′ stimuli count scratch trace)
+  unfolding run
+  run-beyond = go (runRefusal image store record′ stimuli count scratch trace) refl
+    where
+      start : Running
+      start = record { completed′ = 0; conflicts = 0; store = store; record′ = record′; trace = [] }
+
+      go : (y : Option ℕ) → runRefusal image store record′ stimuli count scratch trace ≡ y → run image (store ++ x) (record′ ++ u) stimuli count scratch trace ≡ runBehind x u (run image store record′ stimuli count scratch trace)
+      go (some n) e = rw (run-refusal-same, e) refl
+      go none e = rw (run-refusal-same, e, cycles-beyond image scratch x u (stimulusSize (decode image)) count stimuli start store-long record-long) refl

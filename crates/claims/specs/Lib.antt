@@ -7,6 +7,8 @@ pub mod EachCycle
 pub mod Lengths
 -- ---- What a completed cycle did: its delayed stores, when they land, and what no store names.
 pub mod LandsLast
+-- ---- What has no bearing: bytes beyond store and record, and past the image.
 pub mod Beyond
+pub mod Tail
 -- ---- From a text to its cycles.
 pub mod EndToEnd
