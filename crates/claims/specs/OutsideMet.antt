@@ -1,6 +1,6 @@
 -- What S1 and S8 are met by: actions stop for S1 only where the value of a subscript lies outside its bounds, whatever the image; those of a legal description never stop for S8. Assumes nothing.
 use mathlib.Core.Bool.{Bool, true, false, cond}
-use mathlib.Core.List.{List}
+use mathlib.Core.List.{List, [], _∷_}
 use mathlib.Core.Option.{Option, none, some}
 use mathlib.Core.Path.{_≡_, refl, sym, ap, _∙_}
 use native.Mathlib.Omega.{arith}
@@ -8,10 +8,11 @@ use Prim.Native.Nat.{ℕ, zero, suc, _+_, _-_, _≤_, _<_}
 use borrow.Author.Tests.{ltb-false, ltb-true}
 use lib.Dec.{eqb, leb, ltb}
 use lib.ListN.{length}
-use Rattle.language.specs.Acting.{Doing, Ran, armAt, armChosen, calling, goingTo, inArm, landing, listAct, listBelow, listStep, onPlace, onValue, onward, operationBelow, operationStep, passing, plainly, runActions, runList, side, sideOf, simple, storing, went, whenWorth, withStore, write}
+use Rattle.language.specs.Acting.{Doing, Ran, armAt, armChosen, calling, goingTo, inArm, landing, listAct, listBelow, listStep, onPlace, onValue, onward, operationBelow, operationStep, passing, plainly, putAll, runActions, runList, side, sideOf, simple, storing, went, whenWorth, withStore, write}
 use Rattle.language.specs.Description as D
 use Rattle.language.specs.Description.{Action, Bounds, Description, Facility, Node, Run, actionAt, facilityAt, fromFirst, inBounds, isComputed, nodeAt, operationAt, stateAt, wordLength}
 use Rattle.language.specs.Judging.{both}
+use Rattle.language.specs.Kinds.{delayedSign}
 use Rattle.language.specs.Meaning.{Answer, Located, Place, Stores, Stuck, Write, after, armBack, armNumber, armWorth, chosen, evalAt, evalBelow, evalNode, evalStep, is, located, narrow, notBefore, operand, partOf, partOfValue, place, placeOf, read, stops, stuck, subscript, worthOr, wrongCount, wrongLength, noFacility, noOperation, noState, notOneBit, notStorable, outside, runsOver, sidesDiffer, wrongSubscripts}
 use Rattle.language.specs.Operators.{binaryOf, cutOf, prefixOf}
 use Rattle.language.specs.Recursion.{below-ge, below-lt}
@@ -190,144 +191,177 @@ module _ {X : Type 0} (S : Stores X) (d : Description) where
         go none q = stuck-there
         go (some r) q = side-met n (below-under (suc n) n (omega arith)) r q
 
+    -- On the very store that an expression, or a left side, is worked out on.
+    pub value-outside : (n : ℕ) → evalAt S d x n ≡ stops outsideBounds → Outside x
+    value-outside n e = go (rw e at (value-met n))
+      where
+        go : Met (stops outsideBounds) → Outside x
+        go (stops-so h) = h refl
+
+    pub place-outside : (n : ℕ) → side S d x n ≡ Located.stops outsideBounds → Outside x
+    place-outside n e = go (rw e at (place-named n))
+      where
+        go : MetAt (Located.stops outsideBounds) → Outside x
+        go (stops-there h) = h refl
+
   -- ---- Actions.
 
-  -- Actions that stopped for S1 came to a store on which a subscript is outside its bounds.
-  pub data Stopped : Ran X → Type 0 where
-    went-so : {c : Doing X} → Stopped (went c)
-    halts : {n : ℕ} → (n ≡ outsideBounds → (x : X) × Outside x) → Stopped (Ran.stopped n)
-    sticks : {s : Stuck} → Stopped (Ran.stuck s)
+  -- A store that stores lead to from the first one.
+  pub data From (first : X) : X → Type 0 where
+    here : From first first
+    puts : {x : X} (w : Write) → From first x → From first (S .put x w)
+    delays : {x : X} (ws : List Write) → From first x → From first (S .delay x ws)
 
-  onward-stopped : (a : Ran X) (on : Doing X → Ran X) → Stopped a → ((c : Doing X) → Stopped (on c)) → Stopped (onward a on)
-  onward-stopped (went c) on h k = k c
-  onward-stopped (Ran.stopped n) on h k = h
-  onward-stopped (Ran.stuck s) on h k = sticks
+  module _ (first : X) where
+    -- Actions that stopped for S1 came, by stores, to one on which a subscript is outside its bounds.
+    pub data Stopped : Ran X → Type 0 where
+      went-so : {c : Doing X} → From first (c .store) → Stopped (went c)
+      halts : {n : ℕ} → (n ≡ outsideBounds → (x : X) × (From first x × Outside x)) → Stopped (Ran.stopped n)
+      sticks : {s : Stuck} → Stopped (Ran.stuck s)
 
-  value-stopped : (x : X) (a : Answer) (on : Value → Ran X) → Met x a → ((v : Value) → Stopped (on v)) → Stopped (onValue a on)
-  value-stopped x (is v) on h k = k v
-  value-stopped x (stops n) on (stops-so h) k = halts (λ e. (x, h e))
-  value-stopped x (stuck s) on h k = sticks
+    onward-stopped : (a : Ran X) (on : Doing X → Ran X) → Stopped a → ((c : Doing X) → From first (c .store) → Stopped (on c)) → Stopped (onward a on)
+    onward-stopped (went c) on (went-so h) k = k c h
+    onward-stopped (Ran.stopped n) on h k = h
+    onward-stopped (Ran.stuck s) on h k = sticks
 
-  place-stopped : (x : X) (l : Located) (on : Place → Ran X) → MetAt x l → ((p : Place) → Stopped (on p)) → Stopped (onPlace l on)
-  place-stopped x (Located.at p) on h k = k p
-  place-stopped x (Located.stops n) on (stops-there h) k = halts (λ e. (x, h e))
-  place-stopped x (Located.stuck s) on h k = sticks
+    value-stopped : (x : X) (a : Answer) (on : Value → Ran X) → From first x → Met x a → ((v : Value) → Stopped (on v)) → Stopped (onValue a on)
+    value-stopped x (is v) on f h k = k v
+    value-stopped x (stops n) on f (stops-so h) k = halts (λ e. (x, (f, h e)))
+    value-stopped x (stuck s) on f h k = sticks
 
-  stopped-either : (b : Bool) (k l : Ran X) → Stopped k → Stopped l → Stopped (cond b k l)
-  stopped-either true k l h i = h
-  stopped-either false k l h i = i
+    place-stopped : (x : X) (l : Located) (on : Place → Ran X) → From first x → MetAt x l → ((p : Place) → Stopped (on p)) → Stopped (onPlace l on)
+    place-stopped x (Located.at p) on f h k = k p
+    place-stopped x (Located.stops n) on f (stops-there h) k = halts (λ e. (x, (f, h e)))
+    place-stopped x (Located.stuck s) on f h k = sticks
 
-  storing-stopped : (k bits : ℕ) (allowed q : Bool) (v : Value) (ws : List Write) (c : Doing X) → Stopped (storing S d k bits allowed q v ws c)
-  unfolding storing
-  storing-stopped k bits allowed q v ws c =
-      stopped-either (eqb (v .length) bits) (cond allowed (went (landing S d k ws q c)) (Ran.stuck notStorable)) (Ran.stuck sidesDiffer)
-      (stopped-either allowed (went (landing S d k ws q c)) (Ran.stuck notStorable) went-so sticks) sticks
+    stopped-either : (b : Bool) (k l : Ran X) → Stopped k → Stopped l → Stopped (cond b k l)
+    stopped-either true k l h i = h
+    stopped-either false k l h i = i
 
-  module _ (perform : ℕ → Doing X → Ran X) (performs : (o : ℕ) (c : Doing X) → Stopped (perform o c)) where
-    simple-stopped : (a : Action) (c : Doing X) → Stopped (simple S d perform a c)
-    unfolding simple
-    simple-stopped (D.store k l r) c =
-        place-stopped (c .store) (side S d (c .store) l) _ (place-named (c .store) l) (λ p.
-        value-stopped (c .store) (evalAt S d (c .store) r) _ (value-met (c .store) r) (λ v. storing-stopped k _ _ _ v _ c))
-    simple-stopped (D.storePair k l m r) c =
-        place-stopped (c .store) (side S d (c .store) l) _ (place-named (c .store) l) (λ p.
-        place-stopped (c .store) (side S d (c .store) m) _ (place-named (c .store) m) (λ q.
-        value-stopped (c .store) (evalAt S d (c .store) r) _ (value-met (c .store) r) (λ v. storing-stopped k _ _ _ v _ c)))
-    simple-stopped (D.set l) c =
-        place-stopped (c .store) (side S d (c .store) l) _ (place-named (c .store) l) (λ p. set-stopped p (isPlain (facilityAt d (p .facility) .kind)) (eqb (p .count) 1))
+    puts-from : (x : X) (ws : List Write) → From first x → From first (putAll S d x ws)
+    unfolding putAll
+    puts-from x [] f = f
+    puts-from x (w ∷ ws) f = puts-from (S .put x w) ws (puts w f)
+
+    lands-from : (k : ℕ) (ws : List Write) (q : Bool) (c : Doing X) → From first (c .store) → From first (landing S d k ws q c .store)
+    unfolding landing
+    lands-from k ws q c f = go (eqb k delayedSign)
       where
-        set-stopped : (p : Place) (a b : Bool) → Stopped (cond a (cond b (went (withStore S d (S .put (c .store) (write S d p 1)) false c)) (Ran.stuck sidesDiffer)) (Ran.stuck notStorable))
-        set-stopped p true true = went-so
-        set-stopped p true false = sticks
-        set-stopped p false b = sticks
-    simple-stopped (D.perform o) c = performs o c
-    simple-stopped (D.goto s) c = stopped-either (ltb s (length (d .states))) (went (goingTo S d s c)) (Ran.stuck noState) went-so sticks
-    simple-stopped (D.call s) c = stopped-either (ltb s (length (d .states))) (went (calling S d s c)) (Ran.stuck noState) went-so sticks
-    simple-stopped D.return c = went-so
-    simple-stopped (D.when e x) c = sticks
-    simple-stopped (D.choose e n x) c = sticks
-    simple-stopped (D.arm x) c = sticks
-    simple-stopped D.Action.broken c = sticks
+        go : (b : Bool) → From first (cond b (withStore S d (S .delay (c .store) ws) q c) (withStore S d (putAll S d (c .store) ws) false c) .store)
+        go true = delays ws f
+        go false = puts-from (c .store) ws f
 
-    module _ (ev : ℕ → ℕ → Doing X → Ran X) (evs : (k i : ℕ) (c : Doing X) → Stopped (ev k i c)) (m i : ℕ) where
-      passing-stopped : (x : ℕ) (c : Doing X) → Stopped (passing S d perform ev m i x c)
-      passing-stopped x c = stopped-either (leb x m) (ev (m - x) (i + 1 + x) c) (Ran.stuck runsOver) (evs _ _ c) sticks
+    storing-stopped : (k bits : ℕ) (allowed q : Bool) (v : Value) (ws : List Write) (c : Doing X) → From first (c .store) → Stopped (storing S d k bits allowed q v ws c)
+    unfolding storing
+    storing-stopped k bits allowed q v ws c f =
+        stopped-either (eqb (v .length) bits) (cond allowed (went (landing S d k ws q c)) (Ran.stuck notStorable)) (Ran.stuck sidesDiffer)
+        (stopped-either allowed (went (landing S d k ws q c)) (Ran.stuck notStorable) (went-so (lands-from k ws q c f)) sticks) sticks
 
-      arm-stopped : (x : ℕ) (r : Option Run) (c : Doing X) → Stopped (inArm S d perform ev m i x r c)
-      arm-stopped x none c = sticks
-      arm-stopped x (some r) c = onward-stopped (ev (r .count) (r .first) c) (passing S d perform ev m i x) (evs _ _ c) (passing-stopped x)
+    module _ (perform : ℕ → Doing X → Ran X) (performs : (o : ℕ) (c : Doing X) → From first (c .store) → Stopped (perform o c)) where
+      simple-stopped : (a : Action) (c : Doing X) → From first (c .store) → Stopped (simple S d perform a c)
+      unfolding simple
+      simple-stopped (D.store k l r) c f =
+          place-stopped (c .store) (side S d (c .store) l) _ f (place-named (c .store) l) (λ p.
+          value-stopped (c .store) (evalAt S d (c .store) r) _ f (value-met (c .store) r) (λ v. storing-stopped k _ _ _ v _ c f))
+      simple-stopped (D.storePair k l m r) c f =
+          place-stopped (c .store) (side S d (c .store) l) _ f (place-named (c .store) l) (λ p.
+          place-stopped (c .store) (side S d (c .store) m) _ f (place-named (c .store) m) (λ q.
+          value-stopped (c .store) (evalAt S d (c .store) r) _ f (value-met (c .store) r) (λ v. storing-stopped k _ _ _ v _ c f)))
+      simple-stopped (D.set l) c f =
+          place-stopped (c .store) (side S d (c .store) l) _ f (place-named (c .store) l) (λ p. set-stopped p (isPlain (facilityAt d (p .facility) .kind)) (eqb (p .count) 1))
+        where
+          set-stopped : (p : Place) (a b : Bool) → Stopped (cond a (cond b (went (withStore S d (S .put (c .store) (write S d p 1)) false c)) (Ran.stuck sidesDiffer)) (Ran.stuck notStorable))
+          set-stopped p true true = went-so (puts (write S d p 1) f)
+          set-stopped p true false = sticks
+          set-stopped p false b = sticks
+      simple-stopped (D.perform o) c f = performs o c f
+      simple-stopped (D.goto s) c f = stopped-either (ltb s (length (d .states))) (went (goingTo S d s c)) (Ran.stuck noState) (went-so f) sticks
+      simple-stopped (D.call s) c f = stopped-either (ltb s (length (d .states))) (went (calling S d s c)) (Ran.stuck noState) (went-so f) sticks
+      simple-stopped D.return c f = went-so f
+      simple-stopped (D.when e x) c f = sticks
+      simple-stopped (D.choose e n x) c f = sticks
+      simple-stopped (D.arm x) c f = sticks
+      simple-stopped D.Action.broken c f = sticks
 
-      chosen-stopped : (x : ℕ) (k : Option ℕ) (c : Doing X) → Stopped (armChosen S d perform ev m i x k c)
-      chosen-stopped x none c = halts {n = noArm} (λ e. absurd (omega (arith, e)))
-      chosen-stopped x (some k) c = arm-stopped x (armAt d (k - 1) (i + 1) x) c
+      module _ (ev : ℕ → ℕ → Doing X → Ran X) (evs : (k i : ℕ) (c : Doing X) → From first (c .store) → Stopped (ev k i c)) (m i : ℕ) where
+        passing-stopped : (x : ℕ) (c : Doing X) → From first (c .store) → Stopped (passing S d perform ev m i x c)
+        passing-stopped x c f = stopped-either (leb x m) (ev (m - x) (i + 1 + x) c) (Ran.stuck runsOver) (evs _ _ c f) sticks
 
-      when-stopped : (x : ℕ) (v : Value) (c : Doing X) → Stopped (whenWorth S d perform ev m i x v c)
-      when-stopped x v c =
-          stopped-either (eqb (v .length) 1) (cond (eqb (v .number) 0) (passing S d perform ev m i x c) (inArm S d perform ev m i x (armAt d 0 (i + 1) x) c)) (Ran.stuck notOneBit)
-          (stopped-either (eqb (v .number) 0) (passing S d perform ev m i x c) (inArm S d perform ev m i x (armAt d 0 (i + 1) x) c) (passing-stopped x c) (arm-stopped x (armAt d 0 (i + 1) x) c)) sticks
+        arm-stopped : (x : ℕ) (r : Option Run) (c : Doing X) → From first (c .store) → Stopped (inArm S d perform ev m i x r c)
+        arm-stopped x none c f = sticks
+        arm-stopped x (some r) c f = onward-stopped (ev (r .count) (r .first) c) (passing S d perform ev m i x) (evs _ _ c f) (passing-stopped x)
 
-      plainly-stopped : (a : Action) (c : Doing X) → Stopped (plainly S d perform ev m i a c)
-      plainly-stopped a c = onward-stopped (simple S d perform a c) (ev m (i + 1)) (simple-stopped a c) (evs m (i + 1))
+        chosen-stopped : (x : ℕ) (k : Option ℕ) (c : Doing X) → From first (c .store) → Stopped (armChosen S d perform ev m i x k c)
+        chosen-stopped x none c f = halts {n = noArm} (λ e. absurd (omega (arith, e)))
+        chosen-stopped x (some k) c f = arm-stopped x (armAt d (k - 1) (i + 1) x) c f
 
-      act-stopped : (a : Action) (c : Doing X) → Stopped (listAct S d perform ev m i a c)
-      unfolding listAct
-      act-stopped (D.store k l r) c = plainly-stopped (D.store k l r) c
-      act-stopped (D.storePair k l n r) c = plainly-stopped (D.storePair k l n r) c
-      act-stopped (D.set l) c = plainly-stopped (D.set l) c
-      act-stopped (D.perform o) c = plainly-stopped (D.perform o) c
-      act-stopped (D.goto s) c = plainly-stopped (D.goto s) c
-      act-stopped (D.call s) c = plainly-stopped (D.call s) c
-      act-stopped D.return c = plainly-stopped D.return c
-      act-stopped (D.when e x) c = value-stopped (c .store) (evalAt S d (c .store) e) _ (value-met (c .store) e) (λ v. when-stopped x v c)
-      act-stopped (D.choose e n x) c = value-stopped (c .store) (evalAt S d (c .store) e) _ (value-met (c .store) e) (λ v. chosen-stopped x (armNumber n (v .number)) c)
-      act-stopped (D.arm x) c = sticks
-      act-stopped D.Action.broken c = sticks
+        when-stopped : (x : ℕ) (v : Value) (c : Doing X) → From first (c .store) → Stopped (whenWorth S d perform ev m i x v c)
+        when-stopped x v c f =
+            stopped-either (eqb (v .length) 1) (cond (eqb (v .number) 0) (passing S d perform ev m i x c) (inArm S d perform ev m i x (armAt d 0 (i + 1) x) c)) (Ran.stuck notOneBit)
+            (stopped-either (eqb (v .number) 0) (passing S d perform ev m i x c) (inArm S d perform ev m i x (armAt d 0 (i + 1) x) c) (passing-stopped x c f) (arm-stopped x (armAt d 0 (i + 1) x) c f)) sticks
 
-    step-stopped : (ev : ℕ → ℕ → Doing X → Ran X) → ((k i : ℕ) (c : Doing X) → Stopped (ev k i c)) → (k i : ℕ) (c : Doing X) → Stopped (listStep S d perform ev k i c)
-    step-stopped ev evs k i c = stopped-either (eqb k 0) (went c) (listAct S d perform ev (k - 1) i (actionAt d i) c) went-so (act-stopped ev evs (k - 1) i (actionAt d i) c)
+        plainly-stopped : (a : Action) (c : Doing X) → From first (c .store) → Stopped (plainly S d perform ev m i a c)
+        plainly-stopped a c f = onward-stopped (simple S d perform a c) (ev m (i + 1)) (simple-stopped a c f) (evs m (i + 1))
 
-    list-step : (n : ℕ) → ((m : ℕ) → m < n → (k i : ℕ) (c : Doing X) → Stopped (listBelow S d perform m k i c)) → (k i : ℕ) (c : Doing X) → Stopped (listBelow S d perform n k i c)
-    unfolding listBelow
-    list-step n ih k i c = go (ltb k n) refl
+        act-stopped : (a : Action) (c : Doing X) → From first (c .store) → Stopped (listAct S d perform ev m i a c)
+        unfolding listAct
+        act-stopped (D.store k l r) c f = plainly-stopped (D.store k l r) c f
+        act-stopped (D.storePair k l n r) c f = plainly-stopped (D.storePair k l n r) c f
+        act-stopped (D.set l) c f = plainly-stopped (D.set l) c f
+        act-stopped (D.perform o) c f = plainly-stopped (D.perform o) c f
+        act-stopped (D.goto s) c f = plainly-stopped (D.goto s) c f
+        act-stopped (D.call s) c f = plainly-stopped (D.call s) c f
+        act-stopped D.return c f = plainly-stopped D.return c f
+        act-stopped (D.when e x) c f = value-stopped (c .store) (evalAt S d (c .store) e) _ f (value-met (c .store) e) (λ v. when-stopped x v c f)
+        act-stopped (D.choose e n x) c f = value-stopped (c .store) (evalAt S d (c .store) e) _ f (value-met (c .store) e) (λ v. chosen-stopped x (armNumber n (v .number)) c f)
+        act-stopped (D.arm x) c f = sticks
+        act-stopped D.Action.broken c f = sticks
+
+      step-stopped : (ev : ℕ → ℕ → Doing X → Ran X) → ((k i : ℕ) (c : Doing X) → From first (c .store) → Stopped (ev k i c)) → (k i : ℕ) (c : Doing X) → From first (c .store) → Stopped (listStep S d perform ev k i c)
+      step-stopped ev evs k i c f = stopped-either (eqb k 0) (went c) (listAct S d perform ev (k - 1) i (actionAt d i) c) (went-so f) (act-stopped ev evs (k - 1) i (actionAt d i) c f)
+
+      list-step : (n : ℕ) → ((m : ℕ) → m < n → (k i : ℕ) (c : Doing X) → From first (c .store) → Stopped (listBelow S d perform m k i c)) → (k i : ℕ) (c : Doing X) → From first (c .store) → Stopped (listBelow S d perform n k i c)
+      unfolding listBelow
+      list-step n ih k i c f = go (ltb k n) refl
+        where
+          go : (b : Bool) → ltb k n ≡ b → Stopped (listBelow S d perform n k i c)
+          go true q =
+              let l : k < n = ltb-true k n q in
+              let s = ap (λ (f : ℕ → Doing X → Ran X). f i c) (below-lt (λ i c. Ran.stuck runsOver) (listStep S d perform) n k l) in
+              rw s (step-stopped (listBelow S d perform k) (ih k l) k i c f)
+          go false q =
+              let s = ap (λ (f : ℕ → Doing X → Ran X). f i c) (below-ge (λ i c. Ran.stuck runsOver) (listStep S d perform) n k (ltb-false k n q)) in
+              rw s sticks
+
+      list-under : (b n : ℕ) → n < b → (k i : ℕ) (c : Doing X) → From first (c .store) → Stopped (listBelow S d perform n k i c)
+      list-under zero n h k i c f = absurd (omega arith)
+      list-under (suc b) n h k i c f = list-step n (λ m l. list-under b m (omega arith)) k i c f
+
+      run-stopped : (r : Run) (c : Doing X) → From first (c .store) → Stopped (runList S d perform r c)
+      unfolding runList
+      run-stopped r c f = step-stopped (listBelow S d perform (r .count)) (list-under (suc (r .count)) (r .count) (omega arith)) (r .count) (r .first) c f
+
+    -- ---- Operations.
+
+    operation-step : (n : ℕ) → ((m : ℕ) → m < n → (o : ℕ) (c : Doing X) → From first (c .store) → Stopped (operationBelow S d m o c)) → (o : ℕ) (c : Doing X) → From first (c .store) → Stopped (operationBelow S d n o c)
+    unfolding operationBelow
+    operation-step n ih o c f = go (ltb o n) refl
       where
-        go : (b : Bool) → ltb k n ≡ b → Stopped (listBelow S d perform n k i c)
+        go : (b : Bool) → ltb o n ≡ b → Stopped (operationBelow S d n o c)
         go true q =
-            let l : k < n = ltb-true k n q in
-            let s = ap (λ (f : ℕ → Doing X → Ran X). f i c) (below-lt (λ i c. Ran.stuck runsOver) (listStep S d perform) n k l) in
-            rw s (step-stopped (listBelow S d perform k) (ih k l) k i c)
+            let l : o < n = ltb-true o n q in
+            let s = ap (λ (f : Doing X → Ran X). f c) (below-lt (λ c. Ran.stuck noOperation) (operationStep S d) n o l) in
+            rw s (run-stopped (operationBelow S d o) (ih o l) (operationAt d o .body) c f)
         go false q =
-            let s = ap (λ (f : ℕ → Doing X → Ran X). f i c) (below-ge (λ i c. Ran.stuck runsOver) (listStep S d perform) n k (ltb-false k n q)) in
+            let s = ap (λ (f : Doing X → Ran X). f c) (below-ge (λ c. Ran.stuck noOperation) (operationStep S d) n o (ltb-false o n q)) in
             rw s sticks
 
-    list-under : (b n : ℕ) → n < b → (k i : ℕ) (c : Doing X) → Stopped (listBelow S d perform n k i c)
-    list-under zero n h k i c = absurd (omega arith)
-    list-under (suc b) n h k i c = list-step n (λ m l. list-under b m (omega arith)) k i c
+    operation-under : (b n : ℕ) → n < b → (o : ℕ) (c : Doing X) → From first (c .store) → Stopped (operationBelow S d n o c)
+    operation-under zero n h o c f = absurd (omega arith)
+    operation-under (suc b) n h o c f = operation-step n (λ m l. operation-under b m (omega arith)) o c f
 
-    run-stopped : (r : Run) (c : Doing X) → Stopped (runList S d perform r c)
-    unfolding runList
-    run-stopped r c = step-stopped (listBelow S d perform (r .count)) (list-under (suc (r .count)) (r .count) (omega arith)) (r .count) (r .first) c
-
-  -- ---- Operations.
-
-  operation-step : (n : ℕ) → ((m : ℕ) → m < n → (o : ℕ) (c : Doing X) → Stopped (operationBelow S d m o c)) → (o : ℕ) (c : Doing X) → Stopped (operationBelow S d n o c)
-  unfolding operationBelow
-  operation-step n ih o c = go (ltb o n) refl
-    where
-      go : (b : Bool) → ltb o n ≡ b → Stopped (operationBelow S d n o c)
-      go true q =
-          let l : o < n = ltb-true o n q in
-          let s = ap (λ (f : Doing X → Ran X). f c) (below-lt (λ c. Ran.stuck noOperation) (operationStep S d) n o l) in
-          rw s (run-stopped (operationBelow S d o) (ih o l) (operationAt d o .body) c)
-      go false q =
-          let s = ap (λ (f : Doing X → Ran X). f c) (below-ge (λ c. Ran.stuck noOperation) (operationStep S d) n o (ltb-false o n q)) in
-          rw s sticks
-
-  operation-under : (b n : ℕ) → n < b → (o : ℕ) (c : Doing X) → Stopped (operationBelow S d n o c)
-  operation-under zero n h o c = absurd (omega arith)
-  operation-under (suc b) n h o c = operation-step n (λ m l. operation-under b m (omega arith)) o c
-
-  pub outside-met : (r : Run) (c : Doing X) → Stopped (runActions S d r c)
-  unfolding runActions
-  outside-met r c =
-      let n : ℕ = length (d .operations) in
-      run-stopped (operationBelow S d n) (operation-under (suc n) n (omega arith)) r c
+    pub outside-met : (r : Run) (c : Doing X) → From first (c .store) → Stopped (runActions S d r c)
+    unfolding runActions
+    outside-met r c f =
+        let n : ℕ = length (d .operations) in
+        run-stopped (operationBelow S d n) (operation-under (suc n) n (omega arith)) r c f

@@ -15,7 +15,7 @@ use Rattle.language.specs.Description.{Description, stateAt}
 use Rattle.language.specs.RecordBytes.{marked, recordFrom}
 use Rattle.language.specs.Rules.{mostWork}
 use Rattle.language.specs.Step.{Outcome, Record, completed, nothingDone, step}
-use Rattle.language.specs.Store.{Held, Words, begin, fromBytes, inputsOf, numbers}
+use Rattle.language.specs.Store.{Held, Words, begin, fromBytes, held, inputsOf, numbers}
 use Rattle.language.specs.Stops.{noArm, outsideBounds}
 use Rattle.theorems.specs.Acts.{Good}
 use Rattle.theorems.specs.Cycle.{Sound, Well, run-good}
@@ -26,7 +26,7 @@ use Rattle.theorems.specs.LegalForm.{Legal, right-of}
 use Rattle.theorems.specs.NeverStuck.{legal-image, never-stuck}
 use Rattle.theorems.specs.Soundness.{bytes-fit, sound-so}
 use Rattle.theorems.specs.StopOrder.{Condition, conditions, firstOf, met, stopOf, stops-in-order}
-use Rattle.claims.specs.OutsideMet.{Outside, Stopped, halts, outside-met}
+use Rattle.claims.specs.OutsideMet.{From, Outside, Stopped, halts, here, outside-met}
 use Rattle.stays.specs.StaysSound.{Unrefused, unrefused}
 
 -- One of the eight reasons of 01.
@@ -78,17 +78,20 @@ module _ (d : Description) (r : Record) (run : Ran Held) where
   conditions-listed : AllThat Listed (conditions d r run)
   conditions-listed = by-number Listed (λ h. record { least = omega arith; most = omega arith }) (λ h. record { least = omega arith; most = omega arith }) (λ n a b. record { least = omega arith; most = omega arith })
 
-  -- A subscript outside its bounds.
-  abbrev Subscript : ℕ → Type 0
-  Subscript n = n ≡ 1 → (x : Held) × Outside (numbers d) d x
+  -- A subscript outside its bounds, on a store that stores lead to from the first one.
+  abbrev pub Beyond : Held → Type 0
+  Beyond first = (x : Held) × (From (numbers d) d first x × Outside (numbers d) d x)
 
-  met-outside : (x : Ran Held) → Stopped (numbers d) d x → met d r outsideBounds x ≡ true → (y : Held) × Outside (numbers d) d y
-  met-outside (went c) h e = absurd (let z : _≡_ {A = ℕ} 0 1 = cc in omega arith)
-  met-outside (Ran.stopped m) (halts h) e = h (eqb-true m 1 e)
-  met-outside (Ran.stuck m) h e = absurd (let z : _≡_ {A = ℕ} 0 1 = cc in omega arith)
+  abbrev Subscript : Held → ℕ → Type 0
+  Subscript first n = n ≡ 1 → Beyond first
 
-  one-met : Stopped (numbers d) d run → AllThat Subscript (conditions d r run)
-  one-met h = by-number Subscript (λ e z. met-outside run h e) (λ e z. absurd (omega (arith, z))) (λ n a b z. absurd (omega (arith, z)))
+  met-outside : (first : Held) (x : Ran Held) → Stopped (numbers d) d first x → met d r outsideBounds x ≡ true → Beyond first
+  met-outside first (went c) h e = absurd (let z : _≡_ {A = ℕ} 0 1 = cc in omega arith)
+  met-outside first (Ran.stopped m) (halts h) e = h (eqb-true m 1 e)
+  met-outside first (Ran.stuck m) h e = absurd (let z : _≡_ {A = ℕ} 0 1 = cc in omega arith)
+
+  one-met : (first : Held) → Stopped (numbers d) d first run → AllThat (Subscript first) (conditions d r run)
+  one-met first h = by-number (Subscript first) (λ e z. met-outside first run h e) (λ e z. absurd (omega (arith, z))) (λ n a b z. absurd (omega (arith, z)))
 
   met-no-arm : (L : Legal d) (x : Ran Held) → Good (numbers d) d (Inv d) (numbers-keep d) L x → met d r noArm x ≡ true → ⊥
   met-no-arm L (went c) h e = absurd (let z : _≡_ {A = ℕ} 0 1 = cc in omega arith)
@@ -153,10 +156,13 @@ module _ (image store record′ stimulus : List ℕ) (scratch : ℕ) (none-refus
   abbrev run-here : Ran Held
   run-here = runActions (numbers d) d (stateAt d (kept .state) .actions) (nothingDone d (begin (d .facilities) words inputs))
 
-  -- S1 is for a subscript whose value lies outside its bounds.
-  pub one-outside : firstStop image store record′ stimulus ≡ some 1 → (x : Held) × Outside (numbers (decode image)) (decode image) x
+  -- S1 is for a subscript whose value lies outside its bounds, on a store that stores lead to from the begin of the cycle.
+  pub one-outside : firstStop image store record′ stimulus ≡ some 1
+      → (x : Held) × (From (numbers (decode image)) (decode image) (held (begin (decode image .facilities) (fromBytes (decode image .facilities) store) (fromBytes (inputsOf (decode image .facilities)) stimulus)) []) x × Outside (numbers (decode image)) (decode image) x)
   unfolding firstStop
-  one-outside e = first-has (Subscript d kept run-here) _ 1 (one-met d kept run-here (outside-met (numbers d) d (stateAt d (kept .state) .actions) (nothingDone d (begin (d .facilities) words inputs)))) e refl
+  one-outside e =
+      let first = held (begin (d .facilities) words inputs) [] in
+      first-has (Subscript d kept run-here first) _ 1 (one-met d kept run-here first (outside-met (numbers d) d first (stateAt d (kept .state) .actions) (nothingDone d (begin (d .facilities) words inputs)) here)) e refl
 
   -- No passing image meets S8: a CASE has an arm for every value.
   pub eight-never : firstStop image store record′ stimulus ≡ some 8 → ⊥
