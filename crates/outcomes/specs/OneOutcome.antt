@@ -33,6 +33,13 @@ use Rattle.open.specs.declared.open.Answer.the-variants as O
 use Rattle.cycle.specs.Called as Cycle
 use Rattle.cycle.specs.declared.answer.Answer as CycleAnswer
 use Rattle.cycle.specs.declared.answer.Answer.the-variants as C
+use Rattle.reading.specs.Calls as Called
+use Rattle.reading.specs.declared.Answer as Reading
+use Rattle.reading.specs.declared.Answer.the-variants as A
+use Rattle.run.specs.Called as Run
+use Rattle.run.specs.declared.answer.Answer as RunAnswer
+use Rattle.run.specs.declared.answer.Answer.the-variants as W
+use Rattle.run.specs.declared.answer.Tally.{Tally}
 
 -- ---- The check, and names as parts of the image: the contract names the answer itself.
 
@@ -205,22 +212,65 @@ module _ (image store kept stimulus scratch scratch′ : List ℕ) (s : length s
       let e : Cycle.call a x u w ≡ Cycle.call b y v z = p ∙ ap (L.cycle image store kept stimulus) s ∙ sym q in
       (cycled-one a b (ap (λ (c : L.CycleCall). c .answer) e), (ap (λ (c : L.CycleCall). c .store) e, (ap (λ (c : L.CycleCall). c .record′) e, ap (λ (c : L.CycleCall). c .scratch) e)))
 
--- ---- Reading and running, for any answer whose values have meanings of their own.
+-- ---- Reading: of the image's buffer only the length counts.
 
-abbrev readCalled : R.ReadAnswer → List ℕ → R.ReadCall
-readCalled a image = record { answer = a; image = image }
+abbrev readIn : Reading.Answer → R.ReadAnswer
+readIn (A.Accepted n) = R.accepted n
+readIn (A.Refused n p) = R.refusedFor n p
 
-module _ {A : Type 0} (meant : A → R.ReadAnswer) (apart : (a b : A) → meant a ≡ meant b → a ≡ b) (text image image′ : List ℕ) (s : length image ≡ length image′) where
-  pub read-one : (a b : A) (x y : List ℕ) → readCalled (meant a) x ≡ R.read text (length image) → readCalled (meant b) y ≡ R.read text (length image′) → (a ≡ b) × (x ≡ y)
+read-in : (a : Reading.Answer) (x : List ℕ) → Called.called a x ≡ record { answer = readIn a; image = x }
+read-in (A.Accepted n) x = refl
+read-in (A.Refused n p) x = refl
+
+reading-one : (a b : Reading.Answer) → readIn a ≡ readIn b → a ≡ b
+reading-one (A.Accepted m) (A.Accepted n) e =
+    let z : m ≡ n = cc in
+    ap A.Accepted z
+reading-one (A.Refused m p) (A.Refused n q) e =
+    let y : m ≡ n = cc in
+    let z : p ≡ q = cc in
+    ap₂ A.Refused y z
+reading-one (A.Accepted m) (A.Refused n q) e =
+    let z : _≡_ {A = ℕ} 0 1 = cc in
+    absurd (omega arith)
+reading-one (A.Refused m p) (A.Accepted n) e =
+    let z : _≡_ {A = ℕ} 0 1 = cc in
+    absurd (omega arith)
+
+module _ (text image image′ : List ℕ) (s : length image ≡ length image′) where
+  pub read-one : (a b : Reading.Answer) (x y : List ℕ) → Called.called a x ≡ R.read text (length image) → Called.called b y ≡ R.read text (length image′) → (a ≡ b) × (x ≡ y)
   read-one a b x y p q =
-      let e : readCalled (meant a) x ≡ readCalled (meant b) y = p ∙ ap (R.read text) s ∙ sym q in
-      (apart a b (ap (λ (c : R.ReadCall). c .answer) e), ap (λ (c : R.ReadCall). c .image) e)
+      let e : Called.called a x ≡ Called.called b y = p ∙ ap (R.read text) s ∙ sym q in
+      let f : R.ReadCall = record { answer = readIn a; image = x } in
+      let g : R.ReadCall = record { answer = readIn b; image = y } in
+      let h : f ≡ g = sym (read-in a x) ∙ e ∙ read-in b y in
+      (reading-one a b (ap (λ (c : R.ReadCall). c .answer) h), ap (λ (c : R.ReadCall). c .image) h)
 
-abbrev runCalled : L.RunAnswer → List ℕ → List ℕ → List ℕ → List ℕ → L.RunCall
-runCalled a store kept scratch trace = record { answer = a; store = store; record′ = kept; scratch = scratch; trace = trace }
+-- ---- A run: scratch and trace are not read.
 
-module _ {A : Type 0} (meant : A → L.RunAnswer) (apart : (a b : A) → meant a ≡ meant b → a ≡ b) (image store kept stimuli : List ℕ) (count : ℕ) (scratch scratch′ trace trace′ : List ℕ) (s : length scratch ≡ length scratch′) (t : length trace ≡ length trace′) where
-  pub run-one : (a b : A) (x y u v w z m n : List ℕ) → runCalled (meant a) x u w m ≡ L.run image store kept stimuli count (length scratch) (length trace) → runCalled (meant b) y v z n ≡ L.run image store kept stimuli count (length scratch′) (length trace′) → (a ≡ b) × ((x ≡ y) × ((u ≡ v) × ((w ≡ z) × (m ≡ n))))
+tally-one : (s t : Tally) → s .completed ≡ t .completed → s .conflicts ≡ t .conflicts → s .stop ≡ t .stop → s ≡ t
+tally-one s t a b c =
+    let r : s ≡ record { completed = t .completed; conflicts = t .conflicts; stop = t .stop } = rw (← a, ← b, ← c) in
+    r
+
+ran-one : (a b : RunAnswer.Answer) → Run.answered a ≡ Run.answered b → a ≡ b
+ran-one (W.Ran s) (W.Ran t) e =
+    let x : s .completed ≡ t .completed = cc in
+    let y : s .conflicts ≡ t .conflicts = cc in
+    let z : s .stop ≡ t .stop = cc in
+    ap W.Ran (tally-one s t x y z)
+ran-one (W.Refused m) (W.Refused n) e =
+    let z : m ≡ n = cc in
+    ap W.Refused z
+ran-one (W.Ran s) (W.Refused n) e =
+    let z : _≡_ {A = ℕ} 0 1 = cc in
+    absurd (omega arith)
+ran-one (W.Refused m) (W.Ran t) e =
+    let z : _≡_ {A = ℕ} 0 1 = cc in
+    absurd (omega arith)
+
+module _ (image store kept stimuli : List ℕ) (count : ℕ) (scratch scratch′ trace trace′ : List ℕ) (s : length scratch ≡ length scratch′) (t : length trace ≡ length trace′) where
+  pub run-one : (a b : RunAnswer.Answer) (x y u v w z m n : List ℕ) → Run.call a x u w m ≡ L.run image store kept stimuli count (length scratch) (length trace) → Run.call b y v z n ≡ L.run image store kept stimuli count (length scratch′) (length trace′) → (a ≡ b) × ((x ≡ y) × ((u ≡ v) × ((w ≡ z) × (m ≡ n))))
   run-one a b x y u v w z m n p q =
-      let e : runCalled (meant a) x u w m ≡ runCalled (meant b) y v z n = p ∙ ap₂ (λ (i j : ℕ). L.run image store kept stimuli count i j) s t ∙ sym q in
-      (apart a b (ap (λ (c : L.RunCall). c .answer) e), (ap (λ (c : L.RunCall). c .store) e, (ap (λ (c : L.RunCall). c .record′) e, (ap (λ (c : L.RunCall). c .scratch) e, ap (λ (c : L.RunCall). c .trace) e))))
+      let e : Run.call a x u w m ≡ Run.call b y v z n = p ∙ ap₂ (λ (i j : ℕ). L.run image store kept stimuli count i j) s t ∙ sym q in
+      (ran-one a b (ap (λ (c : L.RunCall). c .answer) e), (ap (λ (c : L.RunCall). c .store) e, (ap (λ (c : L.RunCall). c .record′) e, (ap (λ (c : L.RunCall). c .scratch) e, ap (λ (c : L.RunCall). c .trace) e))))
