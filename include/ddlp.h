@@ -156,14 +156,15 @@ struct ddlp_cycle_answer ddlp_cycle(const uint8_t *image, size_t image_length, u
 /* ---- Many cycles after one check of the image.
  *
  * The stimuli of all cycles stand one after the other. The trace is empty (length 0), or takes the store after
- * each completed cycle, one after the other, and has room for all cycles asked for.
+ * each completed cycle, one after the other, and has room for all cycles asked for. Cycle numbers have 32 bits,
+ * so no run is longer than `cycles` can say.
  * Tests as a cycle, 12 for the trace too, 15 over all stimuli before the first cycle.
  * Store and record are those after the last completed cycle; the trace is zero beyond what was written.
  * Refused: store and record as they were, the trace all zero. Scratch is all zero afterwards.
  */
 struct ddlp_run_answer ddlp_run(const uint8_t *image, size_t image_length, uint8_t *store, size_t store_length,
                                 uint8_t *record, size_t record_length, const uint8_t *stimuli,
-                                size_t stimuli_length, uint64_t cycles, uint8_t *scratch, size_t scratch_length,
+                                size_t stimuli_length, uint32_t cycles, uint8_t *scratch, size_t scratch_length,
                                 uint8_t *trace, size_t trace_length);
 
 /* ---- Lookups: facilities and states by their numbers, from 0 as declared. They write nothing.

@@ -113,7 +113,7 @@ impl Engine {
 fn by_run(board: &mut Board, tools: &mut Tools) -> u64 {
     let Board { image, store, record, stimuli } = board;
     let lent = Lent { store, record, scratch: &mut tools.scratch, trace: &mut [] };
-    module::run(image, lent, stimuli, CYCLES as u64).cycles
+    module::run(image, lent, stimuli, CYCLES as u32).cycles
 }
 
 fn by_cycle(board: &mut Board, tools: &mut Tools) -> u64 {

@@ -21,18 +21,19 @@ impl Counter {
 }
 
 pub struct Measured {
-    cycles: u64,
+    /// Cycles carried out, or texts read.
+    done: u64,
     time: Duration,
     instructions: Option<u64>,
 }
 
 impl Measured {
-    pub fn cycles_a_second(&self) -> f64 {
-        self.cycles as f64 / self.time.as_secs_f64()
+    pub fn a_second(&self) -> f64 {
+        self.done as f64 / self.time.as_secs_f64()
     }
 
-    pub fn instructions_a_cycle(&self) -> Option<f64> {
-        self.instructions.filter(|&count| count > 0).map(|count| count as f64 / self.cycles as f64)
+    pub fn instructions_each(&self) -> Option<f64> {
+        self.instructions.filter(|&count| count > 0).map(|count| count as f64 / self.done as f64)
     }
 }
 
@@ -40,17 +41,17 @@ fn now() -> Duration {
     Duration::from_nanos(unsafe { processor_time() })
 }
 
-/// Repeats the work, which answers how many cycles it carried out, for so long.
+/// Repeats the work, which answers how much it did, for so long.
 pub fn measured(least: Duration, counter: Option<&Counter>, mut work: impl FnMut() -> u64) -> Measured {
     work();
     let start = now();
     if let Some(Counter(counter)) = counter {
         unsafe { instructions_start(*counter) }
     }
-    let mut cycles = 0;
+    let mut done = 0;
     while now() - start < least {
-        cycles += work();
+        done += work();
     }
     let instructions = counter.map(|Counter(counter)| unsafe { instructions_stop(*counter) });
-    Measured { cycles, time: now() - start, instructions }
+    Measured { done, time: now() - start, instructions }
 }

@@ -4,6 +4,8 @@
 //! run.
 //!
 //!     speed FOLDER [MILLISECONDS]     FOLDER holds the descriptions; so long each is measured (default 400)
+//!     speed --read CORPUS [MILLISECONDS]
+//!                                     how long reading takes
 //!     speed --stack FOLDER            the stack that each call needs
 //!     speed --agree SEED TRIES        holds the interpreter in C against the second simulator
 //!
@@ -17,6 +19,7 @@ mod module;
 mod agree;
 mod engines;
 mod measure;
+mod reading;
 mod stack;
 
 use engines::{Board, Engine, ENGINES};
@@ -24,6 +27,9 @@ use measure::{Counter, Measured};
 use std::process::ExitCode;
 use std::time::Duration;
 use std::{env, fs};
+
+const USAGE: &str =
+    "usage: speed FOLDER [MILLISECONDS], --read CORPUS [MILLISECONDS], --stack FOLDER, or --agree SEED TRIES";
 
 /// A description, and what stands in its memory at the beginning.
 struct Description {
@@ -83,9 +89,9 @@ fn all_agree(board: &Board) -> Result<(), String> {
 }
 
 fn row(engine: &Engine, measured: &Measured, beside: &Measured) {
-    let rate = measured.cycles_a_second();
-    let ratio = beside.cycles_a_second() / rate;
-    let instructions = measured.instructions_a_cycle().map_or("-".to_string(), |count| format!("{count:.0}"));
+    let rate = measured.a_second();
+    let ratio = beside.a_second() / rate;
+    let instructions = measured.instructions_each().map_or("-".to_string(), |count| format!("{count:.0}"));
     println!("  {:22} {rate:>14.0} {instructions:>14} {ratio:>10.2}", engine.name);
 }
 
@@ -117,11 +123,15 @@ fn main() -> ExitCode {
         [stack, folder] if stack == "--stack" => {
             stack::table(folder, &DESCRIPTIONS.map(|description| description.name))
         }
+        [read, corpus] if read == "--read" => reading::table(corpus, Duration::from_millis(400)),
+        [read, corpus, time] if read == "--read" => {
+            number(time).and_then(|time| reading::table(corpus, Duration::from_millis(time)))
+        }
         [agree, seed, tries] if agree == "--agree" => {
             number(seed).and_then(|seed| agree::interpreter_agrees(seed, number(tries)?))
         }
         [folder, time] => number(time).and_then(|time| table(folder, Duration::from_millis(time))),
-        _ => Err("usage: speed FOLDER [MILLISECONDS], speed --stack FOLDER, or speed --agree SEED TRIES".to_string()),
+        _ => Err(USAGE.to_string()),
     };
     match done {
         Ok(()) => ExitCode::SUCCESS,

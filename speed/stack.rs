@@ -60,7 +60,7 @@ fn row(name: &str, text: Option<&[u8]>, image: &[u8]) {
     let mut buffer = vec![0; 165_556];
     let reading = text.map(|text| measured(&mut || module::read(text, &mut buffer).refusal));
     let opening = measured(&mut || module::open(image, &mut store, &mut record));
-    let mut lent = |cycles: u64| {
+    let mut lent = |cycles: u32| {
         let lent = Lent { store: &mut store, record: &mut record, scratch: &mut scratch, trace: &mut [] };
         match cycles {
             0 => module::cycle(image, lent, &stimulus).refusal,

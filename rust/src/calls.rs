@@ -79,7 +79,7 @@ mod archive {
             record_length: usize,
             stimuli: *const u8,
             stimuli_length: usize,
-            cycles: u64,
+            cycles: u32,
             scratch: *mut u8,
             scratch_length: usize,
             trace: *mut u8,
@@ -126,7 +126,7 @@ pub fn cycle(image: &[u8], lent: Lent, stimulus: &[u8]) -> CycleAnswer {
     }
 }
 
-pub fn run(image: &[u8], lent: Lent, stimuli: &[u8], cycles: u64, trace: &mut [u8]) -> RunAnswer {
+pub fn run(image: &[u8], lent: Lent, stimuli: &[u8], cycles: u32, trace: &mut [u8]) -> RunAnswer {
     unsafe {
         archive::ddlp_run(
             image.as_ptr(),

@@ -61,7 +61,8 @@ impl<'a> Run<'a> {
 
     /// Many cycles after one check of the image. The stimuli stand one after
     /// the other; the trace is empty, or takes the store after each cycle.
-    pub fn run(&mut self, stimuli: &[u8], cycles: u64, trace: &mut [u8]) -> Result<Ran, Refusal> {
+    /// No run is longer: cycle numbers have 32 bits.
+    pub fn run(&mut self, stimuli: &[u8], cycles: u32, trace: &mut [u8]) -> Result<Ran, Refusal> {
         let answer = calls::run(self.image.as_bytes(), self.lent(), stimuli, cycles, trace);
         Refusal::answered(answer.refusal)?;
         Ok(Ran { cycles: answer.cycles, conflicts: answer.conflicts, stop: Stop::answered(answer.stop) })

@@ -98,7 +98,7 @@ pub fn run(
     kind: &str,
     loan: &mut Loan,
     stimuli: &[u8],
-    cycles: u64,
+    cycles: u32,
 ) -> Result<(RunAnswer, Vec<u8>), Failure> {
     let found = loan.clone();
     let (mut scratch, mut trace) = (vec![0; loan.scratch], vec![0; loan.trace]);

@@ -29,7 +29,7 @@ extern "C" {
         record_length: usize,
         stimuli: Byte,
         stimuli_length: usize,
-        cycles: u64,
+        cycles: u32,
         scratch: Space,
         scratch_length: usize,
         trace: Space,
@@ -69,7 +69,7 @@ pub fn cycle(image: &[u8], lent: Lent, stimulus: &[u8]) -> CycleAnswer {
     }
 }
 
-pub fn run(image: &[u8], lent: Lent, stimuli: &[u8], cycles: u64) -> RunAnswer {
+pub fn run(image: &[u8], lent: Lent, stimuli: &[u8], cycles: u32) -> RunAnswer {
     let Lent { store, record, scratch, trace } = lent;
     unsafe {
         ddlp_run(

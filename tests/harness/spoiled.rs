@@ -16,7 +16,7 @@ use second::Description;
 struct Spoiled {
     loan: Loan,
     stimuli: Vec<u8>,
-    cycles: u64,
+    cycles: u32,
 }
 
 pub fn some_spoiled(harness: &mut Harness) -> Result<(), Failure> {
@@ -111,6 +111,6 @@ fn stimuli(one: &mut Spoiled, random: &mut Random) {
 
 /// Another count of cycles. A huge one only where stimuli are due, so that it cannot be run.
 fn cycles(one: &mut Spoiled, description: &Description, random: &mut Random) {
-    let huge = if stimulus_size(description) > 0 { u64::MAX } else { 3 };
+    let huge = if stimulus_size(description) > 0 { u32::MAX } else { 3 };
     one.cycles = random.pick(&[0, 1, one.cycles.saturating_add(1), huge, huge / 2 + 1]);
 }

@@ -116,13 +116,13 @@ pub struct Lent<'a> {
 }
 
 impl Lent<'_> {
-    fn is_roomy(&self, size: usize, cycles: u64) -> bool {
-        let traced = self.trace.is_empty() || cycles as u128 * size as u128 <= self.trace.len() as u128;
+    fn is_roomy(&self, size: usize, cycles: u32) -> bool {
+        let traced = self.trace.is_empty() || cycles as usize * size <= self.trace.len();
         self.store.len() >= size && self.record.len() >= RECORD && self.scratch.len() >= 4 * size && traced
     }
 
     /// 13, 12 and 14 in this order; then what the cycles start from.
-    fn started(&self, image: &[u8], cycles: u64) -> Result<(Description, Run), u32> {
+    fn started(&self, image: &[u8], cycles: u32) -> Result<(Description, Run), u32> {
         let description = load(image).ok_or(13u32)?.description;
         let size = store_size(&description);
         if !self.is_roomy(size, cycles) {
@@ -159,7 +159,7 @@ fn one_cycle(image: &[u8], lent: &mut Lent, stimulus: &[u8]) -> Result<Outcome, 
     Ok(outcome)
 }
 
-pub fn run(image: &[u8], mut lent: Lent, stimuli: &[u8], cycles: u64) -> RunAnswer {
+pub fn run(image: &[u8], mut lent: Lent, stimuli: &[u8], cycles: u32) -> RunAnswer {
     lent.scratch.fill(0);
     lent.trace.fill(0);
     match many_cycles(image, &mut lent, stimuli, cycles) {
@@ -168,12 +168,12 @@ pub fn run(image: &[u8], mut lent: Lent, stimuli: &[u8], cycles: u64) -> RunAnsw
     }
 }
 
-fn many_cycles(image: &[u8], lent: &mut Lent, stimuli: &[u8], cycles: u64) -> Result<RunAnswer, u32> {
+fn many_cycles(image: &[u8], lent: &mut Lent, stimuli: &[u8], cycles: u32) -> Result<RunAnswer, u32> {
     let (description, mut run) = lent.started(image, cycles)?;
     let stimuli = all_stimuli(&description, stimuli, cycles).ok_or(15u32)?;
     let size = store_size(&description);
     let mut answer = RunAnswer::default();
-    while answer.cycles < cycles {
+    while answer.cycles < cycles as u64 {
         let stimulus = stimuli.get(answer.cycles as usize).map_or(&[][..], |stimulus| stimulus);
         match step(&description, &mut run, stimulus) {
             Outcome::Completed { conflicts } => answer.conflicts += conflicts as u64,
@@ -194,9 +194,9 @@ fn many_cycles(image: &[u8], lent: &mut Lent, stimuli: &[u8], cycles: u64) -> Re
 }
 
 /// The stimulus of each cycle; none are listed where a cycle takes no bytes.
-fn all_stimuli(description: &Description, bytes: &[u8], cycles: u64) -> Option<Vec<Vec<Bits>>> {
+fn all_stimuli(description: &Description, bytes: &[u8], cycles: u32) -> Option<Vec<Vec<Bits>>> {
     let size = stimulus_size(description);
-    if bytes.len() as u128 != cycles as u128 * size as u128 {
+    if bytes.len() != cycles as usize * size {
         return None;
     }
     bytes.chunks(size.max(1)).map(|stimulus| bytes::stimulus(description, stimulus)).collect()

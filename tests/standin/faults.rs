@@ -210,14 +210,14 @@ fn without_spare_bits(image: &[u8], stimuli: &[u8]) -> Vec<u8> {
 }
 
 /// How many stimuli stand before the first ill-formed one, and their bytes.
-fn well_formed<'a>(image: &[u8], stimuli: &'a [u8]) -> (u64, &'a [u8]) {
+fn well_formed<'a>(image: &[u8], stimuli: &'a [u8]) -> (u32, &'a [u8]) {
     let Some(Loaded { description, .. }) = load(image).filter(|_| Fault::LateStimulus.is_on()) else {
-        return (u64::MAX, stimuli);
+        return (u32::MAX, stimuli);
     };
     let size = calls::stimulus_size(&description);
     let sound = |stimulus: &&[u8]| bytes::stimulus(&description, stimulus).is_some();
     let count = stimuli.chunks(size.max(1)).take_while(sound).count();
-    (if size == 0 { u64::MAX } else { count as u64 }, &stimuli[..count * size])
+    (if size == 0 { u32::MAX } else { count as u32 }, &stimuli[..count * size])
 }
 
 /// The refusal that soundness, tested first, would give for a short scratch.
@@ -293,7 +293,7 @@ fn after_completing(image: &[u8], before: &[u8], store: &mut [u8], record: &mut 
     }
 }
 
-pub fn run(image: &[u8], lent: Lent, stimuli: &[u8], cycles: u64) -> RunAnswer {
+pub fn run(image: &[u8], lent: Lent, stimuli: &[u8], cycles: u32) -> RunAnswer {
     let narrow = Fault::SpareBits.is_on().then(|| without_spare_bits(image, stimuli));
     let stimuli = narrow.as_deref().unwrap_or(stimuli);
     let sound = well_formed(image, stimuli);

@@ -82,7 +82,7 @@ pub unsafe extern "C" fn ddlp_run(
     record_length: usize,
     stimuli: *const u8,
     stimuli_length: usize,
-    cycles: u64,
+    cycles: u32,
     scratch: *mut u8,
     scratch_length: usize,
     trace: *mut u8,

@@ -5,9 +5,16 @@ use Rattle.language.specs.Calls as C
 use Rattle.language.specs.Description.{Facility}
 use Rattle.language.specs.Encode.{kindNumber}
 use Rattle.language.specs.Lookups as L
+use Rattle.language.specs.Reading as R
 use Rattle.ddlp.specs.declared.answers.CycleAnswer.{CycleAnswer}
 use Rattle.ddlp.specs.declared.answers.FacilityAnswer.{FacilityAnswer}
 use Rattle.ddlp.specs.declared.answers.NameAnswer.{NameAnswer}
+use Rattle.ddlp.specs.declared.answers.ReadAnswer.{ReadAnswer}
+use Rattle.ddlp.specs.declared.answers.RunAnswer.{RunAnswer}
+
+abbrev pub readNumbers : R.ReadAnswer → ReadAnswer
+readNumbers (R.accepted n) = record { refusal = 0; place = 0; length = n }
+readNumbers (R.refusedFor n p) = record { refusal = n; place = p; length = 0 }
 
 abbrev pub openNumber : C.OpenAnswer → ℕ
 openNumber C.opened = 0
@@ -17,6 +24,10 @@ abbrev pub cycleNumbers : C.CycleAnswer → CycleAnswer
 cycleNumbers (C.cycled n) = record { refusal = 0; stop = 0; conflicts = n }
 cycleNumbers (C.stoppedFor n) = record { refusal = 0; stop = n; conflicts = 0 }
 cycleNumbers (C.refusedFor n) = record { refusal = n; stop = 0; conflicts = 0 }
+
+abbrev pub runNumbers : C.RunAnswer → RunAnswer
+runNumbers (C.ran cycles conflicts stop) = record { refusal = 0; stop = stop; cycles = cycles; conflicts = conflicts }
+runNumbers (C.runRefused n) = record { refusal = n; stop = 0; cycles = 0; conflicts = 0 }
 
 -- Where a name stands in the image.
 abbrev pub nameNumbers : L.NameAnswer → NameAnswer

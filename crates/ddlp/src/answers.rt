@@ -1,9 +1,24 @@
 // The answers in C's form. A field that an answer has no use for is 0.
 #[repr(C)]
+pub struct ReadAnswer {
+    pub refusal: u32,
+    pub place: u32,
+    pub length: u32,
+}
+
+#[repr(C)]
 pub struct CycleAnswer {
     pub refusal: u32,
     pub stop: u32,
     pub conflicts: u32,
+}
+
+#[repr(C)]
+pub struct RunAnswer {
+    pub refusal: u32,
+    pub stop: u32,
+    pub cycles: u64,
+    pub conflicts: u64,
 }
 
 #[repr(C)]

@@ -2,12 +2,16 @@
 use crate::answers::CycleAnswer;
 use crate::answers::FacilityAnswer;
 use crate::answers::NameAnswer;
+use crate::answers::ReadAnswer;
+use crate::answers::RunAnswer;
 use cycle::answer as cycled;
 use image::facilities;
 use image::facilities::Facility;
 use lookups::declared::Looked;
 use lookups::named;
 use open::open as opened;
+use reading::Answer as Read;
+use run::answer as ran;
 ghost use mathlib.Core.Path.{_≡_};
 ghost use Rattle.language.specs.Tree.{Name};
 ghost use Rattle.cycle.specs.Called as Cycled;
@@ -15,7 +19,28 @@ ghost use Rattle.image.specs.Declarations.{facilityMeant};
 ghost use Rattle.lookups.specs.Answers.{answered, nameMeant};
 ghost use Rattle.lookups.specs.declared.declared.Looked.the-variants as Looked;
 ghost use Rattle.open.specs.Called as Opened;
-ghost use Rattle.ddlp.specs.Numbers.{Short, cycleNumbers, facilityNumbers, nameNumbers, openNumber, shown};
+ghost use Rattle.reading.specs.Calls as Reads;
+ghost use Rattle.run.specs.Called as Ran;
+ghost use Rattle.ddlp.specs.Numbers.{Short, cycleNumbers, facilityNumbers, nameNumbers, openNumber, readNumbers, runNumbers, shown};
+
+// The length of an image, or a refusal and its place; both have 32 bits.
+pub fn read_numbers(a: Read) -> ReadAnswer
+    requires { ⌜ Reads.Short (Reads.answered a) ⌝ }
+    ensures { λ r. ⌜ r ≡ readNumbers (Reads.answered a) ⌝ }
+{
+    match a {
+        Read::Accepted(n) => ReadAnswer {
+            refusal: 0,
+            place: 0,
+            length: n as u32,
+        },
+        Read::Refused(n, p) => ReadAnswer {
+            refusal: n as u32,
+            place: p as u32,
+            length: 0,
+        },
+    }
+}
 
 // The refusal, or 0.
 pub fn open_number(a: opened::Answer) -> u32
@@ -45,6 +70,26 @@ pub fn cycle_numbers(a: cycled::Answer) -> CycleAnswer
         cycled::Answer::Refused(n) => CycleAnswer {
             refusal: n as u32,
             stop: 0,
+            conflicts: 0,
+        },
+    }
+}
+
+// Completed cycles, their conflicts and the stop that ended them, or a refusal.
+pub fn run_numbers(a: ran::Answer) -> RunAnswer
+    ensures { λ r. ⌜ r ≡ runNumbers (Ran.answered a) ⌝ }
+{
+    match a {
+        ran::Answer::Ran(t) => RunAnswer {
+            refusal: 0,
+            stop: t.stop as u32,
+            cycles: t.completed as u64,
+            conflicts: t.conflicts,
+        },
+        ran::Answer::Refused(n) => RunAnswer {
+            refusal: n as u32,
+            stop: 0,
+            cycles: 0,
             conflicts: 0,
         },
     }

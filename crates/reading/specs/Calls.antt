@@ -1,20 +1,28 @@
 -- The whole of a call for reading: its answer, and the buffer of the image.
 use mathlib.Core.List.{List}
 use mathlib.Core.Path.{_≡_}
-use Prim.Native.Nat.{ℕ, _≤_}
+use Prim.Native.Nat.{ℕ, _^_, _<_, _≤_}
 use lib.ListN.{length}
 use Rattle.described.specs.Outcomes.{Parses}
 use Rattle.language.specs.DescribeText.{describe}
-use Rattle.language.specs.Reading.{ReadCall, accepted, readCall, refusedFor, restOf}
+use Rattle.language.specs.Reading.{ReadAnswer, ReadCall, accepted, readCall, refusedFor, restOf}
 use Rattle.writing.specs.Calls as W
 use Rattle.writing.specs.declared.Tally.{Tally}
 use Rattle.writing.specs.declared.whole.Written.{Written}
 use Rattle.reading.specs.declared.Answer.{Answer}
 use Rattle.reading.specs.declared.Answer.the-variants as A
 
+abbrev pub answered : Answer → ReadAnswer
+answered (A.Accepted n) = accepted n
+answered (A.Refused n p) = refusedFor n p
+
 abbrev pub called : Answer → List ℕ → ReadCall
-called (A.Accepted n) image = record { answer = accepted n; image = image }
-called (A.Refused n p) image = record { answer = refusedFor n p; image = image }
+called a image = record { answer = answered a; image = image }
+
+-- The length of an image and the place of a refusal have 32 bits.
+abbrev pub Short : ReadAnswer → Type 0
+Short (accepted n) = n < 2 ^ 32
+Short (refusedFor n p) = p < 2 ^ 32
 
 -- The same call as writing makes.
 abbrev pub Tells : Written → Answer → Type 0

@@ -16,7 +16,7 @@ ghost use lib.ListN.{length};
 ghost use Rattle.language.specs.Reading as L;
 ghost use Rattle.language.specs.Sections.{parse};
 ghost use Rattle.language.specs.WordStage.{scan};
-ghost use Rattle.reading.specs.Calls.{Tells, Writes, called};
+ghost use Rattle.reading.specs.Calls.{Short, Tells, Writes, called};
 
 pub enum Answer {
     // The image's length.
@@ -59,6 +59,7 @@ fn written(text: &[u8], work: &[u8; 275296], c: Tally, image: &mut [u8]) -> Answ
 fn parsed(text: &[u8], image: &mut [u8]) -> Answer
     requires { ⌜ length (now text) ≤ 32768 ⌝ }
     ensures { λ r. ⌜ called r (now (image .exit)) ≡ L.readCall (length (now (image .entry))) (L.afterGrammar (parse (scan (now (text .entry)) .words) (length (now (text .entry))))) ⌝ }
+    ensures { λ _. ⌜ Short (L.readCall (length (now (image .entry))) (L.afterGrammar (parse (scan (now (text .entry)) .words) (length (now (text .entry))))) .answer) ⌝ }
 {
     let mut work = [0u8; 275296];
     let outcome = whole::described(text, &mut work);
@@ -68,9 +69,10 @@ fn parsed(text: &[u8], image: &mut [u8]) -> Answer
     }
 }
 
-// Writes the image of a legal text; refuses any other, and a buffer that the image has no room in.
+// Writes the image of a legal text; refuses any other, and a buffer that the image has no room in. Lengths and places have 32 bits, so that a caller may keep them in so many.
 pub fn read(text: &[u8], image: &mut [u8]) -> Answer
     ensures { λ r. ⌜ called r (now (image .exit)) ≡ L.read (now (text .entry)) (length (now (image .entry))) ⌝ }
+    ensures { λ _. ⌜ Short (L.read (now (text .entry)) (length (now (image .entry))) .answer) ⌝ }
 {
     if stage::too_long(text) {
         let f = Fault {

@@ -1,6 +1,7 @@
 use borrow.Author.Needs.{needs}
 use lib.ListN.{length}
 use Rattle.reading.proofs.CallLaws.{grammar-done, grammar-refused}
+use Rattle.reading.proofs.ShortLaws.{parsed-short, refused-short}
 use Rattle.reading.proofs.parsed.Statement.{statement}
 use Rattle.reading.proofs.parsed.Tie as tie
 
@@ -24,7 +25,11 @@ same-length c = search needs
 
 returns : tie.Need-returns
 returns c =
-    grammar-refused (length (c .before .before .before .before .before .before .before .before .before .before .before .args .image .now)) (c .before .before .before .before .before .before .before .described .ensures) (c .before .before .before .before .before .outcome .given .1) (c .before .before .refuse .ensures)
+    let entry = c .before .before .before .before .before .before .before .before .before .before .before in
+    let n = length (entry .args .image .now) in
+    let d = c .before .before .before .before .before .before .before .described .ensures in
+    let told = c .before .before .before .before .before .outcome .given .1 in
+    (grammar-refused n d told (c .before .before .refuse .ensures), refused-short (entry .args .text .now) n _ (entry .pre) (d .refused _ told))
 
 same-length-2 : tie.Need-same-length-2
 same-length-2 c = search needs
@@ -32,7 +37,9 @@ same-length-2 c = search needs
 returns-2 : tie.Need-returns-2
 returns-2 c =
     let p = c .before .before .before .before .before .before .before .before .described .ensures .done _ (c .before .before .before .before .before .before .outcome2 .given .1) in
-    grammar-done (length (c .before .before .before .before .before .before .before .before .before .before .before .before .args .image .now)) p (c .before .before .written .ensures p (c .before .before .before .before .before .before .before .before .before .before .before .before .pre))
+    let entry = c .before .before .before .before .before .before .before .before .before .before .before .before in
+    let n = length (entry .args .image .now) in
+    (grammar-done n p (c .before .before .written .ensures p (entry .pre)), parsed-short n p (entry .pre))
 
 pub parsed-spec : {M : Type 1} → statement M
 parsed-spec =

@@ -2,6 +2,7 @@ use borrow.Author.Needs.{needs}
 use mathlib.Core.Path.{sym, _∙_}
 use lib.ListN.{length}
 use Rattle.reading.proofs.CallLaws.{short-text, too-long, words-passed, words-refused}
+use Rattle.reading.proofs.ShortLaws.{long-short, read-short, words-short}
 use Rattle.reading.proofs.read.Statement.{statement}
 use Rattle.reading.proofs.read.Tie as tie
 
@@ -16,7 +17,10 @@ same-length c = search needs
 
 returns : tie.Need-returns
 returns c =
-    too-long (c .before .before .before .before .before .before .before .before .args .text .now) (length (c .before .before .before .before .before .before .before .before .args .image .now)) (sym (c .before .before .before .before .before .too-long .ensures) ∙ c .before .before .before .before .if1 .taken) (c .before .before .refuse .ensures)
+    let a = c .before .before .before .before .before .before .before .before .args in
+    let n = length (a .image .now) in
+    let long = sym (c .before .before .before .before .before .too-long .ensures) ∙ c .before .before .before .before .if1 .taken in
+    (too-long (a .text .now) n long (c .before .before .refuse .ensures), long-short (a .text .now) n long)
 
 word-fault-requires : tie.Need-word-fault-requires
 word-fault-requires c κs = search needs
@@ -39,14 +43,23 @@ same-length-2 c = search needs
 
 returns-2 : tie.Need-returns-2
 returns-2 c =
-    words-passed (c .before .before .before .before .before .before .before .before .before .before .before .args .text .now) (length (c .before .before .before .before .before .before .before .before .before .before .before .args .image .now)) (sym (c .before .before .before .before .before .before .before .before .too-long .ensures) ∙ c .before .before .before .before .before .before .before .if1 .left) (c .before .before .before .before .before .before .word-fault .ensures) (c .before .before .before .before .enum-told .given .1) (c .before .before .parsed .ensures)
+    let a = c .before .before .before .before .before .before .before .before .before .before .before .args in
+    let n = length (a .image .now) in
+    let left = sym (c .before .before .before .before .before .before .before .before .too-long .ensures) ∙ c .before .before .before .before .before .before .before .if1 .left in
+    let e = c .before .before .parsed .ensures in
+    (words-passed (a .text .now) n left (c .before .before .before .before .before .before .word-fault .ensures) (c .before .before .before .before .enum-told .given .1) (e .0), read-short (a .text .now) n (λ l w. e .1))
 
 same-length-3 : tie.Need-same-length-3
 same-length-3 c = search needs
 
 returns-3 : tie.Need-returns-3
 returns-3 c =
-    words-refused (c .before .before .before .before .before .before .before .before .before .before .before .before .args .text .now) (length (c .before .before .before .before .before .before .before .before .before .before .before .before .args .image .now)) (sym (c .before .before .before .before .before .before .before .before .before .too-long .ensures) ∙ c .before .before .before .before .before .before .before .before .if1 .left) (c .before .before .before .before .before .before .before .word-fault .ensures) (c .before .before .before .before .before .fault .given .1) (c .before .before .refuse2 .ensures)
+    let a = c .before .before .before .before .before .before .before .before .before .before .before .before .args in
+    let n = length (a .image .now) in
+    let left = sym (c .before .before .before .before .before .before .before .before .before .too-long .ensures) ∙ c .before .before .before .before .before .before .before .before .if1 .left in
+    let judged = c .before .before .before .before .before .before .before .word-fault .ensures in
+    let fault = c .before .before .before .before .before .fault .given .1 in
+    (words-refused (a .text .now) n left judged fault (c .before .before .refuse2 .ensures), words-short (a .text .now) n judged fault)
 
 pub read-spec : {M : Type 1} → statement M
 read-spec =
