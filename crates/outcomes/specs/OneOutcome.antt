@@ -214,15 +214,7 @@ module _ (image store kept stimulus scratch scratch′ : List ℕ) (s : length s
 
 -- ---- Reading: of the image's buffer only the length counts.
 
-abbrev readIn : Reading.Answer → R.ReadAnswer
-readIn (A.Accepted n) = R.accepted n
-readIn (A.Refused n p) = R.refusedFor n p
-
-read-in : (a : Reading.Answer) (x : List ℕ) → Called.called a x ≡ record { answer = readIn a; image = x }
-read-in (A.Accepted n) x = refl
-read-in (A.Refused n p) x = refl
-
-reading-one : (a b : Reading.Answer) → readIn a ≡ readIn b → a ≡ b
+reading-one : (a b : Reading.Answer) → Called.answered a ≡ Called.answered b → a ≡ b
 reading-one (A.Accepted m) (A.Accepted n) e =
     let z : m ≡ n = cc in
     ap A.Accepted z
@@ -241,10 +233,7 @@ module _ (text image image′ : List ℕ) (s : length image ≡ length image′)
   pub read-one : (a b : Reading.Answer) (x y : List ℕ) → Called.called a x ≡ R.read text (length image) → Called.called b y ≡ R.read text (length image′) → (a ≡ b) × (x ≡ y)
   read-one a b x y p q =
       let e : Called.called a x ≡ Called.called b y = p ∙ ap (R.read text) s ∙ sym q in
-      let f : R.ReadCall = record { answer = readIn a; image = x } in
-      let g : R.ReadCall = record { answer = readIn b; image = y } in
-      let h : f ≡ g = sym (read-in a x) ∙ e ∙ read-in b y in
-      (reading-one a b (ap (λ (c : R.ReadCall). c .answer) h), ap (λ (c : R.ReadCall). c .image) h)
+      (reading-one a b (ap (λ (c : R.ReadCall). c .answer) e), ap (λ (c : R.ReadCall). c .image) e)
 
 -- ---- A run: scratch and trace are not read.
 
