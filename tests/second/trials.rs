@@ -3,6 +3,7 @@
 
 pub mod bnf;
 mod by_hand;
+pub mod call_cases;
 pub mod check;
 mod deeds;
 pub mod edges;
@@ -12,8 +13,10 @@ pub mod generate;
 mod images;
 pub mod layout;
 pub mod mutate;
+mod packed;
 mod phrases;
 mod piece;
 pub mod random;
 pub mod running;
+mod spoiled;
 pub mod supply;

@@ -1,0 +1,107 @@
+// The calls: what a case lends, and whether the answer and all that was lent are then as it says.
+use crate::answers;
+use crate::case;
+use crate::lent;
+use records::bytes;
+use records::numbers;
+
+// Beforehand the buffer holds bytes from this first one on; afterwards the image, and zeroes, or zeroes alone.
+pub fn read(text: &[u8], image: &[u8], case: &[u8], room: &mut [u8], first: u8) -> bool {
+    lent::garbage(room, first);
+    let answer = reading::read(text, room);
+    if !answers::read_told(case, answer) {
+        return false;
+    }
+    let length = numbers::four(case, case::THIRD) as usize;
+    lent::holds(room, bytes::part(image, 0, length))
+}
+
+pub fn open(image: &[u8], case: &[u8], store: &mut [u8], record: &mut [u8], first: u8) -> bool {
+    lent::garbage(store, first);
+    lent::garbage(record, first);
+    let answer = open::open::open(image, store, record);
+    if !answers::open_told(case, answer) {
+        return false;
+    }
+    left(case, store, record, b"")
+}
+
+pub fn cycle(
+    image: &[u8],
+    case: &[u8],
+    store: &mut [u8],
+    record: &mut [u8],
+    scratch: &mut [u8],
+    first: u8,
+) -> bool {
+    lend(case, store, record);
+    lent::garbage(scratch, first);
+    cycled(image, case, store, record, scratch)
+}
+
+// Store and record as the case has them.
+fn lend(case: &[u8], store: &mut [u8], record: &mut [u8]) {
+    lent::given(store, case::part(case, case::STORE));
+    lent::given(record, case::part(case, case::RECORD));
+}
+
+fn cycled(
+    image: &[u8],
+    case: &[u8],
+    store: &mut [u8],
+    record: &mut [u8],
+    scratch: &mut [u8],
+) -> bool {
+    let stimulus = case::part(case, case::STIMULI);
+    let answer = cycle::cycle::cycle(image, store, record, stimulus, scratch);
+    if !answers::cycle_told(case, answer) {
+        return false;
+    }
+    left(case, store, record, scratch)
+}
+
+pub fn run(
+    image: &[u8],
+    case: &[u8],
+    store: &mut [u8],
+    record: &mut [u8],
+    scratch: &mut [u8],
+    trace: &mut [u8],
+    first: u8,
+) -> bool {
+    lend(case, store, record);
+    lent::garbage(scratch, first);
+    lent::garbage(trace, first);
+    ran(image, case, store, record, scratch, trace)
+}
+
+fn ran(
+    image: &[u8],
+    case: &[u8],
+    store: &mut [u8],
+    record: &mut [u8],
+    scratch: &mut [u8],
+    trace: &mut [u8],
+) -> bool {
+    let stimuli = case::part(case, case::STIMULI);
+    let cycles = numbers::four(case, case::CYCLES);
+    let answer = run::run::run(image, store, record, stimuli, cycles, scratch, trace);
+    if !answers::run_told(case, answer) {
+        return false;
+    }
+    if !lent::holds(trace, case::part(case, case::TRACE_LEFT)) {
+        return false;
+    }
+    left(case, store, record, scratch)
+}
+
+// Whether store and record are left as the case says, and scratch all zero.
+fn left(case: &[u8], store: &[u8], record: &[u8], scratch: &[u8]) -> bool {
+    if !lent::holds(store, case::part(case, case::STORE_LEFT)) {
+        return false;
+    }
+    if !lent::holds(record, case::part(case, case::RECORD_LEFT)) {
+        return false;
+    }
+    lent::holds(scratch, b"")
+}

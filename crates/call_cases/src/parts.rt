@@ -1,0 +1,173 @@
+// The file, part by part: texts and images, and the calls that are about them.
+use crate::rooms;
+use records::bytes;
+use records::numbers;
+
+// What a part is, where it is no call.
+const TEXT: u8 = 0;
+
+const IMAGE: u8 = 1;
+
+const NONE: u8 = 255;
+
+// Buffers a little longer than any case asks for; the longest hold an image, or a trace.
+pub type Text = [u8; 49152];
+
+pub type Longest = [u8; 165600];
+
+pub type Case = [u8; 65536];
+
+pub type Store = [u8; 16400];
+
+pub type Record = [u8; 96];
+
+pub type Scratch = [u8; 65600];
+
+// How many bytes the text and the image have that the next calls are about.
+pub struct About {
+    pub text: usize,
+    pub image: usize,
+}
+
+pub enum Came {
+    End,
+    Nothing,
+    Agrees,
+    Differs,
+}
+
+pub struct Turn {
+    pub about: About,
+    pub came: Came,
+}
+
+struct Head {
+    kind: u8,
+    length: usize,
+}
+
+fn head_of(file: i32) -> Head {
+    let mut bytes = [0u8; 5];
+    let got = io::read_full(file, &mut bytes);
+    if got < 5 {
+        return Head {
+            kind: NONE,
+            length: 0,
+        };
+    }
+    Head {
+        kind: bytes[0],
+        length: numbers::four(&bytes, 1) as usize,
+    }
+}
+
+// Reads so many bytes to the front of a buffer, none where it is too short, and answers how many came.
+fn fetch(file: i32, n: usize, buffer: &mut [u8]) -> usize {
+    if buffer.len() < n {
+        return 0;
+    }
+    io::read_full(file, &mut buffer[0..n])
+}
+
+// With another text, and with another image.
+fn about_text(about: About, n: usize) -> Turn {
+    Turn {
+        about: About {
+            text: n,
+            image: about.image,
+        },
+        came: Came::Nothing,
+    }
+}
+
+fn about_image(about: About, n: usize) -> Turn {
+    Turn {
+        about: About {
+            text: about.text,
+            image: n,
+        },
+        came: Came::Nothing,
+    }
+}
+
+// What comes of a part that is not tried.
+fn untried(about: About, kind: u8) -> Turn {
+    if kind == NONE {
+        return Turn {
+            about,
+            came: Came::End,
+        };
+    }
+    Turn {
+        about,
+        came: Came::Nothing,
+    }
+}
+
+// Whether a case comes out as it should, whatever the buffers held before.
+fn tried(
+    call: u8,
+    text: &[u8],
+    image: &[u8],
+    case: &[u8],
+    longest: &mut Longest,
+    store: &mut Store,
+    record: &mut Record,
+    scratch: &mut Scratch,
+) -> Came {
+    if !rooms::agrees(call, text, image, case, longest, store, record, scratch, 90) {
+        return Came::Differs;
+    }
+    if !rooms::agrees(
+        call,
+        text,
+        image,
+        case,
+        longest,
+        store,
+        record,
+        scratch,
+        201,
+    ) {
+        return Came::Differs;
+    }
+    Came::Agrees
+}
+
+// The next part: a text, an image, or a call, which is tried if it is one of those wanted.
+pub fn next(
+    file: i32,
+    wanted: u8,
+    about: About,
+    text: &mut Text,
+    image: &mut Longest,
+    case: &mut Case,
+    longest: &mut Longest,
+    store: &mut Store,
+    record: &mut Record,
+    scratch: &mut Scratch,
+) -> Turn {
+    let head = head_of(file);
+    let kind = head.kind;
+    if kind == TEXT {
+        return about_text(about, fetch(file, head.length, text));
+    }
+    if kind == IMAGE {
+        return about_image(about, fetch(file, head.length, image));
+    }
+    let n = fetch(file, head.length, case);
+    if kind != wanted {
+        return untried(about, kind);
+    }
+    let came = tried(
+        kind,
+        bytes::part(text, 0, about.text),
+        bytes::part(image, 0, about.image),
+        bytes::part(case, 0, n),
+        longest,
+        store,
+        record,
+        scratch,
+    );
+    Turn { about, came }
+}
