@@ -142,7 +142,7 @@ impl Pack {
             scratch: &mut vec![1; found.scratch],
             trace: &mut trace,
         };
-        let answer = calls::run(&self.image, lent, &found.stimuli, found.cycles as u64);
+        let answer = calls::run(&self.image, lent, &found.stimuli, found.cycles);
         let answer = [answer.refusal, answer.stop, answer.conflicts as u32, answer.cycles as u32];
         self.advanced(RUN, found, answer, [&loan.store, &loan.record, &trace]);
     }
