@@ -16,12 +16,6 @@ use Rattle.language.specs.Tree.{Name}
 use Rattle.records.proofs.NumberLaws.{number-past}
 use Rattle.image.specs.Declarations.{facilityIn, nameLengthIn, noneNamed, operationIn, placeFieldIn, stateIn}
 
-pub bounds-past : (at : ℕ) (s : List ℕ) → length s ≤ at → bounds 0 0 ≡ boundsAt at s
-bounds-past at s h = rw (number-past 2 at s h, number-past 2 (at + 2) s (omega arith))
-
-pub run-past : (at : ℕ) (s : List ℕ) → length s ≤ at → noRun ≡ runAt at s
-run-past at s h = rw (number-past 2 at s h, number-past 2 (at + 2) s (omega arith))
-
 pub name-past : (size inside : ℕ) (s : List ℕ) (n : ℕ) → length s < size * n + size → nameLengthIn size inside s n ≡ 0
 unfolding nameLengthIn
 name-past size inside s n h = rw (lt-leb _ _ h)

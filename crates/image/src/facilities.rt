@@ -1,6 +1,8 @@
 // A facility's record; its name stands elsewhere.
 use records::numbers;
 ghost use mathlib.Core.Path.{_≡_};
+ghost use Prim.Native.Nat.{_+_, _≤_};
+ghost use lib.ListN.{length};
 ghost use Rattle.language.specs.Decode.{boundsAt, kindOf};
 ghost use Rattle.language.specs.Description.{isComputed};
 ghost use Rattle.language.specs.Encode.{kindNumber};
@@ -76,15 +78,12 @@ pub fn is_computed(kind: Kind) -> bool
 
 // First and last bound.
 fn bounds_at(s: &[u8], at: usize) -> Bounds
+    requires { ⌜ at + 4 ≤ length (now s) ⌝ }
     ensures { λ r. ⌜ boundsMeant r ≡ boundsAt at (now (s .entry)) ⌝ }
 {
-    if at < s.len() {
-        Bounds {
-            first: numbers::two(s, at),
-            last: numbers::two(s, at + 2),
-        }
-    } else {
-        Bounds { first: 0, last: 0 }
+    Bounds {
+        first: numbers::two_there(s, at),
+        last: numbers::two_there(s, at + 2),
     }
 }
 
@@ -114,7 +113,7 @@ pub fn facility_at(facilities: &[u8], n: usize) -> Facility
     let kind = kind_of(facilities[at]);
     let words = bounds_at(facilities, at + 3);
     let bits = bounds_at(facilities, at + 7);
-    let place = numbers::two(facilities, at + 11);
+    let place = numbers::two_there(facilities, at + 11);
     Facility {
         kind,
         dimensions: facilities[at + 1],

@@ -1,6 +1,8 @@
 // A run of action records.
 use records::numbers;
 ghost use mathlib.Core.Path.{_≡_};
+ghost use Prim.Native.Nat.{_+_, _≤_};
+ghost use lib.ListN.{length};
 ghost use Rattle.language.specs.Decode.{runAt};
 ghost use Rattle.image.specs.Declarations.{runMeant};
 
@@ -11,14 +13,11 @@ pub struct Run {
 
 // The run at a place of a section.
 pub fn run_at(s: &[u8], at: usize) -> Run
+    requires { ⌜ at + 4 ≤ length (now s) ⌝ }
     ensures { λ r. ⌜ runMeant r ≡ runAt at (now (s .entry)) ⌝ }
 {
-    if at < s.len() {
-        Run {
-            first: numbers::two(s, at),
-            count: numbers::two(s, at + 2),
-        }
-    } else {
-        Run { first: 0, count: 0 }
+    Run {
+        first: numbers::two_there(s, at),
+        count: numbers::two_there(s, at + 2),
     }
 }

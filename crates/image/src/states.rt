@@ -49,7 +49,7 @@ pub fn state_at(states: &[u8], n: usize) -> State
         };
     }
     let at = 7 * n;
-    let value = value_of(numbers::two(states, at + 1));
+    let value = value_of(numbers::two_there(states, at + 1));
     let actions = runs::run_at(states, at + 3);
     State {
         name: states[at],

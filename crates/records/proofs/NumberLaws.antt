@@ -17,6 +17,10 @@ pub number-two : (at : ℕ) (s : List ℕ) → numberAt 2 at s ≡ getD s at 0 +
 unfolding numberAt
 number-two at s = let e : suc at ≡ at + 1 = omega arith in rw e (omega arith)
 
+-- Only the first of the two bytes is there.
+pub number-last : (at : ℕ) (s : List ℕ) → length s ≤ at + 1 → numberAt 2 at s ≡ getD s at 0
+number-last at s h = rw (number-two, List·getD-eq-default s 0 h) (omega arith)
+
 pub number-four : (at : ℕ) (s : List ℕ) → numberAt 4 at s ≡ numberAt 2 at s + numberAt 2 (at + 2) s * 0x10000
 unfolding numberAt
 number-four at s = let e : at + 2 ≡ suc (suc at) = omega arith in rw e (omega arith)

@@ -54,8 +54,8 @@ pub fn action_at(acts: &[u8], n: usize) -> Action
         return Action::Broken;
     }
     let at = 7 * n;
-    let a = numbers::two(acts, at + 1);
-    let b = numbers::two(acts, at + 3);
-    let c = numbers::two(acts, at + 5);
+    let a = numbers::two_there(acts, at + 1);
+    let b = numbers::two_there(acts, at + 3);
+    let c = numbers::two_there(acts, at + 5);
     action_with(acts[at], a, b, c)
 }

@@ -58,7 +58,7 @@ fn number_at(exprs: &[u8], n: usize, k: u8) -> [u64; 4]
     let mut x = [0u64; 4];
     let mut i = before(n, k);
     while i <= n {
-        let digit = numbers::six(exprs, 8 * i + 2);
+        let digit = numbers::six_there(exprs, 8 * i + 2);
         let longer = limbs::shifts::joined(x, 48, limbs::small(digit));
         x = longer;
         i += 1;
@@ -99,7 +99,7 @@ pub fn constant_fits(exprs: &[u8], n: usize) -> bool
     if n < more {
         return true;
     }
-    let highest = numbers::six(exprs, 8 * (n - more) + 2);
+    let highest = numbers::six_there(exprs, 8 * (n - more) + 2);
     highest < 1 << (x % 48 + 1)
 }
 

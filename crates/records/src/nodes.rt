@@ -73,11 +73,11 @@ pub fn node_at(exprs: &[u8], n: usize) -> Node
             }
             Node::Broken
         }
-        2 => Node::More(numbers::six(exprs, at + 2)),
+        2 => Node::More(numbers::six_there(exprs, at + 2)),
         _ => {
-            let a = numbers::two(exprs, at + 2);
-            let b = numbers::two(exprs, at + 4);
-            let c = numbers::two(exprs, at + 6);
+            let a = numbers::two_there(exprs, at + 2);
+            let b = numbers::two_there(exprs, at + 4);
+            let c = numbers::two_there(exprs, at + 6);
             plain_node(mark, x, a, b, c)
         }
     }

@@ -1,8 +1,8 @@
 -- The tables hold the language's symbols and reserved words, and are searched row by row.
-use mathlib.Core.Bool.{Bool, true, false, _&&_}
-use mathlib.Core.List.{List, map}
+use mathlib.Core.Bool.{Bool, true, false, _&&_, false≢true}
+use mathlib.Core.List.{List, [], _∷_, map}
 use mathlib.Core.Path.{_≡_, _∙_, ap, sym, refl}
-use Prim.Native.Nat.{ℕ, suc, _+_, _-_, _<_, _≤_}
+use Prim.Native.Nat.{ℕ, zero, suc, _+_, _-_, _<_, _≤_}
 use native.Mathlib.Numerals.{add-one}
 use native.Mathlib.Omega.{arith}
 use lib.Dec.{eqb}
@@ -11,7 +11,7 @@ use borrow.Author.Tests.{eqb-true}
 use Rattle.language.specs.Characters.{folded}
 use Rattle.language.specs.Scan.{bytes, found, reservedAmong, reservedKind, reservedWords, same, sign, span, spelledSymbols, symbolAmong, symbolAt, wrong}
 use Rattle.characters.proofs.Table.{allFrom, first, passed, second}
-use Rattle.scan.specs.Tables.{reservedFrom, reservedLetters, reservedRow, spellings, symbolKinds, symbolRow, symbolSize, symbolsFrom}
+use Rattle.scan.specs.Tables.{beginsAlike, reservedFrom, reservedLetters, reservedRow, spellings, symbolKinds, symbolRow, symbolSize, symbolsFrom}
 use Rattle.scan.proofs.Letters.{noLetter, same-folded, same-sym}
 
 -- ---- Reserved words.
@@ -44,6 +44,25 @@ module _ (s : List ℕ) (row : ℕ) (left : ReservedLeft s row) where
     where
       none-left : 23 - row ≡ 0
       none-left = omega arith
+
+-- ---- A name that begins otherwise than a row is not its word.
+
+pub alike-none : (s t : List ℕ) → length s ≡ 0 → true ≡ beginsAlike s t
+unfolding beginsAlike
+alike-none [] t h = refl
+alike-none (b ∷ s) t h = absurd (omega arith)
+
+pub alike-there : (s t : List ℕ) → 0 < length s → beginsAlike s t ≡ eqb (folded (getD s 0 0)) (folded (getD t 0 0))
+unfolding beginsAlike
+alike-there [] t h = absurd (omega arith)
+alike-there (b ∷ s) t h = refl
+
+pub alike-word : (s t : List ℕ) (n : ℕ) → beginsAlike s t ≡ false → same (map folded s) (map folded (take n t)) ≡ false
+unfolding beginsAlike same
+alike-word [] t n e = absurd (false≢true (sym e))
+alike-word (b ∷ s) t zero e = refl
+alike-word (b ∷ s) [] (suc n) e = refl
+alike-word (b ∷ s) (x ∷ t) (suc n) e = ap (λ (q : Bool). q && same (map folded s) (map folded (take n t))) e
 
 -- ---- Symbols.
 

@@ -1,8 +1,8 @@
 -- The tables of symbols and reserved words, row by row.
-use mathlib.Core.Bool.{cond}
+use mathlib.Core.Bool.{Bool, true, cond}
 use mathlib.Core.List.{List, [], _∷_, map}
 use Prim.Native.Nat.{ℕ, zero, suc, _+_, _*_}
-use lib.Dec.{ltb}
+use lib.Dec.{eqb, ltb}
 use lib.ListN.{drop, getD, take}
 use Rattle.language.specs.Characters.{folded}
 use Rattle.language.specs.Scan.{Reserved, Spelled, bytes, isNamePart, span}
@@ -39,6 +39,11 @@ reservedLetters =
 unfoldable pub reservedRow : ℕ → List ℕ
 unfolding span
 reservedRow row = let t = drop (row * 10) reservedLetters in take (span isNamePart t) t
+
+-- Whether a name begins as a row does; one without letters does.
+unfoldable pub beginsAlike : List ℕ → List ℕ → Bool
+beginsAlike [] t = true
+beginsAlike (b ∷ s) t = eqb (folded b) (folded (getD t 0 0))
 
 -- n reserved words from a row on; the kind of the first is 30, and the others' follow it.
 unfoldable pub reservedFrom : ℕ → ℕ → List Reserved

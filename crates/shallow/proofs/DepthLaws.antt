@@ -10,7 +10,8 @@ use lib.Dec.{eqb, leb}
 use lib.ListN.{length, replicate, set}
 use lib.Seq.{getD-set-other, getD-set-same}
 use Rattle.language.specs.Decode.{nodeOf}
-use Rattle.language.specs.Description.{Description}
+use Rattle.language.specs.Description as D
+use Rattle.language.specs.Description.{Description, nodeAt}
 use Rattle.language.specs.Judging.{both}
 use Rattle.language.specs.Recursion.{below}
 use Rattle.records.specs.Nodes.{constantNumber, meant}
@@ -20,7 +21,7 @@ use Rattle.order.specs.Holds.{Actions, Nodes}
 use Rattle.order.specs.Shapes.{shapeOf}
 use Rattle.order.specs.declared.starts.Shape.{Shape}
 use Rattle.order.specs.declared.starts.Shape.the-variants as S
-use Rattle.exact.specs.Depth.{bounded, deepest, depthAt, depthBelow, depthNode, depthStep, mostActions, mostExpressions, shallow, shallowTo}
+use Rattle.exact.specs.Depth.{bounded, deepest, depthAt, depthBelow, depthNode, depthStep, mostActions, mostExpressions, shallow, shallow-so, shallowTo}
 use Rattle.shallow.specs.Depths.{depthShape, noted}
 
 -- ---- Depths by shapes.
@@ -131,3 +132,36 @@ module _ (d : Description) where
   pub few : (s t : List ℕ) → Nodes d s → Actions d t → length s / 8 ≤ 34816 → length t / 7 ≤ 4096 → shallow d ≡ bounded d
   unfolding bounded mostExpressions mostActions
   few s t h k l m = rw (le-leb (length (d .expressions)) 34816 (omega (arith, h .count)), le-leb (length (d .actions)) 4096 (omega (arith, k .count)))
+
+-- ---- A record is no deeper than the records up to it are many.
+
+node-deep : (f : ℕ → ℕ) (n : ℕ) → ((a : ℕ) → f a ≤ n) → (x : D.Node) → depthNode f x ≤ suc n
+node-deep f n h (D.constant v) = omega arith
+node-deep f n h (D.more m) = omega arith
+node-deep f n h (D.whole g) = omega arith
+node-deep f n h (D.one g e) = omega (arith, h e)
+node-deep f n h (D.part g b) = omega arith
+node-deep f n h (D.two g e k) = omega (arith, h e, h k)
+node-deep f n h (D.wordPart g e b) = omega (arith, h e)
+node-deep f n h (D.binary k a b) = omega (arith, h a, h b)
+node-deep f n h (D.prefix k a) = omega (arith, h a)
+node-deep f n h (D.cut k a c) = omega (arith, h a)
+node-deep f n h (D.firstArm e) = omega (arith, h e)
+node-deep f n h (D.nextArm a e) = omega (arith, h a, h e)
+node-deep f n h (D.choice e a m) = omega (arith, h e, h a)
+node-deep f n h D.Node.broken = omega arith
+
+module _ (d : Description) where
+  below-deep : (n i : ℕ) → depthBelow d n i ≤ n
+  unfolding depthBelow below
+  below-deep zero i = omega arith
+  below-deep (suc n) i = by-test (below-deep n) (eqb i n)
+    where
+      by-test : ((a : ℕ) → below 0 (depthStep d) n a ≤ n) → (b : Bool) → cond b (depthStep d (below 0 (depthStep d) n) n) (below 0 (depthStep d) n i) ≤ suc n
+      by-test f true = node-deep (below 0 (depthStep d) n) n f (nodeAt d n)
+      by-test f false = omega (arith, f i)
+
+  pub few-shallow : (s : List ℕ) → Nodes d s → length s / 8 ≤ 4097 → true ≡ shallow d
+  unfolding shallow depthAt
+  few-shallow s h l =
+      sym (shallow-so d (length (d .expressions)) (λ n k. let b : depthAt d n ≤ suc n = node-deep (depthBelow d n) n (below-deep n) (nodeAt d n) in omega (arith, h .count)))

@@ -68,7 +68,7 @@ fn shallow(exprs: &[u8]) -> bool
     true
 }
 
-// Whether records are few and no expression is too deep.
+// Whether records are few and no expression is too deep. No record is deeper than so many records, so that of few nothing need be noted.
 pub fn bounded(exprs: &[u8], acts: &[u8]) -> bool
     ensures { λ r. ⌜ ((d : Description) → Nodes d (now (exprs .entry)) → Actions d (now (acts .entry)) → r ≡ L.bounded d) ⌝ }
 {
@@ -77,6 +77,9 @@ pub fn bounded(exprs: &[u8], acts: &[u8]) -> bool
     }
     if MOST_ACTIONS < acts.len() / 7 {
         return false;
+    }
+    if exprs.len() / 8 <= DEEPEST as usize {
+        return true;
     }
     shallow(exprs)
 }

@@ -1,24 +1,19 @@
 use borrow.Author.Needs.{needs}
-use Rattle.image.proofs.DeclarationLaws.{bounds-past}
 use Rattle.image.proofs.facilities.bounds_at.Statement.{statement}
 use Rattle.image.proofs.facilities.bounds_at.Tie as tie
 
-two-requires : tie.Need-two-requires
-two-requires c κs = search needs
+two-there-requires : tie.Need-two-there-requires
+two-there-requires c κs = search needs
 
-add-two : tie.Need-add-two
-add-two c = search needs
+add-two-there : tie.Need-add-two-there
+add-two-there c = search needs
 
-two-requires-2 : tie.Need-two-requires-2
-two-requires-2 c κs = search needs
+two-there-requires-2 : tie.Need-two-there-requires-2
+two-there-requires-2 c κs = search needs
 
 returns : tie.Need-returns
 returns c =
-    rw (c .before .two .ensures, c .two2 .ensures)
-
-returns-2 : tie.Need-returns-2
-returns-2 c =
-    bounds-past (c .before .before .args .at) (c .before .before .args .s .now) (c .if1 .left)
+    rw (c .before .two-there .ensures, c .two-there2 .ensures)
 
 pub bounds-at-spec : {M : Type 1} → statement M
-bounds-at-spec = tie.close (tie.spec two-requires add-two two-requires-2 returns returns-2)
+bounds-at-spec = tie.close (tie.spec two-there-requires add-two-there two-there-requires-2 returns)

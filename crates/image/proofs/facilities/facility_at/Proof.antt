@@ -37,11 +37,11 @@ add-bounds-at-2 c = search needs
 bounds-at-requires-2 : tie.Need-bounds-at-requires-2
 bounds-at-requires-2 c κs = search needs
 
-add-two : tie.Need-add-two
-add-two c = search needs
+add-two-there : tie.Need-add-two-there
+add-two-there c = search needs
 
-two-requires : tie.Need-two-requires
-two-requires c κs = search needs
+two-there-requires : tie.Need-two-there-requires
+two-there-requires c κs = search needs
 
 add-t9 : tie.Need-add-t9
 add-t9 c = search needs
@@ -59,8 +59,8 @@ returns-2 : tie.Need-returns-2
 returns-2 c =
     record {
       name = sym (name-whole 13 2 (c .before .before .before .before .before .before .before .before .before .args .facilities .now) (c .before .before .before .before .before .before .before .before .before .args .n) (omega (arith, c .before .before .before .before .before .before .before .if1 .left)));
-      place = c .before .before .two .ensures ∙ sym (place-whole (c .before .before .before .before .before .before .before .before .before .args .facilities .now) (c .before .before .before .before .before .before .before .before .before .args .n) (omega (arith, c .before .before .before .before .before .before .before .if1 .left)));
-      meaning = λ name. facility-fields (c .before .before .before .before .before .before .before .before .before .args .facilities .now) (c .before .before .before .before .before .before .before .before .before .args .n) name (c .before .before .before .before .before .kind-of .ensures) refl (c .before .before .before .before .bounds-at .ensures) (c .before .before .before .bounds-at2 .ensures) (c .before .before .two .ensures)
+      place = c .before .before .two-there .ensures ∙ sym (place-whole (c .before .before .before .before .before .before .before .before .before .args .facilities .now) (c .before .before .before .before .before .before .before .before .before .args .n) (omega (arith, c .before .before .before .before .before .before .before .if1 .left)));
+      meaning = λ name. facility-fields (c .before .before .before .before .before .before .before .before .before .args .facilities .now) (c .before .before .before .before .before .before .before .before .before .args .n) name (c .before .before .before .before .before .kind-of .ensures) refl (c .before .before .before .before .bounds-at .ensures) (c .before .before .before .bounds-at2 .ensures) (c .before .before .two-there .ensures)
           ∙ sym (facility-whole (c .before .before .before .before .before .before .before .before .before .args .facilities .now) (c .before .before .before .before .before .before .before .before .before .args .n) name (c .before .before .before .before .before .before .before .if1 .left));
     }
 
@@ -77,8 +77,8 @@ facility-at-spec =
     bounds-at-requires
     add-bounds-at-2
     bounds-at-requires-2
-    add-two
-    two-requires
+    add-two-there
+    two-there-requires
     add-t9
     shared-slice-read-t12
     add-t8

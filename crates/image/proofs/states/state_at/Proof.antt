@@ -19,11 +19,11 @@ returns c =
 mul-at : tie.Need-mul-at
 mul-at c = search needs
 
-add-two : tie.Need-add-two
-add-two c = search needs
+add-two-there : tie.Need-add-two-there
+add-two-there c = search needs
 
-two-requires : tie.Need-two-requires
-two-requires c κs = search needs
+two-there-requires : tie.Need-two-there-requires
+two-there-requires c κs = search needs
 
 value-of-requires : tie.Need-value-of-requires
 value-of-requires c κs = search needs
@@ -42,7 +42,7 @@ returns-2 c =
     record {
       name = sym (name-first 7 (c .before .before .before .before .before .before .args .states .now) (c .before .before .before .before .before .before .args .n) (omega (arith, c .before .before .before .before .if1 .left)));
       meaning = λ name. rw (state-whole (c .before .before .before .before .before .before .args .states .now) (c .before .before .before .before .before .before .args .n) name (c .before .before .before .before .if1 .left))
-          (ap₂ (λ (v : Option ℕ) (r : D.Run). record { name = name; value = v; actions = r }) (c .before .before .value-of .ensures ∙ ap valueOf (c .before .before .before .two .ensures)) (c .before .run-at .ensures));
+          (ap₂ (λ (v : Option ℕ) (r : D.Run). record { name = name; value = v; actions = r }) (c .before .before .value-of .ensures ∙ ap valueOf (c .before .before .before .two-there .ensures)) (c .before .run-at .ensures));
     }
 
 pub state-at-spec : {M : Type 1} → statement M
@@ -51,8 +51,8 @@ state-at-spec =
     (tie.spec
     returns
     mul-at
-    add-two
-    two-requires
+    add-two-there
+    two-there-requires
     value-of-requires
     add-run-at
     run-at-requires

@@ -11,23 +11,23 @@ returns c =
 mul-at : tie.Need-mul-at
 mul-at c = search needs
 
-add-two : tie.Need-add-two
-add-two c = search needs
+add-two-there : tie.Need-add-two-there
+add-two-there c = search needs
 
-two-requires : tie.Need-two-requires
-two-requires c κs = search needs
+two-there-requires : tie.Need-two-there-requires
+two-there-requires c κs = search needs
 
-add-two-2 : tie.Need-add-two-2
-add-two-2 c = search needs
+add-two-there-2 : tie.Need-add-two-there-2
+add-two-there-2 c = search needs
 
-two-requires-2 : tie.Need-two-requires-2
-two-requires-2 c κs = search needs
+two-there-requires-2 : tie.Need-two-there-requires-2
+two-there-requires-2 c κs = search needs
 
-add-two-3 : tie.Need-add-two-3
-add-two-3 c = search needs
+add-two-there-3 : tie.Need-add-two-there-3
+add-two-there-3 c = search needs
 
-two-requires-3 : tie.Need-two-requires-3
-two-requires-3 c κs = search needs
+two-there-requires-3 : tie.Need-two-there-requires-3
+two-there-requires-3 c κs = search needs
 
 shared-slice-read-action-with : tie.Need-shared-slice-read-action-with
 shared-slice-read-action-with c = search needs
@@ -37,7 +37,7 @@ action-with-requires c κs = search needs
 
 returns-2 : tie.Need-returns-2
 returns-2 c =
-    c .action-with .ensures ∙ rw (c .before .before .before .before .two .ensures, c .before .before .before .two2 .ensures, c .before .before .two3 .ensures) (sym (action-whole (c .before .before .before .before .before .before .before .args .acts .now) (c .before .before .before .before .before .before .before .args .n) (c .before .before .before .before .before .if1 .left)))
+    c .action-with .ensures ∙ rw (c .before .before .before .before .two-there .ensures, c .before .before .before .two-there2 .ensures, c .before .before .two-there3 .ensures) (sym (action-whole (c .before .before .before .before .before .before .before .args .acts .now) (c .before .before .before .before .before .before .before .args .n) (c .before .before .before .before .before .if1 .left)))
 
 pub action-at-spec : {M : Type 1} → statement M
 action-at-spec =
@@ -45,12 +45,12 @@ action-at-spec =
     (tie.spec
     returns
     mul-at
-    add-two
-    two-requires
-    add-two-2
-    two-requires-2
-    add-two-3
-    two-requires-3
+    add-two-there
+    two-there-requires
+    add-two-there-2
+    two-there-requires-2
+    add-two-there-3
+    two-there-requires-3
     shared-slice-read-action-with
     action-with-requires
     returns-2)

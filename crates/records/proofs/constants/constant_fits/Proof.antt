@@ -32,14 +32,14 @@ returns-2 c =
     let n = c .before .before .before .before .args .n in
     λ v e. absurd (omega (arith, marked-within (getD s (8 * n + 1) 0 / 48) n s (constant-ends s n v e .marked), c .if2 .taken))
 
-mul-six : tie.Need-mul-six
-mul-six c = search needs
+mul-six-there : tie.Need-mul-six-there
+mul-six-there c = search needs
 
-add-six : tie.Need-add-six
-add-six c = search needs
+add-six-there : tie.Need-add-six-there
+add-six-there c = search needs
 
-six-requires : tie.Need-six-requires
-six-requires c κs = search needs
+six-there-requires : tie.Need-six-there-requires
+six-there-requires c κs = search needs
 
 add-result : tie.Need-add-result
 add-result c = search needs
@@ -55,7 +55,7 @@ returns-3 c =
     let s = c .before .before .before .before .before .args .exprs .now in
     let n = c .before .before .before .before .before .args .n in
     λ v e.
-    ap₂ ltb (c .six .ensures .0) (one-left 64 (getD s (8 * n + 1) 0 % 48 + 1) (omega arith))
+    ap₂ ltb (c .six-there .ensures .0) (one-left 64 (getD s (8 * n + 1) 0 % 48 + 1) (omega arith))
     ∙ constant-fit s n v (λ i. c .before .before .shared-slice-known2 .given i .fits) (constant-ends s n v e)
 
 pub constant-fits-spec : {M : Type 1} → statement M
@@ -68,9 +68,9 @@ constant-fits-spec =
     shared-slice-read-x
     cast-more
     returns-2
-    mul-six
-    add-six
-    six-requires
+    mul-six-there
+    add-six-there
+    six-there-requires
     add-result
     cast-result
     shl-result

@@ -23,16 +23,16 @@ unfolding number
 loop-holds c =
     (omega (arith, c .before2 .ensures), omega (arith, c .before2 .ensures), digits-start (c .before2 .result) (c .before .before .args .n - c .before .before .args .k) (c .before .before .args .exprs .now) (c .before2 .ensures))
 
-mul-six : tie.Need-mul-six Inv-loop μ-loop
-mul-six c =
+mul-six-there : tie.Need-mul-six-there Inv-loop μ-loop
+mul-six-there c =
     omega (arith, c .loop-test .taken, c .before .before .before .before .pre, c .before .before .before .before .good)
 
-add-six : tie.Need-add-six Inv-loop μ-loop
-add-six c =
+add-six-there : tie.Need-add-six-there Inv-loop μ-loop
+add-six-there c =
     omega (arith, c .loop-test .taken, c .before .before .before .before .pre, c .before .before .before .before .good)
 
-six-requires : tie.Need-six-requires Inv-loop μ-loop
-six-requires c κs =
+six-there-requires : tie.Need-six-there-requires Inv-loop μ-loop
+six-there-requires c κs =
     search needs
 
 small-requires : tie.Need-small-requires Inv-loop μ-loop
@@ -53,7 +53,7 @@ loop-less c =
 
 loop-again : tie.Need-loop-again Inv-loop μ-loop
 loop-again c =
-    (omega (arith, c .before .before .before .before .loop .inv .0), omega (arith, c .before .before .before .loop-test .taken), c .joined .ensures ∙ digits-next (c .before .before .before .before .loop .i) (c .before .before .before .before .before .before .before .args .n - c .before .before .before .before .before .before .before .args .k) (c .before .before .before .before .before .before .before .args .exprs .now) (c .before .before .before .before .loop .inv .0) (c .before .before .before .before .loop .inv .2) (c .before .small .ensures ∙ c .before .before .six .ensures .0))
+    (omega (arith, c .before .before .before .before .loop .inv .0), omega (arith, c .before .before .before .loop-test .taken), c .joined .ensures ∙ digits-next (c .before .before .before .before .loop .i) (c .before .before .before .before .before .before .before .args .n - c .before .before .before .before .before .before .before .args .k) (c .before .before .before .before .before .before .before .args .exprs .now) (c .before .before .before .before .loop .inv .0) (c .before .before .before .before .loop .inv .2) (c .before .small .ensures ∙ c .before .before .six-there .ensures .0))
 
 returns : tie.Need-returns Inv-loop μ-loop
 returns c =
@@ -68,9 +68,9 @@ number-at-spec =
     μ-loop
     before-requires
     loop-holds
-    mul-six
-    add-six
-    six-requires
+    mul-six-there
+    add-six-there
+    six-there-requires
     small-requires
     joined-requires
     add-i

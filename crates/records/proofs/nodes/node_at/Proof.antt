@@ -39,29 +39,29 @@ returns-2 : tie.Need-returns-2
 returns-2 c =
     sym (node-constant (c .before .before .before .before .before .before .before .args .exprs .now) (c .before .before .before .before .before .before .before .args .n) (c .before .before .before .before .before .if1 .left) (c .before .before .match .keys1) (sym (c .before .digits-marked .ensures) ∙ c .if2 .taken))
 
-add-six : tie.Need-add-six
-add-six c = search needs
+add-six-there : tie.Need-add-six-there
+add-six-there c = search needs
 
-six-requires : tie.Need-six-requires
-six-requires c κs = search needs
+six-there-requires : tie.Need-six-there-requires
+six-there-requires c κs = search needs
 
-add-two : tie.Need-add-two
-add-two c = search needs
+add-two-there : tie.Need-add-two-there
+add-two-there c = search needs
 
-two-requires : tie.Need-two-requires
-two-requires c κs = search needs
+two-there-requires : tie.Need-two-there-requires
+two-there-requires c κs = search needs
 
-add-two-2 : tie.Need-add-two-2
-add-two-2 c = search needs
+add-two-there-2 : tie.Need-add-two-there-2
+add-two-there-2 c = search needs
 
-two-requires-2 : tie.Need-two-requires-2
-two-requires-2 c κs = search needs
+two-there-requires-2 : tie.Need-two-there-requires-2
+two-there-requires-2 c κs = search needs
 
-add-two-3 : tie.Need-add-two-3
-add-two-3 c = search needs
+add-two-there-3 : tie.Need-add-two-there-3
+add-two-there-3 c = search needs
 
-two-requires-3 : tie.Need-two-requires-3
-two-requires-3 c κs = search needs
+two-there-requires-3 : tie.Need-two-there-requires-3
+two-there-requires-3 c κs = search needs
 
 plain-node-requires : tie.Need-plain-node-requires
 plain-node-requires c κs = search needs
@@ -72,12 +72,12 @@ returns-3 c =
 
 returns-4 : tie.Need-returns-4
 returns-4 c =
-    ap D.more (c .six .ensures .0) ∙ sym (node-more (c .before .before .before .before .before .before .args .exprs .now) (c .before .before .before .before .before .before .args .n) (c .before .before .before .before .if1 .left) (c .before .match .keys2))
+    ap D.more (c .six-there .ensures .0) ∙ sym (node-more (c .before .before .before .before .before .before .args .exprs .now) (c .before .before .before .before .before .before .args .n) (c .before .before .before .before .if1 .left) (c .before .match .keys2))
 
 returns-5 : tie.Need-returns-5
 returns-5 c =
     c .plain-node .ensures (constantNumber (c .before .before .before .before .before .before .before .before .before .args .n) (c .before .before .before .before .before .before .before .before .before .args .exprs .now))
-    ∙ rw (c .before .before .before .two .ensures, c .before .before .two2 .ensures, c .before .two3 .ensures) (sym (node-plain (c .before .before .before .before .before .before .before .before .before .args .exprs .now) (c .before .before .before .before .before .before .before .before .before .args .n) (c .before .before .before .before .before .before .before .if1 .left) (c .before .before .before .before .match .rest .0 .1) (c .before .before .before .before .match .rest .1)))
+    ∙ rw (c .before .before .before .two-there .ensures, c .before .before .two-there2 .ensures, c .before .two-there3 .ensures) (sym (node-plain (c .before .before .before .before .before .before .before .before .before .args .exprs .now) (c .before .before .before .before .before .before .before .before .before .args .n) (c .before .before .before .before .before .before .before .if1 .left) (c .before .before .before .before .match .rest .0 .1) (c .before .before .before .before .match .rest .1)))
 
 pub node-at-spec : {M : Type 1} → statement M
 node-at-spec =
@@ -92,14 +92,14 @@ node-at-spec =
     cast-t18
     add-t19
     returns-2
-    add-six
-    six-requires
-    add-two
-    two-requires
-    add-two-2
-    two-requires-2
-    add-two-3
-    two-requires-3
+    add-six-there
+    six-there-requires
+    add-two-there
+    two-there-requires
+    add-two-there-2
+    two-there-requires-2
+    add-two-there-3
+    two-there-requires-3
     plain-node-requires
     returns-3
     returns-4

@@ -1,9 +1,23 @@
 use mathlib.Core.Path.{sym, ap₂, _∙_}
 use Prim.Native.Nat.{ℕ, _+_, _*_}
-use borrow.Author.Needs.{needs}
+use native.Mathlib.Omega.{arith}
 use Rattle.records.proofs.NumberLaws.{number-four, number-past}
+use borrow.Author.Needs.{needs}
 use Rattle.records.proofs.numbers.four.Statement.{statement}
 use Rattle.records.proofs.numbers.four.Tie as tie
+
+returns : tie.Need-returns
+returns c =
+    sym (number-past 4 (c .before .before .args .at) (c .before .before .args .s .now) (omega (arith, c .if1 .taken)))
+
+sub-if2 : tie.Need-sub-if2
+sub-if2 c = search needs
+
+four-there-requires : tie.Need-four-there-requires
+four-there-requires c κs = search needs
+
+returns-2 : tie.Need-returns-2
+returns-2 c = search needs
 
 two-requires : tie.Need-two-requires
 two-requires c κs = search needs
@@ -26,18 +40,18 @@ mul-result c = search needs
 add-result : tie.Need-add-result
 add-result c = search needs
 
-returns : tie.Need-returns
-returns c =
+returns-3 : tie.Need-returns-3
+returns-3 c =
     ap₂ (λ (m n : ℕ). m + n * 0x10000) (c .before .two .ensures) (c .two2 .ensures) ∙ sym (number-four _ _)
-
-returns-2 : tie.Need-returns-2
-returns-2 c =
-    sym (number-past 4 _ _ (c .if1 .left))
 
 pub four-spec : {M : Type 1} → statement M
 four-spec =
     tie.close
     (tie.spec
+    returns
+    sub-if2
+    four-there-requires
+    returns-2
     two-requires
     cast-result
     add-two
@@ -45,5 +59,4 @@ four-spec =
     cast-result-2
     mul-result
     add-result
-    returns
-    returns-2)
+    returns-3)

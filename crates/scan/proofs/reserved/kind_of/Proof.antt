@@ -1,7 +1,9 @@
 use mathlib.Core.List.{map}
-use mathlib.Core.Path.{sym, _∙_}
+use mathlib.Core.Path.{refl, sym, _∙_}
 use Prim.Native.Nat.{_-_, _≤_}
 use Rattle.language.specs.Characters.{folded}
+use Rattle.language.specs.Scan.{bytes}
+use Rattle.scan.specs.Tables.{reservedLetters}
 use Rattle.scan.proofs.Lookup.{ReservedLeft, reserved-all, reserved-here, reserved-next, reserved-none}
 use borrow.Author.Needs.{needs}
 use native.Mathlib.Omega.{arith}
@@ -9,10 +11,10 @@ use Rattle.scan.proofs.reserved.kind_of.Statement.{statement}
 use Rattle.scan.proofs.reserved.kind_of.Tie as tie
 
 abbrev Inv-loop : tie.InvT-loop
-Inv-loop name row₀ row = (row ≤ 23) × ReservedLeft (map folded name) row
+Inv-loop name words row₀ row = (row ≤ 23) × ReservedLeft (map folded name) row
 
 abbrev μ-loop : tie.MeasureT-loop
-μ-loop name row₀ row = 23 - row
+μ-loop name words row₀ row = 23 - row
 
 loop-holds : tie.Need-loop-holds Inv-loop μ-loop
 loop-holds c = (omega arith, reserved-all _)
@@ -21,13 +23,14 @@ cast-is-word : tie.Need-cast-is-word Inv-loop μ-loop
 cast-is-word c = omega arith
 
 is-word-requires : tie.Need-is-word-requires Inv-loop μ-loop
-is-word-requires c κs = search needs
+unfolding reservedLetters bytes
+is-word-requires c κs = (omega arith, refl)
 
 add-result : tie.Need-add-result Inv-loop μ-loop
 add-result c = search needs
 
 returns : tie.Need-returns Inv-loop μ-loop
-returns c = reserved-here _ _ (c .before .before .before .loop .inv .1) (omega arith) (sym (c .before .is-word .ensures) ∙ c .if1 .taken)
+returns c = reserved-here _ _ (c .before .before .before .before .loop .inv .1) (omega arith) (sym (c .before .is-word .ensures) ∙ c .if1 .taken)
 
 add-row : tie.Need-add-row Inv-loop μ-loop
 add-row c = search needs
@@ -36,7 +39,7 @@ loop-less : tie.Need-loop-less Inv-loop μ-loop
 loop-less c = search needs
 
 loop-again : tie.Need-loop-again Inv-loop μ-loop
-loop-again c = (omega arith, reserved-next _ _ (c .before .before .before .loop .inv .1) (omega arith) (sym (c .before .is-word .ensures) ∙ c .if1 .left))
+loop-again c = (omega arith, reserved-next _ _ (c .before .before .before .before .loop .inv .1) (omega arith) (sym (c .before .is-word .ensures) ∙ c .if1 .left))
 
 returns-2 : tie.Need-returns-2 Inv-loop μ-loop
 returns-2 c = reserved-none _ _ (c .before .loop .inv .1) (omega arith)
