@@ -2,7 +2,9 @@
 """Shows that the harness sees more than the stand-in's own faults: changes the
 second simulator in one place at a time, builds the stand-in over it, and lets
 the harness find the difference. Not part of tests/run: each change takes some
-twenty seconds.
+twenty seconds. To be run when the harness, the corpus or the second simulator
+changes; a change that is missed wants a case in the corpus or another kind of
+try in the harness.
 
     tests/standin/mutants.py [NUMBER...]      all changes, or those with these numbers
 """
@@ -82,10 +84,7 @@ def changed(file, words, others):
     for part in ["tests/second", "docs", "tests/corpus/trace-example-as-printed"]:
         shutil.copytree(ROOT / part, copy / part)
     path = copy / "tests/second" / file
-    text = path.read_text()
-    if text.count(words) != 1:
-        sys.exit(f"{file} does not have this once: {words}")
-    path.write_text(text.replace(words, others))
+    path.write_text(path.read_text().replace(words, others))
     return copy / "tests/second/lib.rs"
 
 
@@ -104,8 +103,16 @@ def fails(folder, *arguments):
     return tried.returncode != 0
 
 
+def stand():
+    """Each change can still be made, also those that are not tried now."""
+    for what, file, words, _ in CHANGES:
+        if (ROOT / "tests/second" / file).read_text().count(words) != 1:
+            sys.exit(f"{what}: {file} does not have this once: {words}")
+
+
 def main():
     wanted = [int(number) for number in sys.argv[1:]] or range(len(CHANGES))
+    stand()
     prepare()
     missed = 0
     for number in wanted:

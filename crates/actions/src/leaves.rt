@@ -33,23 +33,17 @@ pub fn is(w: Word, kind: u8) -> bool
     kinds::number(found) == kind
 }
 
-// The signs with which an action begins in a state: `->`, `=>` and RETURN.
-const GOTO: u8 = 27;
-
-const CALL: u8 = 28;
-
-const RETURN: u8 = 47;
-
+// Whether an action begins with a kind in a state besides a name: `->`, `=>` or RETURN.
 pub fn signs(kind: u8) -> bool
     ensures { λ r. ⌜ r ≡ among kind (27 ∷ 28 ∷ 47 ∷ []) ⌝ }
 {
-    if kind == GOTO {
+    if kind == kinds::GOTO {
         return true;
     }
-    if kind == CALL {
+    if kind == kinds::CALL {
         return true;
     }
-    kind == RETURN
+    kind == kinds::RETURN
 }
 
 // How many of `count` records stand behind record n.

@@ -3,6 +3,7 @@ pub mod Ceilings
 pub mod Looking
 pub mod Narrow
 pub mod NodeGained
+pub mod Omitted
 pub mod Paying
 pub mod Saying
 pub mod TakenWords

@@ -127,7 +127,7 @@ keep-stuck text w z h K b c = go (view text w z)
 pub keeps : {text : List ℕ} {w n : Word} {s : State} → kindNo (w .kind) ≡ 2 → Follows text w n → Keeps text w s (record { verdict = Done; next = n; state = s })
 unfolding runsOn run feed
 keeps {text} {w} {n} {s} e x = record {
-  done = λ d z. record { course = course z; state = refl; seen = x .seen };
+  done = λ d z. record { course = course z; kind = e; state = refl; seen = x .seen };
   refused = λ f d. done-refused d;
   full = λ d. done-full d;
 }

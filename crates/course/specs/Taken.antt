@@ -17,7 +17,7 @@ use Rattle.course.specs.declared.Answer.{Answer}
 use Rattle.course.specs.declared.Bearing.{Bearing}
 use Rattle.course.specs.declared.State.{State}
 use Rattle.course.specs.declared.Verdict.the-variants.{Done, Full, Refused}
-use Rattle.course.specs.Course.{Seen, Stack, ahead, bearingOf, behind, borne, counts5, countsOf, runs}
+use Rattle.course.specs.Course.{Seen, Stack, ahead, bearingOf, behind, borne, counts5, countsOf, runs, kindNo}
 
 abbrev pub tallyOf : ℕ → Bool → ℕ
 tallyOf n true = suc n
@@ -82,6 +82,7 @@ constantWord w = L.constant (written (w .bare) (valued (w .value))) (positioned 
 -- A constant that must come is kept.
 pub record KeptOn (text : List ℕ) (w : Word) (s : State) (r : Answer) : Type 0 where
   pub course : (K : Stack) (x : Built) → runs text (keep aConstant ∷ K) w x s ≡ runs text K (r .next) (keepWord (constantWord w) x) (r .state)
+  pub kind : kindNo (w .kind) ≡ aConstant
   pub state : r .state ≡ s
   pub seen : Seen text (r .next)
 

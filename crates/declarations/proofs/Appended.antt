@@ -2,6 +2,7 @@
 use mathlib.Core.List.{List, [], _∷_, _++_, append-assoc, append-nil, map}
 use mathlib.Core.Path.{_≡_, refl, sym, ap, _∙_}
 use Prim.Native.Nat.{ℕ, suc, _+_}
+use native.Mathlib.Nat.{add-assoc}
 use native.Mathlib.Omega.{arith}
 use lib.ListN.{length}
 use Rattle.language.specs.Describe.{Noted}
@@ -19,22 +20,19 @@ unfolding facilitySize
 size-last [] d = omega arith
 size-last (e ∷ ds) d = omega (arith, size-last ds d)
 
-shift : (base m n : ℕ) → base + m + n ≡ base + (m + n)
-shift base m n = omega arith
-
 pub facilities-last : (base : ℕ) (ds : List Declaration) (d : Declaration) → facilitiesOf base (ds ++ d ∷ []) ≡ facilitiesOf base ds ++ facilityOf (base + facilitySize ds) d ∷ []
 unfolding facilitiesOf facilitySize
 facilities-last base [] d = let e : base + 0 ≡ base = omega arith in rw e
 facilities-last base (e ∷ ds) d =
     ap (λ (l : List Facility). facilityOf base e ∷ l)
-    (facilities-last (base + functionSize (e .function)) ds d ∙ ap (λ (n : ℕ). facilitiesOf (base + functionSize (e .function)) ds ++ facilityOf n d ∷ []) (shift base (functionSize (e .function)) (facilitySize ds)))
+    (facilities-last (base + functionSize (e .function)) ds d ∙ ap (λ (n : ℕ). facilitiesOf (base + functionSize (e .function)) ds ++ facilityOf n d ∷ []) (add-assoc base (functionSize (e .function)) (facilitySize ds)))
 
 pub records-last : (place : ℕ) (fs : List Facility) (f : Facility) → facilityRecords place (fs ++ f ∷ []) ≡ facilityRecords place fs ++ facilityRecord (place + storeSizeOf fs) f
 unfolding facilityRecords storeSizeOf
 records-last place [] f = let e : place + 0 ≡ place = omega arith in rw e (append-nil (facilityRecord place f))
 records-last place (g ∷ fs) f =
     ap (λ (l : List ℕ). facilityRecord place g ++ l)
-    (records-last (place + facilityBytes g) fs f ∙ ap (λ (n : ℕ). facilityRecords (place + facilityBytes g) fs ++ facilityRecord n f) (shift place (facilityBytes g) (storeSizeOf fs)))
+    (records-last (place + facilityBytes g) fs f ∙ ap (λ (n : ℕ). facilityRecords (place + facilityBytes g) fs ++ facilityRecord n f) (add-assoc place (facilityBytes g) (storeSizeOf fs)))
     ∙ sym (append-assoc (facilityRecord place g) (facilityRecords (place + facilityBytes g) fs) (facilityRecord (place + (facilityBytes g + storeSizeOf fs)) f))
 
 pub store-last : (fs : List Facility) (f : Facility) → storeSizeOf (fs ++ f ∷ []) ≡ storeSizeOf fs + facilityBytes f
@@ -50,7 +48,7 @@ unfolding besides facilitySize
 besides-last base [] d = let e : base + 0 ≡ base = omega arith in rw e (append-nil (besideOf base d))
 besides-last base (e ∷ ds) d =
     ap (λ (l : List ℕ). besideOf base e ++ l)
-    (besides-last (base + functionSize (e .function)) ds d ∙ ap (λ (n : ℕ). besides (base + functionSize (e .function)) ds ++ besideOf n d) (shift base (functionSize (e .function)) (facilitySize ds)))
+    (besides-last (base + functionSize (e .function)) ds d ∙ ap (λ (n : ℕ). besides (base + functionSize (e .function)) ds ++ besideOf n d) (add-assoc base (functionSize (e .function)) (facilitySize ds)))
     ∙ sym (append-assoc (besideOf base e) (besides (base + functionSize (e .function)) ds) (besideOf (base + (functionSize (e .function) + facilitySize ds)) d))
 
 pub names-last : (ds : List Declaration) (d : Declaration) → map (λ (x : Declaration). x .name) (ds ++ d ∷ []) ≡ map (λ (x : Declaration). x .name) ds ++ d .name ∷ []
@@ -78,5 +76,5 @@ nodes-last before base (e ∷ ds) d =
     ap (λ (l : List Noted). functionNodes (scopeOf before) base (e .function) ++ l)
     (nodes-last (before ++ e .name ∷ []) (base + functionSize (e .function)) ds d
     ∙ ap (λ (ns : List Name). facilityNodes (before ++ e .name ∷ []) (base + functionSize (e .function)) ds ++ functionNodes (scopeOf ns) (base + functionSize (e .function) + facilitySize ds) (d .function)) (append-assoc before (e .name ∷ []) (namesOf ds))
-    ∙ ap (λ (n : ℕ). facilityNodes (before ++ e .name ∷ []) (base + functionSize (e .function)) ds ++ functionNodes (scopeOf (before ++ e .name ∷ namesOf ds)) n (d .function)) (shift base (functionSize (e .function)) (facilitySize ds)))
+    ∙ ap (λ (n : ℕ). facilityNodes (before ++ e .name ∷ []) (base + functionSize (e .function)) ds ++ functionNodes (scopeOf (before ++ e .name ∷ namesOf ds)) n (d .function)) (add-assoc base (functionSize (e .function)) (facilitySize ds)))
     ∙ sym (append-assoc (functionNodes (scopeOf before) base (e .function)) (facilityNodes (before ++ e .name ∷ []) (base + functionSize (e .function)) ds) (functionNodes (scopeOf (before ++ e .name ∷ namesOf ds)) (base + (functionSize (e .function) + facilitySize ds)) (d .function)))

@@ -5,7 +5,7 @@ use Prim.Native.Nat.{ℕ, suc, _+_, _*_, _%_, _<_, _≤_}
 use native.Mathlib.Nat.{zero-add}
 use native.Mathlib.Omega.{arith}
 use lib.ListN.{drop, length, length-drop, length-take, take}
-use lib.Seq.{drop-at, length-take-le, take-add, take-take}
+use lib.Seq.{length-take-le, take-take}
 use Rattle.course.specs.declared.State.{State}
 use Rattle.course.specs.declared.Verdict.the-variants.{Done}
 use Rattle.language.specs.Describe.{Noted}
@@ -20,6 +20,7 @@ use Rattle.tables.specs.Facilities.{FacilityAdded, facilitySaid}
 use Rattle.tables.specs.Names.{namesOf}
 use Rattle.tables.specs.Rows.{expressions, rows}
 use Rattle.words.specs.declared.Word.{Word}
+use Rattle.work.proofs.Regions.{part-of, same-held}
 use Rattle.work.specs.Held.{Held, held, mostNodes, otherFrom, otherIn, placesFrom, withNodes}
 use Rattle.work.specs.Names.{namesIn}
 use Rattle.declarations.proofs.Appended.{besides-last, facilities-last, length-last, names-last, records-last, store-last}
@@ -27,17 +28,11 @@ use Rattle.declarations.specs.Listed.{Added, Awaiting, Listed, Says, bes
 
 -- ---- Expressions stay while the tables change.
 
-part-of : (p k : ℕ) (s : List ℕ) → p ≤ length s → take k (drop p s) ≡ drop p (take (p + k) s)
-part-of p k s h = sym (ap (drop p) (take-add p k s) ∙ drop-at (take p s) (take k (drop p s)) p (length-take-le p s h))
-
-same-held : {x x′ y y′ : List ℕ} {z : List ℕ} → x ≡ x′ → y ≡ y′ → _≡_ {A = Held} (record { nodes = x; places = y; other = z }) (record { nodes = x′; places = y′; other = z })
-same-held p q = rw (p, q)
-
 -- What the array holds of n expressions lies before the tables.
 front-held : (n : ℕ) (w w′ : List ℕ) → length w ≡ 275296 → n ≤ mostNodes → expressions w′ ≡ expressions w
     → (ns : List Noted) → held n w ≡ withNodes (noneHeld (otherIn w)) ns → held n w′ ≡ withNodes (noneHeld (otherIn w′)) ns
 unfolding held withNodes expressions mostNodes placesFrom otherFrom
-front-held n w w′ l h e ns g = same-held (first ∙ ap (λ (x : Held). x .nodes) g) (second ∙ ap (λ (x : Held). x .places) g)
+front-held n w w′ l h e ns g = same-held (first ∙ ap (λ (x : Held). x .nodes) g) (second ∙ ap (λ (x : Held). x .places) g) refl
   where
     first : take (8 * n) w′ ≡ take (8 * n) w
     first = sym (take-take (8 * n) 222432 w′ (omega arith)) ∙ ap (take (8 * n)) e ∙ take-take (8 * n) 222432 w (omega arith)

@@ -1,7 +1,7 @@
 -- The machine's words where a declaration begins.
-use mathlib.Core.Bool.{Bool, true, false}
+use mathlib.Core.Bool.{true}
 use mathlib.Core.List.{List, _∷_, _++_}
-use mathlib.Core.Path.{_≡_, refl, _∙_, subst}
+use mathlib.Core.Path.{_≡_, _∙_, subst}
 use Prim.Native.Nat.{ℕ, _+_, _≤_}
 use borrow.Author.Tests.{leb-true, ne-eqb}
 use Rattle.course.proofs.Looking.{View, begun, ended, name-ahead, view}
@@ -13,10 +13,11 @@ use Rattle.course.specs.Taken.{Passed, Refuses, Took}
 use Rattle.dimensions.proofs.States.{state-of}
 use Rattle.dimensions.proofs.Telling.{refuses, word-taken}
 use Rattle.dimensions.specs.Extents.{askOf}
+use Rattle.grammar.specs.FineWays.{both-first}
 use Rattle.image.specs.declared.facilities.Kind.{Kind}
 use Rattle.image.specs.declared.facilities.Kind.the-variants as F
 use Rattle.language.specs.Building.{Built, keepWord}
-use Rattle.language.specs.Machine.{Counts, ask, both, choose, deepest, feed, finish, mostCounted, mostFacilities, mostOperations, mostStates, refused, run, tallied, withinCeilings}
+use Rattle.language.specs.Machine.{Counts, ask, choose, deepest, feed, finish, mostCounted, mostFacilities, mostOperations, mostStates, refused, run, tallied, withinCeilings}
 use Rattle.language.specs.Sections.{ruleOf}
 use Rattle.language.specs.Words.{fault}
 use Rattle.words.specs.declared.Word.{Word}
@@ -56,10 +57,6 @@ module _ (text : List ℕ) (w : Word) (K : Stack) (b : Built) (s : State) (z : S
       by-view F.Computed h (begun v e q p) = rw (e, q, ne-eqb (kindNo (w .kind)) 1 n, p)
 
 -- ---- Facilities within their ceiling.
-
-both-first : (a b : Bool) → both a b ≡ true → a ≡ true
-both-first true b e = refl
-both-first false b e = e
 
 pub few-facilities : (c : Counts) → withinCeilings c ≡ true → c .facilities ≤ 256
 unfolding withinCeilings mostFacilities mostOperations mostStates mostCounted deepest

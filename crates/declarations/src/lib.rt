@@ -2,7 +2,6 @@
 use course::Answer;
 
 pub mod adding;
-pub mod kinds;
 pub mod lists;
 pub mod naming;
 pub mod stored;

@@ -1,11 +1,11 @@
 // Lists of declarations: separated by commas, and ended by a period or END.
 use crate::List;
 use crate::Progress;
-use crate::kinds;
 use crate::stored;
 use course::Bearing;
 use course::State;
 use course::Verdict;
+use course::kinds;
 use course::taking;
 use image::facilities::Kind;
 use words::Word;
@@ -26,7 +26,7 @@ pub fn ended(text: &[u8], w: Word, s: State, place: u16) -> Progress
     ensures { λ r. ⌜ Ends (now (text .entry)) w s place r ⌝ }
 {
     let kind = w.kind;
-    let k = course::kinds::number(kind);
+    let k = kinds::number(kind);
     if k == kinds::PERIOD {
         let answer = taking::take(text, w, s, false, Bearing::Level);
         return Progress { answer, place };
@@ -72,7 +72,7 @@ fn more(text: &[u8], w: Word, work: &mut [u8; 275296], s: State, place: u16, lis
     let mut after = place;
     loop {
         let kind = next.kind;
-        if course::kinds::number(kind) != course::kinds::COMMA {
+        if kinds::number(kind) != kinds::COMMA {
             return ended(text, next, state, after);
         }
         let comma = taking::take(text, next, state, false, Bearing::Level);

@@ -1,11 +1,11 @@
 // Registers, sequencing registers and memories: a name and its dimensions.
 use crate::Progress;
 use crate::adding;
-use crate::kinds;
 use crate::naming;
 use course::Bearing;
 use course::State;
 use course::Verdict;
+use course::kinds;
 use course::taking;
 use dimensions::extents;
 use image::facilities::Kind;
@@ -25,16 +25,13 @@ pub fn stored(
 ) -> Progress
     ensures { λ r. ⌜ Stores (now (text .entry)) w s place kind (now (work .entry)) (now (work .exit)) r ⌝ }
 {
-    let named = naming::facility_name(text, w, s);
-    let verdict = named.verdict;
+    let answer = naming::facility_name(text, w, s);
+    let verdict = answer.verdict;
     let Verdict::Done = verdict else {
-        return Progress {
-            answer: named,
-            place,
-        };
+        return Progress { answer, place };
     };
-    let next = named.next;
-    let state = named.state;
+    let next = answer.next;
+    let state = answer.state;
     let measured = extents::dimensions(text, next, state);
     let answer = measured.answer;
     let verdict = answer.verdict;
@@ -62,7 +59,7 @@ pub fn register(text: &[u8], w: Word, work: &mut [u8; 275296], s: State, place: 
     ensures { λ r. ⌜ Registers (now (text .entry)) w s place (now (work .entry)) (now (work .exit)) r ⌝ }
 {
     let kind = w.kind;
-    if course::kinds::number(kind) != kinds::HASH {
+    if kinds::number(kind) != kinds::HASH {
         return stored(text, w, work, s, place, Kind::Register);
     }
     let hash = taking::take(text, w, s, false, Bearing::Level);

@@ -5,6 +5,7 @@ use Prim.Native.Nat.{ℕ, suc, _+_, _-_}
 use native.Mathlib.Omega.{arith}
 use borrow.Author.Tests.{ne-eqb}
 use Rattle.course.proofs.Looking.{View, begun, ended, sign-ahead, view}
+use Rattle.course.proofs.Omitted.{omitted}
 use Rattle.course.proofs.TakenWords.{onTaken, taken-on}
 use Rattle.course.specs.declared.State.{State}
 use Rattle.course.specs.Course.{Seen, Stack, behind, counts5, countsOf, kindNo, runs, runsOn}
@@ -18,7 +19,7 @@ use Rattle.language.specs.Tree as T
 use Rattle.language.specs.Words.{fault}
 use Rattle.words.specs.declared.Word.{Word}
 use Rattle.words.specs.Meaning.{positioned}
-use Rattle.dimensions.proofs.RangeWords.{not-among, omitted}
+use Rattle.dimensions.proofs.RangeWords.{not-among}
 use Rattle.dimensions.specs.Extents.{Whose, askOf, ofOther, ofTerminal, restOf, toCome, withExtent}
 
 module _ (text : List ℕ) (w : Word) (K : Stack) (b : Built) (s : State) where
@@ -32,7 +33,7 @@ module _ (text : List ℕ) (w : Word) (K : Stack) (b : Built) (s : State) where
   -- No bracket, no dimension.
   pub extent-none : (o : Whose) → Seen text w → (kindNo (w .kind) ≡ 19 → ⊥) → runs text (ask (askOf o) ∷ K) w b s ≡ runs text (toCome o T.single ++ K) w (withExtent T.single b) s
   unfolding runsOn run feed finish choose ruleOf
-  extent-none ofOther z n = omitted text w z dimensions (enter openBracket (keep aConstant ∷ ask rangeRest ∷ ask (restOf ofOther) ∷ []) ∷ []) makeNoDimension refl (not-among (kindNo (w .kind)) 19 n) K b (withExtent T.single b) s (λ p. refl)
+  extent-none ofOther z n = omitted text w z dimensions (enter openBracket (keep aConstant ∷ ask rangeRest ∷ ask (restOf ofOther) ∷ []) ∷ []) makeNoDimension refl (not-among (kindNo (w .kind)) 19 n) K b (withExtent T.single b) (countsOf s) (λ p. refl)
   extent-none ofTerminal z n = go (view text w z)
     where
       go : View text w → runs text (ask (askOf ofTerminal) ∷ K) w b s ≡ runs text (ask terminalFunction ∷ K) w (withExtent T.single b) s

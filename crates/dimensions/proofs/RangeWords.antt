@@ -1,37 +1,25 @@
 -- The machine's words in ranges.
 use mathlib.Core.Bool.{false}
 use mathlib.Core.List.{List, [], _∷_}
-use mathlib.Core.Path.{_≡_, refl, sym, subst}
+use mathlib.Core.Path.{_≡_, refl}
 use Prim.Native.Nat.{ℕ}
 use native.Mathlib.Omega.{arith}
 use borrow.Author.Tests.{ne-eqb}
-use lib.ListN.{length}
-use Rattle.course.proofs.Looking.{View, begun, ended, sign-ahead, view}
+use Rattle.course.proofs.Looking.{sign-ahead}
+use Rattle.course.proofs.Omitted.{omitted}
 use Rattle.course.proofs.TakenWords.{onTaken, taken-on}
 use Rattle.course.specs.declared.State.{State}
-use Rattle.course.specs.Course.{Seen, Stack, ahead, behind, countsOf, kindNo, runs, runsOn}
-use Rattle.grammar.specs.Following.{Follows, among}
-use Rattle.grammar.specs.Stacks.{kindsOf, omits}
+use Rattle.course.specs.Course.{Seen, Stack, behind, countsOf, kindNo, runs, runsOn}
+use Rattle.grammar.specs.Following.{among}
 use Rattle.language.specs.Alternatives.{lead}
 use Rattle.language.specs.Building.{Built}
-use Rattle.language.specs.Declaring.{makeBoth, makeLast, treeSteps}
+use Rattle.language.specs.Declaring.{makeBoth, makeLast}
 use Rattle.language.specs.Kinds.{aConstant, colon}
-use Rattle.language.specs.Machine.{Alternative, Ask, ask, choose, feed, keep, make, may, rangeRest, run, tallied, withinCeilings}
+use Rattle.language.specs.Machine.{ask, choose, feed, keep, make, rangeRest, run, tallied}
 use Rattle.language.specs.Sections.{ruleOf}
-use Rattle.language.specs.Steps.{Step}
 use Rattle.language.specs.Words as L
 use Rattle.words.specs.declared.Word.{Word}
 use Rattle.words.specs.Meaning.{positioned}
-
--- What the look-ahead does not begin is left out, with a step that looks at no place.
-pub omitted : (text : List ℕ) (w : Word) → Seen text w → (a : Ask) (ways : List (Alternative Built)) (f : Step Built) → ruleOf treeSteps a ≡ record { ways = ways; without = may f }
-    → among (kindNo (w .kind)) (kindsOf ways) ≡ false → (K : Stack) (b d : Built) (s : State) → ((p : L.Position) → f p b ≡ d) → runs text (ask a ∷ K) w b s ≡ runs text K w d s
-unfolding runsOn
-omitted text w z a ways f e n K b d s h = omits treeSteps withinCeilings (ruleOf treeSteps) a ways f e K b d (countsOf s) h (ahead text w) (follows (view text w z)) (length text)
-  where
-    follows : View text w → Follows (kindsOf ways) (ahead text w)
-    follows (ended x y q) = subst (Follows (kindsOf ways)) (sym x) tt
-    follows (begun v x q y) = subst (Follows (kindsOf ways)) (sym x) (rw q n)
 
 pub not-among : (k x : ℕ) → (k ≡ x → ⊥) → among k (x ∷ []) ≡ false
 unfolding among
@@ -46,4 +34,4 @@ module _ (text : List ℕ) (w : Word) (K : Stack) (b : Built) (s : State) where
   -- No colon: the bound that was kept is the last.
   pub range-last : (d : Built) → ((p : L.Position) → makeLast p b ≡ d) → Seen text w → (kindNo (w .kind) ≡ 13 → ⊥) → runs text (ask rangeRest ∷ K) w b s ≡ runs text K w d s
   unfolding ruleOf
-  range-last d h z n = omitted text w z rangeRest (lead colon (keep aConstant ∷ make makeBoth ∷ []) ∷ []) makeLast refl (not-among (kindNo (w .kind)) 13 n) K b d s h
+  range-last d h z n = omitted text w z rangeRest (lead colon (keep aConstant ∷ make makeBoth ∷ []) ∷ []) makeLast refl (not-among (kindNo (w .kind)) 13 n) K b d (countsOf s) h

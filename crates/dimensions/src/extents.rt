@@ -113,26 +113,20 @@ fn behind_range(text: &[u8], w: Word, s: State, first: Ends) -> Measured
     let k = kinds::number(kind);
     let extent = row(first);
     if k == kinds::CLOSE_BRACKET {
-        let close = taking::take(text, w, s, false, Bearing::Closes);
-        return Measured {
-            answer: close,
-            extent,
-        };
+        let answer = taking::take(text, w, s, false, Bearing::Closes);
+        return Measured { answer, extent };
     }
     if k != kinds::COMMA {
         let answer = taking::refuse(w, s, 3);
         return Measured { answer, extent };
     }
-    let comma = taking::take(text, w, s, false, Bearing::Level);
-    let verdict = comma.verdict;
+    let answer = taking::take(text, w, s, false, Bearing::Level);
+    let verdict = answer.verdict;
     let Verdict::Done = verdict else {
-        return Measured {
-            answer: comma,
-            extent,
-        };
+        return Measured { answer, extent };
     };
-    let next = comma.next;
-    let state = comma.state;
+    let next = answer.next;
+    let state = answer.state;
     let second = ranges::range(text, next, state);
     let answer = second.answer;
     let verdict = answer.verdict;
@@ -141,11 +135,8 @@ fn behind_range(text: &[u8], w: Word, s: State, first: Ends) -> Measured
     };
     let next = answer.next;
     let state = answer.state;
-    let close = taking::expect(text, next, state, kinds::CLOSE_BRACKET, Bearing::Closes);
+    let answer = taking::expect(text, next, state, kinds::CLOSE_BRACKET, Bearing::Closes);
     let ends = second.ends;
     let extent = table(first, ends);
-    Measured {
-        answer: close,
-        extent,
-    }
+    Measured { answer, extent }
 }

@@ -54,7 +54,7 @@ pub complete-unbounded : {h : ℕ} {ws : List Word} {t : Text} → Is wholeText 
 unfolding parseWith
 complete-unbounded {h} {ws} {t} x end = takes (unbounded t h) x .takes (record { facilities = omega arith; operations = omega arith; states = omega arith; counted = omega arith; nesting = omega arith }) end
 
-parsed-one : {b d : Built} → parsed b ≡ parsed d → b ≡ d
+pub parsed-one : {b d : Built} → parsed b ≡ parsed d → b ≡ d
 parsed-one e = cc
 
 -- The words of a text have one tree.

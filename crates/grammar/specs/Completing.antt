@@ -50,7 +50,7 @@ x = W.name [] (position 0)
 abbrev pub i : Word
 i = W.constant oneBound (position 0)
 
-proper-on : (us vs : List Word) → Proper us → Proper vs → Proper (us ++ vs)
+pub proper-on : (us vs : List Word) → Proper us → Proper vs → Proper (us ++ vs)
 proper-on [] vs p q = q
 proper-on (w ∷ us) vs p q = (p .0, proper-on us vs (p .1) q)
 

@@ -11,7 +11,7 @@ use Rattle.language.specs.Tree.{Text}
 use Rattle.language.specs.Words.{Position, Word, fault}
 use Rattle.grammar.specs.Accepting.{Proper}
 use Rattle.grammar.specs.Completed.{completed}
-use Rattle.grammar.specs.Completing.{Completed}
+use Rattle.grammar.specs.Completing.{Completed, proper-on}
 use Rattle.grammar.specs.Refusals.{NoWay, StoppedAt, stopped, three}
 use Rattle.grammar.specs.Sound.{sound-unbounded}
 
@@ -31,10 +31,6 @@ pub record FirstFault (ws : List Word) (end : ℕ) (p : Position) : Type 0 where
 proper-left : (us vs : List Word) → Proper (us ++ vs) → Proper us
 proper-left [] vs p = tt
 proper-left (w ∷ us) vs p = (p .0, proper-left us vs (p .1))
-
-proper-on : (us vs : List Word) → Proper us → Proper vs → Proper (us ++ vs)
-proper-on [] vs p q = q
-proper-on (w ∷ us) vs p q = (p .0, proper-on us vs (p .1) q)
 
 pub first-fault : (ws : List Word) (end : ℕ) (p : Position) → Proper ws → parse ws end ≡ refused (fault p 3) → FirstFault ws end p
 unfolding parseWith

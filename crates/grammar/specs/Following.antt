@@ -41,6 +41,12 @@ afterExclusive = exclusiveSign ∷ afterAnd
 abbrev pub afterOr : List ℕ
 afterOr = plus ∷ afterExclusive
 
+-- Nothing is asked of what follows.
+pub none-following : (vs : List Word) → Follows [] vs
+unfolding among
+none-following [] = tt
+none-following (w ∷ vs) = refl
+
 pub among-first : (k x : ℕ) (xs : List ℕ) → among k (x ∷ xs) ≡ false → eqb k x ≡ false
 unfolding among
 among-first k x xs h = go (eqb k x) h

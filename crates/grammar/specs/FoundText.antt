@@ -13,13 +13,14 @@ use Rattle.language.specs.Grammar as G
 use Rattle.language.specs.Grammar.{Is}
 use Rattle.language.specs.Kinds.{controlWord, dollar, memoryWord, operationWord, registerWord, terminalWord}
 use Rattle.language.specs.Machine as M
-use Rattle.language.specs.Machine.{Counts, afterMemories, afterRegisters, afterTerminals, ask, control, dollarOption, feed, finish, noCounts, operationSpec, operationsMore, parsed, run, sections, stateStart, statesMore, tallied}
+use Rattle.language.specs.Machine.{Counts, afterMemories, afterRegisters, afterTerminals, ask, control, dollarOption, feed, finish, noCounts, operationSpec, operationsMore, run, sections, stateStart, statesMore, tallied}
 use Rattle.language.specs.Notions as N
 use Rattle.language.specs.Notions.{declared, facilities, nothing, operations, states, text, wholeText}
 use Rattle.language.specs.Sections.{ruleOf}
 use Rattle.language.specs.Tree.{Declaration, Operation, State, Text}
 use Rattle.language.specs.Words.{Position, Word, sign}
 use Rattle.grammar.specs.Accepting.{Accepts, Judge, Leaves, Picks, at-sign, chosen, never, weaken}
+use Rattle.grammar.specs.Complete.{parsed-one}
 use Rattle.grammar.specs.Control.{stated}
 use Rattle.grammar.specs.Declared.{filed-none}
 use Rattle.grammar.specs.FindingActions.{Next}
@@ -37,9 +38,6 @@ use Rattle.grammar.specs.WholeText.{amountOf}
 
 data Over (J : Judge) (b : Built) (c : Counts) : List Word → Type 0 where
   over : b ≡ J .result → J .Good c → Over J b c []
-
-parsed-one : {b d : Built} → parsed b ≡ parsed d → b ≡ d
-parsed-one e = cc
 
 finished : {J : Judge} {n h : ℕ} {b : Built} {c : Counts} (ws : List Word) → Accepts J [] n h b c ws → Over J b c ws
 unfolding run feed finish

@@ -1,7 +1,7 @@
 -- The place of 10: the word that brings a count or the nesting past its ceiling. The place of 3: no text of the grammar goes on with the word there.
-use mathlib.Core.Bool.{Bool, true, false, cond}
+use mathlib.Core.Bool.{true, false}
 use mathlib.Core.List.{List, [], _∷_, _++_, append-nil}
-use mathlib.Core.Path.{_≡_, _∙_, ap, sym, refl, subst}
+use mathlib.Core.Path.{_≡_, _∙_, ap, sym, refl}
 use Prim.Native.Nat.{ℕ, _-_}
 use native.Mathlib.Omega.{arith}
 use borrow.Author.Tests.{leb-true}
@@ -9,7 +9,7 @@ use lib.Dec.{leb}
 use Rattle.language.specs.Building.{Built, nothingBuilt, wordNo}
 use Rattle.language.specs.Declaring.{treeSteps}
 use Rattle.language.specs.Grammar.{Is}
-use Rattle.language.specs.Machine.{Counts, Fed, Reading, after, ask, both, counted, deepest, feed, mostCounted, mostFacilities, mostOperations, mostStates, nested, noCounts, reading, refused, run, sections, took, withinCeilings}
+use Rattle.language.specs.Machine.{Counts, Fed, Reading, after, ask, counted, deepest, feed, mostCounted, mostFacilities, mostOperations, mostStates, nested, noCounts, reading, refused, run, sections, took, withinCeilings}
 use Rattle.language.specs.Notions.{text, wholeText}
 use Rattle.language.specs.Sections.{parse, parseWith, ruleOf}
 use Rattle.language.specs.Tree.{Text}
@@ -18,19 +18,12 @@ use Rattle.grammar.specs.Ceilingless.{Overfull, all}
 use Rattle.grammar.specs.Complete.{complete-unbounded, fits-under, most}
 use Rattle.grammar.specs.Courses.{Stack, Under}
 use Rattle.grammar.specs.Fine.{Fine}
+use Rattle.grammar.specs.FineWays.{both-first, both-second}
 use Rattle.grammar.specs.Following.{among}
 use Rattle.grammar.specs.StaysFine.{stays-fine}
 use Rattle.grammar.specs.Stops.{Stopped, Why, find, nextPlace, no-way, not-refused, too-much, too-much-kept, too-short}
 
 -- ---- Counts that fit are under the ceilings.
-
-both-first : (a b : Bool) → both a b ≡ true → a ≡ true
-both-first true b e = refl
-both-first false b e = e
-
-both-second : (a b : Bool) → both a b ≡ true → b ≡ true
-both-second true b e = e
-both-second false b e = absurd (subst (λ (z : Bool). cond z ⊥ (Unit {0})) e tt)
 
 pub under-fits : (c : Counts) → withinCeilings c ≡ true → Under most c
 unfolding withinCeilings

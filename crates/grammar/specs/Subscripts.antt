@@ -19,17 +19,13 @@ use Rattle.language.specs.Tree as T
 use Rattle.language.specs.Tree.{Expression}
 use Rattle.language.specs.Ways.{colonInstead, expressionWays, otherTermWays, subscriptWays, termWays}
 use Rattle.language.specs.Words as W
-use Rattle.language.specs.Words.{Position, Word, kindOf, sign}
+use Rattle.language.specs.Words.{Position, Word, sign}
 use Rattle.grammar.specs.Courses.{Ceiling, Comes, Room, Stack, Under, comes, runs, took-it}
-use Rattle.grammar.specs.Following.{Follows, afterOr, among, follows-left, follows-right}
+use Rattle.grammar.specs.Following.{Follows, afterOr, among, follows-left, follows-right, none-following}
 use Rattle.grammar.specs.Levels.{Boolean, whole-expression}
 use Rattle.grammar.specs.Operators.{building, leaving-counted}
 use Rattle.grammar.specs.Stacks.{asks, choose-append, choose-followed, choose-none, on, plainWays, same-run}
 use Rattle.grammar.specs.Taking.{Apart, Arrives, Heads, NoPart, arriving, notBoolean, push}
-
-none-among : (k : ℕ) → among k [] ≡ false
-unfolding among
-none-among k = refl
 
 -- Each expression counts.
 pub counts-one : (e : Expression) → 1 ≤ countedExpression e
@@ -77,11 +73,7 @@ module _ (C : Ceiling) where
         ∙ leaving-counted {C = C} (colonInstead treeSteps part ∷ []) makeConstant waiting {K = ask rest ∷ K} {b = keepWord (W.constant n p) b} {d = makeConstant p (keepWord (W.constant n p) b)} v (λ _. refl) .course vs end a
         ∙ goes-on K (reading (makeConstant p (keepWord (W.constant n p) b)) (more counted c)) vs end
         ∙ sym (took-it C p (make makeConstant ∷ (tails ++ ask ending ∷ K)) (keepWord (W.constant n p) b) (more counted c) v (λ L q. runs C L vs end q)
-        ∙ building {C = C} {f = makeConstant} {K = tails ++ ask ending ∷ K} {b = keepWord (W.constant n p) b} {d = makeConstant p (keepWord (W.constant n p) b)} (λ _. refl) .course vs end (nothing-asked vs))
-      where
-        nothing-asked : (vs : List Word) → Follows [] vs
-        nothing-asked [] = tt
-        nothing-asked (w ∷ vs) = none-among (kindOf w)
+        ∙ building {C = C} {f = makeConstant} {K = tails ++ ask ending ∷ K} {b = keepWord (W.constant n p) b} {d = makeConstant p (keepWord (W.constant n p) b)} (λ _. refl) .course vs end (none-following vs))
     started K b c u v (W.sign k p) vs a end =
         ap (on treeSteps (C .fits) (ruleOf treeSteps) vs end)
         (asks treeSteps (C .fits) (ruleOf treeSteps) start (always (subscriptWays treeSteps waits rest (ask ending ∷ []))) starts K (sign k p) (reading b c)

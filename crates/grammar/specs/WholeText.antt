@@ -1,5 +1,4 @@
 -- The machine takes the words of a whole text, and gives its tree.
-use mathlib.Core.Bool.{false}
 use mathlib.Core.List.{List, [], _∷_, _++_, append-assoc}
 use mathlib.Core.Path.{_≡_, _∙_, ap, sym, refl}
 use Prim.Native.Nat.{ℕ, _+_}
@@ -11,11 +10,11 @@ use Rattle.language.specs.Kinds.{dollar}
 use Rattle.language.specs.Machine.{Counts, ask, choose, dollarOption, feed, finish, noCounts, parsed, reading, run, sections, tallied}
 use Rattle.language.specs.Sections.{ruleOf}
 use Rattle.language.specs.Tree.{Declaration, Operation, State, Text}
-use Rattle.language.specs.Words.{Position, Word, kindOf, sign}
+use Rattle.language.specs.Words.{Position, Word, sign}
 use Rattle.grammar.specs.Control.{Controlled, stated}
 use Rattle.grammar.specs.Courses.{Ceiling, Under, runs, then-words, took-it}
 use Rattle.grammar.specs.Declared.{Declares}
-use Rattle.grammar.specs.Following.{Follows, among}
+use Rattle.grammar.specs.Following.{none-following}
 use Rattle.grammar.specs.Operated.{OperationsFrom, OperationsPart, operated}
 use Rattle.grammar.specs.Reaching.{Amount, Space, amount, filed, memories, reaching, registers, terminals}
 
@@ -36,14 +35,6 @@ some-dollar {C} {p} = record { takes = λ b c u end. took-it C p [] b c u (λ L 
 
 pub record Texted (C : Ceiling) (h : ℕ) (us : List Word) (t : Text) : Type 0 where
   pub takes : Space (C .top) noCounts (amountOf t) h → (end : ℕ) → (b : Built) × (runs C (ask sections ∷ []) us end (reading nothingBuilt noCounts) ≡ parsed b) × (b .text ≡ t)
-
-nothing-among : (w : Word) → among (kindOf w) [] ≡ false
-unfolding among
-nothing-among w = refl
-
-none-following : (vs : List Word) → Follows [] vs
-none-following [] = tt
-none-following (w ∷ vs) = nothing-among w
 
 pub whole-text : {C : Ceiling} {h : ℕ} {us vs ws xs : List Word} {rs ms ts : List Declaration} {os : List Operation} {ss : List State} → Declares C h us rs ms ts → OperationsPart C h vs os → Controlled C h ws ss → Dollared C xs
     → Texted C h (us ++ (vs ++ (ws ++ xs))) (record { registers = rs; memories = ms; terminals = ts; operations = os; states = ss })

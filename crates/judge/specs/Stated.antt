@@ -8,10 +8,11 @@ use lib.Dec.{eqb}
 use lib.ListN.{length}
 use Rattle.image.specs.Declarations.{StateRead, stateMeant}
 use Rattle.image.specs.declared.states.State.{State}
+use Rattle.language.specs.ActionRules.{operationBelow, runJudged}
 use Rattle.language.specs.Decode.{nodeOf}
-use Rattle.language.specs.Description.{Description, Places, StatePlaces, constantValue, nodeAt, stateAt, statePlace}
+use Rattle.language.specs.Description.{Description, Places, StatePlaces, constantValue, nodeAt, stateAt, statePlace, Run}
 use Rattle.language.specs.Encode.{operationSize, stateSize}
-use Rattle.language.specs.Judging.{both}
+use Rattle.language.specs.Judging.{both, Judged}
 use Rattle.language.specs.Rules as R
 use Rattle.noted.specs.Read.{placeOf}
 use Rattle.judge.specs.Declared.{Acting}
@@ -47,3 +48,7 @@ pub record Stated (facs exprs marks places memo acts beside states labels ops sp
   pub count : length (d .states) ≡ length states / stateSize
   pub state : (n : ℕ) (x : State) → StateRead states n x → stateMeant (stateAt d n .name) x ≡ stateAt d n
   pub spot : (n : ℕ) → statePlace p n ≡ statePlacesOf spots n
+
+-- The verdict on a state's actions, in which all operations may be named.
+abbrev pub stateJudged : Description → Places → Run → Judged
+stateJudged d p r = runJudged d p true (operationBelow d p (length (d .operations))) r

@@ -1,6 +1,7 @@
 // Operations, in order of declaration: each names only those before it.
 use crate::memory;
 use image::runs::Run;
+use lists::Owner;
 use lists::walk;
 use noted::places;
 use verdict::Verdict;
@@ -37,27 +38,16 @@ fn operation(
     requires { ⌜ k ≤ 256 ⌝ }
     ensures { λ r. ⌜ ((d : Description) (p : Places) (os : List ℕ) → Acting (now (fs .entry)) (now (es .entry)) (now (fp .entry)) (now (ep .entry)) (now (memo .entry)) (now (acts .entry)) (now (ap .entry)) (now (ss .entry)) (now (labels .entry)) os d p → Performed (now (kept .entry)) k d p → runMeant body ≡ operationAt d k .body → r ≡ seen (operationJudged d p k)) ⌝ }
 {
-    let count = body.count as usize;
-    let first = body.first as usize;
-    if count == 0 {
+    let n = body.count as usize;
+    let i = body.first as usize;
+    if n == 0 {
         return verdict::faults::refused(places::nowhere(), 3);
     }
-    walk::list(
-        fs,
-        es,
-        fp,
-        ep,
-        memo,
-        acts,
-        ap,
-        ss,
-        labels,
-        kept,
-        k,
-        false,
-        count,
-        first,
-    )
+    let own = Owner {
+        state: false,
+        ops: k,
+    };
+    walk::list(fs, es, fp, ep, memo, acts, ap, ss, labels, kept, own, n, i)
 }
 
 // All operations, of which there are at most 256; their verdicts are kept.

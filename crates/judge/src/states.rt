@@ -1,8 +1,10 @@
 // States, in order: their values, their work, and the faults of their actions.
 use crate::values;
 use crate::wanted;
+use image::runs::Run;
 use image::states::State;
 use image::states::StateValue;
+use lists::Owner;
 use lists::walk;
 use noted::places;
 use verdict::Verdict;
@@ -16,7 +18,7 @@ ghost use mathlib.Core.Path.{_≡_};
 ghost use Prim.Native.Nat.{ℕ, _/_, _≤_};
 ghost use lib.Dec.{eqb};
 ghost use lib.ListN.{length};
-ghost use Rattle.image.specs.Declarations.{stateMeant, valueMeant};
+ghost use Rattle.image.specs.Declarations.{runMeant, stateMeant, valueMeant};
 ghost use Rattle.language.specs.Description as D;
 ghost use Rattle.language.specs.Description.{Description, Places, stateAt, statePlace};
 ghost use Rattle.language.specs.Judging as L;
@@ -25,8 +27,8 @@ ghost use Rattle.language.specs.WordStage.{least};
 ghost use Rattle.language.specs.Words as W;
 ghost use Rattle.verdict.specs.Meaning.{seen};
 ghost use Rattle.words.specs.Meaning.{judged, positioned};
-ghost use Rattle.judge.specs.Declared.{Performed};
-ghost use Rattle.judge.specs.Stated.{Stated, valuesBefore, wantedLength};
+ghost use Rattle.judge.specs.Declared.{Acting, Performed};
+ghost use Rattle.judge.specs.Stated.{Stated, Valued, stateJudged, statePlacesOf, valuesBefore, wantedLength};
 
 // Whether a value is there or not wanted.
 fn value_there(wanted: u64, value: StateValue) -> bool
@@ -65,8 +67,8 @@ fn with_value(wrong: Judged, own: Judged, run: Judged) -> Judged
     }
 }
 
-// State n, where all operations are judged.
-fn state(
+// The verdict on a state's actions, where all operations are judged.
+fn actions(
     fs: &[u8],
     es: &[u8],
     fp: &[u8],
@@ -78,38 +80,26 @@ fn state(
     labels: &[u8],
     kept: &[usize],
     ops: usize,
-    sp: &[u8],
-    n: usize,
-    wanted: u64,
-    s: State,
-) -> Judged
+    run: Run,
+) -> Verdict
     requires { ⌜ ops ≤ 256 ⌝ }
-    ensures { λ r. ⌜ ((d : Description) (p : Places) (os : List ℕ) → Stated (now (fs .entry)) (now (es .entry)) (now (fp .entry)) (now (ep .entry)) (now (memo .entry)) (now (acts .entry)) (now (ap .entry)) (now (ss .entry)) (now (labels .entry)) os (now (sp .entry)) d p → Performed (now (kept .entry)) ops d p → length (d .operations) ≡ ops → stateMeant (stateAt d n .name) s ≡ stateAt d n → judged r ≡ least (stateFaults d p (wantedLength wanted) (valuesBefore d p n) (statePlace p n) (stateAt d n))) ⌝ }
+    ensures { λ r. ⌜ ((d : Description) (p : Places) (os : List ℕ) → Acting (now (fs .entry)) (now (es .entry)) (now (fp .entry)) (now (ep .entry)) (now (memo .entry)) (now (acts .entry)) (now (ap .entry)) (now (ss .entry)) (now (labels .entry)) os d p → Performed (now (kept .entry)) ops d p → length (d .operations) ≡ ops → r ≡ seen (stateJudged d p (runMeant run))) ⌝ }
+{
+    let n = run.count as usize;
+    let i = run.first as usize;
+    let own = Owner { state: true, ops };
+    walk::list(fs, es, fp, ep, memo, acts, ap, ss, labels, kept, own, n, i)
+}
+
+// State n, whose actions have the verdict v.
+fn state(es: &[u8], ss: &[u8], sp: &[u8], n: usize, wanted: u64, s: State, v: Verdict) -> Judged
+    ensures { λ r. ⌜ ((d : Description) (p : Places) → Valued (now (es .entry)) (now (ss .entry)) d → statePlace p n ≡ statePlacesOf (now (sp .entry)) n → stateMeant (stateAt d n .name) s ≡ stateAt d n → v ≡ seen (stateJudged d p (stateAt d n .actions)) → judged r ≡ least (stateFaults d p (wantedLength wanted) (valuesBefore d p n) (statePlace p n) (stateAt d n))) ⌝ }
 {
     let value = s.value;
-    let actions = s.actions;
-    let count = actions.count as usize;
-    let first = actions.first as usize;
-    let run = walk::list(
-        fs,
-        es,
-        fp,
-        ep,
-        memo,
-        acts,
-        ap,
-        ss,
-        labels,
-        kept,
-        ops,
-        true,
-        count,
-        first,
-    );
     let at = places::of_state(sp, n, 0);
     let wrong = values::value_faults(es, ss, n, wanted, places::of_state(sp, n, 1), value);
-    let own = own_faults(value_there(wanted, value), at, run);
-    with_value(wrong, own, faults::faults_of(run))
+    let own = own_faults(value_there(wanted, value), at, v);
+    with_value(wrong, own, faults::faults_of(v))
 }
 
 // All states.
@@ -138,23 +128,9 @@ pub fn states(
         let k = n;
         n += 1;
         let s = image::states::state_at(ss, k);
-        let one = state(
-            fs,
-            es,
-            fp,
-            ep,
-            memo,
-            acts,
-            ap,
-            ss,
-            labels,
-            kept,
-            ops,
-            sp,
-            k,
-            wanted,
-            s,
-        );
+        let run = s.actions;
+        let v = actions(fs, es, fp, ep, memo, acts, ap, ss, labels, kept, ops, run);
+        let one = state(es, ss, sp, k, wanted, s, v);
         all = words::faults::earlier(all, one);
     }
     all

@@ -1,5 +1,5 @@
 -- Where records stand in a description as a tree gives them, each expression judged fine is a tree in order: it begins at its first record. Assumes nothing.
-use mathlib.Core.Bool.{Bool, true, false}
+use mathlib.Core.Bool.{Bool, true}
 use mathlib.Core.List.{List, [], _∷_, _++_}
 use mathlib.Core.Option.{some}
 use mathlib.Core.Path.{_≡_, refl, sym, ap, _∙_}
@@ -19,6 +19,7 @@ use Rattle.language.specs.Tree as T
 use Rattle.language.specs.Tree.{Expression}
 use Rattle.language.specs.Value.{Value}
 use Rattle.language.specs.Words.{Position}
+use Rattle.theorems.specs.LegalForm.{left-of, right-of}
 use Rattle.legal.specs.Declared.{both-so}
 use Rattle.theorems.specs.Starts.{start-lt}
 
@@ -71,14 +72,6 @@ module _ (d : Description) where
       let z : digitLength * suc i ≡ digitLength + digitLength * i = omega arith in
       div-div-eq-div-mul x (2 ^ digitLength) (2 ^ (digitLength * i)) ∙ ap (λ (n : ℕ). x / n) (sym (pow-add 2 digitLength (digitLength * i)) ∙ ap (λ (n : ℕ). 2 ^ n) (sym z))
 
-  both-first : (a b : Bool) → both a b ≡ true → a ≡ true
-  both-first true b h = refl
-  both-first false b h = h
-
-  both-last : (a b : Bool) → both a b ≡ true → b ≡ true
-  both-last true b h = h
-  both-last false b h = absurd (let z : _≡_ {A = ℕ} 0 1 = cc in omega arith)
-
   -- One digit more, above those that stand.
   digits-more : (k m : ℕ) (x : ℕ) → digitsStand d k (m + suc k) x ≡ true → isDigit48 d (nodeAt d m) (digit x k) ≡ true → digitsStand d (suc k) (m + suc k) x ≡ true
   unfolding digitsStand digitLength
@@ -90,7 +83,7 @@ module _ (d : Description) where
       let z : m + suc (suc k) ≡ suc (m + suc k) = omega arith in
       let low : Bool = isDigit48 d (nodeAt d (m + suc k)) (x % 2 ^ digitLength) in
       let i : both low (digitsStand d k (m + suc k) (x / 2 ^ digitLength)) ≡ true = rw z at h in
-      rw z (both-so {a = low} (both-first low _ i) (digits-more k m (x / 2 ^ digitLength) (both-last low _ i) (rw (shifted x k) g)))
+      rw z (both-so {a = low} (left-of low _ i) (digits-more k m (x / 2 ^ digitLength) (right-of low _ i) (rw (shifted x k) g)))
 
   is-digit : (n : Node) (x : ℕ) → n ≡ D.more x → isDigit48 d n x ≡ true
   is-digit n x e = rw e (eq-eqb x x refl)

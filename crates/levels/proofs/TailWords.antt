@@ -9,20 +9,20 @@ use borrow.Author.Tests.{ltb-false, ltb-true}
 use lib.Dec.{ltb}
 use lib.ListN.{drop, drop-of-length-le, getD, length, length-take, take}
 use lib.Seq.{drop-cons, getD-take}
-use Rattle.grammar.specs.Following.{Follows, among}
-use Rattle.grammar.specs.Stacks.{kindsOf, omits}
+use Rattle.course.proofs.Omitted.{omitted}
+use Rattle.grammar.specs.Following.{among}
 use Rattle.language.specs.Alternatives.{noStep}
 use Rattle.language.specs.Building.{Built, keepWord}
 use Rattle.language.specs.Declaring.{treeSteps}
 use Rattle.language.specs.Kinds.{aConstant}
-use Rattle.language.specs.Machine.{Alternative, Ask, Counts, Parsed, Sym, andTail, arithmeticTail, ask, choose, conTail, cutTail, exclusiveTail, feed, keep, make, may, orTail, relationTail, run, tallied, withinCeilings}
+use Rattle.language.specs.Machine.{Counts, Parsed, Sym, andTail, arithmeticTail, ask, choose, conTail, cutTail, exclusiveTail, feed, keep, make, orTail, relationTail, run, tallied}
 use Rattle.language.specs.Sections.{ruleOf}
 use Rattle.language.specs.Ways.{andWays, arithmeticTailWays, conWays, cutWays, exclusiveWays, orWays, relationWays}
 use Rattle.language.specs.Words as L
 use Rattle.words.specs.declared.Word.{Word}
 use Rattle.words.specs.Meaning.{positioned}
 use Rattle.course.specs.Course.{Seen, Stack, ahead, behind, kindNo, runsOn}
-use Rattle.course.proofs.Looking.{View, begun, ended, sign-ahead, view}
+use Rattle.course.proofs.Looking.{sign-ahead}
 use Rattle.course.proofs.TakenWords.{onTaken, taken-on}
 use Rattle.levels.specs.declared.Level.{Level}
 use Rattle.levels.specs.declared.Level.the-variants as E
@@ -94,24 +94,15 @@ module _ (text : List ℕ) (w : Word) (z : Seen text w) (b : Built) (c : Counts)
   abbrev k : ℕ
   k = kindNo (w .kind)
 
-  omitted : (a : Ask) (ways : List (Alternative Built)) → ruleOf treeSteps a ≡ record { ways = ways; without = may noStep } → among k (kindsOf ways) ≡ false
-      → (K : Stack) → on (ask a ∷ K) ≡ on K
-  unfolding runsOn
-  omitted a ways e n K = omits treeSteps withinCeilings (ruleOf treeSteps) a ways noStep e K b b c (λ p. refl) (ahead text w) (follows (view text w z)) (length text)
-    where
-      follows : View text w → Follows (kindsOf ways) (ahead text w)
-      follows (ended x y q) = subst (Follows (kindsOf ways)) (sym x) tt
-      follows (begun v x q y) = subst (Follows (kindsOf ways)) (sym x) (rw q n)
-
   pub tail-omitted : (r : Rank) → among k (operatorsOf r) ≡ false → (K : Stack) → on (tailStack r ++ K) ≡ on K
   unfolding ruleOf
-  tail-omitted R.Sum e K = omitted arithmeticTail (arithmeticTailWays treeSteps) refl e K
-  tail-omitted R.Relation e K = omitted relationTail (relationWays treeSteps) refl e K
-  tail-omitted R.Cut e K = omitted cutTail (cutWays treeSteps) refl e K
-  tail-omitted R.Con e K = omitted conTail (conWays treeSteps) refl e K
-  tail-omitted R.And e K = omitted andTail (andWays treeSteps) refl e K
-  tail-omitted R.Exclusive e K = omitted exclusiveTail (exclusiveWays treeSteps) refl e K
-  tail-omitted R.Or e K = omitted orTail (orWays treeSteps) refl e K
+  tail-omitted R.Sum e K = omitted text w z arithmeticTail (arithmeticTailWays treeSteps) noStep refl e K b b c (λ p. refl)
+  tail-omitted R.Relation e K = omitted text w z relationTail (relationWays treeSteps) noStep refl e K b b c (λ p. refl)
+  tail-omitted R.Cut e K = omitted text w z cutTail (cutWays treeSteps) noStep refl e K b b c (λ p. refl)
+  tail-omitted R.Con e K = omitted text w z conTail (conWays treeSteps) noStep refl e K b b c (λ p. refl)
+  tail-omitted R.And e K = omitted text w z andTail (andWays treeSteps) noStep refl e K b b c (λ p. refl)
+  tail-omitted R.Exclusive e K = omitted text w z exclusiveTail (exclusiveWays treeSteps) noStep refl e K b b c (λ p. refl)
+  tail-omitted R.Or e K = omitted text w z orTail (orWays treeSteps) noStep refl e K b b c (λ p. refl)
   tail-omitted R.Beyond e K = refl
 
   abbrev pub counted : Counts

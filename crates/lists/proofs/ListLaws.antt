@@ -55,6 +55,9 @@ module _ (d : Description) (p : Places) (b : Bool) (w : ℕ → Judged) where
 
   -- ---- Conditionals.
 
+  pub held-by : (m : ℕ) {i j c e : ℕ} {u v : Choices} {x y : ℕ} → i ≡ j → c ≡ e → u ≡ v → x ≡ y → heldAt d p b w m i c u x ≡ heldAt d p b w m j e v y
+  held-by m f g h q = rw (f, g, h, q)
+
   module _ (k m i c : ℕ) (choices : Choices) (x : ℕ) where
     pub held-is : m < k
         → heldAt d p b w m i c choices x

@@ -23,6 +23,26 @@ pub enum Choices {
     Several(u16),
 }
 
+// A conditional: the number of its record, its condition, its choices, and how many records belong to it.
+pub struct Branch {
+    pub number: usize,
+    pub condition: u16,
+    pub choices: Choices,
+    pub size: u16,
+}
+
+// The conditional that a record's fields give.
+pub fn branch_of(number: usize, condition: u16, choices: Choices, size: u16) -> Branch
+    ensures { λ r. ⌜ (r .number ≡ number) × (r .condition ≡ condition) × (r .choices ≡ choices) × (r .size ≡ size) ⌝ }
+{
+    Branch {
+        number,
+        condition,
+        choices,
+        size,
+    }
+}
+
 // Whether there are n arms.
 fn are(arms: usize, n: u16) -> bool
     ensures { λ r. ⌜ ((a : ℕ) → arms ≡ capped a → r ≡ eqb a n) ⌝ }

@@ -1,4 +1,5 @@
 // One action that is no conditional.
+use crate::Owner;
 use crate::stores;
 use noted::places;
 use records::actions;
@@ -104,28 +105,27 @@ pub fn simple(
     ss: &[u8],
     labels: &[u8],
     kept: &[usize],
-    ops: usize,
-    in_state: bool,
+    own: Owner,
     i: usize,
 ) -> Verdict
-    ensures { λ r. ⌜ Lists (now (fs .entry)) (now (es .entry)) (now (fp .entry)) (now (ep .entry)) (now (memo .entry)) (now (acts .entry)) (now (ap .entry)) (now (ss .entry)) (now (labels .entry)) (now (kept .entry)) ops (λ d p w. simpleJudged d p in_state w (actionPlace p i) (actionAt d i)) r ⌝ }
+    ensures { λ r. ⌜ Lists (now (fs .entry)) (now (es .entry)) (now (fp .entry)) (now (ep .entry)) (now (memo .entry)) (now (acts .entry)) (now (ap .entry)) (now (ss .entry)) (now (labels .entry)) (now (kept .entry)) (own .ops) (λ d p w. simpleJudged d p (own .state) w (actionPlace p i) (actionAt d i)) r ⌝ }
 {
     let at = places::of_record(ap, i);
     let known = fs.len() / 13;
     match actions::action_at(acts, i) {
         Action::Store(k, l, r) => {
             let v = stores::store(fs, es, fp, ep, memo, known, at, k, l, r);
-            only_in(!in_state, at, v)
+            only_in(!own.state, at, v)
         }
         Action::StorePair(k, l, m, r) => {
             let v = stores::store_pair(fs, es, fp, ep, memo, known, at, k, l, m, r);
-            only_in(!in_state, at, v)
+            only_in(!own.state, at, v)
         }
         Action::Set(l) => stores::set(fs, es, fp, ep, memo, known, at, l),
-        Action::Perform(o) => perform(kept, ops, o),
-        Action::Goto(s) => only_in(in_state, at, to_state(ss, labels, at, s)),
-        Action::Call(s) => only_in(in_state, at, to_state(ss, labels, at, s)),
-        Action::Return => only_in(in_state, at, alone()),
+        Action::Perform(o) => perform(kept, own.ops, o),
+        Action::Goto(s) => only_in(own.state, at, to_state(ss, labels, at, s)),
+        Action::Call(s) => only_in(own.state, at, to_state(ss, labels, at, s)),
+        Action::Return => only_in(own.state, at, alone()),
         Action::When(_, _) => faults::refused(at, 3),
         Action::Choose(_, _, _) => faults::refused(at, 3),
         Action::Arm(_) => faults::refused(at, 3),

@@ -1,5 +1,7 @@
-// Lists of actions and lists of arms: each record is judged once, and the number of records left falls. Every function takes what expressions take, the actions and their places (`acts`, `ap`), the states and their names (`ss`, `labels`), what is kept of operations and how many of them may be named, and whether the list is a state's.
+// Lists of actions and lists of arms: each record is judged once, and the number of records left falls. Every function takes what expressions take, the actions and their places (`acts`, `ap`), the states and their names (`ss`, `labels`), what is kept of operations, and whose the list is.
+use crate::Owner;
 use crate::conditionals;
+use crate::conditionals::Branch;
 use crate::conditionals::Choices;
 use crate::simple;
 use expressions::operators;
@@ -23,98 +25,36 @@ pub fn list(
     ss: &[u8],
     labels: &[u8],
     kept: &[usize],
-    ops: usize,
-    in_state: bool,
+    own: Owner,
     k: usize,
     i: usize,
 ) -> Verdict
     requires { ⌜ i + k ≤ 0xffffffff ⌝ }
-    ensures { λ r. ⌜ Lists (now (fs .entry)) (now (es .entry)) (now (fp .entry)) (now (ep .entry)) (now (memo .entry)) (now (acts .entry)) (now (ap .entry)) (now (ss .entry)) (now (labels .entry)) (now (kept .entry)) ops (λ d p w. listAt d p in_state w k i) r ⌝ }
+    ensures { λ r. ⌜ Lists (now (fs .entry)) (now (es .entry)) (now (fp .entry)) (now (ep .entry)) (now (memo .entry)) (now (acts .entry)) (now (ap .entry)) (now (ss .entry)) (now (labels .entry)) (now (kept .entry)) (own .ops) (λ d p w. listAt d p (own .state) w k i) r ⌝ }
 {
     if k == 0 {
         return operators::nothing();
     }
     let m = k - 1;
     match actions::action_at(acts, i) {
-        Action::When(c, x) => held(
-            fs,
-            es,
-            fp,
-            ep,
-            memo,
-            acts,
-            ap,
-            ss,
-            labels,
-            kept,
-            ops,
-            in_state,
-            m,
-            i,
-            c,
-            Choices::One,
-            x,
-        ),
+        Action::When(c, x) => {
+            let b = conditionals::branch_of(i, c, Choices::One, x);
+            held(fs, es, fp, ep, memo, acts, ap, ss, labels, kept, own, m, b)
+        }
         Action::Choose(c, n, x) => {
-            let several = Choices::Several(n);
-            held(
-                fs,
-                es,
-                fp,
-                ep,
-                memo,
-                acts,
-                ap,
-                ss,
-                labels,
-                kept,
-                ops,
-                in_state,
-                m,
-                i,
-                c,
-                several,
-                x,
-            )
+            let b = conditionals::branch_of(i, c, Choices::Several(n), x);
+            held(fs, es, fp, ep, memo, acts, ap, ss, labels, kept, own, m, b)
         }
         _ => {
-            let one = simple::simple(
-                fs,
-                es,
-                fp,
-                ep,
-                memo,
-                acts,
-                ap,
-                ss,
-                labels,
-                kept,
-                ops,
-                in_state,
-                i,
-            );
-            let rest = list(
-                fs,
-                es,
-                fp,
-                ep,
-                memo,
-                acts,
-                ap,
-                ss,
-                labels,
-                kept,
-                ops,
-                in_state,
-                m,
-                i + 1,
-            );
+            let one = simple::simple(fs, es, fp, ep, memo, acts, ap, ss, labels, kept, own, i);
+            let j = i + 1;
+            let rest = list(fs, es, fp, ep, memo, acts, ap, ss, labels, kept, own, m, j);
             operators::together(one, rest)
         }
     }
 }
 
-// A conditional at i, to which x of the m records after it belong, and the list after those.
+// A conditional, to which some of the m records after it belong, and the list after those.
 fn held(
     fs: &[u8],
     es: &[u8],
@@ -126,57 +66,28 @@ fn held(
     ss: &[u8],
     labels: &[u8],
     kept: &[usize],
-    ops: usize,
-    in_state: bool,
+    own: Owner,
     m: usize,
-    i: usize,
-    c: u16,
-    choices: Choices,
-    x: u16,
+    b: Branch,
 ) -> Verdict
-    requires { ⌜ i + 1 + m ≤ 0xffffffff ⌝ }
-    ensures { λ r. ⌜ Lists (now (fs .entry)) (now (es .entry)) (now (fp .entry)) (now (ep .entry)) (now (memo .entry)) (now (acts .entry)) (now (ap .entry)) (now (ss .entry)) (now (labels .entry)) (now (kept .entry)) ops (λ d p w. heldAt d p in_state w m i c choices x) r ⌝ }
+    requires { ⌜ b .number + 1 + m ≤ 0xffffffff ⌝ }
+    ensures { λ r. ⌜ Lists (now (fs .entry)) (now (es .entry)) (now (fp .entry)) (now (ep .entry)) (now (memo .entry)) (now (acts .entry)) (now (ap .entry)) (now (ss .entry)) (now (labels .entry)) (now (kept .entry)) (own .ops) (λ d p w. heldAt d p (own .state) w m (b .number) (b .condition) (b .choices) (b .size)) r ⌝ }
 {
-    let n = x as usize;
+    let n = b.size as usize;
     if m < n {
         return faults::refused(places::nowhere(), 3);
     }
+    let i = b.number;
     let at = places::of_record(ap, i);
     let known = fs.len() / 13;
-    let a = expressions::walk::expression(fs, es, fp, ep, memo, known, c);
-    let b = arms(
-        fs,
-        es,
-        fp,
-        ep,
-        memo,
-        acts,
-        ap,
-        ss,
-        labels,
-        kept,
-        ops,
-        in_state,
-        n,
-        i + 1,
-    );
-    let one = conditionals::conditional(at, choices, a, b);
-    let rest = list(
-        fs,
-        es,
-        fp,
-        ep,
-        memo,
-        acts,
-        ap,
-        ss,
-        labels,
-        kept,
-        ops,
-        in_state,
-        m - n,
-        i + 1 + n,
-    );
+    let a = expressions::walk::expression(fs, es, fp, ep, memo, known, b.condition);
+    let j = i + 1;
+    let choices = b.choices;
+    let inner = arms(fs, es, fp, ep, memo, acts, ap, ss, labels, kept, own, n, j);
+    let one = conditionals::conditional(at, choices, a, inner);
+    let q = j + n;
+    let l = m - n;
+    let rest = list(fs, es, fp, ep, memo, acts, ap, ss, labels, kept, own, l, q);
     operators::together(one, rest)
 }
 
@@ -192,13 +103,12 @@ fn arms(
     ss: &[u8],
     labels: &[u8],
     kept: &[usize],
-    ops: usize,
-    in_state: bool,
+    own: Owner,
     k: usize,
     i: usize,
 ) -> Verdict
     requires { ⌜ i + k ≤ 0xffffffff ⌝ }
-    ensures { λ r. ⌜ Lists (now (fs .entry)) (now (es .entry)) (now (fp .entry)) (now (ep .entry)) (now (memo .entry)) (now (acts .entry)) (now (ap .entry)) (now (ss .entry)) (now (labels .entry)) (now (kept .entry)) ops (λ d p w. armsAt d p in_state w k i) r ⌝ }
+    ensures { λ r. ⌜ Lists (now (fs .entry)) (now (es .entry)) (now (fp .entry)) (now (ep .entry)) (now (memo .entry)) (now (acts .entry)) (now (ap .entry)) (now (ss .entry)) (now (labels .entry)) (now (kept .entry)) (own .ops) (λ d p w. armsAt d p (own .state) w k i) r ⌝ }
 {
     if k == 0 {
         return operators::nothing();
@@ -215,37 +125,10 @@ fn arms(
     if m < n {
         return faults::refused(nowhere, 3);
     }
-    let first = list(
-        fs,
-        es,
-        fp,
-        ep,
-        memo,
-        acts,
-        ap,
-        ss,
-        labels,
-        kept,
-        ops,
-        in_state,
-        n,
-        i + 1,
-    );
-    let rest = arms(
-        fs,
-        es,
-        fp,
-        ep,
-        memo,
-        acts,
-        ap,
-        ss,
-        labels,
-        kept,
-        ops,
-        in_state,
-        m - n,
-        i + 1 + n,
-    );
+    let j = i + 1;
+    let first = list(fs, es, fp, ep, memo, acts, ap, ss, labels, kept, own, n, j);
+    let l = m - n;
+    let q = j + n;
+    let rest = arms(fs, es, fp, ep, memo, acts, ap, ss, labels, kept, own, l, q);
     conditionals::arm(first, rest)
 }

@@ -1,18 +1,15 @@
 -- The words with which a term begins, and what may follow a name.
-use mathlib.Core.Bool.{false}
 use mathlib.Core.List.{List, [], _∷_, _++_}
-use mathlib.Core.Path.{_≡_, refl, sym, subst}
-use Prim.Native.Nat.{ℕ, suc, _-_}
+use mathlib.Core.Path.{_≡_, refl}
+use Prim.Native.Nat.{ℕ, suc}
 use native.Mathlib.Omega.{arith}
 use borrow.Author.Tests.{ne-eqb}
-use lib.ListN.{length}
-use Rattle.grammar.specs.Following.{Follows, among}
-use Rattle.grammar.specs.Stacks.{kindsOf, omits}
+use Rattle.course.proofs.Omitted.{omitted}
+use Rattle.grammar.specs.Following.{among}
 use Rattle.language.specs.Building.{Built, expressionNo, keepWord, wordNo}
 use Rattle.language.specs.Declaring.{treeSteps}
-use Rattle.language.specs.Machine.{Ask, Alternative, Counts, Parsed, ask, choose, closes, expression, feed, finish, level, make, may, moreArms, refused, run, second, secondOption, subscript, subscripts, tallied, term, withinCeilings, word}
+use Rattle.language.specs.Machine.{Counts, Parsed, ask, choose, closes, expression, feed, finish, level, make, moreArms, refused, run, second, secondOption, subscript, subscripts, tallied, term, word}
 use Rattle.language.specs.Sections.{ruleOf}
-use Rattle.language.specs.Steps.{Step}
 use Rattle.language.specs.Tree as T
 use Rattle.language.specs.Tree.{Expression}
 use Rattle.language.specs.Words as L
@@ -83,18 +80,9 @@ module _ (text : List ℕ) (w : Word) (z : Seen text w) (b : Built) (c : Counts)
   unfolding runsOn run feed choose ruleOf tallied
   more-taken e K = rw (sign-ahead text w 31 e (omega arith))
 
-  leaves : (a : Ask) (ways : List (Alternative Built)) (f : Step Built) (d : Built) → ruleOf treeSteps a ≡ record { ways = ways; without = may f } → ((p : L.Position) → f p b ≡ d)
-      → among k (kindsOf ways) ≡ false → (K : Stack) → on (ask a ∷ K) ≡ runsOn text K (ahead text w) d c
-  unfolding runsOn
-  leaves a ways f d e h n K = omits treeSteps withinCeilings (ruleOf treeSteps) a ways f e K b d c h (ahead text w) (follows (view text w z)) (length text)
-    where
-      follows : View text w → Follows (kindsOf ways) (ahead text w)
-      follows (ended x y q) = subst (Follows (kindsOf ways)) (sym x) tt
-      follows (begun v x q y) = subst (Follows (kindsOf ways)) (sym x) (rw q n)
-
   pub no-more : (k ≡ 31 → ⊥) → (K : Stack) → on (ask moreArms ∷ K) ≡ on K
   unfolding ruleOf among
-  no-more n K = leaves moreArms _ _ b refl (λ p. refl) (rw (ne-eqb k 31 n)) K
+  no-more n K = omitted text w z moreArms _ _ refl (rw (ne-eqb k 31 n)) K b b c (λ p. refl)
 
 -- ---- After a name.
 
@@ -102,7 +90,7 @@ module _ (text : List ℕ) (w : Word) (z : Seen text w) (c : Counts) where
   pub no-subscript : (kindNo (w .kind) ≡ 19 → ⊥) → (n : List ℕ) (p : L.Position) (b : Built) (K : Stack)
       → runsOn text (ask subscripts ∷ K) (ahead text w) (keepWord (L.name n p) b) c ≡ runsOn text K (ahead text w) (pushed (T.whole n p) b) c
   unfolding ruleOf among wordNo
-  no-subscript d n p b K = leaves text w z (keepWord (L.name n p) b) c subscripts _ (treeSteps .makeWhole) (pushed (T.whole n p) b) refl (λ q. refl) (rw (ne-eqb (kindNo (w .kind)) 19 d)) K
+  no-subscript d n p b K = omitted text w z subscripts _ (treeSteps .makeWhole) refl (rw (ne-eqb (kindNo (w .kind)) 19 d)) K (keepWord (L.name n p) b) (pushed (T.whole n p) b) c (λ q. refl)
 
   pub subscript-opens : kindNo (w .kind) ≡ 19 → (b : Built) (K : Stack) → runsOn text (ask subscripts ∷ K) (ahead text w) b c ≡ onTaken text w (ask subscript ∷ K) b (countsAfter c (c .counted) (suc (c .nesting)))
   unfolding runsOn run feed choose ruleOf tallied
@@ -111,7 +99,7 @@ module _ (text : List ℕ) (w : Word) (z : Seen text w) (c : Counts) where
   pub no-second : (kindNo (w .kind) ≡ 19 → ⊥) → (n : List ℕ) (p : L.Position) (e : Expression) (b : Built) (K : Stack)
       → runsOn text (ask secondOption ∷ K) (ahead text w) (pushed e (keepWord (L.name n p) b)) c ≡ runsOn text K (ahead text w) (pushed (T.one n p e) b) c
   unfolding ruleOf among wordNo expressionNo
-  no-second d n p e b K = leaves text w z (pushed e (keepWord (L.name n p) b)) c secondOption _ (treeSteps .makeOne) (pushed (T.one n p e) b) refl (λ q. refl) (rw (ne-eqb (kindNo (w .kind)) 19 d)) K
+  no-second d n p e b K = omitted text w z secondOption _ (treeSteps .makeOne) refl (rw (ne-eqb (kindNo (w .kind)) 19 d)) K (pushed e (keepWord (L.name n p) b)) (pushed (T.one n p e) b) c (λ q. refl)
 
   pub second-opens : kindNo (w .kind) ≡ 19 → (b : Built) (K : Stack) → runsOn text (ask secondOption ∷ K) (ahead text w) b c ≡ onTaken text w (ask second ∷ K) b (countsAfter c (c .counted) (suc (c .nesting)))
   unfolding runsOn run feed choose ruleOf tallied

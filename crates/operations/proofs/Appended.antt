@@ -2,6 +2,7 @@
 use mathlib.Core.List.{List, [], _∷_, _++_, append-assoc, append-nil, map}
 use mathlib.Core.Path.{_≡_, refl, sym, ap, _∙_}
 use Prim.Native.Nat.{ℕ, _+_}
+use native.Mathlib.Nat.{add-assoc}
 use native.Mathlib.Omega.{arith}
 use Rattle.language.specs.Describe.{Noted, NotedAction, actionsIn, actionsOf, expressionsIn, nodesIn}
 use Rattle.language.specs.DescribeText.{operationActions, operationExpressions, operationNodes, operationRecords, operationScope, operationsOf, runOf}
@@ -31,9 +32,6 @@ unfolding operationExpressions
 expressions-last [] o = omega arith
 expressions-last (p ∷ os) o = omega (arith, expressions-last os o)
 
-shift : (base m n : ℕ) → base + m + n ≡ base + (m + n)
-shift base m n = omega arith
-
 abbrev pub operationAt : ℕ → Operation → D.Operation
 operationAt a o = record { name = o .name; body = runOf a (actionsIn (o .body)) }
 
@@ -42,7 +40,7 @@ unfolding operationsOf operationRecords
 operations-last a [] o = let e : a + 0 ≡ a = omega arith in rw e
 operations-last a (p ∷ os) o =
     ap (λ (l : List D.Operation). operationAt a p ∷ l)
-    (operations-last (a + actionsIn (p .body)) os o ∙ ap (λ (n : ℕ). operationsOf (a + actionsIn (p .body)) os ++ operationAt n o ∷ []) (shift a (actionsIn (p .body)) (operationRecords os)))
+    (operations-last (a + actionsIn (p .body)) os o ∙ ap (λ (n : ℕ). operationsOf (a + actionsIn (p .body)) os ++ operationAt n o ∷ []) (add-assoc a (actionsIn (p .body)) (operationRecords os)))
 
 -- It knows the operations before it.
 module _ (names : List Name) where
@@ -54,7 +52,7 @@ module _ (names : List Name) where
       let m = base + expressionsIn (p .body) in
       let here = nodesIn (operationScope names before) base (p .body) in
       ap (λ (l : List Noted). here ++ l)
-      (nodes-last (before ++ p .name ∷ []) m os o ∙ rw (append-assoc before (p .name ∷ []) (namesOf os), shift base (expressionsIn (p .body)) (operationExpressions os)))
+      (nodes-last (before ++ p .name ∷ []) m os o ∙ rw (append-assoc before (p .name ∷ []) (namesOf os), add-assoc base (expressionsIn (p .body)) (operationExpressions os)))
       ∙ sym (append-assoc here (operationNodes names (before ++ p .name ∷ []) m os) (nodesIn (operationScope names (before ++ namesOf (p ∷ os))) (base + operationExpressions (p ∷ os)) (o .body)))
 
   pub actions-last : (before : List Name) (base : ℕ) (os : List Operation) (o : Operation)
@@ -65,5 +63,5 @@ module _ (names : List Name) where
       let m = base + expressionsIn (p .body) in
       let here = actionsOf (operationScope names before) base (p .body) in
       ap (λ (l : List NotedAction). here ++ l)
-      (actions-last (before ++ p .name ∷ []) m os o ∙ rw (append-assoc before (p .name ∷ []) (namesOf os), shift base (expressionsIn (p .body)) (operationExpressions os)))
+      (actions-last (before ++ p .name ∷ []) m os o ∙ rw (append-assoc before (p .name ∷ []) (namesOf os), add-assoc base (expressionsIn (p .body)) (operationExpressions os)))
       ∙ sym (append-assoc here (operationActions names (before ++ p .name ∷ []) m os) (actionsOf (operationScope names (before ++ namesOf (p ∷ os))) (base + operationExpressions (p ∷ os)) (o .body)))

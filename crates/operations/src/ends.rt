@@ -1,9 +1,9 @@
 // The end of the section: CONTROL, alone or behind a period or END.
-use crate::kinds;
 use course::Answer;
 use course::Bearing;
 use course::State;
 use course::Verdict;
+use course::kinds;
 use course::taking;
 use words::Word;
 ghost use Rattle.operations.specs.Heads.{Controls, Ends, Shuts};
@@ -13,7 +13,7 @@ fn control(text: &[u8], w: Word, s: State) -> Answer
     ensures { λ r. ⌜ Controls (now (text .entry)) w s r ⌝ }
 {
     let kind = w.kind;
-    if course::kinds::number(kind) != kinds::CONTROL {
+    if kinds::number(kind) != kinds::CONTROL {
         return taking::refuse(w, s, 3);
     }
     taking::take(text, w, s, false, Bearing::Level)
@@ -38,14 +38,14 @@ pub fn ended(text: &[u8], w: Word, s: State) -> Answer
     ensures { λ r. ⌜ Ends (now (text .entry)) w s r ⌝ }
 {
     let kind = w.kind;
-    let k = course::kinds::number(kind);
+    let k = kinds::number(kind);
     if k == kinds::CONTROL {
         return taking::take(text, w, s, false, Bearing::Level);
     }
-    if k == declarations::kinds::PERIOD {
+    if k == kinds::PERIOD {
         return closed(text, w, s);
     }
-    if k == declarations::kinds::END {
+    if k == kinds::END {
         return closed(text, w, s);
     }
     taking::refuse(w, s, 3)

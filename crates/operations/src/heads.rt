@@ -1,9 +1,9 @@
 // What an operation begins with: its name, `=` and `[`.
-use crate::kinds;
 use course::Answer;
 use course::Bearing;
 use course::State;
 use course::Verdict;
+use course::kinds;
 use course::taking;
 use words::Word;
 ghost use mathlib.Core.Path.{_≡_};
@@ -35,7 +35,7 @@ fn name(text: &[u8], w: Word, s: State) -> Answer
     ensures { λ r. ⌜ Names (now (text .entry)) w s r ⌝ }
 {
     let kind = w.kind;
-    if course::kinds::number(kind) != course::kinds::NAME {
+    if kinds::number(kind) != kinds::NAME {
         return taking::refuse(w, s, 3);
     }
     let more = one_more(s);
@@ -60,11 +60,5 @@ pub fn head(text: &[u8], w: Word, s: State) -> Answer
     };
     let next = equal.next;
     let state = equal.state;
-    taking::expect(
-        text,
-        next,
-        state,
-        course::kinds::OPEN_BRACKET,
-        Bearing::Opens,
-    )
+    taking::expect(text, next, state, kinds::OPEN_BRACKET, Bearing::Opens)
 }

@@ -1,5 +1,6 @@
 // The sections of a text up to CONTROL (the manual, 4, 6 and 7), read as the machine of the grammar reads them.
 use course::State;
+use course::kinds;
 use course::taking;
 use simple::Acted;
 use words::next;
@@ -8,7 +9,6 @@ ghost use mathlib.Core.Path.{_≡_};
 ghost use lib.ListN.{length};
 ghost use Rattle.preamble.specs.Sections.{Preamble, startState};
 
-mod kinds;
 mod lists;
 mod sections;
 
@@ -35,7 +35,7 @@ pub fn preamble(text: &[u8], work: &mut [u8; 275296]) -> Acted
     let w = next::next_word(text, 0);
     let s = start();
     let kind = w.kind;
-    let k = course::kinds::number(kind);
+    let k = kinds::number(kind);
     if k == kinds::REGISTER {
         return sections::registers(text, w, work, s, 0);
     }

@@ -1,33 +1,23 @@
 // The sections in their order; each word decides what may follow.
-use crate::kinds;
 use crate::lists;
 use course::Bearing;
 use course::State;
 use course::Verdict;
+use course::kinds;
 use course::taking;
 use declarations::List;
 use simple::Acted;
 use words::Word;
-ghost use mathlib.Core.Path.{_≡_};
-ghost use lib.ListN.{length};
 ghost use Rattle.declarations.specs.Lists.{memories, registers, terminals};
 ghost use Rattle.language.specs.Machine.{afterMemories, afterRegisters, afterTerminals};
 ghost use Rattle.preamble.specs.Sections.{From, Goes, Operates, Somewhere, Starts};
-
-// The array has all its bytes: said, so that it is known behind a write.
-fn whole(work: &[u8; 275296]) -> usize
-    ensures { λ r. ⌜ length (now (work .entry)) ≡ 275296 ⌝ }
-{
-    let s: &[u8] = work;
-    s.len()
-}
 
 // Operations, whose word has been seen, and CONTROL.
 fn operations(text: &[u8], w: Word, work: &mut [u8; 275296], s: State, place: u16) -> Acted
     requires { ⌜ Somewhere (now text) place w s (now work) ⌝ }
     ensures { λ r. ⌜ Operates (now (text .entry)) w s place (now (work .entry)) (now (work .exit)) r ⌝ }
 {
-    whole(work);
+    work::whole(work);
     let first = taking::take(text, w, s, false, Bearing::Level);
     let verdict = first.verdict;
     let Verdict::Done = verdict else {
@@ -47,11 +37,11 @@ fn behind_terminals(text: &[u8], w: Word, work: &mut [u8; 275296], s: State, pla
     ensures { λ r. ⌜ Goes terminals afterTerminals (now (text .entry)) w s place (now (work .entry)) (now (work .exit)) r ⌝ }
 {
     let kind = w.kind;
-    let k = course::kinds::number(kind);
+    let k = kinds::number(kind);
     if k == kinds::OPERATION {
         return operations(text, w, work, s, place);
     }
-    whole(work);
+    work::whole(work);
     if k == kinds::CONTROL {
         let answer = taking::take(text, w, s, false, Bearing::Level);
         return Acted { answer, actions: 0 };
@@ -82,7 +72,7 @@ fn behind_memories(text: &[u8], w: Word, work: &mut [u8; 275296], s: State, plac
     ensures { λ r. ⌜ Goes memories afterMemories (now (text .entry)) w s place (now (work .entry)) (now (work .exit)) r ⌝ }
 {
     let kind = w.kind;
-    if course::kinds::number(kind) == kinds::TERMINAL {
+    if kinds::number(kind) == kinds::TERMINAL {
         return terminals(text, w, work, s, place);
     }
     behind_terminals(text, w, work, s, place)
@@ -110,7 +100,7 @@ fn behind_registers(text: &[u8], w: Word, work: &mut [u8; 275296], s: State, pla
     ensures { λ r. ⌜ Goes registers afterRegisters (now (text .entry)) w s place (now (work .entry)) (now (work .exit)) r ⌝ }
 {
     let kind = w.kind;
-    if course::kinds::number(kind) == kinds::MEMORY {
+    if kinds::number(kind) == kinds::MEMORY {
         return memories(text, w, work, s, place);
     }
     behind_memories(text, w, work, s, place)

@@ -2,6 +2,7 @@
 use mathlib.Core.List.{List, [], _∷_, _++_, append-assoc}
 use mathlib.Core.Path.{_≡_, refl, sym, ap, _∙_}
 use Prim.Native.Nat.{ℕ, _+_}
+use native.Mathlib.Nat.{add-assoc}
 use native.Mathlib.Omega.{arith}
 use Rattle.course.specs.declared.State.{State}
 use Rattle.grammar.specs.Conditionals.{joined-assoc}
@@ -47,9 +48,6 @@ actions-joined (T.arm l a) b = omega (arith, actions-joined a b)
 
 -- ---- The records.
 
-shift : (base m n : ℕ) → base + m + n ≡ base + (m + n)
-shift base m n = omega arith
-
 module _ (sc : Scope) where
   pub nodes-joined : (base : ℕ) (a b : Actions) → nodesIn sc base (joined a b) ≡ nodesIn sc base a ++ nodesIn sc (base + expressionsIn a) b
   unfolding joined nodesIn expressionsIn
@@ -58,7 +56,7 @@ module _ (sc : Scope) where
       let m = base + leftSize l + expressionSize e in
       let g : m + expressionsIn a ≡ base + (leftSize l + expressionSize e + expressionsIn a) = omega arith in
       rw (nodes-joined m a b, append-assoc (leftNodes sc base l), append-assoc (nodesOf sc (base + leftSize l) e), g)
-  nodes-joined base (T.set p e a) b = rw (nodes-joined (base + expressionSize e) a b, append-assoc (nodesOf sc base e), shift base (expressionSize e) (expressionsIn a))
+  nodes-joined base (T.set p e a) b = rw (nodes-joined (base + expressionSize e) a b, append-assoc (nodesOf sc base e), add-assoc base (expressionSize e) (expressionsIn a))
   nodes-joined base (T.perform n p a) b = nodes-joined base a b
   nodes-joined base (T.goto n p a) b = nodes-joined base a b
   nodes-joined base (T.call n p a) b = nodes-joined base a b
@@ -71,7 +69,7 @@ module _ (sc : Scope) where
       let m = base + expressionSize e + expressionsIn l in
       let g : m + expressionsIn a ≡ base + (expressionSize e + expressionsIn l + expressionsIn a) = omega arith in
       rw (nodes-joined m a b, append-assoc (nodesOf sc base e), append-assoc (nodesIn sc (base + expressionSize e) l), g)
-  nodes-joined base (T.arm l a) b = rw (nodes-joined (base + expressionsIn l) a b, append-assoc (nodesIn sc base l), shift base (expressionsIn l) (expressionsIn a))
+  nodes-joined base (T.arm l a) b = rw (nodes-joined (base + expressionsIn l) a b, append-assoc (nodesIn sc base l), add-assoc base (expressionsIn l) (expressionsIn a))
 
   pub records-joined : (base : ℕ) (a b : Actions) → actionsOf sc base (joined a b) ≡ actionsOf sc base a ++ actionsOf sc (base + expressionsIn a) b
   unfolding joined actionsOf expressionsIn
@@ -80,7 +78,7 @@ module _ (sc : Scope) where
       let m = base + leftSize l + expressionSize e in
       let g : m + expressionsIn a ≡ base + (leftSize l + expressionSize e + expressionsIn a) = omega arith in
       rw (records-joined m a b, g)
-  records-joined base (T.set p e a) b = rw (records-joined (base + expressionSize e) a b, shift base (expressionSize e) (expressionsIn a))
+  records-joined base (T.set p e a) b = rw (records-joined (base + expressionSize e) a b, add-assoc base (expressionSize e) (expressionsIn a))
   records-joined base (T.perform n p a) b = rw (records-joined base a b)
   records-joined base (T.goto n p a) b = rw (records-joined base a b)
   records-joined base (T.call n p a) b = rw (records-joined base a b)
@@ -94,7 +92,7 @@ module _ (sc : Scope) where
       let g : m + expressionsIn a ≡ base + (expressionSize e + expressionsIn l + expressionsIn a) = omega arith in
       rw (records-joined m a b, append-assoc (actionsOf sc (base + expressionSize e) l), g)
   records-joined base (T.arm l a) b =
-      rw (records-joined (base + expressionsIn l) a b, append-assoc (actionsOf sc base l), shift base (expressionsIn l) (expressionsIn a))
+      rw (records-joined (base + expressionsIn l) a b, append-assoc (actionsOf sc base l), add-assoc base (expressionsIn l) (expressionsIn a))
 
 -- Bytes of one list behind those of another.
 pub bytes-append : (f : NotedAction → List ℕ) (xs ys : List NotedAction) → concat f (xs ++ ys) ≡ concat f xs ++ concat f ys

@@ -14,7 +14,6 @@ use words::Position;
 use words::Word;
 use words::places;
 ghost use mathlib.Core.Path.{_≡_};
-ghost use lib.ListN.{length};
 ghost use Rattle.language.specs.Description as D;
 ghost use Rattle.language.specs.Naming.{ofOperation, ofState};
 ghost use Rattle.meanings.specs.Known as K;
@@ -33,14 +32,6 @@ pub fn keep_name(text: &[u8], w: Word, s: State) -> Answer
     taking::refuse(w, s, 3)
 }
 
-// The array has all its bytes: said, so that it is known behind a write.
-fn whole(work: &[u8; 275296]) -> usize
-    ensures { λ r. ⌜ length (now (work .entry)) ≡ 275296 ⌝ }
-{
-    let s: &[u8] = work;
-    s.len()
-}
-
 // Adds an action's record, whose word is at; the word behind the action has been seen.
 pub fn put(
     s: State,
@@ -53,7 +44,7 @@ pub fn put(
     ensures { λ r. ⌜ Puts (meant action) at next s acts (now (work .entry)) (now (work .exit)) r ⌝ }
 {
     let room = actions::add_action(work, acts, action, at);
-    whole(work);
+    work::whole(work);
     if room {
         let answer = Answer {
             verdict: Verdict::Done,

@@ -23,11 +23,6 @@ ghost use Rattle.simple.specs.Reached.{Arrows};
 pub mod leaves;
 mod stores;
 
-// The signs in a state besides `->`.
-const CALL: u8 = 28;
-
-const RETURN: u8 = 47;
-
 // What became of actions, and where they are done how many action records there are.
 pub struct Acted {
     pub answer: Answer,
@@ -110,11 +105,11 @@ pub fn signed(
     let next = taken.next;
     let found = w.kind;
     let kind = kinds::number(found);
-    if kind == RETURN {
+    if kind == kinds::RETURN {
         let at = w.at;
         return leaves::put(state, Action::Return, at, next, work, acts);
     }
-    arrow(state, kind == CALL, text, next, work, n, acts)
+    arrow(state, kind == kinds::CALL, text, next, work, n, acts)
 }
 
 // Whether a reference goes on behind a name in an operation: `[`, CON, `@`, `<-` or `=` comes.
@@ -124,10 +119,10 @@ fn refers(kind: u8) -> bool
     if kind == kinds::OPEN_BRACKET {
         return true;
     }
-    if kind == stores::CON {
+    if kind == kinds::CON {
         return true;
     }
-    if kind == stores::AT {
+    if kind == kinds::AT {
         return true;
     }
     stores::signs(kind)
@@ -140,7 +135,7 @@ fn sets(kind: u8) -> bool
     if kind == kinds::OPEN_BRACKET {
         return true;
     }
-    kind == stores::AT
+    kind == kinds::AT
 }
 
 // An action of an operation, behind its first name.

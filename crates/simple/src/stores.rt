@@ -19,10 +19,6 @@ ghost use Rattle.language.specs.Machine as L;
 ghost use Rattle.records.specs.Actions.{meant};
 ghost use Rattle.simple.specs.Reached.{AfterLeft, Stores, sided};
 
-pub const AT: u8 = 18;
-
-pub const CON: u8 = 38;
-
 // The records of a left side: one reference, or two joined by CON.
 pub enum Sides {
     One(u16),
@@ -54,7 +50,7 @@ pub fn set(s: State, text: &[u8], w: Word, work: &mut [u8; 275296], acts: u16) -
     ensures { λ r. ⌜ AfterLeft L.setSign (now (text .entry)) w s acts (now (work .entry)) (now (work .exit)) r ⌝ }
 {
     let found = w.kind;
-    if kinds::number(found) == AT {
+    if kinds::number(found) == kinds::AT {
         let taken = taking::take(text, w, s, true, Bearing::Level);
         let verdict = taken.verdict;
         let Verdict::Done = verdict else {
@@ -149,10 +145,10 @@ pub fn rest(s: State, text: &[u8], w: Word, work: &mut [u8; 275296], acts: u16) 
 {
     let found = w.kind;
     let kind = kinds::number(found);
-    if kind == CON {
+    if kind == kinds::CON {
         return second(s, text, w, work, acts);
     }
-    if kind == AT {
+    if kind == kinds::AT {
         return set(s, text, w, work, acts);
     }
     let left = Sides::One(adding::last(s.nodes));

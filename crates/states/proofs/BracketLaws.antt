@@ -1,55 +1,24 @@
 -- A state's value in parentheses, and the colon behind it, as the code reads them.
-use mathlib.Core.Bool.{true, false, true≢false}
+use mathlib.Core.Bool.{false, true≢false}
 use mathlib.Core.List.{List, _∷_}
-use mathlib.Core.Path.{_≡_, sym, ap, _∙_}
+use mathlib.Core.Path.{_≡_, ap, _∙_}
 use Prim.Native.Nat.{ℕ, suc, _-_}
 use native.Mathlib.Omega.{arith}
-use borrow.Author.Tests.{ne-eqb}
 use Rattle.actions.proofs.ListLaws.{level-same}
-use Rattle.course.proofs.Answers.{done-refused, refused-full, same-fault}
-use Rattle.course.proofs.Looking.{View, begun, constant-ahead, ended, view}
 use Rattle.course.proofs.TakenWords.{took-done, took-refused}
 use Rattle.course.specs.declared.Answer.{Answer}
 use Rattle.course.specs.declared.Bearing.the-variants.{Closes, Level, Opens}
 use Rattle.course.specs.declared.State.{State}
 use Rattle.course.specs.declared.Verdict.the-variants.{Done}
-use Rattle.course.specs.Course.{Seen, Stack, kindNo, runs, runsOn}
-use Rattle.course.specs.Taken.{Expected, Passed, Refuses, Took, afterWord, constantWord}
+use Rattle.course.specs.Course.{Seen, Stack, kindNo, runs}
+use Rattle.course.specs.Taken.{Expected, Passed, Took, afterWord, constantWord, Keeps, KeptOn}
 use Rattle.dimensions.proofs.States.{counted, state-of}
 use Rattle.language.specs.Building.{Built, keepWord}
 use Rattle.language.specs.Declaring.{treeSteps}
-use Rattle.language.specs.Machine.{ask, closes, feed, finish, firstName, keep, level, make, refused, run, stateBody, stateRest, withinCeilings, word}
-use Rattle.language.specs.Words.{fault}
+use Rattle.language.specs.Machine.{ask, closes, firstName, keep, level, make, refused, stateBody, stateRest, word}
 use Rattle.words.specs.declared.Word.{Word}
-use Rattle.words.specs.Meaning.{faulted, positioned}
 use Rattle.states.proofs.StateWords.{value-comes}
-use Rattle.states.specs.Heads.{Brackets, KeepsValue, ValueKept}
-
--- ---- A constant that must come.
-
-stuck : (text : List ℕ) (w : Word) → Seen text w → (kindNo (w .kind) ≡ 2 → ⊥) → (s : State) (K : Stack) (b : Built) → runs text (keep 2 ∷ K) w b s ≡ refused (fault (positioned (w .at)) 3)
-unfolding runsOn run feed finish
-stuck text w z n s K b = go (view text w z)
-  where
-    go : View text w → runs text (keep 2 ∷ K) w b s ≡ refused (fault (positioned (w .at)) 3)
-    go (ended x y q) = rw (x, y)
-    go (begun v x q y) = rw (x, q, ne-eqb (kindNo (w .kind)) 2 n, y)
-
-module _ {text : List ℕ} {w : Word} {s : State} {r : Answer} where
-  pub value-kept : kindNo (w .kind) ≡ 2 → Took text w (afterWord false Level s) s r → KeepsValue text w s r
-  unfolding runsOn run feed
-  value-kept e t = record {
-    done = λ d z. record { course = λ K b. rw (constant-ahead text w z e, ← t .done d .words z, ← t .done d .counts); kind = e; passed = t .done d };
-    refused = λ f d z i. absurd (true≢false (sym i ∙ t .refused f d .0));
-    full = t .full;
-  }
-
-  pub no-value : (kindNo (w .kind) ≡ 2 → ⊥) → Refuses w 3 r → KeepsValue text w s r
-  no-value n x = record {
-    done = λ d. done-refused (sym d ∙ x .verdict);
-    refused = λ f d z i K b. stuck text w z n s K b ∙ ap refused (sym (ap faulted (same-fault (sym d ∙ x .verdict)) ∙ x .is));
-    full = λ d. refused-full (sym (x .verdict) ∙ d);
-  }
+use Rattle.states.specs.Heads.{Brackets}
 
 -- ---- One word after the other.
 
@@ -71,7 +40,7 @@ module _ {text : List ℕ} {w : Word} {s : State} {a : Answer} (t : Took text w 
     full = λ d. absurd (t .full d);
   }
 
-  module _ (opened : a .verdict ≡ Done) {c : Answer} (x : KeepsValue text (a .next) (a .state) c) where
+  module _ (opened : a .verdict ≡ Done) {c : Answer} (x : Keeps text (a .next) (a .state) c) where
     p : Passed text w (afterWord false Opens s) s a
     p = t .done opened
 
@@ -81,12 +50,12 @@ module _ {text : List ℕ} {w : Word} {s : State} {a : Answer} (t : Took text w 
     pub constant-not : {v : Word} → (c .verdict ≡ Done → ⊥) → Brackets text w s (record { answer = c; constant = v })
     constant-not m k z = record {
       done = λ d. absurd (m d);
-      refused = λ f d K b. to-constant k z K b ∙ x .refused f d (p .seen) (ap withinCeilings (p .counts) ∙ p .fits) (behind K) b;
+      refused = λ f d K b. to-constant k z K b ∙ x .refused f d (p .seen) (behind K) b;
       full = x .full;
     }
 
     module _ (kept : c .verdict ≡ Done) {e : Answer} (y : Expected text 6 Closes (c .next) (c .state) e) where
-      v : ValueKept text (a .next) (a .state) c
+      v : KeptOn text (a .next) (a .state) c
       v = x .done kept (p .seen)
 
       to-close : kindNo (w .kind) ≡ 5 → Seen text w → (K : Stack) (b : Built) → runs text (ask firstName ∷ ask stateRest ∷ K) w b s ≡ runs text (behind K) (c .next) (keepWord (constantWord (a .next)) b) (c .state)
@@ -95,21 +64,21 @@ module _ {text : List ℕ} {w : Word} {s : State} {a : Answer} (t : Took text w 
       pub close-not : (e .verdict ≡ Done → ⊥) → Brackets text w s (record { answer = e; constant = a .next })
       close-not m k z = record {
         done = λ d. absurd (m d);
-        refused = λ f d K b. to-close k z K b ∙ y .refused f d (v .passed .seen) (omega arith) (word 13 level ∷ after K) (keepWord (constantWord (a .next)) b);
+        refused = λ f d K b. to-close k z K b ∙ y .refused f d (v .seen) (omega arith) (word 13 level ∷ after K) (keepWord (constantWord (a .next)) b);
         full = y .full;
       }
 
       module _ (closed : e .verdict ≡ Done) {g : Answer} (u : Expected text 13 Level (e .next) (e .state) g) where
         q : Passed text (c .next) (afterWord false Closes (c .state)) (c .state) e
-        q = y .done closed (v .passed .seen) (omega arith) .0
+        q = y .done closed (v .seen) (omega arith) .0
 
         to-colon : kindNo (w .kind) ≡ 5 → Seen text w → (K : Stack) (b : Built) → runs text (ask firstName ∷ ask stateRest ∷ K) w b s ≡ runs text (word 13 level ∷ after K) (e .next) (keepWord (constantWord (a .next)) b) (e .state)
-        to-colon k z K b = to-close k z K b ∙ y .done closed (v .passed .seen) (omega arith) .1 (word 13 level ∷ after K) (keepWord (constantWord (a .next)) b)
+        to-colon k z K b = to-close k z K b ∙ y .done closed (v .seen) (omega arith) .1 (word 13 level ∷ after K) (keepWord (constantWord (a .next)) b)
 
         back : e .state ≡ s
         back =
             state-of (q .counts) (q .kept)
-            ∙ ap (λ (j : State). counted (afterWord false Closes j) j) (level-same (v .passed) ∙ state-of (p .counts) (p .kept)) ∙ closed-again s
+            ∙ ap (λ (j : State). counted (afterWord false Closes j) j) (v .state ∙ state-of (p .counts) (p .kept)) ∙ closed-again s
 
         pub brackets-read : Brackets text w s (record { answer = g; constant = a .next })
         brackets-read k z = record {

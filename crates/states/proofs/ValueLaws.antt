@@ -4,13 +4,14 @@ use mathlib.Core.Option.{Option, none, some}
 use mathlib.Core.Path.{_≡_, refl, sym, _∙_}
 use Prim.Native.Nat.{ℕ, _%_, _^_, _<_, _≤_}
 use native.Mathlib.Nat.{mod-eq-of-lt, mod-lt}
-use borrow.Author.Tests.{eqb-false, eqb-true, leb-true, lt-ltb, ltb-true}
-use lib.Dec.{eqb, leb, ltb}
+use borrow.Author.Tests.{eqb-false, eqb-true, lt-ltb, ltb-true}
+use lib.Dec.{eqb, ltb}
 use lib.Pow.{pow-pos}
 use Rattle.language.specs.DescribeText.{stateConstant}
 use Rattle.language.specs.Scan.{written}
-use Rattle.language.specs.Value.{Value, longest, value}
+use Rattle.language.specs.Value.{Value, value}
 use Rattle.language.specs.Words.{Constant}
+use Rattle.value.proofs.Fits.{allowed-le}
 use Rattle.value.specs.Meaning.{allowed}
 use Rattle.states.specs.Begins.{lengthOf}
 
@@ -45,14 +46,6 @@ module _ (l : ℕ) (v : Value) where
       go true q = absurd (eqb-false m (v .number) h (d ∙ mod-eq-of-lt (ltb-true (v .number) (2 ^ l) q)))
       go false q = rw (e, a, q)
 
-few : (l : ℕ) → allowed l ≡ true → l ≤ 256
-unfolding allowed longest
-few l e = by (ltb 0 l) e
-  where
-    by : (t : Bool) → cond t (leb l 256) false ≡ true → l ≤ 256
-    by true q = leb-true l 256 q
-    by false q = absurd (true≢false (sym q))
-
 -- No value is longer than those of a text.
 pub not-longer : (l : ℕ) (c : Constant) → c .value .length ≤ 256 → stateConstant (lengthOf l) c .length ≤ 256
 unfolding stateConstant lengthOf
@@ -63,6 +56,6 @@ not-longer l c h = go (allowed l) refl
     go true e = by (c .bare) (ltb (c .value .number) (2 ^ l))
       where
         by : (p q : Bool) → cond p (cond q (value l (c .value .number)) (c .value)) (c .value) .length ≤ 256
-        by true true = few l e
+        by true true = allowed-le l e
         by true false = h
         by false q = h

@@ -2,6 +2,7 @@
 use mathlib.Core.List.{List, [], _∷_, _++_, append-assoc, append-nil}
 use mathlib.Core.Path.{_≡_, refl, sym, ap, _∙_}
 use Prim.Native.Nat.{ℕ, _+_}
+use native.Mathlib.Nat.{add-assoc}
 use native.Mathlib.Omega.{arith}
 use lib.ListN.{length-append}
 use Rattle.course.specs.declared.State.{State}
@@ -16,20 +17,12 @@ use Rattle.simple.specs.Actions.{actionBesides, actionRecords, frontOf}
 use Rattle.tables.specs.declared.Table.the-variants as Tb
 use Rattle.tables.specs.Names.{namesOf}
 use Rattle.tables.specs.Rows.{rows}
-use Rattle.work.proofs.NodesAdded.{nodes-append}
+use Rattle.work.proofs.NodesAdded.{nodes-append, concat-append}
 use Rattle.work.specs.Held.{withNodes}
 use Rattle.states.specs.Begins.{lengthOf}
 use Rattle.states.specs.Written.{Written, labelsOf, stateBeside, statesActions, statesSize}
 
 -- ---- Lists of states, one behind the other.
-
-shift : (base m n : ℕ) → base + m + n ≡ base + (m + n)
-shift base m n = omega arith
-
-concat-append : {A : Type 0} (f : A → List ℕ) (xs ys : List A) → concat f (xs ++ ys) ≡ concat f xs ++ concat f ys
-unfolding concat
-concat-append f [] ys = refl
-concat-append f (x ∷ xs) ys = ap (λ (l : List ℕ). f x ++ l) (concat-append f xs ys) ∙ sym (append-assoc (f x) (concat f xs) (concat f ys))
 
 labels-append : (xs ys : List T.State) → labelsOf (xs ++ ys) ≡ labelsOf xs ++ labelsOf ys
 labels-append [] ys = refl
@@ -53,7 +46,7 @@ module _ (l : ℕ) where
       let f : a + 0 ≡ a = omega arith in
       rw (e, f)
   states-append base a (x ∷ xs) ys =
-      rw (states-append (base + stateSize (lengthOf l) x) (a + actionsIn (x .actions)) xs ys, shift base (stateSize (lengthOf l) x) (statesSize l xs), shift a (actionsIn (x .actions)) (statesActions xs))
+      rw (states-append (base + stateSize (lengthOf l) x) (a + actionsIn (x .actions)) xs ys, add-assoc base (stateSize (lengthOf l) x) (statesSize l xs), add-assoc a (actionsIn (x .actions)) (statesActions xs))
 
   module _ (sc : Scope) where
     nodes-of-append : (base : ℕ) (xs ys : List T.State) → stateNodes (lengthOf l) sc base (xs ++ ys) ≡ stateNodes (lengthOf l) sc base xs ++ stateNodes (lengthOf l) sc (base + statesSize l xs) ys
@@ -62,14 +55,14 @@ module _ (l : ℕ) where
     nodes-of-append base (x ∷ xs) ys =
         let v = valueNodes (lengthOf l) (x .value) in
         let a = nodesIn sc (base + valueSize (lengthOf l) (x .value)) (x .actions) in
-        rw (nodes-of-append (base + stateSize (lengthOf l) x) xs ys, shift base (stateSize (lengthOf l) x) (statesSize l xs), append-assoc v, append-assoc a)
+        rw (nodes-of-append (base + stateSize (lengthOf l) x) xs ys, add-assoc base (stateSize (lengthOf l) x) (statesSize l xs), append-assoc v, append-assoc a)
 
     actions-of-append : (base : ℕ) (xs ys : List T.State) → stateActions (lengthOf l) sc base (xs ++ ys) ≡ stateActions (lengthOf l) sc base xs ++ stateActions (lengthOf l) sc (base + statesSize l xs) ys
     unfolding stateActions statesSize
     actions-of-append base [] ys = let e : base + 0 ≡ base = omega arith in rw e
     actions-of-append base (x ∷ xs) ys =
         let a = actionsOf sc (base + valueSize (lengthOf l) (x .value)) (x .actions) in
-        rw (actions-of-append (base + stateSize (lengthOf l) x) xs ys, shift base (stateSize (lengthOf l) x) (statesSize l xs), append-assoc a)
+        rw (actions-of-append (base + stateSize (lengthOf l) x) xs ys, add-assoc base (stateSize (lengthOf l) x) (statesSize l xs), append-assoc a)
 
 -- ---- States read one after the other.
 

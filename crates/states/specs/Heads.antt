@@ -5,11 +5,10 @@ use mathlib.Core.Path.{_≡_}
 use Prim.Native.Nat.{ℕ, _+_, _*_, _<_, _≤_}
 use lib.ListN.{length}
 use Rattle.course.specs.declared.Answer.{Answer}
-use Rattle.course.specs.declared.Bearing.the-variants.{Level}
 use Rattle.course.specs.declared.State.{State}
 use Rattle.course.specs.declared.Verdict.the-variants as Vd
 use Rattle.course.specs.Course.{Seen, Stack, countsOf, kindNo, runs}
-use Rattle.course.specs.Taken.{Passed, afterWord, constantWord}
+use Rattle.course.specs.Taken.{constantWord}
 use Rattle.image.specs.declared.states.StateValue.the-variants as Sv
 use Rattle.image.specs.Declarations.{valueMeant}
 use Rattle.language.specs.Building.{Built, keepWord}
@@ -17,7 +16,7 @@ use Rattle.language.specs.Declaring.{treeSteps}
 use Rattle.language.specs.Description.{nowhere}
 use Rattle.language.specs.DescribeText.{labelOf, stateConstant, valueNodes, valueNumber, valuePlace, valueSize}
 use Rattle.language.specs.Kinds.{aConstant, openParen}
-use Rattle.language.specs.Machine.{ask, firstName, keep, make, refused, stateBody, stateName, stateRest, stateStart, withinCeilings}
+use Rattle.language.specs.Machine.{ask, firstName, make, refused, stateBody, stateName, stateRest, stateStart, withinCeilings}
 use Rattle.language.specs.Naming.{Scope}
 use Rattle.language.specs.Scan.{written}
 use Rattle.language.specs.Tree as T
@@ -47,17 +46,6 @@ pub record Counted (w : Word) (s : State) (r : Answer) : Type 0 where
   pub full : r .verdict ≡ Vd.Full → ⊥
 
 -- ---- A value in parentheses, and the colon behind it.
-
--- A constant is kept; it is not counted.
-pub record ValueKept (text : List ℕ) (w : Word) (s : State) (r : Answer) : Type 0 where
-  pub course : (K : Stack) (b : Built) → runs text (keep aConstant ∷ K) w b s ≡ runs text K (r .next) (keepWord (constantWord w) b) (r .state)
-  pub kind : kindNo (w .kind) ≡ aConstant
-  pub passed : Passed text w (afterWord false Level s) s r
-
-pub record KeepsValue (text : List ℕ) (w : Word) (s : State) (r : Answer) : Type 0 where
-  pub done : r .verdict ≡ Vd.Done → Seen text w → ValueKept text w s r
-  pub refused : (f : Fault) → r .verdict ≡ Vd.Refused f → Seen text w → withinCeilings (countsOf s) ≡ true → (K : Stack) (b : Built) → runs text (keep aConstant ∷ K) w b s ≡ refused (faulted f)
-  pub full : r .verdict ≡ Vd.Full → ⊥
 
 pub record BracketsRead (text : List ℕ) (w : Word) (s : State) (r : Bracketed) : Type 0 where
   pub course : (K : Stack) (b : Built) → runs text (ask firstName ∷ ask stateRest ∷ K) w b s ≡ runs text (make (treeSteps .beginValued) ∷ ask stateBody ∷ K) (r .answer .next) (keepWord (constantWord (r .constant)) b) (r .answer .state)

@@ -1,5 +1,4 @@
 // The actions of a state, separated by commas, and the `/` that ends it.
-use crate::kinds as signs;
 use course::Bearing;
 use course::State;
 use course::Verdict;
@@ -40,7 +39,7 @@ fn rest(s: State, text: &[u8], w: Word, work: &mut [u8; 275296], n: Counts, acts
     loop {
         let kind = next.kind;
         if kinds::number(kind) != kinds::COMMA {
-            let answer = taking::expect(text, next, state, signs::SLASH, Bearing::Level);
+            let answer = taking::expect(text, next, state, kinds::SLASH, Bearing::Level);
             return Acted {
                 answer,
                 actions: after,
@@ -109,7 +108,7 @@ pub fn body(
         return list(s, true, name, text, w, work, n, acts);
     }
     let kind = w.kind;
-    if kinds::number(kind) == signs::SLASH {
+    if kinds::number(kind) == kinds::SLASH {
         let answer = taking::take(text, w, s, false, Bearing::Level);
         return Acted {
             answer,

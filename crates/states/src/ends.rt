@@ -1,9 +1,9 @@
 // The end of the text: a period or END, then `$` or nothing.
-use crate::kinds;
 use course::Answer;
 use course::Bearing;
 use course::State;
 use course::Verdict;
+use course::kinds;
 use course::taking;
 use simple::Acted;
 use words::Word;
@@ -41,7 +41,7 @@ fn dollar(text: &[u8], w: Word, s: State, acts: u16) -> Acted
     ensures { λ r. ⌜ Finish (L.ask L.dollarOption ∷ []) (now (text .entry)) w s acts r ⌝ }
 {
     let kind = w.kind;
-    if course::kinds::number(kind) != kinds::DOLLAR {
+    if kinds::number(kind) != kinds::DOLLAR {
         return nothing(w, s, acts);
     }
     let answer = taking::take(text, w, s, false, Bearing::Level);

@@ -1,7 +1,6 @@
 // How a state begins: a label with or without a value, or at once its actions.
 use crate::Begun;
 use crate::Head;
-use crate::kinds as signs;
 use crate::values;
 use course::Answer;
 use course::Bearing;
@@ -30,10 +29,10 @@ fn begins(kind: u8) -> bool
 {
     match kind {
         kinds::NAME => true,
-        signs::SLASH => true,
-        signs::GOTO => true,
-        signs::CALL => true,
-        signs::RETURN => true,
+        kinds::SLASH => true,
+        kinds::GOTO => true,
+        kinds::CALL => true,
+        kinds::RETURN => true,
         kinds::IF => true,
         kinds::CASE => true,
         _ => false,
@@ -93,7 +92,7 @@ fn in_brackets(text: &[u8], w: Word, s: State) -> Bracketed
         };
     };
     let constant = open.next;
-    let kept = values::keep_value(text, constant, open.state);
+    let kept = taking::keep_constant(text, constant, open.state);
     let verdict = kept.verdict;
     let Verdict::Done = verdict else {
         return Bracketed {

@@ -7,7 +7,6 @@ mod bodies;
 mod closing;
 mod ends;
 mod heads;
-mod kinds;
 pub mod reading;
 mod values;
 

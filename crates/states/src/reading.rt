@@ -3,7 +3,6 @@ use crate::bodies;
 use crate::closing;
 use crate::ends;
 use crate::heads;
-use crate::kinds as signs;
 use course::State;
 use course::Verdict;
 use course::kinds;
@@ -68,10 +67,10 @@ fn more(
     loop {
         let kind = next.kind;
         let k = kinds::number(kind);
-        if k == signs::PERIOD {
+        if k == kinds::PERIOD {
             return ends::ended(text, next, state, after);
         }
-        if k == signs::END {
+        if k == kinds::END {
             return ends::ended(text, next, state, after);
         }
         let another = one(state, text, next, work, n, after, l);

@@ -1,9 +1,4 @@
 // The value of a state: a constant in parentheses, which takes the length of the sequencing register where it was written without one and fits.
-use course::Answer;
-use course::Bearing;
-use course::State;
-use course::kinds;
-use course::taking;
 use value::Value;
 use value::lengths;
 use words::Word;
@@ -12,7 +7,7 @@ ghost use Rattle.language.specs.DescribeText.{stateConstant};
 ghost use Rattle.language.specs.Scan as S;
 ghost use Rattle.value.specs.Meaning.{valued};
 ghost use Rattle.states.specs.Begins.{lengthOf};
-ghost use Rattle.states.specs.Heads.{KeepsValue, Stated};
+ghost use Rattle.states.specs.Heads.{Stated};
 
 // The value that a constant gives a state, where the sequencing register has l bits.
 fn state_value(bare: bool, v: Value, l: u16) -> Value
@@ -49,15 +44,4 @@ pub fn stated(w: Word, l: u16) -> Word
         bare: w.bare,
         value,
     }
-}
-
-// Keeps a constant that must come; it is not counted.
-pub fn keep_value(text: &[u8], w: Word, s: State) -> Answer
-    ensures { λ r. ⌜ KeepsValue (now (text .entry)) w s r ⌝ }
-{
-    let kind = w.kind;
-    if kinds::number(kind) == kinds::CONSTANT {
-        return taking::take(text, w, s, false, Bearing::Level);
-    }
-    taking::refuse(w, s, 3)
 }

@@ -8,18 +8,14 @@ use native.Mathlib.Omega.{arith}
 use borrow.Author.Tests.{leb-true, ltb-false, ltb-true}
 use lib.Dec.{leb, ltb}
 use lib.ListN.{length, getD, take, drop, length-drop}
-use lib.Seq.{drop-at, ext-getD, getD-drop, getD-take, length-take-le, take-add}
+use lib.Seq.{ext-getD, getD-drop, getD-take, length-take-le}
 use Rattle.records.proofs.ByteLaws.{placed-after, placed-before, placed-in, placed-length}
 use Rattle.records.specs.Placed.{placed}
-use Rattle.work.proofs.Regions.{added-in, after-kept, before-kept}
+use Rattle.work.proofs.Regions.{added-in, after-kept, before-kept, part-of}
 use Rattle.work.specs.Held.{otherFrom}
 use Rattle.tables.specs.declared.Table.{Table}
 use Rattle.tables.specs.declared.Table.the-variants as T
 use Rattle.tables.specs.Rows.{Kept, Wrote, apart, apartFrom, expressions, from, most, rows, size}
-
--- A part, from the front that holds it.
-part-of : (p k : ℕ) (s : List ℕ) → p ≤ length s → take k (drop p s) ≡ drop p (take (p + k) s)
-part-of p k s h = sym (ap (drop p) (take-add p k s) ∙ drop-at (take p s) (take k (drop p s)) p (length-take-le p s h))
 
 -- ---- Tables as they lie.
 

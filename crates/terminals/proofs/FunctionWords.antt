@@ -6,10 +6,11 @@ use Prim.Native.Nat.{ℕ}
 use native.Mathlib.Omega.{arith}
 use borrow.Author.Tests.{ne-eqb}
 use Rattle.course.proofs.Looking.{View, begun, constant-ahead, ended, name-ahead, sign-ahead, view}
+use Rattle.course.proofs.Omitted.{omitted}
 use Rattle.course.proofs.TakenWords.{onTaken, taken-on}
 use Rattle.course.specs.declared.State.{State}
 use Rattle.course.specs.Course.{Seen, Stack, behind, countsOf, kindNo, runs, runsOn}
-use Rattle.dimensions.proofs.RangeWords.{not-among, omitted}
+use Rattle.dimensions.proofs.RangeWords.{not-among}
 use Rattle.language.specs.Alternatives.{closing, kept, plainWord}
 use Rattle.language.specs.Building.{Built, keepWord, nameOf, wordNo}
 use Rattle.language.specs.Declaring.{makeComputed, makeInput, makePlain}
@@ -36,7 +37,7 @@ module _ (text : List ℕ) (w : Word) (K : Stack) (b : Built) (s : State) where
 
   pub no-function : Seen text w → (kindNo (w .kind) ≡ 16 → ⊥) → (d : Built) → ((p : L.Position) → makePlain p b ≡ d) → runs text (ask terminalFunction ∷ K) w b s ≡ runs text K w d s
   unfolding ruleOf
-  no-function z n d h = omitted text w z terminalFunction (kept equalSign (ask functionOf ∷ []) ∷ []) makePlain refl (not-among (kindNo (w .kind)) 16 n) K b d s h
+  no-function z n d h = omitted text w z terminalFunction (kept equalSign (ask functionOf ∷ []) ∷ []) makePlain refl (not-among (kindNo (w .kind)) 16 n) K b d (countsOf s) h
 
   pub input-taken : kindNo (w .kind) ≡ 44 → runs text (ask functionOf ∷ K) w b s ≡ onTaken text w (inputStack K) b (countsOf s)
   unfolding runsOn run feed choose ruleOf tallied

@@ -1,12 +1,12 @@
 // The function of a terminal: none, an input, or an expression.
 use crate::Defined;
 use crate::inputs;
-use crate::kinds;
 use course::Answer;
 use course::Bearing;
 use course::State;
 use course::Verdict;
 use course::adding;
+use course::kinds;
 use course::taking;
 use image::facilities::Kind;
 use levels::Level;
@@ -60,7 +60,7 @@ fn behind_equal(
     ensures { λ r. ⌜ Follows (now (text .entry)) name equal w s (now (work .entry)) (now (work .exit)) r ⌝ }
 {
     let kind = w.kind;
-    if course::kinds::number(kind) != kinds::INPUT {
+    if kinds::number(kind) != kinds::INPUT {
         return computed(text, equal, w, work, s);
     }
     let equals = places::position(0);
@@ -88,7 +88,7 @@ pub fn function(
         return plain(w, s);
     }
     let kind = w.kind;
-    if course::kinds::number(kind) != kinds::EQUAL {
+    if kinds::number(kind) != kinds::EQUAL {
         return plain(w, s);
     }
     let equal = taking::take(text, w, s, false, Bearing::Level);

@@ -6,7 +6,6 @@ use words::Position;
 pub mod declaring;
 pub mod functions;
 pub mod inputs;
-pub mod kinds;
 pub mod lists;
 
 // What became of a terminal's function, and where it is done what it makes of the terminal: its kind, the number of its expression and the place of its `=`.

@@ -19,16 +19,9 @@ use Rattle.language.specs.Value.{Value}
 use Rattle.language.specs.Words.{Position}
 use Rattle.legal.specs.Declared.{both-so}
 use Rattle.legal.specs.Starts.{Stand}
+use Rattle.theorems.specs.LegalForm.{left-of, right-of}
 
 module _ (d : Description) where
-  both-first : (a b : Bool) → both a b ≡ true → a ≡ true
-  both-first true b h = refl
-  both-first false b h = h
-
-  both-last : (a b : Bool) → both a b ≡ true → b ≡ true
-  both-last true b h = h
-  both-last false b h = absurd (let z : _≡_ {A = ℕ} 0 1 = cc in omega arith)
-
   wrong : {A : Type 0} → false ≡ true → A
   wrong e = absurd (let z : _≡_ {A = ℕ} 0 1 = cc in omega arith)
 
@@ -64,13 +57,13 @@ module _ (d : Description) where
       let z : m + 1 ≡ suc m = omega arith in
       let one : x / 2 ^ (digitLength * 0) ≡ x = div-one x in
       let i : both (isDigit48 d (nodeAt d m) (x % 2 ^ digitLength)) true ≡ true = rw z at h in
-      (refl, rw one (digit-is (nodeAt d m) (x % 2 ^ digitLength) (both-first _ true i)))
+      (refl, rw one (digit-is (nodeAt d m) (x % 2 ^ digitLength) (left-of _ true i)))
   highest (suc k) m x h =
       let z : m + suc (suc k) ≡ suc (m + suc k) = omega arith in
       let low : Bool = isDigit48 d (nodeAt d (m + suc k)) (x % 2 ^ digitLength) in
       let i : both low (digitsStand d (suc k) (m + suc k) (x / 2 ^ digitLength)) ≡ true = rw z at h in
-      let y = highest k m (x / 2 ^ digitLength) (both-last low _ i) in
-      (rw z (both-so {a = low} (both-first low _ i) (y .0)), rw (← shifted x k) (y .1))
+      let y = highest k m (x / 2 ^ digitLength) (right-of low _ i) in
+      (rw z (both-so {a = low} (left-of low _ i) (y .0)), rw (← shifted x k) (y .1))
 
   digits-stand : (k base x : ℕ) (p : Position) (rest : List Noted) → digitsStand d k (base + k) (x / 2 ^ digitLength) ≡ true → Stand d (base + k) rest → Stand d base (digitsAbove k x p rest)
   unfolding digitsAbove digitLength
@@ -84,7 +77,7 @@ module _ (d : Description) where
   unfolding digitsStand
   digits-room zero n x h = omega arith
   digits-room (suc k) zero x h = wrong h
-  digits-room (suc k) (suc n) x h = let y = digits-room k n (x / 2 ^ digitLength) (both-last (isDigit48 d (nodeAt d n) (x % 2 ^ digitLength)) _ h) in omega (arith, y)
+  digits-room (suc k) (suc n) x h = let y = digits-room k n (x / 2 ^ digitLength) (right-of (isDigit48 d (nodeAt d n) (x % 2 ^ digitLength)) _ h) in omega (arith, y)
 
   pub record Constant (n s : ℕ) (v : Value) (p : Position) : Type 0 where
     pub fits : v .number < 2 ^ v .length

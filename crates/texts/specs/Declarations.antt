@@ -1,5 +1,5 @@
 -- A facility of the right form is that of a declaration, and there are words for it. Assumes nothing.
-use mathlib.Core.Bool.{Bool, true, false, cond}
+use mathlib.Core.Bool.{true, cond}
 use mathlib.Core.List.{List, [], _∷_, _++_}
 use mathlib.Core.Path.{_≡_, refl, sym, subst, _∙_}
 use native.Mathlib.Omega.{arith}
@@ -26,6 +26,7 @@ use Rattle.language.specs.Words as W
 use Rattle.language.specs.Words.{Word, sign}
 use Rattle.legal.specs.Counted.{nodes}
 use Rattle.legal.specs.Starts.{Stand}
+use Rattle.theorems.specs.LegalForm.{left-of, right-of}
 use Rattle.texts.specs.Derivations.{here, of-term}
 use Rattle.texts.specs.Rebuilt.{Knows, Rebuilt, words-both}
 use Rattle.texts.specs.References.{Small, bound-same, small, small-right}
@@ -59,18 +60,10 @@ pub record Dimensioned (f : Facility) : Type 0 where
   pub right : WordsRight words
   pub derived : (h : ℕ) → 1 ≤ h → Is N.dimensions h words (extent form)
 
-pub both-left : (a b : Bool) → both a b ≡ true → a ≡ true
-both-left true b h = refl
-both-left false b h = h
-
-pub both-right : (a b : Bool) → both a b ≡ true → b ≡ true
-both-right true b h = h
-both-right false b h = absurd (let z : _≡_ {A = ℕ} 0 1 = cc in omega arith)
-
 no-bounds : (b : Bounds) → noBounds b ≡ true → bounds 0 0 ≡ b
 no-bounds b e =
-    let x : b .first ≡ 0 = eqb-true (b .first) 0 (both-left _ _ e) in
-    let y : b .last ≡ 0 = eqb-true (b .last) 0 (both-right (eqb (b .first) 0) _ e) in
+    let x : b .first ≡ 0 = eqb-true (b .first) 0 (left-of _ _ e) in
+    let y : b .last ≡ 0 = eqb-true (b .last) 0 (right-of (eqb (b .first) 0) _ e) in
     rw (x, y) refl
 
 opened : {x : Notion} {ws : List Word} {t : N.Tree} (h : ℕ) → 1 ≤ h → ((g : ℕ) → Is x (suc g) ws t) → Is x h ws t
@@ -79,7 +72,7 @@ opened (suc h) l k = k h
 
 pub dimensioned : (f : Facility) → facilityRight f ≡ true → Small (f .words) → Small (f .bits) → Dimensioned f
 unfolding facilityRight
-dimensioned f e sw sb = go (f .dimensions) refl (leb-true _ _ (both-left _ _ e)) (both-right (leb (f .dimensions) (mostDimensions (f .kind))) _ e)
+dimensioned f e sw sb = go (f .dimensions) refl (leb-true _ _ (left-of _ _ e)) (right-of (leb (f .dimensions) (mostDimensions (f .kind))) _ e)
   where
     most : (k : Kind) → mostDimensions k ≤ 2
     most T.register = omega arith
@@ -93,8 +86,8 @@ dimensioned f e sw sb = go (f .dimensions) refl (leb-true _ _ (both-left _ _ e))
     go zero q l r = record {
       form = T.single;
       dimensions = sym q;
-      words-so = no-bounds (f .words) (both-left _ _ r);
-      bits-so = no-bounds (f .bits) (both-right (noBounds (f .words)) _ r);
+      words-so = no-bounds (f .words) (left-of _ _ r);
+      bits-so = no-bounds (f .bits) (right-of (noBounds (f .words)) _ r);
       words = [];
       right = tt;
       derived = λ h i. G.no-dimension;
@@ -102,7 +95,7 @@ dimensioned f e sw sb = go (f .dimensions) refl (leb-true _ _ (both-left _ _ e))
     go (suc zero) q l r = record {
       form = T.row (endsOf (f .bits));
       dimensions = sym q;
-      words-so = no-bounds (f .words) (both-left _ _ r);
+      words-so = no-bounds (f .words) (left-of _ _ r);
       bits-so = ends-same (f .bits) sb;
       words = sign openBracket here ∷ (endWords (f .bits) ++ sign closeBracket here ∷ []);
       right = (tt, words-both (endWords (f .bits)) (sign closeBracket here ∷ []) (end-right (f .bits) sb) (tt, tt));

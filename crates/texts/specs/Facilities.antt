@@ -31,14 +31,14 @@ use Rattle.language.specs.Words.{Word, sign}
 use Rattle.legal.specs.Counted.{nodes, nodes-append}
 use Rattle.legal.specs.Sizes.{function-size}
 use Rattle.legal.specs.Starts.{Stand}
-use Rattle.texts.specs.Declarations.{Declares, Dimensioned, both-left, both-right, computed-declares, dimensioned, input-declares, plain-declares, specOf}
+use Rattle.texts.specs.Declarations.{Declares, Dimensioned, computed-declares, dimensioned, input-declares, plain-declares, specOf}
 use Rattle.texts.specs.Derivations.{here}
 use Rattle.texts.specs.Names.{Apart, Once, means-facility}
 use Rattle.texts.specs.Placed.{stand-append}
 use Rattle.texts.specs.Rebuilt.{Knows, Rebuilt, rebuilt, words-both}
 use Rattle.texts.specs.References.{Small}
 use Rattle.theorems.specs.Judged.{proper-fine}
-use Rattle.theorems.specs.LegalForm.{terminals-fine}
+use Rattle.theorems.specs.LegalForm.{terminals-fine, left-of, right-of}
 use Rattle.theorems.specs.Ordered.{tree-first}
 
 -- ---- Lists.
@@ -104,7 +104,7 @@ add-spec rank x (e ∷ ds) ws w n y S = record {
 
 dimensions-few : (f : Facility) → facilityRight f ≡ true → f .dimensions ≤ mostDimensions (f .kind)
 unfolding facilityRight
-dimensions-few f e = leb-true _ _ (both-left _ _ e)
+dimensions-few f e = leb-true _ _ (left-of _ _ e)
 
 rank-two : (k : Kind) (r : ℕ) → rankOf k ≡ suc (suc r) → suc (suc r) ≡ 2
 rank-two T.register r e = absurd (omega (arith, e))
@@ -337,10 +337,10 @@ module _ (d : Description) (none-there : faults d noPlaces ≡ [])
         let z : n + 0 ≡ n = omega arith in
         let q : facilityAt d n ≡ f = rw z at (h 0 (omega arith)) in
         let l : n < length (d .facilities) = omega (arith, c) in
-        let r1 = both-left (leb rank (rankOf (f .kind))) _ r in
-        let r2 = both-right (leb rank (rankOf (f .kind))) _ r in
-        let y = declares-one n s (take n allNames) (facilityRoots d fs) m f q l (before-so n (omega (arith, l))) (both-left (facilityRight f) _ r2) g in
-        let S = from (rankOf (f .kind)) (suc n) (y .0) m fs (both-right (facilityRight f) _ r2) (omega (arith, c)) (λ j i. let w : n + suc j ≡ suc n + j = omega arith in rw w at (h (suc j) (omega (arith, i)))) (y .1 .1) in
+        let r1 = left-of (leb rank (rankOf (f .kind))) _ r in
+        let r2 = right-of (leb rank (rankOf (f .kind))) _ r in
+        let y = declares-one n s (take n allNames) (facilityRoots d fs) m f q l (before-so n (omega (arith, l))) (left-of (facilityRight f) _ r2) g in
+        let S = from (rankOf (f .kind)) (suc n) (y .0) m fs (right-of (facilityRight f) _ r2) (omega (arith, c)) (λ j i. let w : n + suc j ≡ suc n + j = omega arith in rw w at (h (suc j) (omega (arith, i)))) (y .1 .1) in
         put-first rank n s (y .0) m (take n allNames) f fs (leb-true _ _ r1) (y .1 .0) (subst (λ (b : List Name). Sections (rankOf (f .kind)) (suc n) (y .0) m b fs) (sym (more-names n f l q)) S)
 
     pub sections : (m : ℕ) → facilitiesRight 0 (d .facilities) ≡ true → treesEnd d 0 (facilityRoots d (d .facilities)) ≡ some m → Sections 0 0 0 m [] (d .facilities)

@@ -38,6 +38,7 @@ use Rattle.legal.specs.ListRoots.{Arm, Held, Plain, arm-fine, first-arm, first-
 use Rattle.legal.specs.Roots.{StandActions, roots-join}
 use Rattle.legal.specs.Sizes.{actions-size, in-size, nodes-size}
 use Rattle.legal.specs.Starts.{Stand}
+use Rattle.theorems.specs.LegalForm.{left-of}
 use Rattle.texts.specs.Derivations.{here, of-term}
 use Rattle.texts.specs.Placed.{last-record, stand-append}
 use Rattle.texts.specs.Rebuilt.{Knows, Rebuilt, Referred, rebuilt, referred, words-both}
@@ -253,10 +254,6 @@ module _ (d : Description) (sc : Scope) (knows : Knows d sc (length (d .faciliti
       (words-both (L .words ++ sign conWord here ∷ P .words) _ (words-both (L .words) _ (L .right) (tt, P .right)) (tt, words-both (X .words) _ (X .right) (rest-right n (A .words) (A .right)))) (max (max (L .depth) (P .depth)) (max (X .depth) (A .depth)))
       (λ h j. list-in N.inOperation o (G.act-store z (G.left-two here (L .derived h (omega (arith, j))) (P .derived h (omega (arith, j)))) (of-term (X .derived h (omega (arith, j)))) (rest-in N.inOperation o n (r + 1) m (suc i) A h (omega (arith, j)))))
 
-  both-allowed : (a b : Bool) → both a b ≡ true → a ≡ true
-  both-allowed true b h = refl
-  both-allowed false b h = h
-
   pair-listed : (n i s m k l p r : ℕ) → Fewer (suc n) → actionAt d i ≡ D.storePair k l p r → Plain d noPlaces sc inState works n i (D.storePair k l p r) → treesEnd d s (l ∷ p ∷ r ∷ runRoots d n (suc i)) ≡ some m → Listed actions (suc n) i s m
   unfolding simpleJudged
   pair-listed n i s m k l p r ih q y g =
@@ -270,7 +267,7 @@ module _ (d : Description) (sc : Scope) (knows : Knows d sc (length (d .faciliti
       let t3 = tree-first d (p + 1) r (runRoots d n (suc i)) m (t2 .rest) in
       pair-made n i s m k l p r (side-built l s (u .left) (t1 .start)) (side-built p (l + 1) (u .right) (t2 .start)) (right-built r (p + 1) (v .right) (t3 .start)) (after-one n i (r + 1) m ih (y .rest-fine) (t3 .rest)) q
       (in-operation (only-there (J.notInState d noPlaces inState works) at _ (y .own-fine)))
-      (allowed-store k (kindAt d l) (both-allowed _ _ (unless-none may at 8 (append-none-right (unless (eqb (v .u .length) (v .v .length)) at 7) _ (own .none)))))
+      (allowed-store k (kindAt d l) (left-of _ _ (unless-none may at 8 (append-none-right (unless (eqb (v .u .length) (v .v .length)) at 7) _ (own .none)))))
 
   set-made : (n i s m l : ℕ) (L : Side l s) (A : Listed actions n (suc i) (l + 1) m) → actionAt d i ≡ D.set l → Listed actions (suc n) i s m
   unfolding nodesIn actionsOf actionsIn expressionsIn countedActions

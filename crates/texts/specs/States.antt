@@ -40,7 +40,6 @@ use Rattle.legal.specs.Roots.{StandActions}
 use Rattle.legal.specs.Sizes.{actions-size, in-size, value-size}
 use Rattle.legal.specs.Starts.{Stand}
 use Rattle.texts.specs.Constants.{constant-stands}
-use Rattle.texts.specs.Declarations.{both-left}
 use Rattle.texts.specs.Derivations.{here}
 use Rattle.texts.specs.Facilities.{Some}
 use Rattle.texts.specs.Lists.{Listed, Names, acting-append, listed}
@@ -50,7 +49,7 @@ use Rattle.texts.specs.Placed.{stand-append}
 use Rattle.texts.specs.Rebuilt.{Knows, words-both}
 use Rattle.texts.specs.References.{Small}
 use Rattle.theorems.specs.Judged.{faulty-fine, unless-none}
-use Rattle.theorems.specs.LegalForm.{states-fine}
+use Rattle.theorems.specs.LegalForm.{states-fine, left-of}
 use Rattle.theorems.specs.Ordered.{tree-first, trees-split}
 
 -- ---- A value's record is one constant.
@@ -188,7 +187,7 @@ module _ (d : Description) (none-there : faults d noPlaces ≡ [])
             let v = constantValue (nodeAt d n) in
             let t = tree-first d s n rs m g in
             let y = unless-none (both (eqb (v .length) l) (cond (Rules.repeated d noPlaces (v .number) before) false true)) at 9 k in
-            (n + 1, (constant-valued n l s q (eqb-true _ _ (both-left (eqb (v .length) l) _ y)) (t .start), t .rest))
+            (n + 1, (constant-valued n l s q (eqb-true _ _ (left-of (eqb (v .length) l) _ y)) (t .start), t .rest))
 
     -- ---- A label, with or without a value.
 

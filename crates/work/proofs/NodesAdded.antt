@@ -15,7 +15,7 @@ use Rattle.noted.specs.Noted.{nodeBesideBytes, plainPlaces}
 use Rattle.work.proofs.Regions.{same-held}
 use Rattle.work.specs.Held.{Added, Held, held, withBytes, withNodes}
 
-concat-append : {A : Type 0} (f : A → List ℕ) (xs ys : List A) → concat f (xs ++ ys) ≡ concat f xs ++ concat f ys
+pub concat-append : {A : Type 0} (f : A → List ℕ) (xs ys : List A) → concat f (xs ++ ys) ≡ concat f xs ++ concat f ys
 unfolding concat
 concat-append f [] ys = refl
 concat-append f (x ∷ xs) ys = ap (λ (l : List ℕ). f x ++ l) (concat-append f xs ys) ∙ sym (append-assoc (f x) (concat f xs) (concat f ys))

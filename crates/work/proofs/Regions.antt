@@ -13,7 +13,7 @@ pub same-held : {x x′ y y′ z z′ : List ℕ} → x ≡ x′ → y ≡ y′ 
 same-held p q r = rw (p, q, r)
 
 -- A part, from the front that holds it.
-part-of : (p k : ℕ) (s : List ℕ) → p ≤ length s → take k (drop p s) ≡ drop p (take (p + k) s)
+pub part-of : (p k : ℕ) (s : List ℕ) → p ≤ length s → take k (drop p s) ≡ drop p (take (p + k) s)
 part-of p k s h = sym (ap (drop p) (take-add p k s) ∙ drop-at (take p s) (take k (drop p s)) p (length-take-le p s h))
 
 module _ (s bs : List ℕ) (at : ℕ) (h : at + length bs ≤ length s) where

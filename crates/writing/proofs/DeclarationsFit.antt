@@ -2,7 +2,7 @@
 use mathlib.Core.Bool.{Bool, true, false, cond, true≢false}
 use mathlib.Core.List.{List, [], _∷_, _++_, map}
 use mathlib.Core.Option.{Option, none, some}
-use mathlib.Core.Path.{_≡_, refl, sym}
+use mathlib.Core.Path.{_≡_, refl}
 use Prim.Native.Nat.{ℕ, zero, suc, _+_, _^_, _<_, _≤_}
 use native.Mathlib.Omega.{arith}
 use borrow.Author.Tests.{leb-true, ltb-true}
@@ -15,7 +15,6 @@ use Rattle.language.specs.DescribeText.{bitBounds, dimensionsOf, equalsPlace, f
 use Rattle.language.specs.Description as D
 use Rattle.language.specs.Description.{Facility, isComputed}
 use Rattle.language.specs.Image.{ConstantRight}
-use Rattle.language.specs.Judging.{both}
 use Rattle.language.specs.Scan.{longestName, reservedKind}
 use Rattle.language.specs.Tree as T
 use Rattle.language.specs.Tree.{Declaration, Extent, Function, Kind, Label, Name, Operation, State, StateValue}
@@ -25,6 +24,7 @@ use Rattle.legal.specs.InOrder.{stateExpressions}
 use Rattle.legal.specs.Runs.{stateRecords}
 use Rattle.legal.specs.Tidy.{DeclarationsTidy, FunctionTidy, LabelTidy, OperationsTidy, StatesTidy, Suits}
 use Rattle.records.proofs.NodeBack.{Half}
+use Rattle.theorems.specs.LegalForm.{left-of, right-of}
 use Rattle.written.specs.Back.{FacilityInRange, OperationInRange, StateInRange}
 use Rattle.writing.specs.NearTexts.{DeclarationsNear, ExtentNear, FunctionNear, OperationsNear, StatesNear, ValueNear}
 use Rattle.writing.specs.Standing.{FacilityNear, Marked, Near, narrowFacility}
@@ -46,19 +46,11 @@ each-append P (x ∷ xs) ys f g = (f .0, each-append P xs ys (f .1) g)
 
 -- ---- Names.
 
-both-left : (a b : Bool) → both a b ≡ true → a ≡ true
-both-left true b e = refl
-both-left false b e = absurd (true≢false (sym e))
-
-both-right : (a b : Bool) → both a b ≡ true → b ≡ true
-both-right true b e = e
-both-right false b e = absurd (true≢false (sym e))
-
 name-short : (n : Name) → nameRight n ≡ true → length n ≤ 132
 unfolding nameRight longestName
 name-short [] e = omega arith
 name-short (b ∷ n) e =
-    leb-true (length (b ∷ n)) 132 (both-left (leb (length (b ∷ n)) 132) (eqb (reservedKind (b ∷ n)) 0) (both-right (nameParts n) _ (both-right (isCapital b) _ e)))
+    leb-true (length (b ∷ n)) 132 (left-of (leb (length (b ∷ n)) 132) (eqb (reservedKind (b ∷ n)) 0) (right-of (nameParts n) _ (right-of (isCapital b) _ e)))
 
 label-short : (l : Option Label) (v : Option StateValue) → LabelTidy l v → length (labelOf l) ≤ 132
 label-short none v h = omega arith

@@ -1,5 +1,5 @@
 -- Names in capitals, one behind the other.
-use mathlib.Core.List.{List, [], _∷_, _++_, append-assoc, append-nil, map}
+use mathlib.Core.List.{List, [], _∷_, _++_, append-nil, map}
 use mathlib.Core.Path.{_≡_, refl, sym, ap, _∙_}
 use Prim.Native.Nat.{ℕ, zero, suc, _+_, _-_, _*_, _<_, _≤_}
 use native.Mathlib.Nat.{zero-add}
@@ -15,13 +15,9 @@ use Rattle.tables.proofs.NamesGrown.{part-number, up-to-last}
 use Rattle.tables.specs.declared.Table.{Table}
 use Rattle.tables.specs.Names.{nameAt, namesOf}
 use Rattle.tables.specs.Rows.{from, rows, size}
+use Rattle.work.proofs.NodesAdded.{concat-append}
 use Rattle.work.specs.Names.{letters}
 use Rattle.writing.specs.Sections.{lettersOf}
-
-pub concat-append : {A : Type 0} (f : A → List ℕ) (xs ys : List A) → concat f (xs ++ ys) ≡ concat f xs ++ concat f ys
-unfolding concat
-concat-append f [] ys = refl
-concat-append f (x ∷ xs) ys = rw (concat-append f xs ys) (sym (append-assoc (f x) (concat f xs) (concat f ys)))
 
 placed-none : (s : List ℕ) (at : ℕ) → at ≤ length s → s ≡ placed s at []
 placed-none s at h =

@@ -6,11 +6,11 @@ use borrow.Author.Needs.{needs}
 use Rattle.judge.proofs.operations.operation.Statement.{statement}
 use Rattle.judge.proofs.operations.operation.Tie as tie
 
-cast-count : tie.Need-cast-count
-cast-count c = search needs
+cast-n : tie.Need-cast-n
+cast-n c = search needs
 
-cast-first : tie.Need-cast-first
-cast-first c = search needs
+cast-i : tie.Need-cast-i
+cast-i c = search needs
 
 nowhere-requires : tie.Need-nowhere-requires
 nowhere-requires c κs = search needs
@@ -33,8 +33,8 @@ pub operation-spec : {M : Type 1} → statement M
 operation-spec =
     tie.close
     (tie.spec
-    cast-count
-    cast-first
+    cast-n
+    cast-i
     nowhere-requires
     refused-requires
     returns

@@ -1,9 +1,7 @@
 use borrow.Author.Needs.{needs}
-use Rattle.judge.proofs.OperationLaws.{listed-of}
-use Rattle.judge.proofs.StateLaws.{run-is, state-is, valued-of}
+use Rattle.judge.proofs.StateLaws.{state-is}
 use Rattle.judge.specs.Stated.{valuesBefore, wantedLength}
-use Rattle.image.specs.Declarations.{runMeant, valueMeant}
-use Rattle.language.specs.ActionRules.{operationBelow}
+use Rattle.image.specs.Declarations.{valueMeant}
 use Rattle.language.specs.Description as D
 use Rattle.language.specs.Description.{StatePlaces, stateAt, statePlace}
 use Rattle.language.specs.Rules as R
@@ -11,18 +9,9 @@ use Rattle.language.specs.WordStage.{least}
 use mathlib.Core.Bool.{cond, false, true}
 use mathlib.Core.Option.{Option}
 use Prim.Native.Nat.{ℕ}
-use mathlib.Core.Path.{_≡_, ap, sym, _∙_}
+use mathlib.Core.Path.{_≡_, refl, ap, sym, _∙_}
 use Rattle.judge.proofs.states.state.Statement.{statement}
 use Rattle.judge.proofs.states.state.Tie as tie
-
-cast-count : tie.Need-cast-count
-cast-count c = search needs
-
-cast-first : tie.Need-cast-first
-cast-first c = search needs
-
-list-requires : tie.Need-list-requires
-list-requires c κs = search needs
 
 of-state-requires : tie.Need-of-state-requires
 of-state-requires c κs = search needs
@@ -47,27 +36,22 @@ with-value-requires c κs = search needs
 
 returns : tie.Need-returns
 returns c =
-    λ d p os s r e m.
-    let n : ℕ = c .before .before .before .before .before .before .before .before .before .before .before .before .before .before .before .before .before .before .before .before .before .before .args .n in
-    let l : Option ℕ = wantedLength (c .before .before .before .before .before .before .before .before .before .before .before .before .before .before .before .before .before .before .before .before .before .before .args .wanted) in
-    let v : valueMeant (c .before .before .before .before .before .before .before .before .before .before .before .before .before .before .before .before .before .before .before .before .before .before .args .s .value) ≡ stateAt d (c .before .before .before .before .before .before .before .before .before .before .before .before .before .before .before .before .before .before .before .before .before .before .args .n) .value = ap (λ (x : D.State). x .value) m in
-    let a : runMeant (c .before .before .before .before .before .before .before .before .before .before .before .before .before .before .before .before .before .before .before .before .before .before .args .s .actions) ≡ stateAt d (c .before .before .before .before .before .before .before .before .before .before .before .before .before .before .before .before .before .before .before .before .before .before .args .n) .actions = ap (λ (x : D.State). x .actions) m in
-    let j = c .before .before .before .before .before .before .before .list .ensures d p (operationBelow d p (c .before .before .before .before .before .before .before .before .before .before .before .before .before .before .before .before .before .before .before .before .before .before .args .ops)) (listed-of (c .before .before .before .before .before .before .before .before .before .before .before .before .before .before .before .before .before .before .before .before .before .before .args .ops) (s .acting) r (c .before .before .before .before .before .before .before .before .before .before .before .before .before .before .before .before .before .before .before .before .before .before .pre)) in
+    λ d p y z m e.
+    let n : ℕ = c .before .before .before .before .before .before .before .before .before .before .args .n in
+    let l : Option ℕ = wantedLength (c .before .before .before .before .before .before .before .before .before .before .args .wanted) in
+    let v : valueMeant (c .before .before .before .before .before .before .before .before .before .before .args .s .value) ≡ stateAt d (c .before .before .before .before .before .before .before .before .before .before .args .n) .value = ap (λ (x : D.State). x .value) m in
     c .with-value .ensures _ _ _
-    (c .before .before .before .before .value-faults .ensures d p _ (valued-of s) (c .before .before .before .before .before .of-state2 .ensures ∙ sym (ap (λ (x : StatePlaces). x .value) (s .spot n)))
+    (c .before .before .before .before .value-faults .ensures d p _ y (c .before .before .before .before .before .of-state2 .ensures ∙ sym (ap (λ (x : StatePlaces). x .value) z))
     ∙ ap (λ (o : Option ℕ). least (R.valueFaults d p l (valuesBefore d p n) (statePlace p n .value) o)) v)
-    (c .before .before .own-faults .ensures d p l _ (stateAt d n) _ (c .before .before .before .before .before .before .of-state .ensures ∙ sym (ap (λ (x : StatePlaces). x .at) (s .spot n)))
-    (c .before .before .before .value-there .ensures d p ∙ ap (λ (o : Option ℕ). cond (R.missing d p l o) false true) v) j)
-    (c .before .faults-of .ensures _ j)
-    ∙ ap least (state-is d p l (valuesBefore d p n) (statePlace p n) (stateAt d n) (run-is d p (c .before .before .before .before .before .before .before .before .before .before .before .before .before .before .before .before .before .before .before .before .before .before .args .ops) e (runMeant (c .before .before .before .before .before .before .before .before .before .before .before .before .before .before .before .before .before .before .before .before .before .before .args .s .actions)) a))
+    (c .before .before .own-faults .ensures d p l _ (stateAt d n) _ (c .before .before .before .before .before .before .of-state .ensures ∙ sym (ap (λ (x : StatePlaces). x .at) z))
+    (c .before .before .before .value-there .ensures d p ∙ ap (λ (o : Option ℕ). cond (R.missing d p l o) false true) v) e)
+    (c .before .faults-of .ensures _ e)
+    ∙ ap least (state-is d p l (valuesBefore d p n) (statePlace p n) (stateAt d n) refl)
 
 pub state-spec : {M : Type 1} → statement M
 state-spec =
     tie.close
     (tie.spec
-    cast-count
-    cast-first
-    list-requires
     of-state-requires
     of-state-requires-2
     value-faults-requires

@@ -1,10 +1,11 @@
 use borrow.Author.Needs.{needs}
-use Rattle.judge.proofs.StateLaws.{start-state, stateHere, statesFrom, step-state, stop-state}
+use Rattle.judge.proofs.StateLaws.{start-state, stateHere, statesFrom, step-state, stop-state, valued-of}
 use Rattle.judge.specs.Declared.{Performed}
-use Rattle.judge.specs.Stated.{Stated}
-use Rattle.language.specs.Description.{Description, Places}
+use Rattle.judge.specs.Stated.{Stated, stateJudged}
+use Rattle.language.specs.Description.{Description, Places, State}
 use Rattle.language.specs.Rules.{sequencingLength, statesFaults}
 use Rattle.language.specs.WordStage.{least}
+use Rattle.verdict.specs.Meaning.{seen}
 use Rattle.words.specs.Meaning.{judged, lesser}
 use lib.ListN.{length}
 use mathlib.Core.List.{[]}
@@ -34,23 +35,27 @@ add-n c = search needs
 state-at-requires : tie.Need-state-at-requires Inv-loop μ-loop
 state-at-requires c κs = search needs
 
+actions-requires : tie.Need-actions-requires Inv-loop μ-loop
+actions-requires c κs =
+    c .before .before .before .before .before .before .before .before .before .before .before .before .before .before .before .before .before .pre
+
 state-requires : tie.Need-state-requires Inv-loop μ-loop
-state-requires c κs =
-    c .before .before .before .before .before .before .before .before .before .before .before .before .before .before .before .before .pre
+state-requires c κs = search needs
 
 earlier-requires : tie.Need-earlier-requires Inv-loop μ-loop
 earlier-requires c κs = search needs
 
 loop-less : tie.Need-loop-less Inv-loop μ-loop
 loop-less c =
-    omega (arith, c .before .before .before .loop-test .taken)
+    omega (arith, c .before .before .before .before .before .loop-test .taken)
 
 loop-again : tie.Need-loop-again Inv-loop μ-loop
 loop-again c = (
-  omega (arith, c .before .before .before .loop-test .taken),
-  λ d p s r. step-state d p (sequencingLength d p) _ (c .before .before .before .before .loop .n) (s .count) (judged (c .before .before .before .before .loop .all)) (c .before .before .before .before .loop .inv .1 d p s r) (c .before .before .before .loop-test .taken) (c .earlier .ensures)
-      (c .before .state .ensures d p _ s r (s .operations) (s .state (c .before .before .before .before .loop .n) (c .before .before .state-at .result) (c .before .before .state-at .ensures))
-      ∙ ap (λ (l : Option ℕ). stateHere d p l (c .before .before .before .before .loop .n)) (c .before .before .before .before .before .sequencing-length .ensures _ _ d p (s .acting .declared))),
+  omega (arith, c .before .before .before .before .before .loop-test .taken),
+  λ d p s r. step-state d p (sequencingLength d p) _ (c .before .before .before .before .before .before .loop .n) (s .count) (judged (c .before .before .before .before .before .before .loop .all)) (c .before .before .before .before .before .before .loop .inv .1 d p s r) (c .before .before .before .before .before .loop-test .taken) (c .earlier .ensures)
+      (let m = s .state (c .before .before .before .before .before .before .loop .n) (c .before .before .before .before .state-at .result) (c .before .before .before .before .state-at .ensures) in
+      c .before .state .ensures d p (valued-of s) (s .spot _) m (c .before .before .actions .ensures d p _ (s .acting) r (s .operations) ∙ ap (λ (x : State). seen (stateJudged d p (x .actions))) m)
+      ∙ ap (λ (l : Option ℕ). stateHere d p l (c .before .before .before .before .before .before .loop .n)) (c .before .before .before .before .before .before .before .sequencing-length .ensures _ _ d p (s .acting .declared))),
 )
 
 returns : tie.Need-returns Inv-loop μ-loop
@@ -67,6 +72,7 @@ states-spec =
     loop-holds
     add-n
     state-at-requires
+    actions-requires
     state-requires
     earlier-requires
     loop-less
