@@ -28,7 +28,7 @@ use Rattle.stays.specs.AnyRun.{Ready}
 use Rattle.stays.specs.StaysSound.{no-refusal, stays-sound}
 use Rattle.sound.proofs.PassedLaws.{passed-size}
 use Rattle.cycle.proofs.CarryLaws.{cycle-is}
-use Rattle.writing.proofs.FilledLaws.{filled-more, filled-none}
+use Rattle.records.proofs.FilledLaws.{filled-more, filled-none}
 use Rattle.run.proofs.FormLaws.{all-first, all-long, all-rest, first-there}
 
 -- What the tests of a run gave.

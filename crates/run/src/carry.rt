@@ -16,6 +16,17 @@ ghost use Rattle.language.specs.Calls.{runRefusal};
 ghost use Rattle.language.specs.Reading.{zeroes};
 ghost use Rattle.run.specs.Called.{Lent, tallied};
 
+// So many cycles completed, with so many conflicts, and the stop that ended them, or 0.
+fn ended(completed: u32, conflicts: u64, stop: u8) -> Tally
+    ensures { λ r. ⌜ r ≡ record { completed = completed; conflicts = conflicts; stop = stop } ⌝ }
+{
+    Tally {
+        completed,
+        conflicts,
+        stop,
+    }
+}
+
 // One cycle after the other, each with its own stimulus, until one stops; no later one is refused. The store after each goes to the trace, where there is one.
 fn carry_on(
     image: &[u8],
@@ -48,27 +59,11 @@ fn carry_on(
                 to += size;
                 n += 1;
             }
-            Answer::Stopped(stop) => {
-                return Tally {
-                    completed: n,
-                    conflicts,
-                    stop,
-                };
-            }
-            Answer::Refused(stop) => {
-                return Tally {
-                    completed: n,
-                    conflicts,
-                    stop,
-                };
-            }
+            Answer::Stopped(stop) => return ended(n, conflicts, stop),
+            Answer::Refused(stop) => return ended(n, conflicts, stop),
         }
     }
-    Tally {
-        completed: n,
-        conflicts,
-        stop: 0,
-    }
+    ended(n, conflicts, 0)
 }
 
 // The run that is owed, where nothing is refused and the trace is zero. What each cycle works on is made once.

@@ -1,51 +1,21 @@
 -- A whole word put among the bytes is that word of the store set, and nothing else. Assumes nothing.
-use mathlib.Core.Bool.{Bool, true, false}
-use mathlib.Core.List.{List, []}
-use mathlib.Core.Path.{_≡_, refl, sym, ap, _∙_}
+use mathlib.Core.List.{List}
+use mathlib.Core.Path.{_≡_, sym, ap, _∙_}
 use Prim.Native.Nat.{ℕ, _+_, _-_, _*_, _%_, _^_, _≤_, _<_}
 use native.Mathlib.Nat.{div-one, mod-eq-of-lt}
 use native.Mathlib.Omega.{arith}
-use borrow.Author.Tests.{eqb-false, eqb-true}
-use lib.Dec.{eqb}
 use lib.ListN.{getD, length}
 use Rattle.language.specs.Description.{Facility, noFacility, wordLength}
 use Rattle.language.specs.Layout.{storeSizeOf, wordBytes}
-use Rattle.language.specs.Store.{Words, fromBytes, setWord, wordOf}
+use Rattle.language.specs.Store.{fromBytes, setWord, wordOf}
 use Rattle.language.specs.Value.{replaced}
 use Rattle.store.proofs.Numbers.{part-replaced, replaced-lt}
 use Rattle.store.proofs.PartLaws.{inside-is, saved-inside, word-saved}
-use Rattle.store.proofs.StoreWords.{Same, in-row, in-store, same-from, same-set, stored-of, word-from, word-other, word-set, words-apart, words-ext}
+use Rattle.store.proofs.StoreWords.{in-store, one-set, word-from, words-apart}
 use Rattle.store.proofs.Words.{word-apart, word-lt}
 use Rattle.store.specs.InBytes.{Stored, placeOfWord}
 use Rattle.store.specs.Layout.{Bytes, wordIn}
 use Rattle.store.specs.Parts.{saved, withPart}
-
--- ---- Where one word alone has changed, that word is set.
-
-module _ (fs : List Facility) (A B : List ℕ) (f w x : ℕ) (here : Stored fs f w) (put : wordOf (fromBytes fs A) f w ≡ x)
-    (kept : (g j : ℕ) → Stored fs g j → (g ≡ f → j ≡ w → ⊥) → wordOf (fromBytes fs A) g j ≡ wordOf (fromBytes fs B) g j) where
-  pub one-set : fromBytes fs A ≡ setWord (fromBytes fs B) f w x
-  one-set = words-ext (fromBytes fs A) after shape (λ g j h. word g j (stored-of fs A g j h) (eqb g f) refl (eqb j w) refl)
-    where
-      after : Words
-      after = setWord (fromBytes fs B) f w x
-
-      row : (f < length (fromBytes fs B)) × (w < length (getD (fromBytes fs B) f []))
-      row = in-row fs B f w here
-
-      shape : Same (fromBytes fs A) after
-      shape =
-          let s = same-from fs A B in
-          let t = same-set (fromBytes fs B) f w x (row .0) in
-          record { rows = s .rows ∙ sym (t .rows); words = λ g. s .words g ∙ sym (t .words g) }
-
-      other : (g j : ℕ) → Stored fs g j → (g ≡ f → j ≡ w → ⊥) → wordOf (fromBytes fs A) g j ≡ wordOf after g j
-      other g j s n = kept g j s n ∙ sym (word-other (fromBytes fs B) f w x (row .0) g j n)
-
-      word : (g j : ℕ) → Stored fs g j → (a : Bool) → eqb g f ≡ a → (b : Bool) → eqb j w ≡ b → wordOf (fromBytes fs A) g j ≡ wordOf after g j
-      word g j s true p true q = rw (eqb-true g f p, eqb-true j w q) (put ∙ sym (word-set (fromBytes fs B) f w x (row .0) (row .1)))
-      word g j s true p false q = other g j s (λ h k. eqb-false j w q k)
-      word g j s false p b q = other g j s (λ h k. eqb-false g f p h)
 
 -- ---- The whole of a word replaced.
 

@@ -1,24 +1,22 @@
 -- Loading and saving in bytes are loading and saving in words. Assumes nothing.
-use mathlib.Core.Path.{_≡_, refl, sym, ap, _∙_, subst}
-use mathlib.Core.Bool.{Bool, true, false}
-use mathlib.Core.List.{List, []}
-use Prim.Native.Nat.{ℕ, _+_, _*_, _/_, _%_, _^_, _≤_, _<_}
+use mathlib.Core.Path.{_≡_, sym, ap, _∙_, subst}
+use mathlib.Core.Bool.{true}
+use mathlib.Core.List.{List}
+use Prim.Native.Nat.{ℕ, _+_, _*_, _/_, _%_, _^_, _≤_}
 use native.Mathlib.Nat.{le-trans}
 use native.Mathlib.Omega.{arith}
-use borrow.Author.Tests.{eqb-true, eqb-false}
-use lib.Dec.{eqb}
 use lib.ListN.{getD, length}
 use Rattle.language.specs.Description.{Description, facilityAt, noFacility, wordLength}
 use Rattle.language.specs.Layout.{storeSizeOf, wordBytes}
 use Rattle.language.specs.Meaning.{Place}
-use Rattle.language.specs.Store.{Words, fromBytes, loadPart, lowOf, putPart, setWord, wordOf}
+use Rattle.language.specs.Store.{Words, fromBytes, loadPart, lowOf, putPart, wordOf}
 use Rattle.language.specs.Value.{Value, replaced}
 use Rattle.store.specs.InBytes.{Stored, There, loadBytes, placeOfWord, putBytes}
 use Rattle.store.specs.Layout.{Bytes, wordIn}
 use Rattle.store.specs.Parts.{inside, partIn, withPart}
 use Rattle.store.proofs.ByteOrder.{word-room}
 use Rattle.store.proofs.PartLaws.{bytes-saved, inside-is, length-saved, loaded-inside, saved-inside, word-saved}
-use Rattle.store.proofs.StoreWords.{Same, in-row, in-store, same-from, same-set, stored-of, word-from, word-other, word-set, words-apart, words-ext}
+use Rattle.store.proofs.StoreWords.{in-store, one-set, word-from, words-apart}
 use Rattle.store.proofs.Words.{word-apart}
 
 module _ (d : Description) (B : List ℕ) (bytes : Bytes B) (room : storeSizeOf (d .facilities) ≤ length B) (p : Place) (here : There d p) where
@@ -68,9 +66,6 @@ module _ (d : Description) (B : List ℕ) (bytes : Bytes B) (room : storeSizeOf 
     pub bytes-put : Bytes (putBytes d B (record { at = p; number = v }))
     bytes-put = subst Bytes (sym put-is) (bytes-saved B _ _ fits bytes (lowOf d p) (p .count) v)
 
-    here-row : (p .facility < length store) × (p .word < length (getD store (p .facility) []))
-    here-row = in-row (d .facilities) B (p .facility) (p .word) (here .word)
-
     new-word : wordOf (fromBytes (d .facilities) new) (p .facility) (p .word)
         ≡ x
     unfolding facilityAt
@@ -89,19 +84,4 @@ module _ (d : Description) (B : List ℕ) (bytes : Bytes B) (room : storeSizeOf 
 
     pub save-same : fromBytes (d .facilities) (putBytes d B (record { at = p; number = v })) ≡ putPart d store (record { at = p; number = v })
     unfolding putPart
-    save-same = ap (fromBytes (d .facilities)) put-is ∙ words-ext (fromBytes (d .facilities) new) (setWord store (p .facility) (p .word) x) shape (λ g j h. word g j (stored-of (d .facilities) new g j h) (eqb g (p .facility)) refl (eqb j (p .word)) refl)
-      where
-        kept : Same (setWord store (p .facility) (p .word) x) store
-        kept = same-set store (p .facility) (p .word) x (here-row .0)
-
-        shape : Same (fromBytes (d .facilities) new) (setWord store (p .facility) (p .word) x)
-        shape = record { rows = same-from (d .facilities) new B .rows ∙ sym (kept .rows); words = λ g. same-from (d .facilities) new B .words g ∙ sym (kept .words g) }
-
-        other : (g j : ℕ) → Stored (d .facilities) g j → (g ≡ p .facility → j ≡ p .word → ⊥) → wordOf (fromBytes (d .facilities) new) g j ≡ wordOf (setWord store (p .facility) (p .word) x) g j
-        other g j t n = old-word g j t n ∙ sym (word-other store (p .facility) (p .word) x (here-row .0) g j n)
-
-        word : (g j : ℕ) → Stored (d .facilities) g j → (b : Bool) → eqb g (p .facility) ≡ b → (c : Bool) → eqb j (p .word) ≡ c → wordOf (fromBytes (d .facilities) new) g j ≡ wordOf (setWord store (p .facility) (p .word) x) g j
-        word g j t true e true f =
-            rw (eqb-true g (p .facility) e, eqb-true j (p .word) f) (new-word ∙ sym (word-set store (p .facility) (p .word) x (here-row .0) (here-row .1)))
-        word g j t true e false f = other g j t (λ q r. eqb-false j (p .word) f r)
-        word g j t false e c f = other g j t (λ q r. eqb-false g (p .facility) e q)
+    save-same = ap (fromBytes (d .facilities)) put-is ∙ one-set (d .facilities) new B (p .facility) (p .word) x (here .word) new-word old-word

@@ -208,3 +208,30 @@ module _ (fs : List Facility) where
           (λ p. inl (same-facility f i j (⊎-elim (λ q. absurd (n e (omega arith))) (λ q. omega arith) (eq-zero-or-pos (j - i)))))
           (λ l. inr (same-facility f j i (omega arith)))
           (eq-zero-or-pos (i - j)))
+
+-- ---- Where one word alone has changed, that word is set.
+
+module _ (fs : List Facility) (A B : List ℕ) (f w x : ℕ) (here : Stored fs f w) (put : wordOf (fromBytes fs A) f w ≡ x)
+    (kept : (g j : ℕ) → Stored fs g j → (g ≡ f → j ≡ w → ⊥) → wordOf (fromBytes fs A) g j ≡ wordOf (fromBytes fs B) g j) where
+  pub one-set : fromBytes fs A ≡ setWord (fromBytes fs B) f w x
+  one-set = words-ext (fromBytes fs A) after shape (λ g j h. word g j (stored-of fs A g j h) (eqb g f) refl (eqb j w) refl)
+    where
+      after : Words
+      after = setWord (fromBytes fs B) f w x
+
+      row : (f < length (fromBytes fs B)) × (w < length (getD (fromBytes fs B) f []))
+      row = in-row fs B f w here
+
+      shape : Same (fromBytes fs A) after
+      shape =
+          let s = same-from fs A B in
+          let t = same-set (fromBytes fs B) f w x (row .0) in
+          record { rows = s .rows ∙ sym (t .rows); words = λ g. s .words g ∙ sym (t .words g) }
+
+      other : (g j : ℕ) → Stored fs g j → (g ≡ f → j ≡ w → ⊥) → wordOf (fromBytes fs A) g j ≡ wordOf after g j
+      other g j s n = kept g j s n ∙ sym (word-other (fromBytes fs B) f w x (row .0) g j n)
+
+      word : (g j : ℕ) → Stored fs g j → (a : Bool) → eqb g f ≡ a → (b : Bool) → eqb j w ≡ b → wordOf (fromBytes fs A) g j ≡ wordOf after g j
+      word g j s true p true q = rw (eqb-true g f p, eqb-true j w q) (put ∙ sym (word-set (fromBytes fs B) f w x (row .0) (row .1)))
+      word g j s true p false q = other g j s (λ h k. eqb-false j w q k)
+      word g j s false p b q = other g j s (λ h k. eqb-false g f p h)

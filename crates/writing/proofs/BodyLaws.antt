@@ -14,7 +14,7 @@ use Rattle.tables.specs.declared.Table.{Table}
 use Rattle.tables.specs.declared.Table.the-variants as T
 use Rattle.tables.specs.Rows.{from, most, rows, size}
 use Rattle.work.specs.Held.{held}
-use Rattle.writing.proofs.FilledLaws.{filled-more}
+use Rattle.records.proofs.FilledLaws.{filled-more}
 use Rattle.writing.specs.declared.Tally.{Tally}
 use Rattle.writing.specs.Sections.{Few, countsHeld, recordsHeld, within}
 

@@ -9,7 +9,7 @@ use Rattle.language.specs.Reading.{filled}
 use Rattle.tables.specs.declared.Table.the-variants as T
 use Rattle.tables.specs.Rows.{rows}
 use Rattle.writing.proofs.BodyLaws.{row-most}
-use Rattle.writing.proofs.FilledLaws.{filled-none}
+use Rattle.records.proofs.FilledLaws.{filled-none}
 
 -- Few enough facilities and operations.
 pub not-many : (w fs os : List ℕ) {n m : ℕ} → n ≤ 256 → m ≤ 128 → fs ≡ rows T.Facilities n w → os ≡ rows T.Operations m w → (length fs / 13 ≤ 65536) × (length os / 5 ≤ 256)

@@ -1,7 +1,6 @@
 pub mod ActionsFit
 pub mod BodyLaws
 pub mod DeclarationsFit
-pub mod FilledLaws
 pub mod JudgedLaws
 pub mod LetterLaws
 pub mod NarrowBack

@@ -15,7 +15,7 @@ use Rattle.language.specs.RecordBytes.{fours}
 use Rattle.records.specs.Placed.{placed}
 use Rattle.tables.specs.declared.Table.the-variants as T
 use Rattle.writing.proofs.BodyLaws.{node-length, records-length, row-length}
-use Rattle.writing.proofs.FilledLaws.{filled-length, filled-more, filled-none}
+use Rattle.records.proofs.FilledLaws.{filled-length, filled-more, filled-none}
 use Rattle.writing.specs.Calls.{called}
 use Rattle.writing.specs.declared.Tally.{Tally}
 use Rattle.writing.specs.declared.whole.Written.the-variants.{Done, NoRoom}

@@ -133,113 +133,125 @@ loop-again c =
 enum-known-a-2 : tie.Need-enum-known-a-2 Inv-loop μ-loop
 enum-known-a-2 c = search needs
 
+ended-requires : tie.Need-ended-requires Inv-loop μ-loop
+ended-requires c κs = search needs
+
 same-length : tie.Need-same-length Inv-loop μ-loop
-same-length c = c .before .before .before .before .before .before .before .before .before .before .before .before .store .given ∙ c .before .before .before .before .before .before .before .before .before .before .before .before .before .before .before .before .before .before .before .before .before .loop .inv .4
+same-length c = c .before .before .before .before .before .before .before .before .before .before .before .before .before .store .given ∙ c .before .before .before .before .before .before .before .before .before .before .before .before .before .before .before .before .before .before .before .before .before .before .loop .inv .4
 
 same-length-2 : tie.Need-same-length-2 Inv-loop μ-loop
-same-length-2 c = c .before .before .before .before .before .before .before .before .before .before .«record» .given ∙ c .before .before .before .before .before .before .before .before .before .before .before .before .before .before .before .before .before .before .before .before .before .loop .inv .5
+same-length-2 c = c .before .before .before .before .before .before .before .before .before .before .before .«record» .given ∙ c .before .before .before .before .before .before .before .before .before .before .before .before .before .before .before .before .before .before .before .before .before .before .loop .inv .5
 
 same-length-3 : tie.Need-same-length-3 Inv-loop μ-loop
-same-length-3 c = c .before .before .before .before .before .before .before .before .work .given ∙ c .before .before .before .before .before .before .before .before .before .before .before .before .before .before .before .before .before .before .before .before .before .loop .inv .6
+same-length-3 c = c .before .before .before .before .before .before .before .before .before .work .given ∙ c .before .before .before .before .before .before .before .before .before .before .before .before .before .before .before .before .before .before .before .before .before .before .loop .inv .6
 
 same-length-4 : tie.Need-same-length-4 Inv-loop μ-loop
-same-length-4 c = c .before .before .before .before .before .before .pending .given ∙ c .before .before .before .before .before .before .before .before .before .before .before .before .before .before .before .before .before .before .before .before .before .loop .inv .7
+same-length-4 c = c .before .before .before .before .before .before .before .pending .given ∙ c .before .before .before .before .before .before .before .before .before .before .before .before .before .before .before .before .before .before .before .before .before .before .loop .inv .7
 
 same-length-5 : tie.Need-same-length-5 Inv-loop μ-loop
-same-length-5 c = c .before .before .before .before .mask .given ∙ c .before .before .before .before .before .before .before .before .before .before .before .before .before .before .before .before .before .before .before .before .before .loop .inv .8
+same-length-5 c = c .before .before .before .before .before .mask .given ∙ c .before .before .before .before .before .before .before .before .before .before .before .before .before .before .before .before .before .before .before .before .before .before .loop .inv .8
 
 same-length-6 : tie.Need-same-length-6 Inv-loop μ-loop
-same-length-6 c = c .before .before .before .before .before .before .before .before .before .before .before .before .before .before .before .before .before .before .before .before .before .loop .inv .9
+same-length-6 c = c .before .before .before .before .before .before .before .before .before .before .before .before .before .before .before .before .before .before .before .before .before .before .loop .inv .9
 
 returns : tie.Need-returns Inv-loop μ-loop
 returns c =
     λ m e.
-    let a = c .before .before .before .before .before .before .before .before .before .before .before .before .before .before .before .before .before .before .before .before .before .before .before .before .before .before .before .before .before .before .before .args in
+    let a = c .before .before .before .before .before .before .before .before .before .before .before .before .before .before .before .before .before .before .before .before .before .before .before .before .before .before .before .before .before .before .before .before .args in
     let i = a .image .now in
     let S = a .stimuli .now in
     let B₀ = a .store .now in
     let K₀ = a .«record» .now in
     let t = length (a .trace .now) in
-    let p = c .before .before .before .before .before .before .before .before .before .before .before .before .before .before .before .before .before .before .before .before .before .before .before .before .before .before .before .before .before .before .before .pre in
-    let l = c .before .before .before .before .before .before .before .before .before .before .before .before .before .before .before .before .before .before .before .before .before .loop in
-    let each = each-so i S (a .cycles) m B₀ K₀ (c .before .before .before .before .before .before .before .before .before .before .before .before .before .before .before .before .before .before .before .before .before .before .share .result) t (c .before .before .before .before .before .before .before .before .before .before .before .before .before .before .before .before .before .before .before .before .before .before .share .ensures) (omega (arith, c .before .before .before .before .before .before .before .before .before .before .before .before .before .before .before .before .before .before .before .before .loop-test .taken)) e in
+    let p = c .before .before .before .before .before .before .before .before .before .before .before .before .before .before .before .before .before .before .before .before .before .before .before .before .before .before .before .before .before .before .before .before .pre in
+    let l = c .before .before .before .before .before .before .before .before .before .before .before .before .before .before .before .before .before .before .before .before .before .before .loop in
+    let each = each-so i S (a .cycles) m B₀ K₀ (c .before .before .before .before .before .before .before .before .before .before .before .before .before .before .before .before .before .before .before .before .before .before .before .share .result) t (c .before .before .before .before .before .before .before .before .before .before .before .before .before .before .before .before .before .before .before .before .before .before .before .share .ensures) (omega (arith, c .before .before .before .before .before .before .before .before .before .before .before .before .before .before .before .before .before .before .before .before .before .loop-test .taken)) e in
     let left = l .inv .10 m e in
-    let st = c .before .before .before .before .before .before .before .before .before .before .before .before .before .before .before .before .before .before .before .part .ensures ∙ ap (λ (k : ℕ). take k (drop (l .at) S)) each in
-    let free = next-free i S (a .cycles) m B₀ K₀ (l .store) (l .«record») (l .trace) (l .n) (l .conflicts) (l .at) (l .to) (c .before .before .before .before .before .before .before .before .before .before .before .before .before .before .before .before .before .before .before .before .loop-test .taken) left in
-    let q = rw (st, c .before .a2 .given .1) at (c .before .before .before .before .before .before .before .before .before .before .before .before .before .carried .ensures m (l .inv .6 ∙ p .copy) (l .inv .7 ∙ p .waiting) (l .inv .8 ∙ p .masked) (rw st free)) in
-    run-so i S (a .cycles) m B₀ K₀ _ _ (l .trace) (l .n) (l .conflicts) (c .before .a2 .given .0 .0) t (left .traced) e (l .inv .9) (left .noted)
-    (left-stop i S (a .cycles) m B₀ K₀ (l .store) (l .«record») (l .trace) (l .n) (l .conflicts) (l .at) (l .to) (c .before .before .before .before .before .before .before .before .before .before .before .before .before .before .before .before .before .before .before .before .loop-test .taken) left _ _ (c .before .a2 .given .0 .0) q)
+    let st = c .before .before .before .before .before .before .before .before .before .before .before .before .before .before .before .before .before .before .before .before .part .ensures ∙ ap (λ (k : ℕ). take k (drop (l .at) S)) each in
+    let free = next-free i S (a .cycles) m B₀ K₀ (l .store) (l .«record») (l .trace) (l .n) (l .conflicts) (l .at) (l .to) (c .before .before .before .before .before .before .before .before .before .before .before .before .before .before .before .before .before .before .before .before .before .loop-test .taken) left in
+    let q = rw (st, c .before .before .a2 .given .1) at (c .before .before .before .before .before .before .before .before .before .before .before .before .before .before .carried .ensures m (l .inv .6 ∙ p .copy) (l .inv .7 ∙ p .waiting) (l .inv .8 ∙ p .masked) (rw st free)) in
+    rw (c .ended .ensures)
+    (run-so i S (a .cycles) m B₀ K₀ _ _ (l .trace) (l .n) (l .conflicts) (c .before .before .a2 .given .0 .0) t (left .traced) e (l .inv .9) (left .noted)
+    (left-stop i S (a .cycles) m B₀ K₀ (l .store) (l .«record») (l .trace) (l .n) (l .conflicts) (l .at) (l .to) (c .before .before .before .before .before .before .before .before .before .before .before .before .before .before .before .before .before .before .before .before .before .loop-test .taken) left _ _ (c .before .before .a2 .given .0 .0) q))
 
 enum-known-a-3 : tie.Need-enum-known-a-3 Inv-loop μ-loop
 enum-known-a-3 c = search needs
 
+ended-requires-2 : tie.Need-ended-requires-2 Inv-loop μ-loop
+ended-requires-2 c κs = search needs
+
 same-length-7 : tie.Need-same-length-7 Inv-loop μ-loop
-same-length-7 c = c .before .before .before .before .before .before .before .before .before .before .before .before .store .given ∙ c .before .before .before .before .before .before .before .before .before .before .before .before .before .before .before .before .before .before .before .before .before .loop .inv .4
+same-length-7 c = c .before .before .before .before .before .before .before .before .before .before .before .before .before .store .given ∙ c .before .before .before .before .before .before .before .before .before .before .before .before .before .before .before .before .before .before .before .before .before .before .loop .inv .4
 
 same-length-8 : tie.Need-same-length-8 Inv-loop μ-loop
-same-length-8 c = c .before .before .before .before .before .before .before .before .before .before .«record» .given ∙ c .before .before .before .before .before .before .before .before .before .before .before .before .before .before .before .before .before .before .before .before .before .loop .inv .5
+same-length-8 c = c .before .before .before .before .before .before .before .before .before .before .before .«record» .given ∙ c .before .before .before .before .before .before .before .before .before .before .before .before .before .before .before .before .before .before .before .before .before .before .loop .inv .5
 
 same-length-9 : tie.Need-same-length-9 Inv-loop μ-loop
-same-length-9 c = c .before .before .before .before .before .before .before .before .work .given ∙ c .before .before .before .before .before .before .before .before .before .before .before .before .before .before .before .before .before .before .before .before .before .loop .inv .6
+same-length-9 c = c .before .before .before .before .before .before .before .before .before .work .given ∙ c .before .before .before .before .before .before .before .before .before .before .before .before .before .before .before .before .before .before .before .before .before .before .loop .inv .6
 
 same-length-10 : tie.Need-same-length-10 Inv-loop μ-loop
-same-length-10 c = c .before .before .before .before .before .before .pending .given ∙ c .before .before .before .before .before .before .before .before .before .before .before .before .before .before .before .before .before .before .before .before .before .loop .inv .7
+same-length-10 c = c .before .before .before .before .before .before .before .pending .given ∙ c .before .before .before .before .before .before .before .before .before .before .before .before .before .before .before .before .before .before .before .before .before .before .loop .inv .7
 
 same-length-11 : tie.Need-same-length-11 Inv-loop μ-loop
-same-length-11 c = c .before .before .before .before .mask .given ∙ c .before .before .before .before .before .before .before .before .before .before .before .before .before .before .before .before .before .before .before .before .before .loop .inv .8
+same-length-11 c = c .before .before .before .before .before .mask .given ∙ c .before .before .before .before .before .before .before .before .before .before .before .before .before .before .before .before .before .before .before .before .before .before .loop .inv .8
 
 same-length-12 : tie.Need-same-length-12 Inv-loop μ-loop
-same-length-12 c = c .before .before .before .before .before .before .before .before .before .before .before .before .before .before .before .before .before .before .before .before .before .loop .inv .9
+same-length-12 c = c .before .before .before .before .before .before .before .before .before .before .before .before .before .before .before .before .before .before .before .before .before .before .loop .inv .9
 
 returns-2 : tie.Need-returns-2 Inv-loop μ-loop
 returns-2 c =
     λ m e.
-    let a = c .before .before .before .before .before .before .before .before .before .before .before .before .before .before .before .before .before .before .before .before .before .before .before .before .before .before .before .before .before .before .before .args in
+    let a = c .before .before .before .before .before .before .before .before .before .before .before .before .before .before .before .before .before .before .before .before .before .before .before .before .before .before .before .before .before .before .before .before .args in
     let i = a .image .now in
     let S = a .stimuli .now in
     let B₀ = a .store .now in
     let K₀ = a .«record» .now in
     let t = length (a .trace .now) in
-    let p = c .before .before .before .before .before .before .before .before .before .before .before .before .before .before .before .before .before .before .before .before .before .before .before .before .before .before .before .before .before .before .before .pre in
-    let l = c .before .before .before .before .before .before .before .before .before .before .before .before .before .before .before .before .before .before .before .before .before .loop in
-    let each = each-so i S (a .cycles) m B₀ K₀ (c .before .before .before .before .before .before .before .before .before .before .before .before .before .before .before .before .before .before .before .before .before .before .share .result) t (c .before .before .before .before .before .before .before .before .before .before .before .before .before .before .before .before .before .before .before .before .before .before .share .ensures) (omega (arith, c .before .before .before .before .before .before .before .before .before .before .before .before .before .before .before .before .before .before .before .before .loop-test .taken)) e in
+    let p = c .before .before .before .before .before .before .before .before .before .before .before .before .before .before .before .before .before .before .before .before .before .before .before .before .before .before .before .before .before .before .before .before .pre in
+    let l = c .before .before .before .before .before .before .before .before .before .before .before .before .before .before .before .before .before .before .before .before .before .before .loop in
+    let each = each-so i S (a .cycles) m B₀ K₀ (c .before .before .before .before .before .before .before .before .before .before .before .before .before .before .before .before .before .before .before .before .before .before .before .share .result) t (c .before .before .before .before .before .before .before .before .before .before .before .before .before .before .before .before .before .before .before .before .before .before .before .share .ensures) (omega (arith, c .before .before .before .before .before .before .before .before .before .before .before .before .before .before .before .before .before .before .before .before .before .loop-test .taken)) e in
     let left = l .inv .10 m e in
-    let st = c .before .before .before .before .before .before .before .before .before .before .before .before .before .before .before .before .before .before .before .part .ensures ∙ ap (λ (k : ℕ). take k (drop (l .at) S)) each in
-    let free = next-free i S (a .cycles) m B₀ K₀ (l .store) (l .«record») (l .trace) (l .n) (l .conflicts) (l .at) (l .to) (c .before .before .before .before .before .before .before .before .before .before .before .before .before .before .before .before .before .before .before .before .loop-test .taken) left in
-    let q = rw (st, c .before .a3 .given .1) at (c .before .before .before .before .before .before .before .before .before .before .before .before .before .carried .ensures m (l .inv .6 ∙ p .copy) (l .inv .7 ∙ p .waiting) (l .inv .8 ∙ p .masked) (rw st free)) in
-    run-so i S (a .cycles) m B₀ K₀ _ _ (l .trace) (l .n) (l .conflicts) (c .before .a3 .given .0 .0) t (left .traced) e (l .inv .9) (left .noted)
-    (left-refused i S (a .cycles) m B₀ K₀ (l .store) (l .«record») (l .trace) (l .n) (l .conflicts) (l .at) (l .to) (c .before .before .before .before .before .before .before .before .before .before .before .before .before .before .before .before .before .before .before .before .loop-test .taken) left _ _ (c .before .a3 .given .0 .0) q)
+    let st = c .before .before .before .before .before .before .before .before .before .before .before .before .before .before .before .before .before .before .before .before .part .ensures ∙ ap (λ (k : ℕ). take k (drop (l .at) S)) each in
+    let free = next-free i S (a .cycles) m B₀ K₀ (l .store) (l .«record») (l .trace) (l .n) (l .conflicts) (l .at) (l .to) (c .before .before .before .before .before .before .before .before .before .before .before .before .before .before .before .before .before .before .before .before .before .loop-test .taken) left in
+    let q = rw (st, c .before .before .a3 .given .1) at (c .before .before .before .before .before .before .before .before .before .before .before .before .before .before .carried .ensures m (l .inv .6 ∙ p .copy) (l .inv .7 ∙ p .waiting) (l .inv .8 ∙ p .masked) (rw st free)) in
+    rw (c .ended2 .ensures)
+    (run-so i S (a .cycles) m B₀ K₀ _ _ (l .trace) (l .n) (l .conflicts) (c .before .before .a3 .given .0 .0) t (left .traced) e (l .inv .9) (left .noted)
+    (left-refused i S (a .cycles) m B₀ K₀ (l .store) (l .«record») (l .trace) (l .n) (l .conflicts) (l .at) (l .to) (c .before .before .before .before .before .before .before .before .before .before .before .before .before .before .before .before .before .before .before .before .before .loop-test .taken) left _ _ (c .before .before .a3 .given .0 .0) q))
+
+ended-requires-3 : tie.Need-ended-requires-3 Inv-loop μ-loop
+ended-requires-3 c κs = search needs
 
 same-length-13 : tie.Need-same-length-13 Inv-loop μ-loop
-same-length-13 c = c .before .loop .inv .4
+same-length-13 c = c .before .before .loop .inv .4
 
 same-length-14 : tie.Need-same-length-14 Inv-loop μ-loop
-same-length-14 c = c .before .loop .inv .5
+same-length-14 c = c .before .before .loop .inv .5
 
 same-length-15 : tie.Need-same-length-15 Inv-loop μ-loop
-same-length-15 c = c .before .loop .inv .6
+same-length-15 c = c .before .before .loop .inv .6
 
 same-length-16 : tie.Need-same-length-16 Inv-loop μ-loop
-same-length-16 c = c .before .loop .inv .7
+same-length-16 c = c .before .before .loop .inv .7
 
 same-length-17 : tie.Need-same-length-17 Inv-loop μ-loop
-same-length-17 c = c .before .loop .inv .8
+same-length-17 c = c .before .before .loop .inv .8
 
 same-length-18 : tie.Need-same-length-18 Inv-loop μ-loop
-same-length-18 c = c .before .loop .inv .9
+same-length-18 c = c .before .before .loop .inv .9
 
 returns-3 : tie.Need-returns-3 Inv-loop μ-loop
 returns-3 c =
     λ m e.
-    let a = c .before .before .before .before .before .before .before .before .before .before .before .args in
+    let a = c .before .before .before .before .before .before .before .before .before .before .before .before .args in
     let i = a .image .now in
     let S = a .stimuli .now in
     let B₀ = a .store .now in
     let K₀ = a .«record» .now in
-    let l = c .before .loop in
+    let l = c .before .before .loop in
     let left = l .inv .10 m e in
-    run-so i S (a .cycles) m B₀ K₀ (l .store) (l .«record») (l .trace) (l .n) (l .conflicts) 0 (length (a .trace .now)) (left .traced) e (l .inv .9) (left .noted)
-    (left-none i S (a .cycles) m B₀ K₀ (l .store) (l .«record») (l .trace) (l .n) (l .conflicts) (l .at) (l .to) (c .loop-test .left) left)
+    rw (c .ended3 .ensures)
+    (run-so i S (a .cycles) m B₀ K₀ (l .store) (l .«record») (l .trace) (l .n) (l .conflicts) 0 (length (a .trace .now)) (left .traced) e (l .inv .9) (left .noted)
+    (left-none i S (a .cycles) m B₀ K₀ (l .store) (l .«record») (l .trace) (l .n) (l .conflicts) (l .at) (l .to) (c .before .loop-test .left) left))
 
 pub carry-on-spec : {M : Type 1} → statement M
 carry-on-spec =
@@ -262,6 +274,7 @@ carry-on-spec =
     loop-less
     loop-again
     enum-known-a-2
+    ended-requires
     same-length
     same-length-2
     same-length-3
@@ -270,6 +283,7 @@ carry-on-spec =
     same-length-6
     returns
     enum-known-a-3
+    ended-requires-2
     same-length-7
     same-length-8
     same-length-9
@@ -277,6 +291,7 @@ carry-on-spec =
     same-length-11
     same-length-12
     returns-2
+    ended-requires-3
     same-length-13
     same-length-14
     same-length-15

@@ -6,8 +6,8 @@ use native.Mathlib.Omega.{arith}
 use lib.ListN.{drop, length, length-append, length-replicate}
 use lib.Seq.{drop-append-add, take-append-seam}
 use Rattle.language.specs.Reading.{filled, zeroes}
-use Rattle.records.proofs.ByteLaws.{placed-whole}
 use Rattle.records.specs.Placed.{placed}
+use Rattle.records.proofs.ByteLaws.{placed-whole}
 
 drop-zeroes : (m n : ℕ) → drop m (zeroes n) ≡ zeroes (n - m)
 drop-zeroes zero n = let e : n - 0 ≡ n = omega arith in rw e
