@@ -9,11 +9,11 @@ use lib.Seq.{length-take-le, take-at, take-take}
 use Rattle.language.specs.Describe.{Noted}
 use Rattle.language.specs.Encode.{concat}
 use Rattle.simple.specs.Actions.{frontOf}
-use Rattle.tables.proofs.RowLaws.{ends-within}
 use Rattle.tables.specs.declared.Table.{Table}
 use Rattle.tables.specs.Rows.{from, most, rows, size}
 use Rattle.work.proofs.Regions.{same-held}
 use Rattle.work.specs.Held.{Held, held, placesFrom, withNodes}
+use Rattle.writing.proofs.BodyLaws.{row-length}
 
 -- ---- Rows of a table.
 
@@ -21,19 +21,13 @@ pub rows-none : (t : Table) (w : List ℕ) → rows t 0 w ≡ []
 unfolding rows
 rows-none t w = let e : size t * 0 ≡ 0 = omega arith in rw e
 
-row-long : (t : Table) (n : ℕ) (w : List ℕ) → length w ≡ 275296 → n ≤ most t → length (rows t n w) ≡ size t * n
-unfolding rows
-row-long t n w l h =
-    let e = mul-le-mul-left {m = n} {n = most t} (size t) h in
-    length-take-le (size t * n) (drop (from t) w) (omega (arith, e, ends-within t, length-drop (from t) w))
-
 rows-shorter : (t : Table) (n m : ℕ) (w : List ℕ) → n ≤ m → rows t n w ≡ take (size t * n) (rows t m w)
 unfolding rows
 rows-shorter t n m w h = sym (take-take (size t * n) (size t * m) (drop (from t) w) (mul-le-mul-left {m = n} {n = m} (size t) h))
 
 -- Behind n rows others were written.
 pub rows-before : (t : Table) (n m : ℕ) (w w′ more : List ℕ) → length w ≡ 275296 → n ≤ m → n ≤ most t → rows t m w′ ≡ rows t n w ++ more → rows t n w′ ≡ rows t n w
-rows-before t n m w w′ more l h k e = rows-shorter t n m w′ h ∙ ap (take (size t * n)) e ∙ take-at (rows t n w) more (size t * n) (row-long t n w l k)
+rows-before t n m w w′ more l h k e = rows-shorter t n m w′ h ∙ ap (take (size t * n)) e ∙ take-at (rows t n w) more (size t * n) (row-length t n w l k)
 
 -- ---- Records of expressions.
 

@@ -24,9 +24,8 @@ use Rattle.tables.specs.declared.Table.the-variants as Tb
 use Rattle.tables.specs.Names.{namesOf}
 use Rattle.tables.specs.Rows.{rows}
 use Rattle.words.specs.declared.Word.{Word}
-use Rattle.work.proofs.NodesAdded.{nodes-append}
+use Rattle.work.proofs.NodesAdded.{nodes-append, concat-append}
 use Rattle.work.specs.Held.{Held, held, withNodes}
-use Rattle.writing.proofs.LetterLaws.{concat-append}
 use Rattle.writing.proofs.StandingLaws.{zipped-one}
 use Rattle.writing.specs.Sections.{Few}
 use Rattle.writing.specs.Standing.{zipped}
