@@ -60,20 +60,20 @@ pub fn carried(
     kept(a, work, store, record)
 }
 
-// The cycle that is owed, where nothing is refused. Scratch holds the working copy and is zero afterwards; delayed stores wait in arrays of the largest store's size, since one slice cannot be lent in three parts at once.
-pub fn carry_out(
+// The cycle that is owed, where nothing is refused. Scratch holds the working copy and is zero afterwards; delayed stores wait in arrays that have n bytes, as the store has, or more.
+fn carry_in(
     image: &[u8],
     store: &mut [u8],
     record: &mut [u8],
     stimulus: &[u8],
     scratch: &mut [u8],
+    n: usize,
+    pending: &mut [u8],
+    mask: &mut [u8],
 ) -> Answer
-    requires { ⌜ cycleRefusal (now image) (now store) (now «record») (now stimulus) (length (now scratch)) ≡ none ⌝ }
+    requires { ⌜ (cycleRefusal (now image) (now store) (now «record») (now stimulus) (length (now scratch)) ≡ none) × (n ≡ storeSize (decode (now image))) × (n ≤ length (now pending)) × (n ≤ length (now mask)) ⌝ }
     ensures { λ r. ⌜ call r (now (store .exit)) (now («record» .exit)) (now (scratch .exit)) ≡ L.cycle (now (image .entry)) (now (store .entry)) (now («record» .entry)) (now (stimulus .entry)) (length (now (scratch .entry))) ⌝ }
 {
-    let n = sizes::store_size(sections::section(image, 0, 13));
-    let mut pending = [0u8; 16384];
-    let mut mask = [0u8; 16384];
     let answer = carried(
         image,
         store,
@@ -85,4 +85,44 @@ pub fn carry_out(
     );
     slices::zero(scratch);
     answer
+}
+
+// For most stores small arrays do; the large ones have the largest store's size. One slice cannot be lent in three parts at once, so they do not stand in scratch.
+pub fn carry_out(
+    image: &[u8],
+    store: &mut [u8],
+    record: &mut [u8],
+    stimulus: &[u8],
+    scratch: &mut [u8],
+) -> Answer
+    requires { ⌜ cycleRefusal (now image) (now store) (now «record») (now stimulus) (length (now scratch)) ≡ none ⌝ }
+    ensures { λ r. ⌜ call r (now (store .exit)) (now («record» .exit)) (now (scratch .exit)) ≡ L.cycle (now (image .entry)) (now (store .entry)) (now («record» .entry)) (now (stimulus .entry)) (length (now (scratch .entry))) ⌝ }
+{
+    let n = sizes::store_size(sections::section(image, 0, 13));
+    if n <= 1024 {
+        let mut pending = [0u8; 1024];
+        let mut mask = [0u8; 1024];
+        return carry_in(
+            image,
+            store,
+            record,
+            stimulus,
+            scratch,
+            n,
+            &mut pending,
+            &mut mask,
+        );
+    }
+    let mut pending = [0u8; 16384];
+    let mut mask = [0u8; 16384];
+    carry_in(
+        image,
+        store,
+        record,
+        stimulus,
+        scratch,
+        n,
+        &mut pending,
+        &mut mask,
+    )
 }

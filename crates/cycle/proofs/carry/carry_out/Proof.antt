@@ -1,13 +1,10 @@
-use mathlib.Core.Path.{_∙_}
-use Prim.Native.Nat.{_-_}
+use Prim.Native.Nat.{ℕ}
 use native.Mathlib.Omega.{arith}
-use lib.ListN.{length}
-use lib.Seq.{length-take-le}
+use lib.ListN.{length, length-replicate}
 use Rattle.language.specs.Decode.{decode, sectionAt}
 use Rattle.language.specs.Layout.{storeSize}
 use Rattle.sound.proofs.PassedLaws.{passed-described, passed-size}
-use Rattle.cycle.proofs.CarryLaws.{few-held, free-passes, scratch-there}
-use Rattle.cycle.proofs.KeptLaws.{first-zeroes}
+use Rattle.cycle.proofs.CarryLaws.{free-passes}
 use borrow.Author.Needs.{needs}
 use Rattle.cycle.proofs.carry.carry_out.Statement.{statement}
 use Rattle.cycle.proofs.carry.carry_out.Tie as tie
@@ -18,76 +15,26 @@ section-requires c κs = search needs
 store-size-requires : tie.Need-store-size-requires
 store-size-requires c κs = search needs
 
-sub-carried : tie.Need-sub-carried
-sub-carried c = search needs
+slice-aggregate-carry-in : tie.Need-slice-aggregate-carry-in
+slice-aggregate-carry-in c = search needs
 
-part-carried-start : tie.Need-part-carried-start
-part-carried-start c = search needs
+slice-aggregate-carry-in-2 : tie.Need-slice-aggregate-carry-in-2
+slice-aggregate-carry-in-2 c = search needs
 
-part-carried-end : tie.Need-part-carried-end
+carry-in-requires : tie.Need-carry-in-requires
 unfolding storeSize
-part-carried-end c =
-    let a = c .before .before .before .before .before .before .before .before .before .args in
+carry-in-requires c κs =
+    let a = c .before .before .before .before .before .before .before .before .before .before .before .before .before .args in
     let i = a .image .now in
     let s = a .store .now in
     let k = a .«record» .now in
     let t = a .stimulus .now in
     let m = length (a .scratch .now) in
-    let p = free-passes i s k t m (c .before .before .before .before .before .before .before .before .before .pre) in
-    let size = c .before .before .store-size .ensures (decode i) (sectionAt 2 8 i) (rw (c .before .before .before .section .ensures) (passed-described i p)) (passed-size i p) in
-    omega (arith, size, scratch-there i s k t m (c .before .before .before .before .before .before .before .before .before .pre))
-
-sub-carried-2 : tie.Need-sub-carried-2
-sub-carried-2 c = search needs
-
-part-pending-start : tie.Need-part-pending-start
-part-pending-start c = search needs
-
-part-pending-end : tie.Need-part-pending-end
-unfolding storeSize
-part-pending-end c =
-    let a = c .before .before .before .before .before .before .before .before .before .before .args in
-    let i = a .image .now in
-    let s = a .store .now in
-    let k = a .«record» .now in
-    let t = a .stimulus .now in
-    let m = length (a .scratch .now) in
-    let p = free-passes i s k t m (c .before .before .before .before .before .before .before .before .before .before .pre) in
-    let size = c .before .before .before .store-size .ensures (decode i) (sectionAt 2 8 i) (rw (c .before .before .before .before .section .ensures) (passed-described i p)) (passed-size i p) in
-    omega (arith, size, passed-size i p)
-
-sub-carried-3 : tie.Need-sub-carried-3
-sub-carried-3 c = search needs
-
-part-mask-start : tie.Need-part-mask-start
-part-mask-start c = search needs
-
-part-mask-end : tie.Need-part-mask-end
-unfolding storeSize
-part-mask-end c =
-    let a = c .before .before .before .before .before .before .before .before .before .before .before .args in
-    let i = a .image .now in
-    let s = a .store .now in
-    let k = a .«record» .now in
-    let t = a .stimulus .now in
-    let m = length (a .scratch .now) in
-    let p = free-passes i s k t m (c .before .before .before .before .before .before .before .before .before .before .before .pre) in
-    let size = c .before .before .before .before .store-size .ensures (decode i) (sectionAt 2 8 i) (rw (c .before .before .before .before .before .section .ensures) (passed-described i p)) (passed-size i p) in
-    omega (arith, size, passed-size i p)
-
-carried-requires : tie.Need-carried-requires
-carried-requires c κs =
-    let a = c .before .before .before .before .before .before .before .before .before .before .before .before .args in
-    let i = a .image .now in
-    let s = a .store .now in
-    let k = a .«record» .now in
-    let t = a .stimulus .now in
-    let m = length (a .scratch .now) in
-    let p = free-passes i s k t m (c .before .before .before .before .before .before .before .before .before .before .before .before .pre) in
-    (p, few-held i s k t m (c .before .before .before .before .before .before .before .before .before .before .before .before .pre))
-
-zero-requires : tie.Need-zero-requires
-zero-requires c κs = search needs
+    let pre = c .before .before .before .before .before .before .before .before .before .before .before .before .before .pre in
+    let p = free-passes i s k t m pre in
+    let size = c .before .before .before .before .before .before .store-size .ensures (decode i) (sectionAt 2 8 i) (rw (c .before .before .before .before .before .before .before .section .ensures) (passed-described i p)) (passed-size i p) in
+    let room = length-replicate {A = ℕ} 1024 0 in
+    (pre, size, omega (arith, room, c .before .before .before .before .before .if1 .taken), omega (arith, room, c .before .before .before .before .before .if1 .taken))
 
 same-length : tie.Need-same-length
 same-length c = search needs
@@ -99,20 +46,40 @@ same-length-3 : tie.Need-same-length-3
 same-length-3 c = search needs
 
 returns : tie.Need-returns
+returns c = search needs
+
+slice-aggregate-carry-in-3 : tie.Need-slice-aggregate-carry-in-3
+slice-aggregate-carry-in-3 c = search needs
+
+slice-aggregate-carry-in-4 : tie.Need-slice-aggregate-carry-in-4
+slice-aggregate-carry-in-4 c = search needs
+
+carry-in-requires-2 : tie.Need-carry-in-requires-2
 unfolding storeSize
-returns c =
-    let a = c .before .before .before .before .before .before .before .before .before .before .before .before .before .before .before .before .before .before .before .before .before .before .before .before .before .args in
+carry-in-requires-2 c κs =
+    let a = c .before .before .before .before .before .before .before .before .before .before .before .before .before .args in
     let i = a .image .now in
     let s = a .store .now in
     let k = a .«record» .now in
     let t = a .stimulus .now in
     let m = length (a .scratch .now) in
-    let p = free-passes i s k t m (c .before .before .before .before .before .before .before .before .before .before .before .before .before .before .before .before .before .before .before .before .before .before .before .before .before .pre) in
-    let size = c .before .before .before .before .before .before .before .before .before .before .before .before .before .before .before .before .before .before .store-size .ensures (decode i) (sectionAt 2 8 i) (rw (c .before .before .before .before .before .before .before .before .before .before .before .before .before .before .before .before .before .before .before .section .ensures) (passed-described i p)) (passed-size i p) in
-    let n = c .before .before .before .before .before .before .before .before .before .before .before .before .before .before .before .before .before .before .store-size .result in
-    let first = length-take-le (n - 0) (a .scratch .now) (omega (arith, size, scratch-there i s k t m (c .before .before .before .before .before .before .before .before .before .before .before .before .before .before .before .before .before .before .before .before .before .before .before .before .before .pre))) in
-    let zeroed = first-zeroes 16384 n (omega (arith, size, passed-size i p)) ∙ size in
-    rw (c .before .before .zero .ensures, c .before .before .before .before .before .before .before .scratch .given .1) (c .before .before .before .before .before .before .before .before .before .before .before .before .carried .ensures m (omega (arith, first, size)) zeroed zeroed (c .before .before .before .before .before .before .before .before .before .before .before .before .before .before .before .before .before .before .before .before .before .before .before .before .before .pre))
+    let pre = c .before .before .before .before .before .before .before .before .before .before .before .before .before .pre in
+    let p = free-passes i s k t m pre in
+    let size = c .before .before .before .before .before .before .store-size .ensures (decode i) (sectionAt 2 8 i) (rw (c .before .before .before .before .before .before .before .section .ensures) (passed-described i p)) (passed-size i p) in
+    let room = length-replicate {A = ℕ} 16384 0 in
+    (pre, size, omega (arith, room, size, passed-size i p), omega (arith, room, size, passed-size i p))
+
+same-length-4 : tie.Need-same-length-4
+same-length-4 c = search needs
+
+same-length-5 : tie.Need-same-length-5
+same-length-5 c = search needs
+
+same-length-6 : tie.Need-same-length-6
+same-length-6 c = search needs
+
+returns-2 : tie.Need-returns-2
+returns-2 c = search needs
 
 pub carry-out-spec : {M : Type 1} → statement M
 carry-out-spec =
@@ -120,18 +87,17 @@ carry-out-spec =
     (tie.spec
     section-requires
     store-size-requires
-    sub-carried
-    part-carried-start
-    part-carried-end
-    sub-carried-2
-    part-pending-start
-    part-pending-end
-    sub-carried-3
-    part-mask-start
-    part-mask-end
-    carried-requires
-    zero-requires
+    slice-aggregate-carry-in
+    slice-aggregate-carry-in-2
+    carry-in-requires
     same-length
     same-length-2
     same-length-3
-    returns)
+    returns
+    slice-aggregate-carry-in-3
+    slice-aggregate-carry-in-4
+    carry-in-requires-2
+    same-length-4
+    same-length-5
+    same-length-6
+    returns-2)
