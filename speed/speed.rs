@@ -7,6 +7,7 @@
 //!     speed --read CORPUS [MILLISECONDS]
 //!                                     how long reading takes
 //!     speed --stack FOLDER            the stack that each call needs
+//!     speed --carry FOLDER NAME       1,000 cycles by each on one description, for a tool that counts instructions
 //!     speed --agree SEED TRIES        holds the interpreter in C against the second simulator
 //!
 //! Before anything is measured all four carry out the same cycles and must
@@ -29,7 +30,7 @@ use std::time::Duration;
 use std::{env, fs};
 
 const USAGE: &str =
-    "usage: speed FOLDER [MILLISECONDS], --read CORPUS [MILLISECONDS], --stack FOLDER, or --agree SEED TRIES";
+    "usage: speed FOLDER [MILLISECONDS], --read CORPUS [MILLISECONDS], --stack FOLDER, --carry FOLDER NAME, or --agree SEED TRIES";
 
 /// A description, and what stands in its memory at the beginning.
 struct Description {
@@ -88,6 +89,11 @@ fn all_agree(board: &Board) -> Result<(), String> {
     Ok(())
 }
 
+fn carried(folder: &str, name: &str) -> Result<(), String> {
+    let description = DESCRIPTIONS.iter().find(|description| description.name == name);
+    all_agree(&board(folder, description.ok_or(format!("no description {name}"))?)?)
+}
+
 fn row(engine: &Engine, measured: &Measured, beside: &Measured) {
     let rate = measured.a_second();
     let ratio = beside.a_second() / rate;
@@ -123,6 +129,7 @@ fn main() -> ExitCode {
         [stack, folder] if stack == "--stack" => {
             stack::table(folder, &DESCRIPTIONS.map(|description| description.name))
         }
+        [carry, folder, name] if carry == "--carry" => carried(folder, name),
         [read, corpus] if read == "--read" => reading::table(corpus, Duration::from_millis(400)),
         [read, corpus, time] if read == "--read" => {
             number(time).and_then(|time| reading::table(corpus, Duration::from_millis(time)))
