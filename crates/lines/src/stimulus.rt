@@ -1,5 +1,5 @@
 // A line of input bits becomes a stimulus: the input terminals' words one after the other.
-use begin::sizes;
+use evaluate::bounds;
 use image::facilities;
 use image::facilities::Facility;
 use store::places;
@@ -80,13 +80,16 @@ fn word(line: &[u8], at: usize, length: u32, stimulus: &mut [u8], place: usize) 
     true
 }
 
+// The number of the kind of input terminals.
+const INPUT: u8 = 4;
+
 // How many bits a line has for a facility.
 fn input_bits(f: Facility) -> u32
-    ensures { λ r. ⌜ (r ≤ 65536) × ((name : Name) → r ≡ inputBits (facilityMeant name f)) ⌝ }
+    ensures { λ r. ⌜ ((name : Name) → r ≡ inputBits (facilityMeant name f)) ⌝ }
 {
     let kind = f.kind;
-    if sizes::is_input(kind) {
-        return sizes::word_length(f);
+    if facilities::kind_number(kind) == INPUT {
+        return bounds::word_length(f);
     }
     0
 }

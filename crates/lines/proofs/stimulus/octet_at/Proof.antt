@@ -7,8 +7,6 @@ use Rattle.language.specs.Trace.{bitsNumber}
 use Rattle.lines.proofs.LineBits.{bits-above, bits-below, bits-one, bits-past, few-bits, more-bits}
 use Rattle.lines.proofs.stimulus.octet_at.Statement.{statement}
 use Rattle.lines.proofs.stimulus.octet_at.Tie as tie
-use Rattle.lines.proofs.stimulus.octet_at.Reads as reads
-use Rattle.lines.proofs.stimulus.octet_at.Lts as lts
 
 abbrev Inv-loop : tie.InvT-loop
 Inv-loop line at count number₀ place₀ left₀ number place left =

@@ -17,13 +17,6 @@ use Rattle.lines.proofs.LineWord.{words-long}
 use Rattle.lines.proofs.LineTaken.{Laid, laid-all, laid-first, laid-more, laid-over, laid-stop, took-none}
 use Rattle.lines.proofs.stimulus.stimulus_of.Statement.{statement}
 use Rattle.lines.proofs.stimulus.stimulus_of.Tie as tie
-use Rattle.lines.proofs.stimulus.stimulus_of.Reads as reads
-use Rattle.lines.proofs.stimulus.stimulus_of.Lts as lts
-use Rattle.image.proofs.facilities.facility_at.Reads as facility-at-reads
-use Rattle.lines.proofs.stimulus.input_bits.Reads as input-bits-reads
-use Rattle.lines.proofs.stimulus.word.Reads as word-reads
-use Rattle.store.proofs.places.word_bytes.Reads as word-bytes-reads
-use Rattle.store.proofs.slices.zero.Reads as zero-reads
 
 abbrev Inv-loop : tie.InvT-loop
 Inv-loop section line stimulus₀ count n₀ at₀ place₀ stimulus n at place =
@@ -33,38 +26,31 @@ Inv-loop section line stimulus₀ count n₀ at₀ place₀ stimulus n at place 
 abbrev μ-loop : tie.MeasureT-loop
 μ-loop section line stimulus₀ count n₀ at₀ place₀ stimulus n at place = count - n
 
--- src/stimulus.rt:102:5
 loop-holds : tie.Need-loop-holds Inv-loop μ-loop
 loop-holds c =
     (omega arith, omega arith, omega arith, refl, λ d E h r. laid-first d _ _ r)
 
--- src/stimulus.rt:103:33
 facility-at-requires : tie.Need-facility-at-requires Inv-loop μ-loop
 facility-at-requires c κs =
     search needs
 
--- src/stimulus.rt:103:13
 input-bits-requires : tie.Need-input-bits-requires Inv-loop μ-loop
 input-bits-requires c κs =
     search needs
 
--- src/stimulus.rt:104:13
 word-requires : tie.Need-word-requires Inv-loop μ-loop
 word-requires c κs =
     (c .before .before .before .before .loop .inv .1, c .before .before .before .before .loop .inv .2)
 
--- src/stimulus.rt:105:13
 zero-requires : tie.Need-zero-requires Inv-loop μ-loop
 zero-requires c κs =
     search needs
 
--- src/stimulus.rt:106:13
 same-length : tie.Need-same-length Inv-loop μ-loop
 same-length c =
     let w : Worded (c .before .before .before .before .before .before .before .before .before .input-bits .result) _ (c .before .before .before .before .before .before .before .before .before .before .before .before .loop .at) (c .before .before .before .before .before .before .before .before .before .before .before .before .loop .stimulus) (c .before .before .before .before .before .before .before .before .before .before .before .before .loop .place) false (c .before .before .before .before .before .before .before .word .last .1 .1 .1 .0) = rw (not-true (c .before .before .before .before .before .before .before .word .result) (c .before .before .before .before .if1 .taken)) at (c .before .before .before .before .before .before .before .word .ensures) in
     ap length (c .before .before .zero .ensures) ∙ (length-replicate {A = ℕ} _ 0 ∙ (w .0 ∙ c .before .before .before .before .before .before .before .before .before .before .before .before .loop .inv .3))
 
--- src/stimulus.rt:106:13
 returns : tie.Need-returns Inv-loop μ-loop
 returns c =
     λ d E h r.
@@ -74,39 +60,32 @@ returns c =
     let k = nameOf h (l .n) f g in
     let n : l .n < length (d .facilities) = rw (h .count) (c .before .before .before .before .before .before .before .before .before .before .before .loop-test .taken) in
     let w : Worded (c .before .before .before .before .before .before .before .before .before .input-bits .result) _ (l .at) (l .stimulus) (l .place) false (c .before .before .before .before .before .before .before .word .last .1 .1 .1 .0) = rw (not-true (c .before .before .before .before .before .before .before .word .result) (c .before .before .before .before .if1 .taken)) at (c .before .before .before .before .before .before .before .word .ensures) in
-    ap (λ (X : List ℕ). tookMeant T.None X) (c .before .before .zero .ensures) ∙ took-none _ _ (w .0 ∙ l .inv .3) (laid-stop (l .inv .4 d E h r) (facilityMeant k f) n (facility-known h (l .n) f g) (c .before .before .before .before .before .before .before .before .before .input-bits .result) (c .before .before .before .before .before .before .before .before .before .input-bits .ensures .1 k) (c .before .before .before .before .before .before .before .word .last .1 .1 .1 .0) w)
+    ap (λ (X : List ℕ). tookMeant T.None X) (c .before .before .zero .ensures) ∙ took-none _ _ (w .0 ∙ l .inv .3) (laid-stop (l .inv .4 d E h r) (facilityMeant k f) n (facility-known h (l .n) f g) (c .before .before .before .before .before .before .before .before .before .input-bits .result) (c .before .before .before .before .before .before .before .before .before .input-bits .ensures k) (c .before .before .before .before .before .before .before .word .last .1 .1 .1 .0) w)
 
--- src/stimulus.rt:108:15
 cast-at : tie.Need-cast-at Inv-loop μ-loop
 cast-at c =
     search needs
 
--- src/stimulus.rt:108:9
 add-at : tie.Need-add-at Inv-loop μ-loop
 add-at c =
     let w : Worded (c .before .before .before .before .before .input-bits .result) _ (c .before .before .before .before .before .before .before .before .loop .at) (c .before .before .before .before .before .before .before .before .loop .stimulus) (c .before .before .before .before .before .before .before .before .loop .place) true _ = rw (not-false (c .before .before .before .word .result) (c .if1 .left)) at (c .before .before .before .word .ensures) in omega (arith, w .in-line)
 
--- src/stimulus.rt:109:18
 word-bytes-requires : tie.Need-word-bytes-requires Inv-loop μ-loop
 word-bytes-requires c κs =
     search needs
 
--- src/stimulus.rt:109:9
 add-place : tie.Need-add-place Inv-loop μ-loop
 add-place c =
     let w : Worded (c .before .before .before .before .before .before .input-bits .result) _ (c .before .before .before .before .before .before .before .before .before .loop .at) (c .before .before .before .before .before .before .before .before .before .loop .stimulus) (c .before .before .before .before .before .before .before .before .before .loop .place) true _ = rw (not-false (c .before .before .before .before .word .result) (c .before .if1 .left)) at (c .before .before .before .before .word .ensures) in omega (arith, w .room, c .word-bytes .ensures)
 
--- src/stimulus.rt:110:9
 add-n : tie.Need-add-n Inv-loop μ-loop
 add-n c =
     omega arith
 
--- src/stimulus.rt:102:5
 loop-less : tie.Need-loop-less Inv-loop μ-loop
 loop-less c =
     omega arith
 
--- src/stimulus.rt:102:5
 loop-again : tie.Need-loop-again Inv-loop μ-loop
 loop-again c =
     let l = c .before .before .before .before .before .before .before .before .before .loop in
@@ -122,32 +101,27 @@ loop-again c =
       λ d E h r.
           let k = nameOf h (l .n) f g in
           let n : l .n < length (d .facilities) = rw (h .count) (c .before .before .before .before .before .before .before .before .loop-test .taken) in
-          rw (u, c .word-bytes .ensures) (laid-more (l .inv .4 d E h r) (facilityMeant k f) n (facility-known h (l .n) f g) (c .before .before .before .before .before .before .input-bits .result) (c .before .before .before .before .before .before .input-bits .ensures .1 k) w),
+          rw (u, c .word-bytes .ensures) (laid-more (l .inv .4 d E h r) (facilityMeant k f) n (facility-known h (l .n) f g) (c .before .before .before .before .before .before .input-bits .result) (c .before .before .before .before .before .before .input-bits .ensures k) w),
     )
 
--- src/stimulus.rt:113:9
 same-length-2 : tie.Need-same-length-2 Inv-loop μ-loop
 same-length-2 c =
     c .before .before .loop .inv .3
 
--- src/stimulus.rt:113:9
 returns-2 : tie.Need-returns-2 Inv-loop μ-loop
 returns-2 c =
     λ d E h r.
     let n : length (d .facilities) ≤ c .before .before .loop .n = rw (h .count) (c .before .loop-test .left) in
     laid-all (c .before .before .loop .inv .4 d E h r) n (c .if2 .taken)
 
--- src/stimulus.rt:115:5
 zero-requires-2 : tie.Need-zero-requires-2 Inv-loop μ-loop
 zero-requires-2 c κs =
     search needs
 
--- src/stimulus.rt:95:1
 same-length-3 : tie.Need-same-length-3 Inv-loop μ-loop
 same-length-3 c =
     ap length (c .before .before .zero2 .ensures) ∙ (length-replicate {A = ℕ} _ 0 ∙ c .before .before .before .before .before .before .loop .inv .3)
 
--- src/stimulus.rt:95:1
 returns-3 : tie.Need-returns-3 Inv-loop μ-loop
 returns-3 c =
     λ d E h r.
