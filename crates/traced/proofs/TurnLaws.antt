@@ -1,5 +1,5 @@
 -- A cycle's text by its answer, and a line's by what it is taken for. Assumes nothing.
-use mathlib.Core.Bool.{Bool, true, false}
+use mathlib.Core.Bool.{Bool, true, false, cond}
 use mathlib.Core.List.{List, [], _∷_, _++_, append-nil}
 use mathlib.Core.Option.{Option, none, some}
 use mathlib.Core.Path.{_≡_, refl, sym, ap, ap₂, _∙_}
@@ -8,14 +8,16 @@ use native.Mathlib.Omega.{arith}
 use lib.ListN.{drop, length, length-append, take}
 use lib.Seq.{take-at}
 use Rattle.language.specs.Calls as L
-use Rattle.language.specs.Calls.{CycleCall, over}
+use Rattle.language.specs.Calls.{CycleCall, over, stimulusSize}
 use Rattle.language.specs.Decode.{decode, numberAt}
 use Rattle.language.specs.Description.{Description, Facility, stateAt}
-use Rattle.language.specs.Layout.{storeSize}
+use Rattle.language.specs.Image.{passes}
+use Rattle.language.specs.Layout.{facilityBytes, storeSize, storeSizeOf}
 use Rattle.language.specs.RecordBytes.{recordFrom}
 use Rattle.language.specs.Scan.{bytes}
-use Rattle.language.specs.Store.{Words, inputsOf, toBytes}
+use Rattle.language.specs.Store.{Words, inputsOf, isInput, toBytes}
 use Rattle.language.specs.Trace.{afterCall, cycleLine, decimal, lineEnd, lineWords, refusedLine, runLines, stopLine, withInput}
+use Rattle.sound.proofs.PassedLaws.{passed-size}
 use Rattle.cycle.specs.Called.{call}
 use Rattle.cycle.specs.declared.answer.Answer.{Answer}
 use Rattle.cycle.specs.declared.answer.Answer.the-variants as A
@@ -135,3 +137,23 @@ module _ {image line : List ℕ} {number : ℕ} {S R S′ R′ B : List ℕ} {at
         ∙ (ap₂ (λ (Y : List ℕ) (m : ℕ). afterCall image (decode image) number (recordFrom R .state) (runLines image (decode image) ls number) (L.cycle image S R Y m)) (sym y) (sym w)
         ∙ x .same (runLines image (decode image) ls number)));
   }
+
+-- ---- Buffers that are large enough.
+
+inputs-fewer : (fs : List Facility) → storeSizeOf (inputsOf fs) ≤ storeSizeOf fs
+unfolding storeSizeOf inputsOf
+inputs-fewer [] = omega arith
+inputs-fewer (f ∷ fs) = go (isInput (f .kind)) (inputs-fewer fs)
+  where
+    go : (b : Bool) → storeSizeOf (inputsOf fs) ≤ storeSizeOf fs → storeSizeOf (cond b (f ∷ inputsOf fs) (inputsOf fs)) ≤ facilityBytes f + storeSizeOf fs
+    go true i = omega arith
+    go false i = omega arith
+
+module _ (image : List ℕ) (passed : passes image ≡ true) where
+  pub small-store : storeSize (decode image) ≤ 16384
+  unfolding storeSize
+  small-store = passed-size image passed
+
+  pub small-stimulus : stimulusSize (decode image) ≤ 16384
+  unfolding stimulusSize
+  small-stimulus = omega (arith, inputs-fewer (decode image .facilities), passed-size image passed)

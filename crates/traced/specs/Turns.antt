@@ -18,6 +18,10 @@ use Rattle.lines.specs.Room.{lineRoom}
 use Rattle.traced.specs.declared.begun.Begun.{Begun}
 use Rattle.traced.specs.declared.begun.Begun.the-variants as B
 
+-- An image that passes, with a store of its size.
+abbrev pub Ready : List ℕ → List ℕ → Type 0
+Ready image store = (passes image ≡ true) × (length store ≡ storeSize (decode image))
+
 -- Room for any line of output of a description in a state.
 unfoldable pub turnRoom : Description → ℕ → ℕ
 turnRoom d state = 29 + length (stateAt d state .name) + lineRoom (d .facilities)

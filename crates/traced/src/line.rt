@@ -18,7 +18,7 @@ ghost use Rattle.language.specs.Image.{passes};
 ghost use Rattle.language.specs.Layout.{storeSize};
 ghost use Rattle.language.specs.Trace.{cycleLine};
 ghost use Rattle.lines.specs.Adds.{Adds};
-ghost use Rattle.traced.specs.Turns.{Carried, Turned};
+ghost use Rattle.traced.specs.Turns.{Carried, Ready, Turned};
 
 // Whether the run goes on, and where the output ends.
 pub struct Turn {
@@ -94,4 +94,33 @@ pub fn line_done(
             carried(image, store, record, scratch, taken, number, out, at)
         }
     }
+}
+
+// The same in buffers of its own, large enough for any image that passes.
+pub fn turned(
+    image: &[u8],
+    store: &mut [u8],
+    record: &mut [u8],
+    line: &[u8],
+    number: u64,
+    out: &mut [u8],
+    at: usize,
+) -> Turn
+    requires { ⌜ Ready (now image) (now store) ⌝ }
+    ensures { λ r. ⌜ Turned (now (image .entry)) (now (line .entry)) number (now (store .entry)) (now («record» .entry)) (r .on) (now (store .exit)) (now («record» .exit)) (now (out .entry)) at (now (out .exit)) (r .end) ⌝ }
+{
+    let mut scratch = [0u8; 65536];
+    let mut stimulus = [0u8; 16384];
+    let size = 4 * store.len();
+    line_done(
+        image,
+        store,
+        record,
+        &mut scratch[0..size],
+        &mut stimulus,
+        line,
+        number,
+        out,
+        at,
+    )
 }
