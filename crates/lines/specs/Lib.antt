@@ -1,3 +1,4 @@
 pub mod Adds
 pub mod Room
+pub mod Stimulus
 pub mod Texts

@@ -7,7 +7,7 @@ use lib.ListN.{length}
 use Rattle.language.specs.Description.{Description, Facility, facilityAt, wordLength}
 use Rattle.language.specs.Layout.{wordBytes}
 use Rattle.language.specs.Scan.{bytes}
-use Rattle.language.specs.Trace.{bits, shown}
+use Rattle.language.specs.Trace.{bits, decimal, lineEnd, shown}
 use Rattle.image.specs.Declarations.{facilityIn}
 use Rattle.image.specs.Names.{facilityPart, named}
 use Rattle.store.specs.Layout.{wordIn}
@@ -24,3 +24,7 @@ facilityText f place B = cond (shown f) (bytes " " ++ (f .name ++ (bytes "=" ++ 
 -- The facilities of d are those of the section F, with their names from N.
 abbrev pub Named : Description → List ℕ → List ℕ → Type 0
 Named d F N = (n : ℕ) → facilityAt d n ≡ facilityIn F n (named (facilityPart F n) N)
+
+-- The line of a text that is refused, by its number and its place.
+abbrev pub refusedText : ℕ → ℕ → List ℕ
+refusedText n place = bytes "refused " ++ (decimal n ++ (bytes " " ++ (decimal place ++ lineEnd)))

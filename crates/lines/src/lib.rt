@@ -2,3 +2,4 @@
 pub mod line;
 pub mod out;
 pub mod shown;
+pub mod stimulus;

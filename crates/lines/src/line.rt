@@ -10,7 +10,7 @@ ghost use Rattle.language.specs.Layout.{storeSizeOf};
 ghost use Rattle.language.specs.Trace as T;
 ghost use Rattle.evaluate.specs.Described.{Describes};
 ghost use Rattle.lines.specs.Adds.{Adds};
-ghost use Rattle.lines.specs.Texts.{Named};
+ghost use Rattle.lines.specs.Texts.{Named, refusedText};
 
 // A state's label, or `-` where it has none.
 fn label_text(out: &mut [u8], at: usize, label: &[u8]) -> usize
@@ -29,6 +29,15 @@ pub fn numbered(out: &mut [u8], at: usize, word: &[u8], n: u64) -> usize
     let mut end = out::append(out, at, word);
     end = out::decimal(out, end, n);
     out::push(out, end, b'\n')
+}
+
+// The refusal of a text, with its place.
+pub fn refusal(out: &mut [u8], at: usize, n: u64, place: u64) -> usize
+    ensures { λ r. ⌜ Adds (refusedText n place) (now (out .entry)) at (now (out .exit)) r ⌝ }
+{
+    let mut end = out::append(out, at, b"refused ");
+    end = out::decimal(out, end, n);
+    numbered(out, end, b" ", place)
 }
 
 // The line of a cycle: its number, the label of its state, and the facilities after it.

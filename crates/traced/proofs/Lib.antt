@@ -1,0 +1,4 @@
+pub mod BegunLaws
+pub mod LabelLaws
+pub mod TurnLaws
+pub mod Whole

@@ -1,0 +1,65 @@
+use mathlib.Core.Path.{_≡_, sym, ap, _∙_}
+use mathlib.Core.List.{List}
+use Prim.Native.Nat.{ℕ, _-_, _≤_}
+use native.Mathlib.Omega.{arith}
+use lib.ListN.{length}
+use Rattle.language.specs.Decode.{decode}
+use Rattle.language.specs.Layout.{storeSize}
+use Rattle.open.proofs.FirstLaws.{size-known}
+use Rattle.sound.proofs.PassedLaws.{passed-size}
+use Rattle.traced.proofs.BegunLaws.{opened-is}
+use borrow.Author.Needs.{needs}
+use Rattle.traced.proofs.begun.opened.Statement.{statement}
+use Rattle.traced.proofs.begun.opened.Tie as tie
+use Rattle.traced.proofs.begun.opened.Reads as reads
+use Rattle.traced.proofs.begun.opened.Lts as lts
+use Rattle.image.proofs.sections.section.Reads as section-reads
+use Rattle.open.proofs.open.open.Reads as open-reads
+use Rattle.sound.proofs.sizes.store_size.Reads as store-size-reads
+
+section-requires : tie.Need-section-requires
+section-requires c κs = search needs
+
+store-size-requires : tie.Need-store-size-requires
+store-size-requires c κs = search needs
+
+sub-open : tie.Need-sub-open
+sub-open c = search needs
+
+part-open-start : tie.Need-part-open-start
+part-open-start c = search needs
+
+part-open-end : tie.Need-part-open-end
+unfolding storeSize
+part-open-end c =
+    let z = size-known _ (c .before .before .before .before .before .pre .0) (c .before .section .ensures) (c .store-size .ensures) in
+    let b = passed-size _ (c .before .before .before .before .before .pre .0) in
+    let h : (c .store-size .result) ≤ length (c .before .before .before .before .before .args .store .now) = omega (arith, z, b, c .before .before .before .before .before .pre .1) in
+    search needs
+
+open-requires : tie.Need-open-requires
+open-requires c κs = search needs
+
+same-length : tie.Need-same-length
+same-length c = search needs
+
+same-length-2 : tie.Need-same-length-2
+same-length-2 c = search needs
+
+returns : tie.Need-returns
+returns c =
+    opened-is _ (c .before .before .before .before .before .before .before .before .before .before .before .before .pre .0) (c .before .before .before .before .before .before .before .before .before .before .before .before .args .store .now) (c .before .before .before .before .«open» .last .1 .0) (c .before .before .before .before .«open» .result) (c .before .before .before .before .before .before .before .before .before .before .before .before .pre .1) (size-known _ (c .before .before .before .before .before .before .before .before .before .before .before .before .pre .0) (c .before .before .before .before .before .before .before .before .section .ensures) (c .before .before .before .before .before .before .before .store-size .ensures)) (search needs) (c .before .before .before .before .«open» .ensures)
+
+pub opened-spec : {M : Type 1} → statement M
+opened-spec =
+    tie.close
+    (tie.spec
+    section-requires
+    store-size-requires
+    sub-open
+    part-open-start
+    part-open-end
+    open-requires
+    same-length
+    same-length-2
+    returns)

@@ -1,0 +1,49 @@
+use mathlib.Core.Path.{_≡_, sym, ap, _∙_}
+use mathlib.Core.List.{List}
+use Prim.Native.Nat.{ℕ, _-_, _≤_}
+use native.Mathlib.Omega.{arith}
+use Rattle.language.specs.Decode.{decode, sectionAt}
+use Rattle.language.specs.Layout.{storeSize}
+use Rattle.open.proofs.FirstLaws.{few-records}
+use Rattle.traced.proofs.LabelLaws.{image-described, image-named}
+use borrow.Author.Needs.{needs}
+use Rattle.traced.proofs.line.shown.Statement.{statement}
+use Rattle.traced.proofs.line.shown.Tie as tie
+use Rattle.traced.proofs.line.shown.Reads as reads
+use Rattle.traced.proofs.line.shown.Lts as lts
+use Rattle.image.proofs.sections.section.Reads as section-reads
+use Rattle.lines.proofs.line.cycle_line.Reads as cycle-line-reads
+use Rattle.traced.proofs.label.label.Reads as label-reads
+
+label-requires : tie.Need-label-requires
+label-requires c κs = search needs
+
+section-requires : tie.Need-section-requires
+section-requires c κs = search needs
+
+section-requires-2 : tie.Need-section-requires-2
+section-requires-2 c κs = search needs
+
+cycle-line-requires : tie.Need-cycle-line-requires
+cycle-line-requires c κs =
+    few-records _ (c .before .before .before .before .before .before .before .pre .0) (c .before .before .section .ensures)
+
+same-length : tie.Need-same-length
+same-length c = search needs
+
+returns : tie.Need-returns
+unfolding storeSize
+returns c =
+    let i = c .before .before .before .before .before .before .before .before .before .before .args .image .now in
+    c .before .before .cycle-line .ensures .1 (decode i) (sectionAt 2 8 i) (c .before .before .before .before .before .before .before .before .before .before .args .state) (image-described i (c .before .before .before .before .before .before .before .before .before .before .pre .0) (c .before .before .before .before .before .section .ensures)) (image-named i (c .before .before .before .before .before .section .ensures) (c .before .before .before .before .section2 .ensures)) (c .before .before .before .before .before .before .before .before .before .before .pre .1) (c .before .before .before .before .before .before .label .ensures)
+
+pub shown-spec : {M : Type 1} → statement M
+shown-spec =
+    tie.close
+    (tie.spec
+    label-requires
+    section-requires
+    section-requires-2
+    cycle-line-requires
+    same-length
+    returns)
