@@ -1,0 +1,25 @@
+use native.Mathlib.Omega.{arith}
+use lib.ListN.{length-set}
+use borrow.Author.Needs.{needs}
+use Rattle.trace.proofs.input.put.Statement.{statement}
+use Rattle.trace.proofs.input.put.Tie as tie
+use Rattle.trace.proofs.input.put.Reads as reads
+use Rattle.trace.proofs.input.put.Lts as lts
+
+slice-write-line : tie.Need-slice-write-line
+slice-write-line c = search needs
+
+add-result : tie.Need-add-result
+add-result c = search needs
+
+same-length : tie.Need-same-length
+same-length c = search needs
+
+returns : tie.Need-returns
+returns c = omega (arith, length-set (c .before .args .line .now) (c .before .args .n) (c .before .args .b))
+
+returns-2 : tie.Need-returns-2
+returns-2 c = search needs
+
+pub put-spec : {M : Type 1} → statement M
+put-spec = tie.close (tie.spec slice-write-line add-result same-length returns returns-2)

@@ -1,0 +1,117 @@
+use mathlib.Core.Path.{_≡_, sym, ap, _∙_}
+use Prim.Native.Nat.{ℕ, _-_, _≤_}
+use native.Mathlib.Omega.{arith}
+use lib.ListN.{length, length-replicate, take}
+use lib.Seq.{length-take-le}
+use Rattle.language.specs.Decode.{decode}
+use Rattle.language.specs.Image.{passes}
+use Rattle.language.specs.Layout.{storeSize}
+use Rattle.traced.specs.Turns.{Runs}
+use borrow.Author.Needs.{needs}
+use Rattle.trace.proofs.run.Statement.{statement}
+use Rattle.trace.proofs.run.Tie as tie
+use Rattle.trace.proofs.run.Reads as reads
+use Rattle.trace.proofs.run.Lts as lts
+use Rattle.io.proofs.write_all.Reads as write-all-reads
+use Rattle.records.proofs.bytes.part.Reads as part-reads
+use Rattle.trace.proofs.input.cycles.Reads as cycles-reads
+use Rattle.traced.proofs.begun.begin_run.Reads as begin-run-reads
+
+slice-aggregate-begin-run : tie.Need-slice-aggregate-begin-run
+slice-aggregate-begin-run c = search needs
+
+slice-aggregate-begin-run-2 : tie.Need-slice-aggregate-begin-run-2
+slice-aggregate-begin-run-2 c = search needs
+
+slice-aggregate-begin-run-3 : tie.Need-slice-aggregate-begin-run-3
+slice-aggregate-begin-run-3 c = search needs
+
+slice-aggregate-begin-run-4 : tie.Need-slice-aggregate-begin-run-4
+slice-aggregate-begin-run-4 c = search needs
+
+begin-run-requires : tie.Need-begin-run-requires
+begin-run-requires c κs = search needs
+
+enum-known-end : tie.Need-enum-known-end
+enum-known-end c = search needs
+
+slice-aggregate-part : tie.Need-slice-aggregate-part
+slice-aggregate-part c = search needs
+
+part-requires : tie.Need-part-requires
+part-requires c κs = search needs
+
+write-all-requires : tie.Need-write-all-requires
+write-all-requires c κs = search needs
+
+enum-known-n : tie.Need-enum-known-n
+enum-known-n c = search needs
+
+sub-cycles : tie.Need-sub-cycles
+sub-cycles c = search needs
+
+part-cycles-start : tie.Need-part-cycles-start
+part-cycles-start c = search needs
+
+part-cycles-end : tie.Need-part-cycles-end
+part-cycles-end c =
+    let r : Runs (c .before .before .before .before .before .before .before .before .before .before .before .before .before .before .args .text .now) (c .before .before .n .given .0 .0) (c .before .before .n .given .0 .1 .0) _ (c .before .before .before .before .before .before .before .before .begin-run .last .1 .0) (c .before .before .before .before .before .before .before .before .begin-run .last .1 .1 .0) (c .before .before .before .before .before .before .before .before .begin-run .last .1 .1 .1 .0) = rw (c .before .before .n .given .1) at (c .before .before .before .before .before .before .before .before .begin-run .ensures) in
+    let h : c .before .before .n .given .0 .0 ≤ length (c .before .before .before .before .before .before .before .before .begin-run .last .1 .0) = r .inside in
+    search needs
+
+sub-cycles-2 : tie.Need-sub-cycles-2
+sub-cycles-2 c = search needs
+
+part-store-start : tie.Need-part-store-start
+part-store-start c = search needs
+
+part-store-end : tie.Need-part-store-end
+part-store-end c =
+    let r : Runs (c .before .before .before .before .before .before .before .before .before .before .before .before .before .before .before .args .text .now) (c .before .before .before .n .given .0 .0) (c .before .before .before .n .given .0 .1 .0) _ (c .before .before .before .before .before .before .before .before .before .begin-run .last .1 .0) (c .before .before .before .before .before .before .before .before .before .begin-run .last .1 .1 .0) (c .before .before .before .before .before .before .before .before .before .begin-run .last .1 .1 .1 .0) = rw (c .before .before .before .n .given .1) at (c .before .before .before .before .before .before .before .before .before .begin-run .ensures) in
+    let h : c .before .before .before .n .given .0 .1 .0 ≤ 16384 = omega (arith, r .fits, length-replicate {A = ℕ} 16384 0) in
+    search needs
+
+slice-aggregate-cycles : tie.Need-slice-aggregate-cycles
+slice-aggregate-cycles c = search needs
+
+cycles-requires : tie.Need-cycles-requires
+cycles-requires c κs =
+    let r : Runs (c .before .before .before .before .before .before .before .before .before .before .before .before .before .before .before .before .before .args .text .now) (c .before .before .before .before .before .n .given .0 .0) (c .before .before .before .before .before .n .given .0 .1 .0) _ (c .before .before .before .before .before .before .before .before .before .before .before .begin-run .last .1 .0) (c .before .before .before .before .before .before .before .before .before .before .before .begin-run .last .1 .1 .0) (c .before .before .before .before .before .before .before .before .before .before .before .begin-run .last .1 .1 .1 .0) = rw (c .before .before .before .before .before .n .given .1) at (c .before .before .before .before .before .before .before .before .before .before .before .begin-run .ensures) in
+    let z : c .before .before .before .before .before .n .given .0 .0 - 0 ≡ c .before .before .before .before .before .n .given .0 .0 = omega arith in
+    let w : c .before .before .before .before .before .n .given .0 .1 .0 - 0 ≡ c .before .before .before .before .before .n .given .0 .1 .0 = omega arith in
+    let h : c .before .before .before .before .before .n .given .0 .1 .0 ≤ 16384 = omega (arith, r .fits, length-replicate {A = ℕ} 16384 0) in
+    let k : length (c .before .before .before .before .before .before .before .before .before .before .before .begin-run .last .1 .1 .0) ≡ 16384 = search needs in (
+      ap (λ (m : ℕ). passes (take m (c .before .before .before .before .before .before .before .before .before .before .before .begin-run .last .1 .0))) z ∙ r .passed,
+      length-take-le (c .before .before .before .before .before .n .given .0 .1 .0 - 0) (c .before .before .before .before .before .before .before .before .before .before .before .begin-run .last .1 .1 .0) (omega (arith, h, k)) ∙ (w ∙ (r .is ∙ ap (λ (m : ℕ). storeSize (decode (take m (c .before .before .before .before .before .before .before .before .before .before .before .begin-run .last .1 .0)))) (sym z))),
+    )
+
+returns : tie.Need-returns
+returns c = search needs
+
+returns-2 : tie.Need-returns-2
+returns-2 c = search needs
+
+pub run-spec : {M : Type 1} → statement M
+run-spec =
+    tie.close
+    (tie.spec
+    slice-aggregate-begin-run
+    slice-aggregate-begin-run-2
+    slice-aggregate-begin-run-3
+    slice-aggregate-begin-run-4
+    begin-run-requires
+    enum-known-end
+    slice-aggregate-part
+    part-requires
+    write-all-requires
+    enum-known-n
+    sub-cycles
+    part-cycles-start
+    part-cycles-end
+    sub-cycles-2
+    part-store-start
+    part-store-end
+    slice-aggregate-cycles
+    cycles-requires
+    returns
+    returns-2)

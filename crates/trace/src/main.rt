@@ -1,0 +1,37 @@
+// The trace program (01, "Cases"): the text of run.ddl, a line of input bits for each cycle from standard input, and a line of output for each.
+mod input;
+
+use libc::STDOUT_FILENO;
+use records::bytes;
+use traced::begun;
+use traced::begun::Begun;
+
+// Reads the text, and runs it or says why it is refused.
+fn run(text: &[u8]) {
+    let mut image = [0u8; 165556];
+    let mut store = [0u8; 16384];
+    let mut record = [0u8; 80];
+    let mut out = [0u8; 64];
+    match begun::begin_run(text, &mut image, &mut store, &mut record, &mut out) {
+        Begun::Refused(end) => {
+            io::write_all(STDOUT_FILENO, bytes::part(&out, 0, end));
+        }
+        Begun::Runs(n, size) => {
+            input::cycles(&image[0..n], &mut store[0..size], &mut record);
+        }
+    }
+}
+
+// One byte more is read than a text may have: a longer one is refused whatever follows.
+fn main() {
+    let path = b"run.ddl";
+    let file = os::open_read(path);
+    if file < 0 {
+        os::fail(path);
+        return;
+    }
+    let mut text = [0u8; 32769];
+    let n = io::read_full(file, &mut text);
+    libc::close(file);
+    run(&text[..n]);
+}
