@@ -37,13 +37,13 @@ part-opened-start c = search needs
 
 part-opened-end : tie.Need-part-opened-end
 part-opened-end c =
-    let f = found (c .before .before .before .before .before .before .before .before .before .before .before .before .before .args .text .now) (c .before .before .before .before .before .before .read .last .1 .0) (c .before .before .before .before .before .before .read .result) (c .before .before .n2 .given .0 .0) _ (c .before .before .n2 .given .1) (c .before .before .before .before .before .before .read .ensures) in
+    let f = found (c .before .before .before .before .before .before .before .before .before .before .before .before .before .args .text .now) (c .before .before .before .before .before .before .read .last .1 .0) (c .before .before .before .before .before .before .read .result) (c .before .before .n2 .given .0 .0) _ (c .before .before .n2 .given .1) (c .before .before .before .before .before .before .read .ensures .0) in
     let h : c .before .before .n2 .given .0 .0 ≤ length (c .before .before .before .before .before .before .read .last .1 .0) = f .inside in
     search needs
 
 opened-requires : tie.Need-opened-requires
 opened-requires c κs =
-    let f = found (c .before .before .before .before .before .before .before .before .before .before .before .before .before .before .before .before .args .text .now) (c .before .before .before .before .before .before .before .before .before .read .last .1 .0) (c .before .before .before .before .before .before .before .before .before .read .result) (c .before .before .before .before .before .n2 .given .0 .0) _ (c .before .before .before .before .before .n2 .given .1) (c .before .before .before .before .before .before .before .before .before .read .ensures) in
+    let f = found (c .before .before .before .before .before .before .before .before .before .before .before .before .before .before .before .before .args .text .now) (c .before .before .before .before .before .before .before .before .before .read .last .1 .0) (c .before .before .before .before .before .before .before .before .before .read .result) (c .before .before .before .before .before .n2 .given .0 .0) _ (c .before .before .before .before .before .n2 .given .1) (c .before .before .before .before .before .before .before .before .before .read .ensures .0) in
     let z : c .before .before .before .before .before .n2 .given .0 .0 - 0 ≡ c .before .before .before .before .before .n2 .given .0 .0 = omega arith in
     (ap (λ (m : ℕ). passes (take m (c .before .before .before .before .before .before .before .before .before .read .last .1 .0))) z ∙ found-passes f, c .before .before .before .before .before .before .before .before .before .before .before .before .before .before .before .before .pre .0)
 
@@ -55,7 +55,7 @@ same-length-2 c = search needs
 
 returns : tie.Need-returns
 returns c =
-    λ h. refuses (c .before .before .before .before .before .before .before .before .before .before .before .before .before .before .before .before .args .text .now) (c .before .before .before .before .before .before .before .before .before .read .last .1 .0) (c .before .before .before .before .before .before .before .before .before .read .result) _ _ _ (c .before .before .before .before .before .n .given .1) (c .before .before .before .before .before .before .before .before .before .read .ensures) (c .before .before .refusal .ensures) h
+    λ h. refuses (c .before .before .before .before .before .before .before .before .before .before .before .before .before .before .before .before .args .text .now) (c .before .before .before .before .before .before .before .before .before .read .last .1 .0) (c .before .before .before .before .before .before .before .before .before .read .result) _ _ _ (c .before .before .before .before .before .n .given .1) (c .before .before .before .before .before .before .before .before .before .read .ensures .0) (c .before .before .refusal .ensures) h
 
 same-length-3 : tie.Need-same-length-3
 same-length-3 c = search needs
@@ -68,7 +68,7 @@ same-length-5 c = search needs
 
 returns-2 : tie.Need-returns-2
 returns-2 c =
-    let f = found (c .before .before .before .before .before .before .before .before .before .before .before .before .before .before .before .before .before .before .before .before .before .args .text .now) (c .before .before .before .before .before .before .before .before .before .before .before .before .before .before .read .last .1 .0) (c .before .before .before .before .before .before .before .before .before .before .before .before .before .before .read .result) (c .before .before .before .before .before .before .before .before .before .before .n2 .given .0 .0) _ (c .before .before .before .before .before .before .before .before .before .before .n2 .given .1) (c .before .before .before .before .before .before .before .before .before .before .before .before .before .before .read .ensures) in
+    let f = found (c .before .before .before .before .before .before .before .before .before .before .before .before .before .before .before .before .before .before .before .before .before .args .text .now) (c .before .before .before .before .before .before .before .before .before .before .before .before .before .before .read .last .1 .0) (c .before .before .before .before .before .before .before .before .before .before .before .before .before .before .read .result) (c .before .before .before .before .before .before .before .before .before .before .n2 .given .0 .0) _ (c .before .before .before .before .before .before .before .before .before .before .n2 .given .1) (c .before .before .before .before .before .before .before .before .before .before .before .before .before .before .read .ensures .0) in
     let z : c .before .before .before .before .before .before .before .before .before .before .n2 .given .0 .0 - 0 ≡ c .before .before .before .before .before .before .before .before .before .before .n2 .given .0 .0 = omega arith in
     runs f z (c .before .before .before .before .before .before .before .before .before .before .before .before .before .before .before .before .before .before .before .before .before .pre .1) (c .before .before .before .before .opened .ensures)
 
