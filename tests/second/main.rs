@@ -3,12 +3,15 @@
 //! packed for another module; with `--text SEED` a text, and with
 //! `--input SEED LINES` input lines for `run.ddl`, to hold another simulator
 //! against this one; with `--images SEED MOST TEXT...` images that pass and
-//! that do not, those of the texts up to so many bytes among them.
+//! that do not, those of the texts up to so many bytes among them; with
+//! `--pack FOLDER...` cases in one file: of each the lengths of its text, its
+//! input and the output that is owed in four bytes, and these.
 
 use second::trials::{check::check, forge, supply};
 use std::env;
 use std::fs;
 use std::io::{self, Read, Write};
+use std::path::Path;
 use std::process::ExitCode;
 
 fn main() -> ExitCode {
@@ -20,8 +23,9 @@ fn main() -> ExitCode {
         [mode, seed] if mode == "--text" => supplied(seed, None),
         [mode, seed, lines] if mode == "--input" => supplied(seed, Some(lines)),
         [mode, seed, most, texts @ ..] if mode == "--images" => forged(seed, most, texts),
+        [mode, folders @ ..] if mode == "--pack" => packed(folders).map_err(|error| error.to_string()),
         _ => Err("usage: second [--random SEED COUNT | --calls SEED FOLDER... | --text SEED | --input SEED LINES | \
-            --images SEED MOST TEXT...]"
+            --images SEED MOST TEXT... | --pack FOLDER...]"
             .to_string()),
     };
     match done {
@@ -64,6 +68,23 @@ fn forged(seed: &str, most: &str, texts: &[String]) -> Result<(), String> {
     let texts = texts.map_err(|error| error.to_string())?;
     let made = forge::cases(number(seed)?, number(most)? as usize, &texts);
     io::stdout().write_all(&made).map_err(|error| error.to_string())
+}
+
+fn packed(folders: &[String]) -> io::Result<()> {
+    let mut places = folders.to_vec();
+    places.sort();
+    let mut output = io::BufWriter::new(io::stdout().lock());
+    for place in &places {
+        let folder = Path::new(place);
+        let parts = [fs::read(folder.join("run.ddl"))?, fs::read(folder.join("stdin"))?, fs::read(folder.join("stdout"))?];
+        for part in &parts {
+            output.write_all(&(part.len() as u32).to_le_bytes())?;
+        }
+        for part in &parts {
+            output.write_all(part)?;
+        }
+    }
+    output.flush()
 }
 
 fn traced() -> io::Result<()> {
