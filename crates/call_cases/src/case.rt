@@ -1,6 +1,7 @@
 // A case: numbers of four bytes each, then the bytes that they speak of.
 use records::bytes;
 use records::numbers;
+ghost use Prim.Native.Nat.{_≤_};
 
 // Where its numbers stand: the rooms, the cycles asked for, the answer.
 pub const STORE_ROOM: usize = 0;
@@ -32,6 +33,14 @@ pub const STORE_LEFT: usize = 60;
 pub const RECORD_LEFT: usize = 68;
 
 pub const TRACE_LEFT: usize = 76;
+
+// How long a buffer the case lends, of one that has so many bytes.
+pub fn room(case: &[u8], at: usize, most: usize) -> usize
+    ensures { λ r. ⌜ r ≤ most ⌝ }
+{
+    let n = numbers::four(case, at) as usize;
+    if n < most { n } else { most }
+}
 
 // The part whose place and length stand here.
 pub fn part(case: &[u8], at: usize) -> &[u8] {

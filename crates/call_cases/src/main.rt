@@ -10,11 +10,7 @@ mod rooms;
 use libc::STDOUT_FILENO;
 use parts::About;
 use parts::Came;
-use parts::Case;
-use parts::Longest;
-use parts::Record;
-use parts::Scratch;
-use parts::Store;
+use parts::Image;
 use parts::Text;
 
 struct Tally {
@@ -53,17 +49,7 @@ fn first(t: Tally) -> u32 {
 }
 
 // Tries every case of a call.
-fn run(
-    file: i32,
-    wanted: u8,
-    text: &mut Text,
-    image: &mut Longest,
-    case: &mut Case,
-    longest: &mut Longest,
-    store: &mut Store,
-    record: &mut Record,
-    scratch: &mut Scratch,
-) -> Tally {
+fn run(file: i32, wanted: u8, text: &mut Text, image: &mut Image) -> Tally {
     let mut t = Tally {
         agree: 0,
         differ: 0,
@@ -72,18 +58,7 @@ fn run(
     let mut about = About { text: 0, image: 0 };
     let mut left: u32 = 100000;
     while 0 < left {
-        let turn = parts::next(
-            file,
-            wanted,
-            about,
-            text,
-            image,
-            case,
-            longest,
-            store,
-            record,
-            scratch,
-        );
+        let turn = parts::next(file, wanted, about, text, image);
         let came = turn.came;
         if let Came::End = came {
             return t;
@@ -119,22 +94,7 @@ fn each(wanted: u8) {
     }
     let mut text = [0u8; 49152];
     let mut image = [0u8; 165600];
-    let mut case = [0u8; 65536];
-    let mut longest = [0u8; 165600];
-    let mut store = [0u8; 16400];
-    let mut record = [0u8; 96];
-    let mut scratch = [0u8; 65600];
-    shown(run(
-        file,
-        wanted,
-        &mut text,
-        &mut image,
-        &mut case,
-        &mut longest,
-        &mut store,
-        &mut record,
-        &mut scratch,
-    ));
+    shown(run(file, wanted, &mut text, &mut image));
     libc::close(file);
 }
 

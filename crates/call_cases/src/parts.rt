@@ -10,18 +10,9 @@ const IMAGE: u8 = 1;
 
 const NONE: u8 = 255;
 
-// Buffers a little longer than any case asks for; the longest hold an image, or a trace.
 pub type Text = [u8; 49152];
 
-pub type Longest = [u8; 165600];
-
-pub type Case = [u8; 65536];
-
-pub type Store = [u8; 16400];
-
-pub type Record = [u8; 96];
-
-pub type Scratch = [u8; 65600];
+pub type Image = [u8; 165600];
 
 // How many bytes the text and the image have that the next calls are about.
 pub struct About {
@@ -90,9 +81,11 @@ fn about_image(about: About, n: usize) -> Turn {
     }
 }
 
-// What comes of a part that is not tried.
-fn untried(about: About, kind: u8) -> Turn {
-    if kind == NONE {
+// A call that is not wanted, or the end.
+fn passed_over(file: i32, head: Head, about: About) -> Turn {
+    let mut case = [0u8; 65536];
+    fetch(file, head.length, &mut case);
+    if head.kind == NONE {
         return Turn {
             about,
             came: Came::End,
@@ -105,48 +98,31 @@ fn untried(about: About, kind: u8) -> Turn {
 }
 
 // Whether a case comes out as it should, whatever the buffers held before.
-fn tried(
-    call: u8,
-    text: &[u8],
-    image: &[u8],
-    case: &[u8],
-    longest: &mut Longest,
-    store: &mut Store,
-    record: &mut Record,
-    scratch: &mut Scratch,
-) -> Came {
-    if !rooms::agrees(call, text, image, case, longest, store, record, scratch, 90) {
+fn tried(call: u8, text: &[u8], image: &[u8], case: &[u8]) -> Came {
+    if !rooms::agrees(call, text, image, case, 90) {
         return Came::Differs;
     }
-    if !rooms::agrees(
-        call,
-        text,
-        image,
-        case,
-        longest,
-        store,
-        record,
-        scratch,
-        201,
-    ) {
+    if !rooms::agrees(call, text, image, case, 201) {
         return Came::Differs;
     }
     Came::Agrees
 }
 
+// A call that is wanted, about the text and the image that came last.
+fn call(file: i32, head: Head, about: About, text: &[u8], image: &[u8]) -> Turn {
+    let mut case = [0u8; 65536];
+    let n = fetch(file, head.length, &mut case);
+    let came = tried(
+        head.kind,
+        bytes::part(text, 0, about.text),
+        bytes::part(image, 0, about.image),
+        bytes::part(&case, 0, n),
+    );
+    Turn { about, came }
+}
+
 // The next part: a text, an image, or a call, which is tried if it is one of those wanted.
-pub fn next(
-    file: i32,
-    wanted: u8,
-    about: About,
-    text: &mut Text,
-    image: &mut Longest,
-    case: &mut Case,
-    longest: &mut Longest,
-    store: &mut Store,
-    record: &mut Record,
-    scratch: &mut Scratch,
-) -> Turn {
+pub fn next(file: i32, wanted: u8, about: About, text: &mut Text, image: &mut Image) -> Turn {
     let head = head_of(file);
     let kind = head.kind;
     if kind == TEXT {
@@ -155,19 +131,8 @@ pub fn next(
     if kind == IMAGE {
         return about_image(about, fetch(file, head.length, image));
     }
-    let n = fetch(file, head.length, case);
-    if kind != wanted {
-        return untried(about, kind);
+    if kind == wanted {
+        return call(file, head, about, text, image);
     }
-    let came = tried(
-        kind,
-        bytes::part(text, 0, about.text),
-        bytes::part(image, 0, about.image),
-        bytes::part(case, 0, n),
-        longest,
-        store,
-        record,
-        scratch,
-    );
-    Turn { about, came }
+    passed_over(file, head, about)
 }

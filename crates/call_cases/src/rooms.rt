@@ -1,7 +1,6 @@
-// A case on parts of the buffers as long as it says; none is longer than the buffers.
+// A case on buffers as long as it says. They are a little longer than any case asks for.
 use crate::calls;
 use crate::case;
-use records::numbers;
 
 // What a part of the file is, where it is a call.
 pub const READ: u8 = 2;
@@ -12,50 +11,27 @@ pub const CYCLE: u8 = 4;
 
 pub const RUN: u8 = 5;
 
-fn room(case: &[u8], at: usize) -> usize {
-    numbers::four(case, at) as usize
+fn read(text: &[u8], image: &[u8], case: &[u8], first: u8) -> bool {
+    let mut room = [0u8; 165600];
+    let n = case::room(case, case::STORE_ROOM, 165600);
+    calls::read(text, image, case, &mut room[0..n], first)
 }
 
-fn read(text: &[u8], image: &[u8], case: &[u8], buffer: &mut [u8], first: u8) -> bool {
-    let n = room(case, case::STORE_ROOM);
-    if buffer.len() < n {
-        return false;
-    }
-    calls::read(text, image, case, &mut buffer[0..n], first)
-}
-
-fn open(image: &[u8], case: &[u8], store: &mut [u8], record: &mut [u8], first: u8) -> bool {
-    let n = room(case, case::STORE_ROOM);
-    let m = room(case, case::RECORD_ROOM);
-    if store.len() < n {
-        return false;
-    }
-    if record.len() < m {
-        return false;
-    }
+fn open(image: &[u8], case: &[u8], first: u8) -> bool {
+    let mut store = [0u8; 16400];
+    let mut record = [0u8; 96];
+    let n = case::room(case, case::STORE_ROOM, 16400);
+    let m = case::room(case, case::RECORD_ROOM, 96);
     calls::open(image, case, &mut store[0..n], &mut record[0..m], first)
 }
 
-fn cycle(
-    image: &[u8],
-    case: &[u8],
-    store: &mut [u8],
-    record: &mut [u8],
-    scratch: &mut [u8],
-    first: u8,
-) -> bool {
-    let k = room(case, case::SCRATCH_ROOM);
-    if scratch.len() < k {
-        return false;
-    }
-    let n = room(case, case::STORE_ROOM);
-    if store.len() < n {
-        return false;
-    }
-    let m = room(case, case::RECORD_ROOM);
-    if record.len() < m {
-        return false;
-    }
+fn cycle(image: &[u8], case: &[u8], first: u8) -> bool {
+    let mut store = [0u8; 16400];
+    let mut record = [0u8; 96];
+    let mut scratch = [0u8; 65600];
+    let n = case::room(case, case::STORE_ROOM, 16400);
+    let m = case::room(case, case::RECORD_ROOM, 96);
+    let k = case::room(case, case::SCRATCH_ROOM, 65600);
     calls::cycle(
         image,
         case,
@@ -66,62 +42,40 @@ fn cycle(
     )
 }
 
-fn run(
-    image: &[u8],
-    case: &[u8],
-    store: &mut [u8],
-    record: &mut [u8],
-    scratch: &mut [u8],
-    trace: &mut [u8],
-    first: u8,
-) -> bool {
-    let k = room(case, case::SCRATCH_ROOM);
-    if scratch.len() < k {
-        return false;
-    }
-    let n = room(case, case::STORE_ROOM);
-    if store.len() < n {
-        return false;
-    }
-    let m = room(case, case::RECORD_ROOM);
-    if record.len() < m {
-        return false;
-    }
-    let t = room(case, case::TRACE_ROOM);
-    if trace.len() < t {
-        return false;
-    }
+fn run(image: &[u8], case: &[u8], first: u8) -> bool {
+    let mut trace = [0u8; 165600];
+    let t = case::room(case, case::TRACE_ROOM, 165600);
+    run_traced(image, case, &mut trace[0..t], first)
+}
+
+fn run_traced(image: &[u8], case: &[u8], trace: &mut [u8], first: u8) -> bool {
+    let mut store = [0u8; 16400];
+    let mut record = [0u8; 96];
+    let mut scratch = [0u8; 65600];
+    let n = case::room(case, case::STORE_ROOM, 16400);
+    let m = case::room(case, case::RECORD_ROOM, 96);
+    let k = case::room(case, case::SCRATCH_ROOM, 65600);
     calls::run(
         image,
         case,
         &mut store[0..n],
         &mut record[0..m],
         &mut scratch[0..k],
-        &mut trace[0..t],
+        trace,
         first,
     )
 }
 
-// Whether a case comes out as it says. The longest buffer holds the image of a reading, or the trace.
-pub fn agrees(
-    call: u8,
-    text: &[u8],
-    image: &[u8],
-    case: &[u8],
-    longest: &mut [u8],
-    store: &mut [u8],
-    record: &mut [u8],
-    scratch: &mut [u8],
-    first: u8,
-) -> bool {
+// Whether a case comes out as it says, where its buffers held bytes from this first one on.
+pub fn agrees(call: u8, text: &[u8], image: &[u8], case: &[u8], first: u8) -> bool {
     if call == READ {
-        return read(text, image, case, longest, first);
+        return read(text, image, case, first);
     }
     if call == OPEN {
-        return open(image, case, store, record, first);
+        return open(image, case, first);
     }
     if call == CYCLE {
-        return cycle(image, case, store, record, scratch, first);
+        return cycle(image, case, first);
     }
-    run(image, case, store, record, scratch, longest, first)
+    run(image, case, first)
 }

@@ -6,6 +6,7 @@ use course::Verdict;
 use course::adding;
 use course::kinds;
 use course::taking;
+use leaves::Armed;
 use levels::Head;
 use levels::Level;
 use levels::Rank;
@@ -24,15 +25,7 @@ ghost use Rattle.course.specs.Course.{kindNo};
 ghost use Rattle.course.specs.Pays.{Spends};
 ghost use Rattle.course.specs.Says.{Extends, Parses};
 ghost use Rattle.levels.specs.Orders.{stackOf, tailStack, tailsFrom};
-ghost use Rattle.phrases.specs.Phrases.{Arms, Begins, FirstArm, Inside, MoreArms, NextArm, Operates, Second, afterName, choiceWord, same};
-
-pub mod leaves;
-
-// An answer, and how many arms there are.
-pub struct Armed {
-    pub answer: Answer,
-    pub count: u16,
-}
+ghost use Rattle.leaves.specs.Phrases.{Arms, Begins, FirstArm, Inside, MoreArms, NextArm, Operates, Second, afterName, choiceWord, same};
 
 // An expression of a level.
 pub fn start(s: State, level: Level, text: &[u8], w: Word, work: &mut [u8; 275296]) -> Answer

@@ -4,10 +4,10 @@ use Rattle.call_cases.proofs.run.Statement.{statement}
 use Rattle.call_cases.proofs.run.Tie as tie
 
 abbrev Inv-loop : tie.InvT-loop
-Inv-loop file wanted text₀ image₀ case₀ longest₀ store₀ record₀ scratch₀ t₀ about₀ left₀ text image case longest store «record» scratch t about left = left ≤ 100000
+Inv-loop file wanted text₀ image₀ t₀ about₀ left₀ text image t about left = left ≤ 100000
 
 abbrev μ-loop : tie.MeasureT-loop
-μ-loop file wanted text₀ image₀ case₀ longest₀ store₀ record₀ scratch₀ t₀ about₀ left₀ text image case longest store «record» scratch t about left = left
+μ-loop file wanted text₀ image₀ t₀ about₀ left₀ text image t about left = left
 
 loop-holds : tie.Need-loop-holds Inv-loop μ-loop
 loop-holds c = search needs

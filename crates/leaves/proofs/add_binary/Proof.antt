@@ -1,10 +1,10 @@
 use mathlib.Core.Path.{refl}
 use Rattle.operands.proofs.ReferenceLaws.{gained-as}
-use Rattle.phrases.proofs.PartLaws.{binary-as}
+use Rattle.leaves.proofs.PartLaws.{binary-as}
 use Prim.Native.Nat.{_-_}
 use borrow.Author.Needs.{needs}
-use Rattle.phrases.proofs.leaves.add_binary.Statement.{statement}
-use Rattle.phrases.proofs.leaves.add_binary.Tie as tie
+use Rattle.leaves.proofs.add_binary.Statement.{statement}
+use Rattle.leaves.proofs.add_binary.Tie as tie
 
 plain-requires : tie.Need-plain-requires
 plain-requires c κs = search needs

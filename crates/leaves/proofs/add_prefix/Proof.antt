@@ -1,8 +1,8 @@
-use Rattle.phrases.proofs.PartLaws.{gained-at, prefix-as}
+use Rattle.leaves.proofs.PartLaws.{gained-at, prefix-as}
 use Prim.Native.Nat.{_-_}
 use borrow.Author.Needs.{needs}
-use Rattle.phrases.proofs.leaves.add_prefix.Statement.{statement}
-use Rattle.phrases.proofs.leaves.add_prefix.Tie as tie
+use Rattle.leaves.proofs.add_prefix.Statement.{statement}
+use Rattle.leaves.proofs.add_prefix.Tie as tie
 
 plain-requires : tie.Need-plain-requires
 plain-requires c κs = search needs
