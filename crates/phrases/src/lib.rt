@@ -6,7 +6,6 @@ use course::Verdict;
 use course::adding;
 use course::kinds;
 use course::taking;
-use leaves::Armed;
 use levels::Head;
 use levels::Level;
 use levels::Rank;
@@ -15,6 +14,7 @@ use levels::ranks;
 use operands::constants;
 use operands::cuts;
 use operands::nodes;
+use pieces::Armed;
 use words::Word;
 ghost use mathlib.Core.List.{[], _∷_};
 ghost use mathlib.Core.Path.{_≡_};
@@ -25,7 +25,7 @@ ghost use Rattle.course.specs.Course.{kindNo};
 ghost use Rattle.course.specs.Pays.{Spends};
 ghost use Rattle.course.specs.Says.{Extends, Parses};
 ghost use Rattle.levels.specs.Orders.{stackOf, tailStack, tailsFrom};
-ghost use Rattle.leaves.specs.Phrases.{Arms, Begins, FirstArm, Inside, MoreArms, NextArm, Operates, Second, afterName, choiceWord, same};
+ghost use Rattle.pieces.specs.Phrases.{Arms, Begins, FirstArm, Inside, MoreArms, NextArm, Operates, Second, afterName, choiceWord, same};
 
 // An expression of a level.
 pub fn start(s: State, level: Level, text: &[u8], w: Word, work: &mut [u8; 275296]) -> Answer
@@ -38,7 +38,7 @@ pub fn start(s: State, level: Level, text: &[u8], w: Word, work: &mut [u8; 27529
     let Verdict::Done = verdict else {
         return first;
     };
-    let state = leaves::at(first.state, s.nesting);
+    let state = pieces::at(first.state, s.nesting);
     rest(state, heads::after(head), level, text, first.next, work)
 }
 
@@ -56,12 +56,12 @@ fn opening(s: State, head: Head, text: &[u8], w: Word, work: &mut [u8; 275296]) 
     };
     let state = taken.state;
     let next = taken.next;
-    let red = leaves::reducing(state, head, text, next);
+    let red = pieces::reducing(state, head, text, next);
     let verdict = red.verdict;
     let Verdict::Done = verdict else {
         return red;
     };
-    let inner = leaves::at(red.state, taken.state.nesting);
+    let inner = pieces::at(red.state, taken.state.nesting);
     let operand = start(inner, heads::prefixed(head), text, red.next, work);
     let verdict = operand.verdict;
     let Verdict::Done = verdict else {
@@ -69,7 +69,7 @@ fn opening(s: State, head: Head, text: &[u8], w: Word, work: &mut [u8; 275296]) 
     };
     let state = operand.state;
     let next = operand.next;
-    leaves::add_prefix(state, w, next, work)
+    pieces::add_prefix(state, w, next, work)
 }
 
 // The operators of a level from a rank on, behind an operand.
@@ -82,10 +82,10 @@ fn rest(s: State, rank: Rank, level: Level, text: &[u8], w: Word, work: &mut [u8
         let Verdict::Done = verdict else {
             return more;
         };
-        let state = leaves::at(more.state, s.nesting);
+        let state = pieces::at(more.state, s.nesting);
         return rest(state, ranks::next(rank), level, text, more.next, work);
     }
-    leaves::stay(s, w)
+    pieces::stay(s, w)
 }
 
 // The operators of a rank; a relation comes at most once. Each writes a record, so that they end before the array is full.
@@ -96,23 +96,23 @@ fn tail(s: State, rank: Rank, text: &[u8], w: Word, work: &mut [u8; 275296]) -> 
     let mut next = w;
     let mut left: u16 = 15888;
     while left > 0 {
-        if leaves::operates(rank, next) {
-            let one = operation(leaves::at(state, s.nesting), rank, text, next, work);
+        if pieces::operates(rank, next) {
+            let one = operation(pieces::at(state, s.nesting), rank, text, next, work);
             let verdict = one.verdict;
             let Verdict::Done = verdict else {
                 return one;
             };
-            if leaves::once(rank) {
+            if pieces::once(rank) {
                 return one;
             }
             state = one.state;
             next = one.next;
             left -= 1;
         } else {
-            return leaves::stay(state, next);
+            return pieces::stay(state, next);
         }
     }
-    leaves::full(state, next)
+    pieces::full(state, next)
 }
 
 // An operator of a rank and what is on its right.
@@ -137,7 +137,7 @@ fn operation(s: State, rank: Rank, text: &[u8], w: Word, work: &mut [u8; 275296]
     };
     let state = right.state;
     let next = right.next;
-    leaves::add_binary(state, adding::last(s.nodes), w, next, work)
+    pieces::add_binary(state, adding::last(s.nodes), w, next, work)
 }
 
 // A term.
@@ -222,7 +222,7 @@ pub fn subscript(s: State, name: Word, text: &[u8], w: Word, work: &mut [u8; 275
     ensures { λ r. ⌜ Parses (ask L.subscript ∷ []) (afterName name) (s .nesting - 1) (now (text .entry)) w s (now (work .entry)) (now (work .exit)) r × Spends (now (text .entry)) 2 w s r ⌝ }
 {
     if taking::ends_ahead(text, w) {
-        return leaves::part(s, name, text, w, work);
+        return pieces::part(s, name, text, w, work);
     }
     let first = inside(s, false, text, w, work);
     let verdict = first.verdict;
@@ -238,7 +238,7 @@ pub fn subscript(s: State, name: Word, text: &[u8], w: Word, work: &mut [u8; 275
         let Verdict::Done = verdict else {
             return comma;
         };
-        let state = leaves::at(comma.state, s.nesting);
+        let state = pieces::at(comma.state, s.nesting);
         return second(state, name, text, comma.next, work);
     }
     let closed = taking::expect(text, next, state, kinds::CLOSE_BRACKET, Bearing::Closes);
@@ -246,7 +246,7 @@ pub fn subscript(s: State, name: Word, text: &[u8], w: Word, work: &mut [u8; 275
     let Verdict::Done = verdict else {
         return closed;
     };
-    let state = leaves::at(closed.state, adding::last(s.nesting));
+    let state = pieces::at(closed.state, adding::last(s.nesting));
     single(state, name, text, closed.next, work)
 }
 
@@ -273,7 +273,7 @@ fn second(s: State, name: Word, text: &[u8], w: Word, work: &mut [u8; 275296]) -
     ensures { λ r. ⌜ Second L.second name (s .nesting - 1) (now (text .entry)) w s (now (work .entry)) (now (work .exit)) r × Spends (now (text .entry)) 2 w s r ⌝ }
 {
     if taking::ends_ahead(text, w) {
-        return leaves::word_part(s, name, text, w, work);
+        return pieces::word_part(s, name, text, w, work);
     }
     let other = inside(s, true, text, w, work);
     let verdict = other.verdict;
@@ -316,7 +316,7 @@ fn inside(s: State, later: bool, text: &[u8], w: Word, work: &mut [u8; 275296]) 
         let Verdict::Done = verdict else {
             return constant;
         };
-        let state = leaves::at(constant.state, s.nesting);
+        let state = pieces::at(constant.state, s.nesting);
         return rest(
             state,
             Rank::Sum,
@@ -344,7 +344,7 @@ fn choice(s: State, case: bool, text: &[u8], w: Word, work: &mut [u8; 275296]) -
     let Verdict::Done = verdict else {
         return condition;
     };
-    let before = leaves::at(condition.state, state.nesting);
+    let before = pieces::at(condition.state, state.nesting);
     let chosen = arms(before, case, text, condition.next, work);
     let answer = chosen.answer;
     let verdict = answer.verdict;
@@ -355,7 +355,7 @@ fn choice(s: State, case: bool, text: &[u8], w: Word, work: &mut [u8; 275296]) -
         text,
         answer.next,
         answer.state,
-        leaves::last_word(case),
+        pieces::last_word(case),
         Bearing::Closes,
     );
     let verdict = closed.verdict;
@@ -363,14 +363,14 @@ fn choice(s: State, case: bool, text: &[u8], w: Word, work: &mut [u8; 275296]) -
         return closed;
     };
     let number = adding::last(condition.state.nodes);
-    leaves::add_choice(closed.state, number, chosen.count, w, closed.next, work)
+    pieces::add_choice(closed.state, number, chosen.count, w, closed.next, work)
 }
 
 // The arms of a conditional.
 fn arms(s: State, case: bool, text: &[u8], w: Word, work: &mut [u8; 275296]) -> Armed
     ensures { λ r. ⌜ Arms case (now (text .entry)) w s (now (work .entry)) (now (work .exit)) r × Spends (now (text .entry)) 1 w s (r .answer) ⌝ }
 {
-    let first = first_arm(s, leaves::first_word(case), text, w, work);
+    let first = first_arm(s, pieces::first_word(case), text, w, work);
     let verdict = first.verdict;
     let Verdict::Done = verdict else {
         return Armed {
@@ -378,8 +378,8 @@ fn arms(s: State, case: bool, text: &[u8], w: Word, work: &mut [u8; 275296]) -> 
             count: 0,
         };
     };
-    let state = leaves::at(first.state, s.nesting);
-    let other = next_arm(state, leaves::other_word(case), text, first.next, work);
+    let state = pieces::at(first.state, s.nesting);
+    let other = next_arm(state, pieces::other_word(case), text, first.next, work);
     let verdict = other.verdict;
     let Verdict::Done = verdict else {
         return Armed {
@@ -387,7 +387,7 @@ fn arms(s: State, case: bool, text: &[u8], w: Word, work: &mut [u8; 275296]) -> 
             count: 0,
         };
     };
-    let state = leaves::at(other.state, s.nesting);
+    let state = pieces::at(other.state, s.nesting);
     more_arms(state, case, 2, text, other.next, work)
 }
 
@@ -400,13 +400,13 @@ fn first_arm(s: State, separator: u8, text: &[u8], w: Word, work: &mut [u8; 2752
     let Verdict::Done = verdict else {
         return word;
     };
-    let state = leaves::at(word.state, s.nesting);
+    let state = pieces::at(word.state, s.nesting);
     let arm = start(state, Level::Expression, text, word.next, work);
     let verdict = arm.verdict;
     let Verdict::Done = verdict else {
         return arm;
     };
-    leaves::add_first_arm(arm.state, arm.next, work)
+    pieces::add_first_arm(arm.state, arm.next, work)
 }
 
 // An arm behind others.
@@ -418,13 +418,13 @@ fn next_arm(s: State, separator: u8, text: &[u8], w: Word, work: &mut [u8; 27529
     let Verdict::Done = verdict else {
         return word;
     };
-    let state = leaves::at(word.state, s.nesting);
+    let state = pieces::at(word.state, s.nesting);
     let arm = start(state, Level::Expression, text, word.next, work);
     let verdict = arm.verdict;
     let Verdict::Done = verdict else {
         return arm;
     };
-    leaves::add_next_arm(arm.state, adding::last(s.nodes), arm.next, work)
+    pieces::add_next_arm(arm.state, adding::last(s.nodes), arm.next, work)
 }
 
 // Further arms of CASE, behind n. Each writes a record, so that they end before the array is full.
@@ -436,21 +436,21 @@ fn more_arms(s: State, case: bool, n: u16, text: &[u8], w: Word, work: &mut [u8;
     let mut count = n;
     let mut left: u16 = 15888;
     while left > 0 {
-        if leaves::another(case, next) {
-            let one = next_arm(leaves::at(state, s.nesting), kinds::DO, text, next, work);
+        if pieces::another(case, next) {
+            let one = next_arm(pieces::at(state, s.nesting), kinds::DO, text, next, work);
             let verdict = one.verdict;
             let Verdict::Done = verdict else {
                 return Armed { answer: one, count };
             };
             state = one.state;
             next = one.next;
-            count = leaves::one_more(count);
+            count = pieces::one_more(count);
             left -= 1;
         } else {
-            let answer = leaves::stay(state, next);
+            let answer = pieces::stay(state, next);
             return Armed { answer, count };
         }
     }
-    let answer = leaves::full(state, next);
+    let answer = pieces::full(state, next);
     Armed { answer, count }
 }
