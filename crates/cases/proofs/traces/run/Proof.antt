@@ -1,13 +1,13 @@
 use borrow.Author.Needs.{needs}
 use Prim.Native.Nat.{_≤_}
-use Rattle.call_cases.proofs.run.Statement.{statement}
-use Rattle.call_cases.proofs.run.Tie as tie
+use Rattle.cases.proofs.traces.run.Statement.{statement}
+use Rattle.cases.proofs.traces.run.Tie as tie
 
 abbrev Inv-loop : tie.InvT-loop
-Inv-loop file wanted text₀ image₀ t₀ about₀ left₀ text image t about left = left ≤ 100000
+Inv-loop file t₀ left₀ t left = left ≤ 100000
 
 abbrev μ-loop : tie.MeasureT-loop
-μ-loop file wanted text₀ image₀ t₀ about₀ left₀ text image t about left = left
+μ-loop file t₀ left₀ t left = left
 
 loop-holds : tie.Need-loop-holds Inv-loop μ-loop
 loop-holds c = search needs

@@ -1,5 +1,9 @@
 // The file, part by part: texts and images, and the calls that are about them.
+use crate::fetched;
 use crate::rooms;
+use crate::tally;
+use crate::tally::Came;
+use crate::tally::Tally;
 use records::bytes;
 use records::numbers;
 
@@ -10,26 +14,19 @@ const IMAGE: u8 = 1;
 
 const NONE: u8 = 255;
 
-pub type Text = [u8; 49152];
+type Text = [u8; 49152];
 
-pub type Image = [u8; 165600];
+type Image = [u8; 165600];
 
 // How many bytes the text and the image have that the next calls are about.
-pub struct About {
-    pub text: usize,
-    pub image: usize,
+struct About {
+    text: usize,
+    image: usize,
 }
 
-pub enum Came {
-    End,
-    Nothing,
-    Agrees,
-    Differs,
-}
-
-pub struct Turn {
-    pub about: About,
-    pub came: Came,
+struct Turn {
+    about: About,
+    came: Came,
 }
 
 struct Head {
@@ -50,14 +47,6 @@ fn head_of(file: i32) -> Head {
         kind: bytes[0],
         length: numbers::four(&bytes, 1) as usize,
     }
-}
-
-// Reads so many bytes to the front of a buffer, none where it is too short, and answers how many came.
-fn fetch(file: i32, n: usize, buffer: &mut [u8]) -> usize {
-    if buffer.len() < n {
-        return 0;
-    }
-    io::read_full(file, &mut buffer[0..n])
 }
 
 // With another text, and with another image.
@@ -84,7 +73,7 @@ fn about_image(about: About, n: usize) -> Turn {
 // A call that is not wanted, or the end.
 fn passed_over(file: i32, head: Head, about: About) -> Turn {
     let mut case = [0u8; 65536];
-    fetch(file, head.length, &mut case);
+    fetched::fetch(file, head.length, &mut case);
     if head.kind == NONE {
         return Turn {
             about,
@@ -111,7 +100,7 @@ fn tried(call: u8, text: &[u8], image: &[u8], case: &[u8]) -> Came {
 // A call that is wanted, about the text and the image that came last.
 fn call(file: i32, head: Head, about: About, text: &[u8], image: &[u8]) -> Turn {
     let mut case = [0u8; 65536];
-    let n = fetch(file, head.length, &mut case);
+    let n = fetched::fetch(file, head.length, &mut case);
     let came = tried(
         head.kind,
         bytes::part(text, 0, about.text),
@@ -122,17 +111,35 @@ fn call(file: i32, head: Head, about: About, text: &[u8], image: &[u8]) -> Turn 
 }
 
 // The next part: a text, an image, or a call, which is tried if it is one of those wanted.
-pub fn next(file: i32, wanted: u8, about: About, text: &mut Text, image: &mut Image) -> Turn {
+fn next(file: i32, wanted: u8, about: About, text: &mut Text, image: &mut Image) -> Turn {
     let head = head_of(file);
     let kind = head.kind;
     if kind == TEXT {
-        return about_text(about, fetch(file, head.length, text));
+        return about_text(about, fetched::fetch(file, head.length, text));
     }
     if kind == IMAGE {
-        return about_image(about, fetch(file, head.length, image));
+        return about_image(about, fetched::fetch(file, head.length, image));
     }
     if kind == wanted {
         return call(file, head, about, text, image);
     }
     passed_over(file, head, about)
+}
+
+// Tries every case of a call.
+pub fn run(file: i32, wanted: u8, text: &mut Text, image: &mut Image) -> Tally {
+    let mut t = tally::nothing();
+    let mut about = About { text: 0, image: 0 };
+    let mut left: u32 = 100000;
+    while 0 < left {
+        let turn = next(file, wanted, about, text, image);
+        let came = turn.came;
+        if let Came::End = came {
+            return t;
+        }
+        t = tally::counted(t, came);
+        about = turn.about;
+        left -= 1;
+    }
+    t
 }

@@ -1,13 +1,13 @@
 use borrow.Author.Needs.{needs}
-use Prim.Native.Nat.{_-_, _≤_}
-use Rattle.cases.proofs.run.Statement.{statement}
-use Rattle.cases.proofs.run.Tie as tie
+use Prim.Native.Nat.{_≤_}
+use Rattle.cases.proofs.parts.run.Statement.{statement}
+use Rattle.cases.proofs.parts.run.Tie as tie
 
 abbrev Inv-loop : tie.InvT-loop
-Inv-loop file t₀ number₀ t number = number ≤ 100000
+Inv-loop file wanted text₀ image₀ t₀ about₀ left₀ text image t about left = left ≤ 100000
 
 abbrev μ-loop : tie.MeasureT-loop
-μ-loop file t₀ number₀ t number = 100000 - number
+μ-loop file wanted text₀ image₀ t₀ about₀ left₀ text image t about left = left
 
 loop-holds : tie.Need-loop-holds Inv-loop μ-loop
 loop-holds c = search needs
@@ -24,8 +24,8 @@ returns c = search needs
 counted-requires : tie.Need-counted-requires Inv-loop μ-loop
 counted-requires c κs = search needs
 
-add-number : tie.Need-add-number Inv-loop μ-loop
-add-number c = search needs
+sub-left : tie.Need-sub-left Inv-loop μ-loop
+sub-left c = search needs
 
 loop-less : tie.Need-loop-less Inv-loop μ-loop
 loop-less c = search needs
@@ -47,7 +47,7 @@ run-spec =
     enum-told
     returns
     counted-requires
-    add-number
+    sub-left
     loop-less
     loop-again
     returns-2)

@@ -1,0 +1,56 @@
+// The cases of data/corpus, as the second simulator packs them: the lengths of a text, its input and the output that is owed in four bytes each, and these.
+use crate::fetched;
+use crate::tally;
+use crate::tally::Came;
+use crate::tally::Tally;
+use crate::whole;
+use records::bytes;
+use records::numbers;
+
+// The trace of a text and its input, compared.
+fn compared(text: &[u8], input: &[u8], owed: &[u8]) -> Came {
+    let mut out = io::large_buffer();
+    let n = whole::trace(text, input, &mut out);
+    if n != owed.len() {
+        return Came::Differs;
+    }
+    if bytes::same(bytes::part(&out, 0, n), owed) {
+        return Came::Agrees;
+    }
+    Came::Differs
+}
+
+// The next case.
+fn next(file: i32) -> Came {
+    let mut head = [0u8; 12];
+    let got = io::read_full(file, &mut head);
+    if got < 12 {
+        return Came::End;
+    }
+    let mut text = io::large_buffer();
+    let mut input = io::large_buffer();
+    let mut owed = io::large_buffer();
+    let t = fetched::fetch(file, numbers::four(&head, 0) as usize, &mut text);
+    let i = fetched::fetch(file, numbers::four(&head, 4) as usize, &mut input);
+    let o = fetched::fetch(file, numbers::four(&head, 8) as usize, &mut owed);
+    compared(
+        bytes::part(&text, 0, t),
+        bytes::part(&input, 0, i),
+        bytes::part(&owed, 0, o),
+    )
+}
+
+// Every case.
+pub fn run(file: i32) -> Tally {
+    let mut t = tally::nothing();
+    let mut left: u32 = 100000;
+    while 0 < left {
+        let came = next(file);
+        if let Came::End = came {
+            return t;
+        }
+        t = tally::counted(t, came);
+        left -= 1;
+    }
+    t
+}
