@@ -20,7 +20,7 @@ use Rattle.records.specs.Actions.{meant}
 use Rattle.records.specs.declared.actions.Action.{Action}
 use Rattle.records.specs.declared.actions.Action.the-variants as A
 use Rattle.store.specs.InBytes.{InBytes, bytes}
-use Rattle.evaluate.specs.Worth.{stuckMeant}
+use Rattle.referents.specs.Worth.{stuckMeant}
 use Rattle.storing.proofs.doing.Did.{the-type as did-type}
 use Rattle.storing.specs.Seen.{Ran, View, did, ranSeen, seen, stopped, stuck, went}
 use Rattle.storing.specs.declared.doing.Did.{Did}

@@ -5,7 +5,7 @@ use Rattle.language.specs.Decode.{described}
 use Rattle.language.specs.Encode.{Sections}
 use Rattle.image.proofs.DescribedLaws.{action-described, operation-described, states-count}
 use Rattle.image.specs.Names.{named, operationPart}
-use Rattle.evaluate.specs.Described.{Describes}
+use Rattle.referents.specs.Described.{Describes}
 use Rattle.act.specs.Acts.{Acts}
 
 pub sections-act : (x : Sections) → Describes (described x) (x .facilities) (x .expressions)

@@ -17,9 +17,9 @@ use Rattle.language.specs.Value.{Value}
 use Rattle.records.specs.declared.actions.Action.{Action}
 use Rattle.records.specs.declared.actions.Action.the-variants as A
 use Rattle.image.specs.Declarations.{operationIn}
-use Rattle.evaluate.specs.Described.{Describes}
-use Rattle.evaluate.specs.declared.arms.Found.{Found}
-use Rattle.evaluate.specs.declared.arms.Found.the-variants as F
+use Rattle.referents.specs.Described.{Describes}
+use Rattle.referents.specs.declared.arms.Found.{Found}
+use Rattle.referents.specs.declared.arms.Found.the-variants as F
 use Rattle.store.specs.InBytes.{InBytes}
 use Rattle.storing.specs.Seen.{View, seen}
 use Rattle.act.specs.declared.arms.Arm.{Arm}

@@ -1,13 +1,13 @@
 // The arms of a conditional action, which stand one after another behind it.
-use evaluate::arms::Found;
 use records::actions;
 use records::actions::Action;
+use referents::arms::Found;
 ghost use mathlib.Core.Path.{_≡_};
 ghost use Prim.Native.Nat.{_-_};
 ghost use lib.ListN.{length};
 ghost use Rattle.language.specs.Acting as T;
 ghost use Rattle.language.specs.Description.{Description, actionAt};
-ghost use Rattle.evaluate.specs.Places.{foundMeant};
+ghost use Rattle.referents.specs.Places.{foundMeant};
 ghost use Rattle.act.specs.Acts.{Actions, Within, armMeant, passedOf};
 
 // The first action of an arm, and how many it has.

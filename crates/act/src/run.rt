@@ -2,12 +2,12 @@
 use crate::arms;
 use crate::arms::Arm;
 use crate::simple;
-use evaluate::arms::Found;
-use evaluate::bounds;
 use evaluate::eval;
-use evaluate::worth::Outcome;
-use evaluate::worth::Stuck;
 use records::actions::Action;
+use referents::arms::Found;
+use referents::bounds;
+use referents::worth::Outcome;
+use referents::worth::Stuck;
 use storing::doing::Did;
 use storing::doing::Doing;
 ghost use mathlib.Core.Path.{_≡_};
@@ -140,7 +140,7 @@ fn choose(
     match outcome {
         Outcome::Is => {
             let v = w.value;
-            let Found::At(k) = evaluate::arms::arm_number(n, v) else {
+            let Found::At(k) = referents::arms::arm_number(n, v) else {
                 return Did::Stopped(NO_ARM);
             };
             let a = arms::arm_at(actions, arms::before(k), i + 1, x);

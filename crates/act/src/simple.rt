@@ -1,6 +1,6 @@
 // Actions that hold no others.
-use evaluate::worth::Stuck;
 use records::actions::Action;
+use referents::worth::Stuck;
 use storing::doing;
 use storing::doing::Did;
 use storing::doing::Doing;

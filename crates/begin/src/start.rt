@@ -15,7 +15,7 @@ ghost use Rattle.language.specs.Layout.{storeSizeOf};
 ghost use Rattle.language.specs.Store as L;
 ghost use Rattle.language.specs.Tree.{Name};
 ghost use Rattle.image.specs.Declarations.{facilityMeant};
-ghost use Rattle.evaluate.specs.Described.{Describes};
+ghost use Rattle.referents.specs.Described.{Describes};
 ghost use Rattle.begin.specs.InBytes.{begunAt};
 
 // One facility, whose words stand in the stimulus from `at` on where it is an input.

@@ -10,7 +10,7 @@ ghost use Rattle.language.specs.Calls.{wellFormed};
 ghost use Rattle.language.specs.Description.{Description};
 ghost use Rattle.language.specs.Tree.{Name};
 ghost use Rattle.image.specs.Declarations.{facilityMeant};
-ghost use Rattle.evaluate.specs.Described.{Describes};
+ghost use Rattle.referents.specs.Described.{Describes};
 ghost use Rattle.begin.specs.InBytes.{fitsAt};
 
 // Whether a facility, where it is an input, has its words from `at` on, without spare bits.

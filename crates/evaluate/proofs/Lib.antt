@@ -1,6 +1,2 @@
-pub mod ArmLaws
-pub mod BoundLaws
 pub mod EvalLaws
-pub mod PlaceLaws
-pub mod SectionLaws
 pub mod SideLaws

@@ -10,11 +10,11 @@ use Rattle.language.specs.Meaning as M
 use Rattle.language.specs.Meaning.{evalBelow, placeOf}
 use Rattle.language.specs.References.{Reference, referenceOf}
 use Rattle.store.specs.InBytes.{InBytes, bytes}
-use Rattle.evaluate.specs.Places.{placeMeant}
+use Rattle.referents.specs.Places.{placeMeant}
 use Rattle.evaluate.specs.Sides.{SideRead, SideThere, sideMeant}
 use Rattle.evaluate.specs.declared.eval.Side.{Side}
 use Rattle.evaluate.specs.declared.eval.Side.the-variants as S
-use Rattle.evaluate.proofs.PlaceLaws.{place-of-facility, place-there}
+use Rattle.referents.proofs.PlaceLaws.{place-of-facility, place-there}
 
 module _ (d : Description) (x : InBytes) (n : ℕ) (nd : D.Node) (m : nodeAt d n ≡ nd) where
   pub left-place : (r : Reference) → referenceOf nd ≡ some r → side (bytes d) d x n ≡ placeOf d (evalBelow (bytes d) d x n) r

@@ -1,4 +1,1 @@
-pub mod Described
-pub mod Places
 pub mod Sides
-pub mod Worth

@@ -6,8 +6,8 @@ use Rattle.language.specs.Description.{Description}
 use Rattle.language.specs.Meaning as M
 use Rattle.image.specs.Declarations.{FacilityRead}
 use Rattle.image.specs.declared.facilities.Facility.{Facility}
-use Rattle.evaluate.specs.Places.{placeMeant}
-use Rattle.evaluate.specs.Worth.{stuckMeant}
+use Rattle.referents.specs.Places.{placeMeant}
+use Rattle.referents.specs.Worth.{stuckMeant}
 use Rattle.evaluate.specs.declared.eval.Side.{Side}
 use Rattle.evaluate.specs.declared.eval.Side.the-variants as S
 

@@ -15,7 +15,7 @@ use Rattle.store.proofs.Zeros.{Zeros}
 use Rattle.store.specs.InBytes.{InBytes, bytes}
 use Rattle.store.specs.Layout.{Bytes}
 use Rattle.store.specs.Slices.{landed}
-use Rattle.evaluate.specs.Worth.{stuckMeant}
+use Rattle.referents.specs.Worth.{stuckMeant}
 use Rattle.storing.specs.Seen.{View, did, ranSeen, seen, statesSeen, viewed}
 use Rattle.storing.specs.declared.doing.Did.{Did}
 use Rattle.storing.specs.declared.doing.Did.the-variants as G

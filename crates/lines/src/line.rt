@@ -8,7 +8,7 @@ ghost use lib.ListN.{length as size};
 ghost use Rattle.language.specs.Description.{Description, stateAt};
 ghost use Rattle.language.specs.Layout.{storeSizeOf};
 ghost use Rattle.language.specs.Trace as T;
-ghost use Rattle.evaluate.specs.Described.{Describes};
+ghost use Rattle.referents.specs.Described.{Describes};
 ghost use Rattle.lines.specs.Adds.{Adds};
 ghost use Rattle.lines.specs.Texts.{Named, refusedText};
 

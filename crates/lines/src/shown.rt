@@ -1,9 +1,9 @@
 // The facilities of the store in print.
 use crate::out;
-use evaluate::bounds;
 use image::facilities;
 use image::facilities::Facility;
 use records::bytes;
+use referents::bounds;
 use store::parts;
 use store::places;
 use value::numbers;
@@ -19,7 +19,7 @@ ghost use Rattle.language.specs.Trace as T;
 ghost use Rattle.language.specs.Tree.{Name};
 ghost use Rattle.image.specs.Declarations.{facilityMeant};
 ghost use Rattle.store.specs.Layout.{wordIn};
-ghost use Rattle.evaluate.specs.Described.{Describes};
+ghost use Rattle.referents.specs.Described.{Describes};
 ghost use Rattle.lines.specs.Adds.{Adds};
 ghost use Rattle.lines.specs.Texts.{HasWord, Named, facilityText, wordText};
 

@@ -1,7 +1,7 @@
 // A line of input bits becomes a stimulus: the input terminals' words one after the other.
-use evaluate::bounds;
 use image::facilities;
 use image::facilities::Facility;
+use referents::bounds;
 use store::places;
 use store::slices;
 ghost use mathlib.Core.List.{List};
@@ -14,7 +14,7 @@ ghost use Rattle.language.specs.Store.{inputsOf};
 ghost use Rattle.language.specs.Trace.{bitsNumber};
 ghost use Rattle.language.specs.Tree.{Name};
 ghost use Rattle.image.specs.Declarations.{facilityMeant};
-ghost use Rattle.evaluate.specs.Described.{Describes};
+ghost use Rattle.referents.specs.Described.{Describes};
 ghost use Rattle.lines.specs.Stimulus.{Worded, inputBits, lineBytes, octetMeant, took, tookMeant};
 
 enum Octet {

@@ -19,8 +19,8 @@ use Rattle.store.proofs.Words.{word-lt}
 use Rattle.store.specs.InBytes.{Stored, placeOfWord}
 use Rattle.store.specs.Layout.{Bytes, wordIn}
 use Rattle.store.specs.Parts.{inside, loaded, partIn}
-use Rattle.evaluate.proofs.PlaceLaws.{facility-known, nameOf, stored-place}
-use Rattle.evaluate.specs.Described.{Describes}
+use Rattle.referents.proofs.PlaceLaws.{facility-known, nameOf, stored-place}
+use Rattle.referents.specs.Described.{Describes}
 use borrow.Author.Tests.{le-leb}
 
 drop-all : (fs : List Facility) (n : ℕ) → length fs ≤ n → drop n fs ≡ []

@@ -5,7 +5,7 @@ use Prim.Native.Nat.{ℕ, _^_, _<_}
 use Rattle.language.specs.Description.{Description, constantValue, nodeAt, stateAt}
 use Rattle.language.specs.Tree.{Name}
 use Rattle.image.specs.Declarations.{stateIn}
-use Rattle.evaluate.specs.Described.{Nodes}
+use Rattle.referents.specs.Described.{Nodes}
 
 -- State n of d is the one of the section, under some name.
 pub record StateOf (d : Description) (T : List ℕ) (n : ℕ) : Type 0 where

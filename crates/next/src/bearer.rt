@@ -1,8 +1,8 @@
 // The state whose value the sequencing register has.
-use evaluate::arms::Found;
 use image::states;
 use image::states::StateValue;
 use records::constants;
+use referents::arms::Found;
 use value::Value;
 use value::numbers;
 ghost use mathlib.Core.Path.{_≡_};
@@ -13,7 +13,7 @@ ghost use Rattle.language.specs.Description.{Description};
 ghost use Rattle.language.specs.Step as S;
 ghost use Rattle.limbs.specs.Limbs.{number};
 ghost use Rattle.image.specs.Declarations.{valueMeant};
-ghost use Rattle.evaluate.specs.Places.{foundMeant};
+ghost use Rattle.referents.specs.Places.{foundMeant};
 ghost use Rattle.next.specs.Values.{Valued};
 
 // Whether a state with this value bears x.

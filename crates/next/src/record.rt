@@ -1,12 +1,12 @@
 // The run record by value, and what it is after a cycle.
-use evaluate::arms::Found;
+use referents::arms::Found;
 use storing::doing::Doing;
 ghost use mathlib.Core.Bool.{cond};
 ghost use mathlib.Core.Path.{_≡_};
 ghost use Prim.Native.Nat.{_-_, _≤_, _<_};
 ghost use lib.Dec.{ltb};
 ghost use lib.ListN.{getD, set};
-ghost use Rattle.evaluate.specs.Places.{foundMeant};
+ghost use Rattle.referents.specs.Places.{foundMeant};
 ghost use Rattle.next.specs.Seen.{leftSeen, nextSeen, orZero, recordMeant, recordSeen};
 
 // State, cycle number, and the return states held, unused ones zero.

@@ -1,8 +1,8 @@
 // The sequencing register: which facility it is, and its value.
-use evaluate::arms::Found;
-use evaluate::bounds;
 use image::facilities;
 use image::facilities::Facility;
+use referents::arms::Found;
+use referents::bounds;
 use store::parts;
 use storing::kinds;
 use value::Value;
@@ -16,8 +16,8 @@ ghost use Rattle.language.specs.Tree.{Name};
 ghost use Rattle.value.specs.Meaning.{valued};
 ghost use Rattle.image.specs.Declarations.{facilityMeant};
 ghost use Rattle.store.specs.Parts.{loaded};
-ghost use Rattle.evaluate.specs.Described.{Describes};
-ghost use Rattle.evaluate.specs.Places.{foundMeant};
+ghost use Rattle.referents.specs.Described.{Describes};
+ghost use Rattle.referents.specs.Places.{foundMeant};
 
 // The first sequencing register, if any.
 pub fn sequencing(section: &[u8]) -> Found

@@ -1,14 +1,14 @@
 // The first stop after the actions: S2, S4, S3, S6, S5.
 use crate::record;
 use crate::record::Record;
-use evaluate::arms::Found;
+use referents::arms::Found;
 use storing::doing::Doing;
 ghost use mathlib.Core.Bool.{_||_};
 ghost use mathlib.Core.Path.{_≡_};
 ghost use Prim.Native.Nat.{_<_};
 ghost use lib.Dec.{leb};
 ghost use Rattle.language.specs.Judging as J;
-ghost use Rattle.evaluate.specs.Places.{foundMeant};
+ghost use Rattle.referents.specs.Places.{foundMeant};
 ghost use Rattle.next.specs.Seen.{isNone, plainSeen, recordMeant, stopMeant, stopSeen};
 
 pub enum Stop {

@@ -21,7 +21,7 @@ use Rattle.store.proofs.ByteLists.{bytes-take}
 use Rattle.store.proofs.Inverse.{bytes-again}
 use Rattle.store.proofs.Zeros.{store-zero}
 use Rattle.store.specs.Layout.{Bytes}
-use Rattle.evaluate.specs.Described.{Describes}
+use Rattle.referents.specs.Described.{Describes}
 use Rattle.lookups.proofs.PassLaws.{states-many}
 use Rattle.begin.proofs.BeginLaws.{bytes-zeros, zeros}
 use Rattle.sound.proofs.PassedLaws.{passed-described, passed-facilities, passed-fits, passed-register, passed-size, passed-valued}

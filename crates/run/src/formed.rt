@@ -7,7 +7,7 @@ ghost use Prim.Native.Nat.{ℕ, _*_, _<_};
 ghost use lib.ListN.{length};
 ghost use Rattle.language.specs.Calls.{allWellFormed};
 ghost use Rattle.language.specs.Description.{Description};
-ghost use Rattle.evaluate.specs.Described.{Describes};
+ghost use Rattle.referents.specs.Described.{Describes};
 
 // How many bytes each cycle has of n, where all have as many.
 pub fn share(n: usize, cycles: u32) -> usize

@@ -30,8 +30,8 @@ use Rattle.image.proofs.DescribedLaws.{state-described}
 use Rattle.image.specs.Declarations.{placeFieldIn}
 use Rattle.written.specs.Back.{NodeInRange, facility-stands}
 use Rattle.exact.specs.Legal.{few-facilities, few-states}
-use Rattle.evaluate.proofs.SectionLaws.{sections-describe}
-use Rattle.evaluate.specs.Described.{Describes}
+use Rattle.referents.proofs.SectionLaws.{sections-describe}
+use Rattle.referents.specs.Described.{Describes}
 use Rattle.next.specs.Values.{Valued}
 use Rattle.lookups.proofs.PassLaws.{facilities-are, facilities-many, legal-so, range-so, states-many}
 use Rattle.sound.proofs.RegisterLaws.{register-there}

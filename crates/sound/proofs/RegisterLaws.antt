@@ -17,7 +17,7 @@ use Rattle.image.specs.declared.facilities.Facility.{Facility}
 use Rattle.store.specs.Layout.{Bytes}
 use Rattle.store.specs.Parts.{loaded}
 use Rattle.theorems.specs.StateValues.{Found, found-from, some-word}
-use Rattle.evaluate.proofs.PlaceLaws.{facility-known, nameOf}
+use Rattle.referents.proofs.PlaceLaws.{facility-known, nameOf}
 use Rattle.next.proofs.RegisterLaws.{first-word}
 use Rattle.sound.specs.Tested.{Testable}
 

@@ -11,7 +11,7 @@ use Rattle.language.specs.Judging.{both}
 use Rattle.language.specs.RecordBytes.{returnsSound}
 use Rattle.language.specs.Step.{Record, mostReturns}
 use Rattle.store.specs.Spare.{narrowAt}
-use Rattle.evaluate.specs.Described.{Describes}
+use Rattle.referents.specs.Described.{Describes}
 use Rattle.next.specs.Values.{Valued}
 
 -- The sections of facilities, expressions and states describe d, and the sequencing register's word is no longer than a value.

@@ -1,10 +1,10 @@
 // The sequencing register of a store: it has the value of the record's state.
-use evaluate::arms::Found;
 use image::facilities;
 use image::states;
 use image::states::StateValue;
 use next::register;
 use records::constants;
+use referents::arms::Found;
 use value::numbers;
 ghost use mathlib.Core.List.{List};
 ghost use mathlib.Core.Option.{some};

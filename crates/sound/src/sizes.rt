@@ -1,7 +1,7 @@
 // How many words a facility has, how many bytes they take, and how large the store is.
-use evaluate::bounds;
 use image::facilities;
 use image::facilities::Facility;
+use referents::bounds;
 use store::places;
 ghost use mathlib.Core.List.{List};
 ghost use mathlib.Core.Path.{_≡_};
@@ -10,7 +10,7 @@ ghost use Rattle.language.specs.Description.{Description, wordCount};
 ghost use Rattle.language.specs.Layout.{facilityBytes, storeSizeOf};
 ghost use Rattle.language.specs.Tree.{Name};
 ghost use Rattle.image.specs.Declarations.{facilityMeant};
-ghost use Rattle.evaluate.specs.Described.{Describes};
+ghost use Rattle.referents.specs.Described.{Describes};
 
 // The largest store, and what stands for every larger one.
 const LARGEST: usize = 16384;

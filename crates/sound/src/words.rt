@@ -1,8 +1,8 @@
 // The words of a store: none has a spare bit.
 use crate::sizes;
-use evaluate::bounds;
 use image::facilities;
 use image::facilities::Facility;
+use referents::bounds;
 use store::spare;
 ghost use mathlib.Core.List.{List};
 ghost use mathlib.Core.Path.{_≡_};
@@ -13,7 +13,7 @@ ghost use Rattle.language.specs.Layout.{storeSizeOf};
 ghost use Rattle.language.specs.Store as L;
 ghost use Rattle.language.specs.Tree.{Name};
 ghost use Rattle.image.specs.Declarations.{facilityMeant};
-ghost use Rattle.evaluate.specs.Described.{Describes};
+ghost use Rattle.referents.specs.Described.{Describes};
 ghost use Rattle.sound.specs.Tested.{narrowIn};
 
 // Those of one facility.

@@ -29,8 +29,8 @@ use Rattle.store.specs.InBytes.{Stored, placeOfWord}
 use Rattle.store.specs.Layout.{Bytes}
 use Rattle.store.specs.Parts.{loaded, saved}
 use Rattle.evaluate.proofs.EvalLaws.{held-whole}
-use Rattle.evaluate.proofs.PlaceLaws.{facility-known, nameOf, stored-place}
-use Rattle.evaluate.specs.Described.{Describes}
+use Rattle.referents.proofs.PlaceLaws.{facility-known, nameOf, stored-place}
+use Rattle.referents.specs.Described.{Describes}
 use Rattle.next.proofs.RegisterLaws.{first-word}
 use Rattle.step.proofs.WordPut.{word-put}
 use Rattle.step.specs.Register.{Enters, Holds}

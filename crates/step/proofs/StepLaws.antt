@@ -17,8 +17,8 @@ use Rattle.store.proofs.Zeros.{Zeros}
 use Rattle.store.specs.InBytes.{bytes}
 use Rattle.store.specs.Layout.{Bytes}
 use Rattle.store.specs.Slices.{landed}
-use Rattle.evaluate.specs.Worth.{stuckMeant}
-use Rattle.evaluate.specs.declared.worth.Stuck.{Stuck}
+use Rattle.referents.specs.Worth.{stuckMeant}
+use Rattle.referents.specs.declared.worth.Stuck.{Stuck}
 use Rattle.storing.specs.Seen.{did, ranSeen}
 use Rattle.storing.specs.declared.doing.Did.{Did}
 use Rattle.storing.specs.declared.doing.Did.the-variants as G

@@ -8,7 +8,7 @@ use lib.ListN.{length}
 use Rattle.language.specs.Description.{Description, facilityAt, sequencingOf, wordLength}
 use Rattle.language.specs.Step.{stateNumber}
 use Rattle.language.specs.Store.{Words}
-use Rattle.evaluate.specs.Described.{Describes}
+use Rattle.referents.specs.Described.{Describes}
 use Rattle.next.specs.Values.{Valued}
 
 -- The sequencing register, if there is one, is no longer than a value, and the value of every state fits it.

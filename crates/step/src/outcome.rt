@@ -1,6 +1,6 @@
 // What a cycle comes to.
-use evaluate::worth::Stuck;
 use next::record::Record;
+use referents::worth::Stuck;
 ghost use mathlib.Core.Path.{_≡_};
 
 pub enum Verdict {

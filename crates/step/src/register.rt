@@ -1,12 +1,12 @@
 // The sequencing register's value, and how it takes that of the state entered.
-use evaluate::arms::Found;
-use evaluate::bounds;
 use image::facilities;
 use image::facilities::Facility;
 use image::states;
 use image::states::StateValue;
 use next::register;
 use records::constants;
+use referents::arms::Found;
+use referents::bounds;
 use store::parts;
 use value::Value;
 ghost use mathlib.Core.List.{List};
@@ -21,7 +21,7 @@ ghost use Rattle.language.specs.Tree.{Name};
 ghost use Rattle.limbs.specs.Limbs.{number};
 ghost use Rattle.image.specs.Declarations.{facilityMeant};
 ghost use Rattle.store.specs.Parts.{saved};
-ghost use Rattle.evaluate.specs.Described.{Describes};
+ghost use Rattle.referents.specs.Described.{Describes};
 ghost use Rattle.step.specs.Register.{Enters, Holds, entered};
 
 // All bytes of a facility's first word of at most 256 bits take the number of x, spare bits included.

@@ -21,11 +21,11 @@ use Rattle.image.specs.Declarations.{facilityMeant, kindMeant}
 use Rattle.image.specs.declared.facilities.Facility.{Facility}
 use Rattle.store.specs.InBytes.{InBytes, anyMarked, bytes, loadBytes, markAll, placeOfWord, putAll, putBytes}
 use Rattle.store.specs.Parts.{loaded, saved}
-use Rattle.evaluate.proofs.PlaceLaws.{facility-known, nameOf, stored-load, stored-word}
-use Rattle.evaluate.specs.Described.{Describes}
-use Rattle.evaluate.specs.Places.{placeMeant}
+use Rattle.referents.proofs.PlaceLaws.{facility-known, nameOf, stored-load, stored-word}
+use Rattle.referents.specs.Described.{Describes}
+use Rattle.referents.specs.Places.{placeMeant}
 use Rattle.evaluate.specs.Sides.{There}
-use Rattle.evaluate.specs.declared.places.Place.{Place}
+use Rattle.referents.specs.declared.places.Place.{Place}
 use Rattle.storing.specs.Seen.{View, seen, viewed}
 use Rattle.storing.specs.Spots.{spotOf}
 use Rattle.storing.specs.declared.doing.Doing.{Doing}

@@ -7,8 +7,8 @@ use lib.ListN.{getD, length}
 use Rattle.language.specs.Acting as T
 use Rattle.language.specs.Description.{Description}
 use Rattle.language.specs.Meaning as M
-use Rattle.evaluate.specs.Worth.{stuckMeant}
-use Rattle.evaluate.specs.Described.{Describes}
+use Rattle.referents.specs.Worth.{stuckMeant}
+use Rattle.referents.specs.Described.{Describes}
 use Rattle.store.specs.InBytes.{InBytes}
 use Rattle.storing.specs.declared.doing.Did.{Did}
 use Rattle.storing.specs.declared.doing.Did.the-variants as D

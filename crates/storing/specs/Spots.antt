@@ -2,7 +2,7 @@
 use Prim.Native.Nat.{ℕ, _+_, _*_}
 use Rattle.language.specs.Description.{Facility, wordLength}
 use Rattle.language.specs.Layout.{wordBytes}
-use Rattle.evaluate.specs.declared.places.Place.{Place}
+use Rattle.referents.specs.declared.places.Place.{Place}
 use Rattle.storing.specs.declared.spots.Spot.{Spot}
 
 abbrev pub spotOf : ℕ → Facility → Place → Spot

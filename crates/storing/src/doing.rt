@@ -1,5 +1,5 @@
 // What a cycle has done so far, beside the store. Only what the next state asks for is kept.
-use evaluate::worth::Stuck;
+use referents::worth::Stuck;
 ghost use mathlib.Core.Bool.{_||_};
 ghost use mathlib.Core.List.{List, [], _∷_, _++_};
 ghost use mathlib.Core.Path.{_≡_};

@@ -1,7 +1,7 @@
 // Where the bits of a place lie among the bytes of a store.
-use evaluate::bounds;
-use evaluate::places::Place;
 use image::facilities::Facility;
+use referents::bounds;
+use referents::places::Place;
 use store::delayed;
 use store::parts;
 use store::places;

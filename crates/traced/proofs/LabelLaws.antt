@@ -17,7 +17,7 @@ use Rattle.image.specs.Declarations.{facilityIn, stateIn}
 use Rattle.image.specs.Header.{countsIn}
 use Rattle.image.specs.Names.{facilityPart, named, statePart}
 use Rattle.image.specs.declared.header.Counts.{Counts}
-use Rattle.evaluate.specs.Described.{Describes}
+use Rattle.referents.specs.Described.{Describes}
 use Rattle.lookups.proofs.PassLaws.{facilities-counted, operations-counted}
 use Rattle.sound.proofs.PassedLaws.{passed-described}
 use Rattle.lines.specs.Texts.{Named}

@@ -5,7 +5,7 @@ use borrow.Author.Needs.{needs}
 use lib.ListN.{length}
 use Rattle.language.specs.Acting as T
 use Rattle.language.specs.Description.{Description}
-use Rattle.evaluate.specs.Places.{foundMeant}
+use Rattle.referents.specs.Places.{foundMeant}
 use Rattle.act.specs.Acts.{Actions}
 use Rattle.act.proofs.ActionLaws.{arm-here, arm-long, arm-next, arm-none}
 use Rattle.act.proofs.arms.arm_at.Statement.{statement}

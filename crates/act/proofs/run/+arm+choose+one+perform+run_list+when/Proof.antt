@@ -41,8 +41,8 @@ use Rattle.act.proofs.arms.arm_at.Reads as arm-at-reads
 use Rattle.act.proofs.arms.before.Reads as before-reads
 use Rattle.act.proofs.arms.passed.Reads as passed-reads
 use Rattle.act.proofs.simple.simple.Reads as simple-reads
-use Rattle.evaluate.proofs.arms.arm_number.Reads as arm-number-reads
-use Rattle.evaluate.proofs.bounds.small.Reads as small-reads
+use Rattle.referents.proofs.arms.arm_number.Reads as arm-number-reads
+use Rattle.referents.proofs.bounds.small.Reads as small-reads
 use Rattle.evaluate.proofs.eval.eval.Reads as eval-reads
 use Rattle.image.proofs.operations.operation_at.Reads as operation-at-reads
 use Rattle.records.proofs.actions.action_at.Reads as action-at-reads

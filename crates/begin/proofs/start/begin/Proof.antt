@@ -8,8 +8,8 @@ use Rattle.language.specs.Calls.{stimulusSize}
 use Rattle.language.specs.Description.{Description}
 use Rattle.language.specs.Layout.{storeSizeOf}
 use Rattle.image.specs.Declarations.{facilityMeant}
-use Rattle.evaluate.proofs.PlaceLaws.{facility-known, nameOf, stored-place}
-use Rattle.evaluate.specs.Described.{Describes}
+use Rattle.referents.proofs.PlaceLaws.{facility-known, nameOf, stored-place}
+use Rattle.referents.specs.Described.{Describes}
 use Rattle.begin.proofs.BeginLoop.{Left, begun-long, left-all, left-more, left-none}
 use Rattle.begin.proofs.BegunWords.{begin-over}
 use Rattle.begin.proofs.start.begin.Statement.{statement}

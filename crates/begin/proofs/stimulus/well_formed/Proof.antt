@@ -8,8 +8,8 @@ use lib.ListN.{drop, drop-of-length-le, length}
 use Rattle.language.specs.Calls.{wellFormed}
 use Rattle.language.specs.Description.{Description, Facility}
 use Rattle.image.specs.Declarations.{facilityMeant}
-use Rattle.evaluate.proofs.PlaceLaws.{facility-known, nameOf}
-use Rattle.evaluate.specs.Described.{Describes}
+use Rattle.referents.proofs.PlaceLaws.{facility-known, nameOf}
+use Rattle.referents.specs.Described.{Describes}
 use Rattle.begin.proofs.StimulusLaws.{facility-here, fits-room, well-all, well-more, well-none, well-stop, wellFrom}
 use Rattle.begin.proofs.stimulus.well_formed.Statement.{statement}
 use Rattle.begin.proofs.stimulus.well_formed.Tie as tie

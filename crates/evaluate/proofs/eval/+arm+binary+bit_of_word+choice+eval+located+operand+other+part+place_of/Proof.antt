@@ -11,10 +11,10 @@ use Rattle.language.specs.Value as L
 use Rattle.records.specs.Nodes.{constantNumber, held}
 use Rattle.image.specs.Declarations.{FacilityRead, facilityMeant}
 use Rattle.store.specs.InBytes.{bytes, loadBytes}
-use Rattle.evaluate.specs.Places.{foundMeant, locatedMeant, placeMeant, referenceMeant, refersTo}
+use Rattle.referents.specs.Places.{foundMeant, locatedMeant, placeMeant, referenceMeant, refersTo}
 use Rattle.evaluate.specs.Sides.{sideMeant}
 use Rattle.evaluate.proofs.EvalLaws.{eval-before, eval-node, eval-not-before, held-whole, node-read, other-worth}
-use Rattle.evaluate.proofs.PlaceLaws.{computed-read, facility-known, nameOf, no-facility, place-of-facility, place-there, right-subscripts, stored-load, stored-read, wrong-subscripts}
+use Rattle.referents.proofs.PlaceLaws.{computed-read, facility-known, nameOf, no-facility, place-of-facility, place-there, right-subscripts, stored-load, stored-read, wrong-subscripts}
 use Prim.Native.Nat.{ℕ, _+_, _*_, _<_}
 use borrow.Author.Needs.{needs}
 use borrow.Fn.Kinds.{In}
@@ -49,25 +49,25 @@ use Rattle.evaluate.proofs.eval.+arm+binary+bit_of_word+choice+eval+loc
 use Rattle.evaluate.proofs.eval.place_of.Reads as place-of
 use Rattle.evaluate.proofs.eval.place_of.Kinds as place-of-kinds
 use Rattle.evaluate.proofs.eval.+arm+binary+bit_of_word+choice+eval+located+operand+other+part+place_of.Lts-place_of as place-of-lts
-use Rattle.evaluate.proofs.arms.arm_back.Reads as arm-back-reads
-use Rattle.evaluate.proofs.arms.arm_number.Reads as arm-number-reads
-use Rattle.evaluate.proofs.bounds.word_length.Reads as word-length-reads
-use Rattle.evaluate.proofs.places.bit.Reads as bit-reads
-use Rattle.evaluate.proofs.places.constant_part.Reads as constant-part-reads
-use Rattle.evaluate.proofs.places.narrow.Reads as narrow-reads
-use Rattle.evaluate.proofs.places.part_of_word.Reads as part-of-word-reads
-use Rattle.evaluate.proofs.places.right_count.Reads as right-count-reads
-use Rattle.evaluate.proofs.places.subscript.Reads as subscript-reads
-use Rattle.evaluate.proofs.places.word.Reads as word-reads
-use Rattle.evaluate.proofs.reading.of_computed.Reads as of-computed-reads
-use Rattle.evaluate.proofs.reading.of_stored.Reads as of-stored-reads
-use Rattle.evaluate.proofs.references.reference_of.Reads as reference-of-reads
-use Rattle.evaluate.proofs.worth.binary.Reads as binary-reads
-use Rattle.evaluate.proofs.worth.cut.Reads as cut-reads
-use Rattle.evaluate.proofs.worth.is.Reads as is-reads
-use Rattle.evaluate.proofs.worth.prefix.Reads as prefix-reads
-use Rattle.evaluate.proofs.worth.sticks.Reads as sticks-reads
-use Rattle.evaluate.proofs.worth.stops.Reads as stops-reads
+use Rattle.referents.proofs.arms.arm_back.Reads as arm-back-reads
+use Rattle.referents.proofs.arms.arm_number.Reads as arm-number-reads
+use Rattle.referents.proofs.bounds.word_length.Reads as word-length-reads
+use Rattle.referents.proofs.places.bit.Reads as bit-reads
+use Rattle.referents.proofs.places.constant_part.Reads as constant-part-reads
+use Rattle.referents.proofs.places.narrow.Reads as narrow-reads
+use Rattle.referents.proofs.places.part_of_word.Reads as part-of-word-reads
+use Rattle.referents.proofs.places.right_count.Reads as right-count-reads
+use Rattle.referents.proofs.places.subscript.Reads as subscript-reads
+use Rattle.referents.proofs.places.word.Reads as word-reads
+use Rattle.referents.proofs.reading.of_computed.Reads as of-computed-reads
+use Rattle.referents.proofs.reading.of_stored.Reads as of-stored-reads
+use Rattle.referents.proofs.references.reference_of.Reads as reference-of-reads
+use Rattle.referents.proofs.worth.binary.Reads as binary-reads
+use Rattle.referents.proofs.worth.cut.Reads as cut-reads
+use Rattle.referents.proofs.worth.is.Reads as is-reads
+use Rattle.referents.proofs.worth.prefix.Reads as prefix-reads
+use Rattle.referents.proofs.worth.sticks.Reads as sticks-reads
+use Rattle.referents.proofs.worth.stops.Reads as stops-reads
 use Rattle.image.proofs.facilities.facility_at.Reads as facility-at-reads
 use Rattle.image.proofs.facilities.is_computed.Reads as is-computed-reads
 use Rattle.records.proofs.constants.constant_at.Reads as constant-at-reads

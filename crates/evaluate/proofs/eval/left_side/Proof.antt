@@ -2,7 +2,7 @@ use mathlib.Core.Path.{sym, ap, _∙_}
 use Rattle.language.specs.Meaning.{evalBelow}
 use Rattle.records.specs.Nodes.{constantNumber}
 use Rattle.store.specs.InBytes.{bytes}
-use Rattle.evaluate.specs.Places.{referenceMeant}
+use Rattle.referents.specs.Places.{referenceMeant}
 use Rattle.evaluate.proofs.SideLaws.{left-place, left-none, left-there}
 use borrow.Author.Needs.{needs}
 use Rattle.evaluate.proofs.eval.left_side.Statement.{statement}

@@ -9,7 +9,7 @@ use Rattle.language.specs.Decode.{namesLength}
 use Rattle.language.specs.Description.{Description, Facility, facilityAt, isComputed}
 use Rattle.language.specs.Layout.{placeIn, storeSizeOf}
 use Rattle.image.specs.Declarations.{facilityMeant}
-use Rattle.evaluate.specs.Described.{Describes}
+use Rattle.referents.specs.Described.{Describes}
 use Rattle.lines.specs.Texts.{Named}
 use Rattle.lines.proofs.LineLoop.{Printed, has-word, printed-all, printed-first, printed-more}
 use Rattle.lines.proofs.NameLoop.{facility-named, offset-first, offset-next}

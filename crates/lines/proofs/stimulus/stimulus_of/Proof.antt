@@ -8,9 +8,9 @@ use borrow.Author.Tests.{not-false, not-true}
 use lib.ListN.{length, length-replicate}
 use Rattle.language.specs.Calls.{stimulusSize}
 use Rattle.language.specs.Description.{Description}
-use Rattle.evaluate.specs.Described.{Describes}
+use Rattle.referents.specs.Described.{Describes}
 use Rattle.image.specs.Declarations.{facilityMeant}
-use Rattle.evaluate.proofs.PlaceLaws.{facility-known, nameOf}
+use Rattle.referents.proofs.PlaceLaws.{facility-known, nameOf}
 use Rattle.lines.specs.Stimulus.{Worded, tookMeant}
 use Rattle.lines.specs.declared.stimulus.Taken.the-variants as T
 use Rattle.lines.proofs.LineWord.{words-long}

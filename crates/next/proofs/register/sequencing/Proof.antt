@@ -6,8 +6,8 @@ use borrow.Author.Needs.{needs}
 use lib.ListN.{drop, length}
 use Rattle.language.specs.Description as D
 use Rattle.language.specs.Description.{Description, isSequencing, sequencingFrom, sequencingOf}
-use Rattle.evaluate.proofs.PlaceLaws.{facility-known}
-use Rattle.evaluate.specs.Described.{Describes}
+use Rattle.referents.proofs.PlaceLaws.{facility-known}
+use Rattle.referents.specs.Described.{Describes}
 use Rattle.next.proofs.RegisterLaws.{register-here, register-later, register-none}
 use Rattle.next.proofs.register.sequencing.Statement.{statement}
 use Rattle.next.proofs.register.sequencing.Tie as tie

@@ -7,7 +7,7 @@ use borrow.Author.Tests.{not-false, not-true}
 use lib.ListN.{drop, length}
 use Rattle.language.specs.Calls.{allWellFormed, wellFormed}
 use Rattle.language.specs.Description.{Description}
-use Rattle.evaluate.specs.Described.{Describes}
+use Rattle.referents.specs.Described.{Describes}
 use Rattle.run.proofs.FormLaws.{ill-formed, none-left, none-there, one-more}
 use Rattle.run.proofs.formed.all_well_formed.Statement.{statement}
 use Rattle.run.proofs.formed.all_well_formed.Tie as tie

@@ -1,7 +1,7 @@
 use mathlib.Core.Path.{sym, ap, _∙_}
 use Rattle.language.specs.Description as D
 use Rattle.language.specs.Step as S
-use Rattle.evaluate.specs.Places.{foundMeant}
+use Rattle.referents.specs.Places.{foundMeant}
 use borrow.Author.Needs.{needs}
 use Rattle.sound.proofs.register.agrees.Statement.{statement}
 use Rattle.sound.proofs.register.agrees.Tie as tie

@@ -5,7 +5,7 @@ use Rattle.language.specs.Description.{constantValue}
 use Rattle.language.specs.Value.{Value}
 use Rattle.records.specs.Nodes.{held}
 use Rattle.evaluate.proofs.EvalLaws.{held-whole}
-use Rattle.evaluate.proofs.PlaceLaws.{nameOf}
+use Rattle.referents.proofs.PlaceLaws.{nameOf}
 use Rattle.sound.proofs.RegisterLaws.{few-bits, register-word}
 use borrow.Author.Needs.{needs}
 use Rattle.sound.proofs.register.has_value.Statement.{statement}

@@ -7,8 +7,8 @@ use lib.ListN.{drop, drop-of-length-le, length}
 use Rattle.language.specs.Description.{Description, facilityAt}
 use Rattle.language.specs.Layout.{storeSizeOf}
 use Rattle.image.specs.Declarations.{facilityMeant}
-use Rattle.evaluate.proofs.PlaceLaws.{facility-known, nameOf}
-use Rattle.evaluate.specs.Described.{Describes}
+use Rattle.referents.proofs.PlaceLaws.{facility-known, nameOf}
+use Rattle.referents.specs.Described.{Describes}
 use Rattle.sound.proofs.SizeLaws.{size-here}
 use Rattle.sound.proofs.sizes.store_size.Statement.{statement}
 use Rattle.sound.proofs.sizes.store_size.Tie as tie

@@ -9,8 +9,8 @@ use Rattle.language.specs.Description.{Description, facilityAt}
 use Rattle.language.specs.Layout.{storeSizeOf}
 use Rattle.language.specs.Store as L
 use Rattle.image.specs.Declarations.{facilityMeant}
-use Rattle.evaluate.proofs.PlaceLaws.{facility-known, nameOf, stored-place}
-use Rattle.evaluate.specs.Described.{Describes}
+use Rattle.referents.proofs.PlaceLaws.{facility-known, nameOf, stored-place}
+use Rattle.referents.specs.Described.{Describes}
 use Rattle.sound.proofs.WordLaws.{narrow-all, narrow-more, narrow-none, narrow-stop, narrowFrom}
 use Rattle.sound.proofs.words.narrow.Statement.{statement}
 use Rattle.sound.proofs.words.narrow.Tie as tie

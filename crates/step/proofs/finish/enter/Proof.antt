@@ -1,5 +1,5 @@
 use borrow.Author.Tests.{not-false, not-true}
-use Rattle.evaluate.specs.Places.{foundMeant}
+use Rattle.referents.specs.Places.{foundMeant}
 use Rattle.next.specs.Seen.{recordMeant}
 use Rattle.step.proofs.FinishLaws.{entered-none, entered-some, record-so}
 use borrow.Author.Needs.{needs}

@@ -6,7 +6,7 @@ use lib.ListN.{length}
 use Rattle.language.specs.Layout.{storeSizeOf}
 use Rattle.step.specs.Stepped.{Landed}
 use Rattle.store.specs.Slices.{landed}
-use Rattle.evaluate.specs.Places.{foundMeant}
+use Rattle.referents.specs.Places.{foundMeant}
 use Rattle.next.specs.Seen.{recordMeant}
 use Rattle.step.proofs.FinishLaws.{finished-so, stop-so}
 use borrow.Author.Needs.{needs}

@@ -1,7 +1,7 @@
 use mathlib.Core.Path.{sym, ap, _∙_}
 use Rattle.language.specs.Value.{Value}
 use Rattle.limbs.specs.Limbs.{number}
-use Rattle.evaluate.proofs.PlaceLaws.{nameOf}
+use Rattle.referents.proofs.PlaceLaws.{nameOf}
 use Rattle.step.proofs.RegisterLaws.{register-found, short-read}
 use borrow.Author.Needs.{needs}
 use Rattle.step.proofs.register.register_value.Statement.{statement}

@@ -1,7 +1,7 @@
 use mathlib.Core.Option.{some}
 use mathlib.Core.Path.{sym, ap}
 use Rattle.language.specs.Description.{constantValue, nodeAt}
-use Rattle.evaluate.proofs.PlaceLaws.{nameOf}
+use Rattle.referents.proofs.PlaceLaws.{nameOf}
 use Rattle.step.proofs.RegisterLaws.{number-read, register-put, short-read, value-read}
 use borrow.Author.Needs.{needs}
 use Rattle.step.proofs.register.set_register.Statement.{statement}

@@ -5,8 +5,8 @@ use borrow.Author.Tests.{eq-eqb, ne-eqb, not-false, not-true}
 use mathlib.Core.List.{List}
 use Rattle.language.specs.Acting as T
 use Rattle.language.specs.Storing.{isPlain}
-use Rattle.evaluate.specs.Places.{placeMeant}
-use Rattle.evaluate.proofs.PlaceLaws.{nameOf}
+use Rattle.referents.specs.Places.{placeMeant}
+use Rattle.referents.proofs.PlaceLaws.{nameOf}
 use Rattle.store.specs.InBytes.{bytes, putBytes}
 use Rattle.storing.specs.Seen.{went}
 use Rattle.storing.proofs.StoreLaws.{bytes-seen, kind-known, plain-stored, seen-now, spot-put}

@@ -10,8 +10,8 @@ use Rattle.language.specs.Storing.{mayStore}
 use Rattle.language.specs.Meaning.{Write}
 use Rattle.language.specs.Tree.{Kind}
 use Rattle.limbs.specs.Limbs.{number}
-use Rattle.evaluate.specs.Places.{placeMeant}
-use Rattle.evaluate.proofs.PlaceLaws.{nameOf}
+use Rattle.referents.specs.Places.{placeMeant}
+use Rattle.referents.proofs.PlaceLaws.{nameOf}
 use Rattle.store.specs.InBytes.{anyMarked, bytes, markAll, putAll, putBytes}
 use Rattle.storing.specs.Seen.{ranSeen, went}
 use Rattle.storing.proofs.StoreLaws.{both-true, bytes-seen, kind-known, not-storable, or-false, seen-late, seen-now, sides-differ, spot-load, spot-put, stored-kind, stores-late, stores-now}

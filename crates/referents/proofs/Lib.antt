@@ -1,0 +1,4 @@
+pub mod ArmLaws
+pub mod BoundLaws
+pub mod PlaceLaws
+pub mod SectionLaws

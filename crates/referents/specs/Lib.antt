@@ -1,0 +1,3 @@
+pub mod Described
+pub mod Places
+pub mod Worth
