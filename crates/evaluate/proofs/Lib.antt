@@ -1,2 +1,1 @@
-pub mod EvalLaws
 pub mod SideLaws

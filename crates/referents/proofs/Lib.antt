@@ -1,4 +1,5 @@
 pub mod ArmLaws
 pub mod BoundLaws
+pub mod EvalLaws
 pub mod PlaceLaws
 pub mod SectionLaws

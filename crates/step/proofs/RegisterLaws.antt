@@ -28,7 +28,7 @@ use Rattle.store.proofs.ByteOrder.{word-room}
 use Rattle.store.specs.InBytes.{Stored, placeOfWord}
 use Rattle.store.specs.Layout.{Bytes}
 use Rattle.store.specs.Parts.{loaded, saved}
-use Rattle.evaluate.proofs.EvalLaws.{held-whole}
+use Rattle.referents.proofs.EvalLaws.{held-whole}
 use Rattle.referents.proofs.PlaceLaws.{facility-known, nameOf, stored-place}
 use Rattle.referents.specs.Described.{Describes}
 use Rattle.next.proofs.RegisterLaws.{first-word}

@@ -13,7 +13,7 @@ use Rattle.image.specs.Declarations.{FacilityRead, facilityMeant}
 use Rattle.store.specs.InBytes.{bytes, loadBytes}
 use Rattle.referents.specs.Places.{foundMeant, locatedMeant, placeMeant, referenceMeant, refersTo}
 use Rattle.evaluate.specs.Sides.{sideMeant}
-use Rattle.evaluate.proofs.EvalLaws.{eval-before, eval-node, eval-not-before, held-whole, node-read, other-worth}
+use Rattle.referents.proofs.EvalLaws.{eval-before, eval-node, eval-not-before, held-whole, node-read, other-worth}
 use Rattle.referents.proofs.PlaceLaws.{computed-read, facility-known, nameOf, no-facility, place-of-facility, place-there, right-subscripts, stored-load, stored-read, wrong-subscripts}
 use Prim.Native.Nat.{ℕ, _+_, _*_, _<_}
 use borrow.Author.Needs.{needs}

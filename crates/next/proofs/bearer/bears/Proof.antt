@@ -5,7 +5,7 @@ use Rattle.language.specs.Description.{constantValue}
 use Rattle.language.specs.Value.{Value}
 use Rattle.limbs.specs.Limbs.{number}
 use Rattle.records.specs.Nodes.{held}
-use Rattle.evaluate.proofs.EvalLaws.{held-whole}
+use Rattle.referents.proofs.EvalLaws.{held-whole}
 use borrow.Author.Needs.{needs}
 use Rattle.next.proofs.bearer.bears.Statement.{statement}
 use Rattle.next.proofs.bearer.bears.Tie as tie

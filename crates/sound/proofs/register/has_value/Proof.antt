@@ -4,7 +4,7 @@ use Rattle.language.specs.Description as D
 use Rattle.language.specs.Description.{constantValue}
 use Rattle.language.specs.Value.{Value}
 use Rattle.records.specs.Nodes.{held}
-use Rattle.evaluate.proofs.EvalLaws.{held-whole}
+use Rattle.referents.proofs.EvalLaws.{held-whole}
 use Rattle.referents.proofs.PlaceLaws.{nameOf}
 use Rattle.sound.proofs.RegisterLaws.{few-bits, register-word}
 use borrow.Author.Needs.{needs}
