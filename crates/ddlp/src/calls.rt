@@ -1,13 +1,12 @@
 // Reading, opening, a cycle and many of them.
-use crate::answers::CycleAnswer;
-use crate::answers::ReadAnswer;
-use crate::answers::RunAnswer;
-use crate::numbers;
+use numbers::answers::CycleAnswer;
+use numbers::answers::ReadAnswer;
+use numbers::answers::RunAnswer;
 ghost use mathlib.Core.Path.{_≡_};
 ghost use lib.ListN.{length};
 ghost use Rattle.language.specs.Calls as L;
 ghost use Rattle.language.specs.Reading as R;
-ghost use Rattle.ddlp.specs.Numbers.{cycleNumbers, openNumber, readNumbers, runNumbers};
+ghost use Rattle.numbers.specs.Numbers.{cycleNumbers, openNumber, readNumbers, runNumbers};
 
 // The image of a text, or zero and the refusal with its place.
 #[no_mangle]

@@ -1,11 +1,10 @@
 // The lookups: a name as a part of the image, and a facility's declaration with its place in the store.
-use crate::answers::FacilityAnswer;
-use crate::answers::NameAnswer;
-use crate::numbers;
+use numbers::answers::FacilityAnswer;
+use numbers::answers::NameAnswer;
 use passes::looked;
 ghost use mathlib.Core.Path.{_≡_};
 ghost use Rattle.language.specs.Lookups as L;
-ghost use Rattle.ddlp.specs.Numbers.{facilityNumbers, nameNumbers};
+ghost use Rattle.numbers.specs.Numbers.{facilityNumbers, nameNumbers};
 
 // The name of a facility.
 #[no_mangle]

@@ -1,6 +1,6 @@
 use borrow.Author.Needs.{needs}
-use Rattle.ddlp.proofs.numbers.facility_numbers.Statement.{statement}
-use Rattle.ddlp.proofs.numbers.facility_numbers.Tie as tie
+use Rattle.numbers.proofs.facility_numbers.Statement.{statement}
+use Rattle.numbers.proofs.facility_numbers.Tie as tie
 
 enum-known-a : tie.Need-enum-known-a
 enum-known-a c = search needs

@@ -6,11 +6,11 @@ use Rattle.language.specs.Description.{Facility}
 use Rattle.language.specs.Encode.{kindNumber}
 use Rattle.language.specs.Lookups as L
 use Rattle.language.specs.Reading as R
-use Rattle.ddlp.specs.declared.answers.CycleAnswer.{CycleAnswer}
-use Rattle.ddlp.specs.declared.answers.FacilityAnswer.{FacilityAnswer}
-use Rattle.ddlp.specs.declared.answers.NameAnswer.{NameAnswer}
-use Rattle.ddlp.specs.declared.answers.ReadAnswer.{ReadAnswer}
-use Rattle.ddlp.specs.declared.answers.RunAnswer.{RunAnswer}
+use Rattle.numbers.specs.declared.answers.CycleAnswer.{CycleAnswer}
+use Rattle.numbers.specs.declared.answers.FacilityAnswer.{FacilityAnswer}
+use Rattle.numbers.specs.declared.answers.NameAnswer.{NameAnswer}
+use Rattle.numbers.specs.declared.answers.ReadAnswer.{ReadAnswer}
+use Rattle.numbers.specs.declared.answers.RunAnswer.{RunAnswer}
 
 abbrev pub readNumbers : R.ReadAnswer → ReadAnswer
 readNumbers (R.accepted n) = record { refusal = 0; place = 0; length = n }

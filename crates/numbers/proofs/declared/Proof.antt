@@ -1,7 +1,7 @@
 use mathlib.Core.Path.{sym, _∙_}
 use borrow.Author.Needs.{needs}
-use Rattle.ddlp.proofs.numbers.declared.Statement.{statement}
-use Rattle.ddlp.proofs.numbers.declared.Tie as tie
+use Rattle.numbers.proofs.declared.Statement.{statement}
+use Rattle.numbers.proofs.declared.Tie as tie
 
 is-computed-requires : tie.Need-is-computed-requires
 is-computed-requires c κs = search needs

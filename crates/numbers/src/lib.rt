@@ -1,9 +1,11 @@
 // The numbers that C gets for each answer.
-use crate::answers::CycleAnswer;
-use crate::answers::FacilityAnswer;
-use crate::answers::NameAnswer;
-use crate::answers::ReadAnswer;
-use crate::answers::RunAnswer;
+pub mod answers;
+
+use answers::CycleAnswer;
+use answers::FacilityAnswer;
+use answers::NameAnswer;
+use answers::ReadAnswer;
+use answers::RunAnswer;
 use cycle::answer as cycled;
 use image::facilities;
 use image::facilities::Facility;
@@ -21,7 +23,7 @@ ghost use Rattle.lookups.specs.declared.declared.Looked.the-variants as Looked;
 ghost use Rattle.open.specs.Called as Opened;
 ghost use Rattle.reading.specs.Calls as Reads;
 ghost use Rattle.run.specs.Called as Ran;
-ghost use Rattle.ddlp.specs.Numbers.{Short, cycleNumbers, facilityNumbers, nameNumbers, openNumber, readNumbers, runNumbers, shown};
+ghost use Rattle.numbers.specs.Numbers.{Short, cycleNumbers, facilityNumbers, nameNumbers, openNumber, readNumbers, runNumbers, shown};
 
 // The length of an image, or a refusal and its place; both have 32 bits.
 pub fn read_numbers(a: Read) -> ReadAnswer

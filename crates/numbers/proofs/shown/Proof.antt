@@ -1,7 +1,7 @@
 use mathlib.Core.Path.{refl}
 use borrow.Author.Needs.{needs}
-use Rattle.ddlp.proofs.numbers.shown.Statement.{statement}
-use Rattle.ddlp.proofs.numbers.shown.Tie as tie
+use Rattle.numbers.proofs.shown.Statement.{statement}
+use Rattle.numbers.proofs.shown.Tie as tie
 
 kind-number-requires : tie.Need-kind-number-requires
 kind-number-requires c κs = search needs
