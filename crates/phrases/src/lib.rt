@@ -54,9 +54,7 @@ fn opening(s: State, head: Head, text: &[u8], w: Word, work: &mut [u8; 275296]) 
     let Verdict::Done = verdict else {
         return taken;
     };
-    let state = taken.state;
-    let next = taken.next;
-    let red = pieces::reducing(state, head, text, next);
+    let red = pieces::reducing(taken.state, head, text, taken.next);
     let verdict = red.verdict;
     let Verdict::Done = verdict else {
         return red;
@@ -67,9 +65,7 @@ fn opening(s: State, head: Head, text: &[u8], w: Word, work: &mut [u8; 275296]) 
     let Verdict::Done = verdict else {
         return operand;
     };
-    let state = operand.state;
-    let next = operand.next;
-    pieces::add_prefix(state, w, next, work)
+    pieces::add_prefix(operand.state, w, operand.next, work)
 }
 
 // The operators of a level from a rank on, behind an operand.
@@ -124,20 +120,16 @@ fn operation(s: State, rank: Rank, text: &[u8], w: Word, work: &mut [u8; 275296]
     let Verdict::Done = verdict else {
         return taken;
     };
-    let state = taken.state;
-    let next = taken.next;
     if let Rank::Cut = rank {
         let kind = w.kind;
-        return cuts::cut(state, kinds::number(kind), w, text, next, work);
+        return cuts::cut(taken.state, kinds::number(kind), w, text, taken.next, work);
     }
-    let right = start(state, ranks::operand(rank), text, next, work);
+    let right = start(taken.state, ranks::operand(rank), text, taken.next, work);
     let verdict = right.verdict;
     let Verdict::Done = verdict else {
         return right;
     };
-    let state = right.state;
-    let next = right.next;
-    pieces::add_binary(state, adding::last(s.nodes), w, next, work)
+    pieces::add_binary(right.state, adding::last(s.nodes), w, right.next, work)
 }
 
 // A term.
@@ -173,16 +165,18 @@ fn group(s: State, text: &[u8], w: Word, work: &mut [u8; 275296]) -> Answer
     let Verdict::Done = verdict else {
         return opened;
     };
-    let state = opened.state;
-    let next = opened.next;
-    let inner = start(state, Level::Expression, text, next, work);
+    let inner = start(opened.state, Level::Expression, text, opened.next, work);
     let verdict = inner.verdict;
     let Verdict::Done = verdict else {
         return inner;
     };
-    let state = inner.state;
-    let next = inner.next;
-    taking::expect(text, next, state, kinds::CLOSE_PAREN, Bearing::Closes)
+    taking::expect(
+        text,
+        inner.next,
+        inner.state,
+        kinds::CLOSE_PAREN,
+        Bearing::Closes,
+    )
 }
 
 // A reference, from its name on.
@@ -194,9 +188,7 @@ fn named(s: State, text: &[u8], w: Word, work: &mut [u8; 275296]) -> Answer
     let Verdict::Done = verdict else {
         return taken;
     };
-    let state = taken.state;
-    let next = taken.next;
-    reference(state, w, text, next, work)
+    reference(taken.state, w, text, taken.next, work)
 }
 
 // The rest of a reference, behind its name.
@@ -210,9 +202,7 @@ pub fn reference(s: State, name: Word, text: &[u8], w: Word, work: &mut [u8; 275
         let Verdict::Done = verdict else {
             return opened;
         };
-        let state = opened.state;
-        let next = opened.next;
-        return subscript(state, name, text, next, work);
+        return subscript(opened.state, name, text, opened.next, work);
     }
     nodes::add_whole(s, name, text, w, work)
 }
@@ -229,11 +219,10 @@ pub fn subscript(s: State, name: Word, text: &[u8], w: Word, work: &mut [u8; 275
     let Verdict::Done = verdict else {
         return first;
     };
-    let state = first.state;
     let next = first.next;
     let kind = next.kind;
     if kinds::number(kind) == kinds::COMMA {
-        let comma = taking::take(text, next, state, false, Bearing::Level);
+        let comma = taking::take(text, first.next, first.state, false, Bearing::Level);
         let verdict = comma.verdict;
         let Verdict::Done = verdict else {
             return comma;
@@ -241,7 +230,13 @@ pub fn subscript(s: State, name: Word, text: &[u8], w: Word, work: &mut [u8; 275
         let state = pieces::at(comma.state, s.nesting);
         return second(state, name, text, comma.next, work);
     }
-    let closed = taking::expect(text, next, state, kinds::CLOSE_BRACKET, Bearing::Closes);
+    let closed = taking::expect(
+        text,
+        first.next,
+        first.state,
+        kinds::CLOSE_BRACKET,
+        Bearing::Closes,
+    );
     let verdict = closed.verdict;
     let Verdict::Done = verdict else {
         return closed;
@@ -261,9 +256,7 @@ fn single(s: State, name: Word, text: &[u8], w: Word, work: &mut [u8; 275296]) -
         let Verdict::Done = verdict else {
             return opened;
         };
-        let state = opened.state;
-        let next = opened.next;
-        return second(state, name, text, next, work);
+        return second(opened.state, name, text, opened.next, work);
     }
     nodes::add_one(s, name, adding::last(s.nodes), text, w, work)
 }
@@ -280,22 +273,24 @@ fn second(s: State, name: Word, text: &[u8], w: Word, work: &mut [u8; 275296]) -
     let Verdict::Done = verdict else {
         return other;
     };
-    let state = other.state;
-    let next = other.next;
-    let closed = taking::expect(text, next, state, kinds::CLOSE_BRACKET, Bearing::Closes);
+    let closed = taking::expect(
+        text,
+        other.next,
+        other.state,
+        kinds::CLOSE_BRACKET,
+        Bearing::Closes,
+    );
     let verdict = closed.verdict;
     let Verdict::Done = verdict else {
         return closed;
     };
-    let state = closed.state;
-    let next = closed.next;
     nodes::add_two(
-        state,
+        closed.state,
         name,
         adding::last(s.nodes),
-        adding::last(state.nodes),
+        adding::last(closed.state.nodes),
         text,
-        next,
+        closed.next,
         work,
     )
 }
@@ -338,13 +333,12 @@ fn choice(s: State, case: bool, text: &[u8], w: Word, work: &mut [u8; 275296]) -
     let Verdict::Done = verdict else {
         return opened;
     };
-    let state = opened.state;
-    let condition = start(state, Level::Expression, text, opened.next, work);
+    let condition = start(opened.state, Level::Expression, text, opened.next, work);
     let verdict = condition.verdict;
     let Verdict::Done = verdict else {
         return condition;
     };
-    let before = pieces::at(condition.state, state.nesting);
+    let before = pieces::at(condition.state, opened.state.nesting);
     let chosen = arms(before, case, text, condition.next, work);
     let answer = chosen.answer;
     let verdict = answer.verdict;

@@ -396,28 +396,28 @@ choice-returns t c =
 
 choice-start-requires : (t : ℕ) → choice-lts.Need-start-requires (choice-calls t) (choice-at t) choice.Post
 choice-start-requires t c κs =
-    let p = c .before .before .before .before .take .ensures .done (c .before .before .enum-told .given .1) in let g : c .before .before .before .before .take .result .state .nesting ≡ suc (c .before .before .before .before .before .before .args .s .nesting) = ap (λ (k : Counts). k .nesting) (p .counts) in let d : c .before .before .before .before .take .result .state .nesting ≤ 24 = p .deep in search needs
+    let p = c .before .before .before .take .ensures .done (c .before .enum-told .given .1) in let g : c .before .before .before .take .result .state .nesting ≡ suc (c .before .before .before .before .before .args .s .nesting) = ap (λ (k : Counts). k .nesting) (p .counts) in let d : c .before .before .before .take .result .state .nesting ≤ 24 = p .deep in search needs
 
 choice-enum-told-2 : (t : ℕ) → choice-lts.Need-enum-told-2 (choice-calls t) (choice-at t) choice.Post
 choice-enum-told-2 t c = search needs
 
 choice-returns-2 : (t : ℕ) → choice-lts.Need-returns-2 (choice-calls t) (choice-at t) choice.Post
 choice-returns-2 t c =
-    (λ e. condition-not (c .before .before .before .before .before .before .before .before .args .case) e (c .before .before .before .before .before .before .take .ensures) (c .before .before .before .before .enum-told .given .1) (c .before .start .ensures .0) (not-done (c .match2 .keys2)), spent (counted-comes (c .before .before .before .before .before .before .take .ensures) (c .before .before .before .before .enum-told .given .1)) (c .before .start .ensures .1) (omega arith))
+    (λ e. condition-not (c .before .before .before .before .before .before .before .args .case) e (c .before .before .before .before .before .take .ensures) (c .before .before .before .enum-told .given .1) (c .before .start .ensures .0) (not-done (c .match2 .keys2)), spent (counted-comes (c .before .before .before .before .before .take .ensures) (c .before .before .before .enum-told .given .1)) (c .before .start .ensures .1) (omega arith))
 
 choice-at-requires : (t : ℕ) → choice-lts.Need-at-requires (choice-calls t) (choice-at t) choice.Post
 choice-at-requires t c κs = search needs
 
 choice-arms-requires : (t : ℕ) → choice-lts.Need-arms-requires (choice-calls t) (choice-at t) choice.Post
 choice-arms-requires t c κs =
-    let p = c .before .before .before .before .before .before .before .before .before .take .ensures .done (c .before .before .before .before .before .before .before .enum-told .given .1) in let g : c .before .before .before .before .before .before .before .before .before .take .result .state .nesting ≡ suc (c .before .before .before .before .before .before .before .before .before .before .before .args .s .nesting) = ap (λ (k : Counts). k .nesting) (p .counts) in let d : c .before .before .before .before .before .before .before .before .before .take .result .state .nesting ≤ 24 = p .deep in let h : c .before .at .result .nesting ≡ c .before .before .before .before .before .before .before .before .before .take .result .state .nesting = ap (λ (q : State). q .nesting) (c .before .at .ensures) in search needs
+    let p = c .before .before .before .before .before .before .before .before .take .ensures .done (c .before .before .before .before .before .before .enum-told .given .1) in let g : c .before .before .before .before .before .before .before .before .take .result .state .nesting ≡ suc (c .before .before .before .before .before .before .before .before .before .before .args .s .nesting) = ap (λ (k : Counts). k .nesting) (p .counts) in let d : c .before .before .before .before .before .before .before .before .take .result .state .nesting ≤ 24 = p .deep in let h : c .before .at .result .nesting ≡ c .before .before .before .before .before .before .before .before .take .result .state .nesting = ap (λ (q : State). q .nesting) (c .before .at .ensures) in search needs
 
 choice-enum-told-3 : (t : ℕ) → choice-lts.Need-enum-told-3 (choice-calls t) (choice-at t) choice.Post
 choice-enum-told-3 t c = search needs
 
 choice-returns-3 : (t : ℕ) → choice-lts.Need-returns-3 (choice-calls t) (choice-at t) choice.Post
 choice-returns-3 t c =
-    (λ e. branches-not (c .before .before .before .before .before .before .before .before .before .before .before .before .before .before .args .case) e (c .before .before .before .before .before .before .before .before .before .before .before .before .take .ensures) (c .before .before .before .before .before .before .before .before .before .before .enum-told .given .1) (c .before .before .before .before .before .before .before .start .ensures .0) (c .before .before .before .before .before .enum-told2 .given .1) (c .before .before .before .before .at .ensures) (c .before .before .arms .ensures .0) (not-done (c .match3 .keys2)), spent (goes-on (counted-comes (c .before .before .before .before .before .before .before .before .before .before .before .before .take .ensures) (c .before .before .before .before .before .before .before .before .before .before .enum-told .given .1)) (goes-on (c .before .before .before .before .before .before .before .start .ensures .1 .done (c .before .before .before .before .before .enum-told2 .given .1)) (nests (c .before .before .before .before .at .ensures)))) (c .before .before .arms .ensures .1) (omega arith))
+    (λ e. branches-not (c .before .before .before .before .before .before .before .before .before .before .before .before .before .args .case) e (c .before .before .before .before .before .before .before .before .before .before .before .take .ensures) (c .before .before .before .before .before .before .before .before .before .enum-told .given .1) (c .before .before .before .before .before .before .before .start .ensures .0) (c .before .before .before .before .before .enum-told2 .given .1) (c .before .before .before .before .at .ensures) (c .before .before .arms .ensures .0) (not-done (c .match3 .keys2)), spent (goes-on (counted-comes (c .before .before .before .before .before .before .before .before .before .before .before .take .ensures) (c .before .before .before .before .before .before .before .before .before .enum-told .given .1)) (goes-on (c .before .before .before .before .before .before .before .start .ensures .1 .done (c .before .before .before .before .before .enum-told2 .given .1)) (nests (c .before .before .before .before .at .ensures)))) (c .before .before .arms .ensures .1) (omega arith))
 
 choice-last-word-requires : (t : ℕ) → choice-lts.Need-last-word-requires (choice-calls t) (choice-at t) choice.Post
 choice-last-word-requires t c κs = search needs
@@ -430,7 +430,7 @@ choice-enum-told-4 t c = search needs
 
 choice-returns-4 : (t : ℕ) → choice-lts.Need-returns-4 (choice-calls t) (choice-at t) choice.Post
 choice-returns-4 t c =
-    (λ e. last-not (c .before .before .before .before .before .before .before .before .before .before .before .before .before .before .before .before .before .before .args .case) e (c .before .before .before .before .before .before .before .before .before .before .before .before .before .before .before .before .take .ensures) (c .before .before .before .before .before .before .before .before .before .before .before .before .before .before .enum-told .given .1) (c .before .before .before .before .before .before .before .before .before .before .before .start .ensures .0) (c .before .before .before .before .before .before .before .before .before .enum-told2 .given .1) (c .before .before .before .before .before .before .before .before .at .ensures) (c .before .before .before .before .before .before .arms .ensures .0) (c .before .before .before .enum-told3 .given .1) (c .before .before .last-word .ensures) (c .before .expect .ensures) (not-done (c .match4 .keys2)), unexpected (c .before .expect .ensures) (not-done (c .match4 .keys2)))
+    (λ e. last-not (c .before .before .before .before .before .before .before .before .before .before .before .before .before .before .before .before .before .args .case) e (c .before .before .before .before .before .before .before .before .before .before .before .before .before .before .before .take .ensures) (c .before .before .before .before .before .before .before .before .before .before .before .before .before .enum-told .given .1) (c .before .before .before .before .before .before .before .before .before .before .before .start .ensures .0) (c .before .before .before .before .before .before .before .before .before .enum-told2 .given .1) (c .before .before .before .before .before .before .before .before .at .ensures) (c .before .before .before .before .before .before .arms .ensures .0) (c .before .before .before .enum-told3 .given .1) (c .before .before .last-word .ensures) (c .before .expect .ensures) (not-done (c .match4 .keys2)), unexpected (c .before .expect .ensures) (not-done (c .match4 .keys2)))
 
 choice-last-requires : (t : ℕ) → choice-lts.Need-last-requires (choice-calls t) (choice-at t) choice.Post
 choice-last-requires t c κs = search needs
@@ -440,7 +440,7 @@ choice-add-choice-requires t c κs = search needs
 
 choice-returns-5 : (t : ℕ) → choice-lts.Need-returns-5 (choice-calls t) (choice-at t) choice.Post
 choice-returns-5 t c =
-    (λ e. choice-says (c .before .before .before .before .before .before .before .before .before .before .before .before .before .before .before .before .before .before .before .before .before .before .args .case) e (c .before .before .before .before .before .before .before .before .before .before .before .before .before .before .before .before .before .before .before .before .take .ensures) (c .before .before .before .before .before .before .before .before .before .before .before .before .before .before .before .before .before .before .enum-told .given .1) (c .before .before .before .before .before .before .before .before .before .before .before .before .before .before .before .start .ensures .0) (c .before .before .before .before .before .before .before .before .before .before .before .before .before .enum-told2 .given .1) (c .before .before .before .before .before .before .before .before .before .before .before .before .at .ensures) (c .before .before .before .before .before .before .before .before .before .before .arms .ensures .0) (c .before .before .before .before .before .before .before .enum-told3 .given .1) (c .before .before .before .before .before .before .last-word .ensures) (c .before .before .before .before .before .expect .ensures) (c .before .before .before .enum-told4 .given .1) (c .before .before .last .ensures) (c .add-choice .ensures), spent (goes-on (counted-comes (c .before .before .before .before .before .before .before .before .before .before .before .before .before .before .before .before .before .before .before .before .take .ensures) (c .before .before .before .before .before .before .before .before .before .before .before .before .before .before .before .before .before .before .enum-told .given .1)) (goes-on (c .before .before .before .before .before .before .before .before .before .before .before .before .before .before .before .start .ensures .1 .done (c .before .before .before .before .before .before .before .before .before .before .before .before .before .enum-told2 .given .1)) (goes-on (nests (c .before .before .before .before .before .before .before .before .before .before .before .before .at .ensures)) (goes-on (c .before .before .before .before .before .before .before .before .before .before .arms .ensures .1 .done (c .before .before .before .before .before .before .before .enum-told3 .given .1)) (expected-comes (c .before .before .before .before .before .expect .ensures) (rw (c .before .before .before .before .before .before .last-word .ensures) (closers (c .before .before .before .before .before .before .before .before .before .before .before .before .before .before .before .before .before .before .before .before .before .before .args .case))) (c .before .before .before .enum-told4 .given .1)))))) (gained-spends (c .add-choice .ensures)) (omega arith))
+    (λ e. choice-says (c .before .before .before .before .before .before .before .before .before .before .before .before .before .before .before .before .before .before .before .before .before .args .case) e (c .before .before .before .before .before .before .before .before .before .before .before .before .before .before .before .before .before .before .before .take .ensures) (c .before .before .before .before .before .before .before .before .before .before .before .before .before .before .before .before .before .enum-told .given .1) (c .before .before .before .before .before .before .before .before .before .before .before .before .before .before .before .start .ensures .0) (c .before .before .before .before .before .before .before .before .before .before .before .before .before .enum-told2 .given .1) (c .before .before .before .before .before .before .before .before .before .before .before .before .at .ensures) (c .before .before .before .before .before .before .before .before .before .before .arms .ensures .0) (c .before .before .before .before .before .before .before .enum-told3 .given .1) (c .before .before .before .before .before .before .last-word .ensures) (c .before .before .before .before .before .expect .ensures) (c .before .before .before .enum-told4 .given .1) (c .before .before .last .ensures) (c .add-choice .ensures), spent (goes-on (counted-comes (c .before .before .before .before .before .before .before .before .before .before .before .before .before .before .before .before .before .before .before .take .ensures) (c .before .before .before .before .before .before .before .before .before .before .before .before .before .before .before .before .before .enum-told .given .1)) (goes-on (c .before .before .before .before .before .before .before .before .before .before .before .before .before .before .before .start .ensures .1 .done (c .before .before .before .before .before .before .before .before .before .before .before .before .before .enum-told2 .given .1)) (goes-on (nests (c .before .before .before .before .before .before .before .before .before .before .before .before .at .ensures)) (goes-on (c .before .before .before .before .before .before .before .before .before .before .arms .ensures .1 .done (c .before .before .before .before .before .before .before .enum-told3 .given .1)) (expected-comes (c .before .before .before .before .before .expect .ensures) (rw (c .before .before .before .before .before .before .last-word .ensures) (closers (c .before .before .before .before .before .before .before .before .before .before .before .before .before .before .before .before .before .before .before .before .before .args .case))) (c .before .before .before .enum-told4 .given .1)))))) (gained-spends (c .add-choice .ensures)) (omega arith))
 
 first-arm-expect-requires : (t : ℕ) → first-arm-lts.Need-expect-requires (first-arm-calls t) (first-arm-at t) first-arm.Post
 first-arm-expect-requires t c κs = search needs
@@ -485,21 +485,21 @@ group-returns t c =
 
 group-start-requires : (t : ℕ) → group-lts.Need-start-requires (group-calls t) (group-at t) group.Post
 group-start-requires t c κs =
-    let p = c .before .before .before .before .before .take .ensures .done (c .before .before .before .enum-told .given .1) in let g : c .before .before .before .before .before .take .result .state .nesting ≡ suc (c .before .before .before .before .before .before .before .args .s .nesting) = ap (λ (k : Counts). k .nesting) (p .counts) in let d : c .before .before .before .before .before .take .result .state .nesting ≤ 24 = p .deep in search needs
+    let p = c .before .before .before .take .ensures .done (c .before .enum-told .given .1) in let g : c .before .before .before .take .result .state .nesting ≡ suc (c .before .before .before .before .before .args .s .nesting) = ap (λ (k : Counts). k .nesting) (p .counts) in let d : c .before .before .before .take .result .state .nesting ≤ 24 = p .deep in search needs
 
 group-enum-told-2 : (t : ℕ) → group-lts.Need-enum-told-2 (group-calls t) (group-at t) group.Post
 group-enum-told-2 t c = search needs
 
 group-returns-2 : (t : ℕ) → group-lts.Need-returns-2 (group-calls t) (group-at t) group.Post
 group-returns-2 t c =
-    (λ e. inner-not e (c .before .before .before .before .before .before .before .take .ensures) (c .before .before .before .before .before .enum-told .given .1) (c .before .start .ensures .0) (not-done (c .match2 .keys2)), spent (took-comes (c .before .before .before .before .before .before .before .take .ensures) (c .before .before .before .before .before .enum-told .given .1)) (c .before .start .ensures .1) (omega arith))
+    (λ e. inner-not e (c .before .before .before .before .before .take .ensures) (c .before .before .before .enum-told .given .1) (c .before .start .ensures .0) (not-done (c .match2 .keys2)), spent (took-comes (c .before .before .before .before .before .take .ensures) (c .before .before .before .enum-told .given .1)) (c .before .start .ensures .1) (omega arith))
 
 group-expect-requires : (t : ℕ) → group-lts.Need-expect-requires (group-calls t) (group-at t) group.Post
 group-expect-requires t c κs = search needs
 
 group-returns-3 : (t : ℕ) → group-lts.Need-returns-3 (group-calls t) (group-at t) group.Post
 group-returns-3 t c =
-    (λ e. group-says e (c .before .before .before .before .before .before .before .before .before .before .before .take .ensures) (c .before .before .before .before .before .before .before .before .before .enum-told .given .1) (c .before .before .before .before .before .start .ensures .0) (c .before .before .before .enum-told2 .given .1) (c .expect .ensures), spent (goes-on (took-comes (c .before .before .before .before .before .before .before .before .before .before .before .take .ensures) (c .before .before .before .before .before .before .before .before .before .enum-told .given .1)) (c .before .before .before .before .before .start .ensures .1 .done (c .before .before .before .enum-told2 .given .1))) (expected-spends (c .expect .ensures) (omega arith)) (omega arith))
+    (λ e. group-says e (c .before .before .before .before .before .before .before .take .ensures) (c .before .before .before .before .before .enum-told .given .1) (c .before .before .before .start .ensures .0) (c .before .enum-told2 .given .1) (c .expect .ensures), spent (goes-on (took-comes (c .before .before .before .before .before .before .before .take .ensures) (c .before .before .before .before .before .enum-told .given .1)) (c .before .before .before .start .ensures .1 .done (c .before .enum-told2 .given .1))) (expected-spends (c .expect .ensures) (omega arith)) (omega arith))
 
 inside-number-requires : (t : ℕ) → inside-lts.Need-number-requires (inside-calls t) (inside-at t) inside.Post
 inside-number-requires t c κs = search needs
@@ -608,11 +608,11 @@ named-returns t c =
 
 named-reference-requires : (t : ℕ) → named-lts.Need-reference-requires (named-calls t) (named-at t) named.Post
 named-reference-requires t c κs =
-    let p = c .before .before .before .before .before .take .ensures .done (c .before .before .before .enum-told .given .1) in let g : c .before .before .before .before .before .take .result .state .nesting ≡ c .before .before .before .before .before .before .before .args .s .nesting = ap (λ (k : Counts). k .nesting) (p .counts) in search needs
+    let p = c .before .before .before .take .ensures .done (c .before .enum-told .given .1) in let g : c .before .before .before .take .result .state .nesting ≡ c .before .before .before .before .before .args .s .nesting = ap (λ (k : Counts). k .nesting) (p .counts) in search needs
 
 named-returns-2 : (t : ℕ) → named-lts.Need-returns-2 (named-calls t) (named-at t) named.Post
 named-returns-2 t c =
-    (λ e. named-says e (c .before .before .before .before .before .before .take .ensures) (c .before .before .before .before .enum-told .given .1) (c .reference .ensures .0), spent (counted-comes (c .before .before .before .before .before .before .take .ensures) (c .before .before .before .before .enum-told .given .1)) (c .reference .ensures .1) (omega arith))
+    (λ e. named-says e (c .before .before .before .before .take .ensures) (c .before .before .enum-told .given .1) (c .reference .ensures .0), spent (counted-comes (c .before .before .before .before .take .ensures) (c .before .before .enum-told .given .1)) (c .reference .ensures .1) (omega arith))
 
 next-arm-expect-requires : (t : ℕ) → next-arm-lts.Need-expect-requires (next-arm-calls t) (next-arm-at t) next-arm.Post
 next-arm-expect-requires t c κs = search needs
@@ -676,7 +676,7 @@ opening-enum-told-3 t c = search needs
 
 opening-returns-3 : (t : ℕ) → opening-lts.Need-returns-3 (opening-calls t) (opening-at t) opening.Post
 opening-returns-3 t c =
-    (red-not (c .before .before .before .before .before .before .before .before .before .args .head) (not-plain (c .before .before .before .before .before .before .before .match .keys2)) (c .before .before .before .before .before .before .take .ensures) (c .before .before .before .before .enum-told2 .given .1) (c .before .reducing .ensures .0) (not-done (c .match3 .keys2)), spent (counted-comes (c .before .before .before .before .before .before .take .ensures) (c .before .before .before .before .enum-told2 .given .1)) (c .before .reducing .ensures .1) (omega arith))
+    (red-not (c .before .before .before .before .before .before .before .args .head) (not-plain (c .before .before .before .before .before .match .keys2)) (c .before .before .before .before .take .ensures) (c .before .before .enum-told2 .given .1) (c .before .reducing .ensures .0) (not-done (c .match3 .keys2)), spent (counted-comes (c .before .before .before .before .take .ensures) (c .before .before .enum-told2 .given .1)) (c .before .reducing .ensures .1) (omega arith))
 
 opening-at-requires : (t : ℕ) → opening-lts.Need-at-requires (opening-calls t) (opening-at t) opening.Post
 opening-at-requires t c κs = search needs
@@ -686,21 +686,21 @@ opening-prefixed-requires t c κs = search needs
 
 opening-start-requires : (t : ℕ) → opening-lts.Need-start-requires (opening-calls t) (opening-at t) opening.Post
 opening-start-requires t c κs =
-    let p = c .before .before .before .before .before .before .before .before .before .before .take .ensures .done (c .before .before .before .before .before .before .before .before .enum-told2 .given .1) in let h : c .before .before .at .result .nesting ≡ c .before .before .before .before .before .before .before .before .before .before .take .result .state .nesting = ap (λ (q : State). q .nesting) (c .before .before .at .ensures) in let g : c .before .before .before .before .before .before .before .before .before .before .take .result .state .nesting ≡ suc (c .before .before .before .before .before .before .before .before .before .before .before .before .before .args .s .nesting) = ap (λ (k : Counts). k .nesting) (p .counts) in let d : c .before .before .before .before .before .before .before .before .before .before .take .result .state .nesting ≤ 24 = p .deep in let m : topNo (c .before .prefixed .result) ≤ 7 = top-most (c .before .prefixed .result) in search needs
+    let p = c .before .before .before .before .before .before .before .before .take .ensures .done (c .before .before .before .before .before .before .enum-told2 .given .1) in let h : c .before .before .at .result .nesting ≡ c .before .before .before .before .before .before .before .before .take .result .state .nesting = ap (λ (q : State). q .nesting) (c .before .before .at .ensures) in let g : c .before .before .before .before .before .before .before .before .take .result .state .nesting ≡ suc (c .before .before .before .before .before .before .before .before .before .before .before .args .s .nesting) = ap (λ (k : Counts). k .nesting) (p .counts) in let d : c .before .before .before .before .before .before .before .before .take .result .state .nesting ≤ 24 = p .deep in let m : topNo (c .before .prefixed .result) ≤ 7 = top-most (c .before .prefixed .result) in search needs
 
 opening-enum-told-4 : (t : ℕ) → opening-lts.Need-enum-told-4 (opening-calls t) (opening-at t) opening.Post
 opening-enum-told-4 t c = search needs
 
 opening-returns-4 : (t : ℕ) → opening-lts.Need-returns-4 (opening-calls t) (opening-at t) opening.Post
 opening-returns-4 t c =
-    (operand-not (c .before .before .before .before .before .before .before .before .before .before .before .before .before .before .before .args .head) (not-plain (c .before .before .before .before .before .before .before .before .before .before .before .before .before .match .keys2)) (c .before .before .before .before .before .before .before .before .before .before .before .before .take .ensures) (c .before .before .before .before .before .before .before .before .before .before .enum-told2 .given .1) (c .before .before .before .before .before .before .before .reducing .ensures .0) (c .before .before .before .before .before .enum-told3 .given .1) (c .before .before .before .prefixed .ensures) (c .before .before .before .before .at .ensures) (c .before .start .ensures .0) (not-done (c .match4 .keys2)), spent (goes-on (counted-comes (c .before .before .before .before .before .before .before .before .before .before .before .before .take .ensures) (c .before .before .before .before .before .before .before .before .before .before .enum-told2 .given .1)) (goes-on (c .before .before .before .before .before .before .before .reducing .ensures .1 .done (c .before .before .before .before .before .enum-told3 .given .1)) (nests (c .before .before .before .before .at .ensures)))) (c .before .start .ensures .1) (omega arith))
+    (operand-not (c .before .before .before .before .before .before .before .before .before .before .before .before .before .args .head) (not-plain (c .before .before .before .before .before .before .before .before .before .before .before .match .keys2)) (c .before .before .before .before .before .before .before .before .before .before .take .ensures) (c .before .before .before .before .before .before .before .before .enum-told2 .given .1) (c .before .before .before .before .before .before .before .reducing .ensures .0) (c .before .before .before .before .before .enum-told3 .given .1) (c .before .before .before .prefixed .ensures) (c .before .before .before .before .at .ensures) (c .before .start .ensures .0) (not-done (c .match4 .keys2)), spent (goes-on (counted-comes (c .before .before .before .before .before .before .before .before .before .before .take .ensures) (c .before .before .before .before .before .before .before .before .enum-told2 .given .1)) (goes-on (c .before .before .before .before .before .before .before .reducing .ensures .1 .done (c .before .before .before .before .before .enum-told3 .given .1)) (nests (c .before .before .before .before .at .ensures)))) (c .before .start .ensures .1) (omega arith))
 
 opening-add-prefix-requires : (t : ℕ) → opening-lts.Need-add-prefix-requires (opening-calls t) (opening-at t) opening.Post
 opening-add-prefix-requires t c κs = search needs
 
 opening-returns-5 : (t : ℕ) → opening-lts.Need-returns-5 (opening-calls t) (opening-at t) opening.Post
 opening-returns-5 t c =
-    (opening-says (c .before .before .before .before .before .before .before .before .before .before .before .before .before .before .before .before .before .before .before .before .args .head) (not-plain (c .before .before .before .before .before .before .before .before .before .before .before .before .before .before .before .before .before .before .match .keys2)) (c .before .before .before .before .before .before .before .before .before .before .before .before .before .before .before .before .before .take .ensures) (c .before .before .before .before .before .before .before .before .before .before .before .before .before .before .before .enum-told2 .given .1) (c .before .before .before .before .before .before .before .before .before .before .before .before .reducing .ensures .0) (c .before .before .before .before .before .before .before .before .before .before .enum-told3 .given .1) (c .before .before .before .before .before .before .before .before .prefixed .ensures) (c .before .before .before .before .before .before .before .before .before .at .ensures) (c .before .before .before .before .before .before .start .ensures .0) (c .before .before .before .before .enum-told4 .given .1) (c .add-prefix .ensures), spent (goes-on (counted-comes (c .before .before .before .before .before .before .before .before .before .before .before .before .before .before .before .before .before .take .ensures) (c .before .before .before .before .before .before .before .before .before .before .before .before .before .before .before .enum-told2 .given .1)) (goes-on (c .before .before .before .before .before .before .before .before .before .before .before .before .reducing .ensures .1 .done (c .before .before .before .before .before .before .before .before .before .before .enum-told3 .given .1)) (goes-on (nests (c .before .before .before .before .before .before .before .before .before .at .ensures)) (goes-on (c .before .before .before .before .before .before .start .ensures .1 .done (c .before .before .before .before .enum-told4 .given .1)) eases)))) (gained-spends (c .add-prefix .ensures)) (omega arith))
+    (opening-says (c .before .before .before .before .before .before .before .before .before .before .before .before .before .before .before .before .args .head) (not-plain (c .before .before .before .before .before .before .before .before .before .before .before .before .before .before .match .keys2)) (c .before .before .before .before .before .before .before .before .before .before .before .before .before .take .ensures) (c .before .before .before .before .before .before .before .before .before .before .before .enum-told2 .given .1) (c .before .before .before .before .before .before .before .before .before .before .reducing .ensures .0) (c .before .before .before .before .before .before .before .before .enum-told3 .given .1) (c .before .before .before .before .before .before .prefixed .ensures) (c .before .before .before .before .before .before .before .at .ensures) (c .before .before .before .before .start .ensures .0) (c .before .before .enum-told4 .given .1) (c .add-prefix .ensures), spent (goes-on (counted-comes (c .before .before .before .before .before .before .before .before .before .before .before .before .before .take .ensures) (c .before .before .before .before .before .before .before .before .before .before .before .enum-told2 .given .1)) (goes-on (c .before .before .before .before .before .before .before .before .before .before .reducing .ensures .1 .done (c .before .before .before .before .before .before .before .before .enum-told3 .given .1)) (goes-on (nests (c .before .before .before .before .before .before .before .at .ensures)) (goes-on (c .before .before .before .before .start .ensures .1 .done (c .before .before .enum-told4 .given .1)) eases)))) (gained-spends (c .add-prefix .ensures)) (omega arith))
 
 operation-take-requires : (t : ℕ) → operation-lts.Need-take-requires (operation-calls t) (operation-at t) operation.Post
 operation-take-requires t c κs = search needs
@@ -723,21 +723,21 @@ operation-cut-requires t c κs = search needs
 
 operation-returns-2 : (t : ℕ) → operation-lts.Need-returns-2 (operation-calls t) (operation-at t) operation.Post
 operation-returns-2 t c =
-    (cut-operation (c .before .before .before .before .before .before .before .before .before .take .ensures) (c .before .before .before .before .before .before .before .enum-told .given .1) (c .before .before .before .enum-told2 .given .1) (c .before .before .number .ensures) (c .cut .ensures .0, c .cut .ensures .1), spent (counted-comes (c .before .before .before .before .before .before .before .before .before .take .ensures) (c .before .before .before .before .before .before .before .enum-told .given .1)) (c .cut .ensures .2) (omega arith))
+    (cut-operation (c .before .before .before .before .before .before .before .take .ensures) (c .before .before .before .before .before .enum-told .given .1) (c .before .before .before .enum-told2 .given .1) (c .before .before .number .ensures) (c .cut .ensures .0, c .cut .ensures .1), spent (counted-comes (c .before .before .before .before .before .before .before .take .ensures) (c .before .before .before .before .before .enum-told .given .1)) (c .cut .ensures .2) (omega arith))
 
 operation-operand-requires : (t : ℕ) → operation-lts.Need-operand-requires (operation-calls t) (operation-at t) operation.Post
 operation-operand-requires t c κs = search needs
 
 operation-start-requires : (t : ℕ) → operation-lts.Need-start-requires (operation-calls t) (operation-at t) operation.Post
 operation-start-requires t c κs =
-    let p = c .before .before .before .before .before .before .before .take .ensures .done (c .before .before .before .before .before .enum-told .given .1) in let g : c .before .before .before .before .before .before .before .take .result .state .nesting ≡ c .before .before .before .before .before .before .before .before .before .args .s .nesting = ap (λ (k : Counts). k .nesting) (p .counts) in let m : topNo (c .before .operand .result) ≤ rankNo (c .before .before .before .before .before .before .before .before .before .args .rank) = subst (λ (v : Level). topNo v ≤ rankNo (c .before .before .before .before .before .before .before .before .before .args .rank)) (sym (c .before .operand .ensures)) (operand-tighter (c .before .before .before .before .before .before .before .before .before .args .rank)) in search needs
+    let p = c .before .before .before .before .before .take .ensures .done (c .before .before .before .enum-told .given .1) in let g : c .before .before .before .before .before .take .result .state .nesting ≡ c .before .before .before .before .before .before .before .args .s .nesting = ap (λ (k : Counts). k .nesting) (p .counts) in let m : topNo (c .before .operand .result) ≤ rankNo (c .before .before .before .before .before .before .before .args .rank) = subst (λ (v : Level). topNo v ≤ rankNo (c .before .before .before .before .before .before .before .args .rank)) (sym (c .before .operand .ensures)) (operand-tighter (c .before .before .before .before .before .before .before .args .rank)) in search needs
 
 operation-enum-told-3 : (t : ℕ) → operation-lts.Need-enum-told-3 (operation-calls t) (operation-at t) operation.Post
 operation-enum-told-3 t c = search needs
 
 operation-returns-3 : (t : ℕ) → operation-lts.Need-returns-3 (operation-calls t) (operation-at t) operation.Post
 operation-returns-3 t c =
-    (right-not (c .before .before .before .before .before .before .before .before .before .take .ensures) (c .before .before .before .before .before .before .before .enum-told .given .1) (c .before .before .before .before .before .before .before .before .before .before .before .args .rank) (not-cut (c .before .before .before .before .match2 .keys2)) (c .before .before .before .operand .ensures) (c .before .start .ensures .0) (not-done (c .match3 .keys2)), spent (counted-comes (c .before .before .before .before .before .before .before .before .before .take .ensures) (c .before .before .before .before .before .before .before .enum-told .given .1)) (c .before .start .ensures .1) (omega arith))
+    (right-not (c .before .before .before .before .before .before .before .take .ensures) (c .before .before .before .before .before .enum-told .given .1) (c .before .before .before .before .before .before .before .before .before .args .rank) (not-cut (c .before .before .before .before .match2 .keys2)) (c .before .before .before .operand .ensures) (c .before .start .ensures .0) (not-done (c .match3 .keys2)), spent (counted-comes (c .before .before .before .before .before .before .before .take .ensures) (c .before .before .before .before .before .enum-told .given .1)) (c .before .start .ensures .1) (omega arith))
 
 operation-last-requires : (t : ℕ) → operation-lts.Need-last-requires (operation-calls t) (operation-at t) operation.Post
 operation-last-requires t c κs = search needs
@@ -747,7 +747,7 @@ operation-add-binary-requires t c κs = search needs
 
 operation-returns-4 : (t : ℕ) → operation-lts.Need-returns-4 (operation-calls t) (operation-at t) operation.Post
 operation-returns-4 t c =
-    (operation-says (c .before .before .before .before .before .before .before .before .before .before .before .before .before .before .before .take .ensures) (c .before .before .before .before .before .before .before .before .before .before .before .before .before .enum-told .given .1) (c .before .before .before .before .before .before .before .before .before .before .before .before .before .before .before .before .before .args .rank) (not-cut (c .before .before .before .before .before .before .before .before .before .before .match2 .keys2)) (c .before .before .before .before .before .before .before .before .before .operand .ensures) (c .before .before .before .before .before .before .before .start .ensures .0) (c .before .before .before .before .before .enum-told3 .given .1) (c .before .before .last .ensures) (c .add-binary .ensures), spent (goes-on (counted-comes (c .before .before .before .before .before .before .before .before .before .before .before .before .before .before .before .take .ensures) (c .before .before .before .before .before .before .before .before .before .before .before .before .before .enum-told .given .1)) (c .before .before .before .before .before .before .before .start .ensures .1 .done (c .before .before .before .before .before .enum-told3 .given .1))) (gained-spends (c .add-binary .ensures)) (omega arith))
+    (operation-says (c .before .before .before .before .before .before .before .before .before .before .before .take .ensures) (c .before .before .before .before .before .before .before .before .before .enum-told .given .1) (c .before .before .before .before .before .before .before .before .before .before .before .before .before .args .rank) (not-cut (c .before .before .before .before .before .before .before .before .match2 .keys2)) (c .before .before .before .before .before .before .before .operand .ensures) (c .before .before .before .before .before .start .ensures .0) (c .before .before .before .enum-told3 .given .1) (c .before .before .last .ensures) (c .add-binary .ensures), spent (goes-on (counted-comes (c .before .before .before .before .before .before .before .before .before .before .before .take .ensures) (c .before .before .before .before .before .before .before .before .before .enum-told .given .1)) (c .before .before .before .before .before .start .ensures .1 .done (c .before .before .before .enum-told3 .given .1))) (gained-spends (c .add-binary .ensures)) (omega arith))
 
 reference-number-requires : (t : ℕ) → reference-lts.Need-number-requires (reference-calls t) (reference-at t) reference.Post
 reference-number-requires t c κs = search needs
@@ -764,11 +764,11 @@ reference-returns t c =
 
 reference-subscript-requires : (t : ℕ) → reference-lts.Need-subscript-requires (reference-calls t) (reference-at t) reference.Post
 reference-subscript-requires t c κs =
-    let p = c .before .before .before .before .before .take .ensures .done (c .before .before .before .enum-told .given .1) in let g : c .before .before .before .before .before .take .result .state .nesting ≡ suc (c .before .before .before .before .before .before .before .before .before .args .s .nesting) = ap (λ (k : Counts). k .nesting) (p .counts) in let d : c .before .before .before .before .before .take .result .state .nesting ≤ 24 = p .deep in search needs
+    let p = c .before .before .before .take .ensures .done (c .before .enum-told .given .1) in let g : c .before .before .before .take .result .state .nesting ≡ suc (c .before .before .before .before .before .before .before .args .s .nesting) = ap (λ (k : Counts). k .nesting) (p .counts) in let d : c .before .before .before .take .result .state .nesting ≤ 24 = p .deep in search needs
 
 reference-returns-2 : (t : ℕ) → reference-lts.Need-returns-2 (reference-calls t) (reference-at t) reference.Post
 reference-returns-2 t c =
-    (reference-says (c .before .before .before .before .before .before .before .before .before .before .args .name) (sym (c .before .before .before .before .before .before .before .before .number .ensures) ∙ c .before .before .before .before .before .before .before .if1 .taken) (c .before .before .before .before .before .before .take .ensures) (c .before .before .before .before .enum-told .given .1) (c .subscript .ensures .0), spent (took-comes (c .before .before .before .before .before .before .take .ensures) (c .before .before .before .before .enum-told .given .1)) (c .subscript .ensures .1) (omega arith))
+    (reference-says (c .before .before .before .before .before .before .before .before .args .name) (sym (c .before .before .before .before .before .before .number .ensures) ∙ c .before .before .before .before .before .if1 .taken) (c .before .before .before .before .take .ensures) (c .before .before .enum-told .given .1) (c .subscript .ensures .0), spent (took-comes (c .before .before .before .before .take .ensures) (c .before .before .enum-told .given .1)) (c .subscript .ensures .1) (omega arith))
 
 reference-add-whole-requires : (t : ℕ) → reference-lts.Need-add-whole-requires (reference-calls t) (reference-at t) reference.Post
 reference-add-whole-requires t c κs = search needs
@@ -840,7 +840,7 @@ second-enum-told-2 t c = search needs
 
 second-returns-3 : (t : ℕ) → second-lts.Need-returns-3 (second-calls t) (second-at t) second.Post
 second-returns-3 t c =
-    (end-not (c .before .before .before .before .before .before .before .before .before .before .before .args .name) (c .before .before .before .before .before .before .before .before .before .ends-ahead .ensures) (c .before .before .before .before .before .before .before .before .if1 .left) (c .before .before .before .before .before .before .inside .ensures .0) (c .before .before .before .before .enum-told .given .1) (c .before .expect .ensures) (not-done (c .match2 .keys2)), unexpected (c .before .expect .ensures) (not-done (c .match2 .keys2)))
+    (end-not (c .before .before .before .before .before .before .before .before .before .args .name) (c .before .before .before .before .before .before .before .ends-ahead .ensures) (c .before .before .before .before .before .before .if1 .left) (c .before .before .before .before .inside .ensures .0) (c .before .before .enum-told .given .1) (c .before .expect .ensures) (not-done (c .match2 .keys2)), unexpected (c .before .expect .ensures) (not-done (c .match2 .keys2)))
 
 second-last-requires : (t : ℕ) → second-lts.Need-last-requires (second-calls t) (second-at t) second.Post
 second-last-requires t c κs = search needs
@@ -853,7 +853,7 @@ second-add-two-requires t c κs = search needs
 
 second-returns-4 : (t : ℕ) → second-lts.Need-returns-4 (second-calls t) (second-at t) second.Post
 second-returns-4 t c =
-    (second-says (c .before .before .before .before .before .before .before .before .before .before .before .before .before .before .before .before .before .before .args .name) (c .before .before .before .before .before .before .before .before .before .before .before .before .before .before .before .before .ends-ahead .ensures) (c .before .before .before .before .before .before .before .before .before .before .before .before .before .before .before .if1 .left) (c .before .before .before .before .before .before .before .before .before .before .before .before .before .inside .ensures .0) (c .before .before .before .before .before .before .before .before .before .before .before .enum-told .given .1) (c .before .before .before .before .before .before .before .before .expect .ensures) (c .before .before .before .before .before .before .enum-told2 .given .1) (c .before .before .before .last .ensures) (c .before .before .last2 .ensures) (c .add-two .ensures), spent (goes-on (c .before .before .before .before .before .before .before .before .before .before .before .before .before .inside .ensures .1 .done (c .before .before .before .before .before .before .before .before .before .before .before .enum-told .given .1)) (expected-comes (c .before .before .before .before .before .before .before .before .expect .ensures) (omega arith) (c .before .before .before .before .before .before .enum-told2 .given .1))) (adds-spends (c .add-two .ensures)) (omega arith))
+    (second-says (c .before .before .before .before .before .before .before .before .before .before .before .before .before .before .args .name) (c .before .before .before .before .before .before .before .before .before .before .before .before .ends-ahead .ensures) (c .before .before .before .before .before .before .before .before .before .before .before .if1 .left) (c .before .before .before .before .before .before .before .before .before .inside .ensures .0) (c .before .before .before .before .before .before .before .enum-told .given .1) (c .before .before .before .before .before .before .expect .ensures) (c .before .before .before .before .enum-told2 .given .1) (c .before .before .before .last .ensures) (c .before .before .last2 .ensures) (c .add-two .ensures), spent (goes-on (c .before .before .before .before .before .before .before .before .before .inside .ensures .1 .done (c .before .before .before .before .before .before .before .enum-told .given .1)) (expected-comes (c .before .before .before .before .before .before .expect .ensures) (omega arith) (c .before .before .before .before .enum-told2 .given .1))) (adds-spends (c .add-two .ensures)) (omega arith))
 
 single-number-requires : (t : ℕ) → single-lts.Need-number-requires (single-calls t) (single-at t) single.Post
 single-number-requires t c κs = search needs
@@ -870,11 +870,11 @@ single-returns t c =
 
 single-second-requires : (t : ℕ) → single-lts.Need-second-requires (single-calls t) (single-at t) single.Post
 single-second-requires t c κs =
-    let p = c .before .before .before .before .before .take .ensures .done (c .before .before .before .enum-told .given .1) in let g : c .before .before .before .before .before .take .result .state .nesting ≡ suc (c .before .before .before .before .before .before .before .before .before .args .s .nesting) = ap (λ (k : Counts). k .nesting) (p .counts) in let d : c .before .before .before .before .before .take .result .state .nesting ≤ 24 = p .deep in search needs
+    let p = c .before .before .before .take .ensures .done (c .before .enum-told .given .1) in let g : c .before .before .before .take .result .state .nesting ≡ suc (c .before .before .before .before .before .before .before .args .s .nesting) = ap (λ (k : Counts). k .nesting) (p .counts) in let d : c .before .before .before .take .result .state .nesting ≤ 24 = p .deep in search needs
 
 single-returns-2 : (t : ℕ) → single-lts.Need-returns-2 (single-calls t) (single-at t) single.Post
 single-returns-2 t c =
-    (single-says (c .before .before .before .before .before .before .before .before .before .before .args .name) (sym (c .before .before .before .before .before .before .before .before .number .ensures) ∙ c .before .before .before .before .before .before .before .if1 .taken) (c .before .before .before .before .before .before .take .ensures) (c .before .before .before .before .enum-told .given .1) (c .second .ensures .0), spent (took-comes (c .before .before .before .before .before .before .take .ensures) (c .before .before .before .before .enum-told .given .1)) (c .second .ensures .1) (omega arith))
+    (single-says (c .before .before .before .before .before .before .before .before .args .name) (sym (c .before .before .before .before .before .before .number .ensures) ∙ c .before .before .before .before .before .if1 .taken) (c .before .before .before .before .take .ensures) (c .before .before .enum-told .given .1) (c .second .ensures .0), spent (took-comes (c .before .before .before .before .take .ensures) (c .before .before .enum-told .given .1)) (c .second .ensures .1) (omega arith))
 
 single-last-requires : (t : ℕ) → single-lts.Need-last-requires (single-calls t) (single-at t) single.Post
 single-last-requires t c κs = search needs
@@ -948,18 +948,18 @@ subscript-enum-told-2 t c = search needs
 
 subscript-returns-3 : (t : ℕ) → subscript-lts.Need-returns-3 (subscript-calls t) (subscript-at t) subscript.Post
 subscript-returns-3 t c =
-    (comma-not (c .before .before .before .before .before .before .before .before .before .before .before .before .before .args .name) (c .before .before .before .before .before .before .before .before .before .before .before .ends-ahead .ensures) (c .before .before .before .before .before .before .before .before .before .before .if1 .left) (c .before .before .before .before .before .before .before .before .inside .ensures .0) (c .before .before .before .before .before .before .enum-told .given .1) (sym (c .before .before .before .number .ensures) ∙ c .before .before .if2 .taken) (c .before .take .ensures) (not-done (c .match2 .keys2)), not-took (c .before .take .ensures) (not-done (c .match2 .keys2)))
+    (comma-not (c .before .before .before .before .before .before .before .before .before .before .before .before .args .name) (c .before .before .before .before .before .before .before .before .before .before .ends-ahead .ensures) (c .before .before .before .before .before .before .before .before .before .if1 .left) (c .before .before .before .before .before .before .before .inside .ensures .0) (c .before .before .before .before .before .enum-told .given .1) (sym (c .before .before .before .number .ensures) ∙ c .before .before .if2 .taken) (c .before .take .ensures) (not-done (c .match2 .keys2)), not-took (c .before .take .ensures) (not-done (c .match2 .keys2)))
 
 subscript-at-requires : (t : ℕ) → subscript-lts.Need-at-requires (subscript-calls t) (subscript-at t) subscript.Post
 subscript-at-requires t c κs = search needs
 
 subscript-second-requires : (t : ℕ) → subscript-lts.Need-second-requires (subscript-calls t) (subscript-at t) subscript.Post
 subscript-second-requires t c κs =
-    let e = c .before .before .before .before .before .before .before .before .before .before .before .before .before .before .before .before .pre .0 in let h : c .before .at .result .nesting ≡ c .before .before .before .before .before .before .before .before .before .before .before .before .before .before .before .before .args .s .nesting = ap (λ (q : State). q .nesting) (c .before .at .ensures) in search needs
+    let e = c .before .before .before .before .before .before .before .before .before .before .before .before .before .before .before .pre .0 in let h : c .before .at .result .nesting ≡ c .before .before .before .before .before .before .before .before .before .before .before .before .before .before .before .args .s .nesting = ap (λ (q : State). q .nesting) (c .before .at .ensures) in search needs
 
 subscript-returns-4 : (t : ℕ) → subscript-lts.Need-returns-4 (subscript-calls t) (subscript-at t) subscript.Post
 subscript-returns-4 t c =
-    (comma-says (c .before .before .before .before .before .before .before .before .before .before .before .before .before .before .before .before .before .args .name) (c .before .before .before .before .before .before .before .before .before .before .before .before .before .before .before .ends-ahead .ensures) (c .before .before .before .before .before .before .before .before .before .before .before .before .before .before .if1 .left) (c .before .before .before .before .before .before .before .before .before .before .before .before .inside .ensures .0) (c .before .before .before .before .before .before .before .before .before .before .enum-told .given .1) (sym (c .before .before .before .before .before .before .before .number .ensures) ∙ c .before .before .before .before .before .before .if2 .taken) (c .before .before .before .before .before .take .ensures) (c .before .before .before .enum-told2 .given .1) (c .before .before .at .ensures) (c .second .ensures .0), spent (goes-on (c .before .before .before .before .before .before .before .before .before .before .before .before .inside .ensures .1 .done (c .before .before .before .before .before .before .before .before .before .before .enum-told .given .1)) (goes-on (took-comes (c .before .before .before .before .before .take .ensures) (c .before .before .before .enum-told2 .given .1)) (nests (c .before .before .at .ensures)))) (c .second .ensures .1) (omega arith))
+    (comma-says (c .before .before .before .before .before .before .before .before .before .before .before .before .before .before .before .before .args .name) (c .before .before .before .before .before .before .before .before .before .before .before .before .before .before .ends-ahead .ensures) (c .before .before .before .before .before .before .before .before .before .before .before .before .before .if1 .left) (c .before .before .before .before .before .before .before .before .before .before .before .inside .ensures .0) (c .before .before .before .before .before .before .before .before .before .enum-told .given .1) (sym (c .before .before .before .before .before .before .before .number .ensures) ∙ c .before .before .before .before .before .before .if2 .taken) (c .before .before .before .before .before .take .ensures) (c .before .before .before .enum-told2 .given .1) (c .before .before .at .ensures) (c .second .ensures .0), spent (goes-on (c .before .before .before .before .before .before .before .before .before .before .before .inside .ensures .1 .done (c .before .before .before .before .before .before .before .before .before .enum-told .given .1)) (goes-on (took-comes (c .before .before .before .before .before .take .ensures) (c .before .before .before .enum-told2 .given .1)) (nests (c .before .before .at .ensures)))) (c .second .ensures .1) (omega arith))
 
 subscript-expect-requires : (t : ℕ) → subscript-lts.Need-expect-requires (subscript-calls t) (subscript-at t) subscript.Post
 subscript-expect-requires t c κs = search needs
@@ -969,7 +969,7 @@ subscript-enum-told-3 t c = search needs
 
 subscript-returns-5 : (t : ℕ) → subscript-lts.Need-returns-5 (subscript-calls t) (subscript-at t) subscript.Post
 subscript-returns-5 t c =
-    (close-not (c .before .before .before .before .before .before .before .before .before .before .before .before .before .args .name) (c .before .before .before .before .before .before .before .before .before .before .before .ends-ahead .ensures) (c .before .before .before .before .before .before .before .before .before .before .if1 .left) (c .before .before .before .before .before .before .before .before .inside .ensures .0) (c .before .before .before .before .before .before .enum-told .given .1) (λ e. c .before .before .if2 .left (c .before .before .before .number .ensures ∙ e)) (c .before .expect .ensures) (not-done (c .match3 .keys2)), unexpected (c .before .expect .ensures) (not-done (c .match3 .keys2)))
+    (close-not (c .before .before .before .before .before .before .before .before .before .before .before .before .args .name) (c .before .before .before .before .before .before .before .before .before .before .ends-ahead .ensures) (c .before .before .before .before .before .before .before .before .before .if1 .left) (c .before .before .before .before .before .before .before .inside .ensures .0) (c .before .before .before .before .before .enum-told .given .1) (λ e. c .before .before .if2 .left (c .before .before .before .number .ensures ∙ e)) (c .before .expect .ensures) (not-done (c .match3 .keys2)), unexpected (c .before .expect .ensures) (not-done (c .match3 .keys2)))
 
 subscript-last-requires : (t : ℕ) → subscript-lts.Need-last-requires (subscript-calls t) (subscript-at t) subscript.Post
 subscript-last-requires t c κs = search needs
@@ -979,11 +979,11 @@ subscript-at-requires-2 t c κs = search needs
 
 subscript-single-requires : (t : ℕ) → subscript-lts.Need-single-requires (subscript-calls t) (subscript-at t) subscript.Post
 subscript-single-requires t c κs =
-    let e = c .before .before .before .before .before .before .before .before .before .before .before .before .before .before .before .before .before .pre .0 in let h : c .before .at2 .result .nesting ≡ c .before .before .last .result = ap (λ (q : State). q .nesting) (c .before .at2 .ensures) in let g : c .before .before .last .result ≡ c .before .before .before .before .before .before .before .before .before .before .before .before .before .before .before .before .before .args .s .nesting - 1 = c .before .before .last .ensures in search needs
+    let e = c .before .before .before .before .before .before .before .before .before .before .before .before .before .before .before .before .pre .0 in let h : c .before .at2 .result .nesting ≡ c .before .before .last .result = ap (λ (q : State). q .nesting) (c .before .at2 .ensures) in let g : c .before .before .last .result ≡ c .before .before .before .before .before .before .before .before .before .before .before .before .before .before .before .before .args .s .nesting - 1 = c .before .before .last .ensures in search needs
 
 subscript-returns-6 : (t : ℕ) → subscript-lts.Need-returns-6 (subscript-calls t) (subscript-at t) subscript.Post
 subscript-returns-6 t c =
-    (close-says (c .before .before .before .before .before .before .before .before .before .before .before .before .before .before .before .before .before .before .args .name) (c .before .before .before .before .before .before .before .before .before .before .before .before .before .before .before .before .ends-ahead .ensures) (c .before .before .before .before .before .before .before .before .before .before .before .before .before .before .before .if1 .left) (c .before .before .before .before .before .before .before .before .before .before .before .before .before .inside .ensures .0) (c .before .before .before .before .before .before .before .before .before .before .before .enum-told .given .1) (λ e. c .before .before .before .before .before .before .before .if2 .left (c .before .before .before .before .before .before .before .before .number .ensures ∙ e)) (c .before .before .before .before .before .before .expect .ensures) (c .before .before .before .before .enum-told3 .given .1) (c .before .before .before .last .ensures) (c .before .before .at2 .ensures) (c .single .ensures .0), spent (goes-on (c .before .before .before .before .before .before .before .before .before .before .before .before .before .inside .ensures .1 .done (c .before .before .before .before .before .before .before .before .before .before .before .enum-told .given .1)) (goes-on (expected-comes (c .before .before .before .before .before .before .expect .ensures) (omega arith) (c .before .before .before .before .enum-told3 .given .1)) (nests (c .before .before .at2 .ensures)))) (c .single .ensures .1) (omega arith))
+    (close-says (c .before .before .before .before .before .before .before .before .before .before .before .before .before .before .before .before .before .args .name) (c .before .before .before .before .before .before .before .before .before .before .before .before .before .before .before .ends-ahead .ensures) (c .before .before .before .before .before .before .before .before .before .before .before .before .before .before .if1 .left) (c .before .before .before .before .before .before .before .before .before .before .before .before .inside .ensures .0) (c .before .before .before .before .before .before .before .before .before .before .enum-told .given .1) (λ e. c .before .before .before .before .before .before .before .if2 .left (c .before .before .before .before .before .before .before .before .number .ensures ∙ e)) (c .before .before .before .before .before .before .expect .ensures) (c .before .before .before .before .enum-told3 .given .1) (c .before .before .before .last .ensures) (c .before .before .at2 .ensures) (c .single .ensures .0), spent (goes-on (c .before .before .before .before .before .before .before .before .before .before .before .before .inside .ensures .1 .done (c .before .before .before .before .before .before .before .before .before .before .enum-told .given .1)) (goes-on (expected-comes (c .before .before .before .before .before .before .expect .ensures) (omega arith) (c .before .before .before .before .enum-told3 .given .1)) (nests (c .before .before .at2 .ensures)))) (c .single .ensures .1) (omega arith))
 
 abbrev tail-Inv-loop : tail-lts.InvT-loop
 tail-Inv-loop s rank text work₀ state₀ next₀ left₀ work state next left = Tails rank text next₀ s work₀ next state work left × (Seen text next₀ → Comes text 0 0 s next state)
