@@ -16,28 +16,47 @@ use operands::cuts;
 use operands::nodes;
 use pieces::Armed;
 use words::Word;
+ghost use mathlib.Core.Bool.{false, true};
 ghost use mathlib.Core.List.{[], _∷_};
 ghost use mathlib.Core.Path.{_≡_};
 ghost use Prim.Native.Nat.{_-_, _≤_};
 ghost use Rattle.language.specs.Machine as L;
 ghost use Rattle.language.specs.Machine.{ask};
 ghost use Rattle.course.specs.Course.{kindNo};
+ghost use Rattle.course.specs.declared.Verdict.the-variants.{Done};
 ghost use Rattle.course.specs.Pays.{Spends};
 ghost use Rattle.course.specs.Says.{Extends, Parses};
 ghost use Rattle.levels.specs.Orders.{stackOf, tailStack, tailsFrom};
 ghost use Rattle.pieces.specs.Phrases.{Arms, Begins, FirstArm, Inside, MoreArms, NextArm, Operates, Second, afterName, choiceWord, same};
 
+// The number of a word's kind.
+fn kind_of(w: Word) -> u8
+    ensures { λ r. ⌜ r ≡ kindNo (w .kind) ⌝ }
+{
+    let kind = w.kind;
+    kinds::number(kind)
+}
+
+// Whether a part of the text was not read: then its answer is the whole's.
+fn stopped(a: Answer) -> bool
+    ensures { λ r. ⌜ (r ≡ false → a .verdict ≡ Done) × (r ≡ true → a .verdict ≡ Done → ⊥) ⌝ }
+{
+    let verdict = a.verdict;
+    let Verdict::Done = verdict else {
+        return true;
+    };
+    false
+}
+
 // An expression of a level.
 pub fn start(s: State, level: Level, text: &[u8], w: Word, work: &mut [u8; 275296]) -> Answer
     ensures { λ r. ⌜ Parses (stackOf level) same (s .nesting) (now (text .entry)) w s (now (work .entry)) (now (work .exit)) r × Spends (now (text .entry)) 0 w s r ⌝ }
 {
-    let kind = w.kind;
-    let head = heads::head_of(level, kinds::number(kind));
+    let head = heads::head_of(level, kind_of(w));
     let first = opening(s, head, text, w, work);
-    let verdict = first.verdict;
-    let Verdict::Done = verdict else {
+    if stopped(first) {
         return first;
-    };
+    }
     let state = pieces::at(first.state, s.nesting);
     rest(state, heads::after(head), level, text, first.next, work)
 }
@@ -50,26 +69,19 @@ fn opening(s: State, head: Head, text: &[u8], w: Word, work: &mut [u8; 275296]) 
         return term(s, text, w, work);
     }
     let taken = taking::take(text, w, s, true, Bearing::Opens);
-    let verdict = taken.verdict;
-    let Verdict::Done = verdict else {
+    if stopped(taken) {
         return taken;
-    };
-    let state = taken.state;
-    let next = taken.next;
-    let red = pieces::reducing(state, head, text, next);
-    let verdict = red.verdict;
-    let Verdict::Done = verdict else {
+    }
+    let red = pieces::reducing(taken.state, head, text, taken.next);
+    if stopped(red) {
         return red;
-    };
+    }
     let inner = pieces::at(red.state, taken.state.nesting);
     let operand = start(inner, heads::prefixed(head), text, red.next, work);
-    let verdict = operand.verdict;
-    let Verdict::Done = verdict else {
+    if stopped(operand) {
         return operand;
-    };
-    let state = operand.state;
-    let next = operand.next;
-    pieces::add_prefix(state, w, next, work)
+    }
+    pieces::add_prefix(operand.state, w, operand.next, work)
 }
 
 // The operators of a level from a rank on, behind an operand.
@@ -78,10 +90,9 @@ fn rest(s: State, rank: Rank, level: Level, text: &[u8], w: Word, work: &mut [u8
 {
     if ranks::within(rank, level) {
         let more = tail(s, rank, text, w, work);
-        let verdict = more.verdict;
-        let Verdict::Done = verdict else {
+        if stopped(more) {
             return more;
-        };
+        }
         let state = pieces::at(more.state, s.nesting);
         return rest(state, ranks::next(rank), level, text, more.next, work);
     }
@@ -98,10 +109,9 @@ fn tail(s: State, rank: Rank, text: &[u8], w: Word, work: &mut [u8; 275296]) -> 
     while left > 0 {
         if pieces::operates(rank, next) {
             let one = operation(pieces::at(state, s.nesting), rank, text, next, work);
-            let verdict = one.verdict;
-            let Verdict::Done = verdict else {
+            if stopped(one) {
                 return one;
-            };
+            }
             if pieces::once(rank) {
                 return one;
             }
@@ -120,32 +130,24 @@ fn operation(s: State, rank: Rank, text: &[u8], w: Word, work: &mut [u8; 275296]
     ensures { λ r. ⌜ Operates rank (now (text .entry)) w s (now (work .entry)) (now (work .exit)) r × Spends (now (text .entry)) 1 w s r ⌝ }
 {
     let taken = taking::take(text, w, s, true, Bearing::Level);
-    let verdict = taken.verdict;
-    let Verdict::Done = verdict else {
+    if stopped(taken) {
         return taken;
-    };
-    let state = taken.state;
-    let next = taken.next;
-    if let Rank::Cut = rank {
-        let kind = w.kind;
-        return cuts::cut(state, kinds::number(kind), w, text, next, work);
     }
-    let right = start(state, ranks::operand(rank), text, next, work);
-    let verdict = right.verdict;
-    let Verdict::Done = verdict else {
+    if let Rank::Cut = rank {
+        return cuts::cut(taken.state, kind_of(w), w, text, taken.next, work);
+    }
+    let right = start(taken.state, ranks::operand(rank), text, taken.next, work);
+    if stopped(right) {
         return right;
-    };
-    let state = right.state;
-    let next = right.next;
-    pieces::add_binary(state, adding::last(s.nodes), w, next, work)
+    }
+    pieces::add_binary(right.state, adding::last(s.nodes), w, right.next, work)
 }
 
 // A term.
 fn term(s: State, text: &[u8], w: Word, work: &mut [u8; 275296]) -> Answer
     ensures { λ r. ⌜ Parses (ask L.term ∷ []) same (s .nesting) (now (text .entry)) w s (now (work .entry)) (now (work .exit)) r × Spends (now (text .entry)) 0 w s r ⌝ }
 {
-    let found = w.kind;
-    let kind = kinds::number(found);
+    let kind = kind_of(w);
     if kind == kinds::CONSTANT {
         return constants::constant(s, text, w, work);
     }
@@ -169,20 +171,20 @@ fn group(s: State, text: &[u8], w: Word, work: &mut [u8; 275296]) -> Answer
     ensures { λ r. ⌜ (kindNo (w .kind) ≡ 5 → Parses (ask L.term ∷ []) same (s .nesting) (now (text .entry)) w s (now (work .entry)) (now (work .exit)) r) × Spends (now (text .entry)) 0 w s r ⌝ }
 {
     let opened = taking::take(text, w, s, false, Bearing::Opens);
-    let verdict = opened.verdict;
-    let Verdict::Done = verdict else {
+    if stopped(opened) {
         return opened;
-    };
-    let state = opened.state;
-    let next = opened.next;
-    let inner = start(state, Level::Expression, text, next, work);
-    let verdict = inner.verdict;
-    let Verdict::Done = verdict else {
+    }
+    let inner = start(opened.state, Level::Expression, text, opened.next, work);
+    if stopped(inner) {
         return inner;
-    };
-    let state = inner.state;
-    let next = inner.next;
-    taking::expect(text, next, state, kinds::CLOSE_PAREN, Bearing::Closes)
+    }
+    taking::expect(
+        text,
+        inner.next,
+        inner.state,
+        kinds::CLOSE_PAREN,
+        Bearing::Closes,
+    )
 }
 
 // A reference, from its name on.
@@ -190,29 +192,22 @@ fn named(s: State, text: &[u8], w: Word, work: &mut [u8; 275296]) -> Answer
     ensures { λ r. ⌜ (kindNo (w .kind) ≡ 1 → Parses (ask L.term ∷ []) same (s .nesting) (now (text .entry)) w s (now (work .entry)) (now (work .exit)) r) × Spends (now (text .entry)) 0 w s r ⌝ }
 {
     let taken = taking::take(text, w, s, true, Bearing::Level);
-    let verdict = taken.verdict;
-    let Verdict::Done = verdict else {
+    if stopped(taken) {
         return taken;
-    };
-    let state = taken.state;
-    let next = taken.next;
-    reference(state, w, text, next, work)
+    }
+    reference(taken.state, w, text, taken.next, work)
 }
 
 // The rest of a reference, behind its name.
 pub fn reference(s: State, name: Word, text: &[u8], w: Word, work: &mut [u8; 275296]) -> Answer
     ensures { λ r. ⌜ Parses (ask L.subscripts ∷ []) (afterName name) (s .nesting) (now (text .entry)) w s (now (work .entry)) (now (work .exit)) r × Spends (now (text .entry)) 2 w s r ⌝ }
 {
-    let kind = w.kind;
-    if kinds::number(kind) == kinds::OPEN_BRACKET {
+    if kind_of(w) == kinds::OPEN_BRACKET {
         let opened = taking::take(text, w, s, false, Bearing::Opens);
-        let verdict = opened.verdict;
-        let Verdict::Done = verdict else {
+        if stopped(opened) {
             return opened;
-        };
-        let state = opened.state;
-        let next = opened.next;
-        return subscript(state, name, text, next, work);
+        }
+        return subscript(opened.state, name, text, opened.next, work);
     }
     nodes::add_whole(s, name, text, w, work)
 }
@@ -225,27 +220,27 @@ pub fn subscript(s: State, name: Word, text: &[u8], w: Word, work: &mut [u8; 275
         return pieces::part(s, name, text, w, work);
     }
     let first = inside(s, false, text, w, work);
-    let verdict = first.verdict;
-    let Verdict::Done = verdict else {
+    if stopped(first) {
         return first;
-    };
-    let state = first.state;
-    let next = first.next;
-    let kind = next.kind;
-    if kinds::number(kind) == kinds::COMMA {
-        let comma = taking::take(text, next, state, false, Bearing::Level);
-        let verdict = comma.verdict;
-        let Verdict::Done = verdict else {
+    }
+    if kind_of(first.next) == kinds::COMMA {
+        let comma = taking::take(text, first.next, first.state, false, Bearing::Level);
+        if stopped(comma) {
             return comma;
-        };
+        }
         let state = pieces::at(comma.state, s.nesting);
         return second(state, name, text, comma.next, work);
     }
-    let closed = taking::expect(text, next, state, kinds::CLOSE_BRACKET, Bearing::Closes);
-    let verdict = closed.verdict;
-    let Verdict::Done = verdict else {
+    let closed = taking::expect(
+        text,
+        first.next,
+        first.state,
+        kinds::CLOSE_BRACKET,
+        Bearing::Closes,
+    );
+    if stopped(closed) {
         return closed;
-    };
+    }
     let state = pieces::at(closed.state, adding::last(s.nesting));
     single(state, name, text, closed.next, work)
 }
@@ -254,16 +249,12 @@ pub fn subscript(s: State, name: Word, text: &[u8], w: Word, work: &mut [u8; 275
 fn single(s: State, name: Word, text: &[u8], w: Word, work: &mut [u8; 275296]) -> Answer
     ensures { λ r. ⌜ Second L.secondOption name (s .nesting) (now (text .entry)) w s (now (work .entry)) (now (work .exit)) r × Spends (now (text .entry)) 2 w s r ⌝ }
 {
-    let kind = w.kind;
-    if kinds::number(kind) == kinds::OPEN_BRACKET {
+    if kind_of(w) == kinds::OPEN_BRACKET {
         let opened = taking::take(text, w, s, false, Bearing::Opens);
-        let verdict = opened.verdict;
-        let Verdict::Done = verdict else {
+        if stopped(opened) {
             return opened;
-        };
-        let state = opened.state;
-        let next = opened.next;
-        return second(state, name, text, next, work);
+        }
+        return second(opened.state, name, text, opened.next, work);
     }
     nodes::add_one(s, name, adding::last(s.nodes), text, w, work)
 }
@@ -276,26 +267,26 @@ fn second(s: State, name: Word, text: &[u8], w: Word, work: &mut [u8; 275296]) -
         return pieces::word_part(s, name, text, w, work);
     }
     let other = inside(s, true, text, w, work);
-    let verdict = other.verdict;
-    let Verdict::Done = verdict else {
+    if stopped(other) {
         return other;
-    };
-    let state = other.state;
-    let next = other.next;
-    let closed = taking::expect(text, next, state, kinds::CLOSE_BRACKET, Bearing::Closes);
-    let verdict = closed.verdict;
-    let Verdict::Done = verdict else {
+    }
+    let closed = taking::expect(
+        text,
+        other.next,
+        other.state,
+        kinds::CLOSE_BRACKET,
+        Bearing::Closes,
+    );
+    if stopped(closed) {
         return closed;
-    };
-    let state = closed.state;
-    let next = closed.next;
+    }
     nodes::add_two(
-        state,
+        closed.state,
         name,
         adding::last(s.nodes),
-        adding::last(state.nodes),
+        adding::last(closed.state.nodes),
         text,
-        next,
+        closed.next,
         work,
     )
 }
@@ -304,18 +295,15 @@ fn second(s: State, name: Word, text: &[u8], w: Word, work: &mut [u8; 275296]) -
 fn inside(s: State, later: bool, text: &[u8], w: Word, work: &mut [u8; 275296]) -> Answer
     ensures { λ r. ⌜ Inside later (now (text .entry)) w s (now (work .entry)) (now (work .exit)) r × Spends (now (text .entry)) 0 w s r ⌝ }
 {
-    let kind = w.kind;
-    if kinds::number(kind) == kinds::CONSTANT {
+    if kind_of(w) == kinds::CONSTANT {
         let kept = taking::take(text, w, s, false, Bearing::Level);
-        let verdict = kept.verdict;
-        let Verdict::Done = verdict else {
+        if stopped(kept) {
             return kept;
-        };
+        }
         let constant = constants::counted(kept.state, w, kept.next, work);
-        let verdict = constant.verdict;
-        let Verdict::Done = verdict else {
+        if stopped(constant) {
             return constant;
-        };
+        }
         let state = pieces::at(constant.state, s.nesting);
         return rest(
             state,
@@ -334,34 +322,28 @@ fn choice(s: State, case: bool, text: &[u8], w: Word, work: &mut [u8; 275296]) -
     ensures { λ r. ⌜ (kindNo (w .kind) ≡ choiceWord case → Parses (ask L.term ∷ []) same (s .nesting) (now (text .entry)) w s (now (work .entry)) (now (work .exit)) r) × Spends (now (text .entry)) 0 w s r ⌝ }
 {
     let opened = taking::take(text, w, s, true, Bearing::Opens);
-    let verdict = opened.verdict;
-    let Verdict::Done = verdict else {
+    if stopped(opened) {
         return opened;
-    };
-    let state = opened.state;
-    let condition = start(state, Level::Expression, text, opened.next, work);
-    let verdict = condition.verdict;
-    let Verdict::Done = verdict else {
+    }
+    let condition = start(opened.state, Level::Expression, text, opened.next, work);
+    if stopped(condition) {
         return condition;
-    };
-    let before = pieces::at(condition.state, state.nesting);
+    }
+    let before = pieces::at(condition.state, opened.state.nesting);
     let chosen = arms(before, case, text, condition.next, work);
-    let answer = chosen.answer;
-    let verdict = answer.verdict;
-    let Verdict::Done = verdict else {
-        return answer;
-    };
+    if stopped(chosen.answer) {
+        return chosen.answer;
+    }
     let closed = taking::expect(
         text,
-        answer.next,
-        answer.state,
+        chosen.answer.next,
+        chosen.answer.state,
         pieces::last_word(case),
         Bearing::Closes,
     );
-    let verdict = closed.verdict;
-    let Verdict::Done = verdict else {
+    if stopped(closed) {
         return closed;
-    };
+    }
     let number = adding::last(condition.state.nodes);
     pieces::add_choice(closed.state, number, chosen.count, w, closed.next, work)
 }
@@ -371,22 +353,20 @@ fn arms(s: State, case: bool, text: &[u8], w: Word, work: &mut [u8; 275296]) -> 
     ensures { λ r. ⌜ Arms case (now (text .entry)) w s (now (work .entry)) (now (work .exit)) r × Spends (now (text .entry)) 1 w s (r .answer) ⌝ }
 {
     let first = first_arm(s, pieces::first_word(case), text, w, work);
-    let verdict = first.verdict;
-    let Verdict::Done = verdict else {
+    if stopped(first) {
         return Armed {
             answer: first,
             count: 0,
         };
-    };
+    }
     let state = pieces::at(first.state, s.nesting);
     let other = next_arm(state, pieces::other_word(case), text, first.next, work);
-    let verdict = other.verdict;
-    let Verdict::Done = verdict else {
+    if stopped(other) {
         return Armed {
             answer: other,
             count: 0,
         };
-    };
+    }
     let state = pieces::at(other.state, s.nesting);
     more_arms(state, case, 2, text, other.next, work)
 }
@@ -396,16 +376,14 @@ fn first_arm(s: State, separator: u8, text: &[u8], w: Word, work: &mut [u8; 2752
     ensures { λ r. ⌜ FirstArm separator (now (text .entry)) w s (now (work .entry)) (now (work .exit)) r × (3 ≤ separator → Spends (now (text .entry)) 1 w s r) ⌝ }
 {
     let word = taking::expect(text, w, s, separator, Bearing::Level);
-    let verdict = word.verdict;
-    let Verdict::Done = verdict else {
+    if stopped(word) {
         return word;
-    };
+    }
     let state = pieces::at(word.state, s.nesting);
     let arm = start(state, Level::Expression, text, word.next, work);
-    let verdict = arm.verdict;
-    let Verdict::Done = verdict else {
+    if stopped(arm) {
         return arm;
-    };
+    }
     pieces::add_first_arm(arm.state, arm.next, work)
 }
 
@@ -414,16 +392,14 @@ fn next_arm(s: State, separator: u8, text: &[u8], w: Word, work: &mut [u8; 27529
     ensures { λ r. ⌜ NextArm separator (now (text .entry)) w s (now (work .entry)) (now (work .exit)) r × (3 ≤ separator → Spends (now (text .entry)) 1 w s r) ⌝ }
 {
     let word = taking::expect(text, w, s, separator, Bearing::Level);
-    let verdict = word.verdict;
-    let Verdict::Done = verdict else {
+    if stopped(word) {
         return word;
-    };
+    }
     let state = pieces::at(word.state, s.nesting);
     let arm = start(state, Level::Expression, text, word.next, work);
-    let verdict = arm.verdict;
-    let Verdict::Done = verdict else {
+    if stopped(arm) {
         return arm;
-    };
+    }
     pieces::add_next_arm(arm.state, adding::last(s.nodes), arm.next, work)
 }
 
@@ -438,10 +414,9 @@ fn more_arms(s: State, case: bool, n: u16, text: &[u8], w: Word, work: &mut [u8;
     while left > 0 {
         if pieces::another(case, next) {
             let one = next_arm(pieces::at(state, s.nesting), kinds::DO, text, next, work);
-            let verdict = one.verdict;
-            let Verdict::Done = verdict else {
+            if stopped(one) {
                 return Armed { answer: one, count };
-            };
+            }
             state = one.state;
             next = one.next;
             count = pieces::one_more(count);

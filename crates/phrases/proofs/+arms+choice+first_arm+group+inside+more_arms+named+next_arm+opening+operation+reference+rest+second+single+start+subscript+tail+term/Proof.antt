@@ -8,7 +8,6 @@ use Rattle.language.specs.Machine.{Counts}
 use Rattle.course.specs.declared.State.{State}
 use Rattle.course.specs.Course.{Seen}
 use Rattle.course.specs.Pays.{Comes}
-use Rattle.course.proofs.Answers.{not-done}
 use Rattle.course.proofs.Narrow.{narrow}
 use Rattle.course.proofs.Paying.{begins, comes-as, counted-comes, eases, expected-comes, expected-spends, full-spends, gained-spends, goes-on, nests, not-took, refusal-unspent, spent, spent-seen, stays-spends, took-comes, unexpected}
 use Rattle.levels.specs.declared.Level.{Level}
@@ -79,7 +78,8 @@ use Rattle.phrases.proofs.term.Reads as term
 use Rattle.phrases.proofs.term.Kinds as term-kinds
 use Rattle.phrases.proofs.+arms+choice+first_arm+group+inside+more_arms+named+next_arm+opening+operation+reference+rest+second+single+start+subscript+tail+term.Lts-term as term-lts
 use Rattle.course.proofs.adding.last.Reads as last-reads
-use Rattle.course.proofs.kinds.number.Reads as number-reads
+use Rattle.phrases.proofs.kind_of.Reads as kind-of-reads
+use Rattle.phrases.proofs.stopped.Reads as stopped-reads
 use Rattle.course.proofs.taking.ends_ahead.Reads as ends-ahead-reads
 use Rattle.course.proofs.taking.expect.Reads as expect-reads
 use Rattle.course.proofs.taking.refuse.Reads as refuse-reads
@@ -290,58 +290,58 @@ abbrev term-below : ℕ → In 2 term-kinds.ps
 term-below t = and 2 term-kinds.ps (falls 2 term-kinds.ps _<_ μ-term t) term.Pre
 
 abbrev arms-calls : ℕ → arms-lts.Claims
-arms-calls t = (first-word-reads.Asked, first-word-reads.Learnt, first-arm-below t, first-arm.Post, at-reads.Asked, at-reads.Learnt, other-word-reads.Asked, other-word-reads.Learnt, next-arm-below t, next-arm.Post, more-arms-below t, more-arms.Post)
+arms-calls t = (first-word-reads.Asked, first-word-reads.Learnt, first-arm-below t, first-arm.Post, stopped-reads.Asked, stopped-reads.Learnt, at-reads.Asked, at-reads.Learnt, other-word-reads.Asked, other-word-reads.Learnt, next-arm-below t, next-arm.Post, more-arms-below t, more-arms.Post)
 
 abbrev choice-calls : ℕ → choice-lts.Claims
-choice-calls t = (take-reads.Asked, take-reads.Learnt, start-below t, start.Post, at-reads.Asked, at-reads.Learnt, arms-below t, arms.Post, last-word-reads.Asked, last-word-reads.Learnt, expect-reads.Asked, expect-reads.Learnt, last-reads.Asked, last-reads.Learnt, add-choice-reads.Asked, add-choice-reads.Learnt)
+choice-calls t = (take-reads.Asked, take-reads.Learnt, stopped-reads.Asked, stopped-reads.Learnt, start-below t, start.Post, at-reads.Asked, at-reads.Learnt, arms-below t, arms.Post, last-word-reads.Asked, last-word-reads.Learnt, expect-reads.Asked, expect-reads.Learnt, last-reads.Asked, last-reads.Learnt, add-choice-reads.Asked, add-choice-reads.Learnt)
 
 abbrev first-arm-calls : ℕ → first-arm-lts.Claims
-first-arm-calls t = (expect-reads.Asked, expect-reads.Learnt, at-reads.Asked, at-reads.Learnt, start-below t, start.Post, add-first-arm-reads.Asked, add-first-arm-reads.Learnt)
+first-arm-calls t = (expect-reads.Asked, expect-reads.Learnt, stopped-reads.Asked, stopped-reads.Learnt, at-reads.Asked, at-reads.Learnt, start-below t, start.Post, add-first-arm-reads.Asked, add-first-arm-reads.Learnt)
 
 abbrev group-calls : ℕ → group-lts.Claims
-group-calls t = (take-reads.Asked, take-reads.Learnt, start-below t, start.Post, expect-reads.Asked, expect-reads.Learnt)
+group-calls t = (take-reads.Asked, take-reads.Learnt, stopped-reads.Asked, stopped-reads.Learnt, start-below t, start.Post, expect-reads.Asked, expect-reads.Learnt)
 
 abbrev inside-calls : ℕ → inside-lts.Claims
-inside-calls t = (number-reads.Asked, number-reads.Learnt, take-reads.Asked, take-reads.Learnt, counted-reads.Asked, counted-reads.Learnt, at-reads.Asked, at-reads.Learnt, rest-below t, rest.Post, start-below t, start.Post)
+inside-calls t = (kind-of-reads.Asked, kind-of-reads.Learnt, take-reads.Asked, take-reads.Learnt, stopped-reads.Asked, stopped-reads.Learnt, counted-reads.Asked, counted-reads.Learnt, at-reads.Asked, at-reads.Learnt, rest-below t, rest.Post, start-below t, start.Post)
 
 abbrev more-arms-calls : ℕ → more-arms-lts.Claims
-more-arms-calls t = (another-reads.Asked, another-reads.Learnt, at-reads.Asked, at-reads.Learnt, next-arm-below t, next-arm.Post, one-more-reads.Asked, one-more-reads.Learnt, stay-reads.Asked, stay-reads.Learnt, full-reads.Asked, full-reads.Learnt)
+more-arms-calls t = (another-reads.Asked, another-reads.Learnt, at-reads.Asked, at-reads.Learnt, next-arm-below t, next-arm.Post, stopped-reads.Asked, stopped-reads.Learnt, one-more-reads.Asked, one-more-reads.Learnt, stay-reads.Asked, stay-reads.Learnt, full-reads.Asked, full-reads.Learnt)
 
 abbrev named-calls : ℕ → named-lts.Claims
-named-calls t = (take-reads.Asked, take-reads.Learnt, reference-below t, reference.Post)
+named-calls t = (take-reads.Asked, take-reads.Learnt, stopped-reads.Asked, stopped-reads.Learnt, reference-below t, reference.Post)
 
 abbrev next-arm-calls : ℕ → next-arm-lts.Claims
-next-arm-calls t = (expect-reads.Asked, expect-reads.Learnt, at-reads.Asked, at-reads.Learnt, start-below t, start.Post, last-reads.Asked, last-reads.Learnt, add-next-arm-reads.Asked, add-next-arm-reads.Learnt)
+next-arm-calls t = (expect-reads.Asked, expect-reads.Learnt, stopped-reads.Asked, stopped-reads.Learnt, at-reads.Asked, at-reads.Learnt, start-below t, start.Post, last-reads.Asked, last-reads.Learnt, add-next-arm-reads.Asked, add-next-arm-reads.Learnt)
 
 abbrev opening-calls : ℕ → opening-lts.Claims
-opening-calls t = (term-below t, term.Post, take-reads.Asked, take-reads.Learnt, reducing-reads.Asked, reducing-reads.Learnt, at-reads.Asked, at-reads.Learnt, prefixed-reads.Asked, prefixed-reads.Learnt, start-below t, start.Post, add-prefix-reads.Asked, add-prefix-reads.Learnt)
+opening-calls t = (term-below t, term.Post, take-reads.Asked, take-reads.Learnt, stopped-reads.Asked, stopped-reads.Learnt, reducing-reads.Asked, reducing-reads.Learnt, at-reads.Asked, at-reads.Learnt, prefixed-reads.Asked, prefixed-reads.Learnt, start-below t, start.Post, add-prefix-reads.Asked, add-prefix-reads.Learnt)
 
 abbrev operation-calls : ℕ → operation-lts.Claims
-operation-calls t = (take-reads.Asked, take-reads.Learnt, number-reads.Asked, number-reads.Learnt, cut-reads.Asked, cut-reads.Learnt, operand-reads.Asked, operand-reads.Learnt, start-below t, start.Post, last-reads.Asked, last-reads.Learnt, add-binary-reads.Asked, add-binary-reads.Learnt)
+operation-calls t = (take-reads.Asked, take-reads.Learnt, stopped-reads.Asked, stopped-reads.Learnt, kind-of-reads.Asked, kind-of-reads.Learnt, cut-reads.Asked, cut-reads.Learnt, operand-reads.Asked, operand-reads.Learnt, start-below t, start.Post, last-reads.Asked, last-reads.Learnt, add-binary-reads.Asked, add-binary-reads.Learnt)
 
 abbrev reference-calls : ℕ → reference-lts.Claims
-reference-calls t = (number-reads.Asked, number-reads.Learnt, take-reads.Asked, take-reads.Learnt, subscript-below t, subscript.Post, add-whole-reads.Asked, add-whole-reads.Learnt)
+reference-calls t = (kind-of-reads.Asked, kind-of-reads.Learnt, take-reads.Asked, take-reads.Learnt, stopped-reads.Asked, stopped-reads.Learnt, subscript-below t, subscript.Post, add-whole-reads.Asked, add-whole-reads.Learnt)
 
 abbrev rest-calls : ℕ → rest-lts.Claims
-rest-calls t = (within-reads.Asked, within-reads.Learnt, tail-below t, tail.Post, at-reads.Asked, at-reads.Learnt, next-reads.Asked, next-reads.Learnt, rest-below t, rest.Post, stay-reads.Asked, stay-reads.Learnt)
+rest-calls t = (within-reads.Asked, within-reads.Learnt, tail-below t, tail.Post, stopped-reads.Asked, stopped-reads.Learnt, at-reads.Asked, at-reads.Learnt, next-reads.Asked, next-reads.Learnt, rest-below t, rest.Post, stay-reads.Asked, stay-reads.Learnt)
 
 abbrev second-calls : ℕ → second-lts.Claims
-second-calls t = (ends-ahead-reads.Asked, ends-ahead-reads.Learnt, word-part-reads.Asked, word-part-reads.Learnt, inside-below t, inside.Post, expect-reads.Asked, expect-reads.Learnt, last-reads.Asked, last-reads.Learnt, add-two-reads.Asked, add-two-reads.Learnt)
+second-calls t = (ends-ahead-reads.Asked, ends-ahead-reads.Learnt, word-part-reads.Asked, word-part-reads.Learnt, inside-below t, inside.Post, stopped-reads.Asked, stopped-reads.Learnt, expect-reads.Asked, expect-reads.Learnt, last-reads.Asked, last-reads.Learnt, add-two-reads.Asked, add-two-reads.Learnt)
 
 abbrev single-calls : ℕ → single-lts.Claims
-single-calls t = (number-reads.Asked, number-reads.Learnt, take-reads.Asked, take-reads.Learnt, second-below t, second.Post, last-reads.Asked, last-reads.Learnt, add-one-reads.Asked, add-one-reads.Learnt)
+single-calls t = (kind-of-reads.Asked, kind-of-reads.Learnt, take-reads.Asked, take-reads.Learnt, stopped-reads.Asked, stopped-reads.Learnt, second-below t, second.Post, last-reads.Asked, last-reads.Learnt, add-one-reads.Asked, add-one-reads.Learnt)
 
 abbrev start-calls : ℕ → start-lts.Claims
-start-calls t = (number-reads.Asked, number-reads.Learnt, head-of-reads.Asked, head-of-reads.Learnt, opening-below t, opening.Post, at-reads.Asked, at-reads.Learnt, after-reads.Asked, after-reads.Learnt, rest-below t, rest.Post)
+start-calls t = (kind-of-reads.Asked, kind-of-reads.Learnt, head-of-reads.Asked, head-of-reads.Learnt, opening-below t, opening.Post, stopped-reads.Asked, stopped-reads.Learnt, at-reads.Asked, at-reads.Learnt, after-reads.Asked, after-reads.Learnt, rest-below t, rest.Post)
 
 abbrev subscript-calls : ℕ → subscript-lts.Claims
-subscript-calls t = (ends-ahead-reads.Asked, ends-ahead-reads.Learnt, part-reads.Asked, part-reads.Learnt, inside-below t, inside.Post, number-reads.Asked, number-reads.Learnt, take-reads.Asked, take-reads.Learnt, at-reads.Asked, at-reads.Learnt, second-below t, second.Post, expect-reads.Asked, expect-reads.Learnt, last-reads.Asked, last-reads.Learnt, single-below t, single.Post)
+subscript-calls t = (ends-ahead-reads.Asked, ends-ahead-reads.Learnt, part-reads.Asked, part-reads.Learnt, inside-below t, inside.Post, stopped-reads.Asked, stopped-reads.Learnt, kind-of-reads.Asked, kind-of-reads.Learnt, take-reads.Asked, take-reads.Learnt, at-reads.Asked, at-reads.Learnt, second-below t, second.Post, expect-reads.Asked, expect-reads.Learnt, last-reads.Asked, last-reads.Learnt, single-below t, single.Post)
 
 abbrev tail-calls : ℕ → tail-lts.Claims
-tail-calls t = (operates-reads.Asked, operates-reads.Learnt, at-reads.Asked, at-reads.Learnt, operation-below t, operation.Post, once-reads.Asked, once-reads.Learnt, stay-reads.Asked, stay-reads.Learnt, full-reads.Asked, full-reads.Learnt)
+tail-calls t = (operates-reads.Asked, operates-reads.Learnt, at-reads.Asked, at-reads.Learnt, operation-below t, operation.Post, stopped-reads.Asked, stopped-reads.Learnt, once-reads.Asked, once-reads.Learnt, stay-reads.Asked, stay-reads.Learnt, full-reads.Asked, full-reads.Learnt)
 
 abbrev term-calls : ℕ → term-lts.Claims
-term-calls t = (number-reads.Asked, number-reads.Learnt, constant-reads.Asked, constant-reads.Learnt, named-below t, named.Post, group-below t, group.Post, choice-below t, choice.Post, refuse-reads.Asked, refuse-reads.Learnt)
+term-calls t = (kind-of-reads.Asked, kind-of-reads.Learnt, constant-reads.Asked, constant-reads.Learnt, named-below t, named.Post, group-below t, group.Post, choice-below t, choice.Post, refuse-reads.Asked, refuse-reads.Learnt)
 
 arms-first-word-requires : (t : ℕ) → arms-lts.Need-first-word-requires (arms-calls t) (arms-at t) arms.Post
 arms-first-word-requires t c κs = search needs
@@ -349,12 +349,12 @@ arms-first-word-requires t c κs = search needs
 arms-first-arm-requires : (t : ℕ) → arms-lts.Need-first-arm-requires (arms-calls t) (arms-at t) arms.Post
 arms-first-arm-requires t c κs = search needs
 
-arms-enum-told : (t : ℕ) → arms-lts.Need-enum-told (arms-calls t) (arms-at t) arms.Post
-arms-enum-told t c = search needs
+arms-stopped-requires : (t : ℕ) → arms-lts.Need-stopped-requires (arms-calls t) (arms-at t) arms.Post
+arms-stopped-requires t c κs = search needs
 
 arms-returns : (t : ℕ) → arms-lts.Need-returns (arms-calls t) (arms-at t) arms.Post
 arms-returns t c =
-    (arms-none (c .before .before .before .before .before .args .case) (c .before .before .before .first-word .ensures) (c .before .first-arm .ensures .0) (not-done (c .match .keys2)), c .before .first-arm .ensures .1 (rw (c .before .before .before .first-word .ensures) (separators (c .before .before .before .before .before .args .case))))
+    (arms-none (c .before .before .before .before .before .before .args .case) (c .before .before .before .before .first-word .ensures) (c .before .before .first-arm .ensures .0) (c .before .stopped .ensures .1 (c .if1 .taken)), c .before .before .first-arm .ensures .1 (rw (c .before .before .before .before .first-word .ensures) (separators (c .before .before .before .before .before .before .args .case))))
 
 arms-at-requires : (t : ℕ) → arms-lts.Need-at-requires (arms-calls t) (arms-at t) arms.Post
 arms-at-requires t c κs = search needs
@@ -366,12 +366,12 @@ arms-next-arm-requires : (t : ℕ) → arms-lts.Need-next-arm-requires (arms-cal
 arms-next-arm-requires t c κs =
     let h : c .before .before .at .result .nesting ≡ c .before .before .before .before .before .before .before .before .before .args .s .nesting = ap (λ (q : State). q .nesting) (c .before .before .at .ensures) in search needs
 
-arms-enum-told-2 : (t : ℕ) → arms-lts.Need-enum-told-2 (arms-calls t) (arms-at t) arms.Post
-arms-enum-told-2 t c = search needs
+arms-stopped-requires-2 : (t : ℕ) → arms-lts.Need-stopped-requires-2 (arms-calls t) (arms-at t) arms.Post
+arms-stopped-requires-2 t c κs = search needs
 
 arms-returns-2 : (t : ℕ) → arms-lts.Need-returns-2 (arms-calls t) (arms-at t) arms.Post
 arms-returns-2 t c =
-    (arms-one (c .before .before .before .before .before .before .before .before .before .before .before .args .case) (c .before .before .before .before .before .before .before .before .before .first-word .ensures) (c .before .before .before .before .before .before .before .first-arm .ensures .0) (c .before .before .before .before .before .enum-told .given .1) (c .before .before .before .before .at .ensures) (c .before .before .before .other-word .ensures) (c .before .next-arm .ensures .0) (not-done (c .match2 .keys2)), spent (goes-on (c .before .before .before .before .before .before .before .first-arm .ensures .1 (rw (c .before .before .before .before .before .before .before .before .before .first-word .ensures) (separators (c .before .before .before .before .before .before .before .before .before .before .before .args .case))) .done (c .before .before .before .before .before .enum-told .given .1)) (nests (c .before .before .before .before .at .ensures))) (c .before .next-arm .ensures .1 (rw (c .before .before .before .other-word .ensures) (others (c .before .before .before .before .before .before .before .before .before .before .before .args .case)))) (omega arith))
+    (arms-one (c .before .before .before .before .before .before .before .before .before .before .before .before .args .case) (c .before .before .before .before .before .before .before .before .before .before .first-word .ensures) (c .before .before .before .before .before .before .before .before .first-arm .ensures .0) (c .before .before .before .before .before .before .before .stopped .ensures .0 (c .before .before .before .before .before .before .if1 .left)) (c .before .before .before .before .before .at .ensures) (c .before .before .before .before .other-word .ensures) (c .before .before .next-arm .ensures .0) (c .before .stopped2 .ensures .1 (c .if2 .taken)), spent (goes-on (c .before .before .before .before .before .before .before .before .first-arm .ensures .1 (rw (c .before .before .before .before .before .before .before .before .before .before .first-word .ensures) (separators (c .before .before .before .before .before .before .before .before .before .before .before .before .args .case))) .done (c .before .before .before .before .before .before .before .stopped .ensures .0 (c .before .before .before .before .before .before .if1 .left))) (nests (c .before .before .before .before .before .at .ensures))) (c .before .before .next-arm .ensures .1 (rw (c .before .before .before .before .other-word .ensures) (others (c .before .before .before .before .before .before .before .before .before .before .before .before .args .case)))) (omega arith))
 
 arms-at-requires-2 : (t : ℕ) → arms-lts.Need-at-requires-2 (arms-calls t) (arms-at t) arms.Post
 arms-at-requires-2 t c κs = search needs
@@ -382,42 +382,42 @@ arms-more-arms-requires t c κs =
 
 arms-returns-3 : (t : ℕ) → arms-lts.Need-returns-3 (arms-calls t) (arms-at t) arms.Post
 arms-returns-3 t c =
-    (arms-says (c .before .before .before .before .before .before .before .before .before .before .before .before .before .before .before .args .case) (c .before .before .before .before .before .before .before .before .before .before .before .before .before .first-word .ensures) (c .before .before .before .before .before .before .before .before .before .before .before .first-arm .ensures .0) (c .before .before .before .before .before .before .before .before .before .enum-told .given .1) (c .before .before .before .before .before .before .before .before .at .ensures) (c .before .before .before .before .before .before .before .other-word .ensures) (c .before .before .before .before .before .next-arm .ensures .0) (c .before .before .before .enum-told2 .given .1) (c .before .before .at2 .ensures) (c .more-arms .ensures .0), spent (goes-on (c .before .before .before .before .before .before .before .before .before .before .before .first-arm .ensures .1 (rw (c .before .before .before .before .before .before .before .before .before .before .before .before .before .first-word .ensures) (separators (c .before .before .before .before .before .before .before .before .before .before .before .before .before .before .before .args .case))) .done (c .before .before .before .before .before .before .before .before .before .enum-told .given .1)) (goes-on (nests (c .before .before .before .before .before .before .before .before .at .ensures)) (goes-on (c .before .before .before .before .before .next-arm .ensures .1 (rw (c .before .before .before .before .before .before .before .other-word .ensures) (others (c .before .before .before .before .before .before .before .before .before .before .before .before .before .before .before .args .case))) .done (c .before .before .before .enum-told2 .given .1)) (nests (c .before .before .at2 .ensures))))) (c .more-arms .ensures .1) (omega arith))
+    (arms-says (c .before .before .before .before .before .before .before .before .before .before .before .before .before .before .before .args .case) (c .before .before .before .before .before .before .before .before .before .before .before .before .before .first-word .ensures) (c .before .before .before .before .before .before .before .before .before .before .before .first-arm .ensures .0) (c .before .before .before .before .before .before .before .before .before .before .stopped .ensures .0 (c .before .before .before .before .before .before .before .before .before .if1 .left)) (c .before .before .before .before .before .before .before .before .at .ensures) (c .before .before .before .before .before .before .before .other-word .ensures) (c .before .before .before .before .before .next-arm .ensures .0) (c .before .before .before .before .stopped2 .ensures .0 (c .before .before .before .if2 .left)) (c .before .before .at2 .ensures) (c .more-arms .ensures .0), spent (goes-on (c .before .before .before .before .before .before .before .before .before .before .before .first-arm .ensures .1 (rw (c .before .before .before .before .before .before .before .before .before .before .before .before .before .first-word .ensures) (separators (c .before .before .before .before .before .before .before .before .before .before .before .before .before .before .before .args .case))) .done (c .before .before .before .before .before .before .before .before .before .before .stopped .ensures .0 (c .before .before .before .before .before .before .before .before .before .if1 .left))) (goes-on (nests (c .before .before .before .before .before .before .before .before .at .ensures)) (goes-on (c .before .before .before .before .before .next-arm .ensures .1 (rw (c .before .before .before .before .before .before .before .other-word .ensures) (others (c .before .before .before .before .before .before .before .before .before .before .before .before .before .before .before .args .case))) .done (c .before .before .before .before .stopped2 .ensures .0 (c .before .before .before .if2 .left))) (nests (c .before .before .at2 .ensures))))) (c .more-arms .ensures .1) (omega arith))
 
 choice-take-requires : (t : ℕ) → choice-lts.Need-take-requires (choice-calls t) (choice-at t) choice.Post
 choice-take-requires t c κs = search needs
 
-choice-enum-told : (t : ℕ) → choice-lts.Need-enum-told (choice-calls t) (choice-at t) choice.Post
-choice-enum-told t c = search needs
+choice-stopped-requires : (t : ℕ) → choice-lts.Need-stopped-requires (choice-calls t) (choice-at t) choice.Post
+choice-stopped-requires t c κs = search needs
 
 choice-returns : (t : ℕ) → choice-lts.Need-returns (choice-calls t) (choice-at t) choice.Post
 choice-returns t c =
-    (λ e. choice-not (c .before .before .before .args .case) e (c .before .take .ensures) (not-done (c .match .keys2)), not-took (c .before .take .ensures) (not-done (c .match .keys2)))
+    (λ e. choice-not (c .before .before .before .before .args .case) e (c .before .before .take .ensures) (c .before .stopped .ensures .1 (c .if1 .taken)), not-took (c .before .before .take .ensures) (c .before .stopped .ensures .1 (c .if1 .taken)))
 
 choice-start-requires : (t : ℕ) → choice-lts.Need-start-requires (choice-calls t) (choice-at t) choice.Post
 choice-start-requires t c κs =
-    let p = c .before .before .before .before .take .ensures .done (c .before .before .enum-told .given .1) in let g : c .before .before .before .before .take .result .state .nesting ≡ suc (c .before .before .before .before .before .before .args .s .nesting) = ap (λ (k : Counts). k .nesting) (p .counts) in let d : c .before .before .before .before .take .result .state .nesting ≤ 24 = p .deep in search needs
+    let p = c .before .before .before .take .ensures .done (c .before .before .stopped .ensures .0 (c .before .if1 .left)) in let g : c .before .before .before .take .result .state .nesting ≡ suc (c .before .before .before .before .before .args .s .nesting) = ap (λ (k : Counts). k .nesting) (p .counts) in let d : c .before .before .before .take .result .state .nesting ≤ 24 = p .deep in search needs
 
-choice-enum-told-2 : (t : ℕ) → choice-lts.Need-enum-told-2 (choice-calls t) (choice-at t) choice.Post
-choice-enum-told-2 t c = search needs
+choice-stopped-requires-2 : (t : ℕ) → choice-lts.Need-stopped-requires-2 (choice-calls t) (choice-at t) choice.Post
+choice-stopped-requires-2 t c κs = search needs
 
 choice-returns-2 : (t : ℕ) → choice-lts.Need-returns-2 (choice-calls t) (choice-at t) choice.Post
 choice-returns-2 t c =
-    (λ e. condition-not (c .before .before .before .before .before .before .before .before .args .case) e (c .before .before .before .before .before .before .take .ensures) (c .before .before .before .before .enum-told .given .1) (c .before .start .ensures .0) (not-done (c .match2 .keys2)), spent (counted-comes (c .before .before .before .before .before .before .take .ensures) (c .before .before .before .before .enum-told .given .1)) (c .before .start .ensures .1) (omega arith))
+    (λ e. condition-not (c .before .before .before .before .before .before .before .before .args .case) e (c .before .before .before .before .before .before .take .ensures) (c .before .before .before .before .before .stopped .ensures .0 (c .before .before .before .before .if1 .left)) (c .before .before .start .ensures .0) (c .before .stopped2 .ensures .1 (c .if2 .taken)), spent (counted-comes (c .before .before .before .before .before .before .take .ensures) (c .before .before .before .before .before .stopped .ensures .0 (c .before .before .before .before .if1 .left))) (c .before .before .start .ensures .1) (omega arith))
 
 choice-at-requires : (t : ℕ) → choice-lts.Need-at-requires (choice-calls t) (choice-at t) choice.Post
 choice-at-requires t c κs = search needs
 
 choice-arms-requires : (t : ℕ) → choice-lts.Need-arms-requires (choice-calls t) (choice-at t) choice.Post
 choice-arms-requires t c κs =
-    let p = c .before .before .before .before .before .before .before .before .before .take .ensures .done (c .before .before .before .before .before .before .before .enum-told .given .1) in let g : c .before .before .before .before .before .before .before .before .before .take .result .state .nesting ≡ suc (c .before .before .before .before .before .before .before .before .before .before .before .args .s .nesting) = ap (λ (k : Counts). k .nesting) (p .counts) in let d : c .before .before .before .before .before .before .before .before .before .take .result .state .nesting ≤ 24 = p .deep in let h : c .before .at .result .nesting ≡ c .before .before .before .before .before .before .before .before .before .take .result .state .nesting = ap (λ (q : State). q .nesting) (c .before .at .ensures) in search needs
+    let p = c .before .before .before .before .before .before .before .before .take .ensures .done (c .before .before .before .before .before .before .before .stopped .ensures .0 (c .before .before .before .before .before .before .if1 .left)) in let g : c .before .before .before .before .before .before .before .before .take .result .state .nesting ≡ suc (c .before .before .before .before .before .before .before .before .before .before .args .s .nesting) = ap (λ (k : Counts). k .nesting) (p .counts) in let d : c .before .before .before .before .before .before .before .before .take .result .state .nesting ≤ 24 = p .deep in let h : c .before .at .result .nesting ≡ c .before .before .before .before .before .before .before .before .take .result .state .nesting = ap (λ (q : State). q .nesting) (c .before .at .ensures) in search needs
 
-choice-enum-told-3 : (t : ℕ) → choice-lts.Need-enum-told-3 (choice-calls t) (choice-at t) choice.Post
-choice-enum-told-3 t c = search needs
+choice-stopped-requires-3 : (t : ℕ) → choice-lts.Need-stopped-requires-3 (choice-calls t) (choice-at t) choice.Post
+choice-stopped-requires-3 t c κs = search needs
 
 choice-returns-3 : (t : ℕ) → choice-lts.Need-returns-3 (choice-calls t) (choice-at t) choice.Post
 choice-returns-3 t c =
-    (λ e. branches-not (c .before .before .before .before .before .before .before .before .before .before .before .before .before .before .args .case) e (c .before .before .before .before .before .before .before .before .before .before .before .before .take .ensures) (c .before .before .before .before .before .before .before .before .before .before .enum-told .given .1) (c .before .before .before .before .before .before .before .start .ensures .0) (c .before .before .before .before .before .enum-told2 .given .1) (c .before .before .before .before .at .ensures) (c .before .before .arms .ensures .0) (not-done (c .match3 .keys2)), spent (goes-on (counted-comes (c .before .before .before .before .before .before .before .before .before .before .before .before .take .ensures) (c .before .before .before .before .before .before .before .before .before .before .enum-told .given .1)) (goes-on (c .before .before .before .before .before .before .before .start .ensures .1 .done (c .before .before .before .before .before .enum-told2 .given .1)) (nests (c .before .before .before .before .at .ensures)))) (c .before .before .arms .ensures .1) (omega arith))
+    (λ e. branches-not (c .before .before .before .before .before .before .before .before .before .before .before .before .before .before .args .case) e (c .before .before .before .before .before .before .before .before .before .before .before .before .take .ensures) (c .before .before .before .before .before .before .before .before .before .before .before .stopped .ensures .0 (c .before .before .before .before .before .before .before .before .before .before .if1 .left)) (c .before .before .before .before .before .before .before .before .start .ensures .0) (c .before .before .before .before .before .before .before .stopped2 .ensures .0 (c .before .before .before .before .before .before .if2 .left)) (c .before .before .before .before .before .at .ensures) (c .before .before .before .arms .ensures .0) (c .before .before .stopped3 .ensures .1 (c .before .if3 .taken)), spent (goes-on (counted-comes (c .before .before .before .before .before .before .before .before .before .before .before .before .take .ensures) (c .before .before .before .before .before .before .before .before .before .before .before .stopped .ensures .0 (c .before .before .before .before .before .before .before .before .before .before .if1 .left))) (goes-on (c .before .before .before .before .before .before .before .before .start .ensures .1 .done (c .before .before .before .before .before .before .before .stopped2 .ensures .0 (c .before .before .before .before .before .before .if2 .left))) (nests (c .before .before .before .before .before .at .ensures)))) (c .before .before .before .arms .ensures .1) (omega arith))
 
 choice-last-word-requires : (t : ℕ) → choice-lts.Need-last-word-requires (choice-calls t) (choice-at t) choice.Post
 choice-last-word-requires t c κs = search needs
@@ -425,12 +425,12 @@ choice-last-word-requires t c κs = search needs
 choice-expect-requires : (t : ℕ) → choice-lts.Need-expect-requires (choice-calls t) (choice-at t) choice.Post
 choice-expect-requires t c κs = search needs
 
-choice-enum-told-4 : (t : ℕ) → choice-lts.Need-enum-told-4 (choice-calls t) (choice-at t) choice.Post
-choice-enum-told-4 t c = search needs
+choice-stopped-requires-4 : (t : ℕ) → choice-lts.Need-stopped-requires-4 (choice-calls t) (choice-at t) choice.Post
+choice-stopped-requires-4 t c κs = search needs
 
 choice-returns-4 : (t : ℕ) → choice-lts.Need-returns-4 (choice-calls t) (choice-at t) choice.Post
 choice-returns-4 t c =
-    (λ e. last-not (c .before .before .before .before .before .before .before .before .before .before .before .before .before .before .before .before .before .before .args .case) e (c .before .before .before .before .before .before .before .before .before .before .before .before .before .before .before .before .take .ensures) (c .before .before .before .before .before .before .before .before .before .before .before .before .before .before .enum-told .given .1) (c .before .before .before .before .before .before .before .before .before .before .before .start .ensures .0) (c .before .before .before .before .before .before .before .before .before .enum-told2 .given .1) (c .before .before .before .before .before .before .before .before .at .ensures) (c .before .before .before .before .before .before .arms .ensures .0) (c .before .before .before .enum-told3 .given .1) (c .before .before .last-word .ensures) (c .before .expect .ensures) (not-done (c .match4 .keys2)), unexpected (c .before .expect .ensures) (not-done (c .match4 .keys2)))
+    (λ e. last-not (c .before .before .before .before .before .before .before .before .before .before .before .before .before .before .before .before .before .args .case) e (c .before .before .before .before .before .before .before .before .before .before .before .before .before .before .before .take .ensures) (c .before .before .before .before .before .before .before .before .before .before .before .before .before .before .stopped .ensures .0 (c .before .before .before .before .before .before .before .before .before .before .before .before .before .if1 .left)) (c .before .before .before .before .before .before .before .before .before .before .before .start .ensures .0) (c .before .before .before .before .before .before .before .before .before .before .stopped2 .ensures .0 (c .before .before .before .before .before .before .before .before .before .if2 .left)) (c .before .before .before .before .before .before .before .before .at .ensures) (c .before .before .before .before .before .before .arms .ensures .0) (c .before .before .before .before .before .stopped3 .ensures .0 (c .before .before .before .before .if3 .left)) (c .before .before .before .last-word .ensures) (c .before .before .expect .ensures) (c .before .stopped4 .ensures .1 (c .if4 .taken)), unexpected (c .before .before .expect .ensures) (c .before .stopped4 .ensures .1 (c .if4 .taken)))
 
 choice-last-requires : (t : ℕ) → choice-lts.Need-last-requires (choice-calls t) (choice-at t) choice.Post
 choice-last-requires t c κs = search needs
@@ -440,17 +440,17 @@ choice-add-choice-requires t c κs = search needs
 
 choice-returns-5 : (t : ℕ) → choice-lts.Need-returns-5 (choice-calls t) (choice-at t) choice.Post
 choice-returns-5 t c =
-    (λ e. choice-says (c .before .before .before .before .before .before .before .before .before .before .before .before .before .before .before .before .before .before .before .before .before .before .args .case) e (c .before .before .before .before .before .before .before .before .before .before .before .before .before .before .before .before .before .before .before .before .take .ensures) (c .before .before .before .before .before .before .before .before .before .before .before .before .before .before .before .before .before .before .enum-told .given .1) (c .before .before .before .before .before .before .before .before .before .before .before .before .before .before .before .start .ensures .0) (c .before .before .before .before .before .before .before .before .before .before .before .before .before .enum-told2 .given .1) (c .before .before .before .before .before .before .before .before .before .before .before .before .at .ensures) (c .before .before .before .before .before .before .before .before .before .before .arms .ensures .0) (c .before .before .before .before .before .before .before .enum-told3 .given .1) (c .before .before .before .before .before .before .last-word .ensures) (c .before .before .before .before .before .expect .ensures) (c .before .before .before .enum-told4 .given .1) (c .before .before .last .ensures) (c .add-choice .ensures), spent (goes-on (counted-comes (c .before .before .before .before .before .before .before .before .before .before .before .before .before .before .before .before .before .before .before .before .take .ensures) (c .before .before .before .before .before .before .before .before .before .before .before .before .before .before .before .before .before .before .enum-told .given .1)) (goes-on (c .before .before .before .before .before .before .before .before .before .before .before .before .before .before .before .start .ensures .1 .done (c .before .before .before .before .before .before .before .before .before .before .before .before .before .enum-told2 .given .1)) (goes-on (nests (c .before .before .before .before .before .before .before .before .before .before .before .before .at .ensures)) (goes-on (c .before .before .before .before .before .before .before .before .before .before .arms .ensures .1 .done (c .before .before .before .before .before .before .before .enum-told3 .given .1)) (expected-comes (c .before .before .before .before .before .expect .ensures) (rw (c .before .before .before .before .before .before .last-word .ensures) (closers (c .before .before .before .before .before .before .before .before .before .before .before .before .before .before .before .before .before .before .before .before .before .before .args .case))) (c .before .before .before .enum-told4 .given .1)))))) (gained-spends (c .add-choice .ensures)) (omega arith))
+    (λ e. choice-says (c .before .before .before .before .before .before .before .before .before .before .before .before .before .before .before .before .before .before .before .before .args .case) e (c .before .before .before .before .before .before .before .before .before .before .before .before .before .before .before .before .before .before .take .ensures) (c .before .before .before .before .before .before .before .before .before .before .before .before .before .before .before .before .before .stopped .ensures .0 (c .before .before .before .before .before .before .before .before .before .before .before .before .before .before .before .before .if1 .left)) (c .before .before .before .before .before .before .before .before .before .before .before .before .before .before .start .ensures .0) (c .before .before .before .before .before .before .before .before .before .before .before .before .before .stopped2 .ensures .0 (c .before .before .before .before .before .before .before .before .before .before .before .before .if2 .left)) (c .before .before .before .before .before .before .before .before .before .before .before .at .ensures) (c .before .before .before .before .before .before .before .before .before .arms .ensures .0) (c .before .before .before .before .before .before .before .before .stopped3 .ensures .0 (c .before .before .before .before .before .before .before .if3 .left)) (c .before .before .before .before .before .before .last-word .ensures) (c .before .before .before .before .before .expect .ensures) (c .before .before .before .before .stopped4 .ensures .0 (c .before .before .before .if4 .left)) (c .before .before .last .ensures) (c .add-choice .ensures), spent (goes-on (counted-comes (c .before .before .before .before .before .before .before .before .before .before .before .before .before .before .before .before .before .before .take .ensures) (c .before .before .before .before .before .before .before .before .before .before .before .before .before .before .before .before .before .stopped .ensures .0 (c .before .before .before .before .before .before .before .before .before .before .before .before .before .before .before .before .if1 .left))) (goes-on (c .before .before .before .before .before .before .before .before .before .before .before .before .before .before .start .ensures .1 .done (c .before .before .before .before .before .before .before .before .before .before .before .before .before .stopped2 .ensures .0 (c .before .before .before .before .before .before .before .before .before .before .before .before .if2 .left))) (goes-on (nests (c .before .before .before .before .before .before .before .before .before .before .before .at .ensures)) (goes-on (c .before .before .before .before .before .before .before .before .before .arms .ensures .1 .done (c .before .before .before .before .before .before .before .before .stopped3 .ensures .0 (c .before .before .before .before .before .before .before .if3 .left))) (expected-comes (c .before .before .before .before .before .expect .ensures) (rw (c .before .before .before .before .before .before .last-word .ensures) (closers (c .before .before .before .before .before .before .before .before .before .before .before .before .before .before .before .before .before .before .before .before .args .case))) (c .before .before .before .before .stopped4 .ensures .0 (c .before .before .before .if4 .left))))))) (gained-spends (c .add-choice .ensures)) (omega arith))
 
 first-arm-expect-requires : (t : ℕ) → first-arm-lts.Need-expect-requires (first-arm-calls t) (first-arm-at t) first-arm.Post
 first-arm-expect-requires t c κs = search needs
 
-first-arm-enum-told : (t : ℕ) → first-arm-lts.Need-enum-told (first-arm-calls t) (first-arm-at t) first-arm.Post
-first-arm-enum-told t c = search needs
+first-arm-stopped-requires : (t : ℕ) → first-arm-lts.Need-stopped-requires (first-arm-calls t) (first-arm-at t) first-arm.Post
+first-arm-stopped-requires t c κs = search needs
 
 first-arm-returns : (t : ℕ) → first-arm-lts.Need-returns (first-arm-calls t) (first-arm-at t) first-arm.Post
 first-arm-returns t c =
-    (first-not (c .before .expect .ensures) (not-done (c .match .keys2)), λ l. unexpected (c .before .expect .ensures) (not-done (c .match .keys2)))
+    (first-not (c .before .before .expect .ensures) (c .before .stopped .ensures .1 (c .if1 .taken)), λ l. unexpected (c .before .before .expect .ensures) (c .before .stopped .ensures .1 (c .if1 .taken)))
 
 first-arm-at-requires : (t : ℕ) → first-arm-lts.Need-at-requires (first-arm-calls t) (first-arm-at t) first-arm.Post
 first-arm-at-requires t c κs = search needs
@@ -459,70 +459,70 @@ first-arm-start-requires : (t : ℕ) → first-arm-lts.Need-start-requires (firs
 first-arm-start-requires t c κs =
     let h : c .before .at .result .nesting ≡ c .before .before .before .before .before .before .args .s .nesting = ap (λ (q : State). q .nesting) (c .before .at .ensures) in search needs
 
-first-arm-enum-told-2 : (t : ℕ) → first-arm-lts.Need-enum-told-2 (first-arm-calls t) (first-arm-at t) first-arm.Post
-first-arm-enum-told-2 t c = search needs
+first-arm-stopped-requires-2 : (t : ℕ) → first-arm-lts.Need-stopped-requires-2 (first-arm-calls t) (first-arm-at t) first-arm.Post
+first-arm-stopped-requires-2 t c κs = search needs
 
 first-arm-returns-2 : (t : ℕ) → first-arm-lts.Need-returns-2 (first-arm-calls t) (first-arm-at t) first-arm.Post
 first-arm-returns-2 t c =
-    (first-inner (c .before .before .before .before .before .before .expect .ensures) (c .before .before .before .before .enum-told .given .1) (c .before .before .before .at .ensures) (c .before .start .ensures .0) (not-done (c .match2 .keys2)), λ l. spent (goes-on (expected-comes (c .before .before .before .before .before .before .expect .ensures) l (c .before .before .before .before .enum-told .given .1)) (nests (c .before .before .before .at .ensures))) (c .before .start .ensures .1) (omega arith))
+    (first-inner (c .before .before .before .before .before .before .before .expect .ensures) (c .before .before .before .before .before .before .stopped .ensures .0 (c .before .before .before .before .before .if1 .left)) (c .before .before .before .before .at .ensures) (c .before .before .start .ensures .0) (c .before .stopped2 .ensures .1 (c .if2 .taken)), λ l. spent (goes-on (expected-comes (c .before .before .before .before .before .before .before .expect .ensures) l (c .before .before .before .before .before .before .stopped .ensures .0 (c .before .before .before .before .before .if1 .left))) (nests (c .before .before .before .before .at .ensures))) (c .before .before .start .ensures .1) (omega arith))
 
 first-arm-add-first-arm-requires : (t : ℕ) → first-arm-lts.Need-add-first-arm-requires (first-arm-calls t) (first-arm-at t) first-arm.Post
 first-arm-add-first-arm-requires t c κs = search needs
 
 first-arm-returns-3 : (t : ℕ) → first-arm-lts.Need-returns-3 (first-arm-calls t) (first-arm-at t) first-arm.Post
 first-arm-returns-3 t c =
-    (first-says (c .before .before .before .before .before .before .before .before .before .expect .ensures) (c .before .before .before .before .before .before .before .enum-told .given .1) (c .before .before .before .before .before .before .at .ensures) (c .before .before .before .before .start .ensures .0) (c .before .before .enum-told2 .given .1) (c .add-first-arm .ensures), λ l. spent (goes-on (expected-comes (c .before .before .before .before .before .before .before .before .before .expect .ensures) l (c .before .before .before .before .before .before .before .enum-told .given .1)) (goes-on (nests (c .before .before .before .before .before .before .at .ensures)) (c .before .before .before .before .start .ensures .1 .done (c .before .before .enum-told2 .given .1)))) (gained-spends (c .add-first-arm .ensures)) (omega arith))
+    (first-says (c .before .before .before .before .before .before .before .before .before .expect .ensures) (c .before .before .before .before .before .before .before .before .stopped .ensures .0 (c .before .before .before .before .before .before .before .if1 .left)) (c .before .before .before .before .before .before .at .ensures) (c .before .before .before .before .start .ensures .0) (c .before .before .before .stopped2 .ensures .0 (c .before .before .if2 .left)) (c .add-first-arm .ensures), λ l. spent (goes-on (expected-comes (c .before .before .before .before .before .before .before .before .before .expect .ensures) l (c .before .before .before .before .before .before .before .before .stopped .ensures .0 (c .before .before .before .before .before .before .before .if1 .left))) (goes-on (nests (c .before .before .before .before .before .before .at .ensures)) (c .before .before .before .before .start .ensures .1 .done (c .before .before .before .stopped2 .ensures .0 (c .before .before .if2 .left))))) (gained-spends (c .add-first-arm .ensures)) (omega arith))
 
 group-take-requires : (t : ℕ) → group-lts.Need-take-requires (group-calls t) (group-at t) group.Post
 group-take-requires t c κs = search needs
 
-group-enum-told : (t : ℕ) → group-lts.Need-enum-told (group-calls t) (group-at t) group.Post
-group-enum-told t c = search needs
+group-stopped-requires : (t : ℕ) → group-lts.Need-stopped-requires (group-calls t) (group-at t) group.Post
+group-stopped-requires t c κs = search needs
 
 group-returns : (t : ℕ) → group-lts.Need-returns (group-calls t) (group-at t) group.Post
 group-returns t c =
-    (λ e. group-not e (c .before .take .ensures) (not-done (c .match .keys2)), not-took (c .before .take .ensures) (not-done (c .match .keys2)))
+    (λ e. group-not e (c .before .before .take .ensures) (c .before .stopped .ensures .1 (c .if1 .taken)), not-took (c .before .before .take .ensures) (c .before .stopped .ensures .1 (c .if1 .taken)))
 
 group-start-requires : (t : ℕ) → group-lts.Need-start-requires (group-calls t) (group-at t) group.Post
 group-start-requires t c κs =
-    let p = c .before .before .before .before .before .take .ensures .done (c .before .before .before .enum-told .given .1) in let g : c .before .before .before .before .before .take .result .state .nesting ≡ suc (c .before .before .before .before .before .before .before .args .s .nesting) = ap (λ (k : Counts). k .nesting) (p .counts) in let d : c .before .before .before .before .before .take .result .state .nesting ≤ 24 = p .deep in search needs
+    let p = c .before .before .before .take .ensures .done (c .before .before .stopped .ensures .0 (c .before .if1 .left)) in let g : c .before .before .before .take .result .state .nesting ≡ suc (c .before .before .before .before .before .args .s .nesting) = ap (λ (k : Counts). k .nesting) (p .counts) in let d : c .before .before .before .take .result .state .nesting ≤ 24 = p .deep in search needs
 
-group-enum-told-2 : (t : ℕ) → group-lts.Need-enum-told-2 (group-calls t) (group-at t) group.Post
-group-enum-told-2 t c = search needs
+group-stopped-requires-2 : (t : ℕ) → group-lts.Need-stopped-requires-2 (group-calls t) (group-at t) group.Post
+group-stopped-requires-2 t c κs = search needs
 
 group-returns-2 : (t : ℕ) → group-lts.Need-returns-2 (group-calls t) (group-at t) group.Post
 group-returns-2 t c =
-    (λ e. inner-not e (c .before .before .before .before .before .before .before .take .ensures) (c .before .before .before .before .before .enum-told .given .1) (c .before .start .ensures .0) (not-done (c .match2 .keys2)), spent (took-comes (c .before .before .before .before .before .before .before .take .ensures) (c .before .before .before .before .before .enum-told .given .1)) (c .before .start .ensures .1) (omega arith))
+    (λ e. inner-not e (c .before .before .before .before .before .before .take .ensures) (c .before .before .before .before .before .stopped .ensures .0 (c .before .before .before .before .if1 .left)) (c .before .before .start .ensures .0) (c .before .stopped2 .ensures .1 (c .if2 .taken)), spent (took-comes (c .before .before .before .before .before .before .take .ensures) (c .before .before .before .before .before .stopped .ensures .0 (c .before .before .before .before .if1 .left))) (c .before .before .start .ensures .1) (omega arith))
 
 group-expect-requires : (t : ℕ) → group-lts.Need-expect-requires (group-calls t) (group-at t) group.Post
 group-expect-requires t c κs = search needs
 
 group-returns-3 : (t : ℕ) → group-lts.Need-returns-3 (group-calls t) (group-at t) group.Post
 group-returns-3 t c =
-    (λ e. group-says e (c .before .before .before .before .before .before .before .before .before .before .before .take .ensures) (c .before .before .before .before .before .before .before .before .before .enum-told .given .1) (c .before .before .before .before .before .start .ensures .0) (c .before .before .before .enum-told2 .given .1) (c .expect .ensures), spent (goes-on (took-comes (c .before .before .before .before .before .before .before .before .before .before .before .take .ensures) (c .before .before .before .before .before .before .before .before .before .enum-told .given .1)) (c .before .before .before .before .before .start .ensures .1 .done (c .before .before .before .enum-told2 .given .1))) (expected-spends (c .expect .ensures) (omega arith)) (omega arith))
+    (λ e. group-says e (c .before .before .before .before .before .before .before .take .ensures) (c .before .before .before .before .before .before .stopped .ensures .0 (c .before .before .before .before .before .if1 .left)) (c .before .before .before .start .ensures .0) (c .before .before .stopped2 .ensures .0 (c .before .if2 .left)) (c .expect .ensures), spent (goes-on (took-comes (c .before .before .before .before .before .before .before .take .ensures) (c .before .before .before .before .before .before .stopped .ensures .0 (c .before .before .before .before .before .if1 .left))) (c .before .before .before .start .ensures .1 .done (c .before .before .stopped2 .ensures .0 (c .before .if2 .left)))) (expected-spends (c .expect .ensures) (omega arith)) (omega arith))
 
-inside-number-requires : (t : ℕ) → inside-lts.Need-number-requires (inside-calls t) (inside-at t) inside.Post
-inside-number-requires t c κs = search needs
+inside-kind-of-requires : (t : ℕ) → inside-lts.Need-kind-of-requires (inside-calls t) (inside-at t) inside.Post
+inside-kind-of-requires t c κs = search needs
 
 inside-take-requires : (t : ℕ) → inside-lts.Need-take-requires (inside-calls t) (inside-at t) inside.Post
 inside-take-requires t c κs = search needs
 
-inside-enum-told : (t : ℕ) → inside-lts.Need-enum-told (inside-calls t) (inside-at t) inside.Post
-inside-enum-told t c = search needs
+inside-stopped-requires : (t : ℕ) → inside-lts.Need-stopped-requires (inside-calls t) (inside-at t) inside.Post
+inside-stopped-requires t c κs = search needs
 
 inside-returns : (t : ℕ) → inside-lts.Need-returns (inside-calls t) (inside-at t) inside.Post
 inside-returns t c =
-    (inside-not (c .before .before .before .before .before .args .later) (sym (c .before .before .before .number .ensures) ∙ c .before .before .if1 .taken) (c .before .take .ensures) (not-done (c .match .keys2)), not-took (c .before .take .ensures) (not-done (c .match .keys2)))
+    (inside-not (c .before .before .before .before .before .before .args .later) (sym (c .before .before .before .before .kind-of .ensures) ∙ c .before .before .before .if1 .taken) (c .before .before .take .ensures) (c .before .stopped .ensures .1 (c .if2 .taken)), not-took (c .before .before .take .ensures) (c .before .stopped .ensures .1 (c .if2 .taken)))
 
 inside-counted-requires : (t : ℕ) → inside-lts.Need-counted-requires (inside-calls t) (inside-at t) inside.Post
 inside-counted-requires t c κs = search needs
 
-inside-enum-told-2 : (t : ℕ) → inside-lts.Need-enum-told-2 (inside-calls t) (inside-at t) inside.Post
-inside-enum-told-2 t c = search needs
+inside-stopped-requires-2 : (t : ℕ) → inside-lts.Need-stopped-requires-2 (inside-calls t) (inside-at t) inside.Post
+inside-stopped-requires-2 t c κs = search needs
 
 inside-returns-2 : (t : ℕ) → inside-lts.Need-returns-2 (inside-calls t) (inside-at t) inside.Post
 inside-returns-2 t c =
-    (counted-not (c .before .before .before .before .before .before .before .before .before .args .later) (sym (c .before .before .before .before .before .before .before .number .ensures) ∙ c .before .before .before .before .before .before .if1 .taken) (c .before .before .before .before .before .take .ensures) (c .before .before .before .enum-told .given .1) (c .before .counted .ensures .0) (not-done (c .match2 .keys2)), spent-seen (λ z. spent (took-comes (c .before .before .before .before .before .take .ensures) (c .before .before .before .enum-told .given .1)) (c .before .counted .ensures .1 _ (narrow _ (c .before .before .before .before .before .before .before .before .before .args .w) z (sym (c .before .before .before .before .before .before .before .number .ensures) ∙ c .before .before .before .before .before .before .if1 .taken))) (omega arith)))
+    (counted-not (c .before .before .before .before .before .before .before .before .before .before .args .later) (sym (c .before .before .before .before .before .before .before .before .kind-of .ensures) ∙ c .before .before .before .before .before .before .before .if1 .taken) (c .before .before .before .before .before .before .take .ensures) (c .before .before .before .before .before .stopped .ensures .0 (c .before .before .before .before .if2 .left)) (c .before .before .counted .ensures .0) (c .before .stopped2 .ensures .1 (c .if3 .taken)), spent-seen (λ z. spent (took-comes (c .before .before .before .before .before .before .take .ensures) (c .before .before .before .before .before .stopped .ensures .0 (c .before .before .before .before .if2 .left))) (c .before .before .counted .ensures .1 _ (narrow _ (c .before .before .before .before .before .before .before .before .before .before .args .w) z (sym (c .before .before .before .before .before .before .before .before .kind-of .ensures) ∙ c .before .before .before .before .before .before .before .if1 .taken))) (omega arith)))
 
 inside-at-requires : (t : ℕ) → inside-lts.Need-at-requires (inside-calls t) (inside-at t) inside.Post
 inside-at-requires t c κs = search needs
@@ -533,14 +533,14 @@ inside-rest-requires t c κs =
 
 inside-returns-3 : (t : ℕ) → inside-lts.Need-returns-3 (inside-calls t) (inside-at t) inside.Post
 inside-returns-3 t c =
-    (inside-says (c .before .before .before .before .before .before .before .before .before .before .before .before .before .args .later) (sym (c .before .before .before .before .before .before .before .before .before .before .before .number .ensures) ∙ c .before .before .before .before .before .before .before .before .before .before .if1 .taken) (c .before .before .before .before .before .before .before .before .before .take .ensures) (c .before .before .before .before .before .before .before .enum-told .given .1) (c .before .before .before .before .before .counted .ensures .0) (c .before .before .before .enum-told2 .given .1) (c .before .before .at .ensures) (c .rest .ensures .0), spent-seen (λ z. spent (goes-on (took-comes (c .before .before .before .before .before .before .before .before .before .take .ensures) (c .before .before .before .before .before .before .before .enum-told .given .1)) (goes-on ((c .before .before .before .before .before .counted .ensures .1 _ (narrow _ (c .before .before .before .before .before .before .before .before .before .before .before .before .before .args .w) z (sym (c .before .before .before .before .before .before .before .before .before .before .before .number .ensures) ∙ c .before .before .before .before .before .before .before .before .before .before .if1 .taken))) .done (c .before .before .before .enum-told2 .given .1)) (nests (c .before .before .at .ensures)))) (c .rest .ensures .1) (omega arith)))
+    (inside-says (c .before .before .before .before .before .before .before .before .before .before .before .before .before .args .later) (sym (c .before .before .before .before .before .before .before .before .before .before .before .kind-of .ensures) ∙ c .before .before .before .before .before .before .before .before .before .before .if1 .taken) (c .before .before .before .before .before .before .before .before .before .take .ensures) (c .before .before .before .before .before .before .before .before .stopped .ensures .0 (c .before .before .before .before .before .before .before .if2 .left)) (c .before .before .before .before .before .counted .ensures .0) (c .before .before .before .before .stopped2 .ensures .0 (c .before .before .before .if3 .left)) (c .before .before .at .ensures) (c .rest .ensures .0), spent-seen (λ z. spent (goes-on (took-comes (c .before .before .before .before .before .before .before .before .before .take .ensures) (c .before .before .before .before .before .before .before .before .stopped .ensures .0 (c .before .before .before .before .before .before .before .if2 .left))) (goes-on ((c .before .before .before .before .before .counted .ensures .1 _ (narrow _ (c .before .before .before .before .before .before .before .before .before .before .before .before .before .args .w) z (sym (c .before .before .before .before .before .before .before .before .before .before .before .kind-of .ensures) ∙ c .before .before .before .before .before .before .before .before .before .before .if1 .taken))) .done (c .before .before .before .before .stopped2 .ensures .0 (c .before .before .before .if3 .left))) (nests (c .before .before .at .ensures)))) (c .rest .ensures .1) (omega arith)))
 
 inside-start-requires : (t : ℕ) → inside-lts.Need-start-requires (inside-calls t) (inside-at t) inside.Post
 inside-start-requires t c κs = search needs
 
 inside-returns-4 : (t : ℕ) → inside-lts.Need-returns-4 (inside-calls t) (inside-at t) inside.Post
 inside-returns-4 t c =
-    (inside-expression (c .before .before .before .before .before .args .later) (λ e. c .before .before .if1 .left (c .before .before .before .number .ensures ∙ e)) (c .start .ensures .0), c .start .ensures .1)
+    (inside-expression (c .before .before .before .before .before .args .later) (λ e. c .before .before .if1 .left (c .before .before .before .kind-of .ensures ∙ e)) (c .start .ensures .0), c .start .ensures .1)
 
 abbrev more-arms-Inv-loop : more-arms-lts.InvT-loop
 more-arms-Inv-loop s case n text work₀ state₀ next₀ count₀ left₀ work state next count left = Armings case text next₀ s work₀ n next state work count left × (Seen text next₀ → Comes text 0 0 s next state)
@@ -562,12 +562,12 @@ more-arms-next-arm-requires : (t : ℕ) → more-arms-lts.Need-next-arm-requires
 more-arms-next-arm-requires t c κs =
     let h : c .before .at .result .nesting ≡ c .before .before .before .before .before .before .before .args .s .nesting = ap (λ (q : State). q .nesting) (c .before .at .ensures) in search needs
 
-more-arms-enum-told : (t : ℕ) → more-arms-lts.Need-enum-told (more-arms-calls t) (more-arms-at t) more-arms.Post more-arms-Inv-loop more-arms-μ-loop
-more-arms-enum-told t c = search needs
+more-arms-stopped-requires : (t : ℕ) → more-arms-lts.Need-stopped-requires (more-arms-calls t) (more-arms-at t) more-arms.Post more-arms-Inv-loop more-arms-μ-loop
+more-arms-stopped-requires t c κs = search needs
 
 more-arms-returns : (t : ℕ) → more-arms-lts.Need-returns (more-arms-calls t) (more-arms-at t) more-arms.Post more-arms-Inv-loop more-arms-μ-loop
 more-arms-returns t c =
-    (armings-not (c .before .before .before .before .before .before .before .before .before .args .case) (c .before .before .before .before .before .before .before .loop .inv .0) (sym (c .before .before .before .before .before .another .ensures) ∙ c .before .before .before .before .if1 .taken) (c .before .before .before .at .ensures) (c .before .next-arm .ensures .0) (not-done (c .match .keys2)), spent (goes-on (c .before .before .before .before .before .before .before .loop .inv .1) (nests (c .before .before .before .at .ensures))) (c .before .next-arm .ensures .1 (omega arith)) (omega arith))
+    (armings-not (c .before .before .before .before .before .before .before .before .before .before .args .case) (c .before .before .before .before .before .before .before .before .loop .inv .0) (sym (c .before .before .before .before .before .before .another .ensures) ∙ c .before .before .before .before .before .if1 .taken) (c .before .before .before .before .at .ensures) (c .before .before .next-arm .ensures .0) (c .before .stopped .ensures .1 (c .if2 .taken)), spent (goes-on (c .before .before .before .before .before .before .before .before .loop .inv .1) (nests (c .before .before .before .before .at .ensures))) (c .before .before .next-arm .ensures .1 (omega arith)) (omega arith))
 
 more-arms-one-more-requires : (t : ℕ) → more-arms-lts.Need-one-more-requires (more-arms-calls t) (more-arms-at t) more-arms.Post more-arms-Inv-loop more-arms-μ-loop
 more-arms-one-more-requires t c κs = search needs
@@ -580,7 +580,7 @@ more-arms-loop-less t c = search needs
 
 more-arms-loop-again : (t : ℕ) → more-arms-lts.Need-loop-again (more-arms-calls t) (more-arms-at t) more-arms.Post more-arms-Inv-loop more-arms-μ-loop
 more-arms-loop-again t c =
-    (armings-more (c .before .before .before .before .before .before .before .before .before .before .before .before .before .args .case) (c .before .before .before .before .before .before .before .before .before .before .before .loop .inv .0) (sym (c .before .before .before .before .before .before .before .before .before .another .ensures) ∙ c .before .before .before .before .before .before .before .before .if1 .taken) (c .before .before .before .before .before .before .before .at .ensures) (c .before .before .before .before .before .next-arm .ensures .0) (c .before .before .before .enum-told .given .1) (c .one-more .ensures) (omega (arith, c .before .before .before .before .before .before .before .before .before .before .loop-test .taken)), comes-as (goes-on (c .before .before .before .before .before .before .before .before .before .before .before .loop .inv .1) (goes-on (nests (c .before .before .before .before .before .before .before .at .ensures)) (c .before .before .before .before .before .next-arm .ensures .1 (omega arith) .done (c .before .before .before .enum-told .given .1)))) (omega arith))
+    (armings-more (c .before .before .before .before .before .before .before .before .before .before .before .before .before .args .case) (c .before .before .before .before .before .before .before .before .before .before .before .loop .inv .0) (sym (c .before .before .before .before .before .before .before .before .before .another .ensures) ∙ c .before .before .before .before .before .before .before .before .if1 .taken) (c .before .before .before .before .before .before .before .at .ensures) (c .before .before .before .before .before .next-arm .ensures .0) (c .before .before .before .before .stopped .ensures .0 (c .before .before .before .if2 .left)) (c .one-more .ensures) (omega (arith, c .before .before .before .before .before .before .before .before .before .before .loop-test .taken)), comes-as (goes-on (c .before .before .before .before .before .before .before .before .before .before .before .loop .inv .1) (goes-on (nests (c .before .before .before .before .before .before .before .at .ensures)) (c .before .before .before .before .before .next-arm .ensures .1 (omega arith) .done (c .before .before .before .before .stopped .ensures .0 (c .before .before .before .if2 .left))))) (omega arith))
 
 more-arms-stay-requires : (t : ℕ) → more-arms-lts.Need-stay-requires (more-arms-calls t) (more-arms-at t) more-arms.Post more-arms-Inv-loop more-arms-μ-loop
 more-arms-stay-requires t c κs = search needs
@@ -599,30 +599,30 @@ more-arms-returns-3 t c =
 named-take-requires : (t : ℕ) → named-lts.Need-take-requires (named-calls t) (named-at t) named.Post
 named-take-requires t c κs = search needs
 
-named-enum-told : (t : ℕ) → named-lts.Need-enum-told (named-calls t) (named-at t) named.Post
-named-enum-told t c = search needs
+named-stopped-requires : (t : ℕ) → named-lts.Need-stopped-requires (named-calls t) (named-at t) named.Post
+named-stopped-requires t c κs = search needs
 
 named-returns : (t : ℕ) → named-lts.Need-returns (named-calls t) (named-at t) named.Post
 named-returns t c =
-    (λ e. named-not e (c .before .take .ensures) (not-done (c .match .keys2)), not-took (c .before .take .ensures) (not-done (c .match .keys2)))
+    (λ e. named-not e (c .before .before .take .ensures) (c .before .stopped .ensures .1 (c .if1 .taken)), not-took (c .before .before .take .ensures) (c .before .stopped .ensures .1 (c .if1 .taken)))
 
 named-reference-requires : (t : ℕ) → named-lts.Need-reference-requires (named-calls t) (named-at t) named.Post
 named-reference-requires t c κs =
-    let p = c .before .before .before .before .before .take .ensures .done (c .before .before .before .enum-told .given .1) in let g : c .before .before .before .before .before .take .result .state .nesting ≡ c .before .before .before .before .before .before .before .args .s .nesting = ap (λ (k : Counts). k .nesting) (p .counts) in search needs
+    let p = c .before .before .before .take .ensures .done (c .before .before .stopped .ensures .0 (c .before .if1 .left)) in let g : c .before .before .before .take .result .state .nesting ≡ c .before .before .before .before .before .args .s .nesting = ap (λ (k : Counts). k .nesting) (p .counts) in search needs
 
 named-returns-2 : (t : ℕ) → named-lts.Need-returns-2 (named-calls t) (named-at t) named.Post
 named-returns-2 t c =
-    (λ e. named-says e (c .before .before .before .before .before .before .take .ensures) (c .before .before .before .before .enum-told .given .1) (c .reference .ensures .0), spent (counted-comes (c .before .before .before .before .before .before .take .ensures) (c .before .before .before .before .enum-told .given .1)) (c .reference .ensures .1) (omega arith))
+    (λ e. named-says e (c .before .before .before .before .take .ensures) (c .before .before .before .stopped .ensures .0 (c .before .before .if1 .left)) (c .reference .ensures .0), spent (counted-comes (c .before .before .before .before .take .ensures) (c .before .before .before .stopped .ensures .0 (c .before .before .if1 .left))) (c .reference .ensures .1) (omega arith))
 
 next-arm-expect-requires : (t : ℕ) → next-arm-lts.Need-expect-requires (next-arm-calls t) (next-arm-at t) next-arm.Post
 next-arm-expect-requires t c κs = search needs
 
-next-arm-enum-told : (t : ℕ) → next-arm-lts.Need-enum-told (next-arm-calls t) (next-arm-at t) next-arm.Post
-next-arm-enum-told t c = search needs
+next-arm-stopped-requires : (t : ℕ) → next-arm-lts.Need-stopped-requires (next-arm-calls t) (next-arm-at t) next-arm.Post
+next-arm-stopped-requires t c κs = search needs
 
 next-arm-returns : (t : ℕ) → next-arm-lts.Need-returns (next-arm-calls t) (next-arm-at t) next-arm.Post
 next-arm-returns t c =
-    (next-not (c .before .expect .ensures) (not-done (c .match .keys2)), λ l. unexpected (c .before .expect .ensures) (not-done (c .match .keys2)))
+    (next-not (c .before .before .expect .ensures) (c .before .stopped .ensures .1 (c .if1 .taken)), λ l. unexpected (c .before .before .expect .ensures) (c .before .stopped .ensures .1 (c .if1 .taken)))
 
 next-arm-at-requires : (t : ℕ) → next-arm-lts.Need-at-requires (next-arm-calls t) (next-arm-at t) next-arm.Post
 next-arm-at-requires t c κs = search needs
@@ -631,12 +631,12 @@ next-arm-start-requires : (t : ℕ) → next-arm-lts.Need-start-requires (next-a
 next-arm-start-requires t c κs =
     let h : c .before .at .result .nesting ≡ c .before .before .before .before .before .before .args .s .nesting = ap (λ (q : State). q .nesting) (c .before .at .ensures) in search needs
 
-next-arm-enum-told-2 : (t : ℕ) → next-arm-lts.Need-enum-told-2 (next-arm-calls t) (next-arm-at t) next-arm.Post
-next-arm-enum-told-2 t c = search needs
+next-arm-stopped-requires-2 : (t : ℕ) → next-arm-lts.Need-stopped-requires-2 (next-arm-calls t) (next-arm-at t) next-arm.Post
+next-arm-stopped-requires-2 t c κs = search needs
 
 next-arm-returns-2 : (t : ℕ) → next-arm-lts.Need-returns-2 (next-arm-calls t) (next-arm-at t) next-arm.Post
 next-arm-returns-2 t c =
-    (next-inner (c .before .before .before .before .before .before .expect .ensures) (c .before .before .before .before .enum-told .given .1) (c .before .before .before .at .ensures) (c .before .start .ensures .0) (not-done (c .match2 .keys2)), λ l. spent (goes-on (expected-comes (c .before .before .before .before .before .before .expect .ensures) l (c .before .before .before .before .enum-told .given .1)) (nests (c .before .before .before .at .ensures))) (c .before .start .ensures .1) (omega arith))
+    (next-inner (c .before .before .before .before .before .before .before .expect .ensures) (c .before .before .before .before .before .before .stopped .ensures .0 (c .before .before .before .before .before .if1 .left)) (c .before .before .before .before .at .ensures) (c .before .before .start .ensures .0) (c .before .stopped2 .ensures .1 (c .if2 .taken)), λ l. spent (goes-on (expected-comes (c .before .before .before .before .before .before .before .expect .ensures) l (c .before .before .before .before .before .before .stopped .ensures .0 (c .before .before .before .before .before .if1 .left))) (nests (c .before .before .before .before .at .ensures))) (c .before .before .start .ensures .1) (omega arith))
 
 next-arm-last-requires : (t : ℕ) → next-arm-lts.Need-last-requires (next-arm-calls t) (next-arm-at t) next-arm.Post
 next-arm-last-requires t c κs = search needs
@@ -646,7 +646,7 @@ next-arm-add-next-arm-requires t c κs = search needs
 
 next-arm-returns-3 : (t : ℕ) → next-arm-lts.Need-returns-3 (next-arm-calls t) (next-arm-at t) next-arm.Post
 next-arm-returns-3 t c =
-    (next-says (c .before .before .before .before .before .before .before .before .before .before .expect .ensures) (c .before .before .before .before .before .before .before .before .enum-told .given .1) (c .before .before .before .before .before .before .before .at .ensures) (c .before .before .before .before .before .start .ensures .0) (c .before .before .before .enum-told2 .given .1) (c .before .before .last .ensures) (c .add-next-arm .ensures), λ l. spent (goes-on (expected-comes (c .before .before .before .before .before .before .before .before .before .before .expect .ensures) l (c .before .before .before .before .before .before .before .before .enum-told .given .1)) (goes-on (nests (c .before .before .before .before .before .before .before .at .ensures)) (c .before .before .before .before .before .start .ensures .1 .done (c .before .before .before .enum-told2 .given .1)))) (gained-spends (c .add-next-arm .ensures)) (omega arith))
+    (next-says (c .before .before .before .before .before .before .before .before .before .before .expect .ensures) (c .before .before .before .before .before .before .before .before .before .stopped .ensures .0 (c .before .before .before .before .before .before .before .before .if1 .left)) (c .before .before .before .before .before .before .before .at .ensures) (c .before .before .before .before .before .start .ensures .0) (c .before .before .before .before .stopped2 .ensures .0 (c .before .before .before .if2 .left)) (c .before .before .last .ensures) (c .add-next-arm .ensures), λ l. spent (goes-on (expected-comes (c .before .before .before .before .before .before .before .before .before .before .expect .ensures) l (c .before .before .before .before .before .before .before .before .before .stopped .ensures .0 (c .before .before .before .before .before .before .before .before .if1 .left))) (goes-on (nests (c .before .before .before .before .before .before .before .at .ensures)) (c .before .before .before .before .before .start .ensures .1 .done (c .before .before .before .before .stopped2 .ensures .0 (c .before .before .before .if2 .left))))) (gained-spends (c .add-next-arm .ensures)) (omega arith))
 
 opening-enum-told : (t : ℕ) → opening-lts.Need-enum-told (opening-calls t) (opening-at t) opening.Post
 opening-enum-told t c = search needs
@@ -661,22 +661,22 @@ opening-returns t c =
 opening-take-requires : (t : ℕ) → opening-lts.Need-take-requires (opening-calls t) (opening-at t) opening.Post
 opening-take-requires t c κs = search needs
 
-opening-enum-told-2 : (t : ℕ) → opening-lts.Need-enum-told-2 (opening-calls t) (opening-at t) opening.Post
-opening-enum-told-2 t c = search needs
+opening-stopped-requires : (t : ℕ) → opening-lts.Need-stopped-requires (opening-calls t) (opening-at t) opening.Post
+opening-stopped-requires t c κs = search needs
 
 opening-returns-2 : (t : ℕ) → opening-lts.Need-returns-2 (opening-calls t) (opening-at t) opening.Post
 opening-returns-2 t c =
-    (opening-not (c .before .before .before .before .args .head) (not-plain (c .before .before .match .keys2)) (c .before .take .ensures) (not-done (c .match2 .keys2)), not-took (c .before .take .ensures) (not-done (c .match2 .keys2)))
+    (opening-not (c .before .before .before .before .before .args .head) (not-plain (c .before .before .before .match .keys2)) (c .before .before .take .ensures) (c .before .stopped .ensures .1 (c .if1 .taken)), not-took (c .before .before .take .ensures) (c .before .stopped .ensures .1 (c .if1 .taken)))
 
 opening-reducing-requires : (t : ℕ) → opening-lts.Need-reducing-requires (opening-calls t) (opening-at t) opening.Post
 opening-reducing-requires t c κs = search needs
 
-opening-enum-told-3 : (t : ℕ) → opening-lts.Need-enum-told-3 (opening-calls t) (opening-at t) opening.Post
-opening-enum-told-3 t c = search needs
+opening-stopped-requires-2 : (t : ℕ) → opening-lts.Need-stopped-requires-2 (opening-calls t) (opening-at t) opening.Post
+opening-stopped-requires-2 t c κs = search needs
 
 opening-returns-3 : (t : ℕ) → opening-lts.Need-returns-3 (opening-calls t) (opening-at t) opening.Post
 opening-returns-3 t c =
-    (red-not (c .before .before .before .before .before .before .before .before .before .args .head) (not-plain (c .before .before .before .before .before .before .before .match .keys2)) (c .before .before .before .before .before .before .take .ensures) (c .before .before .before .before .enum-told2 .given .1) (c .before .reducing .ensures .0) (not-done (c .match3 .keys2)), spent (counted-comes (c .before .before .before .before .before .before .take .ensures) (c .before .before .before .before .enum-told2 .given .1)) (c .before .reducing .ensures .1) (omega arith))
+    (red-not (c .before .before .before .before .before .before .before .before .args .head) (not-plain (c .before .before .before .before .before .before .match .keys2)) (c .before .before .before .before .before .take .ensures) (c .before .before .before .before .stopped .ensures .0 (c .before .before .before .if1 .left)) (c .before .before .reducing .ensures .0) (c .before .stopped2 .ensures .1 (c .if2 .taken)), spent (counted-comes (c .before .before .before .before .before .take .ensures) (c .before .before .before .before .stopped .ensures .0 (c .before .before .before .if1 .left))) (c .before .before .reducing .ensures .1) (omega arith))
 
 opening-at-requires : (t : ℕ) → opening-lts.Need-at-requires (opening-calls t) (opening-at t) opening.Post
 opening-at-requires t c κs = search needs
@@ -686,58 +686,58 @@ opening-prefixed-requires t c κs = search needs
 
 opening-start-requires : (t : ℕ) → opening-lts.Need-start-requires (opening-calls t) (opening-at t) opening.Post
 opening-start-requires t c κs =
-    let p = c .before .before .before .before .before .before .before .before .before .before .take .ensures .done (c .before .before .before .before .before .before .before .before .enum-told2 .given .1) in let h : c .before .before .at .result .nesting ≡ c .before .before .before .before .before .before .before .before .before .before .take .result .state .nesting = ap (λ (q : State). q .nesting) (c .before .before .at .ensures) in let g : c .before .before .before .before .before .before .before .before .before .before .take .result .state .nesting ≡ suc (c .before .before .before .before .before .before .before .before .before .before .before .before .before .args .s .nesting) = ap (λ (k : Counts). k .nesting) (p .counts) in let d : c .before .before .before .before .before .before .before .before .before .before .take .result .state .nesting ≤ 24 = p .deep in let m : topNo (c .before .prefixed .result) ≤ 7 = top-most (c .before .prefixed .result) in search needs
+    let p = c .before .before .before .before .before .before .before .before .take .ensures .done (c .before .before .before .before .before .before .before .stopped .ensures .0 (c .before .before .before .before .before .before .if1 .left)) in let h : c .before .before .at .result .nesting ≡ c .before .before .before .before .before .before .before .before .take .result .state .nesting = ap (λ (q : State). q .nesting) (c .before .before .at .ensures) in let g : c .before .before .before .before .before .before .before .before .take .result .state .nesting ≡ suc (c .before .before .before .before .before .before .before .before .before .before .before .args .s .nesting) = ap (λ (k : Counts). k .nesting) (p .counts) in let d : c .before .before .before .before .before .before .before .before .take .result .state .nesting ≤ 24 = p .deep in let m : topNo (c .before .prefixed .result) ≤ 7 = top-most (c .before .prefixed .result) in search needs
 
-opening-enum-told-4 : (t : ℕ) → opening-lts.Need-enum-told-4 (opening-calls t) (opening-at t) opening.Post
-opening-enum-told-4 t c = search needs
+opening-stopped-requires-3 : (t : ℕ) → opening-lts.Need-stopped-requires-3 (opening-calls t) (opening-at t) opening.Post
+opening-stopped-requires-3 t c κs = search needs
 
 opening-returns-4 : (t : ℕ) → opening-lts.Need-returns-4 (opening-calls t) (opening-at t) opening.Post
 opening-returns-4 t c =
-    (operand-not (c .before .before .before .before .before .before .before .before .before .before .before .before .before .before .before .args .head) (not-plain (c .before .before .before .before .before .before .before .before .before .before .before .before .before .match .keys2)) (c .before .before .before .before .before .before .before .before .before .before .before .before .take .ensures) (c .before .before .before .before .before .before .before .before .before .before .enum-told2 .given .1) (c .before .before .before .before .before .before .before .reducing .ensures .0) (c .before .before .before .before .before .enum-told3 .given .1) (c .before .before .before .prefixed .ensures) (c .before .before .before .before .at .ensures) (c .before .start .ensures .0) (not-done (c .match4 .keys2)), spent (goes-on (counted-comes (c .before .before .before .before .before .before .before .before .before .before .before .before .take .ensures) (c .before .before .before .before .before .before .before .before .before .before .enum-told2 .given .1)) (goes-on (c .before .before .before .before .before .before .before .reducing .ensures .1 .done (c .before .before .before .before .before .enum-told3 .given .1)) (nests (c .before .before .before .before .at .ensures)))) (c .before .start .ensures .1) (omega arith))
+    (operand-not (c .before .before .before .before .before .before .before .before .before .before .before .before .before .before .args .head) (not-plain (c .before .before .before .before .before .before .before .before .before .before .before .before .match .keys2)) (c .before .before .before .before .before .before .before .before .before .before .before .take .ensures) (c .before .before .before .before .before .before .before .before .before .before .stopped .ensures .0 (c .before .before .before .before .before .before .before .before .before .if1 .left)) (c .before .before .before .before .before .before .before .before .reducing .ensures .0) (c .before .before .before .before .before .before .before .stopped2 .ensures .0 (c .before .before .before .before .before .before .if2 .left)) (c .before .before .before .before .prefixed .ensures) (c .before .before .before .before .before .at .ensures) (c .before .before .start .ensures .0) (c .before .stopped3 .ensures .1 (c .if3 .taken)), spent (goes-on (counted-comes (c .before .before .before .before .before .before .before .before .before .before .before .take .ensures) (c .before .before .before .before .before .before .before .before .before .before .stopped .ensures .0 (c .before .before .before .before .before .before .before .before .before .if1 .left))) (goes-on (c .before .before .before .before .before .before .before .before .reducing .ensures .1 .done (c .before .before .before .before .before .before .before .stopped2 .ensures .0 (c .before .before .before .before .before .before .if2 .left))) (nests (c .before .before .before .before .before .at .ensures)))) (c .before .before .start .ensures .1) (omega arith))
 
 opening-add-prefix-requires : (t : ℕ) → opening-lts.Need-add-prefix-requires (opening-calls t) (opening-at t) opening.Post
 opening-add-prefix-requires t c κs = search needs
 
 opening-returns-5 : (t : ℕ) → opening-lts.Need-returns-5 (opening-calls t) (opening-at t) opening.Post
 opening-returns-5 t c =
-    (opening-says (c .before .before .before .before .before .before .before .before .before .before .before .before .before .before .before .before .before .before .before .before .args .head) (not-plain (c .before .before .before .before .before .before .before .before .before .before .before .before .before .before .before .before .before .before .match .keys2)) (c .before .before .before .before .before .before .before .before .before .before .before .before .before .before .before .before .before .take .ensures) (c .before .before .before .before .before .before .before .before .before .before .before .before .before .before .before .enum-told2 .given .1) (c .before .before .before .before .before .before .before .before .before .before .before .before .reducing .ensures .0) (c .before .before .before .before .before .before .before .before .before .before .enum-told3 .given .1) (c .before .before .before .before .before .before .before .before .prefixed .ensures) (c .before .before .before .before .before .before .before .before .before .at .ensures) (c .before .before .before .before .before .before .start .ensures .0) (c .before .before .before .before .enum-told4 .given .1) (c .add-prefix .ensures), spent (goes-on (counted-comes (c .before .before .before .before .before .before .before .before .before .before .before .before .before .before .before .before .before .take .ensures) (c .before .before .before .before .before .before .before .before .before .before .before .before .before .before .before .enum-told2 .given .1)) (goes-on (c .before .before .before .before .before .before .before .before .before .before .before .before .reducing .ensures .1 .done (c .before .before .before .before .before .before .before .before .before .before .enum-told3 .given .1)) (goes-on (nests (c .before .before .before .before .before .before .before .before .before .at .ensures)) (goes-on (c .before .before .before .before .before .before .start .ensures .1 .done (c .before .before .before .before .enum-told4 .given .1)) eases)))) (gained-spends (c .add-prefix .ensures)) (omega arith))
+    (opening-says (c .before .before .before .before .before .before .before .before .before .before .before .before .before .before .before .before .args .head) (not-plain (c .before .before .before .before .before .before .before .before .before .before .before .before .before .before .match .keys2)) (c .before .before .before .before .before .before .before .before .before .before .before .before .before .take .ensures) (c .before .before .before .before .before .before .before .before .before .before .before .before .stopped .ensures .0 (c .before .before .before .before .before .before .before .before .before .before .before .if1 .left)) (c .before .before .before .before .before .before .before .before .before .before .reducing .ensures .0) (c .before .before .before .before .before .before .before .before .before .stopped2 .ensures .0 (c .before .before .before .before .before .before .before .before .if2 .left)) (c .before .before .before .before .before .before .prefixed .ensures) (c .before .before .before .before .before .before .before .at .ensures) (c .before .before .before .before .start .ensures .0) (c .before .before .before .stopped3 .ensures .0 (c .before .before .if3 .left)) (c .add-prefix .ensures), spent (goes-on (counted-comes (c .before .before .before .before .before .before .before .before .before .before .before .before .before .take .ensures) (c .before .before .before .before .before .before .before .before .before .before .before .before .stopped .ensures .0 (c .before .before .before .before .before .before .before .before .before .before .before .if1 .left))) (goes-on (c .before .before .before .before .before .before .before .before .before .before .reducing .ensures .1 .done (c .before .before .before .before .before .before .before .before .before .stopped2 .ensures .0 (c .before .before .before .before .before .before .before .before .if2 .left))) (goes-on (nests (c .before .before .before .before .before .before .before .at .ensures)) (goes-on (c .before .before .before .before .start .ensures .1 .done (c .before .before .before .stopped3 .ensures .0 (c .before .before .if3 .left))) eases)))) (gained-spends (c .add-prefix .ensures)) (omega arith))
 
 operation-take-requires : (t : ℕ) → operation-lts.Need-take-requires (operation-calls t) (operation-at t) operation.Post
 operation-take-requires t c κs = search needs
 
-operation-enum-told : (t : ℕ) → operation-lts.Need-enum-told (operation-calls t) (operation-at t) operation.Post
-operation-enum-told t c = search needs
+operation-stopped-requires : (t : ℕ) → operation-lts.Need-stopped-requires (operation-calls t) (operation-at t) operation.Post
+operation-stopped-requires t c κs = search needs
 
 operation-returns : (t : ℕ) → operation-lts.Need-returns (operation-calls t) (operation-at t) operation.Post
 operation-returns t c =
-    (operation-not (c .before .take .ensures) (c .before .before .before .args .rank) (not-done (c .match .keys2)), not-took (c .before .take .ensures) (not-done (c .match .keys2)))
+    (operation-not (c .before .before .take .ensures) (c .before .before .before .before .args .rank) (c .before .stopped .ensures .1 (c .if1 .taken)), not-took (c .before .before .take .ensures) (c .before .stopped .ensures .1 (c .if1 .taken)))
 
-operation-enum-told-2 : (t : ℕ) → operation-lts.Need-enum-told-2 (operation-calls t) (operation-at t) operation.Post
-operation-enum-told-2 t c = search needs
+operation-enum-told : (t : ℕ) → operation-lts.Need-enum-told (operation-calls t) (operation-at t) operation.Post
+operation-enum-told t c = search needs
 
-operation-number-requires : (t : ℕ) → operation-lts.Need-number-requires (operation-calls t) (operation-at t) operation.Post
-operation-number-requires t c κs = search needs
+operation-kind-of-requires : (t : ℕ) → operation-lts.Need-kind-of-requires (operation-calls t) (operation-at t) operation.Post
+operation-kind-of-requires t c κs = search needs
 
 operation-cut-requires : (t : ℕ) → operation-lts.Need-cut-requires (operation-calls t) (operation-at t) operation.Post
 operation-cut-requires t c κs = search needs
 
 operation-returns-2 : (t : ℕ) → operation-lts.Need-returns-2 (operation-calls t) (operation-at t) operation.Post
 operation-returns-2 t c =
-    (cut-operation (c .before .before .before .before .before .before .before .before .before .take .ensures) (c .before .before .before .before .before .before .before .enum-told .given .1) (c .before .before .before .enum-told2 .given .1) (c .before .before .number .ensures) (c .cut .ensures .0, c .cut .ensures .1), spent (counted-comes (c .before .before .before .before .before .before .before .before .before .take .ensures) (c .before .before .before .before .before .before .before .enum-told .given .1)) (c .cut .ensures .2) (omega arith))
+    (cut-operation (c .before .before .before .before .before .before .before .take .ensures) (c .before .before .before .before .before .before .stopped .ensures .0 (c .before .before .before .before .before .if1 .left)) (c .before .before .before .enum-told .given .1) (c .before .before .kind-of .ensures) (c .cut .ensures .0, c .cut .ensures .1), spent (counted-comes (c .before .before .before .before .before .before .before .take .ensures) (c .before .before .before .before .before .before .stopped .ensures .0 (c .before .before .before .before .before .if1 .left))) (c .cut .ensures .2) (omega arith))
 
 operation-operand-requires : (t : ℕ) → operation-lts.Need-operand-requires (operation-calls t) (operation-at t) operation.Post
 operation-operand-requires t c κs = search needs
 
 operation-start-requires : (t : ℕ) → operation-lts.Need-start-requires (operation-calls t) (operation-at t) operation.Post
 operation-start-requires t c κs =
-    let p = c .before .before .before .before .before .before .before .take .ensures .done (c .before .before .before .before .before .enum-told .given .1) in let g : c .before .before .before .before .before .before .before .take .result .state .nesting ≡ c .before .before .before .before .before .before .before .before .before .args .s .nesting = ap (λ (k : Counts). k .nesting) (p .counts) in let m : topNo (c .before .operand .result) ≤ rankNo (c .before .before .before .before .before .before .before .before .before .args .rank) = subst (λ (v : Level). topNo v ≤ rankNo (c .before .before .before .before .before .before .before .before .before .args .rank)) (sym (c .before .operand .ensures)) (operand-tighter (c .before .before .before .before .before .before .before .before .before .args .rank)) in search needs
+    let p = c .before .before .before .before .before .take .ensures .done (c .before .before .before .before .stopped .ensures .0 (c .before .before .before .if1 .left)) in let g : c .before .before .before .before .before .take .result .state .nesting ≡ c .before .before .before .before .before .before .before .args .s .nesting = ap (λ (k : Counts). k .nesting) (p .counts) in let m : topNo (c .before .operand .result) ≤ rankNo (c .before .before .before .before .before .before .before .args .rank) = subst (λ (v : Level). topNo v ≤ rankNo (c .before .before .before .before .before .before .before .args .rank)) (sym (c .before .operand .ensures)) (operand-tighter (c .before .before .before .before .before .before .before .args .rank)) in search needs
 
-operation-enum-told-3 : (t : ℕ) → operation-lts.Need-enum-told-3 (operation-calls t) (operation-at t) operation.Post
-operation-enum-told-3 t c = search needs
+operation-stopped-requires-2 : (t : ℕ) → operation-lts.Need-stopped-requires-2 (operation-calls t) (operation-at t) operation.Post
+operation-stopped-requires-2 t c κs = search needs
 
 operation-returns-3 : (t : ℕ) → operation-lts.Need-returns-3 (operation-calls t) (operation-at t) operation.Post
 operation-returns-3 t c =
-    (right-not (c .before .before .before .before .before .before .before .before .before .take .ensures) (c .before .before .before .before .before .before .before .enum-told .given .1) (c .before .before .before .before .before .before .before .before .before .before .before .args .rank) (not-cut (c .before .before .before .before .match2 .keys2)) (c .before .before .before .operand .ensures) (c .before .start .ensures .0) (not-done (c .match3 .keys2)), spent (counted-comes (c .before .before .before .before .before .before .before .before .before .take .ensures) (c .before .before .before .before .before .before .before .enum-told .given .1)) (c .before .start .ensures .1) (omega arith))
+    (right-not (c .before .before .before .before .before .before .before .before .take .ensures) (c .before .before .before .before .before .before .before .stopped .ensures .0 (c .before .before .before .before .before .before .if1 .left)) (c .before .before .before .before .before .before .before .before .before .before .args .rank) (not-cut (c .before .before .before .before .before .match .keys2)) (c .before .before .before .before .operand .ensures) (c .before .before .start .ensures .0) (c .before .stopped2 .ensures .1 (c .if2 .taken)), spent (counted-comes (c .before .before .before .before .before .before .before .before .take .ensures) (c .before .before .before .before .before .before .before .stopped .ensures .0 (c .before .before .before .before .before .before .if1 .left))) (c .before .before .start .ensures .1) (omega arith))
 
 operation-last-requires : (t : ℕ) → operation-lts.Need-last-requires (operation-calls t) (operation-at t) operation.Post
 operation-last-requires t c κs = search needs
@@ -747,35 +747,35 @@ operation-add-binary-requires t c κs = search needs
 
 operation-returns-4 : (t : ℕ) → operation-lts.Need-returns-4 (operation-calls t) (operation-at t) operation.Post
 operation-returns-4 t c =
-    (operation-says (c .before .before .before .before .before .before .before .before .before .before .before .before .before .before .before .take .ensures) (c .before .before .before .before .before .before .before .before .before .before .before .before .before .enum-told .given .1) (c .before .before .before .before .before .before .before .before .before .before .before .before .before .before .before .before .before .args .rank) (not-cut (c .before .before .before .before .before .before .before .before .before .before .match2 .keys2)) (c .before .before .before .before .before .before .before .before .before .operand .ensures) (c .before .before .before .before .before .before .before .start .ensures .0) (c .before .before .before .before .before .enum-told3 .given .1) (c .before .before .last .ensures) (c .add-binary .ensures), spent (goes-on (counted-comes (c .before .before .before .before .before .before .before .before .before .before .before .before .before .before .before .take .ensures) (c .before .before .before .before .before .before .before .before .before .before .before .before .before .enum-told .given .1)) (c .before .before .before .before .before .before .before .start .ensures .1 .done (c .before .before .before .before .before .enum-told3 .given .1))) (gained-spends (c .add-binary .ensures)) (omega arith))
+    (operation-says (c .before .before .before .before .before .before .before .before .before .before .before .take .ensures) (c .before .before .before .before .before .before .before .before .before .before .stopped .ensures .0 (c .before .before .before .before .before .before .before .before .before .if1 .left)) (c .before .before .before .before .before .before .before .before .before .before .before .before .before .args .rank) (not-cut (c .before .before .before .before .before .before .before .before .match .keys2)) (c .before .before .before .before .before .before .before .operand .ensures) (c .before .before .before .before .before .start .ensures .0) (c .before .before .before .before .stopped2 .ensures .0 (c .before .before .before .if2 .left)) (c .before .before .last .ensures) (c .add-binary .ensures), spent (goes-on (counted-comes (c .before .before .before .before .before .before .before .before .before .before .before .take .ensures) (c .before .before .before .before .before .before .before .before .before .before .stopped .ensures .0 (c .before .before .before .before .before .before .before .before .before .if1 .left))) (c .before .before .before .before .before .start .ensures .1 .done (c .before .before .before .before .stopped2 .ensures .0 (c .before .before .before .if2 .left)))) (gained-spends (c .add-binary .ensures)) (omega arith))
 
-reference-number-requires : (t : ℕ) → reference-lts.Need-number-requires (reference-calls t) (reference-at t) reference.Post
-reference-number-requires t c κs = search needs
+reference-kind-of-requires : (t : ℕ) → reference-lts.Need-kind-of-requires (reference-calls t) (reference-at t) reference.Post
+reference-kind-of-requires t c κs = search needs
 
 reference-take-requires : (t : ℕ) → reference-lts.Need-take-requires (reference-calls t) (reference-at t) reference.Post
 reference-take-requires t c κs = search needs
 
-reference-enum-told : (t : ℕ) → reference-lts.Need-enum-told (reference-calls t) (reference-at t) reference.Post
-reference-enum-told t c = search needs
+reference-stopped-requires : (t : ℕ) → reference-lts.Need-stopped-requires (reference-calls t) (reference-at t) reference.Post
+reference-stopped-requires t c κs = search needs
 
 reference-returns : (t : ℕ) → reference-lts.Need-returns (reference-calls t) (reference-at t) reference.Post
 reference-returns t c =
-    (reference-not (c .before .before .before .before .before .args .name) (sym (c .before .before .before .number .ensures) ∙ c .before .before .if1 .taken) (c .before .take .ensures) (not-done (c .match .keys2)), not-took (c .before .take .ensures) (not-done (c .match .keys2)))
+    (reference-not (c .before .before .before .before .before .before .args .name) (sym (c .before .before .before .before .kind-of .ensures) ∙ c .before .before .before .if1 .taken) (c .before .before .take .ensures) (c .before .stopped .ensures .1 (c .if2 .taken)), not-took (c .before .before .take .ensures) (c .before .stopped .ensures .1 (c .if2 .taken)))
 
 reference-subscript-requires : (t : ℕ) → reference-lts.Need-subscript-requires (reference-calls t) (reference-at t) reference.Post
 reference-subscript-requires t c κs =
-    let p = c .before .before .before .before .before .take .ensures .done (c .before .before .before .enum-told .given .1) in let g : c .before .before .before .before .before .take .result .state .nesting ≡ suc (c .before .before .before .before .before .before .before .before .before .args .s .nesting) = ap (λ (k : Counts). k .nesting) (p .counts) in let d : c .before .before .before .before .before .take .result .state .nesting ≤ 24 = p .deep in search needs
+    let p = c .before .before .before .take .ensures .done (c .before .before .stopped .ensures .0 (c .before .if2 .left)) in let g : c .before .before .before .take .result .state .nesting ≡ suc (c .before .before .before .before .before .before .before .args .s .nesting) = ap (λ (k : Counts). k .nesting) (p .counts) in let d : c .before .before .before .take .result .state .nesting ≤ 24 = p .deep in search needs
 
 reference-returns-2 : (t : ℕ) → reference-lts.Need-returns-2 (reference-calls t) (reference-at t) reference.Post
 reference-returns-2 t c =
-    (reference-says (c .before .before .before .before .before .before .before .before .before .before .args .name) (sym (c .before .before .before .before .before .before .before .before .number .ensures) ∙ c .before .before .before .before .before .before .before .if1 .taken) (c .before .before .before .before .before .before .take .ensures) (c .before .before .before .before .enum-told .given .1) (c .subscript .ensures .0), spent (took-comes (c .before .before .before .before .before .before .take .ensures) (c .before .before .before .before .enum-told .given .1)) (c .subscript .ensures .1) (omega arith))
+    (reference-says (c .before .before .before .before .before .before .before .before .args .name) (sym (c .before .before .before .before .before .before .kind-of .ensures) ∙ c .before .before .before .before .before .if1 .taken) (c .before .before .before .before .take .ensures) (c .before .before .before .stopped .ensures .0 (c .before .before .if2 .left)) (c .subscript .ensures .0), spent (took-comes (c .before .before .before .before .take .ensures) (c .before .before .before .stopped .ensures .0 (c .before .before .if2 .left))) (c .subscript .ensures .1) (omega arith))
 
 reference-add-whole-requires : (t : ℕ) → reference-lts.Need-add-whole-requires (reference-calls t) (reference-at t) reference.Post
 reference-add-whole-requires t c κs = search needs
 
 reference-returns-3 : (t : ℕ) → reference-lts.Need-returns-3 (reference-calls t) (reference-at t) reference.Post
 reference-returns-3 t c =
-    (whole-says (c .before .before .before .before .before .args .name) (c .before .before .before .number .ensures) (c .before .before .if1 .left) (c .add-whole .ensures), adds-spends (c .add-whole .ensures))
+    (whole-says (c .before .before .before .before .before .args .name) (c .before .before .before .kind-of .ensures) (c .before .before .if1 .left) (c .add-whole .ensures), adds-spends (c .add-whole .ensures))
 
 rest-within-requires : (t : ℕ) → rest-lts.Need-within-requires (rest-calls t) (rest-at t) rest.Post
 rest-within-requires t c κs = search needs
@@ -784,12 +784,12 @@ rest-tail-requires : (t : ℕ) → rest-lts.Need-tail-requires (rest-calls t) (r
 rest-tail-requires t c κs =
     let h : rankNo (c .before .before .before .before .args .rank) < topNo (c .before .before .before .before .args .level) = ltb-true _ _ (sym (c .before .before .within .ensures) ∙ c .before .if1 .taken) in let m : topNo (c .before .before .before .before .args .level) ≤ 7 = top-most (c .before .before .before .before .args .level) in search needs
 
-rest-enum-told : (t : ℕ) → rest-lts.Need-enum-told (rest-calls t) (rest-at t) rest.Post
-rest-enum-told t c = search needs
+rest-stopped-requires : (t : ℕ) → rest-lts.Need-stopped-requires (rest-calls t) (rest-at t) rest.Post
+rest-stopped-requires t c κs = search needs
 
 rest-returns : (t : ℕ) → rest-lts.Need-returns (rest-calls t) (rest-at t) rest.Post
 rest-returns t c =
-    (rest-not (c .before .before .before .before .before .before .args .rank) (c .before .before .before .before .before .before .args .level) (sym (c .before .before .before .before .within .ensures) ∙ c .before .before .before .if1 .taken) (c .before .tail .ensures .0) (not-done (c .match .keys2)), c .before .tail .ensures .1)
+    (rest-not (c .before .before .before .before .before .before .before .args .rank) (c .before .before .before .before .before .before .before .args .level) (sym (c .before .before .before .before .before .within .ensures) ∙ c .before .before .before .before .if1 .taken) (c .before .before .tail .ensures .0) (c .before .stopped .ensures .1 (c .if2 .taken)), c .before .before .tail .ensures .1)
 
 rest-at-requires : (t : ℕ) → rest-lts.Need-at-requires (rest-calls t) (rest-at t) rest.Post
 rest-at-requires t c κs = search needs
@@ -803,7 +803,7 @@ rest-rest-requires t c κs =
 
 rest-returns-2 : (t : ℕ) → rest-lts.Need-returns-2 (rest-calls t) (rest-at t) rest.Post
 rest-returns-2 t c =
-    (rest-says (c .before .before .before .before .before .before .before .before .before .before .before .args .rank) (c .before .before .before .before .before .before .before .before .before .before .before .args .level) (sym (c .before .before .before .before .before .before .before .before .before .within .ensures) ∙ c .before .before .before .before .before .before .before .before .if1 .taken) (c .before .before .before .before .before .before .tail .ensures .0) (c .before .before .before .before .enum-told .given .1) (c .before .before .next .ensures) (c .before .before .before .at .ensures) (c .rest .ensures .0), spent (goes-on (c .before .before .before .before .before .before .tail .ensures .1 .done (c .before .before .before .before .enum-told .given .1)) (nests (c .before .before .before .at .ensures))) (c .rest .ensures .1) (omega arith))
+    (rest-says (c .before .before .before .before .before .before .before .before .before .before .before .args .rank) (c .before .before .before .before .before .before .before .before .before .before .before .args .level) (sym (c .before .before .before .before .before .before .before .before .before .within .ensures) ∙ c .before .before .before .before .before .before .before .before .if1 .taken) (c .before .before .before .before .before .before .tail .ensures .0) (c .before .before .before .before .before .stopped .ensures .0 (c .before .before .before .before .if2 .left)) (c .before .before .next .ensures) (c .before .before .before .at .ensures) (c .rest .ensures .0), spent (goes-on (c .before .before .before .before .before .before .tail .ensures .1 .done (c .before .before .before .before .before .stopped .ensures .0 (c .before .before .before .before .if2 .left))) (nests (c .before .before .before .at .ensures))) (c .rest .ensures .1) (omega arith))
 
 rest-stay-requires : (t : ℕ) → rest-lts.Need-stay-requires (rest-calls t) (rest-at t) rest.Post
 rest-stay-requires t c κs = search needs
@@ -825,22 +825,22 @@ second-returns t c =
 second-inside-requires : (t : ℕ) → second-lts.Need-inside-requires (second-calls t) (second-at t) second.Post
 second-inside-requires t c κs = search needs
 
-second-enum-told : (t : ℕ) → second-lts.Need-enum-told (second-calls t) (second-at t) second.Post
-second-enum-told t c = search needs
+second-stopped-requires : (t : ℕ) → second-lts.Need-stopped-requires (second-calls t) (second-at t) second.Post
+second-stopped-requires t c κs = search needs
 
 second-returns-2 : (t : ℕ) → second-lts.Need-returns-2 (second-calls t) (second-at t) second.Post
 second-returns-2 t c =
-    (second-not (c .before .before .before .before .before .before .args .name) (c .before .before .before .before .ends-ahead .ensures) (c .before .before .before .if1 .left) (c .before .inside .ensures .0) (not-done (c .match .keys2)), spent begins (c .before .inside .ensures .1) (omega arith))
+    (second-not (c .before .before .before .before .before .before .before .args .name) (c .before .before .before .before .before .ends-ahead .ensures) (c .before .before .before .before .if1 .left) (c .before .before .inside .ensures .0) (c .before .stopped .ensures .1 (c .if2 .taken)), spent begins (c .before .before .inside .ensures .1) (omega arith))
 
 second-expect-requires : (t : ℕ) → second-lts.Need-expect-requires (second-calls t) (second-at t) second.Post
 second-expect-requires t c κs = search needs
 
-second-enum-told-2 : (t : ℕ) → second-lts.Need-enum-told-2 (second-calls t) (second-at t) second.Post
-second-enum-told-2 t c = search needs
+second-stopped-requires-2 : (t : ℕ) → second-lts.Need-stopped-requires-2 (second-calls t) (second-at t) second.Post
+second-stopped-requires-2 t c κs = search needs
 
 second-returns-3 : (t : ℕ) → second-lts.Need-returns-3 (second-calls t) (second-at t) second.Post
 second-returns-3 t c =
-    (end-not (c .before .before .before .before .before .before .before .before .before .before .before .args .name) (c .before .before .before .before .before .before .before .before .before .ends-ahead .ensures) (c .before .before .before .before .before .before .before .before .if1 .left) (c .before .before .before .before .before .before .inside .ensures .0) (c .before .before .before .before .enum-told .given .1) (c .before .expect .ensures) (not-done (c .match2 .keys2)), unexpected (c .before .expect .ensures) (not-done (c .match2 .keys2)))
+    (end-not (c .before .before .before .before .before .before .before .before .before .before .args .name) (c .before .before .before .before .before .before .before .before .ends-ahead .ensures) (c .before .before .before .before .before .before .before .if1 .left) (c .before .before .before .before .before .inside .ensures .0) (c .before .before .before .before .stopped .ensures .0 (c .before .before .before .if2 .left)) (c .before .before .expect .ensures) (c .before .stopped2 .ensures .1 (c .if3 .taken)), unexpected (c .before .before .expect .ensures) (c .before .stopped2 .ensures .1 (c .if3 .taken)))
 
 second-last-requires : (t : ℕ) → second-lts.Need-last-requires (second-calls t) (second-at t) second.Post
 second-last-requires t c κs = search needs
@@ -853,28 +853,28 @@ second-add-two-requires t c κs = search needs
 
 second-returns-4 : (t : ℕ) → second-lts.Need-returns-4 (second-calls t) (second-at t) second.Post
 second-returns-4 t c =
-    (second-says (c .before .before .before .before .before .before .before .before .before .before .before .before .before .before .before .before .before .before .args .name) (c .before .before .before .before .before .before .before .before .before .before .before .before .before .before .before .before .ends-ahead .ensures) (c .before .before .before .before .before .before .before .before .before .before .before .before .before .before .before .if1 .left) (c .before .before .before .before .before .before .before .before .before .before .before .before .before .inside .ensures .0) (c .before .before .before .before .before .before .before .before .before .before .before .enum-told .given .1) (c .before .before .before .before .before .before .before .before .expect .ensures) (c .before .before .before .before .before .before .enum-told2 .given .1) (c .before .before .before .last .ensures) (c .before .before .last2 .ensures) (c .add-two .ensures), spent (goes-on (c .before .before .before .before .before .before .before .before .before .before .before .before .before .inside .ensures .1 .done (c .before .before .before .before .before .before .before .before .before .before .before .enum-told .given .1)) (expected-comes (c .before .before .before .before .before .before .before .before .expect .ensures) (omega arith) (c .before .before .before .before .before .before .enum-told2 .given .1))) (adds-spends (c .add-two .ensures)) (omega arith))
+    (second-says (c .before .before .before .before .before .before .before .before .before .before .before .before .before .before .args .name) (c .before .before .before .before .before .before .before .before .before .before .before .before .ends-ahead .ensures) (c .before .before .before .before .before .before .before .before .before .before .before .if1 .left) (c .before .before .before .before .before .before .before .before .before .inside .ensures .0) (c .before .before .before .before .before .before .before .before .stopped .ensures .0 (c .before .before .before .before .before .before .before .if2 .left)) (c .before .before .before .before .before .before .expect .ensures) (c .before .before .before .before .before .stopped2 .ensures .0 (c .before .before .before .before .if3 .left)) (c .before .before .before .last .ensures) (c .before .before .last2 .ensures) (c .add-two .ensures), spent (goes-on (c .before .before .before .before .before .before .before .before .before .inside .ensures .1 .done (c .before .before .before .before .before .before .before .before .stopped .ensures .0 (c .before .before .before .before .before .before .before .if2 .left))) (expected-comes (c .before .before .before .before .before .before .expect .ensures) (omega arith) (c .before .before .before .before .before .stopped2 .ensures .0 (c .before .before .before .before .if3 .left)))) (adds-spends (c .add-two .ensures)) (omega arith))
 
-single-number-requires : (t : ℕ) → single-lts.Need-number-requires (single-calls t) (single-at t) single.Post
-single-number-requires t c κs = search needs
+single-kind-of-requires : (t : ℕ) → single-lts.Need-kind-of-requires (single-calls t) (single-at t) single.Post
+single-kind-of-requires t c κs = search needs
 
 single-take-requires : (t : ℕ) → single-lts.Need-take-requires (single-calls t) (single-at t) single.Post
 single-take-requires t c κs = search needs
 
-single-enum-told : (t : ℕ) → single-lts.Need-enum-told (single-calls t) (single-at t) single.Post
-single-enum-told t c = search needs
+single-stopped-requires : (t : ℕ) → single-lts.Need-stopped-requires (single-calls t) (single-at t) single.Post
+single-stopped-requires t c κs = search needs
 
 single-returns : (t : ℕ) → single-lts.Need-returns (single-calls t) (single-at t) single.Post
 single-returns t c =
-    (single-not (c .before .before .before .before .before .args .name) (sym (c .before .before .before .number .ensures) ∙ c .before .before .if1 .taken) (c .before .take .ensures) (not-done (c .match .keys2)), not-took (c .before .take .ensures) (not-done (c .match .keys2)))
+    (single-not (c .before .before .before .before .before .before .args .name) (sym (c .before .before .before .before .kind-of .ensures) ∙ c .before .before .before .if1 .taken) (c .before .before .take .ensures) (c .before .stopped .ensures .1 (c .if2 .taken)), not-took (c .before .before .take .ensures) (c .before .stopped .ensures .1 (c .if2 .taken)))
 
 single-second-requires : (t : ℕ) → single-lts.Need-second-requires (single-calls t) (single-at t) single.Post
 single-second-requires t c κs =
-    let p = c .before .before .before .before .before .take .ensures .done (c .before .before .before .enum-told .given .1) in let g : c .before .before .before .before .before .take .result .state .nesting ≡ suc (c .before .before .before .before .before .before .before .before .before .args .s .nesting) = ap (λ (k : Counts). k .nesting) (p .counts) in let d : c .before .before .before .before .before .take .result .state .nesting ≤ 24 = p .deep in search needs
+    let p = c .before .before .before .take .ensures .done (c .before .before .stopped .ensures .0 (c .before .if2 .left)) in let g : c .before .before .before .take .result .state .nesting ≡ suc (c .before .before .before .before .before .before .before .args .s .nesting) = ap (λ (k : Counts). k .nesting) (p .counts) in let d : c .before .before .before .take .result .state .nesting ≤ 24 = p .deep in search needs
 
 single-returns-2 : (t : ℕ) → single-lts.Need-returns-2 (single-calls t) (single-at t) single.Post
 single-returns-2 t c =
-    (single-says (c .before .before .before .before .before .before .before .before .before .before .args .name) (sym (c .before .before .before .before .before .before .before .before .number .ensures) ∙ c .before .before .before .before .before .before .before .if1 .taken) (c .before .before .before .before .before .before .take .ensures) (c .before .before .before .before .enum-told .given .1) (c .second .ensures .0), spent (took-comes (c .before .before .before .before .before .before .take .ensures) (c .before .before .before .before .enum-told .given .1)) (c .second .ensures .1) (omega arith))
+    (single-says (c .before .before .before .before .before .before .before .before .args .name) (sym (c .before .before .before .before .before .before .kind-of .ensures) ∙ c .before .before .before .before .before .if1 .taken) (c .before .before .before .before .take .ensures) (c .before .before .before .stopped .ensures .0 (c .before .before .if2 .left)) (c .second .ensures .0), spent (took-comes (c .before .before .before .before .take .ensures) (c .before .before .before .stopped .ensures .0 (c .before .before .if2 .left))) (c .second .ensures .1) (omega arith))
 
 single-last-requires : (t : ℕ) → single-lts.Need-last-requires (single-calls t) (single-at t) single.Post
 single-last-requires t c κs = search needs
@@ -884,10 +884,10 @@ single-add-one-requires t c κs = search needs
 
 single-returns-3 : (t : ℕ) → single-lts.Need-returns-3 (single-calls t) (single-at t) single.Post
 single-returns-3 t c =
-    (one-says (c .before .before .before .before .before .before .args .name) (c .before .before .before .before .number .ensures) (c .before .before .before .if1 .left) (c .before .before .last .ensures) (c .add-one .ensures), adds-spends (c .add-one .ensures))
+    (one-says (c .before .before .before .before .before .before .args .name) (c .before .before .before .before .kind-of .ensures) (c .before .before .before .if1 .left) (c .before .before .last .ensures) (c .add-one .ensures), adds-spends (c .add-one .ensures))
 
-start-number-requires : (t : ℕ) → start-lts.Need-number-requires (start-calls t) (start-at t) start.Post
-start-number-requires t c κs = search needs
+start-kind-of-requires : (t : ℕ) → start-lts.Need-kind-of-requires (start-calls t) (start-at t) start.Post
+start-kind-of-requires t c κs = search needs
 
 start-head-of-requires : (t : ℕ) → start-lts.Need-head-of-requires (start-calls t) (start-at t) start.Post
 start-head-of-requires t c κs = search needs
@@ -896,12 +896,12 @@ start-opening-requires : (t : ℕ) → start-lts.Need-opening-requires (start-ca
 start-opening-requires t c κs =
     search needs
 
-start-enum-told : (t : ℕ) → start-lts.Need-enum-told (start-calls t) (start-at t) start.Post
-start-enum-told t c = search needs
+start-stopped-requires : (t : ℕ) → start-lts.Need-stopped-requires (start-calls t) (start-at t) start.Post
+start-stopped-requires t c κs = search needs
 
 start-returns : (t : ℕ) → start-lts.Need-returns (start-calls t) (start-at t) start.Post
 start-returns t c =
-    (start-not (c .before .before .before .before .before .before .args .level) (c .before .before .before .before .number .ensures) (c .before .before .before .head-of .ensures) (c .before .opening .ensures .0) (not-done (c .match .keys2)), c .before .opening .ensures .1)
+    (start-not (c .before .before .before .before .before .before .before .args .level) (c .before .before .before .before .before .kind-of .ensures) (c .before .before .before .before .head-of .ensures) (c .before .before .opening .ensures .0) (c .before .stopped .ensures .1 (c .if1 .taken)), c .before .before .opening .ensures .1)
 
 start-at-requires : (t : ℕ) → start-lts.Need-at-requires (start-calls t) (start-at t) start.Post
 start-at-requires t c κs = search needs
@@ -915,7 +915,7 @@ start-rest-requires t c κs =
 
 start-returns-2 : (t : ℕ) → start-lts.Need-returns-2 (start-calls t) (start-at t) start.Post
 start-returns-2 t c =
-    (start-says (c .before .before .before .before .before .before .before .before .before .before .before .args .level) (c .before .before .before .before .before .before .before .before .before .number .ensures) (c .before .before .before .before .before .before .before .before .head-of .ensures) (c .before .before .before .before .before .before .opening .ensures .0) (c .before .before .before .before .enum-told .given .1) (c .before .before .after .ensures) (c .before .before .before .at .ensures) (c .rest .ensures .0), spent (goes-on (c .before .before .before .before .before .before .opening .ensures .1 .done (c .before .before .before .before .enum-told .given .1)) (nests (c .before .before .before .at .ensures))) (c .rest .ensures .1) (omega arith))
+    (start-says (c .before .before .before .before .before .before .before .before .before .before .before .args .level) (c .before .before .before .before .before .before .before .before .before .kind-of .ensures) (c .before .before .before .before .before .before .before .before .head-of .ensures) (c .before .before .before .before .before .before .opening .ensures .0) (c .before .before .before .before .before .stopped .ensures .0 (c .before .before .before .before .if1 .left)) (c .before .before .after .ensures) (c .before .before .before .at .ensures) (c .rest .ensures .0), spent (goes-on (c .before .before .before .before .before .before .opening .ensures .1 .done (c .before .before .before .before .before .stopped .ensures .0 (c .before .before .before .before .if1 .left))) (nests (c .before .before .before .at .ensures))) (c .rest .ensures .1) (omega arith))
 
 subscript-ends-ahead-requires : (t : ℕ) → subscript-lts.Need-ends-ahead-requires (subscript-calls t) (subscript-at t) subscript.Post
 subscript-ends-ahead-requires t c κs = search needs
@@ -930,46 +930,46 @@ subscript-returns t c =
 subscript-inside-requires : (t : ℕ) → subscript-lts.Need-inside-requires (subscript-calls t) (subscript-at t) subscript.Post
 subscript-inside-requires t c κs = search needs
 
-subscript-enum-told : (t : ℕ) → subscript-lts.Need-enum-told (subscript-calls t) (subscript-at t) subscript.Post
-subscript-enum-told t c = search needs
+subscript-stopped-requires : (t : ℕ) → subscript-lts.Need-stopped-requires (subscript-calls t) (subscript-at t) subscript.Post
+subscript-stopped-requires t c κs = search needs
 
 subscript-returns-2 : (t : ℕ) → subscript-lts.Need-returns-2 (subscript-calls t) (subscript-at t) subscript.Post
 subscript-returns-2 t c =
-    (subscript-not (c .before .before .before .before .before .before .args .name) (c .before .before .before .before .ends-ahead .ensures) (c .before .before .before .if1 .left) (c .before .inside .ensures .0) (not-done (c .match .keys2)), spent begins (c .before .inside .ensures .1) (omega arith))
+    (subscript-not (c .before .before .before .before .before .before .before .args .name) (c .before .before .before .before .before .ends-ahead .ensures) (c .before .before .before .before .if1 .left) (c .before .before .inside .ensures .0) (c .before .stopped .ensures .1 (c .if2 .taken)), spent begins (c .before .before .inside .ensures .1) (omega arith))
 
-subscript-number-requires : (t : ℕ) → subscript-lts.Need-number-requires (subscript-calls t) (subscript-at t) subscript.Post
-subscript-number-requires t c κs = search needs
+subscript-kind-of-requires : (t : ℕ) → subscript-lts.Need-kind-of-requires (subscript-calls t) (subscript-at t) subscript.Post
+subscript-kind-of-requires t c κs = search needs
 
 subscript-take-requires : (t : ℕ) → subscript-lts.Need-take-requires (subscript-calls t) (subscript-at t) subscript.Post
 subscript-take-requires t c κs = search needs
 
-subscript-enum-told-2 : (t : ℕ) → subscript-lts.Need-enum-told-2 (subscript-calls t) (subscript-at t) subscript.Post
-subscript-enum-told-2 t c = search needs
+subscript-stopped-requires-2 : (t : ℕ) → subscript-lts.Need-stopped-requires-2 (subscript-calls t) (subscript-at t) subscript.Post
+subscript-stopped-requires-2 t c κs = search needs
 
 subscript-returns-3 : (t : ℕ) → subscript-lts.Need-returns-3 (subscript-calls t) (subscript-at t) subscript.Post
 subscript-returns-3 t c =
-    (comma-not (c .before .before .before .before .before .before .before .before .before .before .before .before .before .args .name) (c .before .before .before .before .before .before .before .before .before .before .before .ends-ahead .ensures) (c .before .before .before .before .before .before .before .before .before .before .if1 .left) (c .before .before .before .before .before .before .before .before .inside .ensures .0) (c .before .before .before .before .before .before .enum-told .given .1) (sym (c .before .before .before .number .ensures) ∙ c .before .before .if2 .taken) (c .before .take .ensures) (not-done (c .match2 .keys2)), not-took (c .before .take .ensures) (not-done (c .match2 .keys2)))
+    (comma-not (c .before .before .before .before .before .before .before .before .before .before .before .before .args .name) (c .before .before .before .before .before .before .before .before .before .before .ends-ahead .ensures) (c .before .before .before .before .before .before .before .before .before .if1 .left) (c .before .before .before .before .before .before .before .inside .ensures .0) (c .before .before .before .before .before .before .stopped .ensures .0 (c .before .before .before .before .before .if2 .left)) (sym (c .before .before .before .before .kind-of .ensures) ∙ c .before .before .before .if3 .taken) (c .before .before .take .ensures) (c .before .stopped2 .ensures .1 (c .if4 .taken)), not-took (c .before .before .take .ensures) (c .before .stopped2 .ensures .1 (c .if4 .taken)))
 
 subscript-at-requires : (t : ℕ) → subscript-lts.Need-at-requires (subscript-calls t) (subscript-at t) subscript.Post
 subscript-at-requires t c κs = search needs
 
 subscript-second-requires : (t : ℕ) → subscript-lts.Need-second-requires (subscript-calls t) (subscript-at t) subscript.Post
 subscript-second-requires t c κs =
-    let e = c .before .before .before .before .before .before .before .before .before .before .before .before .before .before .before .before .pre .0 in let h : c .before .at .result .nesting ≡ c .before .before .before .before .before .before .before .before .before .before .before .before .before .before .before .before .args .s .nesting = ap (λ (q : State). q .nesting) (c .before .at .ensures) in search needs
+    let e = c .before .before .before .before .before .before .before .before .before .before .before .before .before .before .pre .0 in let h : c .before .at .result .nesting ≡ c .before .before .before .before .before .before .before .before .before .before .before .before .before .before .args .s .nesting = ap (λ (q : State). q .nesting) (c .before .at .ensures) in search needs
 
 subscript-returns-4 : (t : ℕ) → subscript-lts.Need-returns-4 (subscript-calls t) (subscript-at t) subscript.Post
 subscript-returns-4 t c =
-    (comma-says (c .before .before .before .before .before .before .before .before .before .before .before .before .before .before .before .before .before .args .name) (c .before .before .before .before .before .before .before .before .before .before .before .before .before .before .before .ends-ahead .ensures) (c .before .before .before .before .before .before .before .before .before .before .before .before .before .before .if1 .left) (c .before .before .before .before .before .before .before .before .before .before .before .before .inside .ensures .0) (c .before .before .before .before .before .before .before .before .before .before .enum-told .given .1) (sym (c .before .before .before .before .before .before .before .number .ensures) ∙ c .before .before .before .before .before .before .if2 .taken) (c .before .before .before .before .before .take .ensures) (c .before .before .before .enum-told2 .given .1) (c .before .before .at .ensures) (c .second .ensures .0), spent (goes-on (c .before .before .before .before .before .before .before .before .before .before .before .before .inside .ensures .1 .done (c .before .before .before .before .before .before .before .before .before .before .enum-told .given .1)) (goes-on (took-comes (c .before .before .before .before .before .take .ensures) (c .before .before .before .enum-told2 .given .1)) (nests (c .before .before .at .ensures)))) (c .second .ensures .1) (omega arith))
+    (comma-says (c .before .before .before .before .before .before .before .before .before .before .before .before .before .before .before .args .name) (c .before .before .before .before .before .before .before .before .before .before .before .before .before .ends-ahead .ensures) (c .before .before .before .before .before .before .before .before .before .before .before .before .if1 .left) (c .before .before .before .before .before .before .before .before .before .before .inside .ensures .0) (c .before .before .before .before .before .before .before .before .before .stopped .ensures .0 (c .before .before .before .before .before .before .before .before .if2 .left)) (sym (c .before .before .before .before .before .before .before .kind-of .ensures) ∙ c .before .before .before .before .before .before .if3 .taken) (c .before .before .before .before .before .take .ensures) (c .before .before .before .before .stopped2 .ensures .0 (c .before .before .before .if4 .left)) (c .before .before .at .ensures) (c .second .ensures .0), spent (goes-on (c .before .before .before .before .before .before .before .before .before .before .inside .ensures .1 .done (c .before .before .before .before .before .before .before .before .before .stopped .ensures .0 (c .before .before .before .before .before .before .before .before .if2 .left))) (goes-on (took-comes (c .before .before .before .before .before .take .ensures) (c .before .before .before .before .stopped2 .ensures .0 (c .before .before .before .if4 .left))) (nests (c .before .before .at .ensures)))) (c .second .ensures .1) (omega arith))
 
 subscript-expect-requires : (t : ℕ) → subscript-lts.Need-expect-requires (subscript-calls t) (subscript-at t) subscript.Post
 subscript-expect-requires t c κs = search needs
 
-subscript-enum-told-3 : (t : ℕ) → subscript-lts.Need-enum-told-3 (subscript-calls t) (subscript-at t) subscript.Post
-subscript-enum-told-3 t c = search needs
+subscript-stopped-requires-3 : (t : ℕ) → subscript-lts.Need-stopped-requires-3 (subscript-calls t) (subscript-at t) subscript.Post
+subscript-stopped-requires-3 t c κs = search needs
 
 subscript-returns-5 : (t : ℕ) → subscript-lts.Need-returns-5 (subscript-calls t) (subscript-at t) subscript.Post
 subscript-returns-5 t c =
-    (close-not (c .before .before .before .before .before .before .before .before .before .before .before .before .before .args .name) (c .before .before .before .before .before .before .before .before .before .before .before .ends-ahead .ensures) (c .before .before .before .before .before .before .before .before .before .before .if1 .left) (c .before .before .before .before .before .before .before .before .inside .ensures .0) (c .before .before .before .before .before .before .enum-told .given .1) (λ e. c .before .before .if2 .left (c .before .before .before .number .ensures ∙ e)) (c .before .expect .ensures) (not-done (c .match3 .keys2)), unexpected (c .before .expect .ensures) (not-done (c .match3 .keys2)))
+    (close-not (c .before .before .before .before .before .before .before .before .before .before .before .before .args .name) (c .before .before .before .before .before .before .before .before .before .before .ends-ahead .ensures) (c .before .before .before .before .before .before .before .before .before .if1 .left) (c .before .before .before .before .before .before .before .inside .ensures .0) (c .before .before .before .before .before .before .stopped .ensures .0 (c .before .before .before .before .before .if2 .left)) (λ e. c .before .before .before .if3 .left (c .before .before .before .before .kind-of .ensures ∙ e)) (c .before .before .expect .ensures) (c .before .stopped3 .ensures .1 (c .if5 .taken)), unexpected (c .before .before .expect .ensures) (c .before .stopped3 .ensures .1 (c .if5 .taken)))
 
 subscript-last-requires : (t : ℕ) → subscript-lts.Need-last-requires (subscript-calls t) (subscript-at t) subscript.Post
 subscript-last-requires t c κs = search needs
@@ -979,11 +979,11 @@ subscript-at-requires-2 t c κs = search needs
 
 subscript-single-requires : (t : ℕ) → subscript-lts.Need-single-requires (subscript-calls t) (subscript-at t) subscript.Post
 subscript-single-requires t c κs =
-    let e = c .before .before .before .before .before .before .before .before .before .before .before .before .before .before .before .before .before .pre .0 in let h : c .before .at2 .result .nesting ≡ c .before .before .last .result = ap (λ (q : State). q .nesting) (c .before .at2 .ensures) in let g : c .before .before .last .result ≡ c .before .before .before .before .before .before .before .before .before .before .before .before .before .before .before .before .before .args .s .nesting - 1 = c .before .before .last .ensures in search needs
+    let e = c .before .before .before .before .before .before .before .before .before .before .before .before .before .before .before .pre .0 in let h : c .before .at2 .result .nesting ≡ c .before .before .last .result = ap (λ (q : State). q .nesting) (c .before .at2 .ensures) in let g : c .before .before .last .result ≡ c .before .before .before .before .before .before .before .before .before .before .before .before .before .before .before .args .s .nesting - 1 = c .before .before .last .ensures in search needs
 
 subscript-returns-6 : (t : ℕ) → subscript-lts.Need-returns-6 (subscript-calls t) (subscript-at t) subscript.Post
 subscript-returns-6 t c =
-    (close-says (c .before .before .before .before .before .before .before .before .before .before .before .before .before .before .before .before .before .before .args .name) (c .before .before .before .before .before .before .before .before .before .before .before .before .before .before .before .before .ends-ahead .ensures) (c .before .before .before .before .before .before .before .before .before .before .before .before .before .before .before .if1 .left) (c .before .before .before .before .before .before .before .before .before .before .before .before .before .inside .ensures .0) (c .before .before .before .before .before .before .before .before .before .before .before .enum-told .given .1) (λ e. c .before .before .before .before .before .before .before .if2 .left (c .before .before .before .before .before .before .before .before .number .ensures ∙ e)) (c .before .before .before .before .before .before .expect .ensures) (c .before .before .before .before .enum-told3 .given .1) (c .before .before .before .last .ensures) (c .before .before .at2 .ensures) (c .single .ensures .0), spent (goes-on (c .before .before .before .before .before .before .before .before .before .before .before .before .before .inside .ensures .1 .done (c .before .before .before .before .before .before .before .before .before .before .before .enum-told .given .1)) (goes-on (expected-comes (c .before .before .before .before .before .before .expect .ensures) (omega arith) (c .before .before .before .before .enum-told3 .given .1)) (nests (c .before .before .at2 .ensures)))) (c .single .ensures .1) (omega arith))
+    (close-says (c .before .before .before .before .before .before .before .before .before .before .before .before .before .before .before .before .args .name) (c .before .before .before .before .before .before .before .before .before .before .before .before .before .before .ends-ahead .ensures) (c .before .before .before .before .before .before .before .before .before .before .before .before .before .if1 .left) (c .before .before .before .before .before .before .before .before .before .before .before .inside .ensures .0) (c .before .before .before .before .before .before .before .before .before .before .stopped .ensures .0 (c .before .before .before .before .before .before .before .before .before .if2 .left)) (λ e. c .before .before .before .before .before .before .before .if3 .left (c .before .before .before .before .before .before .before .before .kind-of .ensures ∙ e)) (c .before .before .before .before .before .before .expect .ensures) (c .before .before .before .before .before .stopped3 .ensures .0 (c .before .before .before .before .if5 .left)) (c .before .before .before .last .ensures) (c .before .before .at2 .ensures) (c .single .ensures .0), spent (goes-on (c .before .before .before .before .before .before .before .before .before .before .before .inside .ensures .1 .done (c .before .before .before .before .before .before .before .before .before .before .stopped .ensures .0 (c .before .before .before .before .before .before .before .before .before .if2 .left))) (goes-on (expected-comes (c .before .before .before .before .before .before .expect .ensures) (omega arith) (c .before .before .before .before .before .stopped3 .ensures .0 (c .before .before .before .before .if5 .left))) (nests (c .before .before .at2 .ensures)))) (c .single .ensures .1) (omega arith))
 
 abbrev tail-Inv-loop : tail-lts.InvT-loop
 tail-Inv-loop s rank text work₀ state₀ next₀ left₀ work state next left = Tails rank text next₀ s work₀ next state work left × (Seen text next₀ → Comes text 0 0 s next state)
@@ -1005,19 +1005,19 @@ tail-operation-requires : (t : ℕ) → tail-lts.Need-operation-requires (tail-c
 tail-operation-requires t c κs =
     let h : c .before .at .result .nesting ≡ c .before .before .before .before .before .before .before .args .s .nesting = ap (λ (q : State). q .nesting) (c .before .at .ensures) in search needs
 
-tail-enum-told : (t : ℕ) → tail-lts.Need-enum-told (tail-calls t) (tail-at t) tail.Post tail-Inv-loop tail-μ-loop
-tail-enum-told t c = search needs
+tail-stopped-requires : (t : ℕ) → tail-lts.Need-stopped-requires (tail-calls t) (tail-at t) tail.Post tail-Inv-loop tail-μ-loop
+tail-stopped-requires t c κs = search needs
 
 tail-returns : (t : ℕ) → tail-lts.Need-returns (tail-calls t) (tail-at t) tail.Post tail-Inv-loop tail-μ-loop
 tail-returns t c =
-    (tails-not (c .before .before .before .before .before .before .before .before .before .args .rank) (c .before .before .before .before .before .before .before .loop .inv .0) (sym (c .before .before .before .before .before .operates .ensures) ∙ c .before .before .before .before .if1 .taken) (c .before .before .before .at .ensures) (c .before .operation .ensures .0) (not-done (c .match .keys2)), spent (goes-on (c .before .before .before .before .before .before .before .loop .inv .1) (nests (c .before .before .before .at .ensures))) (c .before .operation .ensures .1) (omega arith))
+    (tails-not (c .before .before .before .before .before .before .before .before .before .before .args .rank) (c .before .before .before .before .before .before .before .before .loop .inv .0) (sym (c .before .before .before .before .before .before .operates .ensures) ∙ c .before .before .before .before .before .if1 .taken) (c .before .before .before .before .at .ensures) (c .before .before .operation .ensures .0) (c .before .stopped .ensures .1 (c .if2 .taken)), spent (goes-on (c .before .before .before .before .before .before .before .before .loop .inv .1) (nests (c .before .before .before .before .at .ensures))) (c .before .before .operation .ensures .1) (omega arith))
 
 tail-once-requires : (t : ℕ) → tail-lts.Need-once-requires (tail-calls t) (tail-at t) tail.Post tail-Inv-loop tail-μ-loop
 tail-once-requires t c κs = search needs
 
 tail-returns-2 : (t : ℕ) → tail-lts.Need-returns-2 (tail-calls t) (tail-at t) tail.Post tail-Inv-loop tail-μ-loop
 tail-returns-2 t c =
-    (tails-once (c .before .before .before .before .before .before .before .before .before .before .before .before .args .rank) (c .before .before .before .before .before .before .before .before .before .before .loop .inv .0) (sym (c .before .before .before .before .before .before .before .before .operates .ensures) ∙ c .before .before .before .before .before .before .before .if1 .taken) (c .before .before .before .before .before .before .at .ensures) (c .before .before .before .before .operation .ensures .0) (sym (c .before .once .ensures) ∙ c .if2 .taken), spent (goes-on (c .before .before .before .before .before .before .before .before .before .before .loop .inv .1) (nests (c .before .before .before .before .before .before .at .ensures))) (c .before .before .before .before .operation .ensures .1) (omega arith))
+    (tails-once (c .before .before .before .before .before .before .before .before .before .before .before .before .args .rank) (c .before .before .before .before .before .before .before .before .before .before .loop .inv .0) (sym (c .before .before .before .before .before .before .before .before .operates .ensures) ∙ c .before .before .before .before .before .before .before .if1 .taken) (c .before .before .before .before .before .before .at .ensures) (c .before .before .before .before .operation .ensures .0) (sym (c .before .once .ensures) ∙ c .if3 .taken), spent (goes-on (c .before .before .before .before .before .before .before .before .before .before .loop .inv .1) (nests (c .before .before .before .before .before .before .at .ensures))) (c .before .before .before .before .operation .ensures .1) (omega arith))
 
 tail-sub-left : (t : ℕ) → tail-lts.Need-sub-left (tail-calls t) (tail-at t) tail.Post tail-Inv-loop tail-μ-loop
 tail-sub-left t c = search needs
@@ -1027,7 +1027,7 @@ tail-loop-less t c = search needs
 
 tail-loop-again : (t : ℕ) → tail-lts.Need-loop-again (tail-calls t) (tail-at t) tail.Post tail-Inv-loop tail-μ-loop
 tail-loop-again t c =
-    (tails-more (c .before .before .before .before .before .before .before .before .before .before .before .before .before .before .args .rank) (c .before .before .before .before .before .before .before .before .before .before .before .before .loop .inv .0) (sym (c .before .before .before .before .before .before .before .before .before .before .operates .ensures) ∙ c .before .before .before .before .before .before .before .before .before .if1 .taken) (c .before .before .before .before .before .before .before .before .at .ensures) (c .before .before .before .before .before .before .operation .ensures .0) (c .before .before .before .before .enum-told .given .1) (sym (c .before .before .before .once .ensures) ∙ c .before .before .if2 .left) (omega (arith, c .before .before .before .before .before .before .before .before .before .before .before .loop-test .taken)), comes-as (goes-on (c .before .before .before .before .before .before .before .before .before .before .before .before .loop .inv .1) (goes-on (nests (c .before .before .before .before .before .before .before .before .at .ensures)) (c .before .before .before .before .before .before .operation .ensures .1 .done (c .before .before .before .before .enum-told .given .1)))) (omega arith))
+    (tails-more (c .before .before .before .before .before .before .before .before .before .before .before .before .before .before .args .rank) (c .before .before .before .before .before .before .before .before .before .before .before .before .loop .inv .0) (sym (c .before .before .before .before .before .before .before .before .before .before .operates .ensures) ∙ c .before .before .before .before .before .before .before .before .before .if1 .taken) (c .before .before .before .before .before .before .before .before .at .ensures) (c .before .before .before .before .before .before .operation .ensures .0) (c .before .before .before .before .before .stopped .ensures .0 (c .before .before .before .before .if2 .left)) (sym (c .before .before .before .once .ensures) ∙ c .before .before .if3 .left) (omega (arith, c .before .before .before .before .before .before .before .before .before .before .before .loop-test .taken)), comes-as (goes-on (c .before .before .before .before .before .before .before .before .before .before .before .before .loop .inv .1) (goes-on (nests (c .before .before .before .before .before .before .before .before .at .ensures)) (c .before .before .before .before .before .before .operation .ensures .1 .done (c .before .before .before .before .before .stopped .ensures .0 (c .before .before .before .before .if2 .left))))) (omega arith))
 
 tail-stay-requires : (t : ℕ) → tail-lts.Need-stay-requires (tail-calls t) (tail-at t) tail.Post tail-Inv-loop tail-μ-loop
 tail-stay-requires t c κs = search needs
@@ -1043,50 +1043,50 @@ tail-returns-4 : (t : ℕ) → tail-lts.Need-returns-4 (tail-calls t) (tail-at t
 tail-returns-4 t c =
     (tails-full (c .before .before .before .before .args .rank) (c .before .before .loop .inv .0) (c .before .loop-test .left) (c .full .ensures), spent (c .before .before .loop .inv .1) (full-spends (c .full .ensures)) (omega arith))
 
-term-number-requires : (t : ℕ) → term-lts.Need-number-requires (term-calls t) (term-at t) term.Post
-term-number-requires t c κs = search needs
+term-kind-of-requires : (t : ℕ) → term-lts.Need-kind-of-requires (term-calls t) (term-at t) term.Post
+term-kind-of-requires t c κs = search needs
 
 term-constant-requires : (t : ℕ) → term-lts.Need-constant-requires (term-calls t) (term-at t) term.Post
 term-constant-requires t c κs = search needs
 
 term-returns : (t : ℕ) → term-lts.Need-returns (term-calls t) (term-at t) term.Post
 term-returns t c =
-    c .constant .ensures (sym (c .before .before .before .number .ensures) ∙ c .before .before .if1 .taken)
+    c .constant .ensures (sym (c .before .before .before .kind-of .ensures) ∙ c .before .before .if1 .taken)
 
 term-named-requires : (t : ℕ) → term-lts.Need-named-requires (term-calls t) (term-at t) term.Post
 term-named-requires t c κs = search needs
 
 term-returns-2 : (t : ℕ) → term-lts.Need-returns-2 (term-calls t) (term-at t) term.Post
 term-returns-2 t c =
-    (c .named .ensures .0 (sym (c .before .before .before .before .number .ensures) ∙ c .before .before .if2 .taken), c .named .ensures .1)
+    (c .named .ensures .0 (sym (c .before .before .before .before .kind-of .ensures) ∙ c .before .before .if2 .taken), c .named .ensures .1)
 
 term-group-requires : (t : ℕ) → term-lts.Need-group-requires (term-calls t) (term-at t) term.Post
 term-group-requires t c κs = search needs
 
 term-returns-3 : (t : ℕ) → term-lts.Need-returns-3 (term-calls t) (term-at t) term.Post
 term-returns-3 t c =
-    (c .group .ensures .0 (sym (c .before .before .before .before .before .number .ensures) ∙ c .before .before .if3 .taken), c .group .ensures .1)
+    (c .group .ensures .0 (sym (c .before .before .before .before .before .kind-of .ensures) ∙ c .before .before .if3 .taken), c .group .ensures .1)
 
 term-choice-requires : (t : ℕ) → term-lts.Need-choice-requires (term-calls t) (term-at t) term.Post
 term-choice-requires t c κs = search needs
 
 term-returns-4 : (t : ℕ) → term-lts.Need-returns-4 (term-calls t) (term-at t) term.Post
 term-returns-4 t c =
-    (c .choice .ensures .0 (sym (c .before .before .before .before .before .before .number .ensures) ∙ c .before .before .if4 .taken), c .choice .ensures .1)
+    (c .choice .ensures .0 (sym (c .before .before .before .before .before .before .kind-of .ensures) ∙ c .before .before .if4 .taken), c .choice .ensures .1)
 
 term-choice-requires-2 : (t : ℕ) → term-lts.Need-choice-requires-2 (term-calls t) (term-at t) term.Post
 term-choice-requires-2 t c κs = search needs
 
 term-returns-5 : (t : ℕ) → term-lts.Need-returns-5 (term-calls t) (term-at t) term.Post
 term-returns-5 t c =
-    (c .choice2 .ensures .0 (sym (c .before .before .before .before .before .before .before .number .ensures) ∙ c .before .before .if5 .taken), c .choice2 .ensures .1)
+    (c .choice2 .ensures .0 (sym (c .before .before .before .before .before .before .before .kind-of .ensures) ∙ c .before .before .if5 .taken), c .choice2 .ensures .1)
 
 term-refuse-requires : (t : ℕ) → term-lts.Need-refuse-requires (term-calls t) (term-at t) term.Post
 term-refuse-requires t c κs = search needs
 
 term-returns-6 : (t : ℕ) → term-lts.Need-returns-6 (term-calls t) (term-at t) term.Post
 term-returns-6 t c =
-    (term-not (c .before .before .before .before .before .before .number .ensures) (c .before .before .before .before .before .if1 .left) (c .before .before .before .before .if2 .left) (c .before .before .before .if3 .left) (c .before .before .if4 .left) (c .before .if5 .left) (c .refuse .ensures), refusal-unspent (c .refuse .ensures))
+    (term-not (c .before .before .before .before .before .before .kind-of .ensures) (c .before .before .before .before .before .if1 .left) (c .before .before .before .before .if2 .left) (c .before .before .before .if3 .left) (c .before .before .if4 .left) (c .before .if5 .left) (c .refuse .ensures), refusal-unspent (c .refuse .ensures))
 
 pub +arms+choice+first-arm+group+inside+more-arms+named+next-arm+opening+operation+reference+rest+second+single+start+subscript+tail+term-spec :
     {M : Type 1} → statement M
@@ -1115,12 +1115,12 @@ pub +arms+choice+first-arm+group+inside+more-arms+named+next-arm+opening+operati
     arms.Post
     (arms-first-word-requires t)
     (arms-first-arm-requires t)
-    (arms-enum-told t)
+    (arms-stopped-requires t)
     (arms-returns t)
     (arms-at-requires t)
     (arms-other-word-requires t)
     (arms-next-arm-requires t)
-    (arms-enum-told-2 t)
+    (arms-stopped-requires-2 t)
     (arms-returns-2 t)
     (arms-at-requires-2 t)
     (arms-more-arms-requires t)
@@ -1129,18 +1129,18 @@ pub +arms+choice+first-arm+group+inside+more-arms+named+next-arm+opening+operati
     (choice-at t)
     choice.Post
     (choice-take-requires t)
-    (choice-enum-told t)
+    (choice-stopped-requires t)
     (choice-returns t)
     (choice-start-requires t)
-    (choice-enum-told-2 t)
+    (choice-stopped-requires-2 t)
     (choice-returns-2 t)
     (choice-at-requires t)
     (choice-arms-requires t)
-    (choice-enum-told-3 t)
+    (choice-stopped-requires-3 t)
     (choice-returns-3 t)
     (choice-last-word-requires t)
     (choice-expect-requires t)
-    (choice-enum-told-4 t)
+    (choice-stopped-requires-4 t)
     (choice-returns-4 t)
     (choice-last-requires t)
     (choice-add-choice-requires t)
@@ -1149,11 +1149,11 @@ pub +arms+choice+first-arm+group+inside+more-arms+named+next-arm+opening+operati
     (first-arm-at t)
     first-arm.Post
     (first-arm-expect-requires t)
-    (first-arm-enum-told t)
+    (first-arm-stopped-requires t)
     (first-arm-returns t)
     (first-arm-at-requires t)
     (first-arm-start-requires t)
-    (first-arm-enum-told-2 t)
+    (first-arm-stopped-requires-2 t)
     (first-arm-returns-2 t)
     (first-arm-add-first-arm-requires t)
     (first-arm-returns-3 t))
@@ -1161,22 +1161,22 @@ pub +arms+choice+first-arm+group+inside+more-arms+named+next-arm+opening+operati
     (group-at t)
     group.Post
     (group-take-requires t)
-    (group-enum-told t)
+    (group-stopped-requires t)
     (group-returns t)
     (group-start-requires t)
-    (group-enum-told-2 t)
+    (group-stopped-requires-2 t)
     (group-returns-2 t)
     (group-expect-requires t)
     (group-returns-3 t))
     (λ t. inside-lts.spec (inside-calls t)
     (inside-at t)
     inside.Post
-    (inside-number-requires t)
+    (inside-kind-of-requires t)
     (inside-take-requires t)
-    (inside-enum-told t)
+    (inside-stopped-requires t)
     (inside-returns t)
     (inside-counted-requires t)
-    (inside-enum-told-2 t)
+    (inside-stopped-requires-2 t)
     (inside-returns-2 t)
     (inside-at-requires t)
     (inside-rest-requires t)
@@ -1192,7 +1192,7 @@ pub +arms+choice+first-arm+group+inside+more-arms+named+next-arm+opening+operati
     (more-arms-another-requires t)
     (more-arms-at-requires t)
     (more-arms-next-arm-requires t)
-    (more-arms-enum-told t)
+    (more-arms-stopped-requires t)
     (more-arms-returns t)
     (more-arms-one-more-requires t)
     (more-arms-sub-left t)
@@ -1206,7 +1206,7 @@ pub +arms+choice+first-arm+group+inside+more-arms+named+next-arm+opening+operati
     (named-at t)
     named.Post
     (named-take-requires t)
-    (named-enum-told t)
+    (named-stopped-requires t)
     (named-returns t)
     (named-reference-requires t)
     (named-returns-2 t))
@@ -1214,11 +1214,11 @@ pub +arms+choice+first-arm+group+inside+more-arms+named+next-arm+opening+operati
     (next-arm-at t)
     next-arm.Post
     (next-arm-expect-requires t)
-    (next-arm-enum-told t)
+    (next-arm-stopped-requires t)
     (next-arm-returns t)
     (next-arm-at-requires t)
     (next-arm-start-requires t)
-    (next-arm-enum-told-2 t)
+    (next-arm-stopped-requires-2 t)
     (next-arm-returns-2 t)
     (next-arm-last-requires t)
     (next-arm-add-next-arm-requires t)
@@ -1230,15 +1230,15 @@ pub +arms+choice+first-arm+group+inside+more-arms+named+next-arm+opening+operati
     (opening-term-requires t)
     (opening-returns t)
     (opening-take-requires t)
-    (opening-enum-told-2 t)
+    (opening-stopped-requires t)
     (opening-returns-2 t)
     (opening-reducing-requires t)
-    (opening-enum-told-3 t)
+    (opening-stopped-requires-2 t)
     (opening-returns-3 t)
     (opening-at-requires t)
     (opening-prefixed-requires t)
     (opening-start-requires t)
-    (opening-enum-told-4 t)
+    (opening-stopped-requires-3 t)
     (opening-returns-4 t)
     (opening-add-prefix-requires t)
     (opening-returns-5 t))
@@ -1246,15 +1246,15 @@ pub +arms+choice+first-arm+group+inside+more-arms+named+next-arm+opening+operati
     (operation-at t)
     operation.Post
     (operation-take-requires t)
-    (operation-enum-told t)
+    (operation-stopped-requires t)
     (operation-returns t)
-    (operation-enum-told-2 t)
-    (operation-number-requires t)
+    (operation-enum-told t)
+    (operation-kind-of-requires t)
     (operation-cut-requires t)
     (operation-returns-2 t)
     (operation-operand-requires t)
     (operation-start-requires t)
-    (operation-enum-told-3 t)
+    (operation-stopped-requires-2 t)
     (operation-returns-3 t)
     (operation-last-requires t)
     (operation-add-binary-requires t)
@@ -1262,9 +1262,9 @@ pub +arms+choice+first-arm+group+inside+more-arms+named+next-arm+opening+operati
     (λ t. reference-lts.spec (reference-calls t)
     (reference-at t)
     reference.Post
-    (reference-number-requires t)
+    (reference-kind-of-requires t)
     (reference-take-requires t)
-    (reference-enum-told t)
+    (reference-stopped-requires t)
     (reference-returns t)
     (reference-subscript-requires t)
     (reference-returns-2 t)
@@ -1275,7 +1275,7 @@ pub +arms+choice+first-arm+group+inside+more-arms+named+next-arm+opening+operati
     rest.Post
     (rest-within-requires t)
     (rest-tail-requires t)
-    (rest-enum-told t)
+    (rest-stopped-requires t)
     (rest-returns t)
     (rest-at-requires t)
     (rest-next-requires t)
@@ -1290,10 +1290,10 @@ pub +arms+choice+first-arm+group+inside+more-arms+named+next-arm+opening+operati
     (second-word-part-requires t)
     (second-returns t)
     (second-inside-requires t)
-    (second-enum-told t)
+    (second-stopped-requires t)
     (second-returns-2 t)
     (second-expect-requires t)
-    (second-enum-told-2 t)
+    (second-stopped-requires-2 t)
     (second-returns-3 t)
     (second-last-requires t)
     (second-last-requires-2 t)
@@ -1302,9 +1302,9 @@ pub +arms+choice+first-arm+group+inside+more-arms+named+next-arm+opening+operati
     (λ t. single-lts.spec (single-calls t)
     (single-at t)
     single.Post
-    (single-number-requires t)
+    (single-kind-of-requires t)
     (single-take-requires t)
-    (single-enum-told t)
+    (single-stopped-requires t)
     (single-returns t)
     (single-second-requires t)
     (single-returns-2 t)
@@ -1314,10 +1314,10 @@ pub +arms+choice+first-arm+group+inside+more-arms+named+next-arm+opening+operati
     (λ t. start-lts.spec (start-calls t)
     (start-at t)
     start.Post
-    (start-number-requires t)
+    (start-kind-of-requires t)
     (start-head-of-requires t)
     (start-opening-requires t)
-    (start-enum-told t)
+    (start-stopped-requires t)
     (start-returns t)
     (start-at-requires t)
     (start-after-requires t)
@@ -1330,17 +1330,17 @@ pub +arms+choice+first-arm+group+inside+more-arms+named+next-arm+opening+operati
     (subscript-part-requires t)
     (subscript-returns t)
     (subscript-inside-requires t)
-    (subscript-enum-told t)
+    (subscript-stopped-requires t)
     (subscript-returns-2 t)
-    (subscript-number-requires t)
+    (subscript-kind-of-requires t)
     (subscript-take-requires t)
-    (subscript-enum-told-2 t)
+    (subscript-stopped-requires-2 t)
     (subscript-returns-3 t)
     (subscript-at-requires t)
     (subscript-second-requires t)
     (subscript-returns-4 t)
     (subscript-expect-requires t)
-    (subscript-enum-told-3 t)
+    (subscript-stopped-requires-3 t)
     (subscript-returns-5 t)
     (subscript-last-requires t)
     (subscript-at-requires-2 t)
@@ -1355,7 +1355,7 @@ pub +arms+choice+first-arm+group+inside+more-arms+named+next-arm+opening+operati
     (tail-operates-requires t)
     (tail-at-requires t)
     (tail-operation-requires t)
-    (tail-enum-told t)
+    (tail-stopped-requires t)
     (tail-returns t)
     (tail-once-requires t)
     (tail-returns-2 t)
@@ -1369,7 +1369,7 @@ pub +arms+choice+first-arm+group+inside+more-arms+named+next-arm+opening+operati
     λ t. term-lts.spec (term-calls t)
     (term-at t)
     term.Post
-    (term-number-requires t)
+    (term-kind-of-requires t)
     (term-constant-requires t)
     (term-returns t)
     (term-named-requires t)
