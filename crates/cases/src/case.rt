@@ -34,7 +34,11 @@ pub const RECORD_LEFT: usize = 68;
 
 pub const TRACE_LEFT: usize = 76;
 
-// How long a buffer the case lends, of one that has so many bytes.
+// Whether a buffer of so many bytes is as long as the case asks; and how long a part of it the case lends.
+pub fn fits(case: &[u8], at: usize, most: usize) -> bool {
+    numbers::four(case, at) as usize <= most
+}
+
 pub fn room(case: &[u8], at: usize, most: usize) -> usize
     ensures { λ r. ⌜ r ≤ most ⌝ }
 {

@@ -66,8 +66,28 @@ fn run_traced(image: &[u8], case: &[u8], trace: &mut [u8], first: u8) -> bool {
     )
 }
 
+// Whether the buffers are as long as the case asks.
+fn roomy(call: u8, case: &[u8]) -> bool {
+    if call == READ {
+        return case::fits(case, case::STORE_ROOM, 165600);
+    }
+    if !case::fits(case, case::STORE_ROOM, 16400) {
+        return false;
+    }
+    if !case::fits(case, case::RECORD_ROOM, 96) {
+        return false;
+    }
+    if !case::fits(case, case::SCRATCH_ROOM, 65600) {
+        return false;
+    }
+    case::fits(case, case::TRACE_ROOM, 165600)
+}
+
 // Whether a case comes out as it says, where its buffers held bytes from this first one on.
 pub fn agrees(call: u8, text: &[u8], image: &[u8], case: &[u8], first: u8) -> bool {
+    if !roomy(call, case) {
+        return false;
+    }
     if call == READ {
         return read(text, image, case, first);
     }
