@@ -4,7 +4,6 @@ use referents::worth::Stuck;
 use storing::doing;
 use storing::doing::Did;
 use storing::doing::Doing;
-use storing::sides;
 ghost use mathlib.Core.Path.{_≡_};
 ghost use lib.ListN.{length};
 ghost use Rattle.language.specs.Acting as T;

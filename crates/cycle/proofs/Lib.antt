@@ -1,4 +1,1 @@
-pub mod CarryLaws
-pub mod KeptLaws
 pub mod RefusalLaws
-pub mod WorkLaws

@@ -3,4 +3,3 @@ pub mod answer;
 pub mod carry;
 pub mod cycle;
 pub mod refusal;
-mod work;

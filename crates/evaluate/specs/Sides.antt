@@ -1,11 +1,10 @@
 -- What a reference's facility and place mean, and what is known of them.
 use mathlib.Core.List.{List}
-use Prim.Native.Nat.{ℕ, _<_}
-use lib.ListN.{length}
+use Prim.Native.Nat.{ℕ}
 use Rattle.language.specs.Description.{Description}
 use Rattle.language.specs.Meaning as M
 use Rattle.image.specs.Declarations.{FacilityRead}
-use Rattle.image.specs.declared.facilities.Facility.{Facility}
+use Rattle.referents.specs.Described.{There}
 use Rattle.referents.specs.Places.{placeMeant}
 use Rattle.referents.specs.Worth.{stuckMeant}
 use Rattle.evaluate.specs.declared.eval.Side.{Side}
@@ -21,11 +20,6 @@ abbrev pub SideRead : List ℕ → ℕ → Side → Type 0
 SideRead F n (S.At f p) = FacilityRead F n f
 SideRead F n (S.Stops k) = Unit {0}
 SideRead F n (S.Stuck s) = Unit {0}
-
--- The facility f is the one of record n, which the description has.
-pub record There (d : Description) (F : List ℕ) (n : ℕ) (f : Facility) : Type 0 where
-  pub read : FacilityRead F n f
-  pub listed : n < length (d .facilities)
 
 -- Its facility is the place's own.
 abbrev pub SideThere : Description → List ℕ → Side → Type 0

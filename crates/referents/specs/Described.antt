@@ -10,7 +10,8 @@ use Rattle.language.specs.Description.{Description, facilityAt, isComputed, nod
 use Rattle.language.specs.Layout.{placeIn}
 use Rattle.language.specs.Tree.{Name}
 use Rattle.language.specs.Value.{Value}
-use Rattle.image.specs.Declarations.{facilityIn, placeFieldIn}
+use Rattle.image.specs.Declarations.{FacilityRead, facilityIn, placeFieldIn}
+use Rattle.image.specs.declared.facilities.Facility.{Facility}
 use Rattle.store.specs.InBytes.{InBytes}
 
 -- The expressions of d are those of the section E.
@@ -33,3 +34,8 @@ pub record Describes (d : Description) (F E : List ℕ) : Type 0 where
 -- A claim about each description by the sections F and E, and each store of the bytes B.
 abbrev pub ForEach : List ℕ → List ℕ → List ℕ → (Description → InBytes → Type 0) → Type 0
 ForEach F E B claim = (d : Description) (x : InBytes) → Describes d F E → x .bytes ≡ B → claim d x
+
+-- The facility f is the one of record n, which the description has.
+pub record There (d : Description) (F : List ℕ) (n : ℕ) (f : Facility) : Type 0 where
+  pub read : FacilityRead F n f
+  pub listed : n < length (d .facilities)

@@ -1,3 +1,4 @@
 pub mod FormLaws
 pub mod RefusalLaws
 pub mod RunLaws
+pub mod SoFarLaws

@@ -27,7 +27,7 @@ use Rattle.theorems.specs.NeverStuck.{not-first}
 use Rattle.stays.specs.AnyRun.{Ready}
 use Rattle.stays.specs.StaysSound.{no-refusal, stays-sound}
 use Rattle.sound.proofs.PassedLaws.{passed-size}
-use Rattle.cycle.proofs.CarryLaws.{cycle-is}
+use Rattle.carrying.proofs.CarryLaws.{cycle-is}
 use Rattle.records.proofs.FilledLaws.{filled-more, filled-none}
 use Rattle.run.proofs.FormLaws.{all-first, all-long, all-rest, first-there}
 
@@ -94,6 +94,10 @@ module _ (image S : List ℕ) (count scratch : ℕ) (B₀ K₀ : List ℕ) where
       let room = right-of (leb (storeSize d) (length B₀)) _ (run-free image B₀ K₀ S count scratch t e .room) in
       let h = leb-true (4 * storeSize d) scratch (right-of (leb recordSize (length K₀)) _ room) in
       omega (arith, h)
+
+  pub run-record : (t : ℕ) → runRefusal image B₀ K₀ S count scratch t ≡ none → 80 ≤ length K₀
+  unfolding roomy
+  run-record t e = leb-true recordSize (length K₀) (left-of (leb recordSize (length K₀)) _ (right-of (leb (storeSize d) (length B₀)) _ (run-free image B₀ K₀ S count scratch t e .room)))
 
   pub left-all : (T : List ℕ) → runRefusal image B₀ K₀ S count scratch (length T) ≡ none → T ≡ zeroes (length T) → Left image S count scratch B₀ K₀ B₀ K₀ T 0 0 0 0
   unfolding roomy

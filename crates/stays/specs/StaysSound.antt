@@ -204,3 +204,13 @@ module _ (image store record′ stimulus : List ℕ) (scratch : ℕ) (none-refus
             form = w;
           })
       go (Outcome.stopped m) q h k = absurd (let z : _≡_ {A = ℕ} 0 1 = cc in omega arith)
+
+  -- The record of a completed cycle is read back from its bytes, and these are as many as any record's.
+  pub completed-back : (K : List ℕ) {s : Words} {r : Record} {n : ℕ} → step (decode image) (fromBytes (decode image .facilities) store) (recordFrom record′) (fromBytes (inputsOf (decode image .facilities)) stimulus) ≡ completed s r n
+      → (recordFrom (over (recordBytes r) K) ≡ r) × (length (recordBytes r) ≡ recordSize)
+  completed-back K {s} {r} {n} q = go (rw q at (never-stuck image store record′ stimulus scratch none-refused))
+    where
+      go : Well d′ (completed s r n) → (recordFrom (over (recordBytes r) K) ≡ r) × (length (recordBytes r) ≡ recordSize)
+      go (completes h) =
+          let y = step-cycle d′ (fromBytes (d′ .facilities) store) (recordFrom record′) (fromBytes (inputsOf (d′ .facilities)) stimulus) q in
+          (record-back r _ (in-words d′ s r h (few image (there .passing)) (cycle-fits (y .0) (y .1))) (h .returns-in .places), record-length r (h .returns-in .places))

@@ -22,9 +22,8 @@ use Rattle.image.specs.declared.facilities.Facility.{Facility}
 use Rattle.store.specs.InBytes.{InBytes, anyMarked, bytes, loadBytes, markAll, placeOfWord, putAll, putBytes}
 use Rattle.store.specs.Parts.{loaded, saved}
 use Rattle.referents.proofs.PlaceLaws.{facility-known, nameOf, stored-load, stored-word}
-use Rattle.referents.specs.Described.{Describes}
+use Rattle.referents.specs.Described.{Describes, There}
 use Rattle.referents.specs.Places.{placeMeant}
-use Rattle.evaluate.specs.Sides.{There}
 use Rattle.referents.specs.declared.places.Place.{Place}
 use Rattle.storing.specs.Seen.{View, seen, viewed}
 use Rattle.storing.specs.Spots.{spotOf}

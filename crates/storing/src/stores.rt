@@ -24,7 +24,7 @@ ghost use Rattle.image.specs.Declarations.{kindMeant};
 ghost use Rattle.store.specs.InBytes.{bytes};
 ghost use Rattle.store.specs.Parts.{loaded};
 ghost use Rattle.referents.specs.Places.{placeMeant};
-ghost use Rattle.evaluate.specs.Sides.{There};
+ghost use Rattle.referents.specs.Described.{There};
 ghost use Rattle.storing.specs.Seen.{ForDoing, did, ranSeen, viewed};
 
 // A store of v to one place.

@@ -4,7 +4,7 @@ use lib.ListN.{length, length-replicate}
 use Rattle.language.specs.Decode.{decode, sectionAt}
 use Rattle.language.specs.Layout.{storeSize}
 use Rattle.sound.proofs.PassedLaws.{passed-described, passed-size}
-use Rattle.cycle.proofs.CarryLaws.{free-passes}
+use Rattle.carrying.proofs.CarryLaws.{free-passes}
 use borrow.Author.Needs.{needs}
 use Rattle.cycle.proofs.carry.carry_out.Statement.{statement}
 use Rattle.cycle.proofs.carry.carry_out.Tie as tie

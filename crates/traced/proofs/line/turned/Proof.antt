@@ -2,7 +2,7 @@ use mathlib.Core.Path.{_∙_}
 use Prim.Native.Nat.{ℕ, _*_}
 use native.Mathlib.Omega.{arith}
 use lib.ListN.{length, length-replicate}
-use Rattle.cycle.proofs.KeptLaws.{first-zeroes}
+use Rattle.carrying.proofs.KeptLaws.{first-zeroes}
 use Rattle.traced.proofs.TurnLaws.{small-stimulus, small-store}
 use borrow.Author.Needs.{needs}
 use Rattle.traced.proofs.line.turned.Statement.{statement}

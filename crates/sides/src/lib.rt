@@ -1,12 +1,12 @@
 // Stores by the records of their sides: the left side's place first, then the right side's value.
-use crate::doing::Did;
-use crate::doing::Doing;
-use crate::stores;
 use evaluate::eval;
 use evaluate::eval::Side;
 use image::facilities::Facility;
 use referents::places::Place;
 use referents::worth::Outcome;
+use storing::doing::Did;
+use storing::doing::Doing;
+use storing::stores;
 ghost use mathlib.Core.Bool.{_||_, cond, false};
 ghost use mathlib.Core.List.{List, [], _∷_};
 ghost use mathlib.Core.Path.{_≡_};
@@ -14,8 +14,8 @@ ghost use Prim.Native.Nat.{ℕ, _+_, _/_, _%_, _^_};
 ghost use Rattle.language.specs.Acting as T;
 ghost use Rattle.store.specs.InBytes.{bytes};
 ghost use Rattle.referents.specs.Places.{placeMeant};
-ghost use Rattle.evaluate.specs.Sides.{There};
+ghost use Rattle.referents.specs.Described.{There};
 ghost use Rattle.storing.specs.Seen.{ForDoing, besides, did, ranSeen, viewed};
 
 // A store of record r to the place at record l.
 pub fn store_to(

@@ -1,0 +1,3 @@
+pub mod CarryLaws
+pub mod KeptLaws
+pub mod WorkLaws
