@@ -1,5 +1,5 @@
 // The start of a cycle: a stimulus of the right form, and the store with inputs set and plain terminals cleared.
 mod ranges;
-mod sizes;
+pub mod sizes;
 pub mod start;
 pub mod stimulus;

@@ -2,6 +2,8 @@
 use crate::sizes;
 use image::facilities;
 use image::facilities::Facility;
+use image::kinds;
+use referents::bounds;
 use store::spare;
 ghost use mathlib.Core.List.{List};
 ghost use mathlib.Core.Path.{_≡_};
@@ -18,8 +20,8 @@ fn fits(stimulus: &[u8], at: usize, f: Facility) -> bool
     ensures { λ r. ⌜ ((name : Name) → r ≡ fitsAt (now (stimulus .entry)) at (facilityMeant name f)) ⌝ }
 {
     let kind = f.kind;
-    if sizes::is_input(kind) {
-        return spare::no_spare_bits(stimulus, at, sizes::word_count(f), sizes::word_length(f));
+    if kinds::is_input(kind) {
+        return spare::no_spare_bits(stimulus, at, bounds::word_count(f), bounds::word_length(f));
     }
     true
 }

@@ -1,5 +1,6 @@
 // The kinds of words by number, as the grammar has them.
 use words::Kind;
+use words::Word;
 ghost use mathlib.Core.Path.{_≡_};
 ghost use Rattle.course.specs.Course.{kindNo};
 
@@ -79,4 +80,12 @@ pub fn number(kind: Kind) -> u8
         Kind::Constant => CONSTANT,
         Kind::Sign(k) => k,
     }
+}
+
+// The same of a word.
+pub fn kind_of(w: Word) -> u8
+    ensures { λ r. ⌜ r ≡ kindNo (w .kind) ⌝ }
+{
+    let kind = w.kind;
+    number(kind)
 }

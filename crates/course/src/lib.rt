@@ -1,6 +1,9 @@
 // The course of parsing: what has been counted and written so far, a word taken, a record added; each as the machine of the grammar does it.
 use words::Fault;
 use words::Word;
+ghost use mathlib.Core.Bool.{false, true};
+ghost use mathlib.Core.Path.{_≡_};
+ghost use Rattle.course.specs.declared.Verdict.the-variants.{Done};
 
 pub mod adding;
 pub mod kinds;
@@ -36,4 +39,15 @@ pub enum Bearing {
     Level,
     Opens,
     Closes,
+}
+
+// Whether a part of the text was not read: then its answer is the whole's.
+pub fn unread(a: Answer) -> bool
+    ensures { λ r. ⌜ (r ≡ false → a .verdict ≡ Done) × (r ≡ true → a .verdict ≡ Done → ⊥) ⌝ }
+{
+    let verdict = a.verdict;
+    let Verdict::Done = verdict else {
+        return true;
+    };
+    false
 }

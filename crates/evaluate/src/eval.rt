@@ -2,6 +2,7 @@
 use image::facilities;
 use image::facilities::Bounds;
 use image::facilities::Facility;
+use image::kinds;
 use records::constants;
 use records::nodes;
 use records::nodes::Node;
@@ -144,7 +145,7 @@ fn operand(
     match place_of(section, expressions, store, n, number, s) {
         Side::At(f, p) => {
             let kind = f.kind;
-            if facilities::is_computed(kind) {
+            if kinds::is_computed(kind) {
                 let w = part(section, expressions, store, n, f.place);
                 return reading::of_computed(f, p, w);
             }

@@ -2,6 +2,7 @@
 use crate::constants;
 use crate::operators;
 use image::facilities::Kind;
+use image::kinds;
 use noted::facilities;
 use noted::facilities::Bounds;
 use noted::facilities::Facility;
@@ -130,7 +131,7 @@ pub fn direction_faults(places: &[u8], n: u16, f: Facility, s: Subscripts) -> Ju
 pub fn computed_work(memo: &[usize], f: u8, kind: Kind) -> Verdict
     ensures { λ r. ⌜ ((j : L.Judged) → (isComputed (kindMeant kind) ≡ true → recalled (now (memo .entry)) f ≡ seen j) → r ≡ seen (cond (isComputed (kindMeant kind)) j (L.worth 1 0 0))) ⌝ }
 {
-    if image::facilities::is_computed(kind) {
+    if kinds::is_computed(kind) {
         return kept::recall(memo, f as u16);
     }
     operators::nothing()

@@ -2,6 +2,7 @@
 use image::facilities;
 use image::facilities::Facility;
 use image::facility_bytes;
+use image::kinds;
 use records::action_bytes;
 use records::node_bytes;
 use store::places;
@@ -62,7 +63,7 @@ fn place_after(place: u32, f: Facility) -> u32
         last: bits.last,
     };
     let shape = Shape {
-        computed: facilities::is_computed(kind),
+        computed: kinds::is_computed(kind),
         dimensions: f.dimensions as u16,
         words: w,
         bits: b,

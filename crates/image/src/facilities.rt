@@ -4,7 +4,6 @@ ghost use mathlib.Core.Path.{_≡_};
 ghost use Prim.Native.Nat.{_+_, _≤_};
 ghost use lib.ListN.{length};
 ghost use Rattle.language.specs.Decode.{boundsAt, kindOf};
-ghost use Rattle.language.specs.Description.{isComputed};
 ghost use Rattle.language.specs.Encode.{kindNumber};
 ghost use Rattle.language.specs.Tree.{Name};
 ghost use Rattle.image.specs.Declarations.{FacilityRead, boundsMeant, facilityMeant, kindMeant, noneNamed};
@@ -59,20 +58,6 @@ pub fn kind_number(kind: Kind) -> u8
         Kind::Plain => 3,
         Kind::Input => 4,
         Kind::Computed => 5,
-    }
-}
-
-// Whether a facility of this kind is computed.
-pub fn is_computed(kind: Kind) -> bool
-    ensures { λ r. ⌜ r ≡ isComputed (kindMeant kind) ⌝ }
-{
-    match kind {
-        Kind::Register => false,
-        Kind::Sequencing => false,
-        Kind::Memory => false,
-        Kind::Plain => false,
-        Kind::Input => false,
-        Kind::Computed => true,
     }
 }
 

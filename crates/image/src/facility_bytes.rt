@@ -1,6 +1,7 @@
 // The bytes of a facility's record: as they are written, and whether they stand there.
 use crate::facilities;
 use crate::facilities::Facility;
+use crate::kinds;
 use records::bytes;
 use records::numbers;
 ghost use mathlib.Core.Bool.{cond};
@@ -19,7 +20,7 @@ fn located(f: Facility, place: u32) -> u32
     ensures { λ r. ⌜ r ≡ cond (isComputed (kindMeant (f .kind))) (f .place) place ⌝ }
 {
     let kind = f.kind;
-    if facilities::is_computed(kind) {
+    if kinds::is_computed(kind) {
         f.place as u32
     } else {
         place

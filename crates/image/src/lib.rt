@@ -2,6 +2,7 @@
 pub mod facilities;
 pub mod facility_bytes;
 pub mod header;
+pub mod kinds;
 pub mod names;
 pub mod operations;
 pub mod runs;

@@ -22,7 +22,7 @@ use Rattle.language.specs.Tree.{Name}
 use Rattle.language.specs.WordStage.{least}
 use Rattle.language.specs.Words as W
 use Rattle.store.specs.Shape.{capped}
-use Rattle.words.proofs.Least.{least-both, lesser-all}
+use Rattle.words.proofs.Least.{least-both, lesser-all, lesser-none}
 use Rattle.image.specs.Declarations.{facilityIn, kindMeant}
 use Rattle.noted.specs.Read.{facilityMeant}
 use Rattle.noted.specs.declared.facilities.Facility as N
@@ -133,10 +133,6 @@ or-else-some d p [] y g q e = absurd (let w : some (faulted g) ≡ none = sym (a
 or-else-some d p (h ∷ hs) y g q e = e
 
 -- ---- The loop: what is found so far and what is left make the whole.
-
-pub lesser-none : (o : Option W.Fault) → lesser o none ≡ o
-lesser-none none = refl
-lesser-none (some f) = refl
 
 module _ (d : Description) (p : Places) where
   pub start : lesser none (least (facilitiesFaults d p 0 false 0 (drop 0 (d .facilities)))) ≡ least (facilitiesFaults d p 0 false 0 (d .facilities))

@@ -19,11 +19,11 @@ use Rattle.language.specs.WordStage.{least}
 use Rattle.language.specs.Words as W
 use Rattle.verdict.specs.declared.Verdict.{Verdict}
 use Rattle.verdict.specs.Meaning.{recalled, seen, workOf}
-use Rattle.words.proofs.Least.{least-both, lesser-all}
+use Rattle.words.proofs.Least.{least-both, lesser-all, lesser-none}
 use Rattle.words.specs.Meaning.{lesser}
 use Rattle.expressions.specs.Shown.{worked}
 use Rattle.lists.specs.Listed.{Listed, listAt}
-use Rattle.judge.proofs.FacilityLaws.{lesser-none, shown-of}
+use Rattle.judge.proofs.FacilityLaws.{shown-of}
 use Rattle.judge.proofs.MemoryLaws.{worked-seen}
 use Rattle.judge.specs.Declared.{Acting, Performed}
 

@@ -18,7 +18,7 @@ use Rattle.language.specs.Judging.{Judged, faultsOf}
 use Rattle.language.specs.Rules.{borne, missing, ownFaults, stateFaults, statesFaults, valueFaults}
 use Rattle.language.specs.WordStage.{least}
 use Rattle.language.specs.Words as W
-use Rattle.words.proofs.Least.{least-both, lesser-all}
+use Rattle.words.proofs.Least.{least-both, lesser-all, lesser-none}
 use Rattle.words.specs.declared.Fault.{Fault}
 use Rattle.words.specs.declared.Judged as J
 use Rattle.words.specs.declared.Judged.the-variants.{Refused}
@@ -29,7 +29,6 @@ use Rattle.verdict.specs.declared.Verdict.the-variants.{Faulty}
 use Rattle.verdict.specs.Meaning.{seen}
 use Rattle.expressions.specs.Shown.{nodeNoted}
 use Rattle.lists.specs.Listed.{listAt}
-use Rattle.judge.proofs.FacilityLaws.{lesser-none}
 use Rattle.judge.proofs.ValueLaws.{wanted-none, wanted-some}
 use Rattle.judge.specs.Stated.{Stated, Valued, valuesBefore, wantedLength}
 

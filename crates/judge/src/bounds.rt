@@ -1,7 +1,7 @@
 // The rules of one declaration.
+use image::kinds;
 use noted::facilities::Facility;
 use noted::places;
-use rules::storing;
 use verdict::Verdict;
 use verdict::faults;
 use words::Judged;
@@ -46,7 +46,7 @@ fn sequencing_right(another: bool, f: Facility) -> bool
     ensures { λ r. ⌜ ((d : Description) (p : Places) (name : Name) → r ≡ cond (isSequencing (facilityMeant name f .kind)) (sequencingRight d p another (facilityMeant name f)) true) ⌝ }
 {
     let kind = f.kind;
-    if !storing::is_sequencing(kind) {
+    if !kinds::is_sequencing(kind) {
         return true;
     }
     if another {

@@ -3,9 +3,9 @@ use crate::bounds;
 use crate::memory;
 use expressions::operators;
 use expressions::walk;
+use image::kinds;
 use noted::facilities;
 use noted::facilities::Facility;
-use rules::storing;
 use verdict::Verdict;
 use words::Judged;
 use words::faults;
@@ -37,7 +37,7 @@ fn terminal(
     ensures { λ r. ⌜ ((d : Description) (p : Places) → Declared (now (fs .entry)) (now (es .entry)) (now (fp .entry)) (now (ep .entry)) d p → Remembered (now (fs .entry)) (now (memo .entry)) n d p → r ≡ seen (cond (isComputed (facilityAt d n .kind)) (terminalJudged d p n) (L.worth 1 0 0))) ⌝ }
 {
     let kind = f.kind;
-    if image::facilities::is_computed(kind) {
+    if kinds::is_computed(kind) {
         return walk::expression(fs, es, fp, ep, memo, n, f.expression);
     }
     operators::nothing()
@@ -50,7 +50,7 @@ fn one(fp: &[u8], n: usize, another: bool, before: u32, f: Facility, v: Verdict)
     let kind = f.kind;
     let own = bounds::bounds_faults(fp, n, f);
     let after = memory::place_after(before, f);
-    if image::facilities::is_computed(kind) {
+    if kinds::is_computed(kind) {
         let terminal = bounds::terminal_faults(fp, n, f, v);
         return bounds::or_else(
             own,
@@ -87,7 +87,7 @@ pub fn facilities(fs: &[u8], es: &[u8], fp: &[u8], ep: &[u8], memo: &mut [usize]
         let kind = f.kind;
         let v = terminal(fs, es, fp, ep, memo, k, f);
         all = faults::earlier(all, one(fp, k, another, before, f, v));
-        another = either(another, storing::is_sequencing(kind));
+        another = either(another, kinds::is_sequencing(kind));
         before = memory::place_after(before, f);
         memory::remember(memo, k, v);
     }

@@ -1,4 +1,5 @@
 // How much of the store facilities take, and the verdicts kept of computed terminals.
+use image::kinds;
 use noted::facilities::Facility;
 use rules::bounds;
 use verdict::Verdict;
@@ -19,7 +20,7 @@ fn bytes_of(f: Facility) -> u64
     ensures { λ r. ⌜ ((name : Name) → r ≡ facilityBytes (facilityMeant name f)) ⌝ }
 {
     let kind = f.kind;
-    if image::facilities::is_computed(kind) {
+    if kinds::is_computed(kind) {
         return 0;
     }
     let count = bounds::word_count(f);

@@ -1,7 +1,7 @@
 // The length that the values of states must have.
+use image::kinds;
 use noted::facilities;
 use rules::bounds;
-use rules::storing;
 ghost use mathlib.Core.List.{List};
 ghost use mathlib.Core.Path.{_≡_};
 ghost use Prim.Native.Nat.{ℕ};
@@ -20,7 +20,7 @@ pub fn sequencing_length(fs: &[u8], fp: &[u8]) -> u64
         n += 1;
         let f = facilities::facility_at(fs, fp, k);
         let kind = f.kind;
-        if storing::is_sequencing(kind) {
+        if kinds::is_sequencing(kind) {
             return bounds::word_length(f);
         }
     }

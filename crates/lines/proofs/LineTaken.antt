@@ -6,7 +6,6 @@ use mathlib.Core.Path.{_≡_, refl, sym, ap, ap₂, _∙_}
 use Prim.Native.Nat.{ℕ, suc, _+_, _-_, _*_, _≤_, _<_}
 use native.Mathlib.Nat.{mul-le-mul}
 use native.Mathlib.Omega.{arith}
-use borrow.Author.Tests.{eq-eqb, ne-eqb}
 use lib.Dec.{eqb, leb}
 use lib.ListN.{drop, drop-of-length-le, getD, length, length-append, length-drop, replicate, take}
 use lib.Seq.{drop-at, drop-cons, drop-drop, take-at}
@@ -16,8 +15,6 @@ use Rattle.language.specs.Layout.{bytesOf, facilityBytes, storeSizeOf, wordByte
 use Rattle.language.specs.Reading.{zeroes}
 use Rattle.language.specs.Store.{Words, inputsOf, isInput, toBytes, wordsTo}
 use Rattle.language.specs.Trace.{bitsNumber, consWord, lineWords}
-use Rattle.language.specs.Encode.{kindNumber}
-use Rattle.language.specs.Tree.{Kind, computed, input, memory, plain, register, sequencing}
 use Rattle.store.proofs.ByteOrder.{length-word}
 use Rattle.store.specs.Layout.{withWord}
 use Rattle.begin.proofs.SizeLaws.{input-stored, stored-bytes}
@@ -72,22 +69,13 @@ words-some f = go (eqb (f .dimensions) 2)
     go true = span-some (f .words)
     go false = omega arith
 
--- The number of its kind says whether a facility is an input.
-input-kind : (k : Kind) → isInput k ≡ eqb (kindNumber k) 4
-input-kind register = refl
-input-kind sequencing = refl
-input-kind memory = refl
-input-kind plain = refl
-input-kind input = refl
-input-kind computed = refl
-
-pub bits-input : (f : Facility) (l : ℕ) → kindNumber (f .kind) ≡ 4 → l ≡ wordLength f → l ≡ inputBits f
+pub bits-input : (f : Facility) (l : ℕ) → isInput (f .kind) ≡ true → l ≡ wordLength f → l ≡ inputBits f
 unfolding inputBits
-bits-input f l e h = rw (input-kind (f .kind) ∙ eq-eqb (kindNumber (f .kind)) 4 e) h
+bits-input f l e h = rw e h
 
-pub bits-other : (f : Facility) → (kindNumber (f .kind) ≡ 4 → ⊥) → 0 ≡ inputBits f
+pub bits-other : (f : Facility) → isInput (f .kind) ≡ false → 0 ≡ inputBits f
 unfolding inputBits
-bits-other f e = rw (input-kind (f .kind) ∙ ne-eqb (kindNumber (f .kind)) 4 e) refl
+bits-other f e = rw e refl
 
 -- A word of no bits.
 no-bytes : (x : ℕ) → wordToBytes 0 x ≡ []

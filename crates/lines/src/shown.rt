@@ -2,6 +2,7 @@
 use crate::out;
 use image::facilities;
 use image::facilities::Facility;
+use image::kinds;
 use records::bytes;
 use referents::bounds;
 use store::parts;
@@ -63,7 +64,7 @@ fn facility(out: &mut [u8], at: usize, f: Facility, name: &[u8], store: &[u8]) -
     ensures { λ r. ⌜ (size (now (out .exit)) ≡ size (now (out .entry))) × ((T.shown (facilityMeant (now (name .entry)) f) ≡ true → HasWord (facilityMeant (now (name .entry)) f) (f .place) (now (store .entry))) → Adds (facilityText (facilityMeant (now (name .entry)) f) (f .place) (now (store .entry))) (now (out .entry)) at (now (out .exit)) r) ⌝ }
 {
     let kind = f.kind;
-    if facilities::is_computed(kind) {
+    if kinds::is_computed(kind) {
         return at;
     }
     if 1 < f.dimensions {

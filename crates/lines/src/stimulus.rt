@@ -1,6 +1,7 @@
 // A line of input bits becomes a stimulus: the input terminals' words one after the other.
 use image::facilities;
 use image::facilities::Facility;
+use image::kinds;
 use referents::bounds;
 use store::places;
 use store::slices;
@@ -80,15 +81,12 @@ fn word(line: &[u8], at: usize, length: u32, stimulus: &mut [u8], place: usize) 
     true
 }
 
-// The number of the kind of input terminals.
-const INPUT: u8 = 4;
-
 // How many bits a line has for a facility.
 fn input_bits(f: Facility) -> u32
     ensures { λ r. ⌜ ((name : Name) → r ≡ inputBits (facilityMeant name f)) ⌝ }
 {
     let kind = f.kind;
-    if facilities::kind_number(kind) == INPUT {
+    if kinds::is_input(kind) {
         return bounds::word_length(f);
     }
     0

@@ -5,7 +5,7 @@ use expressions::references;
 use expressions::references::Reference;
 use expressions::walk;
 use image::facilities::Kind;
-use rules::storing;
+use image::kinds;
 use verdict::Pair;
 use verdict::Verdict;
 use verdict::Worth;
@@ -94,7 +94,7 @@ pub fn store(
 {
     let a = walk::left(fs, es, fp, ep, memo, known, l);
     let b = walk::expression(fs, es, fp, ep, memo, known, r);
-    let allowed = storing::may_store(sign, kind_at(fs, es, ep, l));
+    let allowed = kinds::may_store(sign, kind_at(fs, es, ep, l));
     stored(at, allowed, length_of(a), only_work(a), b)
 }
 
@@ -102,8 +102,8 @@ pub fn store(
 fn both_allowed(sign: u8, a: Kind, b: Kind) -> bool
     ensures { λ r. ⌜ r ≡ L.both (mayStore sign (kindMeant a)) (mayStore sign (kindMeant b)) ⌝ }
 {
-    if storing::may_store(sign, a) {
-        return storing::may_store(sign, b);
+    if kinds::may_store(sign, a) {
+        return kinds::may_store(sign, b);
     }
     false
 }
@@ -136,7 +136,7 @@ pub fn store_pair(
 fn may_set(kind: Kind, length: u16) -> bool
     ensures { λ r. ⌜ r ≡ L.both (isPlain (kindMeant kind)) (eqb length 1) ⌝ }
 {
-    if storing::is_plain(kind) {
+    if kinds::is_plain(kind) {
         return length == 1;
     }
     false

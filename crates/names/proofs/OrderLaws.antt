@@ -19,7 +19,7 @@ use Rattle.language.specs.Tree.{Name}
 use Rattle.language.specs.WordStage.{least}
 use Rattle.language.specs.Words as W
 use Rattle.language.specs.Words.{Position}
-use Rattle.words.proofs.Least.{least-both, lesser-all}
+use Rattle.words.proofs.Least.{least-both, lesser-all, lesser-none}
 use Rattle.words.specs.Meaning.{lesser}
 use Rattle.names.specs.Numbered.{earlier, nameNo, offsetOf}
 
@@ -92,10 +92,6 @@ one-more name ls names i e t n h =
     rw (add-one i, u, h)
 
 -- ---- The faults that are left: of the names from k on.
-
-lesser-none : (o : Option W.Fault) → lesser o none ≡ o
-lesser-none none = refl
-lesser-none (some f) = refl
 
 module _ (ls names : List ℕ) (ps : List Position) where
   unfoldable pub left : ℕ → ℕ → Option W.Fault

@@ -1,10 +1,10 @@
 // The sequencing register: which facility it is, and its value.
 use image::facilities;
 use image::facilities::Facility;
+use image::kinds;
 use referents::arms::Found;
 use referents::bounds;
 use store::parts;
-use storing::kinds;
 use value::Value;
 ghost use mathlib.Core.List.{List};
 ghost use mathlib.Core.Path.{_≡_};

@@ -9,6 +9,7 @@ use answers::RunAnswer;
 use cycle::answer as cycled;
 use image::facilities;
 use image::facilities::Facility;
+use image::kinds;
 use lookups::declared::Looked;
 use lookups::named;
 use open::open as opened;
@@ -141,7 +142,7 @@ fn declared(f: Facility) -> FacilityAnswer
     ensures { λ r. ⌜ ((name : Name) → r ≡ facilityNumbers (answered name (Looked.Declared f))) ⌝ }
 {
     let kind = f.kind;
-    if facilities::is_computed(kind) {
+    if kinds::is_computed(kind) {
         shown(f, 0, 0)
     } else {
         shown(f, 1, f.place as u32)

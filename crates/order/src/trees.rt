@@ -3,6 +3,7 @@ use crate::edges;
 use crate::edges::Edge;
 use crate::starts;
 use image::facilities;
+use image::kinds;
 use image::operations;
 use image::states;
 use image::states::StateValue;
@@ -76,7 +77,7 @@ fn facility_tree(exprs: &[u8], facilities: &[u8], at: Edge, n: usize) -> Edge
 {
     let f = facilities::facility_at(facilities, n);
     let kind = f.kind;
-    if facilities::is_computed(kind) {
+    if kinds::is_computed(kind) {
         return tree(exprs, at, f.place);
     }
     at

@@ -2,7 +2,6 @@
 use course::Answer;
 use course::Bearing;
 use course::State;
-use course::Verdict;
 use course::adding;
 use course::kinds;
 use course::taking;
@@ -23,38 +22,18 @@ ghost use Prim.Native.Nat.{_-_, _≤_};
 ghost use Rattle.language.specs.Machine as L;
 ghost use Rattle.language.specs.Machine.{ask};
 ghost use Rattle.course.specs.Course.{kindNo};
-ghost use Rattle.course.specs.declared.Verdict.the-variants.{Done};
 ghost use Rattle.course.specs.Pays.{Spends};
 ghost use Rattle.course.specs.Says.{Extends, Parses};
 ghost use Rattle.levels.specs.Orders.{stackOf, tailStack, tailsFrom};
 ghost use Rattle.pieces.specs.Phrases.{Arms, Begins, FirstArm, Inside, MoreArms, NextArm, Operates, Second, afterName, choiceWord, same};
 
-// The number of a word's kind.
-fn kind_of(w: Word) -> u8
-    ensures { λ r. ⌜ r ≡ kindNo (w .kind) ⌝ }
-{
-    let kind = w.kind;
-    kinds::number(kind)
-}
-
-// Whether a part of the text was not read: then its answer is the whole's.
-fn stopped(a: Answer) -> bool
-    ensures { λ r. ⌜ (r ≡ false → a .verdict ≡ Done) × (r ≡ true → a .verdict ≡ Done → ⊥) ⌝ }
-{
-    let verdict = a.verdict;
-    let Verdict::Done = verdict else {
-        return true;
-    };
-    false
-}
-
 // An expression of a level.
 pub fn start(s: State, level: Level, text: &[u8], w: Word, work: &mut [u8; 275296]) -> Answer
     ensures { λ r. ⌜ Parses (stackOf level) same (s .nesting) (now (text .entry)) w s (now (work .entry)) (now (work .exit)) r × Spends (now (text .entry)) 0 w s r ⌝ }
 {
-    let head = heads::head_of(level, kind_of(w));
+    let head = heads::head_of(level, kinds::kind_of(w));
     let first = opening(s, head, text, w, work);
-    if stopped(first) {
+    if course::unread(first) {
         return first;
     }
     let state = pieces::at(first.state, s.nesting);
@@ -69,16 +48,16 @@ fn opening(s: State, head: Head, text: &[u8], w: Word, work: &mut [u8; 275296]) 
         return term(s, text, w, work);
     }
     let taken = taking::take(text, w, s, true, Bearing::Opens);
-    if stopped(taken) {
+    if course::unread(taken) {
         return taken;
     }
     let red = pieces::reducing(taken.state, head, text, taken.next);
-    if stopped(red) {
+    if course::unread(red) {
         return red;
     }
     let inner = pieces::at(red.state, taken.state.nesting);
     let operand = start(inner, heads::prefixed(head), text, red.next, work);
-    if stopped(operand) {
+    if course::unread(operand) {
         return operand;
     }
     pieces::add_prefix(operand.state, w, operand.next, work)
@@ -90,7 +69,7 @@ fn rest(s: State, rank: Rank, level: Level, text: &[u8], w: Word, work: &mut [u8
 {
     if ranks::within(rank, level) {
         let more = tail(s, rank, text, w, work);
-        if stopped(more) {
+        if course::unread(more) {
             return more;
         }
         let state = pieces::at(more.state, s.nesting);
@@ -109,7 +88,7 @@ fn tail(s: State, rank: Rank, text: &[u8], w: Word, work: &mut [u8; 275296]) -> 
     while left > 0 {
         if pieces::operates(rank, next) {
             let one = operation(pieces::at(state, s.nesting), rank, text, next, work);
-            if stopped(one) {
+            if course::unread(one) {
                 return one;
             }
             if pieces::once(rank) {
@@ -130,14 +109,14 @@ fn operation(s: State, rank: Rank, text: &[u8], w: Word, work: &mut [u8; 275296]
     ensures { λ r. ⌜ Operates rank (now (text .entry)) w s (now (work .entry)) (now (work .exit)) r × Spends (now (text .entry)) 1 w s r ⌝ }
 {
     let taken = taking::take(text, w, s, true, Bearing::Level);
-    if stopped(taken) {
+    if course::unread(taken) {
         return taken;
     }
     if let Rank::Cut = rank {
-        return cuts::cut(taken.state, kind_of(w), w, text, taken.next, work);
+        return cuts::cut(taken.state, kinds::kind_of(w), w, text, taken.next, work);
     }
     let right = start(taken.state, ranks::operand(rank), text, taken.next, work);
-    if stopped(right) {
+    if course::unread(right) {
         return right;
     }
     pieces::add_binary(right.state, adding::last(s.nodes), w, right.next, work)
@@ -147,7 +126,7 @@ fn operation(s: State, rank: Rank, text: &[u8], w: Word, work: &mut [u8; 275296]
 fn term(s: State, text: &[u8], w: Word, work: &mut [u8; 275296]) -> Answer
     ensures { λ r. ⌜ Parses (ask L.term ∷ []) same (s .nesting) (now (text .entry)) w s (now (work .entry)) (now (work .exit)) r × Spends (now (text .entry)) 0 w s r ⌝ }
 {
-    let kind = kind_of(w);
+    let kind = kinds::kind_of(w);
     if kind == kinds::CONSTANT {
         return constants::constant(s, text, w, work);
     }
@@ -171,11 +150,11 @@ fn group(s: State, text: &[u8], w: Word, work: &mut [u8; 275296]) -> Answer
     ensures { λ r. ⌜ (kindNo (w .kind) ≡ 5 → Parses (ask L.term ∷ []) same (s .nesting) (now (text .entry)) w s (now (work .entry)) (now (work .exit)) r) × Spends (now (text .entry)) 0 w s r ⌝ }
 {
     let opened = taking::take(text, w, s, false, Bearing::Opens);
-    if stopped(opened) {
+    if course::unread(opened) {
         return opened;
     }
     let inner = start(opened.state, Level::Expression, text, opened.next, work);
-    if stopped(inner) {
+    if course::unread(inner) {
         return inner;
     }
     taking::expect(
@@ -192,7 +171,7 @@ fn named(s: State, text: &[u8], w: Word, work: &mut [u8; 275296]) -> Answer
     ensures { λ r. ⌜ (kindNo (w .kind) ≡ 1 → Parses (ask L.term ∷ []) same (s .nesting) (now (text .entry)) w s (now (work .entry)) (now (work .exit)) r) × Spends (now (text .entry)) 0 w s r ⌝ }
 {
     let taken = taking::take(text, w, s, true, Bearing::Level);
-    if stopped(taken) {
+    if course::unread(taken) {
         return taken;
     }
     reference(taken.state, w, text, taken.next, work)
@@ -202,9 +181,9 @@ fn named(s: State, text: &[u8], w: Word, work: &mut [u8; 275296]) -> Answer
 pub fn reference(s: State, name: Word, text: &[u8], w: Word, work: &mut [u8; 275296]) -> Answer
     ensures { λ r. ⌜ Parses (ask L.subscripts ∷ []) (afterName name) (s .nesting) (now (text .entry)) w s (now (work .entry)) (now (work .exit)) r × Spends (now (text .entry)) 2 w s r ⌝ }
 {
-    if kind_of(w) == kinds::OPEN_BRACKET {
+    if kinds::kind_of(w) == kinds::OPEN_BRACKET {
         let opened = taking::take(text, w, s, false, Bearing::Opens);
-        if stopped(opened) {
+        if course::unread(opened) {
             return opened;
         }
         return subscript(opened.state, name, text, opened.next, work);
@@ -220,12 +199,12 @@ pub fn subscript(s: State, name: Word, text: &[u8], w: Word, work: &mut [u8; 275
         return pieces::part(s, name, text, w, work);
     }
     let first = inside(s, false, text, w, work);
-    if stopped(first) {
+    if course::unread(first) {
         return first;
     }
-    if kind_of(first.next) == kinds::COMMA {
+    if kinds::kind_of(first.next) == kinds::COMMA {
         let comma = taking::take(text, first.next, first.state, false, Bearing::Level);
-        if stopped(comma) {
+        if course::unread(comma) {
             return comma;
         }
         let state = pieces::at(comma.state, s.nesting);
@@ -238,7 +217,7 @@ pub fn subscript(s: State, name: Word, text: &[u8], w: Word, work: &mut [u8; 275
         kinds::CLOSE_BRACKET,
         Bearing::Closes,
     );
-    if stopped(closed) {
+    if course::unread(closed) {
         return closed;
     }
     let state = pieces::at(closed.state, adding::last(s.nesting));
@@ -249,9 +228,9 @@ pub fn subscript(s: State, name: Word, text: &[u8], w: Word, work: &mut [u8; 275
 fn single(s: State, name: Word, text: &[u8], w: Word, work: &mut [u8; 275296]) -> Answer
     ensures { λ r. ⌜ Second L.secondOption name (s .nesting) (now (text .entry)) w s (now (work .entry)) (now (work .exit)) r × Spends (now (text .entry)) 2 w s r ⌝ }
 {
-    if kind_of(w) == kinds::OPEN_BRACKET {
+    if kinds::kind_of(w) == kinds::OPEN_BRACKET {
         let opened = taking::take(text, w, s, false, Bearing::Opens);
-        if stopped(opened) {
+        if course::unread(opened) {
             return opened;
         }
         return second(opened.state, name, text, opened.next, work);
@@ -267,7 +246,7 @@ fn second(s: State, name: Word, text: &[u8], w: Word, work: &mut [u8; 275296]) -
         return pieces::word_part(s, name, text, w, work);
     }
     let other = inside(s, true, text, w, work);
-    if stopped(other) {
+    if course::unread(other) {
         return other;
     }
     let closed = taking::expect(
@@ -277,7 +256,7 @@ fn second(s: State, name: Word, text: &[u8], w: Word, work: &mut [u8; 275296]) -
         kinds::CLOSE_BRACKET,
         Bearing::Closes,
     );
-    if stopped(closed) {
+    if course::unread(closed) {
         return closed;
     }
     nodes::add_two(
@@ -295,13 +274,13 @@ fn second(s: State, name: Word, text: &[u8], w: Word, work: &mut [u8; 275296]) -
 fn inside(s: State, later: bool, text: &[u8], w: Word, work: &mut [u8; 275296]) -> Answer
     ensures { λ r. ⌜ Inside later (now (text .entry)) w s (now (work .entry)) (now (work .exit)) r × Spends (now (text .entry)) 0 w s r ⌝ }
 {
-    if kind_of(w) == kinds::CONSTANT {
+    if kinds::kind_of(w) == kinds::CONSTANT {
         let kept = taking::take(text, w, s, false, Bearing::Level);
-        if stopped(kept) {
+        if course::unread(kept) {
             return kept;
         }
         let constant = constants::counted(kept.state, w, kept.next, work);
-        if stopped(constant) {
+        if course::unread(constant) {
             return constant;
         }
         let state = pieces::at(constant.state, s.nesting);
@@ -322,16 +301,16 @@ fn choice(s: State, case: bool, text: &[u8], w: Word, work: &mut [u8; 275296]) -
     ensures { λ r. ⌜ (kindNo (w .kind) ≡ choiceWord case → Parses (ask L.term ∷ []) same (s .nesting) (now (text .entry)) w s (now (work .entry)) (now (work .exit)) r) × Spends (now (text .entry)) 0 w s r ⌝ }
 {
     let opened = taking::take(text, w, s, true, Bearing::Opens);
-    if stopped(opened) {
+    if course::unread(opened) {
         return opened;
     }
     let condition = start(opened.state, Level::Expression, text, opened.next, work);
-    if stopped(condition) {
+    if course::unread(condition) {
         return condition;
     }
     let before = pieces::at(condition.state, opened.state.nesting);
     let chosen = arms(before, case, text, condition.next, work);
-    if stopped(chosen.answer) {
+    if course::unread(chosen.answer) {
         return chosen.answer;
     }
     let closed = taking::expect(
@@ -341,7 +320,7 @@ fn choice(s: State, case: bool, text: &[u8], w: Word, work: &mut [u8; 275296]) -
         pieces::last_word(case),
         Bearing::Closes,
     );
-    if stopped(closed) {
+    if course::unread(closed) {
         return closed;
     }
     let number = adding::last(condition.state.nodes);
@@ -353,7 +332,7 @@ fn arms(s: State, case: bool, text: &[u8], w: Word, work: &mut [u8; 275296]) -> 
     ensures { λ r. ⌜ Arms case (now (text .entry)) w s (now (work .entry)) (now (work .exit)) r × Spends (now (text .entry)) 1 w s (r .answer) ⌝ }
 {
     let first = first_arm(s, pieces::first_word(case), text, w, work);
-    if stopped(first) {
+    if course::unread(first) {
         return Armed {
             answer: first,
             count: 0,
@@ -361,7 +340,7 @@ fn arms(s: State, case: bool, text: &[u8], w: Word, work: &mut [u8; 275296]) -> 
     }
     let state = pieces::at(first.state, s.nesting);
     let other = next_arm(state, pieces::other_word(case), text, first.next, work);
-    if stopped(other) {
+    if course::unread(other) {
         return Armed {
             answer: other,
             count: 0,
@@ -376,12 +355,12 @@ fn first_arm(s: State, separator: u8, text: &[u8], w: Word, work: &mut [u8; 2752
     ensures { λ r. ⌜ FirstArm separator (now (text .entry)) w s (now (work .entry)) (now (work .exit)) r × (3 ≤ separator → Spends (now (text .entry)) 1 w s r) ⌝ }
 {
     let word = taking::expect(text, w, s, separator, Bearing::Level);
-    if stopped(word) {
+    if course::unread(word) {
         return word;
     }
     let state = pieces::at(word.state, s.nesting);
     let arm = start(state, Level::Expression, text, word.next, work);
-    if stopped(arm) {
+    if course::unread(arm) {
         return arm;
     }
     pieces::add_first_arm(arm.state, arm.next, work)
@@ -392,12 +371,12 @@ fn next_arm(s: State, separator: u8, text: &[u8], w: Word, work: &mut [u8; 27529
     ensures { λ r. ⌜ NextArm separator (now (text .entry)) w s (now (work .entry)) (now (work .exit)) r × (3 ≤ separator → Spends (now (text .entry)) 1 w s r) ⌝ }
 {
     let word = taking::expect(text, w, s, separator, Bearing::Level);
-    if stopped(word) {
+    if course::unread(word) {
         return word;
     }
     let state = pieces::at(word.state, s.nesting);
     let arm = start(state, Level::Expression, text, word.next, work);
-    if stopped(arm) {
+    if course::unread(arm) {
         return arm;
     }
     pieces::add_next_arm(arm.state, adding::last(s.nodes), arm.next, work)
@@ -414,7 +393,7 @@ fn more_arms(s: State, case: bool, n: u16, text: &[u8], w: Word, work: &mut [u8;
     while left > 0 {
         if pieces::another(case, next) {
             let one = next_arm(pieces::at(state, s.nesting), kinds::DO, text, next, work);
-            if stopped(one) {
+            if course::unread(one) {
                 return Armed { answer: one, count };
             }
             state = one.state;

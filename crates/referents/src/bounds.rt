@@ -8,7 +8,7 @@ ghost use mathlib.Core.Bool.{cond, false};
 ghost use mathlib.Core.Path.{_≡_};
 ghost use Prim.Native.Nat.{_-_, _≤_, min};
 ghost use lib.Dec.{leb};
-ghost use Rattle.language.specs.Description.{fromFirst, inBounds, spanOf, wordLength};
+ghost use Rattle.language.specs.Description.{fromFirst, inBounds, spanOf, wordCount, wordLength};
 ghost use Rattle.language.specs.References.{sameDirection};
 ghost use Rattle.language.specs.Tree.{Name};
 ghost use Rattle.limbs.specs.Limbs.{number};
@@ -95,11 +95,22 @@ pub fn same_direction(b: Bounds, x: Bounds) -> bool
 
 // Bits of a facility's word.
 pub fn word_length(f: Facility) -> u32
-    ensures { λ r. ⌜ ((name : Name) → r ≡ wordLength (facilityMeant name f)) ⌝ }
+    ensures { λ r. ⌜ (r ≤ 65536) × ((name : Name) → r ≡ wordLength (facilityMeant name f)) ⌝ }
 {
     if f.dimensions == 0 {
         return 1;
     }
     let b = f.bits;
     span(b)
+}
+
+// How many words a facility has.
+pub fn word_count(f: Facility) -> u32
+    ensures { λ r. ⌜ (r ≤ 65536) × ((name : Name) → r ≡ wordCount (facilityMeant name f)) ⌝ }
+{
+    if f.dimensions != 2 {
+        return 1;
+    }
+    let w = f.words;
+    span(w)
 }

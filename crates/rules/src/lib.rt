@@ -1,5 +1,4 @@
 // The rules that go by lengths, bounds and kinds alone, one function each.
 pub mod bounds;
 pub mod lengths;
-pub mod storing;
 pub mod subscripts;

@@ -2,18 +2,11 @@
 use mathlib.Core.Bool.{true}
 use mathlib.Core.List.{List}
 use mathlib.Core.Path.{_≡_, ap, _∙_}
-use Prim.Native.Nat.{ℕ, suc, _+_, _*_, _^_, _<_}
-use native.Mathlib.Nat.{mul-le-mul}
-use native.Mathlib.Omega.{arith}
+use Prim.Native.Nat.{ℕ, suc, _+_, _<_}
 use lib.ListN.{drop, getD, length}
 use lib.Seq.{drop-cons}
 use Rattle.language.specs.Description.{Facility, isComputed, noFacility}
-use Rattle.language.specs.Layout.{facilityBytes, storeSizeOf, wordBytes}
-
--- The words of 32-bit bounds fit 64 bits.
-pub few-bytes : {w l b : ℕ} → w < 2 ^ 32 → l < 2 ^ 32 → b ≡ wordBytes l → w * b < 2 ^ 64
-unfolding wordBytes
-few-bytes {w} {l} {b} p q e = let m = mul-le-mul {n₁ = w} {m₁ = b} {n₂ = 4294967296} {m₂ = 536870912} (omega arith) (omega (arith, q, e)) in omega (arith, m)
+use Rattle.language.specs.Layout.{facilityBytes, storeSizeOf}
 
 pub computed-bytes : (f : Facility) → isComputed (f .kind) ≡ true → 0 ≡ facilityBytes f
 unfolding facilityBytes

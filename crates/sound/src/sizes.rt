@@ -1,12 +1,12 @@
-// How many words a facility has, how many bytes they take, and how large the store is.
+// How many bytes a facility's words take in the store, and how large the store is.
+use begin::sizes;
 use image::facilities;
 use image::facilities::Facility;
-use referents::bounds;
-use store::places;
+use image::kinds;
 ghost use mathlib.Core.List.{List};
 ghost use mathlib.Core.Path.{_≡_};
 ghost use Prim.Native.Nat.{ℕ, _≤_};
-ghost use Rattle.language.specs.Description.{Description, wordCount};
+ghost use Rattle.language.specs.Description.{Description};
 ghost use Rattle.language.specs.Layout.{facilityBytes, storeSizeOf};
 ghost use Rattle.language.specs.Tree.{Name};
 ghost use Rattle.image.specs.Declarations.{facilityMeant};
@@ -17,26 +17,15 @@ const LARGEST: usize = 16384;
 
 const TOO_LARGE: usize = 16385;
 
-pub fn word_count(f: Facility) -> u32
-    ensures { λ r. ⌜ ((name : Name) → r ≡ wordCount (facilityMeant name f)) ⌝ }
-{
-    if f.dimensions != 2 {
-        return 1;
-    }
-    let w = f.words;
-    bounds::span(w)
-}
-
 // A computed terminal has none.
 fn facility_bytes(f: Facility) -> usize
     ensures { λ r. ⌜ ((name : Name) → r ≡ facilityBytes (facilityMeant name f)) ⌝ }
 {
     let kind = f.kind;
-    if facilities::is_computed(kind) {
+    if kinds::is_computed(kind) {
         return 0;
     }
-    let n = word_count(f) as usize;
-    n * places::word_bytes(bounds::word_length(f))
+    sizes::words_bytes(f)
 }
 
 // Bytes of the store of a section of facilities.

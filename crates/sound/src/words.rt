@@ -2,6 +2,7 @@
 use crate::sizes;
 use image::facilities;
 use image::facilities::Facility;
+use image::kinds;
 use referents::bounds;
 use store::spare;
 ghost use mathlib.Core.List.{List};
@@ -21,11 +22,11 @@ fn narrow_in(store: &[u8], f: Facility) -> bool
     ensures { λ r. ⌜ ((name : Name) → r ≡ narrowIn (now (store .entry)) (f .place) (facilityMeant name f)) ⌝ }
 {
     let kind = f.kind;
-    if facilities::is_computed(kind) {
+    if kinds::is_computed(kind) {
         return true;
     }
     let at = f.place as usize;
-    spare::no_spare_bits(store, at, sizes::word_count(f), bounds::word_length(f))
+    spare::no_spare_bits(store, at, bounds::word_count(f), bounds::word_length(f))
 }
 
 // Those of all facilities of a section.

@@ -2,11 +2,11 @@
 use crate::doing;
 use crate::doing::Did;
 use crate::doing::Doing;
-use crate::kinds;
 use crate::spots;
 use crate::spots::Spot;
 use image::facilities::Facility;
 use image::facilities::Kind;
+use image::kinds;
 use records::actions;
 use referents::places::Place;
 use referents::worth::Stuck;

@@ -1,7 +1,7 @@
 // Where facilities lie in the store: the low 16 bits of each place, which are what a record has room for.
 use crate::extents::Ends;
 use crate::facilities::Declared;
-use image::facilities;
+use image::kinds;
 ghost use mathlib.Core.Path.{_≡_};
 ghost use Prim.Native.Nat.{_+_, _<_, _≤_, _^_, _%_};
 ghost use Rattle.language.specs.Description.{spanOf, wordCount, wordLength};
@@ -49,7 +49,7 @@ pub fn place_after(place: u16, x: Declared) -> u16
     ensures { λ r. ⌜ ((name : Name) → r ≡ (place + facilityBytes (facilitySaid name x)) % 65536) ⌝ }
 {
     let kind = x.kind;
-    if facilities::is_computed(kind) {
+    if kinds::is_computed(kind) {
         return place;
     }
     let n = word_count(x) * ((word_length(x) + 7) / 8);

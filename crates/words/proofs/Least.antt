@@ -101,6 +101,10 @@ lesser-three x y z = go (before z y) (before y x) (before z x) refl refl refl
     go false true r hp hq hr = simp (hp, hq)
     go false false r hp hq hr = simp (hp, hq, is-later z x (later-trans z y x (later z y hp) (later y x hq)))
 
+pub lesser-none : (x : Option Fault) → lesser x none ≡ x
+lesser-none none = refl
+lesser-none (some x) = refl
+
 pub lesser-all : (x y z : Option Fault) → lesser x (lesser y z) ≡ lesser (lesser x y) z
 lesser-all none y z = refl
 lesser-all (some x) none z = refl

@@ -78,8 +78,8 @@ use Rattle.phrases.proofs.term.Reads as term
 use Rattle.phrases.proofs.term.Kinds as term-kinds
 use Rattle.phrases.proofs.+arms+choice+first_arm+group+inside+more_arms+named+next_arm+opening+operation+reference+rest+second+single+start+subscript+tail+term.Lts-term as term-lts
 use Rattle.course.proofs.adding.last.Reads as last-reads
-use Rattle.phrases.proofs.kind_of.Reads as kind-of-reads
-use Rattle.phrases.proofs.stopped.Reads as stopped-reads
+use Rattle.course.proofs.kinds.kind_of.Reads as kind-of-reads
+use Rattle.course.proofs.unread.Reads as unread-reads
 use Rattle.course.proofs.taking.ends_ahead.Reads as ends-ahead-reads
 use Rattle.course.proofs.taking.expect.Reads as expect-reads
 use Rattle.course.proofs.taking.refuse.Reads as refuse-reads
@@ -290,55 +290,55 @@ abbrev term-below : ℕ → In 2 term-kinds.ps
 term-below t = and 2 term-kinds.ps (falls 2 term-kinds.ps _<_ μ-term t) term.Pre
 
 abbrev arms-calls : ℕ → arms-lts.Claims
-arms-calls t = (first-word-reads.Asked, first-word-reads.Learnt, first-arm-below t, first-arm.Post, stopped-reads.Asked, stopped-reads.Learnt, at-reads.Asked, at-reads.Learnt, other-word-reads.Asked, other-word-reads.Learnt, next-arm-below t, next-arm.Post, more-arms-below t, more-arms.Post)
+arms-calls t = (first-word-reads.Asked, first-word-reads.Learnt, first-arm-below t, first-arm.Post, unread-reads.Asked, unread-reads.Learnt, at-reads.Asked, at-reads.Learnt, other-word-reads.Asked, other-word-reads.Learnt, next-arm-below t, next-arm.Post, more-arms-below t, more-arms.Post)
 
 abbrev choice-calls : ℕ → choice-lts.Claims
-choice-calls t = (take-reads.Asked, take-reads.Learnt, stopped-reads.Asked, stopped-reads.Learnt, start-below t, start.Post, at-reads.Asked, at-reads.Learnt, arms-below t, arms.Post, last-word-reads.Asked, last-word-reads.Learnt, expect-reads.Asked, expect-reads.Learnt, last-reads.Asked, last-reads.Learnt, add-choice-reads.Asked, add-choice-reads.Learnt)
+choice-calls t = (take-reads.Asked, take-reads.Learnt, unread-reads.Asked, unread-reads.Learnt, start-below t, start.Post, at-reads.Asked, at-reads.Learnt, arms-below t, arms.Post, last-word-reads.Asked, last-word-reads.Learnt, expect-reads.Asked, expect-reads.Learnt, last-reads.Asked, last-reads.Learnt, add-choice-reads.Asked, add-choice-reads.Learnt)
 
 abbrev first-arm-calls : ℕ → first-arm-lts.Claims
-first-arm-calls t = (expect-reads.Asked, expect-reads.Learnt, stopped-reads.Asked, stopped-reads.Learnt, at-reads.Asked, at-reads.Learnt, start-below t, start.Post, add-first-arm-reads.Asked, add-first-arm-reads.Learnt)
+first-arm-calls t = (expect-reads.Asked, expect-reads.Learnt, unread-reads.Asked, unread-reads.Learnt, at-reads.Asked, at-reads.Learnt, start-below t, start.Post, add-first-arm-reads.Asked, add-first-arm-reads.Learnt)
 
 abbrev group-calls : ℕ → group-lts.Claims
-group-calls t = (take-reads.Asked, take-reads.Learnt, stopped-reads.Asked, stopped-reads.Learnt, start-below t, start.Post, expect-reads.Asked, expect-reads.Learnt)
+group-calls t = (take-reads.Asked, take-reads.Learnt, unread-reads.Asked, unread-reads.Learnt, start-below t, start.Post, expect-reads.Asked, expect-reads.Learnt)
 
 abbrev inside-calls : ℕ → inside-lts.Claims
-inside-calls t = (kind-of-reads.Asked, kind-of-reads.Learnt, take-reads.Asked, take-reads.Learnt, stopped-reads.Asked, stopped-reads.Learnt, counted-reads.Asked, counted-reads.Learnt, at-reads.Asked, at-reads.Learnt, rest-below t, rest.Post, start-below t, start.Post)
+inside-calls t = (kind-of-reads.Asked, kind-of-reads.Learnt, take-reads.Asked, take-reads.Learnt, unread-reads.Asked, unread-reads.Learnt, counted-reads.Asked, counted-reads.Learnt, at-reads.Asked, at-reads.Learnt, rest-below t, rest.Post, start-below t, start.Post)
 
 abbrev more-arms-calls : ℕ → more-arms-lts.Claims
-more-arms-calls t = (another-reads.Asked, another-reads.Learnt, at-reads.Asked, at-reads.Learnt, next-arm-below t, next-arm.Post, stopped-reads.Asked, stopped-reads.Learnt, one-more-reads.Asked, one-more-reads.Learnt, stay-reads.Asked, stay-reads.Learnt, full-reads.Asked, full-reads.Learnt)
+more-arms-calls t = (another-reads.Asked, another-reads.Learnt, at-reads.Asked, at-reads.Learnt, next-arm-below t, next-arm.Post, unread-reads.Asked, unread-reads.Learnt, one-more-reads.Asked, one-more-reads.Learnt, stay-reads.Asked, stay-reads.Learnt, full-reads.Asked, full-reads.Learnt)
 
 abbrev named-calls : ℕ → named-lts.Claims
-named-calls t = (take-reads.Asked, take-reads.Learnt, stopped-reads.Asked, stopped-reads.Learnt, reference-below t, reference.Post)
+named-calls t = (take-reads.Asked, take-reads.Learnt, unread-reads.Asked, unread-reads.Learnt, reference-below t, reference.Post)
 
 abbrev next-arm-calls : ℕ → next-arm-lts.Claims
-next-arm-calls t = (expect-reads.Asked, expect-reads.Learnt, stopped-reads.Asked, stopped-reads.Learnt, at-reads.Asked, at-reads.Learnt, start-below t, start.Post, last-reads.Asked, last-reads.Learnt, add-next-arm-reads.Asked, add-next-arm-reads.Learnt)
+next-arm-calls t = (expect-reads.Asked, expect-reads.Learnt, unread-reads.Asked, unread-reads.Learnt, at-reads.Asked, at-reads.Learnt, start-below t, start.Post, last-reads.Asked, last-reads.Learnt, add-next-arm-reads.Asked, add-next-arm-reads.Learnt)
 
 abbrev opening-calls : ℕ → opening-lts.Claims
-opening-calls t = (term-below t, term.Post, take-reads.Asked, take-reads.Learnt, stopped-reads.Asked, stopped-reads.Learnt, reducing-reads.Asked, reducing-reads.Learnt, at-reads.Asked, at-reads.Learnt, prefixed-reads.Asked, prefixed-reads.Learnt, start-below t, start.Post, add-prefix-reads.Asked, add-prefix-reads.Learnt)
+opening-calls t = (term-below t, term.Post, take-reads.Asked, take-reads.Learnt, unread-reads.Asked, unread-reads.Learnt, reducing-reads.Asked, reducing-reads.Learnt, at-reads.Asked, at-reads.Learnt, prefixed-reads.Asked, prefixed-reads.Learnt, start-below t, start.Post, add-prefix-reads.Asked, add-prefix-reads.Learnt)
 
 abbrev operation-calls : ℕ → operation-lts.Claims
-operation-calls t = (take-reads.Asked, take-reads.Learnt, stopped-reads.Asked, stopped-reads.Learnt, kind-of-reads.Asked, kind-of-reads.Learnt, cut-reads.Asked, cut-reads.Learnt, operand-reads.Asked, operand-reads.Learnt, start-below t, start.Post, last-reads.Asked, last-reads.Learnt, add-binary-reads.Asked, add-binary-reads.Learnt)
+operation-calls t = (take-reads.Asked, take-reads.Learnt, unread-reads.Asked, unread-reads.Learnt, kind-of-reads.Asked, kind-of-reads.Learnt, cut-reads.Asked, cut-reads.Learnt, operand-reads.Asked, operand-reads.Learnt, start-below t, start.Post, last-reads.Asked, last-reads.Learnt, add-binary-reads.Asked, add-binary-reads.Learnt)
 
 abbrev reference-calls : ℕ → reference-lts.Claims
-reference-calls t = (kind-of-reads.Asked, kind-of-reads.Learnt, take-reads.Asked, take-reads.Learnt, stopped-reads.Asked, stopped-reads.Learnt, subscript-below t, subscript.Post, add-whole-reads.Asked, add-whole-reads.Learnt)
+reference-calls t = (kind-of-reads.Asked, kind-of-reads.Learnt, take-reads.Asked, take-reads.Learnt, unread-reads.Asked, unread-reads.Learnt, subscript-below t, subscript.Post, add-whole-reads.Asked, add-whole-reads.Learnt)
 
 abbrev rest-calls : ℕ → rest-lts.Claims
-rest-calls t = (within-reads.Asked, within-reads.Learnt, tail-below t, tail.Post, stopped-reads.Asked, stopped-reads.Learnt, at-reads.Asked, at-reads.Learnt, next-reads.Asked, next-reads.Learnt, rest-below t, rest.Post, stay-reads.Asked, stay-reads.Learnt)
+rest-calls t = (within-reads.Asked, within-reads.Learnt, tail-below t, tail.Post, unread-reads.Asked, unread-reads.Learnt, at-reads.Asked, at-reads.Learnt, next-reads.Asked, next-reads.Learnt, rest-below t, rest.Post, stay-reads.Asked, stay-reads.Learnt)
 
 abbrev second-calls : ℕ → second-lts.Claims
-second-calls t = (ends-ahead-reads.Asked, ends-ahead-reads.Learnt, word-part-reads.Asked, word-part-reads.Learnt, inside-below t, inside.Post, stopped-reads.Asked, stopped-reads.Learnt, expect-reads.Asked, expect-reads.Learnt, last-reads.Asked, last-reads.Learnt, add-two-reads.Asked, add-two-reads.Learnt)
+second-calls t = (ends-ahead-reads.Asked, ends-ahead-reads.Learnt, word-part-reads.Asked, word-part-reads.Learnt, inside-below t, inside.Post, unread-reads.Asked, unread-reads.Learnt, expect-reads.Asked, expect-reads.Learnt, last-reads.Asked, last-reads.Learnt, add-two-reads.Asked, add-two-reads.Learnt)
 
 abbrev single-calls : ℕ → single-lts.Claims
-single-calls t = (kind-of-reads.Asked, kind-of-reads.Learnt, take-reads.Asked, take-reads.Learnt, stopped-reads.Asked, stopped-reads.Learnt, second-below t, second.Post, last-reads.Asked, last-reads.Learnt, add-one-reads.Asked, add-one-reads.Learnt)
+single-calls t = (kind-of-reads.Asked, kind-of-reads.Learnt, take-reads.Asked, take-reads.Learnt, unread-reads.Asked, unread-reads.Learnt, second-below t, second.Post, last-reads.Asked, last-reads.Learnt, add-one-reads.Asked, add-one-reads.Learnt)
 
 abbrev start-calls : ℕ → start-lts.Claims
-start-calls t = (kind-of-reads.Asked, kind-of-reads.Learnt, head-of-reads.Asked, head-of-reads.Learnt, opening-below t, opening.Post, stopped-reads.Asked, stopped-reads.Learnt, at-reads.Asked, at-reads.Learnt, after-reads.Asked, after-reads.Learnt, rest-below t, rest.Post)
+start-calls t = (kind-of-reads.Asked, kind-of-reads.Learnt, head-of-reads.Asked, head-of-reads.Learnt, opening-below t, opening.Post, unread-reads.Asked, unread-reads.Learnt, at-reads.Asked, at-reads.Learnt, after-reads.Asked, after-reads.Learnt, rest-below t, rest.Post)
 
 abbrev subscript-calls : ℕ → subscript-lts.Claims
-subscript-calls t = (ends-ahead-reads.Asked, ends-ahead-reads.Learnt, part-reads.Asked, part-reads.Learnt, inside-below t, inside.Post, stopped-reads.Asked, stopped-reads.Learnt, kind-of-reads.Asked, kind-of-reads.Learnt, take-reads.Asked, take-reads.Learnt, at-reads.Asked, at-reads.Learnt, second-below t, second.Post, expect-reads.Asked, expect-reads.Learnt, last-reads.Asked, last-reads.Learnt, single-below t, single.Post)
+subscript-calls t = (ends-ahead-reads.Asked, ends-ahead-reads.Learnt, part-reads.Asked, part-reads.Learnt, inside-below t, inside.Post, unread-reads.Asked, unread-reads.Learnt, kind-of-reads.Asked, kind-of-reads.Learnt, take-reads.Asked, take-reads.Learnt, at-reads.Asked, at-reads.Learnt, second-below t, second.Post, expect-reads.Asked, expect-reads.Learnt, last-reads.Asked, last-reads.Learnt, single-below t, single.Post)
 
 abbrev tail-calls : ℕ → tail-lts.Claims
-tail-calls t = (operates-reads.Asked, operates-reads.Learnt, at-reads.Asked, at-reads.Learnt, operation-below t, operation.Post, stopped-reads.Asked, stopped-reads.Learnt, once-reads.Asked, once-reads.Learnt, stay-reads.Asked, stay-reads.Learnt, full-reads.Asked, full-reads.Learnt)
+tail-calls t = (operates-reads.Asked, operates-reads.Learnt, at-reads.Asked, at-reads.Learnt, operation-below t, operation.Post, unread-reads.Asked, unread-reads.Learnt, once-reads.Asked, once-reads.Learnt, stay-reads.Asked, stay-reads.Learnt, full-reads.Asked, full-reads.Learnt)
 
 abbrev term-calls : ℕ → term-lts.Claims
 term-calls t = (kind-of-reads.Asked, kind-of-reads.Learnt, constant-reads.Asked, constant-reads.Learnt, named-below t, named.Post, group-below t, group.Post, choice-below t, choice.Post, refuse-reads.Asked, refuse-reads.Learnt)
@@ -349,12 +349,12 @@ arms-first-word-requires t c κs = search needs
 arms-first-arm-requires : (t : ℕ) → arms-lts.Need-first-arm-requires (arms-calls t) (arms-at t) arms.Post
 arms-first-arm-requires t c κs = search needs
 
-arms-stopped-requires : (t : ℕ) → arms-lts.Need-stopped-requires (arms-calls t) (arms-at t) arms.Post
-arms-stopped-requires t c κs = search needs
+arms-unread-requires : (t : ℕ) → arms-lts.Need-unread-requires (arms-calls t) (arms-at t) arms.Post
+arms-unread-requires t c κs = search needs
 
 arms-returns : (t : ℕ) → arms-lts.Need-returns (arms-calls t) (arms-at t) arms.Post
 arms-returns t c =
-    (arms-none (c .before .before .before .before .before .before .args .case) (c .before .before .before .before .first-word .ensures) (c .before .before .first-arm .ensures .0) (c .before .stopped .ensures .1 (c .if1 .taken)), c .before .before .first-arm .ensures .1 (rw (c .before .before .before .before .first-word .ensures) (separators (c .before .before .before .before .before .before .args .case))))
+    (arms-none (c .before .before .before .before .before .before .args .case) (c .before .before .before .before .first-word .ensures) (c .before .before .first-arm .ensures .0) (c .before .unread .ensures .1 (c .if1 .taken)), c .before .before .first-arm .ensures .1 (rw (c .before .before .before .before .first-word .ensures) (separators (c .before .before .before .before .before .before .args .case))))
 
 arms-at-requires : (t : ℕ) → arms-lts.Need-at-requires (arms-calls t) (arms-at t) arms.Post
 arms-at-requires t c κs = search needs
@@ -366,12 +366,12 @@ arms-next-arm-requires : (t : ℕ) → arms-lts.Need-next-arm-requires (arms-cal
 arms-next-arm-requires t c κs =
     let h : c .before .before .at .result .nesting ≡ c .before .before .before .before .before .before .before .before .before .args .s .nesting = ap (λ (q : State). q .nesting) (c .before .before .at .ensures) in search needs
 
-arms-stopped-requires-2 : (t : ℕ) → arms-lts.Need-stopped-requires-2 (arms-calls t) (arms-at t) arms.Post
-arms-stopped-requires-2 t c κs = search needs
+arms-unread-requires-2 : (t : ℕ) → arms-lts.Need-unread-requires-2 (arms-calls t) (arms-at t) arms.Post
+arms-unread-requires-2 t c κs = search needs
 
 arms-returns-2 : (t : ℕ) → arms-lts.Need-returns-2 (arms-calls t) (arms-at t) arms.Post
 arms-returns-2 t c =
-    (arms-one (c .before .before .before .before .before .before .before .before .before .before .before .before .args .case) (c .before .before .before .before .before .before .before .before .before .before .first-word .ensures) (c .before .before .before .before .before .before .before .before .first-arm .ensures .0) (c .before .before .before .before .before .before .before .stopped .ensures .0 (c .before .before .before .before .before .before .if1 .left)) (c .before .before .before .before .before .at .ensures) (c .before .before .before .before .other-word .ensures) (c .before .before .next-arm .ensures .0) (c .before .stopped2 .ensures .1 (c .if2 .taken)), spent (goes-on (c .before .before .before .before .before .before .before .before .first-arm .ensures .1 (rw (c .before .before .before .before .before .before .before .before .before .before .first-word .ensures) (separators (c .before .before .before .before .before .before .before .before .before .before .before .before .args .case))) .done (c .before .before .before .before .before .before .before .stopped .ensures .0 (c .before .before .before .before .before .before .if1 .left))) (nests (c .before .before .before .before .before .at .ensures))) (c .before .before .next-arm .ensures .1 (rw (c .before .before .before .before .other-word .ensures) (others (c .before .before .before .before .before .before .before .before .before .before .before .before .args .case)))) (omega arith))
+    (arms-one (c .before .before .before .before .before .before .before .before .before .before .before .before .args .case) (c .before .before .before .before .before .before .before .before .before .before .first-word .ensures) (c .before .before .before .before .before .before .before .before .first-arm .ensures .0) (c .before .before .before .before .before .before .before .unread .ensures .0 (c .before .before .before .before .before .before .if1 .left)) (c .before .before .before .before .before .at .ensures) (c .before .before .before .before .other-word .ensures) (c .before .before .next-arm .ensures .0) (c .before .unread2 .ensures .1 (c .if2 .taken)), spent (goes-on (c .before .before .before .before .before .before .before .before .first-arm .ensures .1 (rw (c .before .before .before .before .before .before .before .before .before .before .first-word .ensures) (separators (c .before .before .before .before .before .before .before .before .before .before .before .before .args .case))) .done (c .before .before .before .before .before .before .before .unread .ensures .0 (c .before .before .before .before .before .before .if1 .left))) (nests (c .before .before .before .before .before .at .ensures))) (c .before .before .next-arm .ensures .1 (rw (c .before .before .before .before .other-word .ensures) (others (c .before .before .before .before .before .before .before .before .before .before .before .before .args .case)))) (omega arith))
 
 arms-at-requires-2 : (t : ℕ) → arms-lts.Need-at-requires-2 (arms-calls t) (arms-at t) arms.Post
 arms-at-requires-2 t c κs = search needs
@@ -382,42 +382,42 @@ arms-more-arms-requires t c κs =
 
 arms-returns-3 : (t : ℕ) → arms-lts.Need-returns-3 (arms-calls t) (arms-at t) arms.Post
 arms-returns-3 t c =
-    (arms-says (c .before .before .before .before .before .before .before .before .before .before .before .before .before .before .before .args .case) (c .before .before .before .before .before .before .before .before .before .before .before .before .before .first-word .ensures) (c .before .before .before .before .before .before .before .before .before .before .before .first-arm .ensures .0) (c .before .before .before .before .before .before .before .before .before .before .stopped .ensures .0 (c .before .before .before .before .before .before .before .before .before .if1 .left)) (c .before .before .before .before .before .before .before .before .at .ensures) (c .before .before .before .before .before .before .before .other-word .ensures) (c .before .before .before .before .before .next-arm .ensures .0) (c .before .before .before .before .stopped2 .ensures .0 (c .before .before .before .if2 .left)) (c .before .before .at2 .ensures) (c .more-arms .ensures .0), spent (goes-on (c .before .before .before .before .before .before .before .before .before .before .before .first-arm .ensures .1 (rw (c .before .before .before .before .before .before .before .before .before .before .before .before .before .first-word .ensures) (separators (c .before .before .before .before .before .before .before .before .before .before .before .before .before .before .before .args .case))) .done (c .before .before .before .before .before .before .before .before .before .before .stopped .ensures .0 (c .before .before .before .before .before .before .before .before .before .if1 .left))) (goes-on (nests (c .before .before .before .before .before .before .before .before .at .ensures)) (goes-on (c .before .before .before .before .before .next-arm .ensures .1 (rw (c .before .before .before .before .before .before .before .other-word .ensures) (others (c .before .before .before .before .before .before .before .before .before .before .before .before .before .before .before .args .case))) .done (c .before .before .before .before .stopped2 .ensures .0 (c .before .before .before .if2 .left))) (nests (c .before .before .at2 .ensures))))) (c .more-arms .ensures .1) (omega arith))
+    (arms-says (c .before .before .before .before .before .before .before .before .before .before .before .before .before .before .before .args .case) (c .before .before .before .before .before .before .before .before .before .before .before .before .before .first-word .ensures) (c .before .before .before .before .before .before .before .before .before .before .before .first-arm .ensures .0) (c .before .before .before .before .before .before .before .before .before .before .unread .ensures .0 (c .before .before .before .before .before .before .before .before .before .if1 .left)) (c .before .before .before .before .before .before .before .before .at .ensures) (c .before .before .before .before .before .before .before .other-word .ensures) (c .before .before .before .before .before .next-arm .ensures .0) (c .before .before .before .before .unread2 .ensures .0 (c .before .before .before .if2 .left)) (c .before .before .at2 .ensures) (c .more-arms .ensures .0), spent (goes-on (c .before .before .before .before .before .before .before .before .before .before .before .first-arm .ensures .1 (rw (c .before .before .before .before .before .before .before .before .before .before .before .before .before .first-word .ensures) (separators (c .before .before .before .before .before .before .before .before .before .before .before .before .before .before .before .args .case))) .done (c .before .before .before .before .before .before .before .before .before .before .unread .ensures .0 (c .before .before .before .before .before .before .before .before .before .if1 .left))) (goes-on (nests (c .before .before .before .before .before .before .before .before .at .ensures)) (goes-on (c .before .before .before .before .before .next-arm .ensures .1 (rw (c .before .before .before .before .before .before .before .other-word .ensures) (others (c .before .before .before .before .before .before .before .before .before .before .before .before .before .before .before .args .case))) .done (c .before .before .before .before .unread2 .ensures .0 (c .before .before .before .if2 .left))) (nests (c .before .before .at2 .ensures))))) (c .more-arms .ensures .1) (omega arith))
 
 choice-take-requires : (t : ℕ) → choice-lts.Need-take-requires (choice-calls t) (choice-at t) choice.Post
 choice-take-requires t c κs = search needs
 
-choice-stopped-requires : (t : ℕ) → choice-lts.Need-stopped-requires (choice-calls t) (choice-at t) choice.Post
-choice-stopped-requires t c κs = search needs
+choice-unread-requires : (t : ℕ) → choice-lts.Need-unread-requires (choice-calls t) (choice-at t) choice.Post
+choice-unread-requires t c κs = search needs
 
 choice-returns : (t : ℕ) → choice-lts.Need-returns (choice-calls t) (choice-at t) choice.Post
 choice-returns t c =
-    (λ e. choice-not (c .before .before .before .before .args .case) e (c .before .before .take .ensures) (c .before .stopped .ensures .1 (c .if1 .taken)), not-took (c .before .before .take .ensures) (c .before .stopped .ensures .1 (c .if1 .taken)))
+    (λ e. choice-not (c .before .before .before .before .args .case) e (c .before .before .take .ensures) (c .before .unread .ensures .1 (c .if1 .taken)), not-took (c .before .before .take .ensures) (c .before .unread .ensures .1 (c .if1 .taken)))
 
 choice-start-requires : (t : ℕ) → choice-lts.Need-start-requires (choice-calls t) (choice-at t) choice.Post
 choice-start-requires t c κs =
-    let p = c .before .before .before .take .ensures .done (c .before .before .stopped .ensures .0 (c .before .if1 .left)) in let g : c .before .before .before .take .result .state .nesting ≡ suc (c .before .before .before .before .before .args .s .nesting) = ap (λ (k : Counts). k .nesting) (p .counts) in let d : c .before .before .before .take .result .state .nesting ≤ 24 = p .deep in search needs
+    let p = c .before .before .before .take .ensures .done (c .before .before .unread .ensures .0 (c .before .if1 .left)) in let g : c .before .before .before .take .result .state .nesting ≡ suc (c .before .before .before .before .before .args .s .nesting) = ap (λ (k : Counts). k .nesting) (p .counts) in let d : c .before .before .before .take .result .state .nesting ≤ 24 = p .deep in search needs
 
-choice-stopped-requires-2 : (t : ℕ) → choice-lts.Need-stopped-requires-2 (choice-calls t) (choice-at t) choice.Post
-choice-stopped-requires-2 t c κs = search needs
+choice-unread-requires-2 : (t : ℕ) → choice-lts.Need-unread-requires-2 (choice-calls t) (choice-at t) choice.Post
+choice-unread-requires-2 t c κs = search needs
 
 choice-returns-2 : (t : ℕ) → choice-lts.Need-returns-2 (choice-calls t) (choice-at t) choice.Post
 choice-returns-2 t c =
-    (λ e. condition-not (c .before .before .before .before .before .before .before .before .args .case) e (c .before .before .before .before .before .before .take .ensures) (c .before .before .before .before .before .stopped .ensures .0 (c .before .before .before .before .if1 .left)) (c .before .before .start .ensures .0) (c .before .stopped2 .ensures .1 (c .if2 .taken)), spent (counted-comes (c .before .before .before .before .before .before .take .ensures) (c .before .before .before .before .before .stopped .ensures .0 (c .before .before .before .before .if1 .left))) (c .before .before .start .ensures .1) (omega arith))
+    (λ e. condition-not (c .before .before .before .before .before .before .before .before .args .case) e (c .before .before .before .before .before .before .take .ensures) (c .before .before .before .before .before .unread .ensures .0 (c .before .before .before .before .if1 .left)) (c .before .before .start .ensures .0) (c .before .unread2 .ensures .1 (c .if2 .taken)), spent (counted-comes (c .before .before .before .before .before .before .take .ensures) (c .before .before .before .before .before .unread .ensures .0 (c .before .before .before .before .if1 .left))) (c .before .before .start .ensures .1) (omega arith))
 
 choice-at-requires : (t : ℕ) → choice-lts.Need-at-requires (choice-calls t) (choice-at t) choice.Post
 choice-at-requires t c κs = search needs
 
 choice-arms-requires : (t : ℕ) → choice-lts.Need-arms-requires (choice-calls t) (choice-at t) choice.Post
 choice-arms-requires t c κs =
-    let p = c .before .before .before .before .before .before .before .before .take .ensures .done (c .before .before .before .before .before .before .before .stopped .ensures .0 (c .before .before .before .before .before .before .if1 .left)) in let g : c .before .before .before .before .before .before .before .before .take .result .state .nesting ≡ suc (c .before .before .before .before .before .before .before .before .before .before .args .s .nesting) = ap (λ (k : Counts). k .nesting) (p .counts) in let d : c .before .before .before .before .before .before .before .before .take .result .state .nesting ≤ 24 = p .deep in let h : c .before .at .result .nesting ≡ c .before .before .before .before .before .before .before .before .take .result .state .nesting = ap (λ (q : State). q .nesting) (c .before .at .ensures) in search needs
+    let p = c .before .before .before .before .before .before .before .before .take .ensures .done (c .before .before .before .before .before .before .before .unread .ensures .0 (c .before .before .before .before .before .before .if1 .left)) in let g : c .before .before .before .before .before .before .before .before .take .result .state .nesting ≡ suc (c .before .before .before .before .before .before .before .before .before .before .args .s .nesting) = ap (λ (k : Counts). k .nesting) (p .counts) in let d : c .before .before .before .before .before .before .before .before .take .result .state .nesting ≤ 24 = p .deep in let h : c .before .at .result .nesting ≡ c .before .before .before .before .before .before .before .before .take .result .state .nesting = ap (λ (q : State). q .nesting) (c .before .at .ensures) in search needs
 
-choice-stopped-requires-3 : (t : ℕ) → choice-lts.Need-stopped-requires-3 (choice-calls t) (choice-at t) choice.Post
-choice-stopped-requires-3 t c κs = search needs
+choice-unread-requires-3 : (t : ℕ) → choice-lts.Need-unread-requires-3 (choice-calls t) (choice-at t) choice.Post
+choice-unread-requires-3 t c κs = search needs
 
 choice-returns-3 : (t : ℕ) → choice-lts.Need-returns-3 (choice-calls t) (choice-at t) choice.Post
 choice-returns-3 t c =
-    (λ e. branches-not (c .before .before .before .before .before .before .before .before .before .before .before .before .before .before .args .case) e (c .before .before .before .before .before .before .before .before .before .before .before .before .take .ensures) (c .before .before .before .before .before .before .before .before .before .before .before .stopped .ensures .0 (c .before .before .before .before .before .before .before .before .before .before .if1 .left)) (c .before .before .before .before .before .before .before .before .start .ensures .0) (c .before .before .before .before .before .before .before .stopped2 .ensures .0 (c .before .before .before .before .before .before .if2 .left)) (c .before .before .before .before .before .at .ensures) (c .before .before .before .arms .ensures .0) (c .before .before .stopped3 .ensures .1 (c .before .if3 .taken)), spent (goes-on (counted-comes (c .before .before .before .before .before .before .before .before .before .before .before .before .take .ensures) (c .before .before .before .before .before .before .before .before .before .before .before .stopped .ensures .0 (c .before .before .before .before .before .before .before .before .before .before .if1 .left))) (goes-on (c .before .before .before .before .before .before .before .before .start .ensures .1 .done (c .before .before .before .before .before .before .before .stopped2 .ensures .0 (c .before .before .before .before .before .before .if2 .left))) (nests (c .before .before .before .before .before .at .ensures)))) (c .before .before .before .arms .ensures .1) (omega arith))
+    (λ e. branches-not (c .before .before .before .before .before .before .before .before .before .before .before .before .before .before .args .case) e (c .before .before .before .before .before .before .before .before .before .before .before .before .take .ensures) (c .before .before .before .before .before .before .before .before .before .before .before .unread .ensures .0 (c .before .before .before .before .before .before .before .before .before .before .if1 .left)) (c .before .before .before .before .before .before .before .before .start .ensures .0) (c .before .before .before .before .before .before .before .unread2 .ensures .0 (c .before .before .before .before .before .before .if2 .left)) (c .before .before .before .before .before .at .ensures) (c .before .before .before .arms .ensures .0) (c .before .before .unread3 .ensures .1 (c .before .if3 .taken)), spent (goes-on (counted-comes (c .before .before .before .before .before .before .before .before .before .before .before .before .take .ensures) (c .before .before .before .before .before .before .before .before .before .before .before .unread .ensures .0 (c .before .before .before .before .before .before .before .before .before .before .if1 .left))) (goes-on (c .before .before .before .before .before .before .before .before .start .ensures .1 .done (c .before .before .before .before .before .before .before .unread2 .ensures .0 (c .before .before .before .before .before .before .if2 .left))) (nests (c .before .before .before .before .before .at .ensures)))) (c .before .before .before .arms .ensures .1) (omega arith))
 
 choice-last-word-requires : (t : ℕ) → choice-lts.Need-last-word-requires (choice-calls t) (choice-at t) choice.Post
 choice-last-word-requires t c κs = search needs
@@ -425,12 +425,12 @@ choice-last-word-requires t c κs = search needs
 choice-expect-requires : (t : ℕ) → choice-lts.Need-expect-requires (choice-calls t) (choice-at t) choice.Post
 choice-expect-requires t c κs = search needs
 
-choice-stopped-requires-4 : (t : ℕ) → choice-lts.Need-stopped-requires-4 (choice-calls t) (choice-at t) choice.Post
-choice-stopped-requires-4 t c κs = search needs
+choice-unread-requires-4 : (t : ℕ) → choice-lts.Need-unread-requires-4 (choice-calls t) (choice-at t) choice.Post
+choice-unread-requires-4 t c κs = search needs
 
 choice-returns-4 : (t : ℕ) → choice-lts.Need-returns-4 (choice-calls t) (choice-at t) choice.Post
 choice-returns-4 t c =
-    (λ e. last-not (c .before .before .before .before .before .before .before .before .before .before .before .before .before .before .before .before .before .args .case) e (c .before .before .before .before .before .before .before .before .before .before .before .before .before .before .before .take .ensures) (c .before .before .before .before .before .before .before .before .before .before .before .before .before .before .stopped .ensures .0 (c .before .before .before .before .before .before .before .before .before .before .before .before .before .if1 .left)) (c .before .before .before .before .before .before .before .before .before .before .before .start .ensures .0) (c .before .before .before .before .before .before .before .before .before .before .stopped2 .ensures .0 (c .before .before .before .before .before .before .before .before .before .if2 .left)) (c .before .before .before .before .before .before .before .before .at .ensures) (c .before .before .before .before .before .before .arms .ensures .0) (c .before .before .before .before .before .stopped3 .ensures .0 (c .before .before .before .before .if3 .left)) (c .before .before .before .last-word .ensures) (c .before .before .expect .ensures) (c .before .stopped4 .ensures .1 (c .if4 .taken)), unexpected (c .before .before .expect .ensures) (c .before .stopped4 .ensures .1 (c .if4 .taken)))
+    (λ e. last-not (c .before .before .before .before .before .before .before .before .before .before .before .before .before .before .before .before .before .args .case) e (c .before .before .before .before .before .before .before .before .before .before .before .before .before .before .before .take .ensures) (c .before .before .before .before .before .before .before .before .before .before .before .before .before .before .unread .ensures .0 (c .before .before .before .before .before .before .before .before .before .before .before .before .before .if1 .left)) (c .before .before .before .before .before .before .before .before .before .before .before .start .ensures .0) (c .before .before .before .before .before .before .before .before .before .before .unread2 .ensures .0 (c .before .before .before .before .before .before .before .before .before .if2 .left)) (c .before .before .before .before .before .before .before .before .at .ensures) (c .before .before .before .before .before .before .arms .ensures .0) (c .before .before .before .before .before .unread3 .ensures .0 (c .before .before .before .before .if3 .left)) (c .before .before .before .last-word .ensures) (c .before .before .expect .ensures) (c .before .unread4 .ensures .1 (c .if4 .taken)), unexpected (c .before .before .expect .ensures) (c .before .unread4 .ensures .1 (c .if4 .taken)))
 
 choice-last-requires : (t : ℕ) → choice-lts.Need-last-requires (choice-calls t) (choice-at t) choice.Post
 choice-last-requires t c κs = search needs
@@ -440,17 +440,17 @@ choice-add-choice-requires t c κs = search needs
 
 choice-returns-5 : (t : ℕ) → choice-lts.Need-returns-5 (choice-calls t) (choice-at t) choice.Post
 choice-returns-5 t c =
-    (λ e. choice-says (c .before .before .before .before .before .before .before .before .before .before .before .before .before .before .before .before .before .before .before .before .args .case) e (c .before .before .before .before .before .before .before .before .before .before .before .before .before .before .before .before .before .before .take .ensures) (c .before .before .before .before .before .before .before .before .before .before .before .before .before .before .before .before .before .stopped .ensures .0 (c .before .before .before .before .before .before .before .before .before .before .before .before .before .before .before .before .if1 .left)) (c .before .before .before .before .before .before .before .before .before .before .before .before .before .before .start .ensures .0) (c .before .before .before .before .before .before .before .before .before .before .before .before .before .stopped2 .ensures .0 (c .before .before .before .before .before .before .before .before .before .before .before .before .if2 .left)) (c .before .before .before .before .before .before .before .before .before .before .before .at .ensures) (c .before .before .before .before .before .before .before .before .before .arms .ensures .0) (c .before .before .before .before .before .before .before .before .stopped3 .ensures .0 (c .before .before .before .before .before .before .before .if3 .left)) (c .before .before .before .before .before .before .last-word .ensures) (c .before .before .before .before .before .expect .ensures) (c .before .before .before .before .stopped4 .ensures .0 (c .before .before .before .if4 .left)) (c .before .before .last .ensures) (c .add-choice .ensures), spent (goes-on (counted-comes (c .before .before .before .before .before .before .before .before .before .before .before .before .before .before .before .before .before .before .take .ensures) (c .before .before .before .before .before .before .before .before .before .before .before .before .before .before .before .before .before .stopped .ensures .0 (c .before .before .before .before .before .before .before .before .before .before .before .before .before .before .before .before .if1 .left))) (goes-on (c .before .before .before .before .before .before .before .before .before .before .before .before .before .before .start .ensures .1 .done (c .before .before .before .before .before .before .before .before .before .before .before .before .before .stopped2 .ensures .0 (c .before .before .before .before .before .before .before .before .before .before .before .before .if2 .left))) (goes-on (nests (c .before .before .before .before .before .before .before .before .before .before .before .at .ensures)) (goes-on (c .before .before .before .before .before .before .before .before .before .arms .ensures .1 .done (c .before .before .before .before .before .before .before .before .stopped3 .ensures .0 (c .before .before .before .before .before .before .before .if3 .left))) (expected-comes (c .before .before .before .before .before .expect .ensures) (rw (c .before .before .before .before .before .before .last-word .ensures) (closers (c .before .before .before .before .before .before .before .before .before .before .before .before .before .before .before .before .before .before .before .before .args .case))) (c .before .before .before .before .stopped4 .ensures .0 (c .before .before .before .if4 .left))))))) (gained-spends (c .add-choice .ensures)) (omega arith))
+    (λ e. choice-says (c .before .before .before .before .before .before .before .before .before .before .before .before .before .before .before .before .before .before .before .before .args .case) e (c .before .before .before .before .before .before .before .before .before .before .before .before .before .before .before .before .before .before .take .ensures) (c .before .before .before .before .before .before .before .before .before .before .before .before .before .before .before .before .before .unread .ensures .0 (c .before .before .before .before .before .before .before .before .before .before .before .before .before .before .before .before .if1 .left)) (c .before .before .before .before .before .before .before .before .before .before .before .before .before .before .start .ensures .0) (c .before .before .before .before .before .before .before .before .before .before .before .before .before .unread2 .ensures .0 (c .before .before .before .before .before .before .before .before .before .before .before .before .if2 .left)) (c .before .before .before .before .before .before .before .before .before .before .before .at .ensures) (c .before .before .before .before .before .before .before .before .before .arms .ensures .0) (c .before .before .before .before .before .before .before .before .unread3 .ensures .0 (c .before .before .before .before .before .before .before .if3 .left)) (c .before .before .before .before .before .before .last-word .ensures) (c .before .before .before .before .before .expect .ensures) (c .before .before .before .before .unread4 .ensures .0 (c .before .before .before .if4 .left)) (c .before .before .last .ensures) (c .add-choice .ensures), spent (goes-on (counted-comes (c .before .before .before .before .before .before .before .before .before .before .before .before .before .before .before .before .before .before .take .ensures) (c .before .before .before .before .before .before .before .before .before .before .before .before .before .before .before .before .before .unread .ensures .0 (c .before .before .before .before .before .before .before .before .before .before .before .before .before .before .before .before .if1 .left))) (goes-on (c .before .before .before .before .before .before .before .before .before .before .before .before .before .before .start .ensures .1 .done (c .before .before .before .before .before .before .before .before .before .before .before .before .before .unread2 .ensures .0 (c .before .before .before .before .before .before .before .before .before .before .before .before .if2 .left))) (goes-on (nests (c .before .before .before .before .before .before .before .before .before .before .before .at .ensures)) (goes-on (c .before .before .before .before .before .before .before .before .before .arms .ensures .1 .done (c .before .before .before .before .before .before .before .before .unread3 .ensures .0 (c .before .before .before .before .before .before .before .if3 .left))) (expected-comes (c .before .before .before .before .before .expect .ensures) (rw (c .before .before .before .before .before .before .last-word .ensures) (closers (c .before .before .before .before .before .before .before .before .before .before .before .before .before .before .before .before .before .before .before .before .args .case))) (c .before .before .before .before .unread4 .ensures .0 (c .before .before .before .if4 .left))))))) (gained-spends (c .add-choice .ensures)) (omega arith))
 
 first-arm-expect-requires : (t : ℕ) → first-arm-lts.Need-expect-requires (first-arm-calls t) (first-arm-at t) first-arm.Post
 first-arm-expect-requires t c κs = search needs
 
-first-arm-stopped-requires : (t : ℕ) → first-arm-lts.Need-stopped-requires (first-arm-calls t) (first-arm-at t) first-arm.Post
-first-arm-stopped-requires t c κs = search needs
+first-arm-unread-requires : (t : ℕ) → first-arm-lts.Need-unread-requires (first-arm-calls t) (first-arm-at t) first-arm.Post
+first-arm-unread-requires t c κs = search needs
 
 first-arm-returns : (t : ℕ) → first-arm-lts.Need-returns (first-arm-calls t) (first-arm-at t) first-arm.Post
 first-arm-returns t c =
-    (first-not (c .before .before .expect .ensures) (c .before .stopped .ensures .1 (c .if1 .taken)), λ l. unexpected (c .before .before .expect .ensures) (c .before .stopped .ensures .1 (c .if1 .taken)))
+    (first-not (c .before .before .expect .ensures) (c .before .unread .ensures .1 (c .if1 .taken)), λ l. unexpected (c .before .before .expect .ensures) (c .before .unread .ensures .1 (c .if1 .taken)))
 
 first-arm-at-requires : (t : ℕ) → first-arm-lts.Need-at-requires (first-arm-calls t) (first-arm-at t) first-arm.Post
 first-arm-at-requires t c κs = search needs
@@ -459,47 +459,47 @@ first-arm-start-requires : (t : ℕ) → first-arm-lts.Need-start-requires (firs
 first-arm-start-requires t c κs =
     let h : c .before .at .result .nesting ≡ c .before .before .before .before .before .before .args .s .nesting = ap (λ (q : State). q .nesting) (c .before .at .ensures) in search needs
 
-first-arm-stopped-requires-2 : (t : ℕ) → first-arm-lts.Need-stopped-requires-2 (first-arm-calls t) (first-arm-at t) first-arm.Post
-first-arm-stopped-requires-2 t c κs = search needs
+first-arm-unread-requires-2 : (t : ℕ) → first-arm-lts.Need-unread-requires-2 (first-arm-calls t) (first-arm-at t) first-arm.Post
+first-arm-unread-requires-2 t c κs = search needs
 
 first-arm-returns-2 : (t : ℕ) → first-arm-lts.Need-returns-2 (first-arm-calls t) (first-arm-at t) first-arm.Post
 first-arm-returns-2 t c =
-    (first-inner (c .before .before .before .before .before .before .before .expect .ensures) (c .before .before .before .before .before .before .stopped .ensures .0 (c .before .before .before .before .before .if1 .left)) (c .before .before .before .before .at .ensures) (c .before .before .start .ensures .0) (c .before .stopped2 .ensures .1 (c .if2 .taken)), λ l. spent (goes-on (expected-comes (c .before .before .before .before .before .before .before .expect .ensures) l (c .before .before .before .before .before .before .stopped .ensures .0 (c .before .before .before .before .before .if1 .left))) (nests (c .before .before .before .before .at .ensures))) (c .before .before .start .ensures .1) (omega arith))
+    (first-inner (c .before .before .before .before .before .before .before .expect .ensures) (c .before .before .before .before .before .before .unread .ensures .0 (c .before .before .before .before .before .if1 .left)) (c .before .before .before .before .at .ensures) (c .before .before .start .ensures .0) (c .before .unread2 .ensures .1 (c .if2 .taken)), λ l. spent (goes-on (expected-comes (c .before .before .before .before .before .before .before .expect .ensures) l (c .before .before .before .before .before .before .unread .ensures .0 (c .before .before .before .before .before .if1 .left))) (nests (c .before .before .before .before .at .ensures))) (c .before .before .start .ensures .1) (omega arith))
 
 first-arm-add-first-arm-requires : (t : ℕ) → first-arm-lts.Need-add-first-arm-requires (first-arm-calls t) (first-arm-at t) first-arm.Post
 first-arm-add-first-arm-requires t c κs = search needs
 
 first-arm-returns-3 : (t : ℕ) → first-arm-lts.Need-returns-3 (first-arm-calls t) (first-arm-at t) first-arm.Post
 first-arm-returns-3 t c =
-    (first-says (c .before .before .before .before .before .before .before .before .before .expect .ensures) (c .before .before .before .before .before .before .before .before .stopped .ensures .0 (c .before .before .before .before .before .before .before .if1 .left)) (c .before .before .before .before .before .before .at .ensures) (c .before .before .before .before .start .ensures .0) (c .before .before .before .stopped2 .ensures .0 (c .before .before .if2 .left)) (c .add-first-arm .ensures), λ l. spent (goes-on (expected-comes (c .before .before .before .before .before .before .before .before .before .expect .ensures) l (c .before .before .before .before .before .before .before .before .stopped .ensures .0 (c .before .before .before .before .before .before .before .if1 .left))) (goes-on (nests (c .before .before .before .before .before .before .at .ensures)) (c .before .before .before .before .start .ensures .1 .done (c .before .before .before .stopped2 .ensures .0 (c .before .before .if2 .left))))) (gained-spends (c .add-first-arm .ensures)) (omega arith))
+    (first-says (c .before .before .before .before .before .before .before .before .before .expect .ensures) (c .before .before .before .before .before .before .before .before .unread .ensures .0 (c .before .before .before .before .before .before .before .if1 .left)) (c .before .before .before .before .before .before .at .ensures) (c .before .before .before .before .start .ensures .0) (c .before .before .before .unread2 .ensures .0 (c .before .before .if2 .left)) (c .add-first-arm .ensures), λ l. spent (goes-on (expected-comes (c .before .before .before .before .before .before .before .before .before .expect .ensures) l (c .before .before .before .before .before .before .before .before .unread .ensures .0 (c .before .before .before .before .before .before .before .if1 .left))) (goes-on (nests (c .before .before .before .before .before .before .at .ensures)) (c .before .before .before .before .start .ensures .1 .done (c .before .before .before .unread2 .ensures .0 (c .before .before .if2 .left))))) (gained-spends (c .add-first-arm .ensures)) (omega arith))
 
 group-take-requires : (t : ℕ) → group-lts.Need-take-requires (group-calls t) (group-at t) group.Post
 group-take-requires t c κs = search needs
 
-group-stopped-requires : (t : ℕ) → group-lts.Need-stopped-requires (group-calls t) (group-at t) group.Post
-group-stopped-requires t c κs = search needs
+group-unread-requires : (t : ℕ) → group-lts.Need-unread-requires (group-calls t) (group-at t) group.Post
+group-unread-requires t c κs = search needs
 
 group-returns : (t : ℕ) → group-lts.Need-returns (group-calls t) (group-at t) group.Post
 group-returns t c =
-    (λ e. group-not e (c .before .before .take .ensures) (c .before .stopped .ensures .1 (c .if1 .taken)), not-took (c .before .before .take .ensures) (c .before .stopped .ensures .1 (c .if1 .taken)))
+    (λ e. group-not e (c .before .before .take .ensures) (c .before .unread .ensures .1 (c .if1 .taken)), not-took (c .before .before .take .ensures) (c .before .unread .ensures .1 (c .if1 .taken)))
 
 group-start-requires : (t : ℕ) → group-lts.Need-start-requires (group-calls t) (group-at t) group.Post
 group-start-requires t c κs =
-    let p = c .before .before .before .take .ensures .done (c .before .before .stopped .ensures .0 (c .before .if1 .left)) in let g : c .before .before .before .take .result .state .nesting ≡ suc (c .before .before .before .before .before .args .s .nesting) = ap (λ (k : Counts). k .nesting) (p .counts) in let d : c .before .before .before .take .result .state .nesting ≤ 24 = p .deep in search needs
+    let p = c .before .before .before .take .ensures .done (c .before .before .unread .ensures .0 (c .before .if1 .left)) in let g : c .before .before .before .take .result .state .nesting ≡ suc (c .before .before .before .before .before .args .s .nesting) = ap (λ (k : Counts). k .nesting) (p .counts) in let d : c .before .before .before .take .result .state .nesting ≤ 24 = p .deep in search needs
 
-group-stopped-requires-2 : (t : ℕ) → group-lts.Need-stopped-requires-2 (group-calls t) (group-at t) group.Post
-group-stopped-requires-2 t c κs = search needs
+group-unread-requires-2 : (t : ℕ) → group-lts.Need-unread-requires-2 (group-calls t) (group-at t) group.Post
+group-unread-requires-2 t c κs = search needs
 
 group-returns-2 : (t : ℕ) → group-lts.Need-returns-2 (group-calls t) (group-at t) group.Post
 group-returns-2 t c =
-    (λ e. inner-not e (c .before .before .before .before .before .before .take .ensures) (c .before .before .before .before .before .stopped .ensures .0 (c .before .before .before .before .if1 .left)) (c .before .before .start .ensures .0) (c .before .stopped2 .ensures .1 (c .if2 .taken)), spent (took-comes (c .before .before .before .before .before .before .take .ensures) (c .before .before .before .before .before .stopped .ensures .0 (c .before .before .before .before .if1 .left))) (c .before .before .start .ensures .1) (omega arith))
+    (λ e. inner-not e (c .before .before .before .before .before .before .take .ensures) (c .before .before .before .before .before .unread .ensures .0 (c .before .before .before .before .if1 .left)) (c .before .before .start .ensures .0) (c .before .unread2 .ensures .1 (c .if2 .taken)), spent (took-comes (c .before .before .before .before .before .before .take .ensures) (c .before .before .before .before .before .unread .ensures .0 (c .before .before .before .before .if1 .left))) (c .before .before .start .ensures .1) (omega arith))
 
 group-expect-requires : (t : ℕ) → group-lts.Need-expect-requires (group-calls t) (group-at t) group.Post
 group-expect-requires t c κs = search needs
 
 group-returns-3 : (t : ℕ) → group-lts.Need-returns-3 (group-calls t) (group-at t) group.Post
 group-returns-3 t c =
-    (λ e. group-says e (c .before .before .before .before .before .before .before .take .ensures) (c .before .before .before .before .before .before .stopped .ensures .0 (c .before .before .before .before .before .if1 .left)) (c .before .before .before .start .ensures .0) (c .before .before .stopped2 .ensures .0 (c .before .if2 .left)) (c .expect .ensures), spent (goes-on (took-comes (c .before .before .before .before .before .before .before .take .ensures) (c .before .before .before .before .before .before .stopped .ensures .0 (c .before .before .before .before .before .if1 .left))) (c .before .before .before .start .ensures .1 .done (c .before .before .stopped2 .ensures .0 (c .before .if2 .left)))) (expected-spends (c .expect .ensures) (omega arith)) (omega arith))
+    (λ e. group-says e (c .before .before .before .before .before .before .before .take .ensures) (c .before .before .before .before .before .before .unread .ensures .0 (c .before .before .before .before .before .if1 .left)) (c .before .before .before .start .ensures .0) (c .before .before .unread2 .ensures .0 (c .before .if2 .left)) (c .expect .ensures), spent (goes-on (took-comes (c .before .before .before .before .before .before .before .take .ensures) (c .before .before .before .before .before .before .unread .ensures .0 (c .before .before .before .before .before .if1 .left))) (c .before .before .before .start .ensures .1 .done (c .before .before .unread2 .ensures .0 (c .before .if2 .left)))) (expected-spends (c .expect .ensures) (omega arith)) (omega arith))
 
 inside-kind-of-requires : (t : ℕ) → inside-lts.Need-kind-of-requires (inside-calls t) (inside-at t) inside.Post
 inside-kind-of-requires t c κs = search needs
@@ -507,22 +507,22 @@ inside-kind-of-requires t c κs = search needs
 inside-take-requires : (t : ℕ) → inside-lts.Need-take-requires (inside-calls t) (inside-at t) inside.Post
 inside-take-requires t c κs = search needs
 
-inside-stopped-requires : (t : ℕ) → inside-lts.Need-stopped-requires (inside-calls t) (inside-at t) inside.Post
-inside-stopped-requires t c κs = search needs
+inside-unread-requires : (t : ℕ) → inside-lts.Need-unread-requires (inside-calls t) (inside-at t) inside.Post
+inside-unread-requires t c κs = search needs
 
 inside-returns : (t : ℕ) → inside-lts.Need-returns (inside-calls t) (inside-at t) inside.Post
 inside-returns t c =
-    (inside-not (c .before .before .before .before .before .before .args .later) (sym (c .before .before .before .before .kind-of .ensures) ∙ c .before .before .before .if1 .taken) (c .before .before .take .ensures) (c .before .stopped .ensures .1 (c .if2 .taken)), not-took (c .before .before .take .ensures) (c .before .stopped .ensures .1 (c .if2 .taken)))
+    (inside-not (c .before .before .before .before .before .before .args .later) (sym (c .before .before .before .before .kind-of .ensures) ∙ c .before .before .before .if1 .taken) (c .before .before .take .ensures) (c .before .unread .ensures .1 (c .if2 .taken)), not-took (c .before .before .take .ensures) (c .before .unread .ensures .1 (c .if2 .taken)))
 
 inside-counted-requires : (t : ℕ) → inside-lts.Need-counted-requires (inside-calls t) (inside-at t) inside.Post
 inside-counted-requires t c κs = search needs
 
-inside-stopped-requires-2 : (t : ℕ) → inside-lts.Need-stopped-requires-2 (inside-calls t) (inside-at t) inside.Post
-inside-stopped-requires-2 t c κs = search needs
+inside-unread-requires-2 : (t : ℕ) → inside-lts.Need-unread-requires-2 (inside-calls t) (inside-at t) inside.Post
+inside-unread-requires-2 t c κs = search needs
 
 inside-returns-2 : (t : ℕ) → inside-lts.Need-returns-2 (inside-calls t) (inside-at t) inside.Post
 inside-returns-2 t c =
-    (counted-not (c .before .before .before .before .before .before .before .before .before .before .args .later) (sym (c .before .before .before .before .before .before .before .before .kind-of .ensures) ∙ c .before .before .before .before .before .before .before .if1 .taken) (c .before .before .before .before .before .before .take .ensures) (c .before .before .before .before .before .stopped .ensures .0 (c .before .before .before .before .if2 .left)) (c .before .before .counted .ensures .0) (c .before .stopped2 .ensures .1 (c .if3 .taken)), spent-seen (λ z. spent (took-comes (c .before .before .before .before .before .before .take .ensures) (c .before .before .before .before .before .stopped .ensures .0 (c .before .before .before .before .if2 .left))) (c .before .before .counted .ensures .1 _ (narrow _ (c .before .before .before .before .before .before .before .before .before .before .args .w) z (sym (c .before .before .before .before .before .before .before .before .kind-of .ensures) ∙ c .before .before .before .before .before .before .before .if1 .taken))) (omega arith)))
+    (counted-not (c .before .before .before .before .before .before .before .before .before .before .args .later) (sym (c .before .before .before .before .before .before .before .before .kind-of .ensures) ∙ c .before .before .before .before .before .before .before .if1 .taken) (c .before .before .before .before .before .before .take .ensures) (c .before .before .before .before .before .unread .ensures .0 (c .before .before .before .before .if2 .left)) (c .before .before .counted .ensures .0) (c .before .unread2 .ensures .1 (c .if3 .taken)), spent-seen (λ z. spent (took-comes (c .before .before .before .before .before .before .take .ensures) (c .before .before .before .before .before .unread .ensures .0 (c .before .before .before .before .if2 .left))) (c .before .before .counted .ensures .1 _ (narrow _ (c .before .before .before .before .before .before .before .before .before .before .args .w) z (sym (c .before .before .before .before .before .before .before .before .kind-of .ensures) ∙ c .before .before .before .before .before .before .before .if1 .taken))) (omega arith)))
 
 inside-at-requires : (t : ℕ) → inside-lts.Need-at-requires (inside-calls t) (inside-at t) inside.Post
 inside-at-requires t c κs = search needs
@@ -533,7 +533,7 @@ inside-rest-requires t c κs =
 
 inside-returns-3 : (t : ℕ) → inside-lts.Need-returns-3 (inside-calls t) (inside-at t) inside.Post
 inside-returns-3 t c =
-    (inside-says (c .before .before .before .before .before .before .before .before .before .before .before .before .before .args .later) (sym (c .before .before .before .before .before .before .before .before .before .before .before .kind-of .ensures) ∙ c .before .before .before .before .before .before .before .before .before .before .if1 .taken) (c .before .before .before .before .before .before .before .before .before .take .ensures) (c .before .before .before .before .before .before .before .before .stopped .ensures .0 (c .before .before .before .before .before .before .before .if2 .left)) (c .before .before .before .before .before .counted .ensures .0) (c .before .before .before .before .stopped2 .ensures .0 (c .before .before .before .if3 .left)) (c .before .before .at .ensures) (c .rest .ensures .0), spent-seen (λ z. spent (goes-on (took-comes (c .before .before .before .before .before .before .before .before .before .take .ensures) (c .before .before .before .before .before .before .before .before .stopped .ensures .0 (c .before .before .before .before .before .before .before .if2 .left))) (goes-on ((c .before .before .before .before .before .counted .ensures .1 _ (narrow _ (c .before .before .before .before .before .before .before .before .before .before .before .before .before .args .w) z (sym (c .before .before .before .before .before .before .before .before .before .before .before .kind-of .ensures) ∙ c .before .before .before .before .before .before .before .before .before .before .if1 .taken))) .done (c .before .before .before .before .stopped2 .ensures .0 (c .before .before .before .if3 .left))) (nests (c .before .before .at .ensures)))) (c .rest .ensures .1) (omega arith)))
+    (inside-says (c .before .before .before .before .before .before .before .before .before .before .before .before .before .args .later) (sym (c .before .before .before .before .before .before .before .before .before .before .before .kind-of .ensures) ∙ c .before .before .before .before .before .before .before .before .before .before .if1 .taken) (c .before .before .before .before .before .before .before .before .before .take .ensures) (c .before .before .before .before .before .before .before .before .unread .ensures .0 (c .before .before .before .before .before .before .before .if2 .left)) (c .before .before .before .before .before .counted .ensures .0) (c .before .before .before .before .unread2 .ensures .0 (c .before .before .before .if3 .left)) (c .before .before .at .ensures) (c .rest .ensures .0), spent-seen (λ z. spent (goes-on (took-comes (c .before .before .before .before .before .before .before .before .before .take .ensures) (c .before .before .before .before .before .before .before .before .unread .ensures .0 (c .before .before .before .before .before .before .before .if2 .left))) (goes-on ((c .before .before .before .before .before .counted .ensures .1 _ (narrow _ (c .before .before .before .before .before .before .before .before .before .before .before .before .before .args .w) z (sym (c .before .before .before .before .before .before .before .before .before .before .before .kind-of .ensures) ∙ c .before .before .before .before .before .before .before .before .before .before .if1 .taken))) .done (c .before .before .before .before .unread2 .ensures .0 (c .before .before .before .if3 .left))) (nests (c .before .before .at .ensures)))) (c .rest .ensures .1) (omega arith)))
 
 inside-start-requires : (t : ℕ) → inside-lts.Need-start-requires (inside-calls t) (inside-at t) inside.Post
 inside-start-requires t c κs = search needs
@@ -562,12 +562,12 @@ more-arms-next-arm-requires : (t : ℕ) → more-arms-lts.Need-next-arm-requires
 more-arms-next-arm-requires t c κs =
     let h : c .before .at .result .nesting ≡ c .before .before .before .before .before .before .before .args .s .nesting = ap (λ (q : State). q .nesting) (c .before .at .ensures) in search needs
 
-more-arms-stopped-requires : (t : ℕ) → more-arms-lts.Need-stopped-requires (more-arms-calls t) (more-arms-at t) more-arms.Post more-arms-Inv-loop more-arms-μ-loop
-more-arms-stopped-requires t c κs = search needs
+more-arms-unread-requires : (t : ℕ) → more-arms-lts.Need-unread-requires (more-arms-calls t) (more-arms-at t) more-arms.Post more-arms-Inv-loop more-arms-μ-loop
+more-arms-unread-requires t c κs = search needs
 
 more-arms-returns : (t : ℕ) → more-arms-lts.Need-returns (more-arms-calls t) (more-arms-at t) more-arms.Post more-arms-Inv-loop more-arms-μ-loop
 more-arms-returns t c =
-    (armings-not (c .before .before .before .before .before .before .before .before .before .before .args .case) (c .before .before .before .before .before .before .before .before .loop .inv .0) (sym (c .before .before .before .before .before .before .another .ensures) ∙ c .before .before .before .before .before .if1 .taken) (c .before .before .before .before .at .ensures) (c .before .before .next-arm .ensures .0) (c .before .stopped .ensures .1 (c .if2 .taken)), spent (goes-on (c .before .before .before .before .before .before .before .before .loop .inv .1) (nests (c .before .before .before .before .at .ensures))) (c .before .before .next-arm .ensures .1 (omega arith)) (omega arith))
+    (armings-not (c .before .before .before .before .before .before .before .before .before .before .args .case) (c .before .before .before .before .before .before .before .before .loop .inv .0) (sym (c .before .before .before .before .before .before .another .ensures) ∙ c .before .before .before .before .before .if1 .taken) (c .before .before .before .before .at .ensures) (c .before .before .next-arm .ensures .0) (c .before .unread .ensures .1 (c .if2 .taken)), spent (goes-on (c .before .before .before .before .before .before .before .before .loop .inv .1) (nests (c .before .before .before .before .at .ensures))) (c .before .before .next-arm .ensures .1 (omega arith)) (omega arith))
 
 more-arms-one-more-requires : (t : ℕ) → more-arms-lts.Need-one-more-requires (more-arms-calls t) (more-arms-at t) more-arms.Post more-arms-Inv-loop more-arms-μ-loop
 more-arms-one-more-requires t c κs = search needs
@@ -580,7 +580,7 @@ more-arms-loop-less t c = search needs
 
 more-arms-loop-again : (t : ℕ) → more-arms-lts.Need-loop-again (more-arms-calls t) (more-arms-at t) more-arms.Post more-arms-Inv-loop more-arms-μ-loop
 more-arms-loop-again t c =
-    (armings-more (c .before .before .before .before .before .before .before .before .before .before .before .before .before .args .case) (c .before .before .before .before .before .before .before .before .before .before .before .loop .inv .0) (sym (c .before .before .before .before .before .before .before .before .before .another .ensures) ∙ c .before .before .before .before .before .before .before .before .if1 .taken) (c .before .before .before .before .before .before .before .at .ensures) (c .before .before .before .before .before .next-arm .ensures .0) (c .before .before .before .before .stopped .ensures .0 (c .before .before .before .if2 .left)) (c .one-more .ensures) (omega (arith, c .before .before .before .before .before .before .before .before .before .before .loop-test .taken)), comes-as (goes-on (c .before .before .before .before .before .before .before .before .before .before .before .loop .inv .1) (goes-on (nests (c .before .before .before .before .before .before .before .at .ensures)) (c .before .before .before .before .before .next-arm .ensures .1 (omega arith) .done (c .before .before .before .before .stopped .ensures .0 (c .before .before .before .if2 .left))))) (omega arith))
+    (armings-more (c .before .before .before .before .before .before .before .before .before .before .before .before .before .args .case) (c .before .before .before .before .before .before .before .before .before .before .before .loop .inv .0) (sym (c .before .before .before .before .before .before .before .before .before .another .ensures) ∙ c .before .before .before .before .before .before .before .before .if1 .taken) (c .before .before .before .before .before .before .before .at .ensures) (c .before .before .before .before .before .next-arm .ensures .0) (c .before .before .before .before .unread .ensures .0 (c .before .before .before .if2 .left)) (c .one-more .ensures) (omega (arith, c .before .before .before .before .before .before .before .before .before .before .loop-test .taken)), comes-as (goes-on (c .before .before .before .before .before .before .before .before .before .before .before .loop .inv .1) (goes-on (nests (c .before .before .before .before .before .before .before .at .ensures)) (c .before .before .before .before .before .next-arm .ensures .1 (omega arith) .done (c .before .before .before .before .unread .ensures .0 (c .before .before .before .if2 .left))))) (omega arith))
 
 more-arms-stay-requires : (t : ℕ) → more-arms-lts.Need-stay-requires (more-arms-calls t) (more-arms-at t) more-arms.Post more-arms-Inv-loop more-arms-μ-loop
 more-arms-stay-requires t c κs = search needs
@@ -599,30 +599,30 @@ more-arms-returns-3 t c =
 named-take-requires : (t : ℕ) → named-lts.Need-take-requires (named-calls t) (named-at t) named.Post
 named-take-requires t c κs = search needs
 
-named-stopped-requires : (t : ℕ) → named-lts.Need-stopped-requires (named-calls t) (named-at t) named.Post
-named-stopped-requires t c κs = search needs
+named-unread-requires : (t : ℕ) → named-lts.Need-unread-requires (named-calls t) (named-at t) named.Post
+named-unread-requires t c κs = search needs
 
 named-returns : (t : ℕ) → named-lts.Need-returns (named-calls t) (named-at t) named.Post
 named-returns t c =
-    (λ e. named-not e (c .before .before .take .ensures) (c .before .stopped .ensures .1 (c .if1 .taken)), not-took (c .before .before .take .ensures) (c .before .stopped .ensures .1 (c .if1 .taken)))
+    (λ e. named-not e (c .before .before .take .ensures) (c .before .unread .ensures .1 (c .if1 .taken)), not-took (c .before .before .take .ensures) (c .before .unread .ensures .1 (c .if1 .taken)))
 
 named-reference-requires : (t : ℕ) → named-lts.Need-reference-requires (named-calls t) (named-at t) named.Post
 named-reference-requires t c κs =
-    let p = c .before .before .before .take .ensures .done (c .before .before .stopped .ensures .0 (c .before .if1 .left)) in let g : c .before .before .before .take .result .state .nesting ≡ c .before .before .before .before .before .args .s .nesting = ap (λ (k : Counts). k .nesting) (p .counts) in search needs
+    let p = c .before .before .before .take .ensures .done (c .before .before .unread .ensures .0 (c .before .if1 .left)) in let g : c .before .before .before .take .result .state .nesting ≡ c .before .before .before .before .before .args .s .nesting = ap (λ (k : Counts). k .nesting) (p .counts) in search needs
 
 named-returns-2 : (t : ℕ) → named-lts.Need-returns-2 (named-calls t) (named-at t) named.Post
 named-returns-2 t c =
-    (λ e. named-says e (c .before .before .before .before .take .ensures) (c .before .before .before .stopped .ensures .0 (c .before .before .if1 .left)) (c .reference .ensures .0), spent (counted-comes (c .before .before .before .before .take .ensures) (c .before .before .before .stopped .ensures .0 (c .before .before .if1 .left))) (c .reference .ensures .1) (omega arith))
+    (λ e. named-says e (c .before .before .before .before .take .ensures) (c .before .before .before .unread .ensures .0 (c .before .before .if1 .left)) (c .reference .ensures .0), spent (counted-comes (c .before .before .before .before .take .ensures) (c .before .before .before .unread .ensures .0 (c .before .before .if1 .left))) (c .reference .ensures .1) (omega arith))
 
 next-arm-expect-requires : (t : ℕ) → next-arm-lts.Need-expect-requires (next-arm-calls t) (next-arm-at t) next-arm.Post
 next-arm-expect-requires t c κs = search needs
 
-next-arm-stopped-requires : (t : ℕ) → next-arm-lts.Need-stopped-requires (next-arm-calls t) (next-arm-at t) next-arm.Post
-next-arm-stopped-requires t c κs = search needs
+next-arm-unread-requires : (t : ℕ) → next-arm-lts.Need-unread-requires (next-arm-calls t) (next-arm-at t) next-arm.Post
+next-arm-unread-requires t c κs = search needs
 
 next-arm-returns : (t : ℕ) → next-arm-lts.Need-returns (next-arm-calls t) (next-arm-at t) next-arm.Post
 next-arm-returns t c =
-    (next-not (c .before .before .expect .ensures) (c .before .stopped .ensures .1 (c .if1 .taken)), λ l. unexpected (c .before .before .expect .ensures) (c .before .stopped .ensures .1 (c .if1 .taken)))
+    (next-not (c .before .before .expect .ensures) (c .before .unread .ensures .1 (c .if1 .taken)), λ l. unexpected (c .before .before .expect .ensures) (c .before .unread .ensures .1 (c .if1 .taken)))
 
 next-arm-at-requires : (t : ℕ) → next-arm-lts.Need-at-requires (next-arm-calls t) (next-arm-at t) next-arm.Post
 next-arm-at-requires t c κs = search needs
@@ -631,12 +631,12 @@ next-arm-start-requires : (t : ℕ) → next-arm-lts.Need-start-requires (next-a
 next-arm-start-requires t c κs =
     let h : c .before .at .result .nesting ≡ c .before .before .before .before .before .before .args .s .nesting = ap (λ (q : State). q .nesting) (c .before .at .ensures) in search needs
 
-next-arm-stopped-requires-2 : (t : ℕ) → next-arm-lts.Need-stopped-requires-2 (next-arm-calls t) (next-arm-at t) next-arm.Post
-next-arm-stopped-requires-2 t c κs = search needs
+next-arm-unread-requires-2 : (t : ℕ) → next-arm-lts.Need-unread-requires-2 (next-arm-calls t) (next-arm-at t) next-arm.Post
+next-arm-unread-requires-2 t c κs = search needs
 
 next-arm-returns-2 : (t : ℕ) → next-arm-lts.Need-returns-2 (next-arm-calls t) (next-arm-at t) next-arm.Post
 next-arm-returns-2 t c =
-    (next-inner (c .before .before .before .before .before .before .before .expect .ensures) (c .before .before .before .before .before .before .stopped .ensures .0 (c .before .before .before .before .before .if1 .left)) (c .before .before .before .before .at .ensures) (c .before .before .start .ensures .0) (c .before .stopped2 .ensures .1 (c .if2 .taken)), λ l. spent (goes-on (expected-comes (c .before .before .before .before .before .before .before .expect .ensures) l (c .before .before .before .before .before .before .stopped .ensures .0 (c .before .before .before .before .before .if1 .left))) (nests (c .before .before .before .before .at .ensures))) (c .before .before .start .ensures .1) (omega arith))
+    (next-inner (c .before .before .before .before .before .before .before .expect .ensures) (c .before .before .before .before .before .before .unread .ensures .0 (c .before .before .before .before .before .if1 .left)) (c .before .before .before .before .at .ensures) (c .before .before .start .ensures .0) (c .before .unread2 .ensures .1 (c .if2 .taken)), λ l. spent (goes-on (expected-comes (c .before .before .before .before .before .before .before .expect .ensures) l (c .before .before .before .before .before .before .unread .ensures .0 (c .before .before .before .before .before .if1 .left))) (nests (c .before .before .before .before .at .ensures))) (c .before .before .start .ensures .1) (omega arith))
 
 next-arm-last-requires : (t : ℕ) → next-arm-lts.Need-last-requires (next-arm-calls t) (next-arm-at t) next-arm.Post
 next-arm-last-requires t c κs = search needs
@@ -646,7 +646,7 @@ next-arm-add-next-arm-requires t c κs = search needs
 
 next-arm-returns-3 : (t : ℕ) → next-arm-lts.Need-returns-3 (next-arm-calls t) (next-arm-at t) next-arm.Post
 next-arm-returns-3 t c =
-    (next-says (c .before .before .before .before .before .before .before .before .before .before .expect .ensures) (c .before .before .before .before .before .before .before .before .before .stopped .ensures .0 (c .before .before .before .before .before .before .before .before .if1 .left)) (c .before .before .before .before .before .before .before .at .ensures) (c .before .before .before .before .before .start .ensures .0) (c .before .before .before .before .stopped2 .ensures .0 (c .before .before .before .if2 .left)) (c .before .before .last .ensures) (c .add-next-arm .ensures), λ l. spent (goes-on (expected-comes (c .before .before .before .before .before .before .before .before .before .before .expect .ensures) l (c .before .before .before .before .before .before .before .before .before .stopped .ensures .0 (c .before .before .before .before .before .before .before .before .if1 .left))) (goes-on (nests (c .before .before .before .before .before .before .before .at .ensures)) (c .before .before .before .before .before .start .ensures .1 .done (c .before .before .before .before .stopped2 .ensures .0 (c .before .before .before .if2 .left))))) (gained-spends (c .add-next-arm .ensures)) (omega arith))
+    (next-says (c .before .before .before .before .before .before .before .before .before .before .expect .ensures) (c .before .before .before .before .before .before .before .before .before .unread .ensures .0 (c .before .before .before .before .before .before .before .before .if1 .left)) (c .before .before .before .before .before .before .before .at .ensures) (c .before .before .before .before .before .start .ensures .0) (c .before .before .before .before .unread2 .ensures .0 (c .before .before .before .if2 .left)) (c .before .before .last .ensures) (c .add-next-arm .ensures), λ l. spent (goes-on (expected-comes (c .before .before .before .before .before .before .before .before .before .before .expect .ensures) l (c .before .before .before .before .before .before .before .before .before .unread .ensures .0 (c .before .before .before .before .before .before .before .before .if1 .left))) (goes-on (nests (c .before .before .before .before .before .before .before .at .ensures)) (c .before .before .before .before .before .start .ensures .1 .done (c .before .before .before .before .unread2 .ensures .0 (c .before .before .before .if2 .left))))) (gained-spends (c .add-next-arm .ensures)) (omega arith))
 
 opening-enum-told : (t : ℕ) → opening-lts.Need-enum-told (opening-calls t) (opening-at t) opening.Post
 opening-enum-told t c = search needs
@@ -661,22 +661,22 @@ opening-returns t c =
 opening-take-requires : (t : ℕ) → opening-lts.Need-take-requires (opening-calls t) (opening-at t) opening.Post
 opening-take-requires t c κs = search needs
 
-opening-stopped-requires : (t : ℕ) → opening-lts.Need-stopped-requires (opening-calls t) (opening-at t) opening.Post
-opening-stopped-requires t c κs = search needs
+opening-unread-requires : (t : ℕ) → opening-lts.Need-unread-requires (opening-calls t) (opening-at t) opening.Post
+opening-unread-requires t c κs = search needs
 
 opening-returns-2 : (t : ℕ) → opening-lts.Need-returns-2 (opening-calls t) (opening-at t) opening.Post
 opening-returns-2 t c =
-    (opening-not (c .before .before .before .before .before .args .head) (not-plain (c .before .before .before .match .keys2)) (c .before .before .take .ensures) (c .before .stopped .ensures .1 (c .if1 .taken)), not-took (c .before .before .take .ensures) (c .before .stopped .ensures .1 (c .if1 .taken)))
+    (opening-not (c .before .before .before .before .before .args .head) (not-plain (c .before .before .before .match .keys2)) (c .before .before .take .ensures) (c .before .unread .ensures .1 (c .if1 .taken)), not-took (c .before .before .take .ensures) (c .before .unread .ensures .1 (c .if1 .taken)))
 
 opening-reducing-requires : (t : ℕ) → opening-lts.Need-reducing-requires (opening-calls t) (opening-at t) opening.Post
 opening-reducing-requires t c κs = search needs
 
-opening-stopped-requires-2 : (t : ℕ) → opening-lts.Need-stopped-requires-2 (opening-calls t) (opening-at t) opening.Post
-opening-stopped-requires-2 t c κs = search needs
+opening-unread-requires-2 : (t : ℕ) → opening-lts.Need-unread-requires-2 (opening-calls t) (opening-at t) opening.Post
+opening-unread-requires-2 t c κs = search needs
 
 opening-returns-3 : (t : ℕ) → opening-lts.Need-returns-3 (opening-calls t) (opening-at t) opening.Post
 opening-returns-3 t c =
-    (red-not (c .before .before .before .before .before .before .before .before .args .head) (not-plain (c .before .before .before .before .before .before .match .keys2)) (c .before .before .before .before .before .take .ensures) (c .before .before .before .before .stopped .ensures .0 (c .before .before .before .if1 .left)) (c .before .before .reducing .ensures .0) (c .before .stopped2 .ensures .1 (c .if2 .taken)), spent (counted-comes (c .before .before .before .before .before .take .ensures) (c .before .before .before .before .stopped .ensures .0 (c .before .before .before .if1 .left))) (c .before .before .reducing .ensures .1) (omega arith))
+    (red-not (c .before .before .before .before .before .before .before .before .args .head) (not-plain (c .before .before .before .before .before .before .match .keys2)) (c .before .before .before .before .before .take .ensures) (c .before .before .before .before .unread .ensures .0 (c .before .before .before .if1 .left)) (c .before .before .reducing .ensures .0) (c .before .unread2 .ensures .1 (c .if2 .taken)), spent (counted-comes (c .before .before .before .before .before .take .ensures) (c .before .before .before .before .unread .ensures .0 (c .before .before .before .if1 .left))) (c .before .before .reducing .ensures .1) (omega arith))
 
 opening-at-requires : (t : ℕ) → opening-lts.Need-at-requires (opening-calls t) (opening-at t) opening.Post
 opening-at-requires t c κs = search needs
@@ -686,31 +686,31 @@ opening-prefixed-requires t c κs = search needs
 
 opening-start-requires : (t : ℕ) → opening-lts.Need-start-requires (opening-calls t) (opening-at t) opening.Post
 opening-start-requires t c κs =
-    let p = c .before .before .before .before .before .before .before .before .take .ensures .done (c .before .before .before .before .before .before .before .stopped .ensures .0 (c .before .before .before .before .before .before .if1 .left)) in let h : c .before .before .at .result .nesting ≡ c .before .before .before .before .before .before .before .before .take .result .state .nesting = ap (λ (q : State). q .nesting) (c .before .before .at .ensures) in let g : c .before .before .before .before .before .before .before .before .take .result .state .nesting ≡ suc (c .before .before .before .before .before .before .before .before .before .before .before .args .s .nesting) = ap (λ (k : Counts). k .nesting) (p .counts) in let d : c .before .before .before .before .before .before .before .before .take .result .state .nesting ≤ 24 = p .deep in let m : topNo (c .before .prefixed .result) ≤ 7 = top-most (c .before .prefixed .result) in search needs
+    let p = c .before .before .before .before .before .before .before .before .take .ensures .done (c .before .before .before .before .before .before .before .unread .ensures .0 (c .before .before .before .before .before .before .if1 .left)) in let h : c .before .before .at .result .nesting ≡ c .before .before .before .before .before .before .before .before .take .result .state .nesting = ap (λ (q : State). q .nesting) (c .before .before .at .ensures) in let g : c .before .before .before .before .before .before .before .before .take .result .state .nesting ≡ suc (c .before .before .before .before .before .before .before .before .before .before .before .args .s .nesting) = ap (λ (k : Counts). k .nesting) (p .counts) in let d : c .before .before .before .before .before .before .before .before .take .result .state .nesting ≤ 24 = p .deep in let m : topNo (c .before .prefixed .result) ≤ 7 = top-most (c .before .prefixed .result) in search needs
 
-opening-stopped-requires-3 : (t : ℕ) → opening-lts.Need-stopped-requires-3 (opening-calls t) (opening-at t) opening.Post
-opening-stopped-requires-3 t c κs = search needs
+opening-unread-requires-3 : (t : ℕ) → opening-lts.Need-unread-requires-3 (opening-calls t) (opening-at t) opening.Post
+opening-unread-requires-3 t c κs = search needs
 
 opening-returns-4 : (t : ℕ) → opening-lts.Need-returns-4 (opening-calls t) (opening-at t) opening.Post
 opening-returns-4 t c =
-    (operand-not (c .before .before .before .before .before .before .before .before .before .before .before .before .before .before .args .head) (not-plain (c .before .before .before .before .before .before .before .before .before .before .before .before .match .keys2)) (c .before .before .before .before .before .before .before .before .before .before .before .take .ensures) (c .before .before .before .before .before .before .before .before .before .before .stopped .ensures .0 (c .before .before .before .before .before .before .before .before .before .if1 .left)) (c .before .before .before .before .before .before .before .before .reducing .ensures .0) (c .before .before .before .before .before .before .before .stopped2 .ensures .0 (c .before .before .before .before .before .before .if2 .left)) (c .before .before .before .before .prefixed .ensures) (c .before .before .before .before .before .at .ensures) (c .before .before .start .ensures .0) (c .before .stopped3 .ensures .1 (c .if3 .taken)), spent (goes-on (counted-comes (c .before .before .before .before .before .before .before .before .before .before .before .take .ensures) (c .before .before .before .before .before .before .before .before .before .before .stopped .ensures .0 (c .before .before .before .before .before .before .before .before .before .if1 .left))) (goes-on (c .before .before .before .before .before .before .before .before .reducing .ensures .1 .done (c .before .before .before .before .before .before .before .stopped2 .ensures .0 (c .before .before .before .before .before .before .if2 .left))) (nests (c .before .before .before .before .before .at .ensures)))) (c .before .before .start .ensures .1) (omega arith))
+    (operand-not (c .before .before .before .before .before .before .before .before .before .before .before .before .before .before .args .head) (not-plain (c .before .before .before .before .before .before .before .before .before .before .before .before .match .keys2)) (c .before .before .before .before .before .before .before .before .before .before .before .take .ensures) (c .before .before .before .before .before .before .before .before .before .before .unread .ensures .0 (c .before .before .before .before .before .before .before .before .before .if1 .left)) (c .before .before .before .before .before .before .before .before .reducing .ensures .0) (c .before .before .before .before .before .before .before .unread2 .ensures .0 (c .before .before .before .before .before .before .if2 .left)) (c .before .before .before .before .prefixed .ensures) (c .before .before .before .before .before .at .ensures) (c .before .before .start .ensures .0) (c .before .unread3 .ensures .1 (c .if3 .taken)), spent (goes-on (counted-comes (c .before .before .before .before .before .before .before .before .before .before .before .take .ensures) (c .before .before .before .before .before .before .before .before .before .before .unread .ensures .0 (c .before .before .before .before .before .before .before .before .before .if1 .left))) (goes-on (c .before .before .before .before .before .before .before .before .reducing .ensures .1 .done (c .before .before .before .before .before .before .before .unread2 .ensures .0 (c .before .before .before .before .before .before .if2 .left))) (nests (c .before .before .before .before .before .at .ensures)))) (c .before .before .start .ensures .1) (omega arith))
 
 opening-add-prefix-requires : (t : ℕ) → opening-lts.Need-add-prefix-requires (opening-calls t) (opening-at t) opening.Post
 opening-add-prefix-requires t c κs = search needs
 
 opening-returns-5 : (t : ℕ) → opening-lts.Need-returns-5 (opening-calls t) (opening-at t) opening.Post
 opening-returns-5 t c =
-    (opening-says (c .before .before .before .before .before .before .before .before .before .before .before .before .before .before .before .before .args .head) (not-plain (c .before .before .before .before .before .before .before .before .before .before .before .before .before .before .match .keys2)) (c .before .before .before .before .before .before .before .before .before .before .before .before .before .take .ensures) (c .before .before .before .before .before .before .before .before .before .before .before .before .stopped .ensures .0 (c .before .before .before .before .before .before .before .before .before .before .before .if1 .left)) (c .before .before .before .before .before .before .before .before .before .before .reducing .ensures .0) (c .before .before .before .before .before .before .before .before .before .stopped2 .ensures .0 (c .before .before .before .before .before .before .before .before .if2 .left)) (c .before .before .before .before .before .before .prefixed .ensures) (c .before .before .before .before .before .before .before .at .ensures) (c .before .before .before .before .start .ensures .0) (c .before .before .before .stopped3 .ensures .0 (c .before .before .if3 .left)) (c .add-prefix .ensures), spent (goes-on (counted-comes (c .before .before .before .before .before .before .before .before .before .before .before .before .before .take .ensures) (c .before .before .before .before .before .before .before .before .before .before .before .before .stopped .ensures .0 (c .before .before .before .before .before .before .before .before .before .before .before .if1 .left))) (goes-on (c .before .before .before .before .before .before .before .before .before .before .reducing .ensures .1 .done (c .before .before .before .before .before .before .before .before .before .stopped2 .ensures .0 (c .before .before .before .before .before .before .before .before .if2 .left))) (goes-on (nests (c .before .before .before .before .before .before .before .at .ensures)) (goes-on (c .before .before .before .before .start .ensures .1 .done (c .before .before .before .stopped3 .ensures .0 (c .before .before .if3 .left))) eases)))) (gained-spends (c .add-prefix .ensures)) (omega arith))
+    (opening-says (c .before .before .before .before .before .before .before .before .before .before .before .before .before .before .before .before .args .head) (not-plain (c .before .before .before .before .before .before .before .before .before .before .before .before .before .before .match .keys2)) (c .before .before .before .before .before .before .before .before .before .before .before .before .before .take .ensures) (c .before .before .before .before .before .before .before .before .before .before .before .before .unread .ensures .0 (c .before .before .before .before .before .before .before .before .before .before .before .if1 .left)) (c .before .before .before .before .before .before .before .before .before .before .reducing .ensures .0) (c .before .before .before .before .before .before .before .before .before .unread2 .ensures .0 (c .before .before .before .before .before .before .before .before .if2 .left)) (c .before .before .before .before .before .before .prefixed .ensures) (c .before .before .before .before .before .before .before .at .ensures) (c .before .before .before .before .start .ensures .0) (c .before .before .before .unread3 .ensures .0 (c .before .before .if3 .left)) (c .add-prefix .ensures), spent (goes-on (counted-comes (c .before .before .before .before .before .before .before .before .before .before .before .before .before .take .ensures) (c .before .before .before .before .before .before .before .before .before .before .before .before .unread .ensures .0 (c .before .before .before .before .before .before .before .before .before .before .before .if1 .left))) (goes-on (c .before .before .before .before .before .before .before .before .before .before .reducing .ensures .1 .done (c .before .before .before .before .before .before .before .before .before .unread2 .ensures .0 (c .before .before .before .before .before .before .before .before .if2 .left))) (goes-on (nests (c .before .before .before .before .before .before .before .at .ensures)) (goes-on (c .before .before .before .before .start .ensures .1 .done (c .before .before .before .unread3 .ensures .0 (c .before .before .if3 .left))) eases)))) (gained-spends (c .add-prefix .ensures)) (omega arith))
 
 operation-take-requires : (t : ℕ) → operation-lts.Need-take-requires (operation-calls t) (operation-at t) operation.Post
 operation-take-requires t c κs = search needs
 
-operation-stopped-requires : (t : ℕ) → operation-lts.Need-stopped-requires (operation-calls t) (operation-at t) operation.Post
-operation-stopped-requires t c κs = search needs
+operation-unread-requires : (t : ℕ) → operation-lts.Need-unread-requires (operation-calls t) (operation-at t) operation.Post
+operation-unread-requires t c κs = search needs
 
 operation-returns : (t : ℕ) → operation-lts.Need-returns (operation-calls t) (operation-at t) operation.Post
 operation-returns t c =
-    (operation-not (c .before .before .take .ensures) (c .before .before .before .before .args .rank) (c .before .stopped .ensures .1 (c .if1 .taken)), not-took (c .before .before .take .ensures) (c .before .stopped .ensures .1 (c .if1 .taken)))
+    (operation-not (c .before .before .take .ensures) (c .before .before .before .before .args .rank) (c .before .unread .ensures .1 (c .if1 .taken)), not-took (c .before .before .take .ensures) (c .before .unread .ensures .1 (c .if1 .taken)))
 
 operation-enum-told : (t : ℕ) → operation-lts.Need-enum-told (operation-calls t) (operation-at t) operation.Post
 operation-enum-told t c = search needs
@@ -723,21 +723,21 @@ operation-cut-requires t c κs = search needs
 
 operation-returns-2 : (t : ℕ) → operation-lts.Need-returns-2 (operation-calls t) (operation-at t) operation.Post
 operation-returns-2 t c =
-    (cut-operation (c .before .before .before .before .before .before .before .take .ensures) (c .before .before .before .before .before .before .stopped .ensures .0 (c .before .before .before .before .before .if1 .left)) (c .before .before .before .enum-told .given .1) (c .before .before .kind-of .ensures) (c .cut .ensures .0, c .cut .ensures .1), spent (counted-comes (c .before .before .before .before .before .before .before .take .ensures) (c .before .before .before .before .before .before .stopped .ensures .0 (c .before .before .before .before .before .if1 .left))) (c .cut .ensures .2) (omega arith))
+    (cut-operation (c .before .before .before .before .before .before .before .take .ensures) (c .before .before .before .before .before .before .unread .ensures .0 (c .before .before .before .before .before .if1 .left)) (c .before .before .before .enum-told .given .1) (c .before .before .kind-of .ensures) (c .cut .ensures .0, c .cut .ensures .1), spent (counted-comes (c .before .before .before .before .before .before .before .take .ensures) (c .before .before .before .before .before .before .unread .ensures .0 (c .before .before .before .before .before .if1 .left))) (c .cut .ensures .2) (omega arith))
 
 operation-operand-requires : (t : ℕ) → operation-lts.Need-operand-requires (operation-calls t) (operation-at t) operation.Post
 operation-operand-requires t c κs = search needs
 
 operation-start-requires : (t : ℕ) → operation-lts.Need-start-requires (operation-calls t) (operation-at t) operation.Post
 operation-start-requires t c κs =
-    let p = c .before .before .before .before .before .take .ensures .done (c .before .before .before .before .stopped .ensures .0 (c .before .before .before .if1 .left)) in let g : c .before .before .before .before .before .take .result .state .nesting ≡ c .before .before .before .before .before .before .before .args .s .nesting = ap (λ (k : Counts). k .nesting) (p .counts) in let m : topNo (c .before .operand .result) ≤ rankNo (c .before .before .before .before .before .before .before .args .rank) = subst (λ (v : Level). topNo v ≤ rankNo (c .before .before .before .before .before .before .before .args .rank)) (sym (c .before .operand .ensures)) (operand-tighter (c .before .before .before .before .before .before .before .args .rank)) in search needs
+    let p = c .before .before .before .before .before .take .ensures .done (c .before .before .before .before .unread .ensures .0 (c .before .before .before .if1 .left)) in let g : c .before .before .before .before .before .take .result .state .nesting ≡ c .before .before .before .before .before .before .before .args .s .nesting = ap (λ (k : Counts). k .nesting) (p .counts) in let m : topNo (c .before .operand .result) ≤ rankNo (c .before .before .before .before .before .before .before .args .rank) = subst (λ (v : Level). topNo v ≤ rankNo (c .before .before .before .before .before .before .before .args .rank)) (sym (c .before .operand .ensures)) (operand-tighter (c .before .before .before .before .before .before .before .args .rank)) in search needs
 
-operation-stopped-requires-2 : (t : ℕ) → operation-lts.Need-stopped-requires-2 (operation-calls t) (operation-at t) operation.Post
-operation-stopped-requires-2 t c κs = search needs
+operation-unread-requires-2 : (t : ℕ) → operation-lts.Need-unread-requires-2 (operation-calls t) (operation-at t) operation.Post
+operation-unread-requires-2 t c κs = search needs
 
 operation-returns-3 : (t : ℕ) → operation-lts.Need-returns-3 (operation-calls t) (operation-at t) operation.Post
 operation-returns-3 t c =
-    (right-not (c .before .before .before .before .before .before .before .before .take .ensures) (c .before .before .before .before .before .before .before .stopped .ensures .0 (c .before .before .before .before .before .before .if1 .left)) (c .before .before .before .before .before .before .before .before .before .before .args .rank) (not-cut (c .before .before .before .before .before .match .keys2)) (c .before .before .before .before .operand .ensures) (c .before .before .start .ensures .0) (c .before .stopped2 .ensures .1 (c .if2 .taken)), spent (counted-comes (c .before .before .before .before .before .before .before .before .take .ensures) (c .before .before .before .before .before .before .before .stopped .ensures .0 (c .before .before .before .before .before .before .if1 .left))) (c .before .before .start .ensures .1) (omega arith))
+    (right-not (c .before .before .before .before .before .before .before .before .take .ensures) (c .before .before .before .before .before .before .before .unread .ensures .0 (c .before .before .before .before .before .before .if1 .left)) (c .before .before .before .before .before .before .before .before .before .before .args .rank) (not-cut (c .before .before .before .before .before .match .keys2)) (c .before .before .before .before .operand .ensures) (c .before .before .start .ensures .0) (c .before .unread2 .ensures .1 (c .if2 .taken)), spent (counted-comes (c .before .before .before .before .before .before .before .before .take .ensures) (c .before .before .before .before .before .before .before .unread .ensures .0 (c .before .before .before .before .before .before .if1 .left))) (c .before .before .start .ensures .1) (omega arith))
 
 operation-last-requires : (t : ℕ) → operation-lts.Need-last-requires (operation-calls t) (operation-at t) operation.Post
 operation-last-requires t c κs = search needs
@@ -747,7 +747,7 @@ operation-add-binary-requires t c κs = search needs
 
 operation-returns-4 : (t : ℕ) → operation-lts.Need-returns-4 (operation-calls t) (operation-at t) operation.Post
 operation-returns-4 t c =
-    (operation-says (c .before .before .before .before .before .before .before .before .before .before .before .take .ensures) (c .before .before .before .before .before .before .before .before .before .before .stopped .ensures .0 (c .before .before .before .before .before .before .before .before .before .if1 .left)) (c .before .before .before .before .before .before .before .before .before .before .before .before .before .args .rank) (not-cut (c .before .before .before .before .before .before .before .before .match .keys2)) (c .before .before .before .before .before .before .before .operand .ensures) (c .before .before .before .before .before .start .ensures .0) (c .before .before .before .before .stopped2 .ensures .0 (c .before .before .before .if2 .left)) (c .before .before .last .ensures) (c .add-binary .ensures), spent (goes-on (counted-comes (c .before .before .before .before .before .before .before .before .before .before .before .take .ensures) (c .before .before .before .before .before .before .before .before .before .before .stopped .ensures .0 (c .before .before .before .before .before .before .before .before .before .if1 .left))) (c .before .before .before .before .before .start .ensures .1 .done (c .before .before .before .before .stopped2 .ensures .0 (c .before .before .before .if2 .left)))) (gained-spends (c .add-binary .ensures)) (omega arith))
+    (operation-says (c .before .before .before .before .before .before .before .before .before .before .before .take .ensures) (c .before .before .before .before .before .before .before .before .before .before .unread .ensures .0 (c .before .before .before .before .before .before .before .before .before .if1 .left)) (c .before .before .before .before .before .before .before .before .before .before .before .before .before .args .rank) (not-cut (c .before .before .before .before .before .before .before .before .match .keys2)) (c .before .before .before .before .before .before .before .operand .ensures) (c .before .before .before .before .before .start .ensures .0) (c .before .before .before .before .unread2 .ensures .0 (c .before .before .before .if2 .left)) (c .before .before .last .ensures) (c .add-binary .ensures), spent (goes-on (counted-comes (c .before .before .before .before .before .before .before .before .before .before .before .take .ensures) (c .before .before .before .before .before .before .before .before .before .before .unread .ensures .0 (c .before .before .before .before .before .before .before .before .before .if1 .left))) (c .before .before .before .before .before .start .ensures .1 .done (c .before .before .before .before .unread2 .ensures .0 (c .before .before .before .if2 .left)))) (gained-spends (c .add-binary .ensures)) (omega arith))
 
 reference-kind-of-requires : (t : ℕ) → reference-lts.Need-kind-of-requires (reference-calls t) (reference-at t) reference.Post
 reference-kind-of-requires t c κs = search needs
@@ -755,20 +755,20 @@ reference-kind-of-requires t c κs = search needs
 reference-take-requires : (t : ℕ) → reference-lts.Need-take-requires (reference-calls t) (reference-at t) reference.Post
 reference-take-requires t c κs = search needs
 
-reference-stopped-requires : (t : ℕ) → reference-lts.Need-stopped-requires (reference-calls t) (reference-at t) reference.Post
-reference-stopped-requires t c κs = search needs
+reference-unread-requires : (t : ℕ) → reference-lts.Need-unread-requires (reference-calls t) (reference-at t) reference.Post
+reference-unread-requires t c κs = search needs
 
 reference-returns : (t : ℕ) → reference-lts.Need-returns (reference-calls t) (reference-at t) reference.Post
 reference-returns t c =
-    (reference-not (c .before .before .before .before .before .before .args .name) (sym (c .before .before .before .before .kind-of .ensures) ∙ c .before .before .before .if1 .taken) (c .before .before .take .ensures) (c .before .stopped .ensures .1 (c .if2 .taken)), not-took (c .before .before .take .ensures) (c .before .stopped .ensures .1 (c .if2 .taken)))
+    (reference-not (c .before .before .before .before .before .before .args .name) (sym (c .before .before .before .before .kind-of .ensures) ∙ c .before .before .before .if1 .taken) (c .before .before .take .ensures) (c .before .unread .ensures .1 (c .if2 .taken)), not-took (c .before .before .take .ensures) (c .before .unread .ensures .1 (c .if2 .taken)))
 
 reference-subscript-requires : (t : ℕ) → reference-lts.Need-subscript-requires (reference-calls t) (reference-at t) reference.Post
 reference-subscript-requires t c κs =
-    let p = c .before .before .before .take .ensures .done (c .before .before .stopped .ensures .0 (c .before .if2 .left)) in let g : c .before .before .before .take .result .state .nesting ≡ suc (c .before .before .before .before .before .before .before .args .s .nesting) = ap (λ (k : Counts). k .nesting) (p .counts) in let d : c .before .before .before .take .result .state .nesting ≤ 24 = p .deep in search needs
+    let p = c .before .before .before .take .ensures .done (c .before .before .unread .ensures .0 (c .before .if2 .left)) in let g : c .before .before .before .take .result .state .nesting ≡ suc (c .before .before .before .before .before .before .before .args .s .nesting) = ap (λ (k : Counts). k .nesting) (p .counts) in let d : c .before .before .before .take .result .state .nesting ≤ 24 = p .deep in search needs
 
 reference-returns-2 : (t : ℕ) → reference-lts.Need-returns-2 (reference-calls t) (reference-at t) reference.Post
 reference-returns-2 t c =
-    (reference-says (c .before .before .before .before .before .before .before .before .args .name) (sym (c .before .before .before .before .before .before .kind-of .ensures) ∙ c .before .before .before .before .before .if1 .taken) (c .before .before .before .before .take .ensures) (c .before .before .before .stopped .ensures .0 (c .before .before .if2 .left)) (c .subscript .ensures .0), spent (took-comes (c .before .before .before .before .take .ensures) (c .before .before .before .stopped .ensures .0 (c .before .before .if2 .left))) (c .subscript .ensures .1) (omega arith))
+    (reference-says (c .before .before .before .before .before .before .before .before .args .name) (sym (c .before .before .before .before .before .before .kind-of .ensures) ∙ c .before .before .before .before .before .if1 .taken) (c .before .before .before .before .take .ensures) (c .before .before .before .unread .ensures .0 (c .before .before .if2 .left)) (c .subscript .ensures .0), spent (took-comes (c .before .before .before .before .take .ensures) (c .before .before .before .unread .ensures .0 (c .before .before .if2 .left))) (c .subscript .ensures .1) (omega arith))
 
 reference-add-whole-requires : (t : ℕ) → reference-lts.Need-add-whole-requires (reference-calls t) (reference-at t) reference.Post
 reference-add-whole-requires t c κs = search needs
@@ -784,12 +784,12 @@ rest-tail-requires : (t : ℕ) → rest-lts.Need-tail-requires (rest-calls t) (r
 rest-tail-requires t c κs =
     let h : rankNo (c .before .before .before .before .args .rank) < topNo (c .before .before .before .before .args .level) = ltb-true _ _ (sym (c .before .before .within .ensures) ∙ c .before .if1 .taken) in let m : topNo (c .before .before .before .before .args .level) ≤ 7 = top-most (c .before .before .before .before .args .level) in search needs
 
-rest-stopped-requires : (t : ℕ) → rest-lts.Need-stopped-requires (rest-calls t) (rest-at t) rest.Post
-rest-stopped-requires t c κs = search needs
+rest-unread-requires : (t : ℕ) → rest-lts.Need-unread-requires (rest-calls t) (rest-at t) rest.Post
+rest-unread-requires t c κs = search needs
 
 rest-returns : (t : ℕ) → rest-lts.Need-returns (rest-calls t) (rest-at t) rest.Post
 rest-returns t c =
-    (rest-not (c .before .before .before .before .before .before .before .args .rank) (c .before .before .before .before .before .before .before .args .level) (sym (c .before .before .before .before .before .within .ensures) ∙ c .before .before .before .before .if1 .taken) (c .before .before .tail .ensures .0) (c .before .stopped .ensures .1 (c .if2 .taken)), c .before .before .tail .ensures .1)
+    (rest-not (c .before .before .before .before .before .before .before .args .rank) (c .before .before .before .before .before .before .before .args .level) (sym (c .before .before .before .before .before .within .ensures) ∙ c .before .before .before .before .if1 .taken) (c .before .before .tail .ensures .0) (c .before .unread .ensures .1 (c .if2 .taken)), c .before .before .tail .ensures .1)
 
 rest-at-requires : (t : ℕ) → rest-lts.Need-at-requires (rest-calls t) (rest-at t) rest.Post
 rest-at-requires t c κs = search needs
@@ -803,7 +803,7 @@ rest-rest-requires t c κs =
 
 rest-returns-2 : (t : ℕ) → rest-lts.Need-returns-2 (rest-calls t) (rest-at t) rest.Post
 rest-returns-2 t c =
-    (rest-says (c .before .before .before .before .before .before .before .before .before .before .before .args .rank) (c .before .before .before .before .before .before .before .before .before .before .before .args .level) (sym (c .before .before .before .before .before .before .before .before .before .within .ensures) ∙ c .before .before .before .before .before .before .before .before .if1 .taken) (c .before .before .before .before .before .before .tail .ensures .0) (c .before .before .before .before .before .stopped .ensures .0 (c .before .before .before .before .if2 .left)) (c .before .before .next .ensures) (c .before .before .before .at .ensures) (c .rest .ensures .0), spent (goes-on (c .before .before .before .before .before .before .tail .ensures .1 .done (c .before .before .before .before .before .stopped .ensures .0 (c .before .before .before .before .if2 .left))) (nests (c .before .before .before .at .ensures))) (c .rest .ensures .1) (omega arith))
+    (rest-says (c .before .before .before .before .before .before .before .before .before .before .before .args .rank) (c .before .before .before .before .before .before .before .before .before .before .before .args .level) (sym (c .before .before .before .before .before .before .before .before .before .within .ensures) ∙ c .before .before .before .before .before .before .before .before .if1 .taken) (c .before .before .before .before .before .before .tail .ensures .0) (c .before .before .before .before .before .unread .ensures .0 (c .before .before .before .before .if2 .left)) (c .before .before .next .ensures) (c .before .before .before .at .ensures) (c .rest .ensures .0), spent (goes-on (c .before .before .before .before .before .before .tail .ensures .1 .done (c .before .before .before .before .before .unread .ensures .0 (c .before .before .before .before .if2 .left))) (nests (c .before .before .before .at .ensures))) (c .rest .ensures .1) (omega arith))
 
 rest-stay-requires : (t : ℕ) → rest-lts.Need-stay-requires (rest-calls t) (rest-at t) rest.Post
 rest-stay-requires t c κs = search needs
@@ -825,22 +825,22 @@ second-returns t c =
 second-inside-requires : (t : ℕ) → second-lts.Need-inside-requires (second-calls t) (second-at t) second.Post
 second-inside-requires t c κs = search needs
 
-second-stopped-requires : (t : ℕ) → second-lts.Need-stopped-requires (second-calls t) (second-at t) second.Post
-second-stopped-requires t c κs = search needs
+second-unread-requires : (t : ℕ) → second-lts.Need-unread-requires (second-calls t) (second-at t) second.Post
+second-unread-requires t c κs = search needs
 
 second-returns-2 : (t : ℕ) → second-lts.Need-returns-2 (second-calls t) (second-at t) second.Post
 second-returns-2 t c =
-    (second-not (c .before .before .before .before .before .before .before .args .name) (c .before .before .before .before .before .ends-ahead .ensures) (c .before .before .before .before .if1 .left) (c .before .before .inside .ensures .0) (c .before .stopped .ensures .1 (c .if2 .taken)), spent begins (c .before .before .inside .ensures .1) (omega arith))
+    (second-not (c .before .before .before .before .before .before .before .args .name) (c .before .before .before .before .before .ends-ahead .ensures) (c .before .before .before .before .if1 .left) (c .before .before .inside .ensures .0) (c .before .unread .ensures .1 (c .if2 .taken)), spent begins (c .before .before .inside .ensures .1) (omega arith))
 
 second-expect-requires : (t : ℕ) → second-lts.Need-expect-requires (second-calls t) (second-at t) second.Post
 second-expect-requires t c κs = search needs
 
-second-stopped-requires-2 : (t : ℕ) → second-lts.Need-stopped-requires-2 (second-calls t) (second-at t) second.Post
-second-stopped-requires-2 t c κs = search needs
+second-unread-requires-2 : (t : ℕ) → second-lts.Need-unread-requires-2 (second-calls t) (second-at t) second.Post
+second-unread-requires-2 t c κs = search needs
 
 second-returns-3 : (t : ℕ) → second-lts.Need-returns-3 (second-calls t) (second-at t) second.Post
 second-returns-3 t c =
-    (end-not (c .before .before .before .before .before .before .before .before .before .before .args .name) (c .before .before .before .before .before .before .before .before .ends-ahead .ensures) (c .before .before .before .before .before .before .before .if1 .left) (c .before .before .before .before .before .inside .ensures .0) (c .before .before .before .before .stopped .ensures .0 (c .before .before .before .if2 .left)) (c .before .before .expect .ensures) (c .before .stopped2 .ensures .1 (c .if3 .taken)), unexpected (c .before .before .expect .ensures) (c .before .stopped2 .ensures .1 (c .if3 .taken)))
+    (end-not (c .before .before .before .before .before .before .before .before .before .before .args .name) (c .before .before .before .before .before .before .before .before .ends-ahead .ensures) (c .before .before .before .before .before .before .before .if1 .left) (c .before .before .before .before .before .inside .ensures .0) (c .before .before .before .before .unread .ensures .0 (c .before .before .before .if2 .left)) (c .before .before .expect .ensures) (c .before .unread2 .ensures .1 (c .if3 .taken)), unexpected (c .before .before .expect .ensures) (c .before .unread2 .ensures .1 (c .if3 .taken)))
 
 second-last-requires : (t : ℕ) → second-lts.Need-last-requires (second-calls t) (second-at t) second.Post
 second-last-requires t c κs = search needs
@@ -853,7 +853,7 @@ second-add-two-requires t c κs = search needs
 
 second-returns-4 : (t : ℕ) → second-lts.Need-returns-4 (second-calls t) (second-at t) second.Post
 second-returns-4 t c =
-    (second-says (c .before .before .before .before .before .before .before .before .before .before .before .before .before .before .args .name) (c .before .before .before .before .before .before .before .before .before .before .before .before .ends-ahead .ensures) (c .before .before .before .before .before .before .before .before .before .before .before .if1 .left) (c .before .before .before .before .before .before .before .before .before .inside .ensures .0) (c .before .before .before .before .before .before .before .before .stopped .ensures .0 (c .before .before .before .before .before .before .before .if2 .left)) (c .before .before .before .before .before .before .expect .ensures) (c .before .before .before .before .before .stopped2 .ensures .0 (c .before .before .before .before .if3 .left)) (c .before .before .before .last .ensures) (c .before .before .last2 .ensures) (c .add-two .ensures), spent (goes-on (c .before .before .before .before .before .before .before .before .before .inside .ensures .1 .done (c .before .before .before .before .before .before .before .before .stopped .ensures .0 (c .before .before .before .before .before .before .before .if2 .left))) (expected-comes (c .before .before .before .before .before .before .expect .ensures) (omega arith) (c .before .before .before .before .before .stopped2 .ensures .0 (c .before .before .before .before .if3 .left)))) (adds-spends (c .add-two .ensures)) (omega arith))
+    (second-says (c .before .before .before .before .before .before .before .before .before .before .before .before .before .before .args .name) (c .before .before .before .before .before .before .before .before .before .before .before .before .ends-ahead .ensures) (c .before .before .before .before .before .before .before .before .before .before .before .if1 .left) (c .before .before .before .before .before .before .before .before .before .inside .ensures .0) (c .before .before .before .before .before .before .before .before .unread .ensures .0 (c .before .before .before .before .before .before .before .if2 .left)) (c .before .before .before .before .before .before .expect .ensures) (c .before .before .before .before .before .unread2 .ensures .0 (c .before .before .before .before .if3 .left)) (c .before .before .before .last .ensures) (c .before .before .last2 .ensures) (c .add-two .ensures), spent (goes-on (c .before .before .before .before .before .before .before .before .before .inside .ensures .1 .done (c .before .before .before .before .before .before .before .before .unread .ensures .0 (c .before .before .before .before .before .before .before .if2 .left))) (expected-comes (c .before .before .before .before .before .before .expect .ensures) (omega arith) (c .before .before .before .before .before .unread2 .ensures .0 (c .before .before .before .before .if3 .left)))) (adds-spends (c .add-two .ensures)) (omega arith))
 
 single-kind-of-requires : (t : ℕ) → single-lts.Need-kind-of-requires (single-calls t) (single-at t) single.Post
 single-kind-of-requires t c κs = search needs
@@ -861,20 +861,20 @@ single-kind-of-requires t c κs = search needs
 single-take-requires : (t : ℕ) → single-lts.Need-take-requires (single-calls t) (single-at t) single.Post
 single-take-requires t c κs = search needs
 
-single-stopped-requires : (t : ℕ) → single-lts.Need-stopped-requires (single-calls t) (single-at t) single.Post
-single-stopped-requires t c κs = search needs
+single-unread-requires : (t : ℕ) → single-lts.Need-unread-requires (single-calls t) (single-at t) single.Post
+single-unread-requires t c κs = search needs
 
 single-returns : (t : ℕ) → single-lts.Need-returns (single-calls t) (single-at t) single.Post
 single-returns t c =
-    (single-not (c .before .before .before .before .before .before .args .name) (sym (c .before .before .before .before .kind-of .ensures) ∙ c .before .before .before .if1 .taken) (c .before .before .take .ensures) (c .before .stopped .ensures .1 (c .if2 .taken)), not-took (c .before .before .take .ensures) (c .before .stopped .ensures .1 (c .if2 .taken)))
+    (single-not (c .before .before .before .before .before .before .args .name) (sym (c .before .before .before .before .kind-of .ensures) ∙ c .before .before .before .if1 .taken) (c .before .before .take .ensures) (c .before .unread .ensures .1 (c .if2 .taken)), not-took (c .before .before .take .ensures) (c .before .unread .ensures .1 (c .if2 .taken)))
 
 single-second-requires : (t : ℕ) → single-lts.Need-second-requires (single-calls t) (single-at t) single.Post
 single-second-requires t c κs =
-    let p = c .before .before .before .take .ensures .done (c .before .before .stopped .ensures .0 (c .before .if2 .left)) in let g : c .before .before .before .take .result .state .nesting ≡ suc (c .before .before .before .before .before .before .before .args .s .nesting) = ap (λ (k : Counts). k .nesting) (p .counts) in let d : c .before .before .before .take .result .state .nesting ≤ 24 = p .deep in search needs
+    let p = c .before .before .before .take .ensures .done (c .before .before .unread .ensures .0 (c .before .if2 .left)) in let g : c .before .before .before .take .result .state .nesting ≡ suc (c .before .before .before .before .before .before .before .args .s .nesting) = ap (λ (k : Counts). k .nesting) (p .counts) in let d : c .before .before .before .take .result .state .nesting ≤ 24 = p .deep in search needs
 
 single-returns-2 : (t : ℕ) → single-lts.Need-returns-2 (single-calls t) (single-at t) single.Post
 single-returns-2 t c =
-    (single-says (c .before .before .before .before .before .before .before .before .args .name) (sym (c .before .before .before .before .before .before .kind-of .ensures) ∙ c .before .before .before .before .before .if1 .taken) (c .before .before .before .before .take .ensures) (c .before .before .before .stopped .ensures .0 (c .before .before .if2 .left)) (c .second .ensures .0), spent (took-comes (c .before .before .before .before .take .ensures) (c .before .before .before .stopped .ensures .0 (c .before .before .if2 .left))) (c .second .ensures .1) (omega arith))
+    (single-says (c .before .before .before .before .before .before .before .before .args .name) (sym (c .before .before .before .before .before .before .kind-of .ensures) ∙ c .before .before .before .before .before .if1 .taken) (c .before .before .before .before .take .ensures) (c .before .before .before .unread .ensures .0 (c .before .before .if2 .left)) (c .second .ensures .0), spent (took-comes (c .before .before .before .before .take .ensures) (c .before .before .before .unread .ensures .0 (c .before .before .if2 .left))) (c .second .ensures .1) (omega arith))
 
 single-last-requires : (t : ℕ) → single-lts.Need-last-requires (single-calls t) (single-at t) single.Post
 single-last-requires t c κs = search needs
@@ -896,12 +896,12 @@ start-opening-requires : (t : ℕ) → start-lts.Need-opening-requires (start-ca
 start-opening-requires t c κs =
     search needs
 
-start-stopped-requires : (t : ℕ) → start-lts.Need-stopped-requires (start-calls t) (start-at t) start.Post
-start-stopped-requires t c κs = search needs
+start-unread-requires : (t : ℕ) → start-lts.Need-unread-requires (start-calls t) (start-at t) start.Post
+start-unread-requires t c κs = search needs
 
 start-returns : (t : ℕ) → start-lts.Need-returns (start-calls t) (start-at t) start.Post
 start-returns t c =
-    (start-not (c .before .before .before .before .before .before .before .args .level) (c .before .before .before .before .before .kind-of .ensures) (c .before .before .before .before .head-of .ensures) (c .before .before .opening .ensures .0) (c .before .stopped .ensures .1 (c .if1 .taken)), c .before .before .opening .ensures .1)
+    (start-not (c .before .before .before .before .before .before .before .args .level) (c .before .before .before .before .before .kind-of .ensures) (c .before .before .before .before .head-of .ensures) (c .before .before .opening .ensures .0) (c .before .unread .ensures .1 (c .if1 .taken)), c .before .before .opening .ensures .1)
 
 start-at-requires : (t : ℕ) → start-lts.Need-at-requires (start-calls t) (start-at t) start.Post
 start-at-requires t c κs = search needs
@@ -915,7 +915,7 @@ start-rest-requires t c κs =
 
 start-returns-2 : (t : ℕ) → start-lts.Need-returns-2 (start-calls t) (start-at t) start.Post
 start-returns-2 t c =
-    (start-says (c .before .before .before .before .before .before .before .before .before .before .before .args .level) (c .before .before .before .before .before .before .before .before .before .kind-of .ensures) (c .before .before .before .before .before .before .before .before .head-of .ensures) (c .before .before .before .before .before .before .opening .ensures .0) (c .before .before .before .before .before .stopped .ensures .0 (c .before .before .before .before .if1 .left)) (c .before .before .after .ensures) (c .before .before .before .at .ensures) (c .rest .ensures .0), spent (goes-on (c .before .before .before .before .before .before .opening .ensures .1 .done (c .before .before .before .before .before .stopped .ensures .0 (c .before .before .before .before .if1 .left))) (nests (c .before .before .before .at .ensures))) (c .rest .ensures .1) (omega arith))
+    (start-says (c .before .before .before .before .before .before .before .before .before .before .before .args .level) (c .before .before .before .before .before .before .before .before .before .kind-of .ensures) (c .before .before .before .before .before .before .before .before .head-of .ensures) (c .before .before .before .before .before .before .opening .ensures .0) (c .before .before .before .before .before .unread .ensures .0 (c .before .before .before .before .if1 .left)) (c .before .before .after .ensures) (c .before .before .before .at .ensures) (c .rest .ensures .0), spent (goes-on (c .before .before .before .before .before .before .opening .ensures .1 .done (c .before .before .before .before .before .unread .ensures .0 (c .before .before .before .before .if1 .left))) (nests (c .before .before .before .at .ensures))) (c .rest .ensures .1) (omega arith))
 
 subscript-ends-ahead-requires : (t : ℕ) → subscript-lts.Need-ends-ahead-requires (subscript-calls t) (subscript-at t) subscript.Post
 subscript-ends-ahead-requires t c κs = search needs
@@ -930,12 +930,12 @@ subscript-returns t c =
 subscript-inside-requires : (t : ℕ) → subscript-lts.Need-inside-requires (subscript-calls t) (subscript-at t) subscript.Post
 subscript-inside-requires t c κs = search needs
 
-subscript-stopped-requires : (t : ℕ) → subscript-lts.Need-stopped-requires (subscript-calls t) (subscript-at t) subscript.Post
-subscript-stopped-requires t c κs = search needs
+subscript-unread-requires : (t : ℕ) → subscript-lts.Need-unread-requires (subscript-calls t) (subscript-at t) subscript.Post
+subscript-unread-requires t c κs = search needs
 
 subscript-returns-2 : (t : ℕ) → subscript-lts.Need-returns-2 (subscript-calls t) (subscript-at t) subscript.Post
 subscript-returns-2 t c =
-    (subscript-not (c .before .before .before .before .before .before .before .args .name) (c .before .before .before .before .before .ends-ahead .ensures) (c .before .before .before .before .if1 .left) (c .before .before .inside .ensures .0) (c .before .stopped .ensures .1 (c .if2 .taken)), spent begins (c .before .before .inside .ensures .1) (omega arith))
+    (subscript-not (c .before .before .before .before .before .before .before .args .name) (c .before .before .before .before .before .ends-ahead .ensures) (c .before .before .before .before .if1 .left) (c .before .before .inside .ensures .0) (c .before .unread .ensures .1 (c .if2 .taken)), spent begins (c .before .before .inside .ensures .1) (omega arith))
 
 subscript-kind-of-requires : (t : ℕ) → subscript-lts.Need-kind-of-requires (subscript-calls t) (subscript-at t) subscript.Post
 subscript-kind-of-requires t c κs = search needs
@@ -943,12 +943,12 @@ subscript-kind-of-requires t c κs = search needs
 subscript-take-requires : (t : ℕ) → subscript-lts.Need-take-requires (subscript-calls t) (subscript-at t) subscript.Post
 subscript-take-requires t c κs = search needs
 
-subscript-stopped-requires-2 : (t : ℕ) → subscript-lts.Need-stopped-requires-2 (subscript-calls t) (subscript-at t) subscript.Post
-subscript-stopped-requires-2 t c κs = search needs
+subscript-unread-requires-2 : (t : ℕ) → subscript-lts.Need-unread-requires-2 (subscript-calls t) (subscript-at t) subscript.Post
+subscript-unread-requires-2 t c κs = search needs
 
 subscript-returns-3 : (t : ℕ) → subscript-lts.Need-returns-3 (subscript-calls t) (subscript-at t) subscript.Post
 subscript-returns-3 t c =
-    (comma-not (c .before .before .before .before .before .before .before .before .before .before .before .before .args .name) (c .before .before .before .before .before .before .before .before .before .before .ends-ahead .ensures) (c .before .before .before .before .before .before .before .before .before .if1 .left) (c .before .before .before .before .before .before .before .inside .ensures .0) (c .before .before .before .before .before .before .stopped .ensures .0 (c .before .before .before .before .before .if2 .left)) (sym (c .before .before .before .before .kind-of .ensures) ∙ c .before .before .before .if3 .taken) (c .before .before .take .ensures) (c .before .stopped2 .ensures .1 (c .if4 .taken)), not-took (c .before .before .take .ensures) (c .before .stopped2 .ensures .1 (c .if4 .taken)))
+    (comma-not (c .before .before .before .before .before .before .before .before .before .before .before .before .args .name) (c .before .before .before .before .before .before .before .before .before .before .ends-ahead .ensures) (c .before .before .before .before .before .before .before .before .before .if1 .left) (c .before .before .before .before .before .before .before .inside .ensures .0) (c .before .before .before .before .before .before .unread .ensures .0 (c .before .before .before .before .before .if2 .left)) (sym (c .before .before .before .before .kind-of .ensures) ∙ c .before .before .before .if3 .taken) (c .before .before .take .ensures) (c .before .unread2 .ensures .1 (c .if4 .taken)), not-took (c .before .before .take .ensures) (c .before .unread2 .ensures .1 (c .if4 .taken)))
 
 subscript-at-requires : (t : ℕ) → subscript-lts.Need-at-requires (subscript-calls t) (subscript-at t) subscript.Post
 subscript-at-requires t c κs = search needs
@@ -959,17 +959,17 @@ subscript-second-requires t c κs =
 
 subscript-returns-4 : (t : ℕ) → subscript-lts.Need-returns-4 (subscript-calls t) (subscript-at t) subscript.Post
 subscript-returns-4 t c =
-    (comma-says (c .before .before .before .before .before .before .before .before .before .before .before .before .before .before .before .args .name) (c .before .before .before .before .before .before .before .before .before .before .before .before .before .ends-ahead .ensures) (c .before .before .before .before .before .before .before .before .before .before .before .before .if1 .left) (c .before .before .before .before .before .before .before .before .before .before .inside .ensures .0) (c .before .before .before .before .before .before .before .before .before .stopped .ensures .0 (c .before .before .before .before .before .before .before .before .if2 .left)) (sym (c .before .before .before .before .before .before .before .kind-of .ensures) ∙ c .before .before .before .before .before .before .if3 .taken) (c .before .before .before .before .before .take .ensures) (c .before .before .before .before .stopped2 .ensures .0 (c .before .before .before .if4 .left)) (c .before .before .at .ensures) (c .second .ensures .0), spent (goes-on (c .before .before .before .before .before .before .before .before .before .before .inside .ensures .1 .done (c .before .before .before .before .before .before .before .before .before .stopped .ensures .0 (c .before .before .before .before .before .before .before .before .if2 .left))) (goes-on (took-comes (c .before .before .before .before .before .take .ensures) (c .before .before .before .before .stopped2 .ensures .0 (c .before .before .before .if4 .left))) (nests (c .before .before .at .ensures)))) (c .second .ensures .1) (omega arith))
+    (comma-says (c .before .before .before .before .before .before .before .before .before .before .before .before .before .before .before .args .name) (c .before .before .before .before .before .before .before .before .before .before .before .before .before .ends-ahead .ensures) (c .before .before .before .before .before .before .before .before .before .before .before .before .if1 .left) (c .before .before .before .before .before .before .before .before .before .before .inside .ensures .0) (c .before .before .before .before .before .before .before .before .before .unread .ensures .0 (c .before .before .before .before .before .before .before .before .if2 .left)) (sym (c .before .before .before .before .before .before .before .kind-of .ensures) ∙ c .before .before .before .before .before .before .if3 .taken) (c .before .before .before .before .before .take .ensures) (c .before .before .before .before .unread2 .ensures .0 (c .before .before .before .if4 .left)) (c .before .before .at .ensures) (c .second .ensures .0), spent (goes-on (c .before .before .before .before .before .before .before .before .before .before .inside .ensures .1 .done (c .before .before .before .before .before .before .before .before .before .unread .ensures .0 (c .before .before .before .before .before .before .before .before .if2 .left))) (goes-on (took-comes (c .before .before .before .before .before .take .ensures) (c .before .before .before .before .unread2 .ensures .0 (c .before .before .before .if4 .left))) (nests (c .before .before .at .ensures)))) (c .second .ensures .1) (omega arith))
 
 subscript-expect-requires : (t : ℕ) → subscript-lts.Need-expect-requires (subscript-calls t) (subscript-at t) subscript.Post
 subscript-expect-requires t c κs = search needs
 
-subscript-stopped-requires-3 : (t : ℕ) → subscript-lts.Need-stopped-requires-3 (subscript-calls t) (subscript-at t) subscript.Post
-subscript-stopped-requires-3 t c κs = search needs
+subscript-unread-requires-3 : (t : ℕ) → subscript-lts.Need-unread-requires-3 (subscript-calls t) (subscript-at t) subscript.Post
+subscript-unread-requires-3 t c κs = search needs
 
 subscript-returns-5 : (t : ℕ) → subscript-lts.Need-returns-5 (subscript-calls t) (subscript-at t) subscript.Post
 subscript-returns-5 t c =
-    (close-not (c .before .before .before .before .before .before .before .before .before .before .before .before .args .name) (c .before .before .before .before .before .before .before .before .before .before .ends-ahead .ensures) (c .before .before .before .before .before .before .before .before .before .if1 .left) (c .before .before .before .before .before .before .before .inside .ensures .0) (c .before .before .before .before .before .before .stopped .ensures .0 (c .before .before .before .before .before .if2 .left)) (λ e. c .before .before .before .if3 .left (c .before .before .before .before .kind-of .ensures ∙ e)) (c .before .before .expect .ensures) (c .before .stopped3 .ensures .1 (c .if5 .taken)), unexpected (c .before .before .expect .ensures) (c .before .stopped3 .ensures .1 (c .if5 .taken)))
+    (close-not (c .before .before .before .before .before .before .before .before .before .before .before .before .args .name) (c .before .before .before .before .before .before .before .before .before .before .ends-ahead .ensures) (c .before .before .before .before .before .before .before .before .before .if1 .left) (c .before .before .before .before .before .before .before .inside .ensures .0) (c .before .before .before .before .before .before .unread .ensures .0 (c .before .before .before .before .before .if2 .left)) (λ e. c .before .before .before .if3 .left (c .before .before .before .before .kind-of .ensures ∙ e)) (c .before .before .expect .ensures) (c .before .unread3 .ensures .1 (c .if5 .taken)), unexpected (c .before .before .expect .ensures) (c .before .unread3 .ensures .1 (c .if5 .taken)))
 
 subscript-last-requires : (t : ℕ) → subscript-lts.Need-last-requires (subscript-calls t) (subscript-at t) subscript.Post
 subscript-last-requires t c κs = search needs
@@ -983,7 +983,7 @@ subscript-single-requires t c κs =
 
 subscript-returns-6 : (t : ℕ) → subscript-lts.Need-returns-6 (subscript-calls t) (subscript-at t) subscript.Post
 subscript-returns-6 t c =
-    (close-says (c .before .before .before .before .before .before .before .before .before .before .before .before .before .before .before .before .args .name) (c .before .before .before .before .before .before .before .before .before .before .before .before .before .before .ends-ahead .ensures) (c .before .before .before .before .before .before .before .before .before .before .before .before .before .if1 .left) (c .before .before .before .before .before .before .before .before .before .before .before .inside .ensures .0) (c .before .before .before .before .before .before .before .before .before .before .stopped .ensures .0 (c .before .before .before .before .before .before .before .before .before .if2 .left)) (λ e. c .before .before .before .before .before .before .before .if3 .left (c .before .before .before .before .before .before .before .before .kind-of .ensures ∙ e)) (c .before .before .before .before .before .before .expect .ensures) (c .before .before .before .before .before .stopped3 .ensures .0 (c .before .before .before .before .if5 .left)) (c .before .before .before .last .ensures) (c .before .before .at2 .ensures) (c .single .ensures .0), spent (goes-on (c .before .before .before .before .before .before .before .before .before .before .before .inside .ensures .1 .done (c .before .before .before .before .before .before .before .before .before .before .stopped .ensures .0 (c .before .before .before .before .before .before .before .before .before .if2 .left))) (goes-on (expected-comes (c .before .before .before .before .before .before .expect .ensures) (omega arith) (c .before .before .before .before .before .stopped3 .ensures .0 (c .before .before .before .before .if5 .left))) (nests (c .before .before .at2 .ensures)))) (c .single .ensures .1) (omega arith))
+    (close-says (c .before .before .before .before .before .before .before .before .before .before .before .before .before .before .before .before .args .name) (c .before .before .before .before .before .before .before .before .before .before .before .before .before .before .ends-ahead .ensures) (c .before .before .before .before .before .before .before .before .before .before .before .before .before .if1 .left) (c .before .before .before .before .before .before .before .before .before .before .before .inside .ensures .0) (c .before .before .before .before .before .before .before .before .before .before .unread .ensures .0 (c .before .before .before .before .before .before .before .before .before .if2 .left)) (λ e. c .before .before .before .before .before .before .before .if3 .left (c .before .before .before .before .before .before .before .before .kind-of .ensures ∙ e)) (c .before .before .before .before .before .before .expect .ensures) (c .before .before .before .before .before .unread3 .ensures .0 (c .before .before .before .before .if5 .left)) (c .before .before .before .last .ensures) (c .before .before .at2 .ensures) (c .single .ensures .0), spent (goes-on (c .before .before .before .before .before .before .before .before .before .before .before .inside .ensures .1 .done (c .before .before .before .before .before .before .before .before .before .before .unread .ensures .0 (c .before .before .before .before .before .before .before .before .before .if2 .left))) (goes-on (expected-comes (c .before .before .before .before .before .before .expect .ensures) (omega arith) (c .before .before .before .before .before .unread3 .ensures .0 (c .before .before .before .before .if5 .left))) (nests (c .before .before .at2 .ensures)))) (c .single .ensures .1) (omega arith))
 
 abbrev tail-Inv-loop : tail-lts.InvT-loop
 tail-Inv-loop s rank text work₀ state₀ next₀ left₀ work state next left = Tails rank text next₀ s work₀ next state work left × (Seen text next₀ → Comes text 0 0 s next state)
@@ -1005,12 +1005,12 @@ tail-operation-requires : (t : ℕ) → tail-lts.Need-operation-requires (tail-c
 tail-operation-requires t c κs =
     let h : c .before .at .result .nesting ≡ c .before .before .before .before .before .before .before .args .s .nesting = ap (λ (q : State). q .nesting) (c .before .at .ensures) in search needs
 
-tail-stopped-requires : (t : ℕ) → tail-lts.Need-stopped-requires (tail-calls t) (tail-at t) tail.Post tail-Inv-loop tail-μ-loop
-tail-stopped-requires t c κs = search needs
+tail-unread-requires : (t : ℕ) → tail-lts.Need-unread-requires (tail-calls t) (tail-at t) tail.Post tail-Inv-loop tail-μ-loop
+tail-unread-requires t c κs = search needs
 
 tail-returns : (t : ℕ) → tail-lts.Need-returns (tail-calls t) (tail-at t) tail.Post tail-Inv-loop tail-μ-loop
 tail-returns t c =
-    (tails-not (c .before .before .before .before .before .before .before .before .before .before .args .rank) (c .before .before .before .before .before .before .before .before .loop .inv .0) (sym (c .before .before .before .before .before .before .operates .ensures) ∙ c .before .before .before .before .before .if1 .taken) (c .before .before .before .before .at .ensures) (c .before .before .operation .ensures .0) (c .before .stopped .ensures .1 (c .if2 .taken)), spent (goes-on (c .before .before .before .before .before .before .before .before .loop .inv .1) (nests (c .before .before .before .before .at .ensures))) (c .before .before .operation .ensures .1) (omega arith))
+    (tails-not (c .before .before .before .before .before .before .before .before .before .before .args .rank) (c .before .before .before .before .before .before .before .before .loop .inv .0) (sym (c .before .before .before .before .before .before .operates .ensures) ∙ c .before .before .before .before .before .if1 .taken) (c .before .before .before .before .at .ensures) (c .before .before .operation .ensures .0) (c .before .unread .ensures .1 (c .if2 .taken)), spent (goes-on (c .before .before .before .before .before .before .before .before .loop .inv .1) (nests (c .before .before .before .before .at .ensures))) (c .before .before .operation .ensures .1) (omega arith))
 
 tail-once-requires : (t : ℕ) → tail-lts.Need-once-requires (tail-calls t) (tail-at t) tail.Post tail-Inv-loop tail-μ-loop
 tail-once-requires t c κs = search needs
@@ -1027,7 +1027,7 @@ tail-loop-less t c = search needs
 
 tail-loop-again : (t : ℕ) → tail-lts.Need-loop-again (tail-calls t) (tail-at t) tail.Post tail-Inv-loop tail-μ-loop
 tail-loop-again t c =
-    (tails-more (c .before .before .before .before .before .before .before .before .before .before .before .before .before .before .args .rank) (c .before .before .before .before .before .before .before .before .before .before .before .before .loop .inv .0) (sym (c .before .before .before .before .before .before .before .before .before .before .operates .ensures) ∙ c .before .before .before .before .before .before .before .before .before .if1 .taken) (c .before .before .before .before .before .before .before .before .at .ensures) (c .before .before .before .before .before .before .operation .ensures .0) (c .before .before .before .before .before .stopped .ensures .0 (c .before .before .before .before .if2 .left)) (sym (c .before .before .before .once .ensures) ∙ c .before .before .if3 .left) (omega (arith, c .before .before .before .before .before .before .before .before .before .before .before .loop-test .taken)), comes-as (goes-on (c .before .before .before .before .before .before .before .before .before .before .before .before .loop .inv .1) (goes-on (nests (c .before .before .before .before .before .before .before .before .at .ensures)) (c .before .before .before .before .before .before .operation .ensures .1 .done (c .before .before .before .before .before .stopped .ensures .0 (c .before .before .before .before .if2 .left))))) (omega arith))
+    (tails-more (c .before .before .before .before .before .before .before .before .before .before .before .before .before .before .args .rank) (c .before .before .before .before .before .before .before .before .before .before .before .before .loop .inv .0) (sym (c .before .before .before .before .before .before .before .before .before .before .operates .ensures) ∙ c .before .before .before .before .before .before .before .before .before .if1 .taken) (c .before .before .before .before .before .before .before .before .at .ensures) (c .before .before .before .before .before .before .operation .ensures .0) (c .before .before .before .before .before .unread .ensures .0 (c .before .before .before .before .if2 .left)) (sym (c .before .before .before .once .ensures) ∙ c .before .before .if3 .left) (omega (arith, c .before .before .before .before .before .before .before .before .before .before .before .loop-test .taken)), comes-as (goes-on (c .before .before .before .before .before .before .before .before .before .before .before .before .loop .inv .1) (goes-on (nests (c .before .before .before .before .before .before .before .before .at .ensures)) (c .before .before .before .before .before .before .operation .ensures .1 .done (c .before .before .before .before .before .unread .ensures .0 (c .before .before .before .before .if2 .left))))) (omega arith))
 
 tail-stay-requires : (t : ℕ) → tail-lts.Need-stay-requires (tail-calls t) (tail-at t) tail.Post tail-Inv-loop tail-μ-loop
 tail-stay-requires t c κs = search needs
@@ -1115,12 +1115,12 @@ pub +arms+choice+first-arm+group+inside+more-arms+named+next-arm+opening+operati
     arms.Post
     (arms-first-word-requires t)
     (arms-first-arm-requires t)
-    (arms-stopped-requires t)
+    (arms-unread-requires t)
     (arms-returns t)
     (arms-at-requires t)
     (arms-other-word-requires t)
     (arms-next-arm-requires t)
-    (arms-stopped-requires-2 t)
+    (arms-unread-requires-2 t)
     (arms-returns-2 t)
     (arms-at-requires-2 t)
     (arms-more-arms-requires t)
@@ -1129,18 +1129,18 @@ pub +arms+choice+first-arm+group+inside+more-arms+named+next-arm+opening+operati
     (choice-at t)
     choice.Post
     (choice-take-requires t)
-    (choice-stopped-requires t)
+    (choice-unread-requires t)
     (choice-returns t)
     (choice-start-requires t)
-    (choice-stopped-requires-2 t)
+    (choice-unread-requires-2 t)
     (choice-returns-2 t)
     (choice-at-requires t)
     (choice-arms-requires t)
-    (choice-stopped-requires-3 t)
+    (choice-unread-requires-3 t)
     (choice-returns-3 t)
     (choice-last-word-requires t)
     (choice-expect-requires t)
-    (choice-stopped-requires-4 t)
+    (choice-unread-requires-4 t)
     (choice-returns-4 t)
     (choice-last-requires t)
     (choice-add-choice-requires t)
@@ -1149,11 +1149,11 @@ pub +arms+choice+first-arm+group+inside+more-arms+named+next-arm+opening+operati
     (first-arm-at t)
     first-arm.Post
     (first-arm-expect-requires t)
-    (first-arm-stopped-requires t)
+    (first-arm-unread-requires t)
     (first-arm-returns t)
     (first-arm-at-requires t)
     (first-arm-start-requires t)
-    (first-arm-stopped-requires-2 t)
+    (first-arm-unread-requires-2 t)
     (first-arm-returns-2 t)
     (first-arm-add-first-arm-requires t)
     (first-arm-returns-3 t))
@@ -1161,10 +1161,10 @@ pub +arms+choice+first-arm+group+inside+more-arms+named+next-arm+opening+operati
     (group-at t)
     group.Post
     (group-take-requires t)
-    (group-stopped-requires t)
+    (group-unread-requires t)
     (group-returns t)
     (group-start-requires t)
-    (group-stopped-requires-2 t)
+    (group-unread-requires-2 t)
     (group-returns-2 t)
     (group-expect-requires t)
     (group-returns-3 t))
@@ -1173,10 +1173,10 @@ pub +arms+choice+first-arm+group+inside+more-arms+named+next-arm+opening+operati
     inside.Post
     (inside-kind-of-requires t)
     (inside-take-requires t)
-    (inside-stopped-requires t)
+    (inside-unread-requires t)
     (inside-returns t)
     (inside-counted-requires t)
-    (inside-stopped-requires-2 t)
+    (inside-unread-requires-2 t)
     (inside-returns-2 t)
     (inside-at-requires t)
     (inside-rest-requires t)
@@ -1192,7 +1192,7 @@ pub +arms+choice+first-arm+group+inside+more-arms+named+next-arm+opening+operati
     (more-arms-another-requires t)
     (more-arms-at-requires t)
     (more-arms-next-arm-requires t)
-    (more-arms-stopped-requires t)
+    (more-arms-unread-requires t)
     (more-arms-returns t)
     (more-arms-one-more-requires t)
     (more-arms-sub-left t)
@@ -1206,7 +1206,7 @@ pub +arms+choice+first-arm+group+inside+more-arms+named+next-arm+opening+operati
     (named-at t)
     named.Post
     (named-take-requires t)
-    (named-stopped-requires t)
+    (named-unread-requires t)
     (named-returns t)
     (named-reference-requires t)
     (named-returns-2 t))
@@ -1214,11 +1214,11 @@ pub +arms+choice+first-arm+group+inside+more-arms+named+next-arm+opening+operati
     (next-arm-at t)
     next-arm.Post
     (next-arm-expect-requires t)
-    (next-arm-stopped-requires t)
+    (next-arm-unread-requires t)
     (next-arm-returns t)
     (next-arm-at-requires t)
     (next-arm-start-requires t)
-    (next-arm-stopped-requires-2 t)
+    (next-arm-unread-requires-2 t)
     (next-arm-returns-2 t)
     (next-arm-last-requires t)
     (next-arm-add-next-arm-requires t)
@@ -1230,15 +1230,15 @@ pub +arms+choice+first-arm+group+inside+more-arms+named+next-arm+opening+operati
     (opening-term-requires t)
     (opening-returns t)
     (opening-take-requires t)
-    (opening-stopped-requires t)
+    (opening-unread-requires t)
     (opening-returns-2 t)
     (opening-reducing-requires t)
-    (opening-stopped-requires-2 t)
+    (opening-unread-requires-2 t)
     (opening-returns-3 t)
     (opening-at-requires t)
     (opening-prefixed-requires t)
     (opening-start-requires t)
-    (opening-stopped-requires-3 t)
+    (opening-unread-requires-3 t)
     (opening-returns-4 t)
     (opening-add-prefix-requires t)
     (opening-returns-5 t))
@@ -1246,7 +1246,7 @@ pub +arms+choice+first-arm+group+inside+more-arms+named+next-arm+opening+operati
     (operation-at t)
     operation.Post
     (operation-take-requires t)
-    (operation-stopped-requires t)
+    (operation-unread-requires t)
     (operation-returns t)
     (operation-enum-told t)
     (operation-kind-of-requires t)
@@ -1254,7 +1254,7 @@ pub +arms+choice+first-arm+group+inside+more-arms+named+next-arm+opening+operati
     (operation-returns-2 t)
     (operation-operand-requires t)
     (operation-start-requires t)
-    (operation-stopped-requires-2 t)
+    (operation-unread-requires-2 t)
     (operation-returns-3 t)
     (operation-last-requires t)
     (operation-add-binary-requires t)
@@ -1264,7 +1264,7 @@ pub +arms+choice+first-arm+group+inside+more-arms+named+next-arm+opening+operati
     reference.Post
     (reference-kind-of-requires t)
     (reference-take-requires t)
-    (reference-stopped-requires t)
+    (reference-unread-requires t)
     (reference-returns t)
     (reference-subscript-requires t)
     (reference-returns-2 t)
@@ -1275,7 +1275,7 @@ pub +arms+choice+first-arm+group+inside+more-arms+named+next-arm+opening+operati
     rest.Post
     (rest-within-requires t)
     (rest-tail-requires t)
-    (rest-stopped-requires t)
+    (rest-unread-requires t)
     (rest-returns t)
     (rest-at-requires t)
     (rest-next-requires t)
@@ -1290,10 +1290,10 @@ pub +arms+choice+first-arm+group+inside+more-arms+named+next-arm+opening+operati
     (second-word-part-requires t)
     (second-returns t)
     (second-inside-requires t)
-    (second-stopped-requires t)
+    (second-unread-requires t)
     (second-returns-2 t)
     (second-expect-requires t)
-    (second-stopped-requires-2 t)
+    (second-unread-requires-2 t)
     (second-returns-3 t)
     (second-last-requires t)
     (second-last-requires-2 t)
@@ -1304,7 +1304,7 @@ pub +arms+choice+first-arm+group+inside+more-arms+named+next-arm+opening+operati
     single.Post
     (single-kind-of-requires t)
     (single-take-requires t)
-    (single-stopped-requires t)
+    (single-unread-requires t)
     (single-returns t)
     (single-second-requires t)
     (single-returns-2 t)
@@ -1317,7 +1317,7 @@ pub +arms+choice+first-arm+group+inside+more-arms+named+next-arm+opening+operati
     (start-kind-of-requires t)
     (start-head-of-requires t)
     (start-opening-requires t)
-    (start-stopped-requires t)
+    (start-unread-requires t)
     (start-returns t)
     (start-at-requires t)
     (start-after-requires t)
@@ -1330,17 +1330,17 @@ pub +arms+choice+first-arm+group+inside+more-arms+named+next-arm+opening+operati
     (subscript-part-requires t)
     (subscript-returns t)
     (subscript-inside-requires t)
-    (subscript-stopped-requires t)
+    (subscript-unread-requires t)
     (subscript-returns-2 t)
     (subscript-kind-of-requires t)
     (subscript-take-requires t)
-    (subscript-stopped-requires-2 t)
+    (subscript-unread-requires-2 t)
     (subscript-returns-3 t)
     (subscript-at-requires t)
     (subscript-second-requires t)
     (subscript-returns-4 t)
     (subscript-expect-requires t)
-    (subscript-stopped-requires-3 t)
+    (subscript-unread-requires-3 t)
     (subscript-returns-5 t)
     (subscript-last-requires t)
     (subscript-at-requires-2 t)
@@ -1355,7 +1355,7 @@ pub +arms+choice+first-arm+group+inside+more-arms+named+next-arm+opening+operati
     (tail-operates-requires t)
     (tail-at-requires t)
     (tail-operation-requires t)
-    (tail-stopped-requires t)
+    (tail-unread-requires t)
     (tail-returns t)
     (tail-once-requires t)
     (tail-returns-2 t)

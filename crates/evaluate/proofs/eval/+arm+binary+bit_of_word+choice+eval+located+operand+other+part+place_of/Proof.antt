@@ -69,7 +69,7 @@ use Rattle.referents.proofs.worth.prefix.Reads as prefix-reads
 use Rattle.referents.proofs.worth.sticks.Reads as sticks-reads
 use Rattle.referents.proofs.worth.stops.Reads as stops-reads
 use Rattle.image.proofs.facilities.facility_at.Reads as facility-at-reads
-use Rattle.image.proofs.facilities.is_computed.Reads as is-computed-reads
+use Rattle.image.proofs.kinds.is_computed.Reads as is-computed-reads
 use Rattle.records.proofs.constants.constant_at.Reads as constant-at-reads
 use Rattle.records.proofs.nodes.node_at.Reads as node-at-reads
 use Rattle.value.proofs.lengths.minus.Reads as minus-reads
@@ -492,12 +492,12 @@ located-part-of-word-requires t c κs = search needs
 located-returns-2 : (t : ℕ) → located-lts.Need-returns-2 (located-calls t) (located-at t) located.Post
 unfolding M.located
 located-returns-2 t c =
-    λ d x h e name. rw (c .before .before .enum-told .given .1, ← (c .before .word-length .ensures name)) (c .narrow .ensures)
+    λ d x h e name. rw (c .before .before .enum-told .given .1, ← (c .before .word-length .ensures .1 name)) (c .narrow .ensures)
 
 located-returns-3 : (t : ℕ) → located-lts.Need-returns-3 (located-calls t) (located-at t) located.Post
 unfolding M.located
 located-returns-3 t c =
-    λ d x h e name. rw (c .before .before .before .before .before .before .before .s .given .1, ne-eqb _ _ (c .before .before .before .if1 .left), ← (c .before .before .before .before .before .part .ensures d x h e), ← (c .before .word-length2 .ensures name)) (c .word .ensures ∙ c .before .before .subscript2 .ensures _)
+    λ d x h e name. rw (c .before .before .before .before .before .before .before .s .given .1, ne-eqb _ _ (c .before .before .before .if1 .left), ← (c .before .before .before .before .before .part .ensures d x h e), ← (c .before .word-length2 .ensures .1 name)) (c .word .ensures ∙ c .before .before .subscript2 .ensures _)
 
 located-returns-4 : (t : ℕ) → located-lts.Need-returns-4 (located-calls t) (located-at t) located.Post
 unfolding M.located

@@ -19,7 +19,7 @@ word-place-requires c κs = search needs
 
 returns : tie.Need-returns
 returns c =
-    (refl, λ name h. absurd (omega (arith, h, c .if1 .taken, c .before .word-place .ensures, ap wordBytes (c .before .before .before .word-length .ensures name))))
+    (refl, λ name h. absurd (omega (arith, h, c .if1 .taken, c .before .word-place .ensures, ap wordBytes (c .before .before .before .word-length .ensures .1 name))))
 
 cast-bits : tie.Need-cast-bits
 cast-bits c = search needs
@@ -35,7 +35,7 @@ returns-2 c =
     let b = c .before .before .bits .ensures in
     let a = c .before .before .before .before .before .before .before .before .before .before .before .args in
     let w = c .before .before .before .before .before .before .before .before .word-length in
-    (b .long, λ name h. adds-as b (word-shown (facilityMeant name (a .f)) (a .f .place) (a .store .now) (w .result) (w .ensures name)))
+    (b .long, λ name h. adds-as b (word-shown (facilityMeant name (a .f)) (a .f .place) (a .store .now) (w .result) (w .ensures .1 name)))
 
 pub word-spec : {M : Type 1} → statement M
 word-spec =

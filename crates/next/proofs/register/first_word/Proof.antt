@@ -9,7 +9,7 @@ word-length-requires c κs = search needs
 
 returns : tie.Need-returns
 returns c =
-    λ name h. absurd (omega (arith, c .if1 .taken, c .before .word-length .ensures name))
+    λ name h. absurd (omega (arith, c .if1 .taken, c .before .word-length .ensures .1 name))
 
 add-all : tie.Need-add-all
 add-all c = search needs
@@ -26,7 +26,7 @@ load-requires c κs = search needs
 returns-2 : tie.Need-returns-2
 unfolding wordBytes
 returns-2 c =
-    λ name h. rw (← (c .before .before .before .word-length .ensures name)) (c .load .ensures)
+    λ name h. rw (← (c .before .before .before .word-length .ensures .1 name)) (c .load .ensures)
 
 pub first-word-spec : {M : Type 1} → statement M
 first-word-spec =

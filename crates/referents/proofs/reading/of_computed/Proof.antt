@@ -22,7 +22,7 @@ is-requires c κs = search needs
 
 returns : tie.Need-returns
 returns c =
-    λ d x name. rw (c .before .before .before .before .before .before .enum-told .given .1, eq-eqb _ _ (c .before .before .if1 .taken ∙ c .before .before .before .word-length .ensures name)) (c .is .ensures ∙ ap M.Answer.is (c .before .taken .ensures))
+    λ d x name. rw (c .before .before .before .before .before .before .enum-told .given .1, eq-eqb _ _ (c .before .before .if1 .taken ∙ c .before .before .before .word-length .ensures .1 name)) (c .is .ensures ∙ ap M.Answer.is (c .before .taken .ensures))
 
 sticks-requires : tie.Need-sticks-requires
 sticks-requires c κs = search needs
@@ -35,7 +35,7 @@ enum-told-3 c = search needs
 
 returns-2 : tie.Need-returns-2
 returns-2 c =
-    λ d x name. rw (c .before .before .before .before .before .enum-told .given .1, ne-eqb _ _ (λ e. c .before .if1 .left (e ∙ sym (c .before .before .word-length .ensures name)))) (c .sticks .ensures)
+    λ d x name. rw (c .before .before .before .before .before .enum-told .given .1, ne-eqb _ _ (λ e. c .before .if1 .left (e ∙ sym (c .before .before .word-length .ensures .1 name)))) (c .sticks .ensures)
 
 returns-3 : tie.Need-returns-3
 returns-3 c =

@@ -32,7 +32,7 @@ is-requires c κs = search needs
 
 returns : tie.Need-returns
 returns c =
-    λ name. c .is .ensures ∙ ap (λ (n : ℕ). M.Answer.is (L.value (c .before .before .before .before .before .before .before .before .before .before .args .p .count) n)) (ap (λ (v : L.Value). v .number) (c .before .before .load .ensures) ∙ rw (c .before .before .before .before .before .word-place .ensures, c .before .before .before .before .before .before .before .before .word-length .ensures name))
+    λ name. c .is .ensures ∙ ap (λ (n : ℕ). M.Answer.is (L.value (c .before .before .before .before .before .before .before .before .before .before .args .p .count) n)) (ap (λ (v : L.Value). v .number) (c .before .before .load .ensures) ∙ rw (c .before .before .before .before .before .word-place .ensures, c .before .before .before .before .before .before .before .before .word-length .ensures .1 name))
 
 pub of-stored-spec : {M : Type 1} → statement M
 of-stored-spec =

@@ -29,7 +29,7 @@ returns-2 c =
     λ name.
     let a = c .before .before .before .before .before .before .before .args in
     c .no-spare-bits .ensures
-    ∙ (ap₂ (narrowAt (a .store .now) (a .f .place)) (c .before .before .word-count .ensures name) (c .before .word-length .ensures name)
+    ∙ (ap₂ (narrowAt (a .store .now) (a .f .place)) (c .before .before .word-count .ensures .1 name) (c .before .word-length .ensures .1 name)
     ∙ sym (narrow-stored _ _ _ (sym (c .before .before .before .before .before .is-computed .ensures) ∙ c .before .before .before .before .if1 .left)))
 
 pub narrow-in-spec : {M : Type 1} → statement M

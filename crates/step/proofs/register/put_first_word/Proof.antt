@@ -8,7 +8,7 @@ word-length-requires : tie.Need-word-length-requires
 word-length-requires c κs = search needs
 
 returns : tie.Need-returns
-returns c = λ name h. absurd (omega (arith, c .if1 .taken, c .before .word-length .ensures name))
+returns c = λ name h. absurd (omega (arith, c .if1 .taken, c .before .word-length .ensures .1 name))
 
 add-all : tie.Need-add-all
 add-all c = search needs
@@ -28,7 +28,7 @@ same-length c = search needs
 returns-2 : tie.Need-returns-2
 unfolding wordBytes
 returns-2 c =
-    λ name h. rw (← (c .before .before .before .before .before .before .word-length .ensures name)) (c .before .before .save .ensures)
+    λ name h. rw (← (c .before .before .before .before .before .before .word-length .ensures .1 name)) (c .before .before .save .ensures)
 
 pub put-first-word-spec : {M : Type 1} → statement M
 put-first-word-spec =

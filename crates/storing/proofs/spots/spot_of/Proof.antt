@@ -22,7 +22,7 @@ cast-t8 c = search needs
 
 returns : tie.Need-returns
 returns c =
-    λ name. rw (c .before .before .word-place .ensures, c .before .before .before .before .before .word-length .ensures name)
+    λ name. rw (c .before .before .word-place .ensures, c .before .before .before .before .before .word-length .ensures .1 name)
 
 pub spot-of-spec : {M : Type 1} → statement M
 spot-of-spec =

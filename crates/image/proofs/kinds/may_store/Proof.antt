@@ -1,8 +1,8 @@
 use borrow.Author.Tests.{ne-eqb}
 use Rattle.language.specs.Storing.{mayStore}
 use borrow.Author.Needs.{needs}
-use Rattle.storing.proofs.kinds.may_store.Statement.{statement}
-use Rattle.storing.proofs.kinds.may_store.Tie as tie
+use Rattle.image.proofs.kinds.may_store.Statement.{statement}
+use Rattle.image.proofs.kinds.may_store.Tie as tie
 
 takes-delayed-requires : tie.Need-takes-delayed-requires
 takes-delayed-requires c κs = search needs

@@ -1,9 +1,9 @@
 use borrow.Author.Needs.{needs}
 use mathlib.Core.Bool.{false≢true}
 use mathlib.Core.Path.{sym}
 use Rattle.course.proofs.Answers.{not-done}
-use Rattle.phrases.proofs.stopped.Statement.{statement}
-use Rattle.phrases.proofs.stopped.Tie as tie
+use Rattle.course.proofs.unread.Statement.{statement}
+use Rattle.course.proofs.unread.Tie as tie
 
 enum-told : tie.Need-enum-told
 enum-told c = search needs
@@ -14,5 +14,5 @@ returns c = (λ e. absurd (false≢true (sym e)), λ e. not-done (c .match .keys
 returns-2 : tie.Need-returns-2
 returns-2 c = (λ e. c .enum-told .given .1, λ e. absurd (false≢true e))
 
-pub stopped-spec : {M : Type 1} → statement M
-stopped-spec = tie.close (tie.spec enum-told returns returns-2)
+pub unread-spec : {M : Type 1} → statement M
+unread-spec = tie.close (tie.spec enum-told returns returns-2)

@@ -1,10 +1,11 @@
-// What may be stored to, by the kind of a facility.
-use image::facilities::Kind;
+// What a facility is, and what may be stored to it, by its kind.
+use crate::facilities::Kind;
 use records::actions;
 ghost use mathlib.Core.Path.{_≡_};
-ghost use Rattle.language.specs.Description.{isSequencing};
+ghost use Rattle.language.specs.Description.{isComputed, isSequencing};
+ghost use Rattle.language.specs.Store.{isInput};
 ghost use Rattle.language.specs.Storing.{isPlain, mayStore, takesDelayed, takesImmediate};
 ghost use Rattle.image.specs.Declarations.{kindMeant};
 
 // <- goes to registers.
 fn takes_delayed(kind: Kind) -> bool
@@ -70,5 +71,33 @@ pub fn is_plain(kind: Kind) -> bool
         Kind::Plain => true,
         Kind::Input => false,
         Kind::Computed => false,
+    }
+}
+
+// Whether a facility of this kind is an input terminal.
+pub fn is_input(kind: Kind) -> bool
+    ensures { λ r. ⌜ r ≡ isInput (kindMeant kind) ⌝ }
+{
+    match kind {
+        Kind::Register => false,
+        Kind::Sequencing => false,
+        Kind::Memory => false,
+        Kind::Plain => false,
+        Kind::Input => true,
+        Kind::Computed => false,
+    }
+}
+
+// Whether a facility of this kind is computed.
+pub fn is_computed(kind: Kind) -> bool
+    ensures { λ r. ⌜ r ≡ isComputed (kindMeant kind) ⌝ }
+{
+    match kind {
+        Kind::Register => false,
+        Kind::Sequencing => false,
+        Kind::Memory => false,
+        Kind::Plain => false,
+        Kind::Input => false,
+        Kind::Computed => true,
     }
 }
