@@ -3,8 +3,8 @@ use mathlib.Core.Bool.{cond}
 use mathlib.Core.List.{List}
 use mathlib.Core.Option.{Option, none, some}
 use mathlib.Core.Path.{_≡_}
-use Prim.Native.Nat.{ℕ, _+_, _-_, _*_, _/_, _<_}
-use lib.Dec.{eqb, leb}
+use Prim.Native.Nat.{ℕ, _+_, _-_, _/_, _<_}
+use lib.Dec.{eqb}
 use lib.ListN.{length}
 use Rattle.language.specs.Acting as T
 use Rattle.language.specs.Decode.{actionOf}

@@ -2,7 +2,7 @@
 use mathlib.Core.Bool.{true, false}
 use mathlib.Core.List.{List, _∷_, _++_, append-assoc}
 use mathlib.Core.Path.{_≡_, refl, sym, ap, _∙_}
-use Prim.Native.Nat.{ℕ, zero, suc, _+_, _-_, _≤_}
+use Prim.Native.Nat.{ℕ, zero, suc, _+_, _≤_}
 use native.Mathlib.Omega.{arith}
 use lib.ListN.{drop, getD, length, length-append, length-drop, length-replicate, replicate, take, take-append-drop}
 use lib.Seq.{drop-at, drop-drop, length-take-le, take-add, take-at}

@@ -3,7 +3,6 @@ use lines::line as print;
 use traced::begun;
 use traced::begun::Begun;
 use traced::line;
-ghost use mathlib.Core.Path.{_≡_};
 ghost use Prim.Native.Nat.{_<_, _≤_};
 ghost use lib.ListN.{length};
 ghost use Rattle.traced.specs.Turns.{Ready};

@@ -5,9 +5,8 @@ use mathlib.Core.Option.{Option, none, some}
 use mathlib.Core.Path.{_≡_, refl, sym, ap, ap₂, _∙_}
 use native.Mathlib.Nat.{suc-mul}
 use native.Mathlib.Omega.{arith}
-use Prim.Native.Nat.{ℕ, zero, suc, _+_, _*_, _≤_, _<_}
+use Prim.Native.Nat.{ℕ, zero, suc, _+_, _*_, _≤_}
 use borrow.Author.Tests.{le-leb}
-use lib.Dec.{leb}
 use lib.ListN.{List·getD-append, drop, length, length-append, length-drop, take}
 use lib.Seq.{drop-append-le, take-append-le}
 use Rattle.language.specs.Calls.{CycleAnswer, CycleCall, RunCall, Running, afterCycle, afterStep, cycle, cycleRefusal, cycleWith, cycled, cycles, over, refusedFor, roomy, run, runRefusal, soundBytes, stimulusSize, stoppedFor}

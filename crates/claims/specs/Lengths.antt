@@ -21,7 +21,7 @@ use Rattle.language.specs.Order.{startAt}
 use Rattle.language.specs.Recursion.{below-lt}
 use Rattle.language.specs.Store.{Held, numbers}
 use Rattle.language.specs.Value as Values
-use Rattle.language.specs.Value.{Made, Value, cutLength, extended, fit, head, longest, made, tail, value}
+use Rattle.language.specs.Value.{Value, cutLength, extended, fit, head, longest, made, tail, value}
 use Rattle.theorems.specs.Acts.{terms}
 use Rattle.theorems.specs.Evaluates.{evaluates}
 use Rattle.theorems.specs.Fitting.{Inv, numbers-keep}

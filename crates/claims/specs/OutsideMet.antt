@@ -4,16 +4,16 @@ use mathlib.Core.List.{List, [], _∷_}
 use mathlib.Core.Option.{Option, none, some}
 use mathlib.Core.Path.{_≡_, refl, sym, ap, _∙_}
 use native.Mathlib.Omega.{arith}
-use Prim.Native.Nat.{ℕ, zero, suc, _+_, _-_, _≤_, _<_}
+use Prim.Native.Nat.{ℕ, zero, suc, _+_, _-_, _<_}
 use borrow.Author.Tests.{ltb-false, ltb-true}
 use lib.Dec.{eqb, leb, ltb}
 use lib.ListN.{length}
 use Rattle.language.specs.Acting.{Doing, Ran, armAt, armChosen, calling, goingTo, inArm, landing, listAct, listBelow, listStep, onPlace, onValue, onward, operationBelow, operationStep, passing, plainly, putAll, runActions, runList, side, sideOf, simple, storing, went, whenWorth, withStore, write}
 use Rattle.language.specs.Description as D
-use Rattle.language.specs.Description.{Action, Bounds, Description, Facility, Node, Run, actionAt, facilityAt, fromFirst, inBounds, isComputed, nodeAt, operationAt, stateAt, wordLength}
+use Rattle.language.specs.Description.{Action, Bounds, Description, Facility, Node, Run, actionAt, facilityAt, fromFirst, inBounds, isComputed, nodeAt, operationAt, wordLength}
 use Rattle.language.specs.Judging.{both}
 use Rattle.language.specs.Kinds.{delayedSign}
-use Rattle.language.specs.Meaning.{Answer, Located, Place, Stores, Stuck, Write, after, armBack, armNumber, armWorth, chosen, evalAt, evalBelow, evalNode, evalStep, is, located, narrow, notBefore, operand, partOf, partOfValue, place, placeOf, read, stops, stuck, subscript, worthOr, wrongCount, wrongLength, noFacility, noOperation, noState, notOneBit, notStorable, outside, runsOver, sidesDiffer, wrongSubscripts}
+use Rattle.language.specs.Meaning.{Answer, Located, Place, Stores, Stuck, Write, after, armBack, armNumber, armWorth, chosen, evalAt, evalBelow, evalNode, evalStep, is, located, narrow, notBefore, partOf, partOfValue, place, placeOf, read, stops, stuck, subscript, worthOr, wrongCount, wrongLength, noFacility, noOperation, noState, notOneBit, notStorable, outside, runsOver, sidesDiffer, wrongSubscripts}
 use Rattle.language.specs.Operators.{binaryOf, cutOf, prefixOf}
 use Rattle.language.specs.Recursion.{below-ge, below-lt}
 use Rattle.language.specs.References as R

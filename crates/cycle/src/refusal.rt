@@ -3,7 +3,6 @@ use image::sections;
 use sound::sizes;
 use sound::soundness;
 ghost use mathlib.Core.Path.{_≡_};
-ghost use lib.ListN.{length};
 ghost use Rattle.language.specs.Calls as L;
 ghost use Rattle.language.specs.Calls.{cycleRefusal};
 ghost use Rattle.language.specs.Description.{Description};

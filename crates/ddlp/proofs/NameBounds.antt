@@ -3,7 +3,7 @@ use mathlib.Core.Bool.{Bool, true, false, cond}
 use mathlib.Core.List.{List, [], _∷_}
 use mathlib.Core.Option.{none}
 use mathlib.Core.Path.{_≡_, refl, sym, ap, _∙_}
-use Prim.Native.Nat.{ℕ, zero, suc, _+_, _*_, _/_, _%_, _^_, _<_, _≤_}
+use Prim.Native.Nat.{ℕ, zero, suc, _+_, _/_, _%_, _^_, _<_, _≤_}
 use native.Mathlib.Omega.{arith}
 use borrow.Author.Tests.{ltb-true}
 use lib.Dec.{ltb}
@@ -12,13 +12,13 @@ use lib.Seq.{getD-take}
 use Rattle.language.specs.Canonical.{total}
 use Rattle.language.specs.Decode.{decode, numberAt, offsetOf, sectionAt, sectionsIn}
 use Rattle.language.specs.Description.{Facility, Operation, State, facilityAt, noFacility, noRun, stateAt}
-use Rattle.language.specs.Encode.{concat, little, nameBytes}
+use Rattle.language.specs.Encode.{little, nameBytes}
 use Rattle.language.specs.Image.{passes}
 use Rattle.language.specs.Lookups as L
 use Rattle.language.specs.Lookups.{facilityName, stateName}
 use Rattle.language.specs.RecordBytes.{fours}
 use Rattle.image.proofs.ImageLaws.{Right, header-sized, right-parts, total-below}
-use Rattle.image.specs.Header.{countsIn, headerNumbers, headerRight, namesFrom, totalOf}
+use Rattle.image.specs.Header.{countsIn, headerNumbers, headerRight, namesFrom}
 use Rattle.image.specs.declared.header.Counts.{Counts}
 use Rattle.written.specs.Begins.{passes-begins}
 use Rattle.written.specs.Names.{names-length, namesOf}

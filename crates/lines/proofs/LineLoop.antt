@@ -1,12 +1,12 @@
 -- A line's facilities, one after the other: what is printed and what is left give the whole. Assumes nothing.
-use mathlib.Core.Bool.{Bool, true, false, cond, true≢false}
+use mathlib.Core.Bool.{Bool, true, false, true≢false}
 use mathlib.Core.List.{List, [], _∷_, _++_, append-assoc, append-nil}
-use mathlib.Core.Path.{_≡_, refl, sym, ap, ap₂, _∙_}
+use mathlib.Core.Path.{_≡_, refl, sym, ap, _∙_}
 use Prim.Native.Nat.{ℕ, zero, suc, _+_, _*_, _≤_, _<_}
 use native.Mathlib.Omega.{arith}
 use borrow.Author.Tests.{leb-true, ne-eqb}
-use lib.Dec.{eqb, leb}
-use lib.ListN.{drop, drop-of-length-le, getD, length, take}
+use lib.Dec.{leb}
+use lib.ListN.{drop, drop-of-length-le, getD, length}
 use lib.Seq.{drop-drop}
 use Rattle.language.specs.Description.{Description, Facility, facilityAt, isComputed, noFacility, wordCount, wordLength}
 use Rattle.language.specs.Layout.{facilityBytes, placeIn, storeSizeOf, wordBytes}

@@ -7,11 +7,11 @@ use Prim.Native.Nat.{ℕ, suc, _+_, _-_, _*_, _≤_, _<_}
 use native.Mathlib.Nat.{mul-le-mul}
 use native.Mathlib.Omega.{arith}
 use lib.Dec.{eqb, leb}
-use lib.ListN.{drop, drop-of-length-le, getD, length, length-append, length-drop, replicate, take}
+use lib.ListN.{drop, drop-of-length-le, length, length-append, length-drop, replicate, take}
 use lib.Seq.{drop-at, drop-cons, drop-drop, take-at}
-use Rattle.language.specs.Calls.{over, stimulusSize}
+use Rattle.language.specs.Calls.{stimulusSize}
 use Rattle.language.specs.Description.{Bounds, Description, Facility, facilityAt, spanOf, wordCount, wordLength}
-use Rattle.language.specs.Layout.{bytesOf, facilityBytes, storeSizeOf, wordBytes, wordToBytes}
+use Rattle.language.specs.Layout.{bytesOf, storeSizeOf, wordBytes, wordToBytes}
 use Rattle.language.specs.Reading.{zeroes}
 use Rattle.language.specs.Store.{Words, inputsOf, isInput, toBytes, wordsTo}
 use Rattle.language.specs.Trace.{bitsNumber, consWord, lineWords}

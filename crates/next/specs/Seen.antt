@@ -4,7 +4,7 @@ use mathlib.Core.Option.{Option, none, some}
 use mathlib.Core.Path.{_≡_}
 use Prim.Native.Nat.{ℕ, suc, _+_, _-_, min}
 use lib.Dec.{eqb, leb, ltb}
-use lib.ListN.{getD, length, set}
+use lib.ListN.{getD, set}
 use Rattle.language.specs.Acting as T
 use Rattle.language.specs.Judging.{both}
 use Rattle.language.specs.Step as S

@@ -6,7 +6,6 @@ use storing::doing::Doing;
 ghost use mathlib.Core.Bool.{_||_};
 ghost use mathlib.Core.Path.{_≡_};
 ghost use Prim.Native.Nat.{_<_};
-ghost use lib.Dec.{leb};
 ghost use Rattle.language.specs.Judging as J;
 ghost use Rattle.referents.specs.Places.{foundMeant};
 ghost use Rattle.next.specs.Seen.{isNone, plainSeen, recordMeant, stopMeant, stopSeen};

@@ -7,7 +7,7 @@ use image::facilities::Bounds;
 use value::Value;
 ghost use mathlib.Core.Bool.{cond};
 ghost use mathlib.Core.Path.{_≡_};
-ghost use Prim.Native.Nat.{ℕ, _≤_};
+ghost use Prim.Native.Nat.{ℕ};
 ghost use Rattle.language.specs.Description.{fromFirst, inBounds};
 ghost use Rattle.language.specs.Meaning as M;
 ghost use Rattle.language.specs.References.{rightCount};

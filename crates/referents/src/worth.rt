@@ -4,7 +4,6 @@ use value::Value;
 ghost use mathlib.Core.Path.{_≡_};
 ghost use Rattle.language.specs.Meaning as M;
 ghost use Rattle.language.specs.Operators.{binaryOf, cutOf, prefixOf};
-ghost use Rattle.language.specs.Value as L;
 ghost use Rattle.value.specs.Meaning.{meant, valued};
 ghost use Rattle.referents.specs.Worth.{answered, stuckMeant};
 

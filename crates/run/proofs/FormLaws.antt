@@ -11,7 +11,6 @@ use lib.ListN.{drop, length, length-drop, length-take, take}
 use lib.Seq.{drop-drop, length-take-le}
 use Rattle.language.specs.Calls.{allWellFormed, stimulusSize, wellFormed}
 use Rattle.language.specs.Description.{Description}
-use Rattle.language.specs.Judging.{both}
 use Rattle.theorems.specs.LegalForm.{left-of, right-of}
 
 module _ (d : Description) where

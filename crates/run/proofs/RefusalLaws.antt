@@ -1,8 +1,8 @@
 -- The tests of a run, each where those before it were passed. Assumes nothing.
-use mathlib.Core.Bool.{Bool, true, false}
+use mathlib.Core.Bool.{true, false}
 use mathlib.Core.List.{List}
 use mathlib.Core.Option.{none, some}
-use mathlib.Core.Path.{_≡_, refl, sym, ap, _∙_}
+use mathlib.Core.Path.{_≡_, refl, ap, _∙_}
 use Prim.Native.Nat.{ℕ, _*_, _/_, _≤_, _<_}
 use native.Mathlib.Nat.{mul-comm, mul-div-cancel, mul-le-mul}
 use native.Mathlib.Omega.{arith}
@@ -13,7 +13,6 @@ use Rattle.language.specs.Calls.{RunCall, allWellFormed, roomy, run, runRefusal
 use Rattle.language.specs.Decode.{decode}
 use Rattle.language.specs.Description.{Description}
 use Rattle.language.specs.Image.{passes}
-use Rattle.language.specs.Judging.{both}
 use Rattle.language.specs.Layout.{storeSize}
 use Rattle.language.specs.Reading.{zeroes}
 

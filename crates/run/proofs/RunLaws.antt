@@ -10,7 +10,7 @@ use borrow.Author.Tests.{eqb-false, eqb-true, leb-true, ne-eqb}
 use lib.Dec.{eqb, leb}
 use lib.ListN.{drop, length, length-append, take}
 use lib.Seq.{drop-drop, length-take-le}
-use Rattle.language.specs.Calls.{CycleAnswer, CycleCall, RunAnswer, RunCall, Running, afterStep, allWellFormed, cycle, cycleRefusal, cycled, cycles, ran, refusedFor, roomy, run, runRefusal, soundBytes, stimulusSize, stoppedFor, traceRoomy, wellFormed}
+use Rattle.language.specs.Calls.{CycleAnswer, CycleCall, RunCall, Running, afterStep, allWellFormed, cycle, cycleRefusal, cycled, cycles, ran, refusedFor, roomy, run, runRefusal, soundBytes, stimulusSize, stoppedFor, traceRoomy, wellFormed}
 use Rattle.language.specs.Decode.{decode}
 use Rattle.language.specs.Description.{Description}
 use Rattle.language.specs.Image.{passes}

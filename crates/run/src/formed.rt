@@ -4,7 +4,6 @@ use records::bytes;
 ghost use mathlib.Core.List.{List};
 ghost use mathlib.Core.Path.{_≡_};
 ghost use Prim.Native.Nat.{ℕ, _*_, _<_};
-ghost use lib.ListN.{length};
 ghost use Rattle.language.specs.Calls.{allWellFormed};
 ghost use Rattle.language.specs.Description.{Description};
 ghost use Rattle.referents.specs.Described.{Describes};

@@ -1,5 +1,4 @@
 // The words of a store: none has a spare bit.
-use crate::sizes;
 use image::facilities;
 use image::facilities::Facility;
 use image::kinds;

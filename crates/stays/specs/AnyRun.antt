@@ -8,7 +8,7 @@ use Prim.Native.Nat.{ℕ, _-_, _*_, _≤_}
 use borrow.Author.Tests.{le-leb, leb-true}
 use lib.Dec.{leb}
 use lib.ListN.{length, length-append, length-replicate}
-use Rattle.language.specs.Calls.{afterStep, cycle, cycleRefusal, cycled, first, not, open′, openRefusal, openWords, opened, roomy, soundBytes, stoppedFor, wellFormed}
+use Rattle.language.specs.Calls.{afterStep, cycle, cycleRefusal, cycled, open′, openRefusal, openWords, roomy, soundBytes, stoppedFor, wellFormed}
 use Rattle.language.specs.Decode.{decode}
 use Rattle.language.specs.Description.{Description}
 use Rattle.language.specs.Image.{passes}

@@ -4,12 +4,12 @@ use mathlib.Core.List.{List, [], _∷_, _++_}
 use mathlib.Core.Option.{Option, none, some}
 use mathlib.Core.Path.{_≡_, refl}
 use native.Mathlib.Omega.{arith}
-use Prim.Native.Nat.{ℕ, zero, suc, _+_, _-_, _*_, _^_, _≤_, _<_}
+use Prim.Native.Nat.{ℕ, zero, suc, _+_, _*_, _^_, _≤_, _<_}
 use borrow.Author.Tests.{eq-eqb, le-leb, leb-false, leb-true, lt-ltb}
 use lib.Dec.{leb, ltb}
 use lib.ListN.{drop, getD, length, length-append, length-drop, set}
 use Rattle.language.specs.Acting.{Doing, Ran, runActions, went}
-use Rattle.language.specs.Calls.{afterStep, cycle, cycleRefusal, cycled, not, over, roomy, soundBytes, wellFormed}
+use Rattle.language.specs.Calls.{afterStep, cycle, cycleRefusal, cycled, over, roomy, soundBytes, wellFormed}
 use Rattle.language.specs.Decode.{decode}
 use Rattle.language.specs.Description.{Description, sequencingOf, stateAt}
 use Rattle.language.specs.Encode.{little}

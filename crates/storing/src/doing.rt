@@ -3,7 +3,7 @@ use referents::worth::Stuck;
 ghost use mathlib.Core.Bool.{_||_};
 ghost use mathlib.Core.List.{List, [], _∷_, _++_};
 ghost use mathlib.Core.Path.{_≡_};
-ghost use Prim.Native.Nat.{ℕ, suc, _+_, _≤_, min};
+ghost use Prim.Native.Nat.{ℕ, suc, _+_, min};
 ghost use Rattle.language.specs.Acting as T;
 ghost use Rattle.language.specs.Value.{bit};
 ghost use Rattle.store.specs.InBytes.{bytes};

@@ -1,10 +1,10 @@
 -- A text that is read: legal and opened, or refused. Assumes nothing.
 use mathlib.Core.Bool.{Bool, true, false, cond}
-use mathlib.Core.List.{List, [], _∷_, _++_, append-nil}
-use mathlib.Core.Path.{_≡_, refl, sym, ap, subst, _∙_}
+use mathlib.Core.List.{List, [], _++_, append-nil}
+use mathlib.Core.Path.{_≡_, refl, sym, ap, _∙_}
 use Prim.Native.Nat.{ℕ, _+_, _-_, _≤_}
 use native.Mathlib.Omega.{arith}
-use borrow.Author.Tests.{le-leb, leb-true}
+use borrow.Author.Tests.{le-leb}
 use lib.Dec.{leb}
 use lib.ListN.{drop, length, length-append, take}
 use lib.Seq.{length-take-le, take-append-seam, take-at}
@@ -19,7 +19,6 @@ use Rattle.language.specs.Reading.{Read, ReadCall, filled, legal, readCall, rea
 use Rattle.language.specs.RecordBytes.{recordSize}
 use Rattle.language.specs.Scan.{bytes}
 use Rattle.language.specs.Trace.{afterRead, decimal, lineEnd, runLines, trace, traceImage}
-use Rattle.language.specs.Words.{Fault}
 use Rattle.passing.specs.PassesExactly.{reads-pass}
 use Rattle.reading.specs.Calls.{called}
 use Rattle.reading.specs.declared.Answer.{Answer}

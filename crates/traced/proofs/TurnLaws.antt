@@ -3,14 +3,14 @@ use mathlib.Core.Bool.{Bool, true, false, cond}
 use mathlib.Core.List.{List, [], _∷_, _++_, append-nil}
 use mathlib.Core.Option.{Option, none, some}
 use mathlib.Core.Path.{_≡_, refl, sym, ap, ap₂, _∙_}
-use Prim.Native.Nat.{ℕ, suc, _+_, _*_, _≤_}
+use Prim.Native.Nat.{ℕ, _+_, _*_, _≤_}
 use native.Mathlib.Omega.{arith}
 use lib.ListN.{drop, length, length-append, take}
 use lib.Seq.{take-at}
 use Rattle.language.specs.Calls as L
 use Rattle.language.specs.Calls.{CycleCall, over, stimulusSize}
 use Rattle.language.specs.Decode.{decode, numberAt}
-use Rattle.language.specs.Description.{Description, Facility, stateAt}
+use Rattle.language.specs.Description.{Description, Facility}
 use Rattle.language.specs.Image.{passes}
 use Rattle.language.specs.Layout.{facilityBytes, storeSize, storeSizeOf}
 use Rattle.language.specs.RecordBytes.{recordFrom}
@@ -24,11 +24,10 @@ use Rattle.cycle.specs.declared.answer.Answer.the-variants as A
 use Rattle.lines.proofs.AddsLaws.{adds-as}
 use Rattle.lines.proofs.LineRoom.{cycle-short, decimal-short}
 use Rattle.lines.specs.Adds.{Adds}
-use Rattle.lines.specs.Room.{lineRoom}
 use Rattle.lines.specs.Stimulus.{Took, bytesFor, lineBytes, took, tookMeant}
 use Rattle.lines.specs.declared.stimulus.Taken.{Taken}
 use Rattle.lines.specs.declared.stimulus.Taken.the-variants as T
-use Rattle.traced.specs.Turns.{Carried, Turned, goesOn, turnRoom}
+use Rattle.traced.specs.Turns.{Carried, Turned, turnRoom}
 
 -- ---- Room.
 

@@ -1,7 +1,7 @@
 -- THE PIECES TOGETHER ARE THE TRACE: what the lines of input add one after the other, and the end, is all that is printed. Assumes nothing.
 use mathlib.Core.Bool.{true, false}
 use mathlib.Core.List.{List, [], _∷_, _++_, append-nil}
-use mathlib.Core.Path.{_≡_, refl, sym, ap, _∙_}
+use mathlib.Core.Path.{_≡_, refl, ap, _∙_}
 use Prim.Native.Nat.{ℕ, suc}
 use lib.ListN.{take}
 use Rattle.language.specs.Decode.{decode}

@@ -6,11 +6,8 @@ use sound::sizes;
 ghost use mathlib.Core.Bool.{true};
 ghost use mathlib.Core.Path.{_≡_};
 ghost use Prim.Native.Nat.{_≤_};
-ghost use lib.ListN.{length, take};
-ghost use Rattle.language.specs.Calls.{open′};
-ghost use Rattle.language.specs.Decode.{decode};
+ghost use lib.ListN.{length};
 ghost use Rattle.language.specs.Image.{passes};
-ghost use Rattle.language.specs.Layout.{storeSize};
 ghost use Rattle.language.specs.RecordBytes.{recordSize};
 ghost use Rattle.traced.specs.Turns.{Begins, Opened};
 

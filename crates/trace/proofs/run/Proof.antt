@@ -10,12 +10,6 @@ use Rattle.traced.specs.Turns.{Runs}
 use borrow.Author.Needs.{needs}
 use Rattle.trace.proofs.run.Statement.{statement}
 use Rattle.trace.proofs.run.Tie as tie
-use Rattle.trace.proofs.run.Reads as reads
-use Rattle.trace.proofs.run.Lts as lts
-use Rattle.io.proofs.write_all.Reads as write-all-reads
-use Rattle.records.proofs.bytes.part.Reads as part-reads
-use Rattle.trace.proofs.input.cycles.Reads as cycles-reads
-use Rattle.traced.proofs.begun.begin_run.Reads as begin-run-reads
 
 slice-aggregate-begin-run : tie.Need-slice-aggregate-begin-run
 slice-aggregate-begin-run c = search needs

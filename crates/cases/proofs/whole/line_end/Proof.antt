@@ -3,8 +3,6 @@ use Prim.Native.Nat.{_-_, _≤_}
 use lib.ListN.{length}
 use Rattle.cases.proofs.whole.line_end.Statement.{statement}
 use Rattle.cases.proofs.whole.line_end.Tie as tie
-use Rattle.cases.proofs.whole.line_end.Reads as reads
-use Rattle.cases.proofs.whole.line_end.Lts as lts
 
 abbrev Inv-loop : tie.InvT-loop
 Inv-loop input at end₀ end = (at ≤ end) × (end ≤ length input)

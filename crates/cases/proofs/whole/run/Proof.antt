@@ -6,13 +6,6 @@ use lib.ListN.{length}
 use Rattle.traced.specs.Turns.{Ready}
 use Rattle.cases.proofs.whole.run.Statement.{statement}
 use Rattle.cases.proofs.whole.run.Tie as tie
-use Rattle.cases.proofs.whole.run.Reads as reads
-use Rattle.cases.proofs.whole.run.Lts as lts
-use Rattle.cases.proofs.whole.bare.Reads as bare-reads
-use Rattle.cases.proofs.whole.line_end.Reads as line-end-reads
-use Rattle.lines.proofs.line.numbered.Reads as numbered-reads
-use Rattle.std.proofs.num.wrapping_add_u64.Reads as wrapping-add-u64-reads
-use Rattle.traced.proofs.line.turned.Reads as turned-reads
 
 abbrev Inv-loop : tie.InvT-loop
 Inv-loop image store₀ record₀ input out₀ at₀ from₀ done₀ t12 store «record» out at from done = (Ready image store) × (from ≤ length input) × (length store ≡ length store₀) × (length «record» ≡ length record₀) × (length out ≡ length out₀)

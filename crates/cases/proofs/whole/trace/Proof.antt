@@ -10,8 +10,6 @@ use Rattle.traced.specs.Turns.{Runs}
 use borrow.Author.Needs.{needs}
 use Rattle.cases.proofs.whole.trace.Statement.{statement}
 use Rattle.cases.proofs.whole.trace.Tie as tie
-use Rattle.cases.proofs.whole.trace.Reads as reads
-use Rattle.cases.proofs.whole.trace.Lts as lts
 
 slice-aggregate-begin-run : tie.Need-slice-aggregate-begin-run
 slice-aggregate-begin-run c = search needs

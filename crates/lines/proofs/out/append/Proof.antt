@@ -1,9 +1,8 @@
 use mathlib.Core.Path.{_≡_, sym, ap, _∙_}
-use mathlib.Core.List.{List, []}
 use Prim.Native.Nat.{ℕ, _≤_, _-_, suc, _+_}
 use native.Mathlib.Omega.{arith}
 use borrow.Author.Needs.{needs}
-use lib.ListN.{getD, length, take}
+use lib.ListN.{length, take}
 use lib.Seq.{take-all, take-suc}
 use Rattle.lines.specs.Adds.{Adds}
 use Rattle.lines.proofs.AddsLaws.{adds-as, adds-both, adds-none}

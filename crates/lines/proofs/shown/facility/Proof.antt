@@ -1,5 +1,4 @@
-use mathlib.Core.Path.{_≡_, refl, sym, _∙_}
-use native.Mathlib.Omega.{arith}
+use mathlib.Core.Path.{refl, sym, _∙_}
 use borrow.Author.Needs.{needs}
 use Rattle.image.specs.Declarations.{facilityMeant}
 use Rattle.lines.proofs.AddsLaws.{adds-as, adds-both, adds-none}

@@ -1,4 +1,3 @@
-use native.Mathlib.Omega.{arith}
 use borrow.Author.Needs.{needs}
 use Rattle.run.proofs.RefusalLaws.{shared}
 use Rattle.run.proofs.formed.share.Statement.{statement}

@@ -6,9 +6,6 @@ use lib.ListN.{length}
 use Rattle.traced.specs.Turns.{Ready}
 use Rattle.trace.proofs.input.feed.Statement.{statement}
 use Rattle.trace.proofs.input.feed.Tie as tie
-use Rattle.trace.proofs.input.feed.Reads as reads
-use Rattle.trace.proofs.input.feed.Lts as lts
-use Rattle.trace.proofs.input.byte.Reads as byte-reads
 
 abbrev Inv-loop : tie.InvT-loop
 Inv-loop image store₀ record₀ line₀ chunk s₀ i₀ store «record» line s i =

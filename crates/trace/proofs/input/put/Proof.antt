@@ -3,8 +3,6 @@ use lib.ListN.{length-set}
 use borrow.Author.Needs.{needs}
 use Rattle.trace.proofs.input.put.Statement.{statement}
 use Rattle.trace.proofs.input.put.Tie as tie
-use Rattle.trace.proofs.input.put.Reads as reads
-use Rattle.trace.proofs.input.put.Lts as lts
 
 slice-write-line : tie.Need-slice-write-line
 slice-write-line c = search needs

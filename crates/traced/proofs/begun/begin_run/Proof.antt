@@ -1,18 +1,12 @@
-use mathlib.Core.Path.{_≡_, sym, ap, _∙_}
-use mathlib.Core.List.{List}
+use mathlib.Core.Path.{_≡_, ap, _∙_}
 use Prim.Native.Nat.{ℕ, _-_, _≤_}
 use native.Mathlib.Omega.{arith}
 use lib.ListN.{length, take}
 use Rattle.language.specs.Image.{passes}
-use Rattle.traced.proofs.BegunLaws.{Found, found, found-passes, refuses, runs}
+use Rattle.traced.proofs.BegunLaws.{found, found-passes, refuses, runs}
 use borrow.Author.Needs.{needs}
 use Rattle.traced.proofs.begun.begin_run.Statement.{statement}
 use Rattle.traced.proofs.begun.begin_run.Tie as tie
-use Rattle.traced.proofs.begun.begin_run.Reads as reads
-use Rattle.traced.proofs.begun.begin_run.Lts as lts
-use Rattle.lines.proofs.line.refusal.Reads as refusal-reads
-use Rattle.reading.proofs.read.Reads as read-reads
-use Rattle.traced.proofs.begun.opened.Reads as opened-reads
 
 read-requires : tie.Need-read-requires
 read-requires c κs = search needs

@@ -1,9 +1,6 @@
-use mathlib.Core.Path.{_≡_, sym, ap, _∙_}
-use mathlib.Core.List.{List}
-use Prim.Native.Nat.{ℕ, _-_, _≤_}
+use Prim.Native.Nat.{_≤_}
 use native.Mathlib.Omega.{arith}
 use lib.ListN.{length}
-use Rattle.language.specs.Decode.{decode}
 use Rattle.language.specs.Layout.{storeSize}
 use Rattle.open.proofs.FirstLaws.{size-known}
 use Rattle.sound.proofs.PassedLaws.{passed-size}
@@ -11,11 +8,6 @@ use Rattle.traced.proofs.BegunLaws.{opened-is}
 use borrow.Author.Needs.{needs}
 use Rattle.traced.proofs.begun.opened.Statement.{statement}
 use Rattle.traced.proofs.begun.opened.Tie as tie
-use Rattle.traced.proofs.begun.opened.Reads as reads
-use Rattle.traced.proofs.begun.opened.Lts as lts
-use Rattle.image.proofs.sections.section.Reads as section-reads
-use Rattle.open.proofs.open.open.Reads as open-reads
-use Rattle.sound.proofs.sizes.store_size.Reads as store-size-reads
 
 section-requires : tie.Need-section-requires
 section-requires c κs = search needs

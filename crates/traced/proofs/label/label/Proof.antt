@@ -1,17 +1,7 @@
-use mathlib.Core.Path.{_≡_, sym, ap, _∙_}
-use mathlib.Core.List.{List}
-use Prim.Native.Nat.{ℕ, _-_, _≤_}
-use native.Mathlib.Omega.{arith}
 use Rattle.traced.proofs.LabelLaws.{label-read}
 use borrow.Author.Needs.{needs}
 use Rattle.traced.proofs.label.label.Statement.{statement}
 use Rattle.traced.proofs.label.label.Tie as tie
-use Rattle.traced.proofs.label.label.Reads as reads
-use Rattle.traced.proofs.label.label.Lts as lts
-use Rattle.image.proofs.header.counts_at.Reads as counts-at-reads
-use Rattle.image.proofs.names.name_at.Reads as name-at-reads
-use Rattle.image.proofs.names.state_part.Reads as state-part-reads
-use Rattle.image.proofs.sections.section.Reads as section-reads
 
 counts-at-requires : tie.Need-counts-at-requires
 counts-at-requires c κs = search needs

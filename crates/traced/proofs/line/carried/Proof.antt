@@ -1,18 +1,8 @@
-use mathlib.Core.Path.{_≡_, sym, ap, _∙_}
-use mathlib.Core.List.{List}
-use Prim.Native.Nat.{ℕ, _-_, _≤_}
-use native.Mathlib.Omega.{arith}
 use Rattle.language.specs.Scan.{bytes}
 use Rattle.traced.proofs.TurnLaws.{carried-on, carried-refused, carried-stop}
 use borrow.Author.Needs.{needs}
 use Rattle.traced.proofs.line.carried.Statement.{statement}
 use Rattle.traced.proofs.line.carried.Tie as tie
-use Rattle.traced.proofs.line.carried.Reads as reads
-use Rattle.traced.proofs.line.carried.Lts as lts
-use Rattle.cycle.proofs.cycle.cycle.Reads as cycle-reads
-use Rattle.lines.proofs.line.numbered.Reads as numbered-reads
-use Rattle.records.proofs.numbers.four.Reads as four-reads
-use Rattle.traced.proofs.line.shown.Reads as shown-reads
 
 four-requires : tie.Need-four-requires
 four-requires c κs = search needs

@@ -1,7 +1,3 @@
-use mathlib.Core.Path.{_≡_, sym, ap, _∙_}
-use mathlib.Core.List.{List}
-use Prim.Native.Nat.{ℕ, _-_, _≤_}
-use native.Mathlib.Omega.{arith}
 use Rattle.language.specs.Decode.{decode, sectionAt}
 use Rattle.language.specs.Scan.{bytes}
 use Rattle.traced.proofs.LabelLaws.{image-described}
@@ -9,13 +5,6 @@ use Rattle.traced.proofs.TurnLaws.{turned-none, turned-taken}
 use borrow.Author.Needs.{needs}
 use Rattle.traced.proofs.line.line_done.Statement.{statement}
 use Rattle.traced.proofs.line.line_done.Tie as tie
-use Rattle.traced.proofs.line.line_done.Reads as reads
-use Rattle.traced.proofs.line.line_done.Lts as lts
-use Rattle.image.proofs.sections.section.Reads as section-reads
-use Rattle.lines.proofs.line.numbered.Reads as numbered-reads
-use Rattle.lines.proofs.stimulus.stimulus_of.Reads as stimulus-of-reads
-use Rattle.records.proofs.bytes.part.Reads as part-reads
-use Rattle.traced.proofs.line.carried.Reads as carried-reads
 
 section-requires : tie.Need-section-requires
 section-requires c κs = search needs

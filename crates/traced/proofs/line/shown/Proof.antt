@@ -1,7 +1,3 @@
-use mathlib.Core.Path.{_≡_, sym, ap, _∙_}
-use mathlib.Core.List.{List}
-use Prim.Native.Nat.{ℕ, _-_, _≤_}
-use native.Mathlib.Omega.{arith}
 use Rattle.language.specs.Decode.{decode, sectionAt}
 use Rattle.language.specs.Layout.{storeSize}
 use Rattle.open.proofs.FirstLaws.{few-records}
@@ -9,11 +5,6 @@ use Rattle.traced.proofs.LabelLaws.{image-described, image-named}
 use borrow.Author.Needs.{needs}
 use Rattle.traced.proofs.line.shown.Statement.{statement}
 use Rattle.traced.proofs.line.shown.Tie as tie
-use Rattle.traced.proofs.line.shown.Reads as reads
-use Rattle.traced.proofs.line.shown.Lts as lts
-use Rattle.image.proofs.sections.section.Reads as section-reads
-use Rattle.lines.proofs.line.cycle_line.Reads as cycle-line-reads
-use Rattle.traced.proofs.label.label.Reads as label-reads
 
 label-requires : tie.Need-label-requires
 label-requires c κs = search needs

@@ -7,9 +7,6 @@ use Rattle.traced.proofs.TurnLaws.{small-stimulus, small-store}
 use borrow.Author.Needs.{needs}
 use Rattle.traced.proofs.line.turned.Statement.{statement}
 use Rattle.traced.proofs.line.turned.Tie as tie
-use Rattle.traced.proofs.line.turned.Reads as reads
-use Rattle.traced.proofs.line.turned.Lts as lts
-use Rattle.traced.proofs.line.line_done.Reads as line-done-reads
 
 mul-size : tie.Need-mul-size
 mul-size c =
