@@ -1,5 +1,5 @@
 // A cycle on the caller's buffers: store and record advanced where it completes, scratch zero however it ends.
 pub mod answer;
-pub mod carry;
+mod carry;
 pub mod cycle;
 pub mod refusal;
