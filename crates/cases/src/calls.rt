@@ -1,7 +1,7 @@
 // The calls: what a case lends, and whether the answer and all that was lent are then as it says.
-use crate::answers;
 use crate::case;
 use crate::lent;
+use crate::told;
 use records::bytes;
 use records::numbers;
 
@@ -9,7 +9,7 @@ use records::numbers;
 pub fn read(text: &[u8], image: &[u8], case: &[u8], room: &mut [u8], first: u8) -> bool {
     lent::garbage(room, first);
     let answer = reading::read(text, room);
-    if !answers::read_told(case, answer) {
+    if !told::read_told(case, answer) {
         return false;
     }
     let length = numbers::four(case, case::THIRD) as usize;
@@ -20,7 +20,7 @@ pub fn open(image: &[u8], case: &[u8], store: &mut [u8], record: &mut [u8], firs
     lent::garbage(store, first);
     lent::garbage(record, first);
     let answer = open::open::open(image, store, record);
-    if !answers::open_told(case, answer) {
+    if !told::open_told(case, answer) {
         return false;
     }
     left(case, store, record, b"")
@@ -54,7 +54,7 @@ fn cycled(
 ) -> bool {
     let stimulus = case::part(case, case::STIMULI);
     let answer = cycle::cycle::cycle(image, store, record, stimulus, scratch);
-    if !answers::cycle_told(case, answer) {
+    if !told::cycle_told(case, answer) {
         return false;
     }
     left(case, store, record, scratch)
@@ -86,7 +86,7 @@ fn ran(
     let stimuli = case::part(case, case::STIMULI);
     let cycles = numbers::four(case, case::CYCLES);
     let answer = run::run::run(image, store, record, stimuli, cycles, scratch, trace);
-    if !answers::run_told(case, answer) {
+    if !told::run_told(case, answer) {
         return false;
     }
     if !lent::holds(trace, case::part(case, case::TRACE_LEFT)) {

@@ -2,10 +2,10 @@
 use lines::line as print;
 use traced::begun;
 use traced::begun::Begun;
-use traced::line;
+use turns::line;
 ghost use Prim.Native.Nat.{_<_, _≤_};
 ghost use lib.ListN.{length};
-ghost use Rattle.traced.specs.Turns.{Ready};
+ghost use Rattle.turns.specs.Turns.{Ready};
 
 // Where the line that starts at a place ends, its LF with it; the last one may have none.
 fn line_end(input: &[u8], at: usize) -> usize

@@ -1,5 +1,5 @@
 // A cycle that is not refused, on the caller's buffers.
-use crate::answer::Answer;
+use answers::cycled::Answer;
 use image::sections;
 use sound::record;
 use sound::sizes;
@@ -17,7 +17,7 @@ ghost use Rattle.language.specs.Decode.{decode};
 ghost use Rattle.language.specs.Layout.{storeSize};
 ghost use Rattle.language.specs.Reading.{zeroes};
 ghost use Rattle.carrying.specs.Carried.{called};
-ghost use Rattle.cycle.specs.Called.{call};
+ghost use Rattle.answers.specs.Cycle.{call};
 
 // The answer; the record of a completed cycle is written.
 fn answered(a: Stepped, record: &mut [u8]) -> Answer

@@ -1,13 +1,13 @@
 // One cycle: all that a caller is owed, on every input.
-use crate::answer::Answer;
 use crate::carry;
 use crate::refusal;
 use crate::refusal::Refusal;
+use answers::cycled::Answer;
 use store::slices;
 ghost use mathlib.Core.Path.{_≡_};
 ghost use lib.ListN.{length};
 ghost use Rattle.language.specs.Calls as L;
-ghost use Rattle.cycle.specs.Called.{call};
+ghost use Rattle.answers.specs.Cycle.{call};
 
 // Refused or carried out. Scratch is zero afterwards.
 pub fn cycle(

@@ -7,7 +7,7 @@ ghost use Rattle.language.specs.Calls as L;
 ghost use Rattle.language.specs.Calls.{cycleRefusal};
 ghost use Rattle.language.specs.Description.{Description};
 ghost use Rattle.language.specs.Layout.{storeSize};
-ghost use Rattle.cycle.specs.Called.{refusalMeant};
+ghost use Rattle.cycle.specs.Refusals.{refusalMeant};
 
 pub enum Refusal {
     At(u8),

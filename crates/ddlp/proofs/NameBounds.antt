@@ -24,7 +24,7 @@ use Rattle.written.specs.Begins.{passes-begins}
 use Rattle.written.specs.Names.{names-length, namesOf}
 use Rattle.written.specs.Whole.{right-header}
 use Rattle.lookups.proofs.PassLaws.{names-are, range-so}
-use Rattle.numbers.specs.Numbers.{Short}
+use Rattle.answers.specs.Numbers.{Short}
 
 -- The names before the n-th, and it, are among all.
 upto : {A : Type 0} (name : A → List ℕ) (z : A) (xs : List A) (n : ℕ) → n < length xs → namesOf name (take n xs) + length (name (getD xs n z)) ≤ namesOf name xs

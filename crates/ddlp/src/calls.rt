@@ -1,12 +1,13 @@
 // Reading, opening, a cycle and many of them.
-use numbers::answers::CycleAnswer;
-use numbers::answers::ReadAnswer;
-use numbers::answers::RunAnswer;
+use answers::exported::CycleAnswer;
+use answers::exported::ReadAnswer;
+use answers::exported::RunAnswer;
+use answers::numbers;
 ghost use mathlib.Core.Path.{_≡_};
 ghost use lib.ListN.{length};
 ghost use Rattle.language.specs.Calls as L;
 ghost use Rattle.language.specs.Reading as R;
-ghost use Rattle.numbers.specs.Numbers.{cycleNumbers, openNumber, readNumbers, runNumbers};
+ghost use Rattle.answers.specs.Numbers.{cycleNumbers, openNumber, readNumbers, runNumbers};
 
 // The image of a text, or zero and the refusal with its place.
 #[no_mangle]

@@ -1,10 +1,11 @@
 // The lookups: a name as a part of the image, and a facility's declaration with its place in the store.
-use numbers::answers::FacilityAnswer;
-use numbers::answers::NameAnswer;
+use answers::exported::FacilityAnswer;
+use answers::exported::NameAnswer;
+use answers::numbers;
 use passes::looked;
 ghost use mathlib.Core.Path.{_≡_};
 ghost use Rattle.language.specs.Lookups as L;
-ghost use Rattle.numbers.specs.Numbers.{facilityNumbers, nameNumbers};
+ghost use Rattle.answers.specs.Numbers.{facilityNumbers, nameNumbers};
 
 // The name of a facility.
 #[no_mangle]

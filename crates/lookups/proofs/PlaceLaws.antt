@@ -26,8 +26,8 @@ use Rattle.written.specs.Back.{facility-stands}
 use Rattle.order.proofs.DeclaredLaws.{facility-is}
 use Rattle.lookups.proofs.NameLaws.{length-is}
 use Rattle.lookups.proofs.PassLaws.{facilities-are, facilities-many, held, legal-so, range-so}
-use Rattle.lookups.specs.Answers.{Looks, answered}
-use Rattle.lookups.specs.declared.declared.Looked.the-variants as A
+use Rattle.answers.specs.Lookups.{Looks, answered}
+use Rattle.answers.specs.declared.looked.Looked.the-variants as A
 
 store-fits : (d : Description) (n : ℕ) (another : Bool) (before : ℕ) (f : Facility) → facilityFaults d noPlaces n another before f (facilityPlace noPlaces n) ≡ []
     → before + facilityBytes f ≤ 16384

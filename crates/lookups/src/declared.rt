@@ -1,18 +1,12 @@
 // A facility's declaration, and its place in the store.
 use crate::NO_IMAGE;
 use crate::NO_SUCH;
+use answers::looked::Looked;
 use image::facilities;
-use image::facilities::Facility;
 use image::sections;
 ghost use mathlib.Core.Path.{_≡_};
 ghost use Rattle.language.specs.Image.{passes};
-ghost use Rattle.lookups.specs.Answers.{Looks};
-
-pub enum Looked {
-    // its `place` is the first byte in the store; of a computed terminal, the number of its expression
-    Declared(Facility),
-    Refused(u8),
-}
+ghost use Rattle.answers.specs.Lookups.{Looks};
 
 pub fn facility(image: &[u8], passed: bool, n: u32) -> Looked
     requires { ⌜ passed ≡ passes (now image) ⌝ }

@@ -1,6 +1,7 @@
 // The names of facilities and states: where they stand in the image, and that part of it, which is empty where there is none.
 use crate::NO_IMAGE;
 use crate::NO_SUCH;
+use answers::named::Answer;
 use image::header;
 use image::names;
 use image::names::Part;
@@ -13,13 +14,7 @@ ghost use Rattle.language.specs.Decode.{offsetOf};
 ghost use Rattle.language.specs.Image.{passes};
 ghost use Rattle.language.specs.Lookups as L;
 ghost use Rattle.language.specs.Lookups.{facilityName, partOf, stateName};
-ghost use Rattle.lookups.specs.Answers.{nameMeant};
-
-// Where a name stands, in bytes of the image, or why there is none.
-pub enum Answer {
-    Named(Part),
-    Refused(u8),
-}
+ghost use Rattle.answers.specs.Lookups.{nameMeant};
 
 // A part of the names as a part of the image.
 fn found(image: &[u8], part: Part) -> Answer

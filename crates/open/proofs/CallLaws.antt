@@ -17,8 +17,8 @@ use Rattle.language.specs.RecordBytes.{recordBytes, recordSize}
 use Rattle.language.specs.Step.{openRecord}
 use Rattle.language.specs.Store.{toBytes}
 use Rattle.theorems.specs.LegalForm.{left-of, right-of}
-use Rattle.open.specs.Called.{called}
-use Rattle.open.specs.declared.open.Answer.the-variants as A
+use Rattle.answers.specs.Opening.{called}
+use Rattle.answers.specs.declared.opened.Answer.the-variants as A
 
 -- s and t are the two buffers once they are zero.
 module _ (image s₀ t₀ : List ℕ) {s t : List ℕ} (e : s ≡ zeroes (length s₀)) (f : t ≡ zeroes (length t₀)) where

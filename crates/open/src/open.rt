@@ -1,5 +1,6 @@
 // The call: the tests in their order, and every byte of both buffers.
 use crate::first;
+use answers::opened::Answer;
 use image::sections;
 use sound::sizes;
 use store::slices;
@@ -13,7 +14,7 @@ ghost use Rattle.language.specs.Image as L;
 ghost use Rattle.language.specs.Judging.{both};
 ghost use Rattle.language.specs.Layout.{storeSize};
 ghost use Rattle.language.specs.RecordBytes.{recordSize};
-ghost use Rattle.open.specs.Called.{called};
+ghost use Rattle.answers.specs.Opening.{called};
 
 // The refusals, and the bytes of a record.
 const NO_IMAGE: u8 = 13;
@@ -21,11 +22,6 @@ const NO_IMAGE: u8 = 13;
 const NO_ROOM: u8 = 12;
 
 const RECORD_SIZE: usize = 80;
-
-pub enum Answer {
-    Opened,
-    Refused(u8),
-}
 
 // Whether so many bytes of store and record are enough for an image that passes.
 fn roomy(image: &[u8], store: usize, kept: usize) -> bool

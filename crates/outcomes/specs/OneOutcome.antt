@@ -22,24 +22,24 @@ use Rattle.image.specs.declared.facilities.Facility.{Facility}
 use Rattle.image.specs.declared.facilities.Kind.{Kind}
 use Rattle.image.specs.declared.facilities.Kind.the-variants as K
 use Rattle.image.specs.declared.names.Part.{Part}
-use Rattle.lookups.specs.Answers.{Looks, answered, nameMeant}
-use Rattle.lookups.specs.declared.declared.Looked.{Looked}
-use Rattle.lookups.specs.declared.declared.Looked.the-variants as F
-use Rattle.lookups.specs.declared.named.Answer as Named
-use Rattle.lookups.specs.declared.named.Answer.the-variants as N
-use Rattle.open.specs.Called as Open
-use Rattle.open.specs.declared.open.Answer as OpenAnswer
-use Rattle.open.specs.declared.open.Answer.the-variants as O
-use Rattle.cycle.specs.Called as Cycle
-use Rattle.cycle.specs.declared.answer.Answer as CycleAnswer
-use Rattle.cycle.specs.declared.answer.Answer.the-variants as C
-use Rattle.reading.specs.Calls as Called
-use Rattle.reading.specs.declared.Answer as Reading
-use Rattle.reading.specs.declared.Answer.the-variants as A
-use Rattle.run.specs.Called as Run
-use Rattle.run.specs.declared.answer.Answer as RunAnswer
-use Rattle.run.specs.declared.answer.Answer.the-variants as W
-use Rattle.run.specs.declared.answer.Tally.{Tally}
+use Rattle.answers.specs.Lookups.{Looks, answered, nameMeant}
+use Rattle.answers.specs.declared.looked.Looked.{Looked}
+use Rattle.answers.specs.declared.looked.Looked.the-variants as F
+use Rattle.answers.specs.declared.named.Answer as Named
+use Rattle.answers.specs.declared.named.Answer.the-variants as N
+use Rattle.answers.specs.Opening as Open
+use Rattle.answers.specs.declared.opened.Answer as OpenAnswer
+use Rattle.answers.specs.declared.opened.Answer.the-variants as O
+use Rattle.answers.specs.Cycle as Cycle
+use Rattle.answers.specs.declared.cycled.Answer as CycleAnswer
+use Rattle.answers.specs.declared.cycled.Answer.the-variants as C
+use Rattle.answers.specs.Reading as Called
+use Rattle.answers.specs.declared.read.Answer as Reading
+use Rattle.answers.specs.declared.read.Answer.the-variants as A
+use Rattle.answers.specs.Run as Run
+use Rattle.answers.specs.declared.ran.Answer as RunAnswer
+use Rattle.answers.specs.declared.ran.Answer.the-variants as W
+use Rattle.answers.specs.declared.ran.Tally.{Tally}
 
 -- ---- The check, and names as parts of the image: the contract names the answer itself.
 

@@ -16,9 +16,8 @@ use Rattle.language.specs.Rules.{mostWork}
 use Rattle.claims.specs.EachCycle.{ready-again}
 use Rattle.claims.specs.EndToEnd.{not-refused}
 use Rattle.claims.specs.StopsFirst.{Ends, firstStop, goes-on, halts-for, stops-first}
-use Rattle.run.proofs.FormLaws.{all-first, all-rest}
-use Rattle.run.proofs.RunLaws.{going, run-free}
 use Rattle.stays.specs.AnyRun.{Ready, opens-ready}
+use Rattle.stays.specs.ManyCycles.{all-first, all-rest, going, run-free}
 use Rattle.stays.specs.StaysSound.{no-refusal, unrefused}
 
 -- Of k cycles from r on: how many more were completed, and what ended them.

@@ -1,12 +1,12 @@
 // Lookups in any image: names and where they stand in it, and declarations with their places in the store.
 use crate::passes;
+use answers::looked::Looked;
+use answers::named::Answer;
 use lookups::declared;
-use lookups::declared::Looked;
 use lookups::named;
-use lookups::named::Answer;
 ghost use mathlib.Core.Path.{_≡_};
 ghost use Rattle.language.specs.Lookups as L;
-ghost use Rattle.lookups.specs.Answers.{Looks, nameMeant};
+ghost use Rattle.answers.specs.Lookups.{Looks, nameMeant};
 
 // Where the name of facility n stands.
 pub fn facility_part(image: &[u8], n: u32) -> Answer

@@ -45,7 +45,7 @@ use Rattle.writing.proofs.TextsStand.{names-room, text-judged}
 use Rattle.writing.specs.declared.Tally.{Tally}
 use Rattle.writing.specs.Sections.{besideHeld, sectionsHeld}
 use Rattle.written.specs.Whole.{encode-long, sized}
-use Rattle.reading.specs.Calls.{Short}
+use Rattle.answers.specs.Reading.{Short}
 
 -- ---- Places beside records have fifteen bits.
 

@@ -1,4 +1,5 @@
 // Reading a text (01, "Refusal numbers"): its length, its words, its grammar and the rest of the rules, and at last its image.
+use answers::read::Answer;
 use described::Outcome;
 use described::whole;
 use store::slices;
@@ -16,14 +17,8 @@ ghost use lib.ListN.{length};
 ghost use Rattle.language.specs.Reading as L;
 ghost use Rattle.language.specs.Sections.{parse};
 ghost use Rattle.language.specs.WordStage.{scan};
-ghost use Rattle.reading.specs.Calls.{Short, Tells, Writes, called};
-
-pub enum Answer {
-    // The image's length.
-    Accepted(usize),
-    // The refusal's number and place.
-    Refused(u8, usize),
-}
+ghost use Rattle.answers.specs.Reading.{Short, called};
+ghost use Rattle.reading.specs.Writes.{Tells, Writes};
 
 // A refusal leaves nothing in the buffer.
 fn refuse(image: &mut [u8], f: Fault) -> Answer

@@ -1,4 +1,1 @@
-pub mod FormLaws
 pub mod RefusalLaws
-pub mod RunLaws
-pub mod SoFarLaws

@@ -3,8 +3,8 @@ use mathlib.Core.Bool.{true, false}
 use mathlib.Core.List.{List}
 use mathlib.Core.Option.{none, some}
 use mathlib.Core.Path.{_≡_, refl, ap, _∙_}
-use Prim.Native.Nat.{ℕ, _*_, _/_, _≤_, _<_}
-use native.Mathlib.Nat.{mul-comm, mul-div-cancel, mul-le-mul}
+use Prim.Native.Nat.{ℕ, _*_, _≤_, _<_}
+use native.Mathlib.Nat.{mul-le-mul}
 use native.Mathlib.Omega.{arith}
 use borrow.Author.Tests.{eq-eqb, ne-eqb}
 use lib.Dec.{leb}
@@ -17,10 +17,6 @@ use Rattle.language.specs.Layout.{storeSize}
 use Rattle.language.specs.Reading.{zeroes}
 
 -- ---- Numbers.
-
--- All cycles have as many bytes.
-pub shared : (n k m : ℕ) → 0 < k → n ≡ k * m → n / k ≡ m
-shared n k m h e = ap (λ (x : ℕ). x / k) (e ∙ mul-comm k m) ∙ mul-div-cancel m h
 
 pub product-small : (k m : ℕ) → k < 4294967296 → m ≤ 16384 → k * m ≤ 4294967296 * 16384
 product-small k m h l = mul-le-mul {n₁ = k} {m₁ = m} {n₂ = 4294967296} {m₂ = 16384} (omega arith) l

@@ -1,7 +1,7 @@
 // Why a run is refused: an image that does not pass, too little room, store or record not sound, a stimulus of another form.
-use crate::formed;
 use cycle::refusal;
 use cycle::refusal::Refusal;
+use cycles::formed;
 use image::sections;
 use sound::sizes;
 use sound::soundness;
@@ -10,7 +10,7 @@ ghost use Prim.Native.Nat.{_≤_};
 ghost use Rattle.language.specs.Calls.{runRefusal, traceRoomy};
 ghost use Rattle.language.specs.Description.{Description};
 ghost use Rattle.language.specs.Layout.{storeSize};
-ghost use Rattle.cycle.specs.Called.{refusalMeant};
+ghost use Rattle.cycle.specs.Refusals.{refusalMeant};
 
 // Whether the trace takes a store of this size after each cycle, or is empty.
 fn trace_roomy(size: usize, cycles: u32, trace: usize) -> bool

@@ -1,13 +1,13 @@
 // Many cycles: all that a caller is owed, on every input.
-use crate::answer::Answer;
-use crate::carry;
 use crate::refusal;
+use answers::ran::Answer;
 use cycle::refusal::Refusal;
+use cycles::carry;
 use store::slices;
 ghost use mathlib.Core.Path.{_≡_};
 ghost use lib.ListN.{length};
 ghost use Rattle.language.specs.Calls as L;
-ghost use Rattle.run.specs.Called.{call};
+ghost use Rattle.answers.specs.Run.{call};
 
 // Refused or carried out. The trace is zero beyond the stores of completed cycles, and scratch is zero.
 pub fn run(

@@ -3,3 +3,4 @@ pub mod RecordBack
 pub mod StoreBack
 pub mod StaysSound
 pub mod AnyRun
+pub mod ManyCycles

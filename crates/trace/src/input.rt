@@ -3,11 +3,11 @@ use libc::STDIN_FILENO;
 use libc::STDOUT_FILENO;
 use lines::line as print;
 use records::bytes;
-use traced::line as taken;
+use turns::line as taken;
 ghost use mathlib.Core.Path.{_≡_};
 ghost use Prim.Native.Nat.{_≤_};
 ghost use lib.ListN.{length};
-ghost use Rattle.traced.specs.Turns.{Ready};
+ghost use Rattle.turns.specs.Turns.{Ready};
 
 // The bytes of the line so far, the completed cycles, and whether the run goes on.
 struct State {

@@ -20,16 +20,16 @@ use Rattle.language.specs.RecordBytes.{recordSize}
 use Rattle.language.specs.Scan.{bytes}
 use Rattle.language.specs.Trace.{afterRead, decimal, lineEnd, runLines, trace, traceImage}
 use Rattle.passing.specs.PassesExactly.{reads-pass}
-use Rattle.reading.specs.Calls.{called}
-use Rattle.reading.specs.declared.Answer.{Answer}
-use Rattle.reading.specs.declared.Answer.the-variants as A
-use Rattle.open.specs.Called as Opening
-use Rattle.open.specs.declared.open.Answer as O
+use Rattle.answers.specs.Reading.{called}
+use Rattle.answers.specs.declared.read.Answer.{Answer}
+use Rattle.answers.specs.declared.read.Answer.the-variants as A
+use Rattle.answers.specs.Opening as Opening
+use Rattle.answers.specs.declared.opened.Answer as O
 use Rattle.sound.proofs.PassedLaws.{passed-size}
 use Rattle.lines.proofs.LineRoom.{decimal-short}
 use Rattle.lines.specs.Adds.{Adds}
 use Rattle.lines.specs.Texts.{refusedText}
-use Rattle.traced.specs.Turns.{Opened, Refuses, Runs}
+use Rattle.traced.specs.Begins.{Opened, Refuses, Runs}
 
 -- ---- What reading found.
 

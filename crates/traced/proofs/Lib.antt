@@ -1,4 +1,2 @@
 pub mod BegunLaws
-pub mod LabelLaws
-pub mod TurnLaws
 pub mod Whole

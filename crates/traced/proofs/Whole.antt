@@ -6,7 +6,8 @@ use Prim.Native.Nat.{ℕ, suc}
 use lib.ListN.{take}
 use Rattle.language.specs.Decode.{decode}
 use Rattle.language.specs.Trace.{endLine, runLines, trace}
-use Rattle.traced.specs.Turns.{Runs, Turned}
+use Rattle.turns.specs.Turns.{Turned}
+use Rattle.traced.specs.Begins.{Runs}
 
 -- The lines that are left after `done` cycles, one turn each until the run ends, and all that they add.
 pub data Added (image : List ℕ) : List (List ℕ) → ℕ → List ℕ → List ℕ → List ℕ → Type 0 where

@@ -1,7 +1,7 @@
 // A text is read and opened, or refused.
+use answers::read::Answer;
 use image::sections;
 use lines::line;
-use reading::Answer;
 use sound::sizes;
 ghost use mathlib.Core.Bool.{true};
 ghost use mathlib.Core.Path.{_≡_};
@@ -9,7 +9,7 @@ ghost use Prim.Native.Nat.{_≤_};
 ghost use lib.ListN.{length};
 ghost use Rattle.language.specs.Image.{passes};
 ghost use Rattle.language.specs.RecordBytes.{recordSize};
-ghost use Rattle.traced.specs.Turns.{Begins, Opened};
+ghost use Rattle.traced.specs.Begins.{Begins, Opened};
 
 pub enum Begun {
     // The bytes of the image and of the store.

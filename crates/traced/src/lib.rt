@@ -1,4 +1,2 @@
-// What the trace program does between its input and its output: a text is read and opened, a line of input bits is a cycle, and what is printed is added to a buffer.
+// What the trace program begins with: a text is read and opened, or refused.
 pub mod begun;
-mod label;
-pub mod line;

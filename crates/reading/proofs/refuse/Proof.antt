@@ -1,7 +1,7 @@
 use borrow.Author.Needs.{needs}
 use mathlib.Core.Path.{ap}
-use Rattle.reading.specs.Calls.{called}
-use Rattle.reading.specs.declared.Answer.the-variants as A
+use Rattle.answers.specs.Reading.{called}
+use Rattle.answers.specs.declared.read.Answer.the-variants as A
 use Rattle.reading.proofs.refuse.Statement.{statement}
 use Rattle.reading.proofs.refuse.Tie as tie
 

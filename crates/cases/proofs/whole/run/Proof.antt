@@ -3,7 +3,7 @@ use mathlib.Core.Path.{_≡_}
 use Prim.Native.Nat.{_-_, _≤_}
 use native.Mathlib.Omega.{arith}
 use lib.ListN.{length}
-use Rattle.traced.specs.Turns.{Ready}
+use Rattle.turns.specs.Turns.{Ready}
 use Rattle.cases.proofs.whole.run.Statement.{statement}
 use Rattle.cases.proofs.whole.run.Tie as tie
 

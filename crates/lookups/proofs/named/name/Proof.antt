@@ -1,7 +1,7 @@
 use mathlib.Core.Path.{ap, sym, _∙_}
 use Rattle.language.specs.Lookups.{partOf}
-use Rattle.lookups.specs.Answers.{nameMeant}
-use Rattle.lookups.specs.declared.named.Answer.{Answer}
+use Rattle.answers.specs.Lookups.{nameMeant}
+use Rattle.answers.specs.declared.named.Answer.{Answer}
 use borrow.Author.Needs.{needs}
 use Rattle.lookups.proofs.named.name.Statement.{statement}
 use Rattle.lookups.proofs.named.name.Tie as tie

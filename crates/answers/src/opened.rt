@@ -1,0 +1,5 @@
+// What opening answers.
+pub enum Answer {
+    Opened,
+    Refused(u8),
+}

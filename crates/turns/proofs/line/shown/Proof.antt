@@ -1,0 +1,40 @@
+use Rattle.language.specs.Decode.{decode, sectionAt}
+use Rattle.language.specs.Layout.{storeSize}
+use Rattle.sound.proofs.PassedLaws.{passed-facilities}
+use Rattle.turns.proofs.LabelLaws.{image-described, image-named}
+use borrow.Author.Needs.{needs}
+use Rattle.turns.proofs.line.shown.Statement.{statement}
+use Rattle.turns.proofs.line.shown.Tie as tie
+
+label-requires : tie.Need-label-requires
+label-requires c κs = search needs
+
+section-requires : tie.Need-section-requires
+section-requires c κs = search needs
+
+section-requires-2 : tie.Need-section-requires-2
+section-requires-2 c κs = search needs
+
+cycle-line-requires : tie.Need-cycle-line-requires
+cycle-line-requires c κs =
+    rw (c .before .before .section .ensures) (passed-facilities _ (c .before .before .before .before .before .before .before .pre .0))
+
+same-length : tie.Need-same-length
+same-length c = search needs
+
+returns : tie.Need-returns
+unfolding storeSize
+returns c =
+    let i = c .before .before .before .before .before .before .before .before .before .before .args .image .now in
+    c .before .before .cycle-line .ensures .1 (decode i) (sectionAt 2 8 i) (c .before .before .before .before .before .before .before .before .before .before .args .state) (image-described i (c .before .before .before .before .before .before .before .before .before .before .pre .0) (c .before .before .before .before .before .section .ensures)) (image-named i (c .before .before .before .before .before .section .ensures) (c .before .before .before .before .section2 .ensures)) (c .before .before .before .before .before .before .before .before .before .before .pre .1) (c .before .before .before .before .before .before .label .ensures)
+
+pub shown-spec : {M : Type 1} → statement M
+shown-spec =
+    tie.close
+    (tie.spec
+    label-requires
+    section-requires
+    section-requires-2
+    cycle-line-requires
+    same-length
+    returns)
