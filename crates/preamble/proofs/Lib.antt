@@ -1,3 +1,10 @@
+pub mod Telling
+pub mod HeadWords
+pub mod HeadLaws
+pub mod Appended
+pub mod ListedMore
+pub mod OneLaws
+pub mod OperationLists
 pub mod SectionWords
 pub mod ListLaws
 pub mod ReadyLaws

@@ -17,7 +17,7 @@ use Rattle.dimensions.specs.Telling.{Tells, same}
 use Rattle.language.specs.Building.{Built}
 use Rattle.language.specs.Machine.{ask}
 use Rattle.language.specs.Tree.{Declaration}
-use Rattle.operations.proofs.Telling.{told}
+use Rattle.preamble.proofs.Telling.{told}
 use Rattle.words.specs.declared.Word.{Word}
 use Rattle.preamble.proofs.SectionWords.{section-taken}
 use Rattle.preamble.specs.Sections.{Between, Section, SectionRead, Starts, afterIn}

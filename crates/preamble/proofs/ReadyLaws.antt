@@ -19,11 +19,11 @@ use Rattle.language.specs.DescribeText.{facilitiesOf, facilityNodes, facilitySi
 use Rattle.language.specs.Layout.{storeSizeOf}
 use Rattle.language.specs.Machine.{afterTerminals, ask, operationSpec, operationsMore}
 use Rattle.language.specs.Tree.{Declaration, Name}
-use Rattle.operations.proofs.ListLaws.{begins}
-use Rattle.operations.proofs.Telling.{refuses, through, told}
-use Rattle.operations.specs.Heads.{controlStack}
-use Rattle.operations.specs.Listed.{Standing}
-use Rattle.operations.specs.Lists.{Lists, SomeRead, Stands, withOperations}
+use Rattle.preamble.proofs.OperationLists.{begins}
+use Rattle.preamble.proofs.Telling.{refuses, through, told}
+use Rattle.preamble.specs.Heads.{controlStack}
+use Rattle.preamble.specs.Listed.{Standing}
+use Rattle.preamble.specs.Lists.{Lists, SomeRead, Stands, withOperations}
 use Rattle.simple.specs.Actions.{frontOf}
 use Rattle.simple.specs.declared.Acted.{Acted}
 use Rattle.tables.specs.declared.Table.the-variants as T

@@ -12,7 +12,7 @@ use Rattle.language.specs.Building.{Built, withText}
 use Rattle.language.specs.Declaring.{withMemory, withRegister, withTerminal}
 use Rattle.language.specs.Machine.{Ask, afterMemories, afterRegisters, ask, sections}
 use Rattle.language.specs.Tree.{Declaration, Operation, Text}
-use Rattle.operations.specs.Heads.{controlStack}
+use Rattle.preamble.specs.Heads.{controlStack}
 use Rattle.simple.specs.declared.Acted.{Acted}
 use Rattle.words.specs.declared.Word.{Word}
 use Rattle.preamble.proofs.SectionWords.{no-memories, no-terminals}

@@ -13,7 +13,7 @@ use Rattle.language.specs.Building.{Built}
 use Rattle.language.specs.Machine.{Ask, afterMemories, afterRegisters, afterTerminals, ask, choose, feed, finish, operationSpec, operationsMore, refused, run, sections, tallied}
 use Rattle.language.specs.Sections.{ruleOf}
 use Rattle.language.specs.Words.{fault}
-use Rattle.operations.specs.Heads.{controlStack}
+use Rattle.preamble.specs.Heads.{controlStack}
 use Rattle.words.specs.declared.Word.{Word}
 use Rattle.words.specs.Meaning.{positioned}
 use Rattle.preamble.specs.Sections.{Comes, afterIn, atStart, behindMemories, behindRegisters, wordIn}

@@ -21,7 +21,7 @@ use Rattle.language.specs.Machine.{ask, deepest, mostCounted, mostFacilities, m
 use Rattle.language.specs.Sections.{parse, parseWith}
 use Rattle.language.specs.Words as L
 use Rattle.language.specs.WordStage.{scan, wordsFrom}
-use Rattle.operations.proofs.Telling.{refuses}
+use Rattle.preamble.proofs.Telling.{refuses}
 use Rattle.simple.specs.declared.Acted.{Acted}
 use Rattle.tables.specs.Rows.{rows}
 use Rattle.words.specs.declared.Word.{Word}

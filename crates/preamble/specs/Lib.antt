@@ -1,1 +1,4 @@
+pub mod Heads
+pub mod Listed
+pub mod Lists
 pub mod Sections

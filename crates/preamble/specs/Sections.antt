@@ -19,8 +19,8 @@ use Rattle.language.specs.Machine.{Ask, afterMemories, afterRegisters, afterTer
 use Rattle.language.specs.Sections.{parse}
 use Rattle.language.specs.Tree.{Declaration, Operation, Text}
 use Rattle.language.specs.WordStage.{scan}
-use Rattle.operations.specs.Heads.{controlStack}
-use Rattle.operations.specs.Listed.{Standing}
+use Rattle.preamble.specs.Heads.{controlStack}
+use Rattle.preamble.specs.Listed.{Standing}
 use Rattle.simple.specs.declared.Acted.{Acted}
 use Rattle.words.specs.declared.Fault.{Fault}
 use Rattle.words.specs.declared.Word.{Word}

@@ -10,6 +10,7 @@ ghost use lib.ListN.{length};
 ghost use Rattle.preamble.specs.Sections.{Preamble, startState};
 
 mod lists;
+mod operations;
 mod sections;
 
 // Nothing is counted or written yet.

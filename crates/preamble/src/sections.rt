@@ -1,5 +1,6 @@
 // The sections in their order; each word decides what may follow.
 use crate::lists;
+use crate::operations::lists as operations;
 use course::Bearing;
 use course::State;
 use course::Verdict;
@@ -28,7 +29,7 @@ fn operations(text: &[u8], w: Word, work: &mut [u8; 275296], s: State, place: u1
     };
     let next = first.next;
     let state = first.state;
-    operations::lists::operations(text, next, work, state, 0)
+    operations::operations(text, next, work, state, 0)
 }
 
 // Behind the terminals.

@@ -7,9 +7,9 @@ use Prim.Native.Nat.{ℕ, _≤_}
 use borrow.Author.Tests.{ltb-false}
 use lib.Dec.{ltb}
 use lib.ListN.{length}
-use Rattle.described.specs.declared.Outcome.{Outcome}
-use Rattle.described.specs.declared.Outcome.the-variants as Oc
-use Rattle.described.specs.Outcomes.{Described, Parses}
+use Rattle.reading.specs.declared.described.Outcome.{Outcome}
+use Rattle.reading.specs.declared.described.Outcome.the-variants as Oc
+use Rattle.reading.specs.Outcomes.{Described, Parses}
 use Rattle.grammar.specs.Exact.{exact-text}
 use Rattle.language.specs.Building.{Built}
 use Rattle.language.specs.DescribeText.{describe}

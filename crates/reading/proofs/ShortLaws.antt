@@ -8,7 +8,7 @@ use Prim.Native.Nat.{ℕ, zero, suc, _+_, _*_, _/_, _^_, _<_, _≤_}
 use borrow.Author.Tests.{ltb-false, ltb-true}
 use lib.Dec.{leb, ltb}
 use lib.ListN.{getD, length, length-take}
-use Rattle.described.specs.Outcomes.{Parses}
+use Rattle.reading.specs.Outcomes.{Parses}
 use Rattle.grammar.specs.Exact.{exact-text}
 use Rattle.language.specs.Building.{Built}
 use Rattle.language.specs.Decode.{pick, upTo}

@@ -5,7 +5,7 @@ use Prim.Native.Nat.{ℕ, _≤_}
 use lib.ListN.{length}
 use Rattle.answers.specs.Reading.{called}
 use Rattle.answers.specs.declared.read.Answer.{Answer}
-use Rattle.described.specs.Outcomes.{Parses}
+use Rattle.reading.specs.Outcomes.{Parses}
 use Rattle.language.specs.DescribeText.{describe}
 use Rattle.language.specs.Reading.{ReadCall, readCall, restOf}
 use Rattle.writing.specs.Calls as W

@@ -1,7 +1,7 @@
 // Reading a text (01, "Refusal numbers"): its length, its words, its grammar and the rest of the rules, and at last its image.
+use crate::described::Outcome;
+use crate::described::whole;
 use answers::read::Answer;
-use described::Outcome;
-use described::whole;
 use store::slices;
 use words::Fault;
 use words::Judged;
@@ -19,6 +19,8 @@ ghost use Rattle.language.specs.Sections.{parse};
 ghost use Rattle.language.specs.WordStage.{scan};
 ghost use Rattle.answers.specs.Reading.{Short, called};
 ghost use Rattle.reading.specs.Writes.{Tells, Writes};
+
+mod described;
 
 // A refusal leaves nothing in the buffer.
 fn refuse(image: &mut [u8], f: Fault) -> Answer

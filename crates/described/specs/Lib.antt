@@ -1,4 +1,0 @@
-pub mod Labels
-pub mod Lengths
-pub mod Outcomes
-pub mod Ready

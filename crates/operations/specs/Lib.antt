@@ -1,3 +1,0 @@
-pub mod Heads
-pub mod Listed
-pub mod Lists

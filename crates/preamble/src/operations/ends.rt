@@ -1,0 +1,52 @@
+// The end of the section: CONTROL, alone or behind a period or END.
+use course::Answer;
+use course::Bearing;
+use course::State;
+use course::Verdict;
+use course::kinds;
+use course::taking;
+use words::Word;
+ghost use Rattle.preamble.specs.Heads.{Controls, Ends, Shuts};
+
+// CONTROL must come.
+fn control(text: &[u8], w: Word, s: State) -> Answer
+    ensures { λ r. ⌜ Controls (now (text .entry)) w s r ⌝ }
+{
+    let kind = w.kind;
+    if kinds::number(kind) != kinds::CONTROL {
+        return taking::refuse(w, s, 3);
+    }
+    taking::take(text, w, s, false, Bearing::Level)
+}
+
+// A word that ends a list of declarations, and CONTROL behind it.
+fn closed(text: &[u8], w: Word, s: State) -> Answer
+    ensures { λ r. ⌜ Shuts (now (text .entry)) w s r ⌝ }
+{
+    let end = taking::take(text, w, s, false, Bearing::Level);
+    let verdict = end.verdict;
+    let Verdict::Done = verdict else {
+        return end;
+    };
+    let next = end.next;
+    let state = end.state;
+    control(text, next, state)
+}
+
+// What ends the operations, where no comma follows.
+pub fn ended(text: &[u8], w: Word, s: State) -> Answer
+    ensures { λ r. ⌜ Ends (now (text .entry)) w s r ⌝ }
+{
+    let kind = w.kind;
+    let k = kinds::number(kind);
+    if k == kinds::CONTROL {
+        return taking::take(text, w, s, false, Bearing::Level);
+    }
+    if k == kinds::PERIOD {
+        return closed(text, w, s);
+    }
+    if k == kinds::END {
+        return closed(text, w, s);
+    }
+    taking::refuse(w, s, 3)
+}

@@ -1,0 +1,64 @@
+// What an operation begins with: its name, `=` and `[`.
+use course::Answer;
+use course::Bearing;
+use course::State;
+use course::Verdict;
+use course::kinds;
+use course::taking;
+use words::Word;
+ghost use mathlib.Core.Path.{_≡_};
+ghost use Prim.Native.Nat.{_≤_};
+ghost use Rattle.preamble.specs.Heads.{Heads, Names, moreState};
+
+// The state with one operation more; past the ceiling it makes no difference.
+fn one_more(s: State) -> State
+    ensures { λ r. ⌜ (s .operations ≤ 128 → r ≡ moreState s) ⌝ }
+{
+    let operations = if s.operations > 128 {
+        s.operations
+    } else {
+        s.operations + 1
+    };
+    State {
+        facilities: s.facilities,
+        operations,
+        states: s.states,
+        counted: s.counted,
+        nesting: s.nesting,
+        nodes: s.nodes,
+        known: s.known,
+    }
+}
+
+// Takes an operation's name, which counts it.
+fn name(text: &[u8], w: Word, s: State) -> Answer
+    ensures { λ r. ⌜ Names (now (text .entry)) w s r ⌝ }
+{
+    let kind = w.kind;
+    if kinds::number(kind) != kinds::NAME {
+        return taking::refuse(w, s, 3);
+    }
+    let more = one_more(s);
+    taking::take(text, w, more, false, Bearing::Level)
+}
+
+// Takes all before the body.
+pub fn head(text: &[u8], w: Word, s: State) -> Answer
+    ensures { λ r. ⌜ Heads (now (text .entry)) w s r ⌝ }
+{
+    let named = name(text, w, s);
+    let verdict = named.verdict;
+    let Verdict::Done = verdict else {
+        return named;
+    };
+    let next = named.next;
+    let state = named.state;
+    let equal = taking::expect(text, next, state, kinds::EQUAL, Bearing::Level);
+    let verdict = equal.verdict;
+    let Verdict::Done = verdict else {
+        return equal;
+    };
+    let next = equal.next;
+    let state = equal.state;
+    taking::expect(text, next, state, kinds::OPEN_BRACKET, Bearing::Opens)
+}

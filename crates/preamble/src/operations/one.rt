@@ -1,0 +1,77 @@
+// One operation: what it begins with, its body, and its record.
+use crate::operations::heads;
+use course::Bearing;
+use course::State;
+use course::Verdict;
+use course::kinds;
+use course::taking;
+use image::runs::Run;
+use meanings::Counts;
+use simple::Acted;
+use tables::operations;
+use words::Word;
+ghost use mathlib.Core.Path.{_≡_};
+ghost use Prim.Native.Nat.{_-_, _<_};
+ghost use Rattle.tables.specs.Operations.{OperationAdded};
+ghost use Rattle.preamble.specs.Heads.{Body};
+ghost use Rattle.preamble.specs.Lists.{One};
+
+// The body and the bracket behind it.
+fn body(s: State, text: &[u8], w: Word, work: &mut [u8; 275296], n: Counts, acts: u16) -> Acted
+    ensures { λ r. ⌜ Body (now (text .entry)) n w s acts (now (work .entry)) (now (work .exit)) r ⌝ }
+{
+    let list = actions::list(s, false, text, w, work, n, acts);
+    let answer = list.answer;
+    let verdict = answer.verdict;
+    let Verdict::Done = verdict else {
+        return list;
+    };
+    let next = answer.next;
+    let state = answer.state;
+    let end = taking::expect(text, next, state, kinds::CLOSE_BRACKET, Bearing::Closes);
+    Acted {
+        answer: end,
+        actions: list.actions,
+    }
+}
+
+// How many of `count` records stand from record n on.
+fn since(n: u16, count: u16) -> u16
+    ensures { λ r. ⌜ r ≡ count - n ⌝ }
+{
+    if count < n { 0 } else { count - n }
+}
+
+// Reads an operation. It knows the operations before it, and not itself.
+pub fn operation(text: &[u8], w: Word, work: &mut [u8; 275296], s: State, acts: u16) -> Acted
+    ensures { λ r. ⌜ One (now (text .entry)) w s acts (now (work .entry)) (now (work .exit)) r ⌝ }
+{
+    let head = heads::head(text, w, s);
+    let verdict = head.verdict;
+    let Verdict::Done = verdict else {
+        return Acted {
+            answer: head,
+            actions: acts,
+        };
+    };
+    let next = head.next;
+    let state = head.state;
+    let n = Counts {
+        facilities: s.known,
+        operations: s.operations,
+        states: 0,
+    };
+    let read = body(state, text, next, work, n, acts);
+    let answer = read.answer;
+    let verdict = answer.verdict;
+    let Verdict::Done = verdict else {
+        return read;
+    };
+    let at = w.at;
+    let run = Run {
+        first: acts,
+        count: since(acts, read.actions),
+    };
+    operations::add_operation(work, s.operations, at, w.size, run);
+    read
+}

@@ -1,0 +1,42 @@
+// The states of a text, read a first time for their labels and a second time with them as names.
+use crate::described::labels;
+use course::State;
+use course::Verdict;
+use meanings::Counts;
+use simple::Acted;
+use states::reading;
+use words::Word;
+ghost use Rattle.reading.specs.Ready.{Behind, Twice};
+
+// All states, behind the sections before them; l is the length that their bare values take, and 0 where there is none.
+pub fn states_of(
+    text: &[u8],
+    work: &mut [u8; 275296],
+    w: Word,
+    s: State,
+    acts: u16,
+    l: u16,
+) -> Acted
+    requires { ⌜ Behind (now text) w s acts (now work) ⌝ }
+    ensures { λ r. ⌜ Twice (now (text .entry)) l w s acts (now (work .entry)) (now (work .exit)) r ⌝ }
+{
+    let unnamed = Counts {
+        facilities: s.known,
+        operations: s.operations,
+        states: 0,
+    };
+    let first = reading::states(s, text, w, work, unnamed, acts, l);
+    let answer = first.answer;
+    let verdict = answer.verdict;
+    let Verdict::Done = verdict else {
+        return first;
+    };
+    let read = answer.state;
+    labels::copy_labels(work, read.states);
+    let named = Counts {
+        facilities: s.known,
+        operations: s.operations,
+        states: read.states,
+    };
+    reading::states(s, text, w, work, named, acts, l)
+}
