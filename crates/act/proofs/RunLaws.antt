@@ -19,7 +19,7 @@ use Rattle.records.proofs.actions.Action.{the-type}
 use Rattle.records.specs.Actions.{meant}
 use Rattle.records.specs.declared.actions.Action.{Action}
 use Rattle.records.specs.declared.actions.Action.the-variants as A
-use Rattle.store.specs.InBytes.{InBytes, bytes}
+use Rattle.layout.specs.InBytes.{InBytes, bytes}
 use Rattle.referents.specs.Worth.{stuckMeant}
 use Rattle.storing.proofs.doing.Did.{the-type as did-type}
 use Rattle.storing.specs.Seen.{Ran, View, did, ranSeen, seen, stopped, stuck, went}

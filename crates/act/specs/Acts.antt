@@ -20,7 +20,7 @@ use Rattle.image.specs.Declarations.{operationIn}
 use Rattle.referents.specs.Described.{Describes}
 use Rattle.referents.specs.declared.arms.Found.{Found}
 use Rattle.referents.specs.declared.arms.Found.the-variants as F
-use Rattle.store.specs.InBytes.{InBytes}
+use Rattle.layout.specs.InBytes.{InBytes}
 use Rattle.storing.specs.Seen.{View, seen}
 use Rattle.act.specs.declared.arms.Arm.{Arm}
 use Rattle.act.specs.declared.arms.Arm.the-variants as R

@@ -16,7 +16,7 @@ ghost use lib.ListN.{length};
 ghost use Rattle.language.specs.Acting as T;
 ghost use Rattle.language.specs.Meaning as M;
 ghost use Rattle.records.specs.Actions.{meant};
-ghost use Rattle.store.specs.InBytes.{bytes};
+ghost use Rattle.layout.specs.InBytes.{bytes};
 ghost use Rattle.storing.specs.Seen.{did, ranSeen, viewed};
 ghost use Rattle.act.specs.Acts.{ForActs, armDone, armMeant, chosenDone, oneDone, runOf, whenDone};
 

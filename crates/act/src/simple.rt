@@ -9,7 +9,7 @@ ghost use lib.ListN.{length};
 ghost use Rattle.language.specs.Acting as T;
 ghost use Rattle.language.specs.Meaning as M;
 ghost use Rattle.records.specs.Actions.{meant};
-ghost use Rattle.store.specs.InBytes.{bytes};
+ghost use Rattle.layout.specs.InBytes.{bytes};
 ghost use Rattle.storing.specs.Seen.{ForDoing, did, ranSeen, viewed};
 
 // What such an action does; states are named by numbers below `states`.

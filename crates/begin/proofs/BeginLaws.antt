@@ -11,9 +11,9 @@ use Rattle.language.specs.Layout.{facilityBytes}
 use Rattle.language.specs.Store.{isInput}
 use Rattle.language.specs.Tree.{Kind, computed, input, memory, plain, register, sequencing}
 use Rattle.records.specs.Placed.{placed}
-use Rattle.store.proofs.ByteLists.{bytes-take}
-use Rattle.store.proofs.Zeros.{Zeros}
-use Rattle.store.specs.Layout.{Bytes}
+use Rattle.layout.proofs.ByteLists.{bytes-take}
+use Rattle.layout.proofs.Zeros.{Zeros}
+use Rattle.layout.specs.Layout.{Bytes}
 use Rattle.begin.proofs.SizeLaws.{input-whole, put-there}
 use Rattle.begin.specs.InBytes.{beginBytes, begunAt, bytesBegun, changed, inputBytes}
 

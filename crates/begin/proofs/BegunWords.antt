@@ -12,10 +12,10 @@ use Rattle.language.specs.Description.{Facility, isComputed, wordCount, wordLen
 use Rattle.language.specs.Layout.{facilityBytes, storeSizeOf, wordBytes, wordFromBytes}
 use Rattle.language.specs.Store.{Words, begin, begun, facilityWords, fromBytes, headOf, inputsOf, isInput, toBytes, wordsFrom, zeroWords}
 use Rattle.language.specs.Tree.{Kind, computed, input, memory, plain, register, sequencing}
-use Rattle.store.proofs.ByteLists.{bytes-append, bytes-drop}
-use Rattle.store.proofs.Inverse.{bytes-again}
-use Rattle.store.proofs.Zeros.{store-zero}
-use Rattle.store.specs.Layout.{Bytes}
+use Rattle.layout.proofs.ByteLists.{bytes-append, bytes-drop}
+use Rattle.layout.proofs.Inverse.{bytes-again}
+use Rattle.layout.proofs.Zeros.{store-zero}
+use Rattle.layout.specs.Layout.{Bytes}
 use Rattle.begin.proofs.BeginLaws.{Room, begun-bytes, begun-length, bytes-zeros, zeros}
 use Rattle.begin.proofs.SizeLaws.{input-not, input-whole}
 use Rattle.begin.specs.InBytes.{beginBytes, bytesBegun, inputBytes}

@@ -13,7 +13,7 @@ use Rattle.language.specs.Store.{isInput}
 use Rattle.language.specs.Tree.{Kind, computed, input, memory, plain, register, sequencing}
 use Rattle.records.proofs.ByteLaws.{placed-whole}
 use Rattle.records.specs.Placed.{placed}
-use Rattle.store.specs.Spare.{narrowAt}
+use Rattle.layout.specs.Spare.{narrowAt}
 use Rattle.begin.specs.InBytes.{fitsAt, inputBytes}
 
 -- 65,536 words of 8,192 bytes at most.

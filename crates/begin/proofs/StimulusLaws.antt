@@ -14,8 +14,8 @@ use Rattle.language.specs.Description.{Description, Facility, facilityAt, noFac
 use Rattle.language.specs.Judging.{both}
 use Rattle.language.specs.Layout.{facilityBytes, storeSizeOf, wordBytes}
 use Rattle.language.specs.Store.{allNarrow, facilityWords, fromBytes, inputsOf, isInput, narrow, wordsFrom}
-use Rattle.store.proofs.SpareLaws.{facility-narrow}
-use Rattle.store.specs.Spare.{narrowAt}
+use Rattle.layout.proofs.SpareLaws.{facility-narrow}
+use Rattle.layout.specs.Spare.{narrowAt}
 use Rattle.begin.proofs.SizeLaws.{fits-input, fits-other, input-not, input-stored, input-whole, stored-bytes}
 use Rattle.begin.specs.InBytes.{fitsAt, inputBytes}
 

@@ -8,7 +8,7 @@ use Rattle.language.specs.Layout.{facilityBytes}
 use Rattle.language.specs.Store.{isInput}
 use Rattle.language.specs.Tree.{Kind, computed, input, memory, plain, register, sequencing}
 use Rattle.records.specs.Placed.{placed}
-use Rattle.store.specs.Spare.{narrowAt}
+use Rattle.layout.specs.Spare.{narrowAt}
 
 -- ---- The stimulus S.
 

@@ -20,9 +20,9 @@ use Rattle.language.specs.Store.{fromBytes, inputsOf, narrow}
 use Rattle.theorems.specs.LegalForm.{left-of, right-of}
 use Rattle.theorems.specs.Soundness.{sound-so}
 use Rattle.stays.specs.StaysSound.{Unrefused, unrefused}
-use Rattle.store.proofs.Inverse.{bytes-again, words-same}
-use Rattle.store.proofs.StoreWords.{shaped-from}
-use Rattle.store.specs.Layout.{Bytes}
+use Rattle.layout.proofs.Inverse.{bytes-again, words-same}
+use Rattle.layout.proofs.StoreWords.{shaped-from}
+use Rattle.layout.specs.Layout.{Bytes}
 
 module _ (image store kept stimulus : List ℕ) (scratch : ℕ) (free : cycleRefusal image store kept stimulus scratch ≡ none) where
   abbrev d : Description

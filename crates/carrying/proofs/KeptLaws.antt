@@ -14,9 +14,9 @@ use Rattle.language.specs.RecordBytes.{recordFrom}
 use Rattle.language.specs.Step as S
 use Rattle.language.specs.Store.{Words, fromBytes, inputsOf, toBytes}
 use Rattle.stays.specs.StaysSound.{completed-back}
-use Rattle.store.proofs.Inverse.{bytes-again}
-use Rattle.store.specs.Layout.{Bytes}
-use Rattle.store.specs.Slices.{copied}
+use Rattle.layout.proofs.Inverse.{bytes-again}
+use Rattle.layout.specs.Layout.{Bytes}
+use Rattle.layout.specs.Slices.{copied}
 use Rattle.step.specs.Stepped.{ended}
 use Rattle.step.specs.declared.outcome.Verdict.{Verdict}
 use Rattle.step.specs.declared.outcome.Verdict.the-variants as Ends

@@ -8,7 +8,7 @@ use Rattle.language.specs.Decode.{sectionAt}
 use Rattle.language.specs.Reading.{zeroes}
 use Rattle.language.specs.RecordBytes.{recordBytes, recordFrom, recordSize}
 use Rattle.language.specs.Step as S
-use Rattle.store.specs.Slices.{copied}
+use Rattle.layout.specs.Slices.{copied}
 use Rattle.next.specs.Seen.{recordMeant}
 use Rattle.step.specs.declared.outcome.Stepped.{Stepped}
 use Rattle.step.specs.declared.outcome.Verdict.{Verdict}

@@ -9,7 +9,7 @@ use Rattle.language.specs.Description.{Description, nodeAt}
 use Rattle.language.specs.Meaning as M
 use Rattle.language.specs.Meaning.{evalBelow, placeOf}
 use Rattle.language.specs.References.{Reference, referenceOf}
-use Rattle.store.specs.InBytes.{InBytes, bytes}
+use Rattle.layout.specs.InBytes.{InBytes, bytes}
 use Rattle.referents.specs.Places.{placeMeant}
 use Rattle.evaluate.specs.Sides.{SideRead, SideThere, sideMeant}
 use Rattle.evaluate.specs.declared.eval.Side.{Side}

@@ -31,7 +31,7 @@ ghost use Rattle.language.specs.References.{referenceOf};
 ghost use Rattle.language.specs.Tree.{Name};
 ghost use Rattle.image.specs.Declarations.{boundsMeant, facilityMeant};
 ghost use Rattle.records.specs.Nodes.{meant};
-ghost use Rattle.store.specs.InBytes.{bytes};
+ghost use Rattle.layout.specs.InBytes.{bytes};
 ghost use Rattle.referents.specs.Described.{ForEach};
 ghost use Rattle.referents.specs.Places.{foundMeant, locatedMeant, onDistance, referred, refersTo, subscriptsMeant};
 ghost use Rattle.evaluate.specs.Sides.{SideRead, SideThere, sideMeant};

@@ -11,10 +11,10 @@ use Rattle.language.specs.Store.{Held, conflicts, fromBytes, landAll, numbers}
 use Rattle.theorems.specs.SameActions as Actions
 use Rattle.theorems.specs.SameRuns.{Alike}
 use Rattle.store.proofs.Alike.{Means, counts-alike, lands-alike}
-use Rattle.store.proofs.Zeros.{Zeros}
-use Rattle.store.specs.InBytes.{InBytes, bytes}
-use Rattle.store.specs.Layout.{Bytes}
-use Rattle.store.specs.Slices.{landed}
+use Rattle.layout.proofs.Zeros.{Zeros}
+use Rattle.layout.specs.InBytes.{InBytes, bytes}
+use Rattle.layout.specs.Layout.{Bytes}
+use Rattle.layout.specs.Slices.{landed}
 use Rattle.referents.specs.Worth.{stuckMeant}
 use Rattle.storing.specs.Seen.{View, did, ranSeen, seen, statesSeen, viewed}
 use Rattle.storing.specs.declared.doing.Did.{Did}

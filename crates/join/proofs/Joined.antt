@@ -14,9 +14,9 @@ use Rattle.theorems.specs.SameActions.{AllStored, Joins}
 use Rattle.theorems.specs.SameRuns.{Alike, actions-alike}
 use Rattle.theorems.specs.SameValues.{Stored}
 use Rattle.store.proofs.Alike.{Means, delays-alike, loads-alike, puts-alike}
-use Rattle.store.proofs.Naming.{AllThere}
-use Rattle.store.specs.InBytes.{InBytes, There, bytes, delayedAll, waiting}
-use Rattle.store.specs.Layout.{Bytes}
+use Rattle.layout.proofs.Naming.{AllThere}
+use Rattle.layout.specs.InBytes.{InBytes, There, bytes, delayedAll, waiting}
+use Rattle.layout.specs.Layout.{Bytes}
 
 module _ (d : Description) where
   -- What the rules call stored is there among the bytes.

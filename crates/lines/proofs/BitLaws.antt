@@ -10,8 +10,8 @@ use Rattle.language.specs.Layout.{wordBytes}
 use Rattle.language.specs.Trace.{bits}
 use Rattle.language.specs.Value.{Value}
 use Rattle.store.proofs.PartLaws.{inside-is, loaded-inside, part-lt}
-use Rattle.store.specs.Layout.{wordIn}
-use Rattle.store.specs.Parts.{loaded, partIn}
+use Rattle.layout.specs.Layout.{wordIn}
+use Rattle.layout.specs.Parts.{loaded, partIn}
 
 pub length-bits : (l x : ℕ) → length (bits l x) ≡ l
 unfolding bits

@@ -13,7 +13,7 @@ use Rattle.language.specs.Layout.{facilityBytes, placeIn, storeSizeOf, wordByte
 use Rattle.language.specs.Scan.{bytes}
 use Rattle.language.specs.Store.{facilityWords, fromBytes, wordsFrom}
 use Rattle.language.specs.Trace.{bits, facilitiesLine, firstWord, shown}
-use Rattle.store.specs.Layout.{wordIn}
+use Rattle.layout.specs.Layout.{wordIn}
 use Rattle.begin.proofs.SizeLaws.{stored-bytes}
 use Rattle.begin.proofs.StimulusLaws.{facility-here}
 use Rattle.lines.specs.Adds.{Adds}

@@ -15,8 +15,8 @@ use Rattle.language.specs.Layout.{bytesOf, storeSizeOf, wordBytes, wordToBytes}
 use Rattle.language.specs.Reading.{zeroes}
 use Rattle.language.specs.Store.{Words, inputsOf, isInput, toBytes, wordsTo}
 use Rattle.language.specs.Trace.{bitsNumber, consWord, lineWords}
-use Rattle.store.proofs.ByteOrder.{length-word}
-use Rattle.store.specs.Layout.{withWord}
+use Rattle.layout.proofs.ByteOrder.{length-word}
+use Rattle.layout.specs.Layout.{withWord}
 use Rattle.begin.proofs.SizeLaws.{input-stored, stored-bytes}
 use Rattle.begin.proofs.StimulusLaws.{facility-here}
 use Rattle.lines.specs.Stimulus.{Words′, Worded, bytesFor, inputBits, lineBytes, took, tookMeant}

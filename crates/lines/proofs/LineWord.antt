@@ -11,8 +11,8 @@ use lib.ListN.{drop, length, length-append, length-drop, set, take, take-append-
 use lib.Seq.{drop-at, drop-drop, length-take-le, set-split, take-at}
 use Rattle.language.specs.Layout.{bytesOf, wordBytes, wordToBytes}
 use Rattle.language.specs.Trace.{bitsNumber}
-use Rattle.store.proofs.Words.{length-with}
-use Rattle.store.specs.Layout.{withWord}
+use Rattle.layout.proofs.Words.{length-with}
+use Rattle.layout.specs.Layout.{withWord}
 use Rattle.lines.specs.Stimulus.{Words′, Worded}
 use Rattle.lines.proofs.LineBits.{run-long, run-none, run-some}
 

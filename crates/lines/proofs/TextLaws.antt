@@ -7,7 +7,7 @@ use borrow.Author.Tests.{le-leb, lt-leb}
 use Rattle.language.specs.Description.{Facility, isComputed, wordLength}
 use Rattle.language.specs.Scan.{bytes}
 use Rattle.language.specs.Trace.{bits, shown}
-use Rattle.store.specs.Layout.{wordIn}
+use Rattle.layout.specs.Layout.{wordIn}
 use Rattle.lines.specs.Texts.{facilityText, wordText}
 
 module _ (f : Facility) (place : ℕ) (B : List ℕ) where

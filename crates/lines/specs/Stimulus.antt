@@ -11,7 +11,7 @@ use Rattle.language.specs.Layout.{wordBytes}
 use Rattle.language.specs.Reading.{zeroes}
 use Rattle.language.specs.Store.{Words, isInput, toBytes}
 use Rattle.language.specs.Trace.{bitsNumber, lineWords}
-use Rattle.store.specs.Layout.{withWord}
+use Rattle.layout.specs.Layout.{withWord}
 use Rattle.lines.specs.declared.stimulus.Octet.{Octet}
 use Rattle.lines.specs.declared.stimulus.Octet.the-variants as O
 use Rattle.lines.specs.declared.stimulus.Taken.{Taken}

@@ -10,7 +10,7 @@ use Rattle.language.specs.Scan.{bytes}
 use Rattle.language.specs.Trace.{bits, decimal, lineEnd, shown}
 use Rattle.image.specs.Declarations.{facilityIn}
 use Rattle.image.specs.Names.{facilityPart, named}
-use Rattle.store.specs.Layout.{wordIn}
+use Rattle.layout.specs.Layout.{wordIn}
 
 abbrev pub HasWord : Facility → ℕ → List ℕ → Type 0
 HasWord f place B = place + wordBytes (wordLength f) ≤ length B

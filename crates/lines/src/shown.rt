@@ -19,7 +19,7 @@ ghost use Rattle.language.specs.Store.{fromBytes};
 ghost use Rattle.language.specs.Trace as T;
 ghost use Rattle.language.specs.Tree.{Name};
 ghost use Rattle.image.specs.Declarations.{facilityMeant};
-ghost use Rattle.store.specs.Layout.{wordIn};
+ghost use Rattle.layout.specs.Layout.{wordIn};
 ghost use Rattle.referents.specs.Described.{Describes};
 ghost use Rattle.lines.specs.Adds.{Adds};
 ghost use Rattle.lines.specs.Texts.{HasWord, Named, facilityText, wordText};

@@ -14,11 +14,11 @@ use Rattle.language.specs.Store.{fromBytes, wordOf}
 use Rattle.language.specs.Value.{longest}
 use Rattle.image.specs.Declarations.{FacilityRead, facilityMeant}
 use Rattle.image.specs.declared.facilities.Facility as Read
-use Rattle.store.proofs.StoreWords.{in-store, word-from}
-use Rattle.store.proofs.Words.{word-lt}
-use Rattle.store.specs.InBytes.{Stored, placeOfWord}
-use Rattle.store.specs.Layout.{Bytes, wordIn}
-use Rattle.store.specs.Parts.{inside, loaded, partIn}
+use Rattle.layout.proofs.StoreWords.{in-store, word-from}
+use Rattle.layout.proofs.Words.{word-lt}
+use Rattle.layout.specs.InBytes.{Stored, placeOfWord}
+use Rattle.layout.specs.Layout.{Bytes, wordIn}
+use Rattle.layout.specs.Parts.{inside, loaded, partIn}
 use Rattle.referents.proofs.PlaceLaws.{facility-known, nameOf, stored-place}
 use Rattle.referents.specs.Described.{Describes}
 use borrow.Author.Tests.{le-leb}

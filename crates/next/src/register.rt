@@ -15,7 +15,7 @@ ghost use Rattle.language.specs.Layout.{wordBytes};
 ghost use Rattle.language.specs.Tree.{Name};
 ghost use Rattle.value.specs.Meaning.{valued};
 ghost use Rattle.image.specs.Declarations.{facilityMeant};
-ghost use Rattle.store.specs.Parts.{loaded};
+ghost use Rattle.layout.specs.Parts.{loaded};
 ghost use Rattle.referents.specs.Described.{Describes};
 ghost use Rattle.referents.specs.Places.{foundMeant};
 

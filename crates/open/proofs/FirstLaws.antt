@@ -17,10 +17,10 @@ use Rattle.language.specs.Step.{setRegister, stateNumber}
 use Rattle.language.specs.Store.{Words, fromBytes, toBytes, zeroWords}
 use Rattle.theorems.specs.NeverStuck.{legal-image}
 use Rattle.theorems.specs.StateValues.{bears-value}
-use Rattle.store.proofs.ByteLists.{bytes-take}
-use Rattle.store.proofs.Inverse.{bytes-again}
-use Rattle.store.proofs.Zeros.{store-zero}
-use Rattle.store.specs.Layout.{Bytes}
+use Rattle.layout.proofs.ByteLists.{bytes-take}
+use Rattle.layout.proofs.Inverse.{bytes-again}
+use Rattle.layout.proofs.Zeros.{store-zero}
+use Rattle.layout.specs.Layout.{Bytes}
 use Rattle.referents.specs.Described.{Describes}
 use Rattle.lookups.proofs.PassLaws.{states-many}
 use Rattle.begin.proofs.BeginLaws.{bytes-zeros, zeros}

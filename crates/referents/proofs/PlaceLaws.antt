@@ -20,8 +20,8 @@ use Rattle.language.specs.Value as L
 use Rattle.language.specs.Value.{longest}
 use Rattle.image.specs.Declarations.{FacilityRead, facilityMeant}
 use Rattle.image.specs.declared.facilities.Facility.{Facility}
-use Rattle.store.specs.InBytes.{InBytes, bytes, loadBytes, placeOfWord}
-use Rattle.store.specs.Parts.{loaded}
+use Rattle.layout.specs.InBytes.{InBytes, bytes, loadBytes, placeOfWord}
+use Rattle.layout.specs.Parts.{loaded}
 use Rattle.referents.specs.Described.{Describes}
 
 -- ---- When a reference has a place.

@@ -12,7 +12,7 @@ use Rattle.language.specs.Tree.{Name}
 use Rattle.language.specs.Value.{Value}
 use Rattle.image.specs.Declarations.{FacilityRead, facilityIn, placeFieldIn}
 use Rattle.image.specs.declared.facilities.Facility.{Facility}
-use Rattle.store.specs.InBytes.{InBytes}
+use Rattle.layout.specs.InBytes.{InBytes}
 
 -- The expressions of d are those of the section E.
 abbrev pub Nodes : Description → List ℕ → Type 0

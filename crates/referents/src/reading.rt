@@ -20,8 +20,8 @@ ghost use Rattle.language.specs.Value as L;
 ghost use Rattle.limbs.specs.Limbs.{number};
 ghost use Rattle.value.specs.Meaning.{valued};
 ghost use Rattle.image.specs.Declarations.{facilityMeant};
-ghost use Rattle.store.specs.InBytes.{InBytes, bytes};
-ghost use Rattle.store.specs.Parts.{loaded};
+ghost use Rattle.layout.specs.InBytes.{InBytes, bytes};
+ghost use Rattle.layout.specs.Parts.{loaded};
 ghost use Rattle.referents.specs.Places.{placeMeant};
 ghost use Rattle.referents.specs.Worth.{answered};
 

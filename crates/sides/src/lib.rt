@@ -11,7 +11,7 @@ ghost use mathlib.Core.List.{List};
 ghost use mathlib.Core.Path.{_≡_};
 ghost use Prim.Native.Nat.{ℕ};
 ghost use Rattle.language.specs.Acting as T;
-ghost use Rattle.store.specs.InBytes.{bytes};
+ghost use Rattle.layout.specs.InBytes.{bytes};
 ghost use Rattle.referents.specs.Places.{placeMeant};
 ghost use Rattle.referents.specs.Described.{There};
 ghost use Rattle.storing.specs.Seen.{ForDoing, besides, did, ranSeen, viewed};

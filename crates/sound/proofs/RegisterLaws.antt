@@ -14,8 +14,8 @@ use Rattle.language.specs.Tree.{Kind, computed, input, memory, plain, register,
 use Rattle.language.specs.Value.{Value}
 use Rattle.image.specs.Declarations.{FacilityRead, facilityMeant}
 use Rattle.image.specs.declared.facilities.Facility.{Facility}
-use Rattle.store.specs.Layout.{Bytes}
-use Rattle.store.specs.Parts.{loaded}
+use Rattle.layout.specs.Layout.{Bytes}
+use Rattle.layout.specs.Parts.{loaded}
 use Rattle.theorems.specs.StateValues.{Found, found-from, some-word}
 use Rattle.referents.proofs.PlaceLaws.{facility-known, nameOf}
 use Rattle.next.proofs.RegisterLaws.{first-word}

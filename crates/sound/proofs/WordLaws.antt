@@ -10,10 +10,10 @@ use Rattle.language.specs.Description.{Facility, isComputed, noFacility, wordCo
 use Rattle.language.specs.Judging.{both}
 use Rattle.language.specs.Layout.{facilityBytes, placeIn, storeSizeOf, wordBytes}
 use Rattle.language.specs.Store.{allNarrow, facilityWords, fromBytes, narrow}
-use Rattle.store.proofs.SpareLaws.{facility-narrow, one-word}
-use Rattle.store.proofs.StoreWords.{in-store}
-use Rattle.store.specs.InBytes.{placeOfWord}
-use Rattle.store.specs.Spare.{narrowAt}
+use Rattle.layout.proofs.SpareLaws.{facility-narrow, one-word}
+use Rattle.layout.proofs.StoreWords.{in-store}
+use Rattle.layout.specs.InBytes.{placeOfWord}
+use Rattle.layout.specs.Spare.{narrowAt}
 use Rattle.theorems.specs.StateValues.{some-word}
 use Rattle.sound.specs.Tested.{narrowIn}
 

@@ -10,7 +10,7 @@ use Rattle.language.specs.Description.{Description, Facility, facilityAt, isCom
 use Rattle.language.specs.Judging.{both}
 use Rattle.language.specs.RecordBytes.{returnsSound}
 use Rattle.language.specs.Step.{Record, mostReturns}
-use Rattle.store.specs.Spare.{narrowAt}
+use Rattle.layout.specs.Spare.{narrowAt}
 use Rattle.referents.specs.Described.{Describes}
 use Rattle.next.specs.Values.{Valued}
 

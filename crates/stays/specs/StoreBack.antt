@@ -11,8 +11,8 @@ use Rattle.language.specs.Description.{Facility, isComputed, wordCount, wordLen
 use Rattle.language.specs.Judging.{both}
 use Rattle.language.specs.Layout.{facilityBytes, noSpareBits, storeSizeOf, wordBytes, wordFromBytes}
 use Rattle.language.specs.Store.{Words, allNarrow, facilityWords, fromBytes, narrow, toBytes, wordsFrom}
-use Rattle.store.proofs.Inverse.{length-to, words-same}
-use Rattle.store.specs.InBytes.{Shaped, rowLength}
+use Rattle.layout.proofs.Inverse.{length-to, words-same}
+use Rattle.layout.specs.InBytes.{Shaped, rowLength}
 use Rattle.theorems.specs.Fitting.{AllBelow, Fit, stored}
 
 pub both-so : {a b : Bool} → a ≡ true → b ≡ true → both a b ≡ true

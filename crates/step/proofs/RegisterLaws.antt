@@ -24,10 +24,10 @@ use Rattle.records.specs.Nodes.{held}
 use Rattle.image.specs.Declarations.{FacilityRead, StateRead, facilityMeant, valueMeant}
 use Rattle.image.specs.declared.facilities.Facility.{Facility}
 use Rattle.image.specs.declared.states.State.{State}
-use Rattle.store.proofs.ByteOrder.{word-room}
-use Rattle.store.specs.InBytes.{Stored, placeOfWord}
-use Rattle.store.specs.Layout.{Bytes}
-use Rattle.store.specs.Parts.{loaded, saved}
+use Rattle.layout.proofs.ByteOrder.{word-room}
+use Rattle.layout.specs.InBytes.{Stored, placeOfWord}
+use Rattle.layout.specs.Layout.{Bytes}
+use Rattle.layout.specs.Parts.{loaded, saved}
 use Rattle.referents.proofs.EvalLaws.{held-whole}
 use Rattle.referents.proofs.PlaceLaws.{facility-known, nameOf, stored-place}
 use Rattle.referents.specs.Described.{Describes}

@@ -13,10 +13,10 @@ use Rattle.language.specs.Meaning.{noState}
 use Rattle.language.specs.Step as S
 use Rattle.language.specs.Step.{lastCycle, nothingDone}
 use Rattle.language.specs.Store.{Held, Words, begin, fromBytes, inputsOf, numbers, toBytes}
-use Rattle.store.proofs.Zeros.{Zeros}
-use Rattle.store.specs.InBytes.{bytes}
-use Rattle.store.specs.Layout.{Bytes}
-use Rattle.store.specs.Slices.{landed}
+use Rattle.layout.proofs.Zeros.{Zeros}
+use Rattle.layout.specs.InBytes.{bytes}
+use Rattle.layout.specs.Layout.{Bytes}
+use Rattle.layout.specs.Slices.{landed}
 use Rattle.referents.specs.Worth.{stuckMeant}
 use Rattle.referents.specs.declared.worth.Stuck.{Stuck}
 use Rattle.storing.specs.Seen.{did, ranSeen}

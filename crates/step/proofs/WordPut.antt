@@ -9,13 +9,13 @@ use Rattle.language.specs.Description.{Facility, noFacility, wordLength}
 use Rattle.language.specs.Layout.{storeSizeOf, wordBytes}
 use Rattle.language.specs.Store.{fromBytes, setWord, wordOf}
 use Rattle.language.specs.Value.{replaced}
-use Rattle.store.proofs.Numbers.{part-replaced, replaced-lt}
+use Rattle.layout.proofs.Numbers.{part-replaced, replaced-lt}
 use Rattle.store.proofs.PartLaws.{inside-is, saved-inside, word-saved}
-use Rattle.store.proofs.StoreWords.{in-store, one-set, word-from, words-apart}
-use Rattle.store.proofs.Words.{word-apart, word-lt}
-use Rattle.store.specs.InBytes.{Stored, placeOfWord}
-use Rattle.store.specs.Layout.{Bytes, wordIn}
-use Rattle.store.specs.Parts.{saved, withPart}
+use Rattle.layout.proofs.StoreWords.{in-store, one-set, word-from, words-apart}
+use Rattle.layout.proofs.Words.{word-apart, word-lt}
+use Rattle.layout.specs.InBytes.{Stored, placeOfWord}
+use Rattle.layout.specs.Layout.{Bytes, wordIn}
+use Rattle.layout.specs.Parts.{saved, withPart}
 
 -- ---- The whole of a word replaced.
 

@@ -8,7 +8,7 @@ use Rattle.language.specs.Acting as T
 use Rattle.language.specs.Description.{Description, Facility}
 use Rattle.language.specs.Step as S
 use Rattle.language.specs.Store.{Held, Words, conflicts, fromBytes, landAll}
-use Rattle.store.specs.InBytes.{InBytes, waiting}
+use Rattle.layout.specs.InBytes.{InBytes, waiting}
 use Rattle.referents.specs.Worth.{stuckMeant}
 use Rattle.storing.specs.declared.doing.Doing.{Doing}
 use Rattle.next.specs.Seen.{Sees, recordMeant}

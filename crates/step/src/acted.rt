@@ -13,7 +13,7 @@ ghost use Rattle.language.specs.Calls.{over, stimulusSize};
 ghost use Rattle.language.specs.Description.{Description, stateAt};
 ghost use Rattle.language.specs.Layout.{storeSizeOf};
 ghost use Rattle.language.specs.Store as L;
-ghost use Rattle.store.specs.InBytes.{bytes};
+ghost use Rattle.layout.specs.InBytes.{bytes};
 ghost use Rattle.storing.specs.Seen.{did, ranSeen};
 ghost use Rattle.act.specs.Acts.{Acts};
 ghost use Rattle.next.specs.Values.{Valued};

@@ -22,7 +22,7 @@ ghost use Rattle.language.specs.Description.{Description};
 ghost use Rattle.language.specs.Layout.{storeSizeOf};
 ghost use Rattle.language.specs.Step as S;
 ghost use Rattle.language.specs.Store.{Held, fromBytes};
-ghost use Rattle.store.specs.Slices.{landed};
+ghost use Rattle.layout.specs.Slices.{landed};
 ghost use Rattle.referents.specs.Places.{foundMeant};
 ghost use Rattle.next.specs.Seen.{recordMeant};
 ghost use Rattle.step.specs.Register.{Enters};

@@ -20,7 +20,7 @@ ghost use Rattle.language.specs.Store.{fromBytes};
 ghost use Rattle.language.specs.Tree.{Name};
 ghost use Rattle.limbs.specs.Limbs.{number};
 ghost use Rattle.image.specs.Declarations.{facilityMeant};
-ghost use Rattle.store.specs.Parts.{saved};
+ghost use Rattle.layout.specs.Parts.{saved};
 ghost use Rattle.referents.specs.Described.{Describes};
 ghost use Rattle.step.specs.Register.{Enters, Holds, entered};
 

@@ -8,12 +8,12 @@ use Rattle.language.specs.Description.{Description}
 use Rattle.language.specs.Layout.{storeSizeOf}
 use Rattle.language.specs.Meaning.{Place, Write}
 use Rattle.language.specs.Store.{Held, Words, conflicts, fromBytes, landAll, loadPart, numbers, putPart}
-use Rattle.store.specs.InBytes.{InBytes, There, Waiting, bytes, delayed, delayedAll, waiting}
-use Rattle.store.specs.Layout.{Bytes}
-use Rattle.store.specs.Slices.{landed}
+use Rattle.layout.specs.InBytes.{InBytes, There, Waiting, bytes, delayed, delayedAll, waiting}
+use Rattle.layout.specs.Layout.{Bytes}
+use Rattle.layout.specs.Slices.{landed}
 use Rattle.store.proofs.Landing.{counts-same, lands-same}
-use Rattle.store.proofs.Naming.{AllThere, GroupsThere}
-use Rattle.store.proofs.Zeros.{Zeros}
+use Rattle.layout.proofs.Naming.{AllThere, GroupsThere}
+use Rattle.layout.proofs.Zeros.{Zeros}
 use Rattle.store.proofs.SameStore.{bytes-put, length-put, load-same, save-same}
 
 module _ (d : Description) where

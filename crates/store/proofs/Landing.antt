@@ -14,16 +14,16 @@ use Rattle.language.specs.Layout.{storeSizeOf}
 use Rattle.language.specs.Meaning.{Place, Write}
 use Rattle.language.specs.Store.{Words, anyMeets, conflicts, fromBytes, landAll, loadPart, lowOf, meetsAny, putPart, putParts, setWord, wordOf}
 use Rattle.language.specs.Value.{bit, replaced}
-use Rattle.store.specs.Bits.{bitOf}
-use Rattle.store.specs.InBytes.{Stored, There, Waiting, anyMarked, delayed, delayedAll, loadBytes, markAll, ones, placeOfWord, putAll, putBytes, waiting}
-use Rattle.store.specs.Layout.{Bytes}
-use Rattle.store.specs.Slices.{landBits, landed}
-use Rattle.store.proofs.LandBits.{choose, land-bit, word-landed}
-use Rattle.store.proofs.Naming.{AllThere, Either, GroupsThere, Names, free, hits, meets-either, named, named-append, names, names-false, names-true}
-use Rattle.store.proofs.Numbers.{bit-none, bit-outside, bit-within, part-bit, part-same, same-bits}
+use Rattle.layout.specs.Bits.{bitOf}
+use Rattle.layout.specs.InBytes.{Stored, There, Waiting, anyMarked, delayed, delayedAll, loadBytes, markAll, ones, placeOfWord, putAll, putBytes, waiting}
+use Rattle.layout.specs.Layout.{Bytes}
+use Rattle.layout.specs.Slices.{landBits, landed}
+use Rattle.layout.proofs.LandBits.{choose, land-bit, word-landed}
+use Rattle.layout.proofs.Naming.{AllThere, Either, GroupsThere, Names, free, hits, meets-either, named, named-append, names, names-false, names-true}
+use Rattle.layout.proofs.Numbers.{bit-none, bit-outside, bit-within, part-bit, part-same, same-bits}
 use Rattle.store.proofs.SameStore.{bytes-put, length-put, load-same, save-same}
-use Rattle.store.proofs.StoreWords.{Same, in-row, in-store, same-from, same-set, stored-of, word-from, word-other, word-set, words-ext}
-use Rattle.store.proofs.Zeros.{Zeros, zero-word}
+use Rattle.layout.proofs.StoreWords.{Same, in-row, in-store, same-from, same-set, stored-of, word-from, word-other, word-set, words-ext}
+use Rattle.layout.proofs.Zeros.{Zeros, zero-word}
 
 -- ---- Bits after a put.
 

@@ -1,16 +1,4 @@
-pub mod Numbers
-pub mod ByteLists
-pub mod ByteOrder
-pub mod Words
 pub mod PartLaws
-pub mod Writing
-pub mod SpareLaws
-pub mod StoreWords
 pub mod SameStore
-pub mod Inverse
-pub mod LandBits
-pub mod Naming
 pub mod Landing
 pub mod Alike
-pub mod Zeros
-pub mod Narrow

@@ -16,13 +16,13 @@ use Rattle.language.specs.Value.{longest, replaced, value}
 use Rattle.limbs.specs.Limbs.{cat, four}
 use Rattle.limbs.specs.declared.Four.{Four}
 use Rattle.limbs.proofs.Laws.{Below}
-use Rattle.store.specs.Layout.{Bytes, position, withWord, wordIn}
-use Rattle.store.specs.Parts.{inside, loaded, lowOf, partIn, saved, withPart}
+use Rattle.layout.specs.Layout.{Bytes, position, withWord, wordIn}
+use Rattle.layout.specs.Parts.{inside, loaded, lowOf, partIn, saved, withPart}
 use Rattle.store.specs.Runs.{Cuts, InRuns}
 use Rattle.store.specs.declared.parts.Runs.{Runs}
-use Rattle.store.proofs.ByteOrder.{word-room}
-use Rattle.store.proofs.Numbers.{Apart, bit-low, part-apart, part-limb, part-replaced, part-same, replaced-cat, replaced-commute, replaced-in-digit, replaced-limb, replaced-lt, replaced-none}
-use Rattle.store.proofs.Words.{bytes-with, digit-in, length-with, set-digit, with-apart, with-with, with-word, word-apart, word-lt, word-with}
+use Rattle.layout.proofs.ByteOrder.{word-room}
+use Rattle.layout.proofs.Numbers.{Apart, bit-low, part-apart, part-limb, part-replaced, part-same, replaced-cat, replaced-commute, replaced-in-digit, replaced-limb, replaced-lt, replaced-none}
+use Rattle.layout.proofs.Words.{bytes-with, digit-in, length-with, set-digit, with-apart, with-with, with-word, word-apart, word-lt, word-with}
 
 pub part-lt : (B : List ℕ) (at l low c : ℕ) → partIn B at l low c < 2 ^ c
 unfolding partIn

@@ -11,13 +11,13 @@ use Rattle.language.specs.Layout.{storeSizeOf, wordBytes}
 use Rattle.language.specs.Meaning.{Place}
 use Rattle.language.specs.Store.{Words, fromBytes, loadPart, lowOf, putPart, wordOf}
 use Rattle.language.specs.Value.{Value, replaced}
-use Rattle.store.specs.InBytes.{Stored, There, loadBytes, placeOfWord, putBytes}
-use Rattle.store.specs.Layout.{Bytes, wordIn}
-use Rattle.store.specs.Parts.{inside, partIn, withPart}
-use Rattle.store.proofs.ByteOrder.{word-room}
+use Rattle.layout.specs.InBytes.{Stored, There, loadBytes, placeOfWord, putBytes}
+use Rattle.layout.specs.Layout.{Bytes, wordIn}
+use Rattle.layout.specs.Parts.{inside, partIn, withPart}
+use Rattle.layout.proofs.ByteOrder.{word-room}
 use Rattle.store.proofs.PartLaws.{bytes-saved, inside-is, length-saved, loaded-inside, saved-inside, word-saved}
-use Rattle.store.proofs.StoreWords.{in-store, one-set, word-from, words-apart}
-use Rattle.store.proofs.Words.{word-apart}
+use Rattle.layout.proofs.StoreWords.{in-store, one-set, word-from, words-apart}
+use Rattle.layout.proofs.Words.{word-apart}
 
 module _ (d : Description) (B : List ℕ) (bytes : Bytes B) (room : storeSizeOf (d .facilities) ≤ length B) (p : Place) (here : There d p) where
   abbrev at : ℕ

@@ -1,9 +1,2 @@
-pub mod Bits
-pub mod Layout
-pub mod Parts
 pub mod Runs
 pub mod Shape
-pub mod Slices
-pub mod Spare
-pub mod InBytes
-pub mod Examples

@@ -5,8 +5,8 @@ ghost use mathlib.Core.Path.{_≡_};
 ghost use Prim.Native.Nat.{_+_, _*_, _/_, _^_, _≤_, _<_};
 ghost use lib.ListN.{length as size};
 ghost use Rattle.language.specs.Layout.{wordBytes};
-ghost use Rattle.store.specs.Layout.{position};
-ghost use Rattle.store.specs.Parts.{partIn, withPart};
+ghost use Rattle.layout.specs.Layout.{position};
+ghost use Rattle.layout.specs.Parts.{partIn, withPart};
 ghost use Rattle.store.specs.Runs.{Cuts};
 
 // Bits that lie in one byte of a word: the byte, counted from the least significant one, and which of its bits.

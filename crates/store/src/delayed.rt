@@ -5,8 +5,8 @@ use value::Value;
 ghost use mathlib.Core.Path.{_≡_};
 ghost use Prim.Native.Nat.{_-_, _^_};
 ghost use lib.Dec.{ltb};
-ghost use Rattle.store.specs.Parts.{loaded, saved};
-ghost use Rattle.store.specs.Slices.{landBits, landed};
+ghost use Rattle.layout.specs.Parts.{loaded, saved};
+ghost use Rattle.layout.specs.Slices.{landBits, landed};
 
 // Whether a bit of a part is set in the mask.
 pub fn marked(mask: &[u8], at: usize, length: u32, from: u32, count: u32) -> bool

@@ -10,7 +10,7 @@ ghost use Rattle.language.specs.Layout.{wordBytes};
 ghost use Rattle.limbs.specs.Limbs.{number};
 ghost use Rattle.value.specs.Meaning.{valued};
 ghost use Rattle.store.specs.Runs.{InRuns};
-ghost use Rattle.store.specs.Parts.{inside as Inside, loaded, partIn, saved, withPart};
+ghost use Rattle.layout.specs.Parts.{inside as Inside, loaded, partIn, saved, withPart};
 
 // Whether a part lies in its word, its word among `bytes` bytes, and a value can hold it.
 fn inside(bytes: usize, at: usize, length: u32, from: u32, count: u32) -> bool

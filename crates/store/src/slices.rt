@@ -2,7 +2,7 @@
 use crate::bytes;
 ghost use mathlib.Core.Path.{_≡_};
 ghost use lib.ListN.{length, replicate};
-ghost use Rattle.store.specs.Slices.{copied};
+ghost use Rattle.layout.specs.Slices.{copied};
 
 // Every byte zero.
 pub fn zero(s: &mut [u8])

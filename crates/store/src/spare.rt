@@ -5,8 +5,8 @@ ghost use mathlib.Core.Path.{_≡_};
 ghost use Prim.Native.Nat.{_+_, _-_, _*_, _≤_};
 ghost use lib.ListN.{length as size};
 ghost use Rattle.language.specs.Layout.{wordBytes};
-ghost use Rattle.store.specs.Parts.{partIn};
-ghost use Rattle.store.specs.Spare.{narrowAt};
+ghost use Rattle.layout.specs.Parts.{partIn};
+ghost use Rattle.layout.specs.Spare.{narrowAt};
 
 // The spare bits of a word.
 fn spare_bits(s: &[u8], at: usize, length: u32) -> u64

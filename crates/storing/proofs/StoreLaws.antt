@@ -19,8 +19,8 @@ use Rattle.language.specs.Value as L
 use Rattle.language.specs.Value.{bit}
 use Rattle.image.specs.Declarations.{facilityMeant, kindMeant}
 use Rattle.image.specs.declared.facilities.Facility.{Facility}
-use Rattle.store.specs.InBytes.{InBytes, anyMarked, bytes, loadBytes, markAll, placeOfWord, putAll, putBytes}
-use Rattle.store.specs.Parts.{loaded, saved}
+use Rattle.layout.specs.InBytes.{InBytes, anyMarked, bytes, loadBytes, markAll, placeOfWord, putAll, putBytes}
+use Rattle.layout.specs.Parts.{loaded, saved}
 use Rattle.referents.proofs.PlaceLaws.{facility-known, nameOf, stored-load, stored-word}
 use Rattle.referents.specs.Described.{Describes, There}
 use Rattle.referents.specs.Places.{placeMeant}

@@ -9,7 +9,7 @@ use Rattle.language.specs.Description.{Description}
 use Rattle.language.specs.Meaning as M
 use Rattle.referents.specs.Worth.{stuckMeant}
 use Rattle.referents.specs.Described.{Describes}
-use Rattle.store.specs.InBytes.{InBytes}
+use Rattle.layout.specs.InBytes.{InBytes}
 use Rattle.storing.specs.declared.doing.Did.{Did}
 use Rattle.storing.specs.declared.doing.Did.the-variants as D
 use Rattle.storing.specs.declared.doing.Doing.{Doing}

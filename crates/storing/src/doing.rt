@@ -6,7 +6,7 @@ ghost use mathlib.Core.Path.{_≡_};
 ghost use Prim.Native.Nat.{ℕ, suc, _+_, min};
 ghost use Rattle.language.specs.Acting as T;
 ghost use Rattle.language.specs.Value.{bit};
-ghost use Rattle.store.specs.InBytes.{bytes};
+ghost use Rattle.layout.specs.InBytes.{bytes};
 ghost use Rattle.storing.specs.Seen.{Follows, named, statesSeen};
 
 // Of the states named so far the first, and whether there is none, one or more.

@@ -12,7 +12,7 @@ ghost use lib.Dec.{ltb};
 ghost use Rattle.language.specs.Tree.{Name};
 ghost use Rattle.limbs.specs.Limbs.{number};
 ghost use Rattle.image.specs.Declarations.{facilityMeant};
-ghost use Rattle.store.specs.Parts.{loaded, saved};
+ghost use Rattle.layout.specs.Parts.{loaded, saved};
 ghost use Rattle.storing.specs.Spots.{spotOf};
 
 // The first byte of a word, its length, and which of its bits.

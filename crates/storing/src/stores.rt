@@ -19,7 +19,7 @@ ghost use Rattle.language.specs.Storing.{mayStore};
 ghost use Rattle.limbs.specs.Limbs.{number};
 ghost use Rattle.value.specs.Meaning.{valued};
 ghost use Rattle.image.specs.Declarations.{kindMeant};
-ghost use Rattle.store.specs.InBytes.{bytes};
+ghost use Rattle.layout.specs.InBytes.{bytes};
 ghost use Rattle.referents.specs.Places.{placeMeant};
 ghost use Rattle.referents.specs.Described.{There};
 ghost use Rattle.storing.specs.Seen.{ForDoing, did, ranSeen, viewed};

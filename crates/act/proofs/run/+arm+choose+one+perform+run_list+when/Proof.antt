@@ -4,7 +4,7 @@ use Rattle.language.specs.Acting as T
 use Rattle.language.specs.Description as D
 use Rattle.limbs.specs.Limbs.{number}
 use Rattle.records.proofs.ActionLaws.{action-past}
-use Rattle.store.specs.InBytes.{bytes}
+use Rattle.layout.specs.InBytes.{bytes}
 use Rattle.storing.proofs.StoreLaws.{bytes-seen}
 use Rattle.storing.specs.Seen.{ranSeen, viewed, went}
 use Rattle.act.specs.Acts.{ForActs, runOf}

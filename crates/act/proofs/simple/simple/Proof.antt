@@ -1,7 +1,7 @@
 use mathlib.Core.Path.{sym, ap}
 use borrow.Author.Tests.{le-ltb, lt-ltb}
 use Rattle.language.specs.Acting as T
-use Rattle.store.specs.InBytes.{bytes}
+use Rattle.layout.specs.InBytes.{bytes}
 use Rattle.storing.specs.Seen.{ranSeen, went}
 use Rattle.act.proofs.ActionLaws.{not-simple}
 use borrow.Author.Needs.{needs}

@@ -1,5 +1,5 @@
 use mathlib.Core.Path.{sym, ap₂, _∙_}
-use Rattle.store.specs.Spare.{narrowAt}
+use Rattle.layout.specs.Spare.{narrowAt}
 use Rattle.begin.proofs.SizeLaws.{fits-input, fits-other}
 use borrow.Author.Needs.{needs}
 use Rattle.begin.proofs.stimulus.fits.Statement.{statement}

@@ -10,7 +10,7 @@ use Rattle.language.specs.Meaning.{armBack, evalBelow, evalNode}
 use Rattle.language.specs.Value as L
 use Rattle.records.specs.Nodes.{constantNumber, held}
 use Rattle.image.specs.Declarations.{FacilityRead, facilityMeant}
-use Rattle.store.specs.InBytes.{bytes, loadBytes}
+use Rattle.layout.specs.InBytes.{bytes, loadBytes}
 use Rattle.referents.specs.Places.{foundMeant, locatedMeant, placeMeant, referenceMeant, refersTo}
 use Rattle.evaluate.specs.Sides.{sideMeant}
 use Rattle.referents.proofs.EvalLaws.{eval-before, eval-node, eval-not-before, held-whole, node-read, other-worth}

@@ -1,7 +1,7 @@
 use mathlib.Core.Path.{sym, ap, _∙_}
 use Rattle.language.specs.Meaning.{evalBelow}
 use Rattle.records.specs.Nodes.{constantNumber}
-use Rattle.store.specs.InBytes.{bytes}
+use Rattle.layout.specs.InBytes.{bytes}
 use Rattle.referents.specs.Places.{referenceMeant}
 use Rattle.evaluate.proofs.SideLaws.{left-place, left-none, left-there}
 use borrow.Author.Needs.{needs}

@@ -4,7 +4,7 @@ use borrow.Author.Needs.{needs}
 use lib.ListN.{take}
 use lib.Seq.{take-all}
 use Rattle.language.specs.Trace as T
-use Rattle.store.specs.Layout.{wordIn}
+use Rattle.layout.specs.Layout.{wordIn}
 use Rattle.lines.specs.Adds.{Adds}
 use Rattle.lines.proofs.AddsLaws.{adds-as, adds-both, adds-none}
 use Rattle.lines.proofs.BitLaws.{bits-more, length-bits}

@@ -1,5 +1,5 @@
 use mathlib.Core.Path.{sym, ap₂, _∙_}
-use Rattle.store.specs.Spare.{narrowAt}
+use Rattle.layout.specs.Spare.{narrowAt}
 use Rattle.sound.proofs.WordLaws.{narrow-computed, narrow-stored}
 use borrow.Author.Needs.{needs}
 use Rattle.sound.proofs.words.narrow_in.Statement.{statement}

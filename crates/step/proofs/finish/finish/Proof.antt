@@ -5,7 +5,7 @@ use native.Mathlib.Omega.{arith}
 use lib.ListN.{length}
 use Rattle.language.specs.Layout.{storeSizeOf}
 use Rattle.step.specs.Stepped.{Landed}
-use Rattle.store.specs.Slices.{landed}
+use Rattle.layout.specs.Slices.{landed}
 use Rattle.referents.specs.Places.{foundMeant}
 use Rattle.next.specs.Seen.{recordMeant}
 use Rattle.step.proofs.FinishLaws.{finished-so, stop-so}

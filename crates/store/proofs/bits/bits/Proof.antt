@@ -1,12 +1,12 @@
-use Rattle.store.proofs.ByteOrder.{few-spare, position-lt}
+use Rattle.layout.proofs.ByteOrder.{few-spare, position-lt}
 use mathlib.Core.Path.{_≡_, sym, ap, ap₂, _∙_}
 use Prim.Native.Nat.{ℕ, _+_, _-_, _*_, _/_, _%_, _^_, _≤_}
 use native.Mathlib.Nat.{mod-lt, mod-one}
 use native.Mathlib.Omega.{arith}
 use lib.ListN.{getD}
 use lib.Pow.{pow-mono, pow-pos}
-use Rattle.store.specs.Layout.{wordIn}
-use Rattle.store.specs.Parts.{partIn}
+use Rattle.layout.specs.Layout.{wordIn}
+use Rattle.layout.specs.Parts.{partIn}
 use Rattle.store.proofs.PartLaws.{load-turn, part-lt}
 use Rattle.store.proofs.bits.bits.Statement.{statement}
 use Rattle.store.proofs.bits.bits.Tie as tie

@@ -1,6 +1,6 @@
 use mathlib.Core.Path.{ap}
 use Prim.Native.Nat.{ℕ, _-_}
-use Rattle.store.specs.Layout.{position}
+use Rattle.layout.specs.Layout.{position}
 use borrow.Author.Needs.{needs}
 use Rattle.store.proofs.bits.position_of.Statement.{statement}
 use Rattle.store.proofs.bits.position_of.Tie as tie

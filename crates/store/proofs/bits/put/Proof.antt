@@ -1,13 +1,13 @@
-use Rattle.store.proofs.ByteOrder.{few-spare, position-lt}
+use Rattle.layout.proofs.ByteOrder.{few-spare, position-lt}
 use mathlib.Core.Path.{_≡_, refl, sym, ap, _∙_}
 use Prim.Native.Nat.{ℕ, _+_, _-_, _/_, _^_, _≤_, _<_}
 use native.Mathlib.Omega.{arith}
 use lib.ListN.{getD, length as size, length-set, set}
 use Rattle.language.specs.Value.{replaced}
-use Rattle.store.specs.Layout.{Bytes}
-use Rattle.store.specs.Parts.{withPart}
-use Rattle.store.proofs.ByteLists.{bytes-set}
-use Rattle.store.proofs.Numbers.{replaced-lt}
+use Rattle.layout.specs.Layout.{Bytes}
+use Rattle.layout.specs.Parts.{withPart}
+use Rattle.layout.proofs.ByteLists.{bytes-set}
+use Rattle.layout.proofs.Numbers.{replaced-lt}
 use Rattle.store.proofs.PartLaws.{save-turn, saved-none}
 use Rattle.store.proofs.bits.put.Statement.{statement}
 use Rattle.store.proofs.bits.put.Tie as tie

@@ -4,7 +4,7 @@ use native.Mathlib.Nat.{div-mul-le-self, mod-lt, mul-le-mul-left}
 use native.Mathlib.Omega.{arith}
 use lib.Pow.{pow-mono, pow-pos}
 use Rattle.language.specs.Value.{replaced}
-use Rattle.store.proofs.Numbers.{replaced-lt}
+use Rattle.layout.proofs.Numbers.{replaced-lt}
 use borrow.Author.Needs.{needs}
 use Rattle.store.proofs.bytes.insert.Statement.{statement}
 use Rattle.store.proofs.bytes.insert.Tie as tie

@@ -4,8 +4,8 @@ use Prim.Native.Nat.{ℕ, _-_, _≤_, min}
 use native.Mathlib.Omega.{arith}
 use borrow.Author.Needs.{needs}
 use lib.ListN.{getD, length, set}
-use Rattle.store.specs.Slices.{landBits, landed}
-use Rattle.store.proofs.Writing.{landed-at, landed-rest, length-landed, length-written, written, written-all, written-more, written-rest}
+use Rattle.layout.specs.Slices.{landBits, landed}
+use Rattle.layout.proofs.Writing.{landed-at, landed-rest, length-landed, length-written, written, written-all, written-more, written-rest}
 use Rattle.store.proofs.delayed.land.Statement.{statement}
 use Rattle.store.proofs.delayed.land.Tie as tie
 

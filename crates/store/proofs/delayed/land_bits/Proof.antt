@@ -1,5 +1,5 @@
 use mathlib.Core.Path.{refl}
-use Rattle.store.specs.Slices.{landBits}
+use Rattle.layout.specs.Slices.{landBits}
 use Rattle.store.proofs.delayed.land_bits.Statement.{statement}
 use Rattle.store.proofs.delayed.land_bits.Tie as tie
 

@@ -1,5 +1,5 @@
 use mathlib.Core.Path.{ap, _∙_}
-use Rattle.store.specs.Parts.{saved}
+use Rattle.layout.specs.Parts.{saved}
 use borrow.Author.Needs.{needs}
 use Rattle.store.proofs.delayed.mark.Statement.{statement}
 use Rattle.store.proofs.delayed.mark.Tie as tie

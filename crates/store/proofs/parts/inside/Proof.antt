@@ -3,7 +3,7 @@ use native.Mathlib.Omega.{arith}
 use borrow.Author.Tests.{le-leb, lt-leb}
 use Rattle.language.specs.Layout.{wordBytes}
 use Rattle.language.specs.Value.{longest}
-use Rattle.store.specs.Parts.{inside}
+use Rattle.layout.specs.Parts.{inside}
 use borrow.Author.Needs.{needs}
 use Rattle.store.proofs.parts.inside.Statement.{statement}
 use Rattle.store.proofs.parts.inside.Tie as tie

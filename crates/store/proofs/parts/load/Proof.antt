@@ -3,8 +3,8 @@ use Prim.Native.Nat.{ℕ, _+_, _-_}
 use native.Mathlib.Omega.{arith}
 use Rattle.language.specs.Value.{value}
 use Rattle.limbs.specs.Limbs.{number}
-use Rattle.store.specs.Parts.{partIn}
-use Rattle.store.proofs.ByteOrder.{word-room}
+use Rattle.layout.specs.Parts.{partIn}
+use Rattle.layout.proofs.ByteOrder.{word-room}
 use Rattle.store.proofs.PartLaws.{inside-true, loaded-inside, loaded-outside}
 use borrow.Author.Needs.{needs}
 use Rattle.store.proofs.parts.load.Statement.{statement}

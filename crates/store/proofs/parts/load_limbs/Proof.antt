@@ -1,6 +1,6 @@
 use native.Mathlib.Omega.{arith}
 use Rattle.limbs.specs.Limbs.{number}
-use Rattle.store.proofs.ByteOrder.{few-spare}
+use Rattle.layout.proofs.ByteOrder.{few-spare}
 use Rattle.store.proofs.PartLaws.{load-four}
 use borrow.Author.Needs.{needs}
 use Rattle.store.proofs.parts.load_limbs.Statement.{statement}

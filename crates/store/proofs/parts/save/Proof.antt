@@ -2,8 +2,8 @@ use mathlib.Core.Path.{_≡_, ap, sym, _∙_}
 use Prim.Native.Nat.{ℕ, _+_, _-_}
 use native.Mathlib.Omega.{arith}
 use Rattle.limbs.specs.Limbs.{number}
-use Rattle.store.specs.Parts.{withPart}
-use Rattle.store.proofs.ByteOrder.{word-room}
+use Rattle.layout.specs.Parts.{withPart}
+use Rattle.layout.proofs.ByteOrder.{word-room}
 use Rattle.store.proofs.PartLaws.{inside-true, saved-inside, saved-outside}
 use borrow.Author.Needs.{needs}
 use Rattle.store.proofs.parts.save.Statement.{statement}

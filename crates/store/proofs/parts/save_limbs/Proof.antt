@@ -1,8 +1,8 @@
 use mathlib.Core.Path.{ap, _∙_}
 use native.Mathlib.Omega.{arith}
-use Rattle.store.specs.Parts.{withPart}
+use Rattle.layout.specs.Parts.{withPart}
 use Rattle.limbs.proofs.Laws.{Below}
-use Rattle.store.proofs.ByteOrder.{few-spare}
+use Rattle.layout.proofs.ByteOrder.{few-spare}
 use Rattle.store.proofs.PartLaws.{save-four}
 use borrow.Author.Needs.{needs}
 use Rattle.store.proofs.parts.save_limbs.Statement.{statement}

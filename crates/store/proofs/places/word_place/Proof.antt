@@ -1,4 +1,4 @@
-use Rattle.store.proofs.ByteOrder.{few-spare}
+use Rattle.layout.proofs.ByteOrder.{few-spare}
 use mathlib.Core.Path.{ap}
 use Prim.Native.Nat.{ℕ, _+_, _*_}
 use native.Mathlib.Nat.{mul-le-mul}

@@ -5,8 +5,8 @@ use Prim.Native.Nat.{ℕ, _-_, _≤_, min}
 use native.Mathlib.Omega.{arith}
 use borrow.Author.Needs.{needs}
 use lib.ListN.{length, set}
-use Rattle.store.specs.Slices.{copied}
-use Rattle.store.proofs.Writing.{copied-at, copied-rest, length-copied, length-written, written, written-all, written-more}
+use Rattle.layout.specs.Slices.{copied}
+use Rattle.layout.proofs.Writing.{copied-at, copied-rest, length-copied, length-written, written, written-all, written-more}
 use Rattle.store.proofs.slices.copy.Statement.{statement}
 use Rattle.store.proofs.slices.copy.Tie as tie
 

@@ -4,7 +4,7 @@ use mathlib.Core.Path.{_≡_, refl, sym, ap, _∙_}
 use Prim.Native.Nat.{ℕ, _-_, _≤_}
 use native.Mathlib.Omega.{arith}
 use lib.ListN.{List·getD-eq-default, getD-replicate, length, length-replicate, replicate, set}
-use Rattle.store.proofs.Writing.{length-written, written, written-all, written-more}
+use Rattle.layout.proofs.Writing.{length-written, written, written-all, written-more}
 use Rattle.store.proofs.slices.zero.Statement.{statement}
 use Rattle.store.proofs.slices.zero.Tie as tie
 

@@ -1,4 +1,4 @@
-use Rattle.store.proofs.ByteOrder.{few-spare}
+use Rattle.layout.proofs.ByteOrder.{few-spare}
 use mathlib.Core.Path.{_≡_, refl, sym, ap, _∙_}
 use Prim.Native.Nat.{ℕ, _+_, _-_, _*_, _≤_}
 use native.Mathlib.Nat.{mul-le-mul}
@@ -8,8 +8,8 @@ use borrow.Author.Tests.{lt-leb}
 use lib.ListN.{drop, length as size}
 use Rattle.language.specs.Layout.{wordBytes}
 use Rattle.language.specs.Store.{allNarrow, wordsFrom}
-use Rattle.store.specs.Spare.{narrowAt}
-use Rattle.store.proofs.SpareLaws.{narrow-inside, narrow-more, narrow-stop, one-word, spare-some, spare-zero}
+use Rattle.layout.specs.Spare.{narrowAt}
+use Rattle.layout.proofs.SpareLaws.{narrow-inside, narrow-more, narrow-stop, one-word, spare-some, spare-zero}
 use Rattle.store.proofs.spare.no_spare_bits.Statement.{statement}
 use Rattle.store.proofs.spare.no_spare_bits.Tie as tie
 

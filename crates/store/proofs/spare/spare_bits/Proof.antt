@@ -1,8 +1,8 @@
 use mathlib.Core.Path.{ap, _∙_}
 use Prim.Native.Nat.{ℕ, _-_, _*_}
 use native.Mathlib.Omega.{arith}
-use Rattle.store.specs.Parts.{partIn}
-use Rattle.store.proofs.ByteOrder.{few-spare, word-room}
+use Rattle.layout.specs.Parts.{partIn}
+use Rattle.layout.proofs.ByteOrder.{few-spare, word-room}
 use borrow.Author.Needs.{needs}
 use Rattle.store.proofs.spare.spare_bits.Statement.{statement}
 use Rattle.store.proofs.spare.spare_bits.Tie as tie

@@ -7,7 +7,7 @@ use Rattle.language.specs.Acting as T
 use Rattle.language.specs.Storing.{isPlain}
 use Rattle.referents.specs.Places.{placeMeant}
 use Rattle.referents.proofs.PlaceLaws.{nameOf}
-use Rattle.store.specs.InBytes.{bytes, putBytes}
+use Rattle.layout.specs.InBytes.{bytes, putBytes}
 use Rattle.storing.specs.Seen.{went}
 use Rattle.storing.proofs.StoreLaws.{bytes-seen, kind-known, plain-stored, seen-now, spot-put}
 use borrow.Author.Needs.{needs}

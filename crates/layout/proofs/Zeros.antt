@@ -11,10 +11,10 @@ use lib.Seq.{getD-drop}
 use Rattle.language.specs.Description.{Facility, isComputed, wordCount, wordLength}
 use Rattle.language.specs.Layout.{facilityBytes, storeSizeOf, wordBytes}
 use Rattle.language.specs.Store.{Words, facilityWords, fromBytes, wordOf, wordsFrom, zeroWords}
-use Rattle.store.specs.Layout.{Bytes, wordIn}
-use Rattle.store.proofs.ByteLists.{bytes-drop}
-use Rattle.store.proofs.StoreWords.{in-store, stored-of, word-from}
-use Rattle.store.proofs.Words.{word-zero}
+use Rattle.layout.specs.Layout.{Bytes, wordIn}
+use Rattle.layout.proofs.ByteLists.{bytes-drop}
+use Rattle.layout.proofs.StoreWords.{in-store, stored-of, word-from}
+use Rattle.layout.proofs.Words.{word-zero}
 
 abbrev pub Zeros : List ℕ → Type 0
 Zeros B = (i : ℕ) → getD B i 0 ≡ 0

@@ -6,10 +6,10 @@ use Prim.Native.Nat.{ℕ}
 use Rattle.language.specs.Layout.{bytesOf, noSpareBits, numberAfter, wordBytes, wordFromBytes, wordToBytes}
 use Rattle.language.specs.Store.{allNarrow, wordsFrom}
 use Rattle.language.specs.Value.{longest, replaced, value}
-use Rattle.store.specs.Layout.{position, withWord, wordIn}
-use Rattle.store.specs.Parts.{inside, loaded, partIn, saved, withPart}
-use Rattle.store.specs.Slices.{copied, landBits, landed}
-use Rattle.store.specs.Spare.{narrowAt}
+use Rattle.layout.specs.Layout.{position, withWord, wordIn}
+use Rattle.layout.specs.Parts.{inside, loaded, partIn, saved, withPart}
+use Rattle.layout.specs.Slices.{copied, landBits, landed}
+use Rattle.layout.specs.Spare.{narrowAt}
 
 -- The word 0xabc between two other bytes.
 abbrev row : List ℕ

@@ -10,8 +10,8 @@ use Rattle.language.specs.Description.{Description, facilityAt, wordLength}
 use Rattle.language.specs.Judging.{both}
 use Rattle.language.specs.Meaning.{Place, Write}
 use Rattle.language.specs.Store.{lowOf, meet, meetsAny}
-use Rattle.store.specs.InBytes.{There}
-use Rattle.store.proofs.Inverse.{both-true}
+use Rattle.layout.specs.InBytes.{There}
+use Rattle.layout.proofs.Inverse.{both-true}
 
 module _ (d : Description) where
   -- The place p has the bit k, from the right, of word w of facility f.

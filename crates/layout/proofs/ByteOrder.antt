@@ -8,8 +8,8 @@ use lib.ListN.{List·getD-append, getD, length, length-append, take}
 use lib.Pow.{pow-add, shr-shr}
 use lib.Seq.{getD-at, getD-take, take-suc, take-length, length-take-le}
 use Rattle.language.specs.Layout.{bytesOf, numberAfter, wordBytes, wordFromBytes, wordToBytes}
-use Rattle.store.specs.Layout.{Bytes, position}
-use Rattle.store.proofs.ByteLists.{bytes-take}
+use Rattle.layout.specs.Layout.{Bytes, position}
+use Rattle.layout.proofs.ByteLists.{bytes-take}
 
 -- ---- Bytes, most significant first.
 

@@ -13,11 +13,11 @@ use lib.Pow.{pow-pos}
 use lib.Seq.{drop-at, drop-drop, ext-getD, getD-append-add, getD-drop, getD-set-other, getD-set-same, getD-take, length-take-le, set-append-left, take-at}
 use Rattle.language.specs.Layout.{wordBytes, wordFromBytes, wordToBytes}
 use Rattle.language.specs.Value.{replaced}
-use Rattle.store.specs.Bits.{bitOf}
-use Rattle.store.specs.Layout.{Bytes, position, withWord, wordIn}
-use Rattle.store.proofs.ByteLists.{bytes-append, bytes-drop, bytes-set, bytes-take, set-append-add}
-use Rattle.store.proofs.ByteOrder.{from-digit, from-lt, length-word, position-lt, position-twice, to-digit}
-use Rattle.store.proofs.Numbers.{Spot, bit-low, bit-none, bit-outside, bit-within, outside, part-bit, replaced-lt, same-bits, spot, within}
+use Rattle.layout.specs.Bits.{bitOf}
+use Rattle.layout.specs.Layout.{Bytes, position, withWord, wordIn}
+use Rattle.layout.proofs.ByteLists.{bytes-append, bytes-drop, bytes-set, bytes-take, set-append-add}
+use Rattle.layout.proofs.ByteOrder.{from-digit, from-lt, length-word, position-lt, position-twice, to-digit}
+use Rattle.layout.proofs.Numbers.{Spot, bit-low, bit-none, bit-outside, bit-within, outside, part-bit, replaced-lt, same-bits, spot, within}
 
 -- ---- The bytes of one word.
 

@@ -14,12 +14,12 @@ use Rattle.language.specs.Description.{Facility, isComputed, wordCount, wordLen
 use Rattle.language.specs.Judging.{both}
 use Rattle.language.specs.Layout.{facilityBytes, noSpareBits, wordBytes}
 use Rattle.language.specs.Store.{allNarrow, facilityWords, wordsFrom}
-use Rattle.store.specs.Layout.{Bytes, wordIn}
-use Rattle.store.specs.Parts.{partIn}
-use Rattle.store.specs.Spare.{narrowAt}
-use Rattle.store.proofs.ByteOrder.{word-room}
-use Rattle.store.proofs.Numbers.{below-pow}
-use Rattle.store.proofs.Words.{word-lt}
+use Rattle.layout.specs.Layout.{Bytes, wordIn}
+use Rattle.layout.specs.Parts.{partIn}
+use Rattle.layout.specs.Spare.{narrowAt}
+use Rattle.layout.proofs.ByteOrder.{word-room}
+use Rattle.layout.proofs.Numbers.{below-pow}
+use Rattle.layout.proofs.Words.{word-lt}
 
 module _ (B : List ℕ) (at l : ℕ) (fits : at + wordBytes l ≤ length B) (bytes : Bytes B) where
   spare-all : partIn B at l l (8 * wordBytes l - l) ≡ wordIn B at l / 2 ^ l

@@ -13,8 +13,8 @@ use lib.Seq.{drop-drop, ext-getD, getD-set-other, getD-set-same}
 use Rattle.language.specs.Description.{Facility, isComputed, noFacility, wordCount, wordLength}
 use Rattle.language.specs.Layout.{facilityBytes, placeIn, storeSizeOf, wordBytes, wordFromBytes}
 use Rattle.language.specs.Store.{Words, facilityWords, fromBytes, setWord, wordOf, wordsFrom}
-use Rattle.store.specs.InBytes.{Shaped, Stored, placeOfWord, rowLength}
-use Rattle.store.specs.Layout.{wordIn}
+use Rattle.layout.specs.InBytes.{Shaped, Stored, placeOfWord, rowLength}
+use Rattle.layout.specs.Layout.{wordIn}
 
 -- ---- Words by their elements.
 

@@ -10,7 +10,7 @@ use borrow.Author.Tests.{eqb-true, eqb-false}
 use lib.Dec.{eqb}
 use lib.ListN.{drop, getD, length, set, take}
 use lib.Seq.{getD-set-same, getD-set-other, set-out}
-use Rattle.store.specs.Layout.{Bytes}
+use Rattle.layout.specs.Layout.{Bytes}
 
 pub bytes-take : (B : List ℕ) (n : ℕ) → Bytes B → Bytes (take n B)
 bytes-take B zero h i = omega arith

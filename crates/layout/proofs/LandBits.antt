@@ -8,13 +8,13 @@ use native.Mathlib.Omega.{arith}
 use lib.Bits.{and-lt, and-mod, and-shr, bitAnd, bitXor, xor-lt, xor-mod, xor-shr}
 use lib.ListN.{getD, length}
 use Rattle.language.specs.Layout.{wordBytes}
-use Rattle.store.specs.Bits.{bitOf}
-use Rattle.store.specs.Layout.{Bytes, position, wordIn}
-use Rattle.store.specs.Slices.{landBits, landed}
-use Rattle.store.proofs.ByteOrder.{position-lt}
-use Rattle.store.proofs.Numbers.{same-bits}
-use Rattle.store.proofs.Words.{bit-beyond, bit-in}
-use Rattle.store.proofs.Writing.{landed-at, length-landed}
+use Rattle.layout.specs.Bits.{bitOf}
+use Rattle.layout.specs.Layout.{Bytes, position, wordIn}
+use Rattle.layout.specs.Slices.{landBits, landed}
+use Rattle.layout.proofs.ByteOrder.{position-lt}
+use Rattle.layout.proofs.Numbers.{same-bits}
+use Rattle.layout.proofs.Words.{bit-beyond, bit-in}
+use Rattle.layout.proofs.Writing.{landed-at, length-landed}
 
 -- One of two bits, by the mask's.
 abbrev pub choose : ℕ → ℕ → ℕ → ℕ

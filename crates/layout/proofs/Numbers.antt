@@ -7,7 +7,7 @@ use native.Mathlib.Omega.{arith}
 use lib.Arith.{half-le}
 use lib.Pow.{field, high, low, mod-mod-pow, mod-pow-add, pow-mono, pow-pos, shr-shr, split}
 use Rattle.language.specs.Value.{replaced}
-use Rattle.store.specs.Bits.{bitOf}
+use Rattle.layout.specs.Bits.{bitOf}
 
 -- ---- Bits.
 

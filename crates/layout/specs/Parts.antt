@@ -7,7 +7,7 @@ use lib.ListN.{length}
 use Rattle.language.specs.Judging.{both}
 use Rattle.language.specs.Layout.{wordBytes}
 use Rattle.language.specs.Value.{Value, longest, replaced, value}
-use Rattle.store.specs.Layout.{withWord, wordIn}
+use Rattle.layout.specs.Layout.{withWord, wordIn}
 
 -- The c bits above the lowest `low` ones of the word of l bits at `at`.
 unfoldable pub partIn : List ℕ → ℕ → ℕ → ℕ → ℕ → ℕ

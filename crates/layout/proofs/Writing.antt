@@ -8,7 +8,7 @@ use native.Mathlib.Numerals.{add-one}
 use native.Mathlib.Omega.{arith}
 use lib.ListN.{List·getD-append, drop, getD, length, length-append, length-drop, set, take}
 use lib.Seq.{append-snoc, drop-cons, ext-getD, getD-append-add, getD-drop, getD-take, length-take-le, set-at, take-suc}
-use Rattle.store.specs.Slices.{copied, landBits, landed}
+use Rattle.layout.specs.Slices.{copied, landBits, landed}
 
 -- The first i elements are those of L, the others still those of S.
 unfoldable pub written : List ℕ → ℕ → List ℕ → List ℕ

@@ -13,11 +13,11 @@ use Rattle.language.specs.Description.{Facility, isComputed, wordCount, wordLen
 use Rattle.language.specs.Judging.{both}
 use Rattle.language.specs.Layout.{facilityBytes, noSpareBits, storeSizeOf, wordBytes, wordFromBytes, wordToBytes}
 use Rattle.language.specs.Store.{Words, allNarrow, facilityWords, fromBytes, narrow, toBytes, wordsFrom, wordsTo}
-use Rattle.store.specs.InBytes.{Shaped, rowLength}
-use Rattle.store.specs.Layout.{Bytes}
-use Rattle.store.proofs.ByteLists.{bytes-append, bytes-drop, bytes-take}
-use Rattle.store.proofs.ByteOrder.{length-word, word-room}
-use Rattle.store.proofs.Words.{bytes-word, from-to, to-from}
+use Rattle.layout.specs.InBytes.{Shaped, rowLength}
+use Rattle.layout.specs.Layout.{Bytes}
+use Rattle.layout.proofs.ByteLists.{bytes-append, bytes-drop, bytes-take}
+use Rattle.layout.proofs.ByteOrder.{length-word, word-room}
+use Rattle.layout.proofs.Words.{bytes-word, from-to, to-from}
 
 -- ---- From bytes, and back.
 

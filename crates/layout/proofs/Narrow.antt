@@ -13,9 +13,9 @@ use Rattle.language.specs.Layout.{noSpareBits}
 use Rattle.language.specs.Meaning.{Write}
 use Rattle.language.specs.Store.{Words, allNarrow, lowOf, narrow, putPart, setWord, wordOf}
 use Rattle.language.specs.Value.{replaced}
-use Rattle.store.proofs.Inverse.{both-true}
-use Rattle.store.proofs.Numbers.{replaced-lt}
-use Rattle.store.proofs.StoreWords.{word-other, word-set}
+use Rattle.layout.proofs.Inverse.{both-true}
+use Rattle.layout.proofs.Numbers.{replaced-lt}
+use Rattle.layout.proofs.StoreWords.{word-other, word-set}
 
 -- ---- No spare bits, word by word.
 

@@ -10,7 +10,7 @@ use Rattle.language.specs.Layout.{placeIn, wordBytes}
 use Rattle.language.specs.Meaning.{Place, Stores, Write}
 use Rattle.language.specs.Store.{Words}
 use Rattle.language.specs.Value.{bit}
-use Rattle.store.specs.Parts.{loaded, saved}
+use Rattle.layout.specs.Parts.{loaded, saved}
 
 -- How many words a facility has in the store.
 unfoldable pub rowLength : Facility → ℕ

@@ -1,0 +1,12 @@
+pub mod Numbers
+pub mod ByteLists
+pub mod ByteOrder
+pub mod Words
+pub mod Writing
+pub mod SpareLaws
+pub mod StoreWords
+pub mod Inverse
+pub mod LandBits
+pub mod Naming
+pub mod Zeros
+pub mod Narrow

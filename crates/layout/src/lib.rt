@@ -1,0 +1,1 @@
+// Where the bits of a word stand in the store, and what follows of that alone.
