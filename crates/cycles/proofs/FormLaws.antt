@@ -2,12 +2,12 @@
 use mathlib.Core.Bool.{Bool, true, false, true≢false}
 use mathlib.Core.List.{List}
 use mathlib.Core.Path.{_≡_, refl, sym, ap, _∙_}
-use Prim.Native.Nat.{ℕ, zero, suc, _+_, _-_, _*_, _/_, _≤_, _<_}
-use native.Mathlib.Nat.{mul-comm, mul-div-cancel, suc-mul}
+use Prim.Native.Nat.{ℕ, suc, _+_, _-_, _*_, _/_, _≤_, _<_}
+use native.Mathlib.Nat.{mul-comm, mul-div-cancel}
 use native.Mathlib.Omega.{arith}
 use borrow.Author.Tests.{eq-eqb, eqb-false, eqb-true, ne-eqb}
 use lib.Dec.{eqb}
-use lib.ListN.{drop, length, length-drop, length-take, take}
+use lib.ListN.{drop, length, length-drop, take}
 use lib.Seq.{drop-drop, length-take-le}
 use Rattle.language.specs.Calls.{allWellFormed, stimulusSize, wellFormed}
 use Rattle.language.specs.Description.{Description}

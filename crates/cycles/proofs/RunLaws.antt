@@ -10,11 +10,9 @@ use borrow.Author.Tests.{eqb-false, eqb-true, leb-true, ne-eqb}
 use lib.Dec.{eqb, leb}
 use lib.ListN.{drop, length, length-append, take}
 use lib.Seq.{drop-drop, length-take-le}
-use Rattle.language.specs.Calls.{CycleAnswer, CycleCall, RunCall, Running, afterStep, allWellFormed, cycle, cycleRefusal, cycled, cycles, ran, refusedFor, roomy, run, runRefusal, soundBytes, stimulusSize, stoppedFor, traceRoomy, wellFormed}
+use Rattle.language.specs.Calls.{CycleAnswer, CycleCall, RunCall, afterStep, allWellFormed, cycle, cycleRefusal, cycled, cycles, ran, refusedFor, roomy, run, runRefusal, stimulusSize, stoppedFor, traceRoomy, wellFormed}
 use Rattle.language.specs.Decode.{decode}
 use Rattle.language.specs.Description.{Description}
-use Rattle.language.specs.Image.{passes}
-use Rattle.language.specs.Judging.{both}
 use Rattle.language.specs.Layout.{storeSize}
 use Rattle.language.specs.Reading.{filled, zeroes}
 use Rattle.language.specs.RecordBytes.{recordFrom, recordSize}
@@ -23,7 +21,6 @@ use Rattle.language.specs.Store.{fromBytes, inputsOf}
 use Rattle.records.proofs.ByteLaws.{placed-length}
 use Rattle.records.specs.Placed.{placed}
 use Rattle.theorems.specs.LegalForm.{left-of, right-of}
-use Rattle.theorems.specs.NeverStuck.{not-first}
 use Rattle.stays.specs.AnyRun.{Ready}
 use Rattle.stays.specs.StaysSound.{no-refusal, stays-sound}
 use Rattle.sound.proofs.PassedLaws.{passed-size}

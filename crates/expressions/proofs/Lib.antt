@@ -1,3 +1,1 @@
-pub mod ConstantLaws
-pub mod RecordLaws
 pub mod WalkLaws

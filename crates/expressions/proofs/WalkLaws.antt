@@ -22,7 +22,7 @@ use Rattle.records.proofs.nodes.Node.{the-type}
 use Rattle.records.specs.Nodes.{meant}
 use Rattle.records.specs.declared.nodes.Node.{Node}
 use Rattle.records.specs.declared.nodes.Node.the-variants as N
-use Rattle.expressions.specs.Shown.{worked}
+use Rattle.terms.specs.Shown.{worked}
 
 module _ (d : Description) (p : Places) (t : ℕ → Judged) (known n : ℕ) where
   pub part-lt : (a : ℕ) → a < n → judgeBelow d p t known n a ≡ judgeAt d p t known a

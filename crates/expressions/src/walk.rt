@@ -1,13 +1,13 @@
 // Expressions, record by record: an owner is judged by the verdicts on its parts, which stand before it. Every function takes the facilities (`fs`) and the expressions (`es`), the places beside each (`fp`, `ep`), what is kept of computed terminals, and how many facilities may be named.
-use crate::operators;
-use crate::references;
-use crate::references::Reference;
 use noted::facilities;
 use noted::places;
 use records::nodes;
 use records::nodes::Node;
 use rules::subscripts;
 use rules::subscripts::Subscripts;
+use terms::operators;
+use terms::references;
+use terms::references::Reference;
 use verdict::Verdict;
 use verdict::faults;
 use verdict::tests;
@@ -22,7 +22,7 @@ ghost use Rattle.language.specs.ReferenceRules.{referenceJudged, subscriptsJudg
 ghost use Rattle.language.specs.References.{referenceOf};
 ghost use Rattle.rules.specs.Meaning.{subscribed};
 ghost use Rattle.verdict.specs.Meaning.{capped, seen};
-ghost use Rattle.expressions.specs.Shown.{Judges, Shown};
+ghost use Rattle.terms.specs.Shown.{Judges, Shown};
 
 // Part a of record n, which must stand before it.
 fn part(

@@ -34,7 +34,7 @@ use Rattle.verdict.proofs.VerdictLaws.{is-faulty}
 use Rattle.verdict.specs.declared.Verdict.{Verdict}
 use Rattle.verdict.specs.declared.Verdict.the-variants.{Faulty}
 use Rattle.verdict.specs.Meaning.{recalled, seen, workOf}
-use Rattle.expressions.specs.Shown.{Shown, worked}
+use Rattle.terms.specs.Shown.{Shown, worked}
 use Rattle.judge.proofs.MemoryLaws.{capped-add, capped-store, worked-seen}
 use Rattle.judge.specs.Declared.{Declared, Remembered}
 

@@ -11,7 +11,7 @@ use Rattle.language.specs.Judging.{Judged, faulty, fine}
 use Rattle.store.specs.Shape.{capped, capped-above, capped-below}
 use Rattle.verdict.specs.Meaning as M
 use Rattle.verdict.specs.Meaning.{seen, workOf}
-use Rattle.expressions.specs.Shown.{worked}
+use Rattle.terms.specs.Shown.{worked}
 
 module _ (place bytes : ℕ) {b : ℕ} (e : b ≡ bytes) where
   pub past-place : 16384 < place → 16385 ≡ capped (place + bytes)

@@ -19,7 +19,7 @@ use Rattle.noted.proofs.NotedLaws.{action-noted, action-place, count-noted, fac
 use Rattle.noted.specs.Noted.{Beside, notedDescription, placesIn, widenedFacility}
 use Rattle.noted.specs.Read.{FacilityRead, facilityMeant}
 use Rattle.noted.specs.declared.facilities.Facility as N
-use Rattle.expressions.specs.Shown.{Records, nodeNoted}
+use Rattle.terms.specs.Shown.{Records, nodeNoted}
 use Rattle.judge.specs.Declared.{Acting, Declared, Remembered}
 use Rattle.judge.specs.Stated.{Stated}
 

@@ -21,7 +21,7 @@ use Rattle.verdict.specs.declared.Verdict.{Verdict}
 use Rattle.verdict.specs.Meaning.{recalled, seen, workOf}
 use Rattle.words.proofs.Least.{least-both, lesser-all, lesser-none}
 use Rattle.words.specs.Meaning.{lesser}
-use Rattle.expressions.specs.Shown.{worked}
+use Rattle.terms.specs.Shown.{worked}
 use Rattle.lists.specs.Listed.{Listed, listAt}
 use Rattle.judge.proofs.FacilityLaws.{shown-of}
 use Rattle.judge.proofs.MemoryLaws.{worked-seen}

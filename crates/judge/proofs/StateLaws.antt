@@ -27,7 +27,7 @@ use Rattle.noted.specs.Noted.{largeNo, widenedNode}
 use Rattle.verdict.proofs.VerdictLaws.{is-faulty}
 use Rattle.verdict.specs.declared.Verdict.the-variants.{Faulty}
 use Rattle.verdict.specs.Meaning.{seen}
-use Rattle.expressions.specs.Shown.{nodeNoted}
+use Rattle.terms.specs.Shown.{nodeNoted}
 use Rattle.lists.specs.Listed.{listAt}
 use Rattle.judge.proofs.ValueLaws.{wanted-none, wanted-some}
 use Rattle.judge.specs.Stated.{Stated, Valued, valuesBefore, wantedLength}

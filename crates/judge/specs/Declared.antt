@@ -14,7 +14,7 @@ use Rattle.language.specs.Expressions.{terminalJudged}
 use Rattle.noted.specs.Read.{FacilityRead, facilityMeant, placeOf}
 use Rattle.noted.specs.declared.facilities.Facility.{Facility}
 use Rattle.verdict.specs.Meaning.{recalled, seen}
-use Rattle.expressions.specs.Shown.{Records, worked}
+use Rattle.terms.specs.Shown.{Records, worked}
 
 abbrev pub facilityPlacesOf : List ℕ → ℕ → FacilityPlaces
 facilityPlacesOf places n = record {

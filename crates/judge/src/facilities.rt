@@ -1,11 +1,11 @@
 // Facilities, in order of declaration: each computed terminal names only those before it.
 use crate::bounds;
 use crate::memory;
-use expressions::operators;
 use expressions::walk;
 use image::kinds;
 use noted::facilities;
 use noted::facilities::Facility;
+use terms::operators;
 use verdict::Verdict;
 use words::Judged;
 use words::faults;

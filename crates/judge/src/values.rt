@@ -1,9 +1,9 @@
 // Values of states: constants as long as the sequencing register, each with a number of its own.
-use expressions::constants;
 use image::states::StateValue;
 use records::nodes;
 use records::nodes::Node;
 use records::numbers;
+use terms::constants;
 use verdict::faults;
 use words::Judged;
 use words::Position;

@@ -11,7 +11,7 @@ use Rattle.verdict.specs.declared.Verdict.the-variants.{Fine, Faulty}
 use Rattle.verdict.specs.declared.Worth.{Worth}
 use Rattle.verdict.specs.Meaning.{capped, met, paired, seen}
 use Rattle.words.specs.declared.Fault.{Fault}
-use Rattle.expressions.specs.Shown.{worked}
+use Rattle.terms.specs.Shown.{worked}
 use Rattle.lists.specs.Stored.{pairSides}
 
 -- A part of which only faults and work are known.

@@ -18,7 +18,7 @@ use Rattle.language.specs.Words.{Position}
 use Rattle.noted.specs.Read.{placeOf}
 use Rattle.verdict.specs.declared.Verdict.{Verdict}
 use Rattle.verdict.specs.Meaning.{recalled, seen}
-use Rattle.expressions.specs.Shown.{Shown, worked}
+use Rattle.terms.specs.Shown.{Shown, worked}
 use Rattle.lists.specs.declared.conditionals.Choices.{Choices}
 use Rattle.lists.specs.declared.conditionals.Choices.the-variants.{One, Several}
 

@@ -11,7 +11,7 @@ use Rattle.language.specs.Description.{Description, Places}
 use Rattle.language.specs.Expressions.{ownWork}
 use Rattle.language.specs.Judging.{Judged, Worth, both, givenBoth, orFaulty, unless, worth}
 use Rattle.language.specs.Words.{Position}
-use Rattle.expressions.specs.Shown.{Shown}
+use Rattle.terms.specs.Shown.{Shown}
 
 abbrev pub storedJudged : Bool → Position → Worth → Worth → Judged
 storedJudged allowed at v w = orFaulty (unless (eqb (v .length) (w .length)) at 7 ++ unless allowed at 8) (worth 1 0 (ownWork + v .work + w .work))

@@ -24,7 +24,7 @@ ghost use Rattle.language.specs.Judging as L;
 ghost use Rattle.language.specs.Words as W;
 ghost use Rattle.verdict.specs.Meaning.{recalled, seen};
 ghost use Rattle.words.specs.Meaning.{positioned};
-ghost use Rattle.expressions.specs.Shown.{worked};
+ghost use Rattle.terms.specs.Shown.{worked};
 ghost use Rattle.lists.specs.Listed.{Lists, inRight};
 
 // The work of an operation that is named: only the first `ops` may be.

@@ -1,11 +1,11 @@
 // Stores and `@`: the two sides, and what may be stored to.
 use crate::conditionals;
-use expressions::operators;
-use expressions::references;
-use expressions::references::Reference;
 use expressions::walk;
 use image::facilities::Kind;
 use image::kinds;
+use terms::operators;
+use terms::references;
+use terms::references::Reference;
 use verdict::Pair;
 use verdict::Verdict;
 use verdict::Worth;
@@ -23,7 +23,7 @@ ghost use Rattle.language.specs.Storing.{isPlain, mayStore};
 ghost use Rattle.language.specs.Words as W;
 ghost use Rattle.verdict.specs.Meaning.{seen};
 ghost use Rattle.words.specs.Meaning.{positioned};
-ghost use Rattle.expressions.specs.Shown.{Judges, worked};
+ghost use Rattle.terms.specs.Shown.{Judges, worked};
 ghost use Rattle.lists.specs.Stored.{KindTold, pairSides, setJudged, storedJudged};
 
 // The kind of the facility that record n refers to.

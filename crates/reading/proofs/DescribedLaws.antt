@@ -11,7 +11,7 @@ use Rattle.course.specs.declared.State.{State}
 use Rattle.course.specs.declared.Verdict.the-variants as Vd
 use Rattle.declarations.proofs.NameWords.{few-facilities}
 use Rattle.grammar.specs.Exact.{exact-text}
-use Rattle.language.specs.Building.{Built, nothingBuilt, withText}
+use Rattle.language.specs.Building.{nothingBuilt, withText}
 use Rattle.language.specs.DescribeText.{facilitiesOf, lengthAt}
 use Rattle.language.specs.Description.{Facility, sequencingFrom}
 use Rattle.language.specs.Grammar.{Is}

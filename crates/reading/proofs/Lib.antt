@@ -8,3 +8,4 @@ pub mod TwiceLaws
 pub mod WholeLaws
 pub mod CallLaws
 pub mod ShortLaws
+pub mod JudgedLaws

@@ -14,7 +14,7 @@ use Rattle.language.specs.Building.{Built}
 use Rattle.language.specs.Decode.{pick, upTo}
 use Rattle.language.specs.DescribeText.{describe}
 use Rattle.language.specs.Description as D
-use Rattle.language.specs.Description.{Description, Places, actionPlace, facilityPlace, nodePlace, statePlace}
+use Rattle.language.specs.Description.{Description, actionPlace, facilityPlace, nodePlace, statePlace}
 use Rattle.language.specs.Encode.{Sections, encode}
 use Rattle.language.specs.Grammar.{Is}
 use Rattle.language.specs.Machine.{Parsed, deepest, refused}
@@ -38,7 +38,7 @@ use Rattle.work.specs.Held.{held}
 use Rattle.words.specs.declared.Fault.{Fault}
 use Rattle.words.specs.declared.Judged.{Judged}
 use Rattle.words.specs.declared.Judged.the-variants as J
-use Rattle.words.specs.Meaning.{faulted, judged}
+use Rattle.words.specs.Meaning.{judged}
 use Rattle.writing.proofs.BodyLaws.{row-most}
 use Rattle.writing.proofs.StandingLaws.{sections-stand}
 use Rattle.writing.proofs.TextsStand.{names-room, text-judged}

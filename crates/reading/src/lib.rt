@@ -1,6 +1,7 @@
 // Reading a text (01, "Refusal numbers"): its length, its words, its grammar and the rest of the rules, and at last its image.
 use crate::described::Outcome;
 use crate::described::whole;
+use crate::judging::judge;
 use answers::read::Answer;
 use store::slices;
 use words::Fault;
@@ -8,7 +9,6 @@ use words::Judged;
 use words::Position;
 use words::stage;
 use writing::Tally;
-use writing::judging;
 use writing::whole::Written;
 use writing::whole::write_image;
 ghost use mathlib.Core.Path.{_≡_};
@@ -21,6 +21,7 @@ ghost use Rattle.answers.specs.Reading.{Short, called};
 ghost use Rattle.reading.specs.Writes.{Tells, Writes};
 
 mod described;
+mod judging;
 
 // A refusal leaves nothing in the buffer.
 fn refuse(image: &mut [u8], f: Fault) -> Answer
@@ -45,7 +46,7 @@ fn told(w: Written) -> Answer
 fn written(text: &[u8], work: &[u8; 275296], c: Tally, image: &mut [u8]) -> Answer
     ensures { λ r. ⌜ Writes (now (text .entry)) (now (work .entry)) c (length (now (image .entry))) (called r (now (image .exit))) ⌝ }
 {
-    let fault = judging::judge(text, work, c);
+    let fault = judge(text, work, c);
     match fault {
         Judged::Passed => told(write_image(text, work, c, image)),
         Judged::Refused(f) => refuse(image, f),

@@ -1,7 +1,6 @@
 pub mod ActionsFit
 pub mod BodyLaws
 pub mod DeclarationsFit
-pub mod JudgedLaws
 pub mod LetterLaws
 pub mod NarrowBack
 pub mod NearTrees

@@ -1,7 +1,6 @@
 // The end of reading: the sections that the working array holds, judged, and written as an image.
 pub mod body;
 pub mod counts;
-pub mod judging;
 pub mod letters;
 pub mod names;
 pub mod whole;

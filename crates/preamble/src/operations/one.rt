@@ -12,7 +12,6 @@ use tables::operations;
 use words::Word;
 ghost use mathlib.Core.Path.{_≡_};
 ghost use Prim.Native.Nat.{_-_, _<_};
-ghost use Rattle.tables.specs.Operations.{OperationAdded};
 ghost use Rattle.preamble.specs.Heads.{Body};
 ghost use Rattle.preamble.specs.Lists.{One};
 

@@ -1,7 +1,7 @@
 use Rattle.language.specs.Description.{facilityAt, isComputed}
-use Rattle.expressions.specs.Shown as Shown
+use Rattle.terms.specs.Shown as Shown
 use Rattle.expressions.proofs.WalkLaws.{broken-is, judge-is, part-ge, part-lt, reference-is, right-reference, unknown-reference, wrong-reference}
-use Rattle.expressions.proofs.RecordLaws.{at-is, node-is}
+use Rattle.terms.proofs.RecordLaws.{at-is, node-is}
 use Rattle.verdict.specs.Meaning.{seen}
 use Rattle.verdict.proofs.VerdictLaws.{arms-same, proper-same, refuse-same}
 use Rattle.language.specs.ReferenceRules.{subscriptsJudged}
@@ -31,21 +31,21 @@ use Rattle.expressions.proofs.walk.+judge+operand+operator+part+referre
 use Rattle.expressions.proofs.walk.subscripts.Reads as subscripts
 use Rattle.expressions.proofs.walk.subscripts.Kinds as subscripts-kinds
 use Rattle.expressions.proofs.walk.+judge+operand+operator+part+referred+subscripts.Lts-subscripts as subscripts-lts
-use Rattle.expressions.proofs.operators.binary.Reads as binary-reads
-use Rattle.expressions.proofs.operators.choice.Reads as choice-reads
-use Rattle.expressions.proofs.operators.constant.Reads as constant-reads
-use Rattle.expressions.proofs.operators.cut.Reads as cut-reads
-use Rattle.expressions.proofs.operators.first_arm.Reads as first-arm-reads
-use Rattle.expressions.proofs.operators.next_arm.Reads as next-arm-reads
-use Rattle.expressions.proofs.operators.nothing.Reads as nothing-reads
-use Rattle.expressions.proofs.operators.prefix.Reads as prefix-reads
-use Rattle.expressions.proofs.operators.together.Reads as together-reads
-use Rattle.expressions.proofs.references.bound_faults.Reads as bound-faults-reads
-use Rattle.expressions.proofs.references.computed_work.Reads as computed-work-reads
-use Rattle.expressions.proofs.references.counted_right.Reads as counted-right-reads
-use Rattle.expressions.proofs.references.counted_wrong.Reads as counted-wrong-reads
-use Rattle.expressions.proofs.references.direction_faults.Reads as direction-faults-reads
-use Rattle.expressions.proofs.references.reference_at.Reads as reference-at-reads
+use Rattle.terms.proofs.operators.binary.Reads as binary-reads
+use Rattle.terms.proofs.operators.choice.Reads as choice-reads
+use Rattle.terms.proofs.operators.constant.Reads as constant-reads
+use Rattle.terms.proofs.operators.cut.Reads as cut-reads
+use Rattle.terms.proofs.operators.first_arm.Reads as first-arm-reads
+use Rattle.terms.proofs.operators.next_arm.Reads as next-arm-reads
+use Rattle.terms.proofs.operators.nothing.Reads as nothing-reads
+use Rattle.terms.proofs.operators.prefix.Reads as prefix-reads
+use Rattle.terms.proofs.operators.together.Reads as together-reads
+use Rattle.terms.proofs.references.bound_faults.Reads as bound-faults-reads
+use Rattle.terms.proofs.references.computed_work.Reads as computed-work-reads
+use Rattle.terms.proofs.references.counted_right.Reads as counted-right-reads
+use Rattle.terms.proofs.references.counted_wrong.Reads as counted-wrong-reads
+use Rattle.terms.proofs.references.direction_faults.Reads as direction-faults-reads
+use Rattle.terms.proofs.references.reference_at.Reads as reference-at-reads
 use Rattle.noted.proofs.facilities.facility_at.Reads as facility-at-reads
 use Rattle.noted.proofs.places.nowhere.Reads as nowhere-reads
 use Rattle.noted.proofs.places.of_node.Reads as of-node-reads

@@ -1,4 +1,4 @@
-use Rattle.expressions.proofs.RecordLaws.{at-is}
+use Rattle.terms.proofs.RecordLaws.{at-is}
 use Rattle.verdict.proofs.VerdictLaws.{proper-same}
 use mathlib.Core.Path.{_∙_}
 use borrow.Author.Needs.{needs}

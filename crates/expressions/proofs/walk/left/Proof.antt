@@ -1,5 +1,5 @@
-use Rattle.expressions.specs.Shown as Shown
-use Rattle.expressions.proofs.RecordLaws.{at-is}
+use Rattle.terms.specs.Shown as Shown
+use Rattle.terms.proofs.RecordLaws.{at-is}
 use Rattle.verdict.proofs.VerdictLaws.{refuse-same}
 use Rattle.verdict.proofs.CappedLaws.{capped-small}
 use Rattle.language.specs.Expressions.{leftAt}

@@ -1,4 +1,4 @@
-use Rattle.expressions.specs.Shown.{referred}
+use Rattle.terms.specs.Shown.{referred}
 use Rattle.language.specs.Description as D
 use Rattle.language.specs.ActionRules.{kindAt}
 use mathlib.Core.Path.{sym, ap, _∙_}

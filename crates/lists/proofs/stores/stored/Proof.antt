@@ -1,5 +1,5 @@
 use Rattle.lists.proofs.StoreLaws.{worked-faulty, worked-fine}
-use Rattle.expressions.specs.Shown.{worked}
+use Rattle.terms.specs.Shown.{worked}
 use Rattle.verdict.specs.declared.Worth.{Worth}
 use Rattle.verdict.proofs.VerdictLaws.{pair-known}
 use Rattle.language.specs.WordStage.{least}

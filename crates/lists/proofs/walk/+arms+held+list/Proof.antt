@@ -19,8 +19,8 @@ use Rattle.lists.proofs.walk.+arms+held+list.Lts-held as held-lts
 use Rattle.lists.proofs.walk.list.Reads as list
 use Rattle.lists.proofs.walk.list.Kinds as list-kinds
 use Rattle.lists.proofs.walk.+arms+held+list.Lts-list as list-lts
-use Rattle.expressions.proofs.operators.nothing.Reads as nothing-reads
-use Rattle.expressions.proofs.operators.together.Reads as together-reads
+use Rattle.terms.proofs.operators.nothing.Reads as nothing-reads
+use Rattle.terms.proofs.operators.together.Reads as together-reads
 use Rattle.expressions.proofs.walk.expression.Reads as expression-reads
 use Rattle.lists.proofs.conditionals.arm.Reads as arm-reads
 use Rattle.lists.proofs.conditionals.branch_of.Reads as branch-of-reads
