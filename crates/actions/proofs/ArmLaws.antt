@@ -26,8 +26,8 @@ use Rattle.language.specs.Naming.{Scope}
 use Rattle.language.specs.Tree as T
 use Rattle.language.specs.Tree.{Actions}
 use Rattle.meanings.specs.declared.Counts.{Counts}
-use Rattle.pieces.proofs.StartLaws.{at-same}
-use Rattle.pieces.specs.Phrases.{atNesting, same}
+use Rattle.phrases.proofs.StartLaws.{at-same}
+use Rattle.phrases.specs.Phrases.{atNesting, same}
 use Rattle.simple.proofs.Joining.{grown-two, written-then}
 use Rattle.simple.proofs.Standings.{standing-passed}
 use Rattle.simple.specs.Actions.{Acts, Paid, Reads, Standing, grown}

@@ -22,10 +22,10 @@ use Rattle.language.specs.Machine.{Counts, ask, expression, level, word}
 use Rattle.language.specs.Naming.{Scope}
 use Rattle.language.specs.Tree as T
 use Rattle.meanings.specs.declared.Counts as M
-use Rattle.pieces.proofs.ArmLaws.{separators}
-use Rattle.pieces.proofs.StartLaws.{at-same}
-use Rattle.pieces.proofs.TermLaws.{from-kept}
-use Rattle.pieces.specs.Phrases.{atNesting, choiceWord, firstWord, same}
+use Rattle.phrases.proofs.ArmLaws.{separators}
+use Rattle.phrases.proofs.StartLaws.{at-same}
+use Rattle.phrases.proofs.TermLaws.{from-kept}
+use Rattle.phrases.specs.Phrases.{atNesting, choiceWord, firstWord, same}
 use Rattle.simple.proofs.ReachedLaws.{room-reached, standing-read, start-reached}
 use Rattle.simple.proofs.Standings.{here-of, standing-passed}
 use Rattle.simple.specs.Actions.{Standing}

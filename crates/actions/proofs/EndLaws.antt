@@ -21,7 +21,7 @@ use Rattle.language.specs.Tree as T
 use Rattle.language.specs.Tree.{Actions, Expression}
 use Rattle.language.specs.Words as L
 use Rattle.meanings.specs.declared.Counts as M
-use Rattle.pieces.specs.Phrases.{same}
+use Rattle.phrases.specs.Phrases.{same}
 use Rattle.simple.proofs.Standings.{standing-after}
 use Rattle.simple.specs.Actions.{Paid, Reads, Standing, Written, frontOf, grown}
 use Rattle.words.specs.declared.Word.{Word}

@@ -23,8 +23,8 @@ use Rattle.language.specs.Naming.{Scope}
 use Rattle.language.specs.Tree as T
 use Rattle.language.specs.Tree.{Actions, Expression}
 use Rattle.meanings.specs.declared.Counts.{Counts}
-use Rattle.pieces.proofs.StartLaws.{at-same}
-use Rattle.pieces.specs.Phrases.{atNesting}
+use Rattle.phrases.proofs.StartLaws.{at-same}
+use Rattle.phrases.specs.Phrases.{atNesting}
 use Rattle.simple.proofs.Joining.{written-then}
 use Rattle.simple.specs.Actions.{Standing, Written}
 use Rattle.simple.specs.declared.Acted.{Acted}

@@ -19,8 +19,8 @@ use Rattle.language.specs.Building.{Built, joined}
 use Rattle.language.specs.Machine.{ask}
 use Rattle.language.specs.Naming.{Scope}
 use Rattle.meanings.specs.declared.Counts.{Counts}
-use Rattle.pieces.proofs.StartLaws.{at-same}
-use Rattle.pieces.specs.Phrases.{atNesting, same}
+use Rattle.phrases.proofs.StartLaws.{at-same}
+use Rattle.phrases.specs.Phrases.{atNesting, same}
 use Rattle.simple.proofs.Joining.{grown-two, paid-then, written-then}
 use Rattle.simple.proofs.Standings.{standing-passed}
 use Rattle.simple.specs.Actions.{ActionsRead, Acts, Reads, Standing, grown}

@@ -16,7 +16,7 @@ use Rattle.language.specs.Sections.{ruleOf}
 use Rattle.language.specs.Words as L
 use Rattle.language.specs.Words.{fault}
 use Rattle.operands.proofs.TermWords.{countsAfter}
-use Rattle.pieces.specs.Phrases.{choiceWord}
+use Rattle.phrases.specs.Phrases.{choiceWord}
 use Rattle.words.specs.declared.Word.{Word}
 use Rattle.words.specs.Meaning.{positioned}
 use Rattle.actions.specs.Lists.{actionAsk, armsAsk, armStack, branchStack, elseStack, moreAsk, nameAsk, ownStack, restAsk, signOf}

@@ -17,7 +17,7 @@ use Rattle.language.specs.Machine.{ask, refused, stateAction}
 use Rattle.language.specs.Naming.{Scope}
 use Rattle.language.specs.Words.{fault}
 use Rattle.meanings.specs.declared.Counts.{Counts}
-use Rattle.pieces.specs.Phrases.{afterName, same}
+use Rattle.phrases.specs.Phrases.{afterName, same}
 use Rattle.simple.proofs.Standings.{standing-passed}
 use Rattle.simple.specs.Actions.{Acts, Reads}
 use Rattle.simple.specs.declared.Acted.{Acted}

@@ -21,7 +21,7 @@ use Rattle.language.specs.Tree.{Actions, Expression}
 use Rattle.language.specs.Words as L
 use Rattle.meanings.specs.declared.Counts.{Counts}
 use Rattle.noted.specs.Noted.{placeBytes}
-use Rattle.pieces.specs.Phrases.{choiceWord, same}
+use Rattle.phrases.specs.Phrases.{choiceWord, same}
 use Rattle.simple.specs.Actions.{Acts, Paid, Reads, Standing, Written, grown}
 use Rattle.simple.specs.declared.Acted.{Acted}
 use Rattle.tables.specs.declared.Table.the-variants as Tb

@@ -13,7 +13,7 @@ ghost use mathlib.Core.Bool.{true, false};
 ghost use mathlib.Core.List.{[], _∷_};
 ghost use Rattle.language.specs.Machine.{ask};
 ghost use Rattle.meanings.specs.declared.Counts as M;
-ghost use Rattle.pieces.specs.Phrases.{same};
+ghost use Rattle.phrases.specs.Phrases.{same};
 ghost use Rattle.simple.specs.Actions.{Acts};
 ghost use Rattle.actions.specs.Lists.{Another, Arm, Arms, Condition, Conditional, Deeper, Else, Named, NextArm, Plain, Signed, actionAsk, listStack};
 
@@ -47,7 +47,7 @@ pub fn list(
         };
         let next = answer.next;
         if leaves::is(next, kinds::COMMA) {
-            let state = pieces::at(answer.state, s.nesting);
+            let state = phrases::pieces::at(answer.state, s.nesting);
             read = another(state, in_state, text, next, work, n, read.actions);
             count += 1;
         } else {
@@ -74,7 +74,7 @@ fn another(
     let Verdict::Done = verdict else {
         return leaves::answered(comma, acts);
     };
-    let state = pieces::at(comma.state, s.nesting);
+    let state = phrases::pieces::at(comma.state, s.nesting);
     action(state, in_state, text, comma.next, work, n, acts)
 }
 
@@ -123,13 +123,13 @@ fn condition(
     let Verdict::Done = verdict else {
         return leaves::answered(read, acts);
     };
-    let kind = pieces::first_word(case);
+    let kind = phrases::pieces::first_word(case);
     let word = taking::expect(text, read.next, read.state, kind, Bearing::Level);
     let verdict = word.verdict;
     let Verdict::Done = verdict else {
         return leaves::answered(word, acts);
     };
-    let inner = pieces::at(word.state, state.nesting);
+    let inner = phrases::pieces::at(word.state, state.nesting);
     let at = w.at;
     simple::leaves::put(inner, Action::Broken, at, word.next, work, acts)
 }
@@ -163,7 +163,7 @@ fn when(
         leaves::when_again(work, acts, head.actions, read.state.nodes, first.actions, w);
         return leaves::answered(end, first.actions);
     }
-    let state = pieces::at(then.state, read.state.nesting);
+    let state = phrases::pieces::at(then.state, read.state.nesting);
     let second = otherwise(state, in_state, text, then.next, work, n, first.actions);
     let other = second.answer;
     let verdict = other.verdict;
@@ -192,7 +192,7 @@ fn otherwise(
     let Verdict::Done = verdict else {
         return leaves::answered(word, acts);
     };
-    let state = pieces::at(word.state, s.nesting);
+    let state = phrases::pieces::at(word.state, s.nesting);
     arm(state, in_state, text, word.next, work, n, acts)
 }
 
@@ -254,7 +254,7 @@ fn arms(
         };
         let next = answer.next;
         if leaves::is(next, kinds::DO) {
-            let state = pieces::at(answer.state, s.nesting);
+            let state = phrases::pieces::at(answer.state, s.nesting);
             read = next_arm(state, in_state, text, next, work, n, read.actions);
             count += 1;
         } else {
@@ -281,7 +281,7 @@ fn next_arm(
     let Verdict::Done = verdict else {
         return leaves::answered(word, acts);
     };
-    let state = pieces::at(word.state, s.nesting);
+    let state = phrases::pieces::at(word.state, s.nesting);
     arm(state, in_state, text, word.next, work, n, acts)
 }
 

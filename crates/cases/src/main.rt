@@ -1,5 +1,4 @@
 // Runs the cases that the second simulator packs, and prints for each kind how many agree, how many differ, and the first that does: the traces of data/corpus, and the calls of data/calls (tests/second/trials/packed.rs), where each answer and every byte of every buffer lent is held against what it says. A call is made twice, with other bytes in what it only writes.
-
 mod calls;
 mod case;
 mod fetched;

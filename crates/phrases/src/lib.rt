@@ -1,4 +1,5 @@
 // Expressions and references (the manual, 5.1 and 5.2): a recursive descent that writes their records, against the machine of the grammar.
+use crate::pieces::Armed;
 use course::Answer;
 use course::Bearing;
 use course::State;
@@ -13,7 +14,6 @@ use levels::ranks;
 use operands::constants;
 use operands::cuts;
 use operands::nodes;
-use pieces::Armed;
 use words::Word;
 ghost use mathlib.Core.Bool.{false, true};
 ghost use mathlib.Core.List.{[], _∷_};
@@ -25,7 +25,9 @@ ghost use Rattle.course.specs.Course.{kindNo};
 ghost use Rattle.course.specs.Pays.{Spends};
 ghost use Rattle.course.specs.Says.{Extends, Parses};
 ghost use Rattle.levels.specs.Orders.{stackOf, tailStack, tailsFrom};
-ghost use Rattle.pieces.specs.Phrases.{Arms, Begins, FirstArm, Inside, MoreArms, NextArm, Operates, Second, afterName, choiceWord, same};
+ghost use Rattle.phrases.specs.Phrases.{Arms, Begins, FirstArm, Inside, MoreArms, NextArm, Operates, Second, afterName, choiceWord, same};
+
+pub mod pieces;
 
 // An expression of a level.
 pub fn start(s: State, level: Level, text: &[u8], w: Word, work: &mut [u8; 275296]) -> Answer

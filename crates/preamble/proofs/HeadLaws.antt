@@ -22,7 +22,7 @@ use Rattle.language.specs.Machine.{Counts, ask, closes, control, opens, operati
 use Rattle.language.specs.Naming.{Scope}
 use Rattle.language.specs.Tree.{Actions}
 use Rattle.meanings.specs.declared.Counts as M
-use Rattle.pieces.specs.Phrases.{same}
+use Rattle.phrases.specs.Phrases.{same}
 use Rattle.simple.proofs.Standings.{few-operations, standing-passed}
 use Rattle.simple.specs.Actions.{ActionsRead, Acts, Written, frontOf, grown}
 use Rattle.simple.specs.declared.Acted.{Acted}

@@ -20,7 +20,7 @@ use Rattle.language.specs.DescribeText.{operationActions, operationExpressions,
 use Rattle.language.specs.Encode.{concat}
 use Rattle.language.specs.Machine.{ask, operationSpec, operationsMore, withinCeilings}
 use Rattle.language.specs.Tree.{Name, Operation}
-use Rattle.pieces.proofs.PartLaws.{with-nothing}
+use Rattle.phrases.proofs.PartLaws.{with-nothing}
 use Rattle.simple.proofs.Standings.{few-operations}
 use Rattle.simple.specs.Actions.{frontOf}
 use Rattle.simple.specs.declared.Acted.{Acted}

@@ -30,7 +30,7 @@ use Rattle.meanings.specs.declared.Counts as M
 use Rattle.meanings.specs.declared.Meaning.{Meaning}
 use Rattle.meanings.specs.Known.{meant}
 use Rattle.operands.specs.References.{lettersOf}
-use Rattle.pieces.specs.Phrases.{afterName, same}
+use Rattle.phrases.specs.Phrases.{afterName, same}
 use Rattle.words.specs.declared.Word.{Word}
 use Rattle.words.specs.Meaning.{positioned}
 use Rattle.work.specs.Held.{held}

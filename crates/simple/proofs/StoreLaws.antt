@@ -24,7 +24,7 @@ use Rattle.language.specs.Tree as T
 use Rattle.language.specs.Tree.{Expression, Left}
 use Rattle.language.specs.Words as L
 use Rattle.meanings.specs.declared.Counts as M
-use Rattle.pieces.specs.Phrases.{afterName, same}
+use Rattle.phrases.specs.Phrases.{afterName, same}
 use Rattle.words.specs.declared.Word.{Word}
 use Rattle.words.specs.Meaning.{positioned}
 use Rattle.simple.proofs.ActionWords.{con-comes, no-set, no-store, set-comes, set-left, store-comes, store-left}

@@ -21,7 +21,7 @@ use Rattle.meanings.specs.declared.Counts.{Counts}
 use Rattle.meanings.specs.declared.Meaning.{Meaning}
 use Rattle.meanings.specs.Known.{Known, meant}
 use Rattle.operands.specs.References.{lettersOf}
-use Rattle.pieces.specs.Phrases.{afterName}
+use Rattle.phrases.specs.Phrases.{afterName}
 use Rattle.tables.specs.Actions.{ActionAdded}
 use Rattle.words.specs.declared.Fault.{Fault}
 use Rattle.words.specs.declared.Position.{Position}

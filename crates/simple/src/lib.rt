@@ -15,7 +15,7 @@ ghost use Rattle.course.specs.Course.{kindNo};
 ghost use Rattle.grammar.specs.Following.{among};
 ghost use Rattle.language.specs.Machine as L;
 ghost use Rattle.language.specs.Machine.{ask};
-ghost use Rattle.pieces.specs.Phrases.{afterName, same};
+ghost use Rattle.phrases.specs.Phrases.{afterName, same};
 ghost use Rattle.simple.specs.Actions.{Acts};
 ghost use Rattle.simple.specs.Leaves.{Performs};
 ghost use Rattle.simple.specs.Reached.{Arrows};

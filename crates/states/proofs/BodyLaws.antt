@@ -22,7 +22,7 @@ use Rattle.language.specs.Naming.{Scope}
 use Rattle.language.specs.Tree as T
 use Rattle.language.specs.Tree.{Actions}
 use Rattle.meanings.specs.declared.Counts.{Counts}
-use Rattle.pieces.specs.Phrases as Ph
+use Rattle.phrases.specs.Phrases as Ph
 use Rattle.simple.proofs.Joining.{written-then}
 use Rattle.simple.proofs.ReachedLaws.{nodes-none}
 use Rattle.simple.proofs.Standings.{standing-passed}

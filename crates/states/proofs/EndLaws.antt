@@ -15,7 +15,7 @@ use Rattle.course.specs.Course.{Seen, Stack, countsOf, kindNo, runs}
 use Rattle.course.specs.Taken.{Passed, Refuses, Took, afterWord}
 use Rattle.language.specs.Building.{Built}
 use Rattle.language.specs.Machine.{ask, dollarOption, refused}
-use Rattle.pieces.specs.Phrases.{stayed}
+use Rattle.phrases.specs.Phrases.{stayed}
 use Rattle.simple.proofs.Standings.{standing-passed}
 use Rattle.simple.specs.declared.Acted.{Acted}
 use Rattle.words.specs.declared.Word.{Word}

@@ -35,7 +35,7 @@ use Rattle.language.specs.Value as L
 use Rattle.language.specs.Words.{Constant}
 use Rattle.meanings.specs.declared.Counts.{Counts}
 use Rattle.operands.specs.References.{lettersOf}
-use Rattle.pieces.specs.Phrases.{afterName, stayed}
+use Rattle.phrases.specs.Phrases.{afterName, stayed}
 use Rattle.simple.proofs.Keeping.{known-kept, others-other, whole-other}
 use Rattle.simple.proofs.ReachedLaws.{front-held, nodes-none, other-held}
 use Rattle.simple.proofs.Standings.{few-states, first-three, standing-passed}

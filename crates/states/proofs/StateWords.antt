@@ -18,7 +18,7 @@ use Rattle.language.specs.Machine.{ask, choose, closes, dollarOption, feed, fin
 use Rattle.language.specs.Sections.{ruleOf}
 use Rattle.language.specs.Tree as T
 use Rattle.language.specs.Words.{fault}
-use Rattle.pieces.specs.Phrases.{afterName}
+use Rattle.phrases.specs.Phrases.{afterName}
 use Rattle.words.specs.declared.Kind.{Kind}
 use Rattle.words.specs.declared.Kind.the-variants as K
 use Rattle.words.specs.declared.Word.{Word}

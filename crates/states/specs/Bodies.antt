@@ -12,7 +12,7 @@ use Rattle.language.specs.Naming.{Scope}
 use Rattle.language.specs.Tree as T
 use Rattle.language.specs.Tree.{Actions}
 use Rattle.meanings.specs.declared.Counts.{Counts}
-use Rattle.pieces.specs.Phrases.{afterName}
+use Rattle.phrases.specs.Phrases.{afterName}
 use Rattle.simple.specs.Actions.{Acts, Standing, Written}
 use Rattle.simple.specs.declared.Acted.{Acted}
 use Rattle.words.specs.declared.Word.{Word}

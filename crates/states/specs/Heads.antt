@@ -21,7 +21,7 @@ use Rattle.language.specs.Naming.{Scope}
 use Rattle.language.specs.Scan.{written}
 use Rattle.language.specs.Tree as T
 use Rattle.meanings.specs.declared.Counts.{Counts}
-use Rattle.pieces.specs.Phrases.{afterName, stayed}
+use Rattle.phrases.specs.Phrases.{afterName, stayed}
 use Rattle.simple.specs.Actions.{Standing, frontOf}
 use Rattle.value.specs.Meaning.{valued}
 use Rattle.words.specs.declared.Fault.{Fault}

@@ -29,7 +29,7 @@ use Rattle.language.specs.Naming.{Scope}
 use Rattle.language.specs.Tree as T
 use Rattle.language.specs.Tree.{Declaration, Expression, Extent}
 use Rattle.language.specs.Words.{Position}
-use Rattle.pieces.specs.Phrases.{same}
+use Rattle.phrases.specs.Phrases.{same}
 use Rattle.tables.specs.Rows.{rows}
 use Rattle.words.specs.declared.Word.{Word}
 use Rattle.words.specs.Meaning.{positioned}

@@ -51,7 +51,7 @@ use Rattle.actions.proofs.plain.Reads as plain-reads
 use Rattle.course.proofs.kinds.number.Reads as number-reads
 use Rattle.course.proofs.taking.expect.Reads as expect-reads
 use Rattle.course.proofs.taking.take.Reads as take-reads
-use Rattle.pieces.proofs.at.Reads as at-reads
+use Rattle.phrases.proofs.pieces.at.Reads as at-reads
 use Rattle.simple.proofs.leaves.put.Reads as put-reads
 use Rattle.words.proofs.places.position.Reads as position-reads
 use Rattle.actions.proofs.+action+another+arm+arms+cases+list+next_arm+otherwise+when.{

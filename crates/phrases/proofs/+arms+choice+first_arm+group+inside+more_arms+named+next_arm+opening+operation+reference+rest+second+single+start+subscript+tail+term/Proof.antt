@@ -14,12 +14,12 @@ use Rattle.levels.specs.declared.Level.{Level}
 use Rattle.levels.specs.Orders.{rankNo, topNo}
 use Rattle.levels.proofs.TailWords.{top-most}
 use Rattle.operands.proofs.OperandCosts.{adds-spends}
-use Rattle.pieces.proofs.ArmLaws.{Armings, armings-begin, armings-end, armings-full, armings-more, armings-not, arms-none, arms-one, arms-says, branches-not, choice-not, choice-says, closers, condition-not, first-inner, first-not, first-says, last-not, next-inner, next-not, next-says, others, separators}
-use Rattle.pieces.proofs.BracketLaws.{close-not, close-says, comma-not, comma-says, counted-not, end-not, ends-so, inside-expression, inside-not, inside-says, one-says, second-not, second-says, single-not, single-says, subscript-not}
-use Rattle.pieces.proofs.Falling.{next-up, not-cut, not-plain, operand-tighter}
-use Rattle.pieces.proofs.StartLaws.{opening-not, opening-says, operand-not, plain-opening, red-not, rest-none, rest-not, rest-says, start-not, start-says}
-use Rattle.pieces.proofs.TailLaws.{Tails, cut-operation, operation-not, operation-says, right-not, tails-begin, tails-end, tails-full, tails-more, tails-not, tails-once}
-use Rattle.pieces.proofs.TermLaws.{group-not, group-says, inner-not, named-not, named-says, reference-not, reference-says, term-not, whole-says}
+use Rattle.phrases.proofs.ArmLaws.{Armings, armings-begin, armings-end, armings-full, armings-more, armings-not, arms-none, arms-one, arms-says, branches-not, choice-not, choice-says, closers, condition-not, first-inner, first-not, first-says, last-not, next-inner, next-not, next-says, others, separators}
+use Rattle.phrases.proofs.BracketLaws.{close-not, close-says, comma-not, comma-says, counted-not, end-not, ends-so, inside-expression, inside-not, inside-says, one-says, second-not, second-says, single-not, single-says, subscript-not}
+use Rattle.phrases.proofs.Falling.{next-up, not-cut, not-plain, operand-tighter}
+use Rattle.phrases.proofs.StartLaws.{opening-not, opening-says, operand-not, plain-opening, red-not, rest-none, rest-not, rest-says, start-not, start-says}
+use Rattle.phrases.proofs.TailLaws.{Tails, cut-operation, operation-not, operation-says, right-not, tails-begin, tails-end, tails-full, tails-more, tails-not, tails-once}
+use Rattle.phrases.proofs.TermLaws.{group-not, group-says, inner-not, named-not, named-says, reference-not, reference-says, term-not, whole-says}
 use Prim.Native.Nat.{ℕ, _<_}
 use borrow.Fn.Kinds.{In}
 use borrow.Fn.PlainCycle.{Measures, is, falls, and}
@@ -96,24 +96,24 @@ use Rattle.operands.proofs.cuts.cut.Reads as cut-reads
 use Rattle.operands.proofs.nodes.add_one.Reads as add-one-reads
 use Rattle.operands.proofs.nodes.add_two.Reads as add-two-reads
 use Rattle.operands.proofs.nodes.add_whole.Reads as add-whole-reads
-use Rattle.pieces.proofs.add_binary.Reads as add-binary-reads
-use Rattle.pieces.proofs.add_choice.Reads as add-choice-reads
-use Rattle.pieces.proofs.add_first_arm.Reads as add-first-arm-reads
-use Rattle.pieces.proofs.add_next_arm.Reads as add-next-arm-reads
-use Rattle.pieces.proofs.add_prefix.Reads as add-prefix-reads
-use Rattle.pieces.proofs.another.Reads as another-reads
-use Rattle.pieces.proofs.at.Reads as at-reads
-use Rattle.pieces.proofs.first_word.Reads as first-word-reads
-use Rattle.pieces.proofs.full.Reads as full-reads
-use Rattle.pieces.proofs.last_word.Reads as last-word-reads
-use Rattle.pieces.proofs.once.Reads as once-reads
-use Rattle.pieces.proofs.one_more.Reads as one-more-reads
-use Rattle.pieces.proofs.operates.Reads as operates-reads
-use Rattle.pieces.proofs.other_word.Reads as other-word-reads
-use Rattle.pieces.proofs.part.Reads as part-reads
-use Rattle.pieces.proofs.reducing.Reads as reducing-reads
-use Rattle.pieces.proofs.stay.Reads as stay-reads
-use Rattle.pieces.proofs.word_part.Reads as word-part-reads
+use Rattle.phrases.proofs.pieces.add_binary.Reads as add-binary-reads
+use Rattle.phrases.proofs.pieces.add_choice.Reads as add-choice-reads
+use Rattle.phrases.proofs.pieces.add_first_arm.Reads as add-first-arm-reads
+use Rattle.phrases.proofs.pieces.add_next_arm.Reads as add-next-arm-reads
+use Rattle.phrases.proofs.pieces.add_prefix.Reads as add-prefix-reads
+use Rattle.phrases.proofs.pieces.another.Reads as another-reads
+use Rattle.phrases.proofs.pieces.at.Reads as at-reads
+use Rattle.phrases.proofs.pieces.first_word.Reads as first-word-reads
+use Rattle.phrases.proofs.pieces.full.Reads as full-reads
+use Rattle.phrases.proofs.pieces.last_word.Reads as last-word-reads
+use Rattle.phrases.proofs.pieces.once.Reads as once-reads
+use Rattle.phrases.proofs.pieces.one_more.Reads as one-more-reads
+use Rattle.phrases.proofs.pieces.operates.Reads as operates-reads
+use Rattle.phrases.proofs.pieces.other_word.Reads as other-word-reads
+use Rattle.phrases.proofs.pieces.part.Reads as part-reads
+use Rattle.phrases.proofs.pieces.reducing.Reads as reducing-reads
+use Rattle.phrases.proofs.pieces.stay.Reads as stay-reads
+use Rattle.phrases.proofs.pieces.word_part.Reads as word-part-reads
 use Rattle.phrases.proofs.+arms+choice+first_arm+group+inside+more_arms+named+next_arm+opening+operation+reference+rest+second+single+start+subscript+tail+term.{
   statement,
 }

@@ -35,10 +35,10 @@ use Rattle.course.proofs.Saying.{here-passed, made, made-as, makes-it, not-expe
 use Rattle.course.proofs.TakenWords.{onTaken, took-done}
 use Rattle.operands.proofs.ReferenceLaws.{two-low}
 use Rattle.operands.proofs.TermWords.{case-term, if-term, more-taken, no-more}
-use Rattle.pieces.specs.declared.Armed.{Armed}
-use Rattle.pieces.specs.Phrases.{Arms, FirstArm, MoreArms, NextArm, another, armStack, atNesting, choiceWord, firstWord, gains, lastWord, moreStack, otherWord, same, stayed}
-use Rattle.pieces.proofs.StartLaws.{at-same}
-use Rattle.pieces.proofs.TermLaws.{from-kept}
+use Rattle.phrases.specs.declared.pieces.Armed.{Armed}
+use Rattle.phrases.specs.Phrases.{Arms, FirstArm, MoreArms, NextArm, another, armStack, atNesting, choiceWord, firstWord, gains, lastWord, moreStack, otherWord, same, stayed}
+use Rattle.phrases.proofs.StartLaws.{at-same}
+use Rattle.phrases.proofs.TermLaws.{from-kept}
 
 pub separators : (case : Bool) → 3 ≤ firstWord case
 separators true = omega arith

@@ -1,12 +1,12 @@
 use native.Mathlib.Omega.{arith}
 use Rattle.course.proofs.Paying.{begins, spent}
 use Rattle.operands.proofs.OperandCosts.{adds-spends}
-use Rattle.pieces.proofs.PartLaws.{word-part-not, word-part-says}
+use Rattle.phrases.proofs.PartLaws.{word-part-not, word-part-says}
 use Prim.Native.Nat.{_-_}
 use Rattle.course.proofs.Answers.{not-done}
 use borrow.Author.Needs.{needs}
-use Rattle.pieces.proofs.word_part.Statement.{statement}
-use Rattle.pieces.proofs.word_part.Tie as tie
+use Rattle.phrases.proofs.pieces.word_part.Statement.{statement}
+use Rattle.phrases.proofs.pieces.word_part.Tie as tie
 
 ends-of-requires : tie.Need-ends-of-requires
 ends-of-requires c κs = search needs

@@ -33,7 +33,7 @@ use Rattle.levels.specs.Orders.{prefixLevel, prefixStack, stackOf}
 use Rattle.operands.specs.declared.constants.Ends.{Ends}
 use Rattle.operands.specs.Ended.{Ended}
 use Rattle.operands.specs.References.{Adds, endsOf, lettersOf, partOf, wordPartOf}
-use Rattle.pieces.specs.Phrases.{Unprefixed, afterName, stayed}
+use Rattle.phrases.specs.Phrases.{Unprefixed, afterName, stayed}
 
 -- ---- RED, or nothing.
 

@@ -26,8 +26,8 @@ use Rattle.course.proofs.Saying.{here-passed, made, not-taken, passed, pending-
 use Rattle.course.proofs.TakenWords.{took-done}
 use Rattle.operands.specs.References.{Adds, lettersOf}
 use Rattle.operands.proofs.TermWords.{group-term, name-term, no-subscript, no-term, subscript-opens}
-use Rattle.pieces.specs.Phrases.{afterName, same}
-use Rattle.pieces.proofs.PartLaws.{plus-nothing, with-nothing}
+use Rattle.phrases.specs.Phrases.{afterName, same}
+use Rattle.phrases.proofs.PartLaws.{plus-nothing, with-nothing}
 
 -- ---- An answer that ends with a word that must come.
 

@@ -1,12 +1,12 @@
 use native.Mathlib.Omega.{arith}
 use Rattle.course.proofs.Paying.{expected-spends, stays-spends}
 use Rattle.levels.specs.declared.Head.the-variants as H
-use Rattle.pieces.proofs.PartLaws.{red-prefixed, unprefixed}
+use Rattle.phrases.proofs.PartLaws.{red-prefixed, unprefixed}
 use mathlib.Core.Path.{refl}
 use Prim.Native.Nat.{_-_}
 use borrow.Author.Needs.{needs}
-use Rattle.pieces.proofs.reducing.Statement.{statement}
-use Rattle.pieces.proofs.reducing.Tie as tie
+use Rattle.phrases.proofs.pieces.reducing.Statement.{statement}
+use Rattle.phrases.proofs.pieces.reducing.Tie as tie
 
 enum-told : tie.Need-enum-told
 enum-told c = search needs

@@ -39,7 +39,7 @@ use Rattle.levels.specs.declared.Rank.the-variants as R
 use Rattle.levels.specs.Orders.{headOf, nextRank, prefixLevel, prefixStack, rankAfter, rankNo, stackOf, tailStack, tailsFrom, topNo}
 use Rattle.levels.proofs.HeadWords.{head-taken, plain-begins}
 use Rattle.levels.proofs.TailWords.{tails-more, tails-none}
-use Rattle.pieces.specs.Phrases.{Begins, Unprefixed, atNesting, gains, same, stayed}
+use Rattle.phrases.specs.Phrases.{Begins, Unprefixed, atNesting, gains, same, stayed}
 
 pub at-same : (s : State) (n : ℕ) → s .nesting ≡ n → atNesting s n ≡ s
 at-same s n e = ap (atNesting s) (sym e)

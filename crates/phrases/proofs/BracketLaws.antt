@@ -38,8 +38,8 @@ use Rattle.operands.specs.Ended.{Counting, oneMore}
 use Rattle.operands.specs.References.{Adds, lettersOf}
 use Rattle.operands.proofs.BracketWords.{close-follows, comma-follows, constant-first, constant-operand, expression-first, rest-tails, second-closes}
 use Rattle.operands.proofs.TermWords.{no-second, second-opens}
-use Rattle.pieces.specs.Phrases.{Inside, Second, afterName, atNesting, same}
-use Rattle.pieces.proofs.StartLaws.{at-same}
+use Rattle.phrases.specs.Phrases.{Inside, Second, afterName, atNesting, same}
+use Rattle.phrases.proofs.StartLaws.{at-same}
 
 -- An answer behind a course, with a stack below that it leaves.
 framed : {text : List ℕ} {sc : Scope} {P Q : Stack} {pre : Built → Built} {h : Held} {base depth : ℕ} {w : Word} {s : State} {r : Answer} {work : List ℕ} {P₁ : Stack} {pre₁ : Built → Built} {w₁ : Word} {s₁ : State}

@@ -1,8 +1,8 @@
-use Rattle.pieces.proofs.PartLaws.{gained-at, prefix-as}
+use Rattle.phrases.proofs.PartLaws.{gained-at, prefix-as}
 use Prim.Native.Nat.{_-_}
 use borrow.Author.Needs.{needs}
-use Rattle.pieces.proofs.add_prefix.Statement.{statement}
-use Rattle.pieces.proofs.add_prefix.Tie as tie
+use Rattle.phrases.proofs.pieces.add_prefix.Statement.{statement}
+use Rattle.phrases.proofs.pieces.add_prefix.Tie as tie
 
 plain-requires : tie.Need-plain-requires
 plain-requires c κs = search needs

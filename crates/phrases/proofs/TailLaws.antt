@@ -38,9 +38,9 @@ use Rattle.levels.specs.declared.Rank.the-variants as R
 use Rattle.levels.specs.Orders.{again, operandLevel, operatorsOf, rankNo, stackOf, tailStack}
 use Rattle.levels.proofs.TailWords.{cut-taken, tail-omitted, tail-taken}
 use Rattle.operands.specs.Ended.{Cuts}
-use Rattle.pieces.specs.Phrases.{Operates, atNesting, gains, once, same, stayed}
-use Rattle.pieces.proofs.PartLaws.{binary-as}
-use Rattle.pieces.proofs.StartLaws.{at-same}
+use Rattle.phrases.specs.Phrases.{Operates, atNesting, gains, once, same, stayed}
+use Rattle.phrases.proofs.PartLaws.{binary-as}
+use Rattle.phrases.proofs.StartLaws.{at-same}
 
 -- ---- The loop: the machine stands before the same tail, with a longer expression.
 

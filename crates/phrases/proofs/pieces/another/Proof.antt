@@ -2,8 +2,8 @@ use mathlib.Core.Path.{ap}
 use Prim.Native.Nat.{ℕ}
 use lib.Dec.{eqb}
 use borrow.Author.Needs.{needs}
-use Rattle.pieces.proofs.another.Statement.{statement}
-use Rattle.pieces.proofs.another.Tie as tie
+use Rattle.phrases.proofs.pieces.another.Statement.{statement}
+use Rattle.phrases.proofs.pieces.another.Tie as tie
 
 number-requires : tie.Need-number-requires
 number-requires c κs = search needs

@@ -29,8 +29,8 @@ ghost use Rattle.course.specs.Taken.{endsAhead};
 ghost use Rattle.levels.specs.Orders.{operatorsOf};
 ghost use Rattle.words.specs.Meaning.{positioned};
 ghost use Rattle.course.specs.declared.Verdict.the-variants.{Full};
-ghost use Rattle.pieces.specs.Phrases as S;
-ghost use Rattle.pieces.specs.Phrases.{Second, Unprefixed, afterName, atNesting, firstWord, gains, lastWord, otherWord, stayed};
+ghost use Rattle.phrases.specs.Phrases as S;
+ghost use Rattle.phrases.specs.Phrases.{Second, Unprefixed, afterName, atNesting, firstWord, gains, lastWord, otherWord, stayed};
 
 // An answer, and how many arms there are.
 pub struct Armed {

@@ -34,7 +34,7 @@ use Rattle.levels.specs.declared.Rank.the-variants as R
 use Rattle.levels.specs.Orders.{again, headOf, operatorsOf, prefixLevel, prefixStack, rankAfter, stackOf, tailStack, tailsFrom}
 use Rattle.operands.specs.Brackets.{bracketAsk, bracketEnd}
 use Rattle.operands.specs.References.{lettersOf}
-use Rattle.pieces.specs.declared.Armed.{Armed}
+use Rattle.phrases.specs.declared.pieces.Armed.{Armed}
 
 -- Nothing is kept before; or a name is.
 abbrev pub same : List ℕ → Built → Built

@@ -4,8 +4,8 @@ use Rattle.operands.proofs.ReferenceLaws.{gained-as}
 use mathlib.Core.Path.{ap}
 use Prim.Native.Nat.{ℕ, _-_}
 use borrow.Author.Needs.{needs}
-use Rattle.pieces.proofs.add_choice.Statement.{statement}
-use Rattle.pieces.proofs.add_choice.Tie as tie
+use Rattle.phrases.proofs.pieces.add_choice.Statement.{statement}
+use Rattle.phrases.proofs.pieces.add_choice.Tie as tie
 
 plain-requires : tie.Need-plain-requires
 plain-requires c κs = search needs

@@ -3,8 +3,8 @@ use Rattle.levels.specs.Orders.{operatorsOf}
 use mathlib.Core.Path.{ap, _∙_}
 use Prim.Native.Nat.{ℕ, _-_}
 use borrow.Author.Needs.{needs}
-use Rattle.pieces.proofs.operates.Statement.{statement}
-use Rattle.pieces.proofs.operates.Tie as tie
+use Rattle.phrases.proofs.pieces.operates.Statement.{statement}
+use Rattle.phrases.proofs.pieces.operates.Tie as tie
 
 number-requires : tie.Need-number-requires
 number-requires c κs = search needs
