@@ -1,7 +1,6 @@
 // Lists of actions and conditionals (the manual, 7.1 and 8.2), read as the machine of the grammar reads them.
 use course::Bearing;
 use course::State;
-use course::Verdict;
 use course::kinds;
 use course::taking;
 use levels::Level;
@@ -40,15 +39,20 @@ pub fn list(
     let mut read = action(s, in_state, text, w, work, n, acts);
     let mut count: u16 = 1;
     while count < 2049 {
-        let answer = read.answer;
-        let verdict = answer.verdict;
-        let Verdict::Done = verdict else {
+        if course::unread(read.answer) {
             return read;
-        };
-        let next = answer.next;
-        if leaves::is(next, kinds::COMMA) {
-            let state = phrases::pieces::at(answer.state, s.nesting);
-            read = another(state, in_state, text, next, work, n, read.actions);
+        }
+        if leaves::is(read.answer.next, kinds::COMMA) {
+            let state = phrases::pieces::at(read.answer.state, s.nesting);
+            read = another(
+                state,
+                in_state,
+                text,
+                read.answer.next,
+                work,
+                n,
+                read.actions,
+            );
             count += 1;
         } else {
             return read;
@@ -70,10 +74,9 @@ fn another(
     ensures { λ r. ⌜ Another in_state (now (text .entry)) n w s acts (now (work .entry)) (now (work .exit)) r ⌝ }
 {
     let comma = taking::take(text, w, s, false, Bearing::Level);
-    let verdict = comma.verdict;
-    let Verdict::Done = verdict else {
+    if course::unread(comma) {
         return leaves::answered(comma, acts);
-    };
+    }
     let state = phrases::pieces::at(comma.state, s.nesting);
     action(state, in_state, text, comma.next, work, n, acts)
 }
@@ -113,23 +116,19 @@ fn condition(
     ensures { λ r. ⌜ ((m : M.Counts) → Condition case (now (text .entry)) m w s acts (now (work .entry)) (now (work .exit)) r) × Deeper s (r .answer) ⌝ }
 {
     let opened = taking::take(text, w, s, true, Bearing::Opens);
-    let verdict = opened.verdict;
-    let Verdict::Done = verdict else {
+    if course::unread(opened) {
         return leaves::answered(opened, acts);
-    };
-    let state = opened.state;
-    let read = phrases::start(state, Level::Expression, text, opened.next, work);
-    let verdict = read.verdict;
-    let Verdict::Done = verdict else {
+    }
+    let read = phrases::start(opened.state, Level::Expression, text, opened.next, work);
+    if course::unread(read) {
         return leaves::answered(read, acts);
-    };
+    }
     let kind = phrases::pieces::first_word(case);
     let word = taking::expect(text, read.next, read.state, kind, Bearing::Level);
-    let verdict = word.verdict;
-    let Verdict::Done = verdict else {
+    if course::unread(word) {
         return leaves::answered(word, acts);
-    };
-    let inner = phrases::pieces::at(word.state, state.nesting);
+    }
+    let inner = phrases::pieces::at(word.state, opened.state.nesting);
     let at = w.at;
     simple::leaves::put(inner, Action::Broken, at, word.next, work, acts)
 }
@@ -147,31 +146,48 @@ fn when(
     ensures { λ r. ⌜ Conditional in_state false (now (text .entry)) n w s acts (now (work .entry)) (now (work .exit)) r ⌝ }
 {
     let head = condition(s, false, text, w, work, acts);
-    let read = head.answer;
-    let verdict = read.verdict;
-    let Verdict::Done = verdict else {
+    if course::unread(head.answer) {
         return head;
-    };
-    let first = arm(read.state, in_state, text, read.next, work, n, head.actions);
-    let then = first.answer;
-    let verdict = then.verdict;
-    let Verdict::Done = verdict else {
+    }
+    let first = arm(
+        head.answer.state,
+        in_state,
+        text,
+        head.answer.next,
+        work,
+        n,
+        head.actions,
+    );
+    if course::unread(first.answer) {
         return first;
-    };
-    if leaves::is(then.next, kinds::END_IF) {
-        let end = leaves::end_if(text, then);
-        leaves::when_again(work, acts, head.actions, read.state.nodes, first.actions, w);
+    }
+    if leaves::is(first.answer.next, kinds::END_IF) {
+        let end = leaves::end_if(text, first.answer);
+        leaves::when_again(
+            work,
+            acts,
+            head.actions,
+            head.answer.state.nodes,
+            first.actions,
+            w,
+        );
         return leaves::answered(end, first.actions);
     }
-    let state = phrases::pieces::at(then.state, read.state.nesting);
-    let second = otherwise(state, in_state, text, then.next, work, n, first.actions);
-    let other = second.answer;
-    let verdict = other.verdict;
-    let Verdict::Done = verdict else {
+    let state = phrases::pieces::at(first.answer.state, head.answer.state.nesting);
+    let second = otherwise(
+        state,
+        in_state,
+        text,
+        first.answer.next,
+        work,
+        n,
+        first.actions,
+    );
+    if course::unread(second.answer) {
         return second;
-    };
-    let end = leaves::end_if(text, other);
-    leaves::choose_again(work, acts, read.state.nodes, 2, second.actions);
+    }
+    let end = leaves::end_if(text, second.answer);
+    leaves::choose_again(work, acts, head.answer.state.nodes, 2, second.actions);
     leaves::answered(end, second.actions)
 }
 
@@ -188,10 +204,9 @@ fn otherwise(
     ensures { λ r. ⌜ Else in_state (now (text .entry)) n w s acts (now (work .entry)) (now (work .exit)) r ⌝ }
 {
     let word = taking::expect(text, w, s, kinds::ELSE, Bearing::Level);
-    let verdict = word.verdict;
-    let Verdict::Done = verdict else {
+    if course::unread(word) {
         return leaves::answered(word, acts);
-    };
+    }
     let state = phrases::pieces::at(word.state, s.nesting);
     arm(state, in_state, text, word.next, work, n, acts)
 }
@@ -209,26 +224,36 @@ fn cases(
     ensures { λ r. ⌜ Conditional in_state true (now (text .entry)) n w s acts (now (work .entry)) (now (work .exit)) r ⌝ }
 {
     let head = condition(s, true, text, w, work, acts);
-    let read = head.answer;
-    let verdict = read.verdict;
-    let Verdict::Done = verdict else {
+    if course::unread(head.answer) {
         return head;
-    };
-    let chosen = arms(read.state, in_state, text, read.next, work, n, head.actions);
+    }
+    let chosen = arms(
+        head.answer.state,
+        in_state,
+        text,
+        head.answer.next,
+        work,
+        n,
+        head.actions,
+    );
     let acted = chosen.acted;
-    let last = acted.answer;
-    let verdict = last.verdict;
-    let Verdict::Done = verdict else {
+    if course::unread(acted.answer) {
         return acted;
-    };
+    }
     let end = taking::expect(
         text,
-        last.next,
-        last.state,
+        acted.answer.next,
+        acted.answer.state,
         kinds::END_CASE,
         Bearing::Closes,
     );
-    leaves::choose_again(work, acts, read.state.nodes, chosen.count, acted.actions);
+    leaves::choose_again(
+        work,
+        acts,
+        head.answer.state.nodes,
+        chosen.count,
+        acted.actions,
+    );
     leaves::answered(end, acted.actions)
 }
 
@@ -247,15 +272,20 @@ fn arms(
     let mut read = arm(s, in_state, text, w, work, n, acts);
     let mut count: u16 = 1;
     while count < 2049 {
-        let answer = read.answer;
-        let verdict = answer.verdict;
-        let Verdict::Done = verdict else {
+        if course::unread(read.answer) {
             return Armed { acted: read, count };
-        };
-        let next = answer.next;
-        if leaves::is(next, kinds::DO) {
-            let state = phrases::pieces::at(answer.state, s.nesting);
-            read = next_arm(state, in_state, text, next, work, n, read.actions);
+        }
+        if leaves::is(read.answer.next, kinds::DO) {
+            let state = phrases::pieces::at(read.answer.state, s.nesting);
+            read = next_arm(
+                state,
+                in_state,
+                text,
+                read.answer.next,
+                work,
+                n,
+                read.actions,
+            );
             count += 1;
         } else {
             return Armed { acted: read, count };
@@ -277,10 +307,9 @@ fn next_arm(
     ensures { λ r. ⌜ NextArm in_state (now (text .entry)) n w s acts (now (work .entry)) (now (work .exit)) r ⌝ }
 {
     let word = taking::take(text, w, s, false, Bearing::Level);
-    let verdict = word.verdict;
-    let Verdict::Done = verdict else {
+    if course::unread(word) {
         return leaves::answered(word, acts);
-    };
+    }
     let state = phrases::pieces::at(word.state, s.nesting);
     arm(state, in_state, text, word.next, work, n, acts)
 }
@@ -299,17 +328,13 @@ fn arm(
 {
     let at = words::places::position(0);
     let begun = simple::leaves::put(s, Action::Broken, at, w, work, acts);
-    let answer = begun.answer;
-    let verdict = answer.verdict;
-    let Verdict::Done = verdict else {
+    if course::unread(begun.answer) {
         return begun;
-    };
+    }
     let read = list(s, in_state, text, w, work, n, begun.actions);
-    let answer = read.answer;
-    let verdict = answer.verdict;
-    let Verdict::Done = verdict else {
+    if course::unread(read.answer) {
         return read;
-    };
+    }
     leaves::arm_again(work, acts, read.actions);
     read
 }
@@ -349,16 +374,13 @@ fn named(
     ensures { λ r. ⌜ Named in_state (now (text .entry)) n w s acts (now (work .entry)) (now (work .exit)) r ⌝ }
 {
     let name = taking::take(text, w, s, false, Bearing::Level);
-    let verdict = name.verdict;
-    let Verdict::Done = verdict else {
+    if course::unread(name) {
         return leaves::answered(name, acts);
-    };
-    let state = name.state;
-    let next = name.next;
-    if in_state {
-        return simple::named_in_state(state, w, text, next, work, n, acts);
     }
-    simple::named_in_operation(state, w, text, next, work, n, acts)
+    if in_state {
+        return simple::named_in_state(name.state, w, text, name.next, work, n, acts);
+    }
+    simple::named_in_operation(name.state, w, text, name.next, work, n, acts)
 }
 
 // An action of a state that begins with a sign.

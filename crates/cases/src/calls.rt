@@ -1,9 +1,10 @@
 // The calls: what a case lends, and whether the answer and all that was lent are then as it says.
-use crate::case;
-use crate::lent;
-use crate::told;
+use crate::rooms;
 use records::bytes;
 use records::numbers;
+use trials::case;
+use trials::lent;
+use trials::told;
 
 // Beforehand the buffer holds bytes from this first one on; afterwards the image, and zeroes, or zeroes alone.
 pub fn read(text: &[u8], image: &[u8], case: &[u8], room: &mut [u8], first: u8) -> bool {
@@ -26,26 +27,28 @@ pub fn open(image: &[u8], case: &[u8], store: &mut [u8], record: &mut [u8], firs
     left(case, store, record, b"")
 }
 
-pub fn cycle(
+// A cycle, or a run: store and record are as the case has them beforehand.
+pub fn steps(
+    call: u8,
     image: &[u8],
     case: &[u8],
     store: &mut [u8],
     record: &mut [u8],
     scratch: &mut [u8],
+    trace: &mut [u8],
     first: u8,
 ) -> bool {
-    lend(case, store, record);
-    lent::garbage(scratch, first);
-    cycled(image, case, store, record, scratch)
-}
-
-// Store and record as the case has them.
-fn lend(case: &[u8], store: &mut [u8], record: &mut [u8]) {
     lent::given(store, case::part(case, case::STORE));
     lent::given(record, case::part(case, case::RECORD));
+    lent::garbage(scratch, first);
+    lent::garbage(trace, first);
+    if call == rooms::CYCLE {
+        return cycle(image, case, store, record, scratch);
+    }
+    run(image, case, store, record, scratch, trace)
 }
 
-fn cycled(
+fn cycle(
     image: &[u8],
     case: &[u8],
     store: &mut [u8],
@@ -60,22 +63,7 @@ fn cycled(
     left(case, store, record, scratch)
 }
 
-pub fn run(
-    image: &[u8],
-    case: &[u8],
-    store: &mut [u8],
-    record: &mut [u8],
-    scratch: &mut [u8],
-    trace: &mut [u8],
-    first: u8,
-) -> bool {
-    lend(case, store, record);
-    lent::garbage(scratch, first);
-    lent::garbage(trace, first);
-    ran(image, case, store, record, scratch, trace)
-}
-
-fn ran(
+fn run(
     image: &[u8],
     case: &[u8],
     store: &mut [u8],

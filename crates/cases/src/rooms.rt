@@ -1,6 +1,6 @@
 // A case on buffers as long as it says. They are a little longer than any case asks for.
 use crate::calls;
-use crate::case;
+use trials::case;
 
 // What a part of the file is, where it is a call.
 pub const READ: u8 = 2;
@@ -25,37 +25,21 @@ fn open(image: &[u8], case: &[u8], first: u8) -> bool {
     calls::open(image, case, &mut store[0..n], &mut record[0..m], first)
 }
 
-fn cycle(image: &[u8], case: &[u8], first: u8) -> bool {
-    let mut store = [0u8; 16400];
-    let mut record = [0u8; 96];
-    let mut scratch = [0u8; 65600];
-    let n = case::room(case, case::STORE_ROOM, 16400);
-    let m = case::room(case, case::RECORD_ROOM, 96);
-    let k = case::room(case, case::SCRATCH_ROOM, 65600);
-    calls::cycle(
-        image,
-        case,
-        &mut store[0..n],
-        &mut record[0..m],
-        &mut scratch[0..k],
-        first,
-    )
-}
-
-fn run(image: &[u8], case: &[u8], first: u8) -> bool {
+fn steps(call: u8, image: &[u8], case: &[u8], first: u8) -> bool {
     let mut trace = [0u8; 165600];
     let t = case::room(case, case::TRACE_ROOM, 165600);
-    run_traced(image, case, &mut trace[0..t], first)
+    traced(call, image, case, &mut trace[0..t], first)
 }
 
-fn run_traced(image: &[u8], case: &[u8], trace: &mut [u8], first: u8) -> bool {
+fn traced(call: u8, image: &[u8], case: &[u8], trace: &mut [u8], first: u8) -> bool {
     let mut store = [0u8; 16400];
     let mut record = [0u8; 96];
     let mut scratch = [0u8; 65600];
     let n = case::room(case, case::STORE_ROOM, 16400);
     let m = case::room(case, case::RECORD_ROOM, 96);
     let k = case::room(case, case::SCRATCH_ROOM, 65600);
-    calls::run(
+    calls::steps(
+        call,
         image,
         case,
         &mut store[0..n],
@@ -94,8 +78,5 @@ pub fn agrees(call: u8, text: &[u8], image: &[u8], case: &[u8], first: u8) -> bo
     if call == OPEN {
         return open(image, case, first);
     }
-    if call == CYCLE {
-        return cycle(image, case, first);
-    }
-    run(image, case, first)
+    steps(call, image, case, first)
 }

@@ -1,27 +1,23 @@
 // The cases of data/corpus, as the second simulator packs them: the lengths of a text, its input and the output that is owed in four bytes each, and these.
-use crate::fetched;
-use crate::tally;
-use crate::tally::Came;
-use crate::tally::Tally;
 use crate::whole;
 use records::bytes;
 use records::numbers;
+use trials::fetched;
+use trials::tally;
+use trials::tally::Came;
 
-// The trace of a text and its input, compared.
-fn compared(text: &[u8], input: &[u8], owed: &[u8]) -> Came {
+// Whether the trace of a text and its input is the output that is owed.
+fn agrees(text: &[u8], input: &[u8], owed: &[u8]) -> bool {
     let mut out = io::large_buffer();
     let n = whole::trace(text, input, &mut out);
     if n != owed.len() {
-        return Came::Differs;
+        return false;
     }
-    if bytes::same(bytes::part(&out, 0, n), owed) {
-        return Came::Agrees;
-    }
-    Came::Differs
+    bytes::same(bytes::part(&out, 0, n), owed)
 }
 
 // The next case.
-fn next(file: i32) -> Came {
+pub fn next(file: i32) -> Came {
     let mut head = [0u8; 12];
     let got = io::read_full(file, &mut head);
     if got < 12 {
@@ -33,24 +29,9 @@ fn next(file: i32) -> Came {
     let t = fetched::fetch(file, numbers::four(&head, 0) as usize, &mut text);
     let i = fetched::fetch(file, numbers::four(&head, 4) as usize, &mut input);
     let o = fetched::fetch(file, numbers::four(&head, 8) as usize, &mut owed);
-    compared(
+    tally::told(agrees(
         bytes::part(&text, 0, t),
         bytes::part(&input, 0, i),
         bytes::part(&owed, 0, o),
-    )
-}
-
-// Every case.
-pub fn run(file: i32) -> Tally {
-    let mut t = tally::nothing();
-    let mut left: u32 = 100000;
-    while 0 < left {
-        let came = next(file);
-        if let Came::End = came {
-            return t;
-        }
-        t = tally::counted(t, came);
-        left -= 1;
-    }
-    t
+    ))
 }

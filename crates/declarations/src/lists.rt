@@ -4,7 +4,6 @@ use crate::Progress;
 use crate::stored;
 use course::Bearing;
 use course::State;
-use course::Verdict;
 use course::kinds;
 use course::taking;
 use image::facilities::Kind;
@@ -52,14 +51,17 @@ pub fn declarations(
     ensures { λ r. ⌜ Lists (listing list) (now (text .entry)) w s place (now (work .entry)) (now (work .exit)) r ⌝ }
 {
     let first = one(text, w, work, s, place, list);
-    let answer = first.answer;
-    let verdict = answer.verdict;
-    let Verdict::Done = verdict else {
+    if course::unread(first.answer) {
         return first;
-    };
-    let next = answer.next;
-    let state = answer.state;
-    more(text, next, work, state, first.place, list)
+    }
+    more(
+        text,
+        first.answer.next,
+        work,
+        first.answer.state,
+        first.place,
+        list,
+    )
 }
 
 // Behind a declaration: others, and the end. Each counts a facility, so that there are not too many.
@@ -76,21 +78,18 @@ fn more(text: &[u8], w: Word, work: &mut [u8; 275296], s: State, place: u16, lis
             return ended(text, next, state, after);
         }
         let comma = taking::take(text, next, state, false, Bearing::Level);
-        let verdict = comma.verdict;
-        let Verdict::Done = verdict else {
+        if course::unread(comma) {
             return Progress {
                 answer: comma,
                 place: after,
             };
-        };
+        }
         let another = one(text, comma.next, work, comma.state, after, list);
-        let answer = another.answer;
-        let verdict = answer.verdict;
-        let Verdict::Done = verdict else {
+        if course::unread(another.answer) {
             return another;
-        };
-        next = answer.next;
-        state = answer.state;
+        }
+        next = another.answer.next;
+        state = another.answer.state;
         after = another.place;
     }
 }

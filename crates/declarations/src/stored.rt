@@ -4,7 +4,6 @@ use crate::adding;
 use crate::naming;
 use course::Bearing;
 use course::State;
-use course::Verdict;
 use course::kinds;
 use course::taking;
 use dimensions::extents;
@@ -26,20 +25,14 @@ pub fn stored(
     ensures { λ r. ⌜ Stores (now (text .entry)) w s place kind (now (work .entry)) (now (work .exit)) r ⌝ }
 {
     let answer = naming::facility_name(text, w, s);
-    let verdict = answer.verdict;
-    let Verdict::Done = verdict else {
+    if course::unread(answer) {
         return Progress { answer, place };
-    };
-    let next = answer.next;
-    let state = answer.state;
-    let measured = extents::dimensions(text, next, state);
-    let answer = measured.answer;
-    let verdict = answer.verdict;
-    let Verdict::Done = verdict else {
+    }
+    let measured = extents::dimensions(text, answer.next, answer.state);
+    if course::unread(measured.answer) {
+        let answer = measured.answer;
         return Progress { answer, place };
-    };
-    let next = answer.next;
-    let state = answer.state;
+    }
     let at = w.at;
     let extent = measured.extent;
     let nowhere = places::position(0);
@@ -51,7 +44,7 @@ pub fn stored(
         expression: 0,
         equals: nowhere,
     };
-    adding::declare(work, next, state, place, x)
+    adding::declare(work, measured.answer.next, measured.answer.state, place, x)
 }
 
 // A register, or behind a `#` the sequencing register.
@@ -63,14 +56,11 @@ pub fn register(text: &[u8], w: Word, work: &mut [u8; 275296], s: State, place: 
         return stored(text, w, work, s, place, Kind::Register);
     }
     let hash = taking::take(text, w, s, false, Bearing::Level);
-    let verdict = hash.verdict;
-    let Verdict::Done = verdict else {
+    if course::unread(hash) {
         return Progress {
             answer: hash,
             place,
         };
-    };
-    let next = hash.next;
-    let state = hash.state;
-    stored(text, next, work, state, place, Kind::Sequencing)
+    }
+    stored(text, hash.next, work, hash.state, place, Kind::Sequencing)
 }

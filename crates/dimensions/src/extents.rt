@@ -84,25 +84,19 @@ pub fn dimensions(text: &[u8], w: Word, s: State) -> Measured
         return Measured { answer, extent };
     }
     let open = taking::take(text, w, s, false, Bearing::Opens);
-    let verdict = open.verdict;
-    let Verdict::Done = verdict else {
+    if course::unread(open) {
         return Measured {
             answer: open,
             extent,
         };
-    };
-    let next = open.next;
-    let state = open.state;
-    let first = ranges::range(text, next, state);
-    let answer = first.answer;
-    let verdict = answer.verdict;
-    let Verdict::Done = verdict else {
+    }
+    let first = ranges::range(text, open.next, open.state);
+    if course::unread(first.answer) {
+        let answer = first.answer;
         return Measured { answer, extent };
-    };
-    let next = answer.next;
-    let state = answer.state;
+    }
     let ends = first.ends;
-    behind_range(text, next, state, ends)
+    behind_range(text, first.answer.next, first.answer.state, ends)
 }
 
 // Behind the first range: the bracket, or a comma, another range and the bracket.
@@ -121,21 +115,21 @@ fn behind_range(text: &[u8], w: Word, s: State, first: Ends) -> Measured
         return Measured { answer, extent };
     }
     let answer = taking::take(text, w, s, false, Bearing::Level);
-    let verdict = answer.verdict;
-    let Verdict::Done = verdict else {
+    if course::unread(answer) {
         return Measured { answer, extent };
-    };
-    let next = answer.next;
-    let state = answer.state;
-    let second = ranges::range(text, next, state);
-    let answer = second.answer;
-    let verdict = answer.verdict;
-    let Verdict::Done = verdict else {
+    }
+    let second = ranges::range(text, answer.next, answer.state);
+    if course::unread(second.answer) {
+        let answer = second.answer;
         return Measured { answer, extent };
-    };
-    let next = answer.next;
-    let state = answer.state;
-    let answer = taking::expect(text, next, state, kinds::CLOSE_BRACKET, Bearing::Closes);
+    }
+    let answer = taking::expect(
+        text,
+        second.answer.next,
+        second.answer.state,
+        kinds::CLOSE_BRACKET,
+        Bearing::Closes,
+    );
     let ends = second.ends;
     let extent = table(first, ends);
     Measured { answer, extent }

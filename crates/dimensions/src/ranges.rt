@@ -2,7 +2,6 @@
 use course::Answer;
 use course::Bearing;
 use course::State;
-use course::Verdict;
 use course::kinds;
 use course::taking;
 use tables::extents::Ends;
@@ -55,15 +54,13 @@ pub fn range(text: &[u8], w: Word, s: State) -> Ranged
 {
     let ends = from_one(w);
     let first = taking::keep_constant(text, w, s);
-    let verdict = first.verdict;
-    let Verdict::Done = verdict else {
+    if course::unread(first) {
         return Ranged {
             answer: first,
             ends,
         };
-    };
+    }
     let next = first.next;
-    let state = first.state;
     let kind = next.kind;
     if kinds::number(kind) != kinds::COLON {
         return Ranged {
@@ -71,17 +68,15 @@ pub fn range(text: &[u8], w: Word, s: State) -> Ranged
             ends,
         };
     }
-    let colon = taking::take(text, next, state, false, Bearing::Level);
-    let verdict = colon.verdict;
-    let Verdict::Done = verdict else {
+    let colon = taking::take(text, next, first.state, false, Bearing::Level);
+    if course::unread(colon) {
         return Ranged {
             answer: colon,
             ends,
         };
-    };
+    }
     let second = colon.next;
-    let state = colon.state;
-    let last = taking::keep_constant(text, second, state);
+    let last = taking::keep_constant(text, second, colon.state);
     let ends = both(w, second);
     Ranged { answer: last, ends }
 }

@@ -2,7 +2,6 @@
 use course::Answer;
 use course::Bearing;
 use course::State;
-use course::Verdict;
 use course::adding;
 use course::kinds;
 use course::taking;
@@ -21,13 +20,10 @@ pub fn constant(s: State, text: &[u8], w: Word, work: &mut [u8; 275296]) -> Answ
     ensures { λ r. ⌜ (kindNo (w .kind) ≡ 2 → Parses (ask term ∷ []) (λ t b. b) (s .nesting) (now (text .entry)) w s (now (work .entry)) (now (work .exit)) r × Spends (now (text .entry)) 0 w s r) ⌝ }
 {
     let taken = taking::take(text, w, s, true, Bearing::Level);
-    let verdict = taken.verdict;
-    let Verdict::Done = verdict else {
+    if course::unread(taken) {
         return taken;
-    };
-    let next = taken.next;
-    let state = taken.state;
-    adding::add_constant(work, w, next, state)
+    }
+    adding::add_constant(work, w, taken.next, taken.state)
 }
 
 // A constant in brackets that begins an expression: it was kept, and counts.
@@ -35,13 +31,10 @@ pub fn counted(s: State, w: Word, next: Word, work: &mut [u8; 275296]) -> Answer
     ensures { λ r. ⌜ Counting w next s (now (work .entry)) (now (work .exit)) r × ((t : List ℕ) → w .value .length ≤ 256 → Spends t 0 next s r) ⌝ }
 {
     let passed = taking::pass(w, next, s, true, Bearing::Level);
-    let verdict = passed.verdict;
-    let Verdict::Done = verdict else {
+    if course::unread(passed) {
         return passed;
-    };
-    let then = passed.next;
-    let state = passed.state;
-    adding::add_constant(work, w, then, state)
+    }
+    adding::add_constant(work, w, passed.next, passed.state)
 }
 
 // The ends of a part, with the bracket that closes it; `last` is the second one.
@@ -55,22 +48,19 @@ pub fn ends_of(s: State, text: &[u8], w: Word) -> Ends
     ensures { λ r. ⌜ Ended (now (text .entry)) w s r × Spends (now (text .entry)) 1 w s (r .answer) ⌝ }
 {
     let first = taking::take(text, w, s, false, Bearing::Level);
-    let verdict = first.verdict;
-    let Verdict::Done = verdict else {
+    if course::unread(first) {
         return Ends {
             answer: first,
             last: w,
         };
-    };
-    let at_colon = first.next;
-    let colon = taking::take(text, at_colon, first.state, false, Bearing::Level);
-    let verdict = colon.verdict;
-    let Verdict::Done = verdict else {
+    }
+    let colon = taking::take(text, first.next, first.state, false, Bearing::Level);
+    if course::unread(colon) {
         return Ends {
             answer: colon,
             last: w,
         };
-    };
+    }
     closed(colon.state, text, colon.next)
 }
 
@@ -79,16 +69,19 @@ fn closed(s: State, text: &[u8], w: Word) -> Ends
     ensures { λ r. ⌜ Closed (now (text .entry)) w s r × Spends (now (text .entry)) 1 w s (r .answer) ⌝ }
 {
     let kept = taking::keep_constant(text, w, s);
-    let verdict = kept.verdict;
-    let Verdict::Done = verdict else {
+    if course::unread(kept) {
         return Ends {
             answer: kept,
             last: w,
         };
-    };
-    let next = kept.next;
-    let state = kept.state;
-    let closing = taking::expect(text, next, state, kinds::CLOSE_BRACKET, Bearing::Closes);
+    }
+    let closing = taking::expect(
+        text,
+        kept.next,
+        kept.state,
+        kinds::CLOSE_BRACKET,
+        Bearing::Closes,
+    );
     Ends {
         answer: closing,
         last: w,

@@ -1,7 +1,6 @@
 // HEAD, TAIL and EXT: the operator has been taken; its count must come.
 use course::Answer;
 use course::State;
-use course::Verdict;
 use course::adding;
 use course::taking;
 use records::nodes::Node;
@@ -25,21 +24,18 @@ pub fn cut(
     ensures { λ r. ⌜ Cuts kind operator (now (text .entry)) w s (now (work .entry)) (now (work .exit)) r × (Seen (now (text .entry)) w → Grows s r) × Spends (now (text .entry)) 2 w s r ⌝ }
 {
     let kept = taking::keep_constant(text, w, s);
-    let verdict = kept.verdict;
-    let Verdict::Done = verdict else {
+    if course::unread(kept) {
         return kept;
-    };
-    let next = kept.next;
-    let state = kept.state;
+    }
     let v = w.value;
     let count = bounds::count(v);
     let at = operator.at;
     let beside = places::plain(at);
-    let operand = adding::last(state.nodes);
+    let operand = adding::last(kept.state.nodes);
     adding::add(
         work,
-        next,
-        state,
+        kept.next,
+        kept.state,
         Node::Cut(kind, operand, count),
         0,
         beside,

@@ -215,15 +215,19 @@ pub fn part(s: State, name: Word, text: &[u8], w: Word, work: &mut [u8; 275296])
     ensures { λ r. ⌜ (endsAhead (ahead (now (text .entry)) w) ≡ true → Parses (L.ask L.subscript ∷ []) (afterName name) (s .nesting - 1) (now (text .entry)) w s (now (work .entry)) (now (work .exit)) r) × Spends (now (text .entry)) 2 w s r ⌝ }
 {
     let ends = constants::ends_of(s, text, w);
-    let answer = ends.answer;
-    let verdict = answer.verdict;
-    let Verdict::Done = verdict else {
-        return answer;
-    };
-    let state = answer.state;
-    let next = answer.next;
+    if course::unread(ends.answer) {
+        return ends.answer;
+    }
     let last = ends.last;
-    nodes::add_part(state, name, w, last, text, next, work)
+    nodes::add_part(
+        ends.answer.state,
+        name,
+        w,
+        last,
+        text,
+        ends.answer.next,
+        work,
+    )
 }
 
 // A part of a word, whose own subscript has been read.
@@ -231,22 +235,18 @@ pub fn word_part(s: State, name: Word, text: &[u8], w: Word, work: &mut [u8; 275
     ensures { λ r. ⌜ (endsAhead (ahead (now (text .entry)) w) ≡ true → Second L.second name (s .nesting - 1) (now (text .entry)) w s (now (work .entry)) (now (work .exit)) r) × Spends (now (text .entry)) 2 w s r ⌝ }
 {
     let ends = constants::ends_of(s, text, w);
-    let answer = ends.answer;
-    let verdict = answer.verdict;
-    let Verdict::Done = verdict else {
-        return answer;
-    };
-    let state = answer.state;
-    let next = answer.next;
+    if course::unread(ends.answer) {
+        return ends.answer;
+    }
     let last = ends.last;
     nodes::add_word_part(
-        state,
+        ends.answer.state,
         name,
-        adding::last(state.nodes),
+        adding::last(ends.answer.state.nodes),
         w,
         last,
         text,
-        next,
+        ends.answer.next,
         work,
     )
 }

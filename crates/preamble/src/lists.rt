@@ -1,7 +1,6 @@
 // A section of declarations: the word that begins it, and its list.
 use course::Bearing;
 use course::State;
-use course::Verdict;
 use course::taking;
 use declarations::List;
 use declarations::Progress;
@@ -22,16 +21,13 @@ pub fn stored(
     ensures { λ r. ⌜ Section (listing list) (now (text .entry)) w s place (now (work .entry)) (now (work .exit)) r ⌝ }
 {
     let first = taking::take(text, w, s, false, Bearing::Level);
-    let verdict = first.verdict;
-    let Verdict::Done = verdict else {
+    if course::unread(first) {
         return Progress {
             answer: first,
             place,
         };
-    };
-    let next = first.next;
-    let state = first.state;
-    declarations::lists::declarations(text, next, work, state, place, list)
+    }
+    declarations::lists::declarations(text, first.next, work, first.state, place, list)
 }
 
 // Terminals, whose word has been seen.
@@ -40,14 +36,11 @@ pub fn defined(text: &[u8], w: Word, work: &mut [u8; 275296], s: State, place: u
     ensures { λ r. ⌜ Section terminals (now (text .entry)) w s place (now (work .entry)) (now (work .exit)) r ⌝ }
 {
     let first = taking::take(text, w, s, false, Bearing::Level);
-    let verdict = first.verdict;
-    let Verdict::Done = verdict else {
+    if course::unread(first) {
         return Progress {
             answer: first,
             place,
         };
-    };
-    let next = first.next;
-    let state = first.state;
-    terminals::lists::terminals(text, next, work, state, place)
+    }
+    terminals::lists::terminals(text, first.next, work, first.state, place)
 }

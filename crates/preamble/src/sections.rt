@@ -3,7 +3,6 @@ use crate::lists;
 use crate::operations::lists as operations;
 use course::Bearing;
 use course::State;
-use course::Verdict;
 use course::kinds;
 use course::taking;
 use declarations::List;
@@ -20,16 +19,13 @@ fn operations(text: &[u8], w: Word, work: &mut [u8; 275296], s: State, place: u1
 {
     work::whole(work);
     let first = taking::take(text, w, s, false, Bearing::Level);
-    let verdict = first.verdict;
-    let Verdict::Done = verdict else {
+    if course::unread(first) {
         return Acted {
             answer: first,
             actions: 0,
         };
-    };
-    let next = first.next;
-    let state = first.state;
-    operations::operations(text, next, work, state, 0)
+    }
+    operations::operations(text, first.next, work, first.state, 0)
 }
 
 // Behind the terminals.
@@ -57,14 +53,11 @@ pub fn terminals(text: &[u8], w: Word, work: &mut [u8; 275296], s: State, place:
     ensures { λ r. ⌜ From terminals (now (text .entry)) w s place (now (work .entry)) (now (work .exit)) r ⌝ }
 {
     let read = lists::defined(text, w, work, s, place);
-    let answer = read.answer;
-    let verdict = answer.verdict;
-    let Verdict::Done = verdict else {
+    if course::unread(read.answer) {
+        let answer = read.answer;
         return Acted { answer, actions: 0 };
-    };
-    let next = answer.next;
-    let state = answer.state;
-    behind_terminals(text, next, work, state, read.place)
+    }
+    behind_terminals(text, read.answer.next, work, read.answer.state, read.place)
 }
 
 // Behind the memories.
@@ -85,14 +78,11 @@ pub fn memories(text: &[u8], w: Word, work: &mut [u8; 275296], s: State, place: 
     ensures { λ r. ⌜ From memories (now (text .entry)) w s place (now (work .entry)) (now (work .exit)) r ⌝ }
 {
     let read = lists::stored(text, w, work, s, place, List::Memories);
-    let answer = read.answer;
-    let verdict = answer.verdict;
-    let Verdict::Done = verdict else {
+    if course::unread(read.answer) {
+        let answer = read.answer;
         return Acted { answer, actions: 0 };
-    };
-    let next = answer.next;
-    let state = answer.state;
-    behind_memories(text, next, work, state, read.place)
+    }
+    behind_memories(text, read.answer.next, work, read.answer.state, read.place)
 }
 
 // Behind the registers.
@@ -113,12 +103,9 @@ pub fn registers(text: &[u8], w: Word, work: &mut [u8; 275296], s: State, place:
     ensures { λ r. ⌜ From registers (now (text .entry)) w s place (now (work .entry)) (now (work .exit)) r ⌝ }
 {
     let read = lists::stored(text, w, work, s, place, List::Registers);
-    let answer = read.answer;
-    let verdict = answer.verdict;
-    let Verdict::Done = verdict else {
+    if course::unread(read.answer) {
+        let answer = read.answer;
         return Acted { answer, actions: 0 };
-    };
-    let next = answer.next;
-    let state = answer.state;
-    behind_registers(text, next, work, state, read.place)
+    }
+    behind_registers(text, read.answer.next, work, read.answer.state, read.place)
 }

@@ -1,11 +1,8 @@
 -- The stages of reading, one behind the other.
-use mathlib.Core.Bool.{Bool, cond, false, true}
 use mathlib.Core.List.{List}
 use mathlib.Core.Option.{Option}
 use mathlib.Core.Path.{_≡_, refl, sym, ap, _∙_}
 use Prim.Native.Nat.{ℕ, _≤_}
-use borrow.Author.Tests.{ltb-false}
-use lib.Dec.{ltb}
 use lib.ListN.{length}
 use Rattle.reading.specs.declared.described.Outcome.{Outcome}
 use Rattle.reading.specs.declared.described.Outcome.the-variants as Oc
@@ -18,17 +15,18 @@ use Rattle.language.specs.Grammar.{Is}
 use Rattle.language.specs.Machine.{Parsed, deepest}
 use Rattle.language.specs.Notions as N
 use Rattle.language.specs.Notions.{wholeText}
-use Rattle.language.specs.Reading.{ReadCall, afterGrammar, afterWords, longestText, orLegal, read, readCall, readRefused, readText, restOf, withRoom}
+use Rattle.language.specs.Reading.{ReadCall, afterGrammar, afterWords, orLegal, read, readCall, readRefused, restOf, withRoom}
 use Rattle.language.specs.Rules.{faults}
 use Rattle.language.specs.Sections.{parse}
 use Rattle.language.specs.Tree.{Text}
 use Rattle.language.specs.Words as L
-use Rattle.language.specs.WordStage.{least, scan, wordFault}
+use Rattle.language.specs.WordStage.{least, scan}
 use Rattle.noted.specs.Noted.{notedDescription, placesIn}
+use Rattle.words.proofs.Stages.{none-short, read-first}
 use Rattle.words.specs.declared.Fault.{Fault}
 use Rattle.words.specs.declared.Judged.{Judged}
 use Rattle.words.specs.declared.Judged.the-variants as J
-use Rattle.words.specs.Meaning.{judged}
+use Rattle.words.specs.Meaning.{firstFault, judged}
 use Rattle.writing.proofs.StandingLaws.{image-stands}
 use Rattle.writing.proofs.TextsStand.{names-room, text-judged}
 use Rattle.writing.specs.declared.Tally.{Tally}
@@ -53,10 +51,10 @@ module _ {text work : List ℕ} {c : Tally} (p : Parses text work c) (short : le
       ap (orLegal (describe t .description))
       (sym (h (p .whole .few) (names-room text work c t short derived (p .whole .few) (p .whole .stands)) ∙ text-judged text work c t short derived (p .whole .few) (p .whole .stands) (p .whole .beside)))
 
-  pub rest-written : (n : ℕ) {j : Judged} {x y : ReadCall} → Judges text work c j → j ≡ J.Passed → y ≡ x
-      → (Few c → x ≡ withRoom n (imageOf (sectionsHeld text work c))) → y ≡ readCall n (restOf (describe t))
-  rest-written n {j} h e a b =
-      a ∙ b (p .whole .few) ∙ ap (withRoom n) (image-stands (p .whole .stands))
+  pub rest-written : (n : ℕ) {j : Judged} {y : ReadCall} → Judges text work c j → j ≡ J.Passed
+      → (Few c → y ≡ withRoom n (imageOf (sectionsHeld text work c))) → y ≡ readCall n (restOf (describe t))
+  rest-written n {j} h e b =
+      b (p .whole .few) ∙ ap (withRoom n) (image-stands (p .whole .stands))
       ∙ ap (λ (o : Option L.Fault). readCall n (orLegal (describe t .description) o)) (sym (ap judged e)) ∙ ap (readCall n) (sym (rest-judged j h))
 
   pub rest-refused : (n : ℕ) {j : Judged} {f : Fault} {y : ReadCall} → Judges text work c j → j ≡ J.Refused f → y ≡ readRefused n (f .number) (f .at .place)
@@ -78,28 +76,15 @@ grammar-done n p a = a ∙ ap (λ (x : Parsed Built). readCall n (afterGrammar x
 
 -- ---- The words, and the length.
 
-cond-yes : {A : Type 0} (b : Bool) (x y : A) → b ≡ true → x ≡ cond b x y
-cond-yes b x y e = rw e
-
-cond-no : {A : Type 0} (b : Bool) (x y : A) → b ≡ false → y ≡ cond b x y
-cond-no b x y e = rw e
-
-pub too-long : (text : List ℕ) (n : ℕ) {y : ReadCall} → ltb longestText (length text) ≡ true → y ≡ readRefused n 1 0 → y ≡ read text n
-unfolding read readText
-too-long text n e a = a ∙ ap (readCall n) (cond-yes (ltb longestText (length text)) _ _ e)
-
-read-words : (text : List ℕ) (n : ℕ) → ltb longestText (length text) ≡ false → readCall n (afterWords text (wordFault text)) ≡ read text n
-unfolding read readText
-read-words text n e = ap (readCall n) (cond-no (ltb longestText (length text)) _ _ e)
-
-pub words-refused : (text : List ℕ) (n : ℕ) {j : Judged} {f : Fault} {y : ReadCall} → ltb longestText (length text) ≡ false → judged j ≡ wordFault text → j ≡ J.Refused f
+pub words-refused : (text : List ℕ) (n : ℕ) {j : Judged} {f : Fault} {y : ReadCall} → judged j ≡ firstFault text → j ≡ J.Refused f
     → y ≡ readRefused n (f .number) (f .at .place) → y ≡ read text n
-words-refused text n l h e a = a ∙ ap (λ (o : Option L.Fault). readCall n (afterWords text o)) (sym (ap judged e) ∙ h) ∙ read-words text n l
+unfolding read
+words-refused text n h e a = a ∙ ap (λ (o : Option L.Fault). readCall n (afterWords text o)) (sym (ap judged e) ∙ h) ∙ ap (readCall n) (read-first text)
 
-pub words-passed : (text : List ℕ) (n : ℕ) {j : Judged} {y : ReadCall} → ltb longestText (length text) ≡ false → judged j ≡ wordFault text → j ≡ J.Passed
+pub words-passed : (text : List ℕ) (n : ℕ) {j : Judged} {y : ReadCall} → judged j ≡ firstFault text → j ≡ J.Passed
     → y ≡ readCall n (afterGrammar (parsing text)) → y ≡ read text n
-words-passed text n l h e a = a ∙ ap (λ (o : Option L.Fault). readCall n (afterWords text o)) (sym (ap judged e) ∙ h) ∙ read-words text n l
+unfolding read
+words-passed text n h e a = a ∙ ap (λ (o : Option L.Fault). readCall n (afterWords text o)) (sym (ap judged e) ∙ h) ∙ ap (readCall n) (read-first text)
 
-pub short-text : (text : List ℕ) → ltb longestText (length text) ≡ false → length text ≤ 32768
-unfolding longestText
-short-text text e = ltb-false 32768 (length text) e
+pub passed-short : (text : List ℕ) {j : Judged} → judged j ≡ firstFault text → j ≡ J.Passed → length text ≤ 32768
+passed-short text h e = none-short text (sym h ∙ ap judged e)

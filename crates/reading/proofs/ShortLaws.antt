@@ -5,7 +5,7 @@ use mathlib.Core.Option.{Option, none, some}
 use mathlib.Core.Path.{_≡_, refl, sym, subst, ap, _∙_}
 use native.Mathlib.Omega.{arith}
 use Prim.Native.Nat.{ℕ, zero, suc, _+_, _*_, _/_, _^_, _<_, _≤_}
-use borrow.Author.Tests.{ltb-false, ltb-true}
+use borrow.Author.Tests.{ltb-false}
 use lib.Dec.{leb, ltb}
 use lib.ListN.{getD, length, length-take}
 use Rattle.reading.specs.Outcomes.{Parses}
@@ -35,10 +35,11 @@ use Rattle.reads.specs.GrammarStands.{grammar-here}
 use Rattle.reads.specs.WordsStand.{Before, least-here, word-fault-before, words-before}
 use Rattle.tables.specs.declared.Table.the-variants as T
 use Rattle.work.specs.Held.{held}
+use Rattle.words.proofs.Stages.{short-none}
 use Rattle.words.specs.declared.Fault.{Fault}
 use Rattle.words.specs.declared.Judged.{Judged}
 use Rattle.words.specs.declared.Judged.the-variants as J
-use Rattle.words.specs.Meaning.{judged}
+use Rattle.words.specs.Meaning.{firstFault, judged}
 use Rattle.writing.proofs.BodyLaws.{row-most}
 use Rattle.writing.proofs.StandingLaws.{sections-stand}
 use Rattle.writing.proofs.TextsStand.{names-room, text-judged}
@@ -192,12 +193,8 @@ read-short text n h = by-length (ltb 32768 (length text)) refl
     by-length true e = omega arith
     by-length false e = by-words (ltb-false 32768 (length text) e) (wordFault text) refl
 
-pub long-short : (text : List ℕ) (n : ℕ) → ltb longestText (length text) ≡ true → Short (read text n .answer)
-unfolding longestText
-long-short text n h = read-short text n (λ l e. absurd (omega (arith, l, ltb-true 32768 (length text) h)))
-
 none-some : {A : Type 0} {f : L.Fault} → some f ≡ none → A
 none-some e = absurd (let z : _≡_ {A = ℕ} 0 1 = cc in omega arith)
 
-pub words-short : (text : List ℕ) (n : ℕ) {j : Judged} {f : Fault} → judged j ≡ wordFault text → j ≡ J.Refused f → Short (read text n .answer)
-words-short text n h g = read-short text n (λ l e. none-some (sym (ap judged g) ∙ h ∙ e))
+pub words-short : (text : List ℕ) (n : ℕ) {j : Judged} {f : Fault} → judged j ≡ firstFault text → j ≡ J.Refused f → Short (read text n .answer)
+words-short text n h g = read-short text n (λ l e. none-some (sym (ap judged g) ∙ h ∙ short-none text l e))

@@ -3,18 +3,10 @@ use mathlib.Core.List.{List}
 use mathlib.Core.Path.{_≡_}
 use Prim.Native.Nat.{ℕ, _≤_}
 use lib.ListN.{length}
-use Rattle.answers.specs.Reading.{called}
-use Rattle.answers.specs.declared.read.Answer.{Answer}
 use Rattle.reading.specs.Outcomes.{Parses}
 use Rattle.language.specs.DescribeText.{describe}
 use Rattle.language.specs.Reading.{ReadCall, readCall, restOf}
-use Rattle.writing.specs.Calls as W
 use Rattle.writing.specs.declared.Tally.{Tally}
-use Rattle.writing.specs.declared.whole.Written.{Written}
-
--- The same call as writing makes.
-abbrev pub Tells : Written → Answer → Type 0
-Tells w r = (image : List ℕ) → called r image ≡ W.called w image
 
 -- What is owed of a text that the array holds, in a buffer of n bytes.
 abbrev pub Writes : List ℕ → List ℕ → Tally → ℕ → ReadCall → Type 0

@@ -6,10 +6,8 @@ use answers::read::Answer;
 use store::slices;
 use words::Fault;
 use words::Judged;
-use words::Position;
 use words::stage;
 use writing::Tally;
-use writing::whole::Written;
 use writing::whole::write_image;
 ghost use mathlib.Core.Path.{_≡_};
 ghost use Prim.Native.Nat.{_≤_};
@@ -18,7 +16,7 @@ ghost use Rattle.language.specs.Reading as L;
 ghost use Rattle.language.specs.Sections.{parse};
 ghost use Rattle.language.specs.WordStage.{scan};
 ghost use Rattle.answers.specs.Reading.{Short, called};
-ghost use Rattle.reading.specs.Writes.{Tells, Writes};
+ghost use Rattle.reading.specs.Writes.{Writes};
 
 mod described;
 mod judging;
@@ -32,23 +30,13 @@ fn refuse(image: &mut [u8], f: Fault) -> Answer
     Answer::Refused(f.number, at.place)
 }
 
-// What writing an image answers.
-fn told(w: Written) -> Answer
-    ensures { λ r. ⌜ Tells w r ⌝ }
-{
-    match w {
-        Written::Done(n) => Answer::Accepted(n),
-        Written::NoRoom => Answer::Refused(12, 0),
-    }
-}
-
 // The text that the array holds, judged and written.
 fn written(text: &[u8], work: &[u8; 275296], c: Tally, image: &mut [u8]) -> Answer
     ensures { λ r. ⌜ Writes (now (text .entry)) (now (work .entry)) c (length (now (image .entry))) (called r (now (image .exit))) ⌝ }
 {
     let fault = judge(text, work, c);
     match fault {
-        Judged::Passed => told(write_image(text, work, c, image)),
+        Judged::Passed => write_image(text, work, c, image),
         Judged::Refused(f) => refuse(image, f),
     }
 }
@@ -72,14 +60,7 @@ pub fn read(text: &[u8], image: &mut [u8]) -> Answer
     ensures { λ r. ⌜ called r (now (image .exit)) ≡ L.read (now (text .entry)) (length (now (image .entry))) ⌝ }
     ensures { λ _. ⌜ Short (L.read (now (text .entry)) (length (now (image .entry))) .answer) ⌝ }
 {
-    if stage::too_long(text) {
-        let f = Fault {
-            at: Position { place: 0 },
-            number: 1,
-        };
-        return refuse(image, f);
-    }
-    let fault = stage::word_fault(text);
+    let fault = stage::first_fault(text);
     match fault {
         Judged::Passed => parsed(text, image),
         Judged::Refused(f) => refuse(image, f),

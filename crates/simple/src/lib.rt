@@ -2,7 +2,6 @@
 use course::Answer;
 use course::Bearing;
 use course::State;
-use course::Verdict;
 use course::kinds;
 use course::taking;
 use meanings::Counts;
@@ -42,17 +41,15 @@ fn perform(
     ensures { λ r. ⌜ Performs name (now (text .entry)) n w s acts (now (work .entry)) (now (work .exit)) r ⌝ }
 {
     let counted = taking::pass(name, w, s, true, Bearing::Level);
-    let verdict = counted.verdict;
-    let Verdict::Done = verdict else {
+    if course::unread(counted) {
         return Acted {
             answer: counted,
             actions: acts,
         };
-    };
+    }
     let m = leaves::meaning(text, work, n, name);
     let at = name.at;
-    let state = counted.state;
-    leaves::put(state, leaves::performing(m), at, w, work, acts)
+    leaves::put(counted.state, leaves::performing(m), at, w, work, acts)
 }
 
 // A state's name behind `->` or `=>`.
@@ -68,18 +65,22 @@ fn arrow(
     ensures { λ r. ⌜ Arrows call (now (text .entry)) n w s acts (now (work .entry)) (now (work .exit)) r ⌝ }
 {
     let kept = leaves::keep_name(text, w, s);
-    let verdict = kept.verdict;
-    let Verdict::Done = verdict else {
+    if course::unread(kept) {
         return Acted {
             answer: kept,
             actions: acts,
         };
-    };
+    }
     let m = leaves::meaning(text, work, n, w);
     let at = w.at;
-    let state = kept.state;
-    let next = kept.next;
-    leaves::put(state, leaves::going(call, m), at, next, work, acts)
+    leaves::put(
+        kept.state,
+        leaves::going(call, m),
+        at,
+        kept.next,
+        work,
+        acts,
+    )
 }
 
 // What begins with a sign in a state: `->`, `=>` or RETURN.
@@ -94,22 +95,27 @@ pub fn signed(
     ensures { λ r. ⌜ (among (kindNo (w .kind)) (27 ∷ 28 ∷ 47 ∷ []) ≡ true → Acts (ask L.stateAction ∷ []) same (now (text .entry)) n w s acts (now (work .entry)) (now (work .exit)) r) ⌝ }
 {
     let taken = taking::take(text, w, s, true, Bearing::Level);
-    let verdict = taken.verdict;
-    let Verdict::Done = verdict else {
+    if course::unread(taken) {
         return Acted {
             answer: taken,
             actions: acts,
         };
-    };
-    let state = taken.state;
-    let next = taken.next;
+    }
     let found = w.kind;
     let kind = kinds::number(found);
     if kind == kinds::RETURN {
         let at = w.at;
-        return leaves::put(state, Action::Return, at, next, work, acts);
+        return leaves::put(taken.state, Action::Return, at, taken.next, work, acts);
     }
-    arrow(state, kind == kinds::CALL, text, next, work, n, acts)
+    arrow(
+        taken.state,
+        kind == kinds::CALL,
+        text,
+        taken.next,
+        work,
+        n,
+        acts,
+    )
 }
 
 // Whether a reference goes on behind a name in an operation: `[`, CON, `@`, `<-` or `=` comes.
@@ -153,16 +159,13 @@ pub fn named_in_operation(
     let kind = w.kind;
     if refers(kinds::number(kind)) {
         let first = phrases::reference(s, name, text, w, work);
-        let verdict = first.verdict;
-        let Verdict::Done = verdict else {
+        if course::unread(first) {
             return Acted {
                 answer: first,
                 actions: acts,
             };
-        };
-        let state = first.state;
-        let next = first.next;
-        return stores::rest(state, text, next, work, acts);
+        }
+        return stores::rest(first.state, text, first.next, work, acts);
     }
     perform(s, name, text, w, work, n, acts)
 }
@@ -182,16 +185,13 @@ pub fn named_in_state(
     let kind = w.kind;
     if sets(kinds::number(kind)) {
         let first = phrases::reference(s, name, text, w, work);
-        let verdict = first.verdict;
-        let Verdict::Done = verdict else {
+        if course::unread(first) {
             return Acted {
                 answer: first,
                 actions: acts,
             };
-        };
-        let state = first.state;
-        let next = first.next;
-        return stores::set(state, text, next, work, acts);
+        }
+        return stores::set(first.state, text, first.next, work, acts);
     }
     perform(s, name, text, w, work, n, acts)
 }

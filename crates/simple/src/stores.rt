@@ -3,7 +3,6 @@ use crate::Acted;
 use crate::leaves;
 use course::Bearing;
 use course::State;
-use course::Verdict;
 use course::adding;
 use course::kinds;
 use course::taking;
@@ -52,18 +51,15 @@ pub fn set(s: State, text: &[u8], w: Word, work: &mut [u8; 275296], acts: u16) -
     let found = w.kind;
     if kinds::number(found) == kinds::AT {
         let taken = taking::take(text, w, s, true, Bearing::Level);
-        let verdict = taken.verdict;
-        let Verdict::Done = verdict else {
+        if course::unread(taken) {
             return Acted {
                 answer: taken,
                 actions: acts,
             };
-        };
+        }
         let at = w.at;
-        let state = taken.state;
-        let next = taken.next;
-        let action = Action::Set(adding::last(state.nodes));
-        return leaves::put(state, action, at, next, work, acts);
+        let action = Action::Set(adding::last(taken.state.nodes));
+        return leaves::put(taken.state, action, at, taken.next, work, acts);
     }
     Acted {
         answer: taking::refuse(w, s, 3),
@@ -79,25 +75,22 @@ fn store(s: State, left: Sides, text: &[u8], w: Word, work: &mut [u8; 275296], a
     let kind = kinds::number(found);
     if signs(kind) {
         let taken = taking::take(text, w, s, true, Bearing::Level);
-        let verdict = taken.verdict;
-        let Verdict::Done = verdict else {
+        if course::unread(taken) {
             return Acted {
                 answer: taken,
                 actions: acts,
             };
-        };
+        }
         let right = phrases::start(taken.state, Level::Expression, text, taken.next, work);
-        let verdict = right.verdict;
-        let Verdict::Done = verdict else {
+        if course::unread(right) {
             return Acted {
                 answer: right,
                 actions: acts,
             };
-        };
+        }
         let at = w.at;
-        let state = right.state;
-        let action = storing(kind, left, adding::last(state.nodes));
-        return leaves::put(state, action, at, right.next, work, acts);
+        let action = storing(kind, left, adding::last(right.state.nodes));
+        return leaves::put(right.state, action, at, right.next, work, acts);
     }
     Acted {
         answer: taking::refuse(w, s, 3),
@@ -110,33 +103,28 @@ fn second(s: State, text: &[u8], w: Word, work: &mut [u8; 275296], acts: u16) ->
     ensures { λ r. ⌜ (kindNo (w .kind) ≡ 38 → AfterLeft L.leftRest (now (text .entry)) w s acts (now (work .entry)) (now (work .exit)) r) ⌝ }
 {
     let taken = taking::take(text, w, s, false, Bearing::Level);
-    let verdict = taken.verdict;
-    let Verdict::Done = verdict else {
+    if course::unread(taken) {
         return Acted {
             answer: taken,
             actions: acts,
         };
-    };
-    let name = taken.next;
-    let kept = leaves::keep_name(text, name, taken.state);
-    let verdict = kept.verdict;
-    let Verdict::Done = verdict else {
+    }
+    let kept = leaves::keep_name(text, taken.next, taken.state);
+    if course::unread(kept) {
         return Acted {
             answer: kept,
             actions: acts,
         };
-    };
-    let other = phrases::reference(kept.state, name, text, kept.next, work);
-    let verdict = other.verdict;
-    let Verdict::Done = verdict else {
+    }
+    let other = phrases::reference(kept.state, taken.next, text, kept.next, work);
+    if course::unread(other) {
         return Acted {
             answer: other,
             actions: acts,
         };
-    };
-    let state = other.state;
-    let left = Sides::Two(adding::last(s.nodes), adding::last(state.nodes));
-    store(state, left, text, other.next, work, acts)
+    }
+    let left = Sides::Two(adding::last(s.nodes), adding::last(other.state.nodes));
+    store(other.state, left, text, other.next, work, acts)
 }
 
 // What follows the first reference in an operation.

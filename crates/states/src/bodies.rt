@@ -1,7 +1,6 @@
 // The actions of a state, separated by commas, and the `/` that ends it.
 use course::Bearing;
 use course::State;
-use course::Verdict;
 use course::kinds;
 use course::taking;
 use meanings::Counts;
@@ -46,21 +45,18 @@ fn rest(s: State, text: &[u8], w: Word, work: &mut [u8; 275296], n: Counts, acts
             };
         }
         let comma = taking::take(text, next, state, false, Bearing::Level);
-        let verdict = comma.verdict;
-        let Verdict::Done = verdict else {
+        if course::unread(comma) {
             return Acted {
                 answer: comma,
                 actions: after,
             };
-        };
+        }
         let another = actions::action(comma.state, true, text, comma.next, work, n, after);
-        let answer = another.answer;
-        let verdict = answer.verdict;
-        let Verdict::Done = verdict else {
+        if course::unread(another.answer) {
             return another;
-        };
-        next = answer.next;
-        state = answer.state;
+        }
+        next = another.answer.next;
+        state = another.answer.state;
         after = another.actions;
     }
 }
@@ -80,14 +76,17 @@ fn list(
     ensures { λ r. ⌜ Lists named name (now (text .entry)) n w s acts (now (work .entry)) (now (work .exit)) r ⌝ }
 {
     let one = first(s, named, name, text, w, work, n, acts);
-    let answer = one.answer;
-    let verdict = answer.verdict;
-    let Verdict::Done = verdict else {
+    if course::unread(one.answer) {
         return one;
-    };
-    let next = answer.next;
-    let state = answer.state;
-    rest(state, text, next, work, n, one.actions)
+    }
+    rest(
+        one.answer.state,
+        text,
+        one.answer.next,
+        work,
+        n,
+        one.actions,
+    )
 }
 
 // The actions of a state, of which the first one's name was taken or not; there may be none.

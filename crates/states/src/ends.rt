@@ -45,13 +45,12 @@ fn dollar(text: &[u8], w: Word, s: State, acts: u16) -> Acted
         return nothing(w, s, acts);
     }
     let answer = taking::take(text, w, s, false, Bearing::Level);
-    let verdict = answer.verdict;
-    let Verdict::Done = verdict else {
+    if course::unread(answer) {
         return Acted {
             answer,
             actions: acts,
         };
-    };
+    }
     nothing(answer.next, answer.state, acts)
 }
 
@@ -60,12 +59,11 @@ pub fn ended(text: &[u8], w: Word, s: State, acts: u16) -> Acted
     ensures { λ r. ⌜ (Ending w → Finish moreStack (now (text .entry)) w s acts r) ⌝ }
 {
     let answer = taking::take(text, w, s, false, Bearing::Level);
-    let verdict = answer.verdict;
-    let Verdict::Done = verdict else {
+    if course::unread(answer) {
         return Acted {
             answer,
             actions: acts,
         };
-    };
+    }
     dollar(text, answer.next, answer.state, acts)
 }

@@ -84,22 +84,20 @@ fn in_brackets(text: &[u8], w: Word, s: State) -> Bracketed
     ensures { λ r. ⌜ Brackets (now (text .entry)) w s r ⌝ }
 {
     let open = taking::take(text, w, s, false, Bearing::Opens);
-    let verdict = open.verdict;
-    let Verdict::Done = verdict else {
+    if course::unread(open) {
         return Bracketed {
             answer: open,
             constant: w,
         };
-    };
+    }
     let constant = open.next;
     let kept = taking::keep_constant(text, constant, open.state);
-    let verdict = kept.verdict;
-    let Verdict::Done = verdict else {
+    if course::unread(kept) {
         return Bracketed {
             answer: kept,
             constant,
         };
-    };
+    }
     let close = taking::expect(
         text,
         kept.next,
@@ -107,13 +105,12 @@ fn in_brackets(text: &[u8], w: Word, s: State) -> Bracketed
         kinds::CLOSE_PAREN,
         Bearing::Closes,
     );
-    let verdict = close.verdict;
-    let Verdict::Done = verdict else {
+    if course::unread(close) {
         return Bracketed {
             answer: close,
             constant,
         };
-    };
+    }
     let answer = taking::expect(text, close.next, close.state, kinds::COLON, Bearing::Level);
     Bracketed { answer, constant }
 }
@@ -123,23 +120,21 @@ fn valued(text: &[u8], name: Word, w: Word, work: &mut [u8; 275296], s: State, l
     ensures { λ r. ⌜ Valued l name (now (text .entry)) w s (now (work .entry)) (now (work .exit)) r ⌝ }
 {
     let read = in_brackets(text, w, s);
-    let answer = read.answer;
     let at = name.at;
-    let verdict = answer.verdict;
-    let Verdict::Done = verdict else {
+    if course::unread(read.answer) {
         let head = plain(at, name.size);
+        let answer = read.answer;
         return Begun {
             answer,
             head,
             named: false,
         };
-    };
+    }
     let constant = read.constant;
     let spot = constant.at;
     let v = values::stated(constant, l);
-    let added = adding::add_constant(work, v, answer.next, answer.state);
-    let state = added.state;
-    let value = StateValue::At(adding::last(state.nodes));
+    let added = adding::add_constant(work, v, read.answer.next, read.answer.state);
+    let value = StateValue::At(adding::last(added.state.nodes));
     let head = Head {
         at,
         size: name.size,
@@ -192,14 +187,13 @@ pub fn head(text: &[u8], w: Word, work: &mut [u8; 275296], s: State, l: u16) -> 
     let counted = count(w, s);
     let at = w.at;
     let head = plain(at, 0);
-    let verdict = counted.verdict;
-    let Verdict::Done = verdict else {
+    if course::unread(counted) {
         return Begun {
             answer: counted,
             head,
             named: false,
         };
-    };
+    }
     let kind = w.kind;
     if kinds::number(kind) != kinds::NAME {
         return Begun {
@@ -209,13 +203,12 @@ pub fn head(text: &[u8], w: Word, work: &mut [u8; 275296], s: State, l: u16) -> 
         };
     }
     let name = taking::take(text, w, counted.state, false, Bearing::Level);
-    let verdict = name.verdict;
-    let Verdict::Done = verdict else {
+    if course::unread(name) {
         return Begun {
             answer: name,
             head,
             named: false,
         };
-    };
+    }
     after_name(text, w, name.next, work, name.state, l)
 }

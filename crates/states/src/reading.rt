@@ -4,7 +4,6 @@ use crate::closing;
 use crate::ends;
 use crate::heads;
 use course::State;
-use course::Verdict;
 use course::kinds;
 use meanings::Counts;
 use simple::Acted;
@@ -26,22 +25,26 @@ fn one(
     ensures { λ r. ⌜ One l (now (text .entry)) n w s acts (now (work .entry)) (now (work .exit)) r ⌝ }
 {
     let begun = heads::head(text, w, work, s, l);
-    let answer = begun.answer;
-    let verdict = answer.verdict;
-    let Verdict::Done = verdict else {
+    if course::unread(begun.answer) {
+        let answer = begun.answer;
         return Acted {
             answer,
             actions: acts,
         };
-    };
-    let next = answer.next;
-    let state = answer.state;
-    let read = bodies::body(state, begun.named, w, text, next, work, n, acts);
-    let after = read.answer;
-    let verdict = after.verdict;
-    let Verdict::Done = verdict else {
+    }
+    let read = bodies::body(
+        begun.answer.state,
+        begun.named,
+        w,
+        text,
+        begun.answer.next,
+        work,
+        n,
+        acts,
+    );
+    if course::unread(read.answer) {
         return read;
-    };
+    }
     let head = begun.head;
     let actions = closing::run(acts, read.actions);
     closing::close(work, s.states, head, actions);
@@ -74,13 +77,11 @@ fn more(
             return ends::ended(text, next, state, after);
         }
         let another = one(state, text, next, work, n, after, l);
-        let answer = another.answer;
-        let verdict = answer.verdict;
-        let Verdict::Done = verdict else {
+        if course::unread(another.answer) {
             return another;
-        };
-        next = answer.next;
-        state = answer.state;
+        }
+        next = another.answer.next;
+        state = another.answer.state;
         after = another.actions;
     }
 }
@@ -99,12 +100,16 @@ pub fn states(
     ensures { λ r. ⌜ All startStack l (now (text .entry)) n w s acts (now (work .entry)) (now (work .exit)) r ⌝ }
 {
     let first = one(s, text, w, work, n, acts, l);
-    let answer = first.answer;
-    let verdict = answer.verdict;
-    let Verdict::Done = verdict else {
+    if course::unread(first.answer) {
         return first;
-    };
-    let next = answer.next;
-    let state = answer.state;
-    more(state, text, next, work, n, first.actions, l)
+    }
+    more(
+        first.answer.state,
+        text,
+        first.answer.next,
+        work,
+        n,
+        first.actions,
+        l,
+    )
 }

@@ -1,7 +1,6 @@
 // A terminal declared: a name, its dimensions and its function.
 use crate::functions;
 use course::State;
-use course::Verdict;
 use declarations::Progress;
 use declarations::adding;
 use declarations::naming;
@@ -15,26 +14,30 @@ pub fn terminal(text: &[u8], w: Word, work: &mut [u8; 275296], s: State, place: 
     ensures { λ r. ⌜ Ones terminals (now (text .entry)) w s place (now (work .entry)) (now (work .exit)) r ⌝ }
 {
     let named = naming::facility_name(text, w, s);
-    let verdict = named.verdict;
-    let Verdict::Done = verdict else {
+    if course::unread(named) {
         return Progress {
             answer: named,
             place,
         };
-    };
+    }
     let measured = extents::dimensions(text, named.next, named.state);
-    let answer = measured.answer;
-    let verdict = answer.verdict;
-    let Verdict::Done = verdict else {
+    if course::unread(measured.answer) {
+        let answer = measured.answer;
         return Progress { answer, place };
-    };
+    }
     let extent = measured.extent;
-    let defined = functions::function(text, w, extent.dimensions, answer.next, work, answer.state);
-    let answer = defined.answer;
-    let verdict = answer.verdict;
-    let Verdict::Done = verdict else {
+    let defined = functions::function(
+        text,
+        w,
+        extent.dimensions,
+        measured.answer.next,
+        work,
+        measured.answer.state,
+    );
+    if course::unread(defined.answer) {
+        let answer = defined.answer;
         return Progress { answer, place };
-    };
+    }
     let kind = defined.kind;
     let at = w.at;
     let equals = defined.equals;
@@ -46,5 +49,5 @@ pub fn terminal(text: &[u8], w: Word, work: &mut [u8; 275296], s: State, place: 
         expression: defined.expression,
         equals,
     };
-    adding::declare(work, answer.next, answer.state, place, x)
+    adding::declare(work, defined.answer.next, defined.answer.state, place, x)
 }

@@ -92,8 +92,7 @@ pub fn function(
         return plain(w, s);
     }
     let equal = taking::take(text, w, s, false, Bearing::Level);
-    let verdict = equal.verdict;
-    let Verdict::Done = verdict else {
+    if course::unread(equal) {
         let equals = places::position(0);
         return Defined {
             answer: equal,
@@ -101,8 +100,6 @@ pub fn function(
             expression: 0,
             equals,
         };
-    };
-    let next = equal.next;
-    let state = equal.state;
-    behind_equal(text, name, w, next, work, state)
+    }
+    behind_equal(text, name, w, equal.next, work, equal.state)
 }

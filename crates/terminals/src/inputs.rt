@@ -3,7 +3,6 @@ use characters::names;
 use course::Answer;
 use course::Bearing;
 use course::State;
-use course::Verdict;
 use course::kinds;
 use course::taking;
 use records::bytes;
@@ -55,13 +54,16 @@ fn closed(text: &[u8], name: Word, w: Word, s: State) -> Answer
     ensures { λ r. ⌜ Closing (now (text .entry)) name w s r ⌝ }
 {
     let repeated = again(text, name, w, s);
-    let verdict = repeated.verdict;
-    let Verdict::Done = verdict else {
+    if course::unread(repeated) {
         return repeated;
-    };
-    let next = repeated.next;
-    let state = repeated.state;
-    taking::expect(text, next, state, kinds::CLOSE_PAREN, Bearing::Closes)
+    }
+    taking::expect(
+        text,
+        repeated.next,
+        repeated.state,
+        kinds::CLOSE_PAREN,
+        Bearing::Closes,
+    )
 }
 
 // An input, of which the first word has been seen.
@@ -69,32 +71,26 @@ pub fn input(text: &[u8], name: Word, w: Word, s: State) -> Answer
     ensures { λ r. ⌜ Inputs (now (text .entry)) name w s r ⌝ }
 {
     let first = taking::take(text, w, s, false, Bearing::Level);
-    let verdict = first.verdict;
-    let Verdict::Done = verdict else {
+    if course::unread(first) {
         return first;
-    };
-    let next = first.next;
-    let state = first.state;
-    let open = taking::expect(text, next, state, kinds::OPEN_PAREN, Bearing::Opens);
-    let verdict = open.verdict;
-    let Verdict::Done = verdict else {
+    }
+    let open = taking::expect(
+        text,
+        first.next,
+        first.state,
+        kinds::OPEN_PAREN,
+        Bearing::Opens,
+    );
+    if course::unread(open) {
         return open;
-    };
-    let next = open.next;
-    let state = open.state;
-    let value = constant(text, next, state);
-    let verdict = value.verdict;
-    let Verdict::Done = verdict else {
+    }
+    let value = constant(text, open.next, open.state);
+    if course::unread(value) {
         return value;
-    };
-    let next = value.next;
-    let state = value.state;
-    let comma = taking::expect(text, next, state, kinds::COMMA, Bearing::Level);
-    let verdict = comma.verdict;
-    let Verdict::Done = verdict else {
+    }
+    let comma = taking::expect(text, value.next, value.state, kinds::COMMA, Bearing::Level);
+    if course::unread(comma) {
         return comma;
-    };
-    let next = comma.next;
-    let state = comma.state;
-    closed(text, name, next, state)
+    }
+    closed(text, name, comma.next, comma.state)
 }

@@ -2,7 +2,6 @@
 use crate::declaring;
 use course::Bearing;
 use course::State;
-use course::Verdict;
 use course::kinds;
 use course::taking;
 use declarations::Progress;
@@ -16,12 +15,16 @@ pub fn terminals(text: &[u8], w: Word, work: &mut [u8; 275296], s: State, place:
     ensures { λ r. ⌜ Lists terminals (now (text .entry)) w s place (now (work .entry)) (now (work .exit)) r ⌝ }
 {
     let first = declaring::terminal(text, w, work, s, place);
-    let answer = first.answer;
-    let verdict = answer.verdict;
-    let Verdict::Done = verdict else {
+    if course::unread(first.answer) {
         return first;
-    };
-    more(text, answer.next, work, answer.state, first.place)
+    }
+    more(
+        text,
+        first.answer.next,
+        work,
+        first.answer.state,
+        first.place,
+    )
 }
 
 // Behind a terminal: others, and the end. Each counts a facility, so that there are not too many.
@@ -38,21 +41,18 @@ fn more(text: &[u8], w: Word, work: &mut [u8; 275296], s: State, place: u16) -> 
             return lists::ended(text, next, state, after);
         }
         let comma = taking::take(text, next, state, false, Bearing::Level);
-        let verdict = comma.verdict;
-        let Verdict::Done = verdict else {
+        if course::unread(comma) {
             return Progress {
                 answer: comma,
                 place: after,
             };
-        };
+        }
         let another = declaring::terminal(text, comma.next, work, comma.state, after);
-        let answer = another.answer;
-        let verdict = answer.verdict;
-        let Verdict::Done = verdict else {
+        if course::unread(another.answer) {
             return another;
-        };
-        next = answer.next;
-        state = answer.state;
+        }
+        next = another.answer.next;
+        state = another.answer.state;
         after = another.place;
     }
 }

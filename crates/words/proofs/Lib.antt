@@ -2,3 +2,4 @@ pub mod Sizes
 pub mod Walk
 pub mod Least
 pub mod Widths
+pub mod Stages

@@ -4,12 +4,14 @@ use mathlib.Core.List.{List, [], _∷_, map}
 use mathlib.Core.Option.{Option, none, some}
 use mathlib.Core.Path.{_≡_}
 use Prim.Native.Nat.{ℕ, _+_, _<_, _≤_}
+use lib.Dec.{ltb}
 use lib.ListN.{drop, length, take}
 use Rattle.language.specs.Characters.{folded}
+use Rattle.language.specs.Reading.{longestText}
 use Rattle.language.specs.Scan.{written}
 use Rattle.language.specs.Words as L
 use Rattle.language.specs.Words.{fault, position}
-use Rattle.language.specs.WordStage.{before, wordsFrom}
+use Rattle.language.specs.WordStage.{before, wordFault, wordsFrom}
 use Rattle.scan.specs.declared.Item.{Item}
 use Rattle.scan.specs.declared.Kind as S
 use Rattle.scan.specs.declared.Kind.the-variants as I
@@ -86,6 +88,10 @@ kindFault I.Name p = none
 kindFault I.Constant p = none
 kindFault (I.Sign k) p = none
 kindFault (I.Wrong n) p = refusedAt p n
+
+-- The length of a text answers first, then its words.
+abbrev pub firstFault : List ℕ → Option L.Fault
+firstFault text = cond (ltb longestText (length text)) (refusedAt 0 1) (wordFault text)
 
 -- The smaller of two faults, where there are.
 abbrev pub lesser : Option L.Fault → Option L.Fault → Option L.Fault

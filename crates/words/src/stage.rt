@@ -9,12 +9,12 @@ ghost use lib.Dec.{ltb};
 ghost use lib.ListN.{length};
 ghost use Rattle.language.specs.Reading.{longestText};
 ghost use Rattle.language.specs.WordStage as L;
-ghost use Rattle.words.specs.Meaning.{judged, kindFault};
+ghost use Rattle.words.specs.Meaning.{firstFault, judged, kindFault};
 
 const LONGEST_TEXT: usize = 32768;
 
 // Whether a text is too long.
-pub fn too_long(text: &[u8]) -> bool
+fn too_long(text: &[u8]) -> bool
     ensures { λ r. ⌜ r ≡ ltb longestText (length (now (text .entry))) ⌝ }
 {
     LONGEST_TEXT < text.len()
@@ -51,8 +51,18 @@ fn first_wrong(text: &[u8]) -> Judged
 }
 
 // The fault of the stage of words, if there is one.
-pub fn word_fault(text: &[u8]) -> Judged
+fn word_fault(text: &[u8]) -> Judged
     ensures { λ r. ⌜ judged r ≡ L.wordFault (now (text .entry)) ⌝ }
 {
     faults::earlier(first_wrong(text), lines::first_long(text))
+}
+
+// What is wrong with a text in front of its grammar.
+pub fn first_fault(text: &[u8]) -> Judged
+    ensures { λ r. ⌜ judged r ≡ firstFault (now (text .entry)) ⌝ }
+{
+    if too_long(text) {
+        return faults::refused(0, 1);
+    }
+    word_fault(text)
 }

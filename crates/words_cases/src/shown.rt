@@ -98,11 +98,7 @@ fn all_words(text: &[u8]) {
 
 // The words of a text, or its refusal.
 pub fn text(s: &[u8]) {
-    if stage::too_long(s) {
-        refused(1, 0);
-        return;
-    }
-    match stage::word_fault(s) {
+    match stage::first_fault(s) {
         Judged::Passed => all_words(s),
         Judged::Refused(f) => refused(f.number as u64, places::place(f.at) as u64),
     }

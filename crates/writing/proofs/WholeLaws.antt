@@ -16,9 +16,9 @@ use Rattle.records.specs.Placed.{placed}
 use Rattle.tables.specs.declared.Table.the-variants as T
 use Rattle.writing.proofs.BodyLaws.{node-length, records-length, row-length}
 use Rattle.records.proofs.FilledLaws.{filled-length, filled-more, filled-none}
-use Rattle.writing.specs.Calls.{called}
 use Rattle.writing.specs.declared.Tally.{Tally}
-use Rattle.writing.specs.declared.whole.Written.the-variants.{Done, NoRoom}
+use Rattle.answers.specs.declared.read.Answer.the-variants.{Accepted, Refused}
+use Rattle.answers.specs.Reading.{called}
 use Rattle.writing.specs.Sections.{Few, countsHeld, lettersOf, namesHeld, recordsHeld, sectionsHeld}
 
 -- ---- Names.
@@ -84,7 +84,7 @@ module _ (text w : List ℕ) (c : Tally) (l : length w ≡ 275296) (few : Few c)
       ap length whole ∙ omega (arith, a, b, header-bytes counted, records-length w c l few)
 
   module _ {n from : ℕ} {i₁ : List ℕ} (i₀ : List ℕ) (e : n ≡ length (namesHeld text w c)) (f : from ≡ namesFrom (countsHeld c 0)) (z : i₁ ≡ replicate (length i₀) 0) where
-    pub no-room : length i₁ < from + n → called NoRoom i₁ ≡ withRoom (length i₀) (imageOf (sectionsHeld text w c))
+    pub no-room : length i₁ < from + n → called (Refused 12 0) i₁ ≡ withRoom (length i₀) (imageOf (sectionsHeld text w c))
     no-room h =
         let m : length i₁ ≡ length i₀ = ap length (z ∙ filled-none (length i₀)) ∙ filled-length (length i₀) [] (omega arith) in
         rw (lt-leb (length (imageOf (sectionsHeld text w c))) (length i₀) (omega (arith, whole-length)), z)
@@ -92,7 +92,7 @@ module _ (text w : List ℕ) (c : Tally) (l : length w ≡ 275296) (few : Few c)
     pub room : {i₂ i₃ i₄ : List ℕ} {k : Counts} → from + n ≤ length i₁ → k ≡ countsHeld c n → i₂ ≡ placed i₁ 0 (fours (headerNumbers k))
         → ((p : List ℕ) → length w ≡ 275296 → Few c → length p ≡ 52 → i₂ ≡ filled (length i₂) p → namesFrom (countsHeld c 0) ≤ length i₂ → i₃ ≡ filled (length i₂) (p ++ recordsHeld w c))
         → ((p : List ℕ) → length p ≡ from → i₃ ≡ filled (length i₃) p → from + length (namesHeld text w c) ≤ length i₃ → i₄ ≡ filled (length i₃) (p ++ namesHeld text w c))
-        → called (Done (from + n)) i₄ ≡ withRoom (length i₀) (imageOf (sectionsHeld text w c))
+        → called (Accepted (from + n)) i₄ ≡ withRoom (length i₀) (imageOf (sectionsHeld text w c))
     room {i₂} {i₃} {i₄} h g a b d =
         let m = length i₀ in
         let head = fours (headerNumbers counted) in

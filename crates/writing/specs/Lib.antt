@@ -1,4 +1,3 @@
 pub mod Sections
-pub mod Calls
 pub mod Standing
 pub mod NearTexts

@@ -3,23 +3,18 @@ use crate::Tally;
 use crate::body;
 use crate::counts;
 use crate::names;
+use answers::read::Answer;
 use image::header;
 use store::slices;
 ghost use mathlib.Core.Path.{_≡_};
 ghost use lib.ListN.{length};
+ghost use Rattle.answers.specs.Reading.{called};
 ghost use Rattle.language.specs.Encode.{imageOf};
 ghost use Rattle.language.specs.Reading.{withRoom};
-ghost use Rattle.writing.specs.Calls.{called};
 ghost use Rattle.writing.specs.Sections.{Few, sectionsHeld};
 
-pub enum Written {
-    // The image's length.
-    Done(usize),
-    NoRoom,
-}
-
 // Writes the image, and zero behind it; where there is no room, zero alone.
-pub fn write_image(text: &[u8], work: &[u8; 275296], c: Tally, image: &mut [u8]) -> Written
+pub fn write_image(text: &[u8], work: &[u8; 275296], c: Tally, image: &mut [u8]) -> Answer
     ensures { λ r. ⌜ (Few c → called r (now (image .exit)) ≡ withRoom (length (now (image .entry))) (imageOf (sectionsHeld (now (text .entry)) (now (work .entry)) c))) ⌝ }
 {
     let s: &[u8] = work;
@@ -28,10 +23,10 @@ pub fn write_image(text: &[u8], work: &[u8; 275296], c: Tally, image: &mut [u8])
     let from = counts::names_from(few);
     let n = names::count(text, work, few);
     if image.len() < from + n {
-        return Written::NoRoom;
+        return Answer::Refused(12, 0);
     }
     header::write_header(image, counts::header_counts(few, n as u32));
     body::put(image, s, few);
     names::put(image, from, text, work, few);
-    Written::Done(from + n)
+    Answer::Accepted(from + n)
 }

@@ -3,7 +3,6 @@ use mathlib.Core.List.{List}
 use mathlib.Core.Path.{_≡_, refl, sym, ap, _∙_}
 use native.Mathlib.Omega.{arith}
 use Prim.Native.Nat.{suc, _+_, _-_, _*_, _≤_}
-use Rattle.course.proofs.Answers.{not-done}
 use Rattle.course.specs.declared.State.{State}
 use Rattle.words.specs.declared.Word.{Word}
 use Rattle.actions.proofs.ArmLaws.{Arming, arm-full, arm-not, arm-says, arming-begin, arming-more, arms-end, arms-long, arms-not, else-not, else-says, next-arm-not, next-arm-says}
@@ -50,6 +49,7 @@ use Rattle.actions.proofs.leaves.when_again.Reads as when-again-reads
 use Rattle.actions.proofs.plain.Reads as plain-reads
 use Rattle.course.proofs.kinds.number.Reads as number-reads
 use Rattle.course.proofs.taking.expect.Reads as expect-reads
+use Rattle.course.proofs.unread.Reads as unread-reads
 use Rattle.course.proofs.taking.take.Reads as take-reads
 use Rattle.phrases.proofs.pieces.at.Reads as at-reads
 use Rattle.simple.proofs.leaves.put.Reads as put-reads
@@ -148,28 +148,28 @@ abbrev action-calls : ℕ → action-lts.Claims
 action-calls t = (number-reads.Asked, number-reads.Learnt, when-below t, when.Post, cases-below t, cases.Post, plain-reads.Asked, plain-reads.Learnt)
 
 abbrev another-calls : ℕ → another-lts.Claims
-another-calls t = (take-reads.Asked, take-reads.Learnt, answered-reads.Asked, answered-reads.Learnt, at-reads.Asked, at-reads.Learnt, action-below t, action.Post)
+another-calls t = (take-reads.Asked, take-reads.Learnt, unread-reads.Asked, unread-reads.Learnt, answered-reads.Asked, answered-reads.Learnt, at-reads.Asked, at-reads.Learnt, action-below t, action.Post)
 
 abbrev arm-calls : ℕ → arm-lts.Claims
-arm-calls t = (position-reads.Asked, position-reads.Learnt, put-reads.Asked, put-reads.Learnt, list-below t, list.Post, arm-again-reads.Asked, arm-again-reads.Learnt)
+arm-calls t = (position-reads.Asked, position-reads.Learnt, put-reads.Asked, put-reads.Learnt, unread-reads.Asked, unread-reads.Learnt, list-below t, list.Post, arm-again-reads.Asked, arm-again-reads.Learnt)
 
 abbrev arms-calls : ℕ → arms-lts.Claims
-arms-calls t = (arm-below t, arm.Post, is-reads.Asked, is-reads.Learnt, at-reads.Asked, at-reads.Learnt, next-arm-below t, next-arm.Post)
+arms-calls t = (arm-below t, arm.Post, unread-reads.Asked, unread-reads.Learnt, is-reads.Asked, is-reads.Learnt, at-reads.Asked, at-reads.Learnt, next-arm-below t, next-arm.Post)
 
 abbrev cases-calls : ℕ → cases-lts.Claims
-cases-calls t = (condition-reads.Asked, condition-reads.Learnt, arms-below t, arms.Post, expect-reads.Asked, expect-reads.Learnt, choose-again-reads.Asked, choose-again-reads.Learnt, answered-reads.Asked, answered-reads.Learnt)
+cases-calls t = (condition-reads.Asked, condition-reads.Learnt, unread-reads.Asked, unread-reads.Learnt, arms-below t, arms.Post, expect-reads.Asked, expect-reads.Learnt, choose-again-reads.Asked, choose-again-reads.Learnt, answered-reads.Asked, answered-reads.Learnt)
 
 abbrev list-calls : ℕ → list-lts.Claims
-list-calls t = (action-below t, action.Post, is-reads.Asked, is-reads.Learnt, at-reads.Asked, at-reads.Learnt, another-below t, another.Post)
+list-calls t = (action-below t, action.Post, unread-reads.Asked, unread-reads.Learnt, is-reads.Asked, is-reads.Learnt, at-reads.Asked, at-reads.Learnt, another-below t, another.Post)
 
 abbrev next-arm-calls : ℕ → next-arm-lts.Claims
-next-arm-calls t = (take-reads.Asked, take-reads.Learnt, answered-reads.Asked, answered-reads.Learnt, at-reads.Asked, at-reads.Learnt, arm-below t, arm.Post)
+next-arm-calls t = (take-reads.Asked, take-reads.Learnt, unread-reads.Asked, unread-reads.Learnt, answered-reads.Asked, answered-reads.Learnt, at-reads.Asked, at-reads.Learnt, arm-below t, arm.Post)
 
 abbrev otherwise-calls : ℕ → otherwise-lts.Claims
-otherwise-calls t = (expect-reads.Asked, expect-reads.Learnt, answered-reads.Asked, answered-reads.Learnt, at-reads.Asked, at-reads.Learnt, arm-below t, arm.Post)
+otherwise-calls t = (expect-reads.Asked, expect-reads.Learnt, unread-reads.Asked, unread-reads.Learnt, answered-reads.Asked, answered-reads.Learnt, at-reads.Asked, at-reads.Learnt, arm-below t, arm.Post)
 
 abbrev when-calls : ℕ → when-lts.Claims
-when-calls t = (condition-reads.Asked, condition-reads.Learnt, arm-below t, arm.Post, is-reads.Asked, is-reads.Learnt, end-if-reads.Asked, end-if-reads.Learnt, when-again-reads.Asked, when-again-reads.Learnt, answered-reads.Asked, answered-reads.Learnt, at-reads.Asked, at-reads.Learnt, otherwise-below t, otherwise.Post, choose-again-reads.Asked, choose-again-reads.Learnt)
+when-calls t = (condition-reads.Asked, condition-reads.Learnt, unread-reads.Asked, unread-reads.Learnt, arm-below t, arm.Post, is-reads.Asked, is-reads.Learnt, end-if-reads.Asked, end-if-reads.Learnt, when-again-reads.Asked, when-again-reads.Learnt, answered-reads.Asked, answered-reads.Learnt, at-reads.Asked, at-reads.Learnt, otherwise-below t, otherwise.Post, choose-again-reads.Asked, choose-again-reads.Learnt)
 
 action-number-requires : (t : ℕ) → action-lts.Need-number-requires (action-calls t) (action-at t) action.Post
 action-number-requires t c κs = search needs
@@ -198,15 +198,15 @@ action-returns-3 t c =
 another-take-requires : (t : ℕ) → another-lts.Need-take-requires (another-calls t) (another-at t) another.Post
 another-take-requires t c κs = search needs
 
-another-enum-told : (t : ℕ) → another-lts.Need-enum-told (another-calls t) (another-at t) another.Post
-another-enum-told t c = search needs
+another-unread-requires : (t : ℕ) → another-lts.Need-unread-requires (another-calls t) (another-at t) another.Post
+another-unread-requires t c κs = search needs
 
 another-answered-requires : (t : ℕ) → another-lts.Need-answered-requires (another-calls t) (another-at t) another.Post
 another-answered-requires t c κs = search needs
 
 another-returns : (t : ℕ) → another-lts.Need-returns (another-calls t) (another-at t) another.Post
 another-returns t c =
-    rw (c .answered .ensures) (another-not (c .before .before .before .before .args .in-state) (c .before .before .take .ensures) (not-done (c .before .match .keys2)))
+    rw (c .answered .ensures) (another-not (c .before .before .before .before .before .args .in-state) (c .before .before .before .take .ensures) (c .before .before .unread .ensures .1 (c .before .if1 .taken)))
 
 another-at-requires : (t : ℕ) → another-lts.Need-at-requires (another-calls t) (another-at t) another.Post
 another-at-requires t c κs = search needs
@@ -217,7 +217,7 @@ another-action-requires t c κs =
 
 another-returns-2 : (t : ℕ) → another-lts.Need-returns-2 (another-calls t) (another-at t) another.Post
 another-returns-2 t c =
-    another-says (c .before .before .before .before .before .before .before .args .in-state) (c .before .before .before .before .before .take .ensures) (c .before .before .before .enum-told .given .1) (c .before .before .at .ensures) (c .action .ensures)
+    another-says (c .before .before .before .before .before .before .before .args .in-state) (c .before .before .before .before .before .take .ensures) (c .before .before .before .before .unread .ensures .0 (c .before .before .before .if1 .left)) (c .before .before .at .ensures) (c .action .ensures)
 
 arm-position-requires : (t : ℕ) → arm-lts.Need-position-requires (arm-calls t) (arm-at t) arm.Post
 arm-position-requires t c κs = search needs
@@ -225,29 +225,29 @@ arm-position-requires t c κs = search needs
 arm-put-requires : (t : ℕ) → arm-lts.Need-put-requires (arm-calls t) (arm-at t) arm.Post
 arm-put-requires t c κs = search needs
 
-arm-enum-told : (t : ℕ) → arm-lts.Need-enum-told (arm-calls t) (arm-at t) arm.Post
-arm-enum-told t c = search needs
+arm-unread-requires : (t : ℕ) → arm-lts.Need-unread-requires (arm-calls t) (arm-at t) arm.Post
+arm-unread-requires t c κs = search needs
 
 arm-returns : (t : ℕ) → arm-lts.Need-returns (arm-calls t) (arm-at t) arm.Post
 arm-returns t c =
-    arm-full (c .before .before .before .before .before .before .args .in-state) (c .before .before .put .ensures) (not-done (c .match .keys2))
+    arm-full (c .before .before .before .before .before .before .args .in-state) (c .before .before .put .ensures) (c .before .unread .ensures .1 (c .if1 .taken))
 
 arm-list-requires : (t : ℕ) → arm-lts.Need-list-requires (arm-calls t) (arm-at t) arm.Post
 arm-list-requires t c κs = search needs
 
-arm-enum-told-2 : (t : ℕ) → arm-lts.Need-enum-told-2 (arm-calls t) (arm-at t) arm.Post
-arm-enum-told-2 t c = search needs
+arm-unread-requires-2 : (t : ℕ) → arm-lts.Need-unread-requires-2 (arm-calls t) (arm-at t) arm.Post
+arm-unread-requires-2 t c κs = search needs
 
 arm-returns-2 : (t : ℕ) → arm-lts.Need-returns-2 (arm-calls t) (arm-at t) arm.Post
 arm-returns-2 t c =
-    arm-not (c .before .before .before .before .before .before .before .before .before .before .before .args .in-state) (c .before .before .before .before .before .before .before .put .ensures) (c .before .before .before .before .enum-told .given .1) (c .before .before .list .ensures) (not-done (c .match2 .keys2))
+    arm-not (c .before .before .before .before .before .before .before .before .before .before .args .in-state) (c .before .before .before .before .before .before .put .ensures) (c .before .before .before .before .before .unread .ensures .0 (c .before .before .before .before .if1 .left)) (c .before .before .list .ensures) (c .before .unread2 .ensures .1 (c .if2 .taken))
 
 arm-arm-again-requires : (t : ℕ) → arm-lts.Need-arm-again-requires (arm-calls t) (arm-at t) arm.Post
 arm-arm-again-requires t c κs = search needs
 
 arm-returns-3 : (t : ℕ) → arm-lts.Need-returns-3 (arm-calls t) (arm-at t) arm.Post
 arm-returns-3 t c =
-    arm-says (c .before .before .before .before .before .before .before .before .before .before .before .before .before .before .args .in-state) (c .before .before .before .before .before .before .before .before .before .before .put .ensures) (c .before .before .before .before .before .before .before .enum-told .given .1) (c .before .before .before .before .before .list .ensures) (c .before .before .before .before .before .before .before .before .before .before .before .before .position .ensures) (c .before .before .enum-told2 .given .1) (c .arm-again .ensures)
+    arm-says (c .before .before .before .before .before .before .before .before .before .before .before .before .args .in-state) (c .before .before .before .before .before .before .before .before .put .ensures) (c .before .before .before .before .before .before .before .unread .ensures .0 (c .before .before .before .before .before .before .if1 .left)) (c .before .before .before .before .list .ensures) (c .before .before .before .before .before .before .before .before .before .before .position .ensures) (c .before .before .before .unread2 .ensures .0 (c .before .before .if2 .left)) (c .arm-again .ensures)
 
 abbrev arms-Inv-loop : arms-lts.InvT-loop
 arms-Inv-loop s in-state text work₀ n acts read₀ count₀ work read count = ((w : Word) (v : List ℕ) → Arming in-state text n w s acts v count₀ read₀ work₀ → Arming in-state text n w s acts v count read work) × (count ≤ 2049)
@@ -263,13 +263,13 @@ arms-loop-holds : (t : ℕ) → arms-lts.Need-loop-holds (arms-calls t) (arms-at
 arms-loop-holds t c =
     ((λ w v g. g), omega arith)
 
-arms-enum-told : (t : ℕ) → arms-lts.Need-enum-told (arms-calls t) (arms-at t) arms.Post arms-Inv-loop arms-μ-loop
-arms-enum-told t c =
+arms-unread-requires : (t : ℕ) → arms-lts.Need-unread-requires (arms-calls t) (arms-at t) arms.Post arms-Inv-loop arms-μ-loop
+arms-unread-requires t c κs =
     search needs
 
 arms-returns : (t : ℕ) → arms-lts.Need-returns (arms-calls t) (arms-at t) arms.Post arms-Inv-loop arms-μ-loop
 arms-returns t c =
-    arms-not (c .before .before .before .before .before .before .before .args .in-state) (c .before .before .before .loop .inv .0 _ _ (arming-begin (c .before .before .before .before .before .before .before .args .in-state) (c .before .before .before .before .arm .ensures))) (not-done (c .match .keys2))
+    arms-not (c .before .before .before .before .before .before .before .args .in-state) (c .before .before .before .loop .inv .0 _ _ (arming-begin (c .before .before .before .before .before .before .before .args .in-state) (c .before .before .before .before .arm .ensures))) (c .before .unread .ensures .1 (c .if1 .taken))
 
 arms-is-requires : (t : ℕ) → arms-lts.Need-is-requires (arms-calls t) (arms-at t) arms.Post arms-Inv-loop arms-μ-loop
 arms-is-requires t c κs =
@@ -281,23 +281,23 @@ arms-at-requires t c κs =
 
 arms-next-arm-requires : (t : ℕ) → arms-lts.Need-next-arm-requires (arms-calls t) (arms-at t) arms.Post arms-Inv-loop arms-μ-loop
 arms-next-arm-requires t c κs =
-    let h : c .before .at .result .nesting ≡ c .before .before .before .before .before .before .before .before .before .before .before .before .before .args .s .nesting = ap (λ (q : State). q .nesting) (c .before .at .ensures) in search needs
+    let h : c .before .at .result .nesting ≡ c .before .before .before .before .before .before .before .before .before .before .before .args .s .nesting = ap (λ (q : State). q .nesting) (c .before .at .ensures) in search needs
 
 arms-add-count : (t : ℕ) → arms-lts.Need-add-count (arms-calls t) (arms-at t) arms.Post arms-Inv-loop arms-μ-loop
 arms-add-count t c =
-    omega (arith, c .before .before .before .before .before .before .before .before .before .before .loop .inv .1, c .before .before .before .before .before .before .before .before .before .loop-test .taken)
+    omega (arith, c .before .before .before .before .before .before .before .before .loop .inv .1, c .before .before .before .before .before .before .before .loop-test .taken)
 
 arms-loop-less : (t : ℕ) → arms-lts.Need-loop-less (arms-calls t) (arms-at t) arms.Post arms-Inv-loop arms-μ-loop
 arms-loop-less t c =
-    omega (arith, c .before .before .before .before .before .before .before .before .before .loop-test .taken)
+    omega (arith, c .before .before .before .before .before .before .before .loop-test .taken)
 
 arms-loop-again : (t : ℕ) → arms-lts.Need-loop-again (arms-calls t) (arms-at t) arms.Post arms-Inv-loop arms-μ-loop
 arms-loop-again t c =
-    ((λ w v g. arming-more (c .before .before .before .before .before .before .before .before .before .before .before .before .before .before .args .in-state) (c .before .before .before .before .before .before .before .before .before .before .loop .inv .0 w v g) (c .before .before .before .before .before .before .enum-told .given .1) (c .before .before .before .before .is .ensures) (c .before .before .before .if1 .taken) (c .before .before .at .ensures) (c .next-arm .ensures) refl), omega (arith, c .before .before .before .before .before .before .before .before .before .loop-test .taken))
+    ((λ w v g. arming-more (c .before .before .before .before .before .before .before .before .before .before .before .before .args .in-state) (c .before .before .before .before .before .before .before .before .loop .inv .0 w v g) (c .before .before .before .before .before .before .unread .ensures .0 (c .before .before .before .before .before .if1 .left)) (c .before .before .before .before .is .ensures) (c .before .before .before .if2 .taken) (c .before .before .at .ensures) (c .next-arm .ensures) refl), omega (arith, c .before .before .before .before .before .before .before .loop-test .taken))
 
 arms-returns-2 : (t : ℕ) → arms-lts.Need-returns-2 (arms-calls t) (arms-at t) arms.Post arms-Inv-loop arms-μ-loop
 arms-returns-2 t c =
-    arms-end (c .before .before .before .before .before .before .before .before .before .before .before .args .in-state) (c .before .before .before .before .before .before .before .loop .inv .0 _ _ (arming-begin (c .before .before .before .before .before .before .before .before .before .before .before .args .in-state) (c .before .before .before .before .before .before .before .before .arm .ensures))) (c .before .is .ensures) (c .if1 .left)
+    arms-end (c .before .before .before .before .before .before .before .before .before .args .in-state) (c .before .before .before .before .before .loop .inv .0 _ _ (arming-begin (c .before .before .before .before .before .before .before .before .before .args .in-state) (c .before .before .before .before .before .before .arm .ensures))) (c .before .is .ensures) (c .if2 .left)
 
 arms-returns-3 : (t : ℕ) → arms-lts.Need-returns-3 (arms-calls t) (arms-at t) arms.Post arms-Inv-loop arms-μ-loop
 arms-returns-3 t c =
@@ -306,23 +306,23 @@ arms-returns-3 t c =
 cases-condition-requires : (t : ℕ) → cases-lts.Need-condition-requires (cases-calls t) (cases-at t) cases.Post
 cases-condition-requires t c κs = search needs
 
-cases-enum-told : (t : ℕ) → cases-lts.Need-enum-told (cases-calls t) (cases-at t) cases.Post
-cases-enum-told t c = search needs
+cases-unread-requires : (t : ℕ) → cases-lts.Need-unread-requires (cases-calls t) (cases-at t) cases.Post
+cases-unread-requires t c κs = search needs
 
 cases-returns : (t : ℕ) → cases-lts.Need-returns (cases-calls t) (cases-at t) cases.Post
 cases-returns t c =
-    case-not (c .before .before .before .before .before .args .in-state) (c .before .before .condition .ensures .0 (c .before .before .before .before .before .args .n)) (not-done (c .match .keys2))
+    case-not (c .before .before .before .before .before .args .in-state) (c .before .before .condition .ensures .0 (c .before .before .before .before .before .args .n)) (c .before .unread .ensures .1 (c .if1 .taken))
 
 cases-arms-requires : (t : ℕ) → cases-lts.Need-arms-requires (cases-calls t) (cases-at t) cases.Post
 cases-arms-requires t c κs =
-    let p = c .before .before .before .before .condition .ensures .1 (c .before .enum-told .given .1) in let g : c .before .before .before .before .condition .result .answer .state .nesting ≡ suc (c .before .before .before .before .before .before .before .args .s .nesting) = p .0 in let d : c .before .before .before .before .condition .result .answer .state .nesting ≤ 24 = p .1 in search needs
+    let p = c .before .before .before .condition .ensures .1 (c .before .before .unread .ensures .0 (c .before .if1 .left)) in let g : c .before .before .before .condition .result .answer .state .nesting ≡ suc (c .before .before .before .before .before .before .args .s .nesting) = p .0 in let d : c .before .before .before .condition .result .answer .state .nesting ≤ 24 = p .1 in search needs
 
-cases-enum-told-2 : (t : ℕ) → cases-lts.Need-enum-told-2 (cases-calls t) (cases-at t) cases.Post
-cases-enum-told-2 t c = search needs
+cases-unread-requires-2 : (t : ℕ) → cases-lts.Need-unread-requires-2 (cases-calls t) (cases-at t) cases.Post
+cases-unread-requires-2 t c κs = search needs
 
 cases-returns-2 : (t : ℕ) → cases-lts.Need-returns-2 (cases-calls t) (cases-at t) cases.Post
 cases-returns-2 t c =
-    arms-refused (c .before .before .before .before .before .before .before .before .before .before .before .args .in-state) (c .before .before .before .before .before .before .before .before .condition .ensures .0 (c .before .before .before .before .before .before .before .before .before .before .before .args .n)) (c .before .before .before .before .before .enum-told .given .1) (c .before .before .before .arms .ensures) (not-done (c .match2 .keys2))
+    arms-refused (c .before .before .before .before .before .before .before .before .before .before .args .in-state) (c .before .before .before .before .before .before .before .condition .ensures .0 (c .before .before .before .before .before .before .before .before .before .before .args .n)) (c .before .before .before .before .before .before .unread .ensures .0 (c .before .before .before .before .before .if1 .left)) (c .before .before .before .arms .ensures) (c .before .unread2 .ensures .1 (c .if2 .taken))
 
 cases-expect-requires : (t : ℕ) → cases-lts.Need-expect-requires (cases-calls t) (cases-at t) cases.Post
 cases-expect-requires t c κs = search needs
@@ -335,7 +335,7 @@ cases-answered-requires t c κs = search needs
 
 cases-returns-3 : (t : ℕ) → cases-lts.Need-returns-3 (cases-calls t) (cases-at t) cases.Post
 cases-returns-3 t c =
-    rw (c .answered .ensures) (case-says (c .before .before .before .before .before .before .before .before .before .before .before .before .before .before .before .before .args .in-state) (c .before .before .before .before .before .before .before .before .before .before .before .before .before .condition .ensures .0 (c .before .before .before .before .before .before .before .before .before .before .before .before .before .before .before .before .args .n)) (c .before .before .before .before .before .before .before .before .before .before .enum-told .given .1) (c .before .before .before .before .before .before .before .before .arms .ensures) (c .before .before .before .before .enum-told2 .given .1) (c .before .before .before .expect .ensures) (c .before .choose-again .ensures))
+    rw (c .answered .ensures) (case-says (c .before .before .before .before .before .before .before .before .before .before .before .before .before .before .args .in-state) (c .before .before .before .before .before .before .before .before .before .before .before .condition .ensures .0 (c .before .before .before .before .before .before .before .before .before .before .before .before .before .before .args .n)) (c .before .before .before .before .before .before .before .before .before .before .unread .ensures .0 (c .before .before .before .before .before .before .before .before .before .if1 .left)) (c .before .before .before .before .before .before .before .arms .ensures) (c .before .before .before .before .before .unread2 .ensures .0 (c .before .before .before .before .if2 .left)) (c .before .before .before .expect .ensures) (c .before .choose-again .ensures))
 
 abbrev list-Inv-loop : list-lts.InvT-loop
 list-Inv-loop s in-state text work₀ n acts read₀ count₀ work read count = ((w : Word) (v : List ℕ) → Going in-state text n w s acts v count₀ read₀ work₀ → Going in-state text n w s acts v count read work) × (count ≤ 2049)
@@ -351,13 +351,13 @@ list-loop-holds : (t : ℕ) → list-lts.Need-loop-holds (list-calls t) (list-at
 list-loop-holds t c =
     ((λ w v g. g), omega arith)
 
-list-enum-told : (t : ℕ) → list-lts.Need-enum-told (list-calls t) (list-at t) list.Post list-Inv-loop list-μ-loop
-list-enum-told t c =
+list-unread-requires : (t : ℕ) → list-lts.Need-unread-requires (list-calls t) (list-at t) list.Post list-Inv-loop list-μ-loop
+list-unread-requires t c κs =
     search needs
 
 list-returns : (t : ℕ) → list-lts.Need-returns (list-calls t) (list-at t) list.Post list-Inv-loop list-μ-loop
 list-returns t c =
-    list-not (c .before .before .before .loop .inv .0 _ _ (going-begin (c .before .before .before .before .before .before .before .args .in-state) (c .before .before .before .before .action .ensures))) (not-done (c .match .keys2))
+    list-not (c .before .before .before .loop .inv .0 _ _ (going-begin (c .before .before .before .before .before .before .before .args .in-state) (c .before .before .before .before .action .ensures))) (c .before .unread .ensures .1 (c .if1 .taken))
 
 list-is-requires : (t : ℕ) → list-lts.Need-is-requires (list-calls t) (list-at t) list.Post list-Inv-loop list-μ-loop
 list-is-requires t c κs =
@@ -369,23 +369,23 @@ list-at-requires t c κs =
 
 list-another-requires : (t : ℕ) → list-lts.Need-another-requires (list-calls t) (list-at t) list.Post list-Inv-loop list-μ-loop
 list-another-requires t c κs =
-    let h : c .before .at .result .nesting ≡ c .before .before .before .before .before .before .before .before .before .before .before .before .before .args .s .nesting = ap (λ (q : State). q .nesting) (c .before .at .ensures) in search needs
+    let h : c .before .at .result .nesting ≡ c .before .before .before .before .before .before .before .before .before .before .before .args .s .nesting = ap (λ (q : State). q .nesting) (c .before .at .ensures) in search needs
 
 list-add-count : (t : ℕ) → list-lts.Need-add-count (list-calls t) (list-at t) list.Post list-Inv-loop list-μ-loop
 list-add-count t c =
-    omega (arith, c .before .before .before .before .before .before .before .before .before .before .loop .inv .1, c .before .before .before .before .before .before .before .before .before .loop-test .taken)
+    omega (arith, c .before .before .before .before .before .before .before .before .loop .inv .1, c .before .before .before .before .before .before .before .loop-test .taken)
 
 list-loop-less : (t : ℕ) → list-lts.Need-loop-less (list-calls t) (list-at t) list.Post list-Inv-loop list-μ-loop
 list-loop-less t c =
-    omega (arith, c .before .before .before .before .before .before .before .before .before .loop-test .taken)
+    omega (arith, c .before .before .before .before .before .before .before .loop-test .taken)
 
 list-loop-again : (t : ℕ) → list-lts.Need-loop-again (list-calls t) (list-at t) list.Post list-Inv-loop list-μ-loop
 list-loop-again t c =
-    ((λ w v g. going-more (c .before .before .before .before .before .before .before .before .before .before .loop .inv .0 w v g) (c .before .before .before .before .before .before .enum-told .given .1) (c .before .before .before .before .is .ensures) (c .before .before .before .if1 .taken) (c .before .before .at .ensures) (c .another .ensures) refl), omega (arith, c .before .before .before .before .before .before .before .before .before .loop-test .taken))
+    ((λ w v g. going-more (c .before .before .before .before .before .before .before .before .loop .inv .0 w v g) (c .before .before .before .before .before .before .unread .ensures .0 (c .before .before .before .before .before .if1 .left)) (c .before .before .before .before .is .ensures) (c .before .before .before .if2 .taken) (c .before .before .at .ensures) (c .another .ensures) refl), omega (arith, c .before .before .before .before .before .before .before .loop-test .taken))
 
 list-returns-2 : (t : ℕ) → list-lts.Need-returns-2 (list-calls t) (list-at t) list.Post list-Inv-loop list-μ-loop
 list-returns-2 t c =
-    list-ends (c .before .before .before .before .before .before .before .loop .inv .0 _ _ (going-begin (c .before .before .before .before .before .before .before .before .before .before .before .args .in-state) (c .before .before .before .before .before .before .before .before .action .ensures))) (c .before .is .ensures) (c .if1 .left)
+    list-ends (c .before .before .before .before .before .loop .inv .0 _ _ (going-begin (c .before .before .before .before .before .before .before .before .before .args .in-state) (c .before .before .before .before .before .before .action .ensures))) (c .before .is .ensures) (c .if2 .left)
 
 list-returns-3 : (t : ℕ) → list-lts.Need-returns-3 (list-calls t) (list-at t) list.Post list-Inv-loop list-μ-loop
 list-returns-3 t c =
@@ -394,15 +394,15 @@ list-returns-3 t c =
 next-arm-take-requires : (t : ℕ) → next-arm-lts.Need-take-requires (next-arm-calls t) (next-arm-at t) next-arm.Post
 next-arm-take-requires t c κs = search needs
 
-next-arm-enum-told : (t : ℕ) → next-arm-lts.Need-enum-told (next-arm-calls t) (next-arm-at t) next-arm.Post
-next-arm-enum-told t c = search needs
+next-arm-unread-requires : (t : ℕ) → next-arm-lts.Need-unread-requires (next-arm-calls t) (next-arm-at t) next-arm.Post
+next-arm-unread-requires t c κs = search needs
 
 next-arm-answered-requires : (t : ℕ) → next-arm-lts.Need-answered-requires (next-arm-calls t) (next-arm-at t) next-arm.Post
 next-arm-answered-requires t c κs = search needs
 
 next-arm-returns : (t : ℕ) → next-arm-lts.Need-returns (next-arm-calls t) (next-arm-at t) next-arm.Post
 next-arm-returns t c =
-    rw (c .answered .ensures) (next-arm-not (c .before .before .before .before .args .in-state) (c .before .before .take .ensures) (not-done (c .before .match .keys2)))
+    rw (c .answered .ensures) (next-arm-not (c .before .before .before .before .before .args .in-state) (c .before .before .before .take .ensures) (c .before .before .unread .ensures .1 (c .before .if1 .taken)))
 
 next-arm-at-requires : (t : ℕ) → next-arm-lts.Need-at-requires (next-arm-calls t) (next-arm-at t) next-arm.Post
 next-arm-at-requires t c κs = search needs
@@ -413,20 +413,20 @@ next-arm-arm-requires t c κs =
 
 next-arm-returns-2 : (t : ℕ) → next-arm-lts.Need-returns-2 (next-arm-calls t) (next-arm-at t) next-arm.Post
 next-arm-returns-2 t c =
-    next-arm-says (c .before .before .before .before .before .before .before .args .in-state) (c .before .before .before .before .before .take .ensures) (c .before .before .before .enum-told .given .1) (c .before .before .at .ensures) (c .arm .ensures)
+    next-arm-says (c .before .before .before .before .before .before .before .args .in-state) (c .before .before .before .before .before .take .ensures) (c .before .before .before .before .unread .ensures .0 (c .before .before .before .if1 .left)) (c .before .before .at .ensures) (c .arm .ensures)
 
 otherwise-expect-requires : (t : ℕ) → otherwise-lts.Need-expect-requires (otherwise-calls t) (otherwise-at t) otherwise.Post
 otherwise-expect-requires t c κs = search needs
 
-otherwise-enum-told : (t : ℕ) → otherwise-lts.Need-enum-told (otherwise-calls t) (otherwise-at t) otherwise.Post
-otherwise-enum-told t c = search needs
+otherwise-unread-requires : (t : ℕ) → otherwise-lts.Need-unread-requires (otherwise-calls t) (otherwise-at t) otherwise.Post
+otherwise-unread-requires t c κs = search needs
 
 otherwise-answered-requires : (t : ℕ) → otherwise-lts.Need-answered-requires (otherwise-calls t) (otherwise-at t) otherwise.Post
 otherwise-answered-requires t c κs = search needs
 
 otherwise-returns : (t : ℕ) → otherwise-lts.Need-returns (otherwise-calls t) (otherwise-at t) otherwise.Post
 otherwise-returns t c =
-    rw (c .answered .ensures) (else-not (c .before .before .before .before .args .in-state) (c .before .before .expect .ensures) (not-done (c .before .match .keys2)))
+    rw (c .answered .ensures) (else-not (c .before .before .before .before .before .args .in-state) (c .before .before .before .expect .ensures) (c .before .before .unread .ensures .1 (c .before .if1 .taken)))
 
 otherwise-at-requires : (t : ℕ) → otherwise-lts.Need-at-requires (otherwise-calls t) (otherwise-at t) otherwise.Post
 otherwise-at-requires t c κs = search needs
@@ -437,28 +437,28 @@ otherwise-arm-requires t c κs =
 
 otherwise-returns-2 : (t : ℕ) → otherwise-lts.Need-returns-2 (otherwise-calls t) (otherwise-at t) otherwise.Post
 otherwise-returns-2 t c =
-    else-says (c .before .before .before .before .before .before .before .args .in-state) (c .before .before .before .before .before .expect .ensures) (c .before .before .before .enum-told .given .1) (c .before .before .at .ensures) (c .arm .ensures)
+    else-says (c .before .before .before .before .before .before .before .args .in-state) (c .before .before .before .before .before .expect .ensures) (c .before .before .before .before .unread .ensures .0 (c .before .before .before .if1 .left)) (c .before .before .at .ensures) (c .arm .ensures)
 
 when-condition-requires : (t : ℕ) → when-lts.Need-condition-requires (when-calls t) (when-at t) when.Post
 when-condition-requires t c κs = search needs
 
-when-enum-told : (t : ℕ) → when-lts.Need-enum-told (when-calls t) (when-at t) when.Post
-when-enum-told t c = search needs
+when-unread-requires : (t : ℕ) → when-lts.Need-unread-requires (when-calls t) (when-at t) when.Post
+when-unread-requires t c κs = search needs
 
 when-returns : (t : ℕ) → when-lts.Need-returns (when-calls t) (when-at t) when.Post
 when-returns t c =
-    if-not (c .before .before .before .before .before .args .in-state) (c .before .before .condition .ensures .0 (c .before .before .before .before .before .args .n)) (not-done (c .match .keys2))
+    if-not (c .before .before .before .before .before .args .in-state) (c .before .before .condition .ensures .0 (c .before .before .before .before .before .args .n)) (c .before .unread .ensures .1 (c .if1 .taken))
 
 when-arm-requires : (t : ℕ) → when-lts.Need-arm-requires (when-calls t) (when-at t) when.Post
 when-arm-requires t c κs =
-    let p = c .before .before .before .before .condition .ensures .1 (c .before .enum-told .given .1) in let g : c .before .before .before .before .condition .result .answer .state .nesting ≡ suc (c .before .before .before .before .before .before .before .args .s .nesting) = p .0 in let d : c .before .before .before .before .condition .result .answer .state .nesting ≤ 24 = p .1 in search needs
+    let p = c .before .before .before .condition .ensures .1 (c .before .before .unread .ensures .0 (c .before .if1 .left)) in let g : c .before .before .before .condition .result .answer .state .nesting ≡ suc (c .before .before .before .before .before .before .args .s .nesting) = p .0 in let d : c .before .before .before .condition .result .answer .state .nesting ≤ 24 = p .1 in search needs
 
-when-enum-told-2 : (t : ℕ) → when-lts.Need-enum-told-2 (when-calls t) (when-at t) when.Post
-when-enum-told-2 t c = search needs
+when-unread-requires-2 : (t : ℕ) → when-lts.Need-unread-requires-2 (when-calls t) (when-at t) when.Post
+when-unread-requires-2 t c κs = search needs
 
 when-returns-2 : (t : ℕ) → when-lts.Need-returns-2 (when-calls t) (when-at t) when.Post
 when-returns-2 t c =
-    then-not (c .before .before .before .before .before .before .before .before .before .before .args .in-state) (c .before .before .before .before .before .before .before .condition .ensures .0 (c .before .before .before .before .before .before .before .before .before .before .args .n)) (c .before .before .before .before .enum-told .given .1) (c .before .before .arm .ensures) (not-done (c .match2 .keys2))
+    then-not (c .before .before .before .before .before .before .before .before .before .args .in-state) (c .before .before .before .before .before .before .condition .ensures .0 (c .before .before .before .before .before .before .before .before .before .args .n)) (c .before .before .before .before .before .unread .ensures .0 (c .before .before .before .before .if1 .left)) (c .before .before .arm .ensures) (c .before .unread2 .ensures .1 (c .if2 .taken))
 
 when-is-requires : (t : ℕ) → when-lts.Need-is-requires (when-calls t) (when-at t) when.Post
 when-is-requires t c κs = search needs
@@ -474,21 +474,21 @@ when-answered-requires t c κs = search needs
 
 when-returns-3 : (t : ℕ) → when-lts.Need-returns-3 (when-calls t) (when-at t) when.Post
 when-returns-3 t c =
-    rw (c .answered .ensures) (if-says (c .before .before .before .before .before .before .before .before .before .before .before .before .before .before .before .before .before .args .in-state) (c .before .before .before .before .before .before .before .before .before .before .before .before .before .before .condition .ensures .0 (c .before .before .before .before .before .before .before .before .before .before .before .before .before .before .before .before .before .args .n)) (c .before .before .before .before .before .before .before .before .before .before .before .enum-told .given .1) (c .before .before .before .before .before .before .before .before .before .arm .ensures) (c .before .before .before .before .before .before .enum-told2 .given .1) (c .before .before .before .before .before .is .ensures) (c .before .before .before .before .if1 .taken) (c .before .before .before .end-if .ensures) (c .before .when-again .ensures))
+    rw (c .answered .ensures) (if-says (c .before .before .before .before .before .before .before .before .before .before .before .before .before .before .before .args .in-state) (c .before .before .before .before .before .before .before .before .before .before .before .before .condition .ensures .0 (c .before .before .before .before .before .before .before .before .before .before .before .before .before .before .before .args .n)) (c .before .before .before .before .before .before .before .before .before .before .before .unread .ensures .0 (c .before .before .before .before .before .before .before .before .before .before .if1 .left)) (c .before .before .before .before .before .before .before .before .arm .ensures) (c .before .before .before .before .before .before .before .unread2 .ensures .0 (c .before .before .before .before .before .before .if2 .left)) (c .before .before .before .before .before .is .ensures) (c .before .before .before .before .if3 .taken) (c .before .before .before .end-if .ensures) (c .before .when-again .ensures))
 
 when-at-requires : (t : ℕ) → when-lts.Need-at-requires (when-calls t) (when-at t) when.Post
 when-at-requires t c κs = search needs
 
 when-otherwise-requires : (t : ℕ) → when-lts.Need-otherwise-requires (when-calls t) (when-at t) when.Post
 when-otherwise-requires t c κs =
-    let e = c .before .before .before .before .before .before .before .before .before .before .before .before .before .before .before .pre .0 in let p = c .before .before .before .before .before .before .before .before .before .before .before .before .condition .ensures .1 (c .before .before .before .before .before .before .before .before .before .enum-told .given .1) in let g : c .before .before .before .before .before .before .before .before .before .before .before .before .condition .result .answer .state .nesting ≡ suc (c .before .before .before .before .before .before .before .before .before .before .before .before .before .before .before .args .s .nesting) = p .0 in let d : c .before .before .before .before .before .before .before .before .before .before .before .before .condition .result .answer .state .nesting ≤ 24 = p .1 in let h : c .before .at .result .nesting ≡ c .before .before .before .before .before .before .before .before .before .before .before .before .condition .result .answer .state .nesting = ap (λ (q : State). q .nesting) (c .before .at .ensures) in search needs
+    let e = c .before .before .before .before .before .before .before .before .before .before .before .before .before .pre .0 in let p = c .before .before .before .before .before .before .before .before .before .before .condition .ensures .1 (c .before .before .before .before .before .before .before .before .before .unread .ensures .0 (c .before .before .before .before .before .before .before .before .if1 .left)) in let g : c .before .before .before .before .before .before .before .before .before .before .condition .result .answer .state .nesting ≡ suc (c .before .before .before .before .before .before .before .before .before .before .before .before .before .args .s .nesting) = p .0 in let d : c .before .before .before .before .before .before .before .before .before .before .condition .result .answer .state .nesting ≤ 24 = p .1 in let h : c .before .at .result .nesting ≡ c .before .before .before .before .before .before .before .before .before .before .condition .result .answer .state .nesting = ap (λ (q : State). q .nesting) (c .before .at .ensures) in search needs
 
-when-enum-told-3 : (t : ℕ) → when-lts.Need-enum-told-3 (when-calls t) (when-at t) when.Post
-when-enum-told-3 t c = search needs
+when-unread-requires-3 : (t : ℕ) → when-lts.Need-unread-requires-3 (when-calls t) (when-at t) when.Post
+when-unread-requires-3 t c κs = search needs
 
 when-returns-4 : (t : ℕ) → when-lts.Need-returns-4 (when-calls t) (when-at t) when.Post
 when-returns-4 t c =
-    other-not (c .before .before .before .before .before .before .before .before .before .before .before .before .before .before .before .before .before .before .args .in-state) (c .before .before .before .before .before .before .before .before .before .before .before .before .before .before .before .condition .ensures .0 (c .before .before .before .before .before .before .before .before .before .before .before .before .before .before .before .before .before .before .args .n)) (c .before .before .before .before .before .before .before .before .before .before .before .before .enum-told .given .1) (c .before .before .before .before .before .before .before .before .before .before .arm .ensures) (c .before .before .before .before .before .before .before .enum-told2 .given .1) (c .before .before .before .before .before .before .is .ensures) (c .before .before .before .before .before .if1 .left) (c .before .before .before .before .at .ensures) (c .before .before .otherwise .ensures) (not-done (c .match3 .keys2))
+    other-not (c .before .before .before .before .before .before .before .before .before .before .before .before .before .before .before .before .args .in-state) (c .before .before .before .before .before .before .before .before .before .before .before .before .before .condition .ensures .0 (c .before .before .before .before .before .before .before .before .before .before .before .before .before .before .before .before .args .n)) (c .before .before .before .before .before .before .before .before .before .before .before .before .unread .ensures .0 (c .before .before .before .before .before .before .before .before .before .before .before .if1 .left)) (c .before .before .before .before .before .before .before .before .before .arm .ensures) (c .before .before .before .before .before .before .before .before .unread2 .ensures .0 (c .before .before .before .before .before .before .before .if2 .left)) (c .before .before .before .before .before .before .is .ensures) (c .before .before .before .before .before .if3 .left) (c .before .before .before .before .at .ensures) (c .before .before .otherwise .ensures) (c .before .unread3 .ensures .1 (c .if4 .taken))
 
 when-end-if-requires-2 : (t : ℕ) → when-lts.Need-end-if-requires-2 (when-calls t) (when-at t) when.Post
 when-end-if-requires-2 t c κs = search needs
@@ -501,7 +501,7 @@ when-answered-requires-2 t c κs = search needs
 
 when-returns-5 : (t : ℕ) → when-lts.Need-returns-5 (when-calls t) (when-at t) when.Post
 when-returns-5 t c =
-    rw (c .answered2 .ensures) (if-else-says (c .before .before .before .before .before .before .before .before .before .before .before .before .before .before .before .before .before .before .before .before .before .before .before .args .in-state) (c .before .before .before .before .before .before .before .before .before .before .before .before .before .before .before .before .before .before .before .before .condition .ensures .0 (c .before .before .before .before .before .before .before .before .before .before .before .before .before .before .before .before .before .before .before .before .before .before .before .args .n)) (c .before .before .before .before .before .before .before .before .before .before .before .before .before .before .before .before .before .enum-told .given .1) (c .before .before .before .before .before .before .before .before .before .before .before .before .before .before .before .arm .ensures) (c .before .before .before .before .before .before .before .before .before .before .before .before .enum-told2 .given .1) (c .before .before .before .before .before .before .before .before .before .before .before .is .ensures) (c .before .before .before .before .before .before .before .before .before .before .if1 .left) (c .before .before .before .before .before .before .before .before .before .at .ensures) (c .before .before .before .before .before .before .before .otherwise .ensures) (c .before .before .before .before .enum-told3 .given .1) (c .before .before .before .end-if2 .ensures) (c .before .choose-again .ensures))
+    rw (c .answered2 .ensures) (if-else-says (c .before .before .before .before .before .before .before .before .before .before .before .before .before .before .before .before .before .before .before .before .args .in-state) (c .before .before .before .before .before .before .before .before .before .before .before .before .before .before .before .before .before .condition .ensures .0 (c .before .before .before .before .before .before .before .before .before .before .before .before .before .before .before .before .before .before .before .before .args .n)) (c .before .before .before .before .before .before .before .before .before .before .before .before .before .before .before .before .unread .ensures .0 (c .before .before .before .before .before .before .before .before .before .before .before .before .before .before .before .if1 .left)) (c .before .before .before .before .before .before .before .before .before .before .before .before .before .arm .ensures) (c .before .before .before .before .before .before .before .before .before .before .before .before .unread2 .ensures .0 (c .before .before .before .before .before .before .before .before .before .before .before .if2 .left)) (c .before .before .before .before .before .before .before .before .before .before .is .ensures) (c .before .before .before .before .before .before .before .before .before .if3 .left) (c .before .before .before .before .before .before .before .before .at .ensures) (c .before .before .before .before .before .before .otherwise .ensures) (c .before .before .before .before .before .unread3 .ensures .0 (c .before .before .before .before .if4 .left)) (c .before .before .before .end-if2 .ensures) (c .before .choose-again .ensures))
 
 pub +action+another+arm+arms+cases+list+next-arm+otherwise+when-spec : {M : Type 1} → statement M
 +action+another+arm+arms+cases+list+next-arm+otherwise+when-spec =
@@ -529,7 +529,7 @@ pub +action+another+arm+arms+cases+list+next-arm+otherwise+when-spec : {M : Type
     (another-at t)
     another.Post
     (another-take-requires t)
-    (another-enum-told t)
+    (another-unread-requires t)
     (another-answered-requires t)
     (another-returns t)
     (another-at-requires t)
@@ -540,10 +540,10 @@ pub +action+another+arm+arms+cases+list+next-arm+otherwise+when-spec : {M : Type
     arm.Post
     (arm-position-requires t)
     (arm-put-requires t)
-    (arm-enum-told t)
+    (arm-unread-requires t)
     (arm-returns t)
     (arm-list-requires t)
-    (arm-enum-told-2 t)
+    (arm-unread-requires-2 t)
     (arm-returns-2 t)
     (arm-arm-again-requires t)
     (arm-returns-3 t))
@@ -554,7 +554,7 @@ pub +action+another+arm+arms+cases+list+next-arm+otherwise+when-spec : {M : Type
     arms-μ-loop
     (arms-arm-requires t)
     (arms-loop-holds t)
-    (arms-enum-told t)
+    (arms-unread-requires t)
     (arms-returns t)
     (arms-is-requires t)
     (arms-at-requires t)
@@ -568,10 +568,10 @@ pub +action+another+arm+arms+cases+list+next-arm+otherwise+when-spec : {M : Type
     (cases-at t)
     cases.Post
     (cases-condition-requires t)
-    (cases-enum-told t)
+    (cases-unread-requires t)
     (cases-returns t)
     (cases-arms-requires t)
-    (cases-enum-told-2 t)
+    (cases-unread-requires-2 t)
     (cases-returns-2 t)
     (cases-expect-requires t)
     (cases-choose-again-requires t)
@@ -584,7 +584,7 @@ pub +action+another+arm+arms+cases+list+next-arm+otherwise+when-spec : {M : Type
     list-μ-loop
     (list-action-requires t)
     (list-loop-holds t)
-    (list-enum-told t)
+    (list-unread-requires t)
     (list-returns t)
     (list-is-requires t)
     (list-at-requires t)
@@ -598,7 +598,7 @@ pub +action+another+arm+arms+cases+list+next-arm+otherwise+when-spec : {M : Type
     (next-arm-at t)
     next-arm.Post
     (next-arm-take-requires t)
-    (next-arm-enum-told t)
+    (next-arm-unread-requires t)
     (next-arm-answered-requires t)
     (next-arm-returns t)
     (next-arm-at-requires t)
@@ -608,7 +608,7 @@ pub +action+another+arm+arms+cases+list+next-arm+otherwise+when-spec : {M : Type
     (otherwise-at t)
     otherwise.Post
     (otherwise-expect-requires t)
-    (otherwise-enum-told t)
+    (otherwise-unread-requires t)
     (otherwise-answered-requires t)
     (otherwise-returns t)
     (otherwise-at-requires t)
@@ -618,10 +618,10 @@ pub +action+another+arm+arms+cases+list+next-arm+otherwise+when-spec : {M : Type
     (when-at t)
     when.Post
     (when-condition-requires t)
-    (when-enum-told t)
+    (when-unread-requires t)
     (when-returns t)
     (when-arm-requires t)
-    (when-enum-told-2 t)
+    (when-unread-requires-2 t)
     (when-returns-2 t)
     (when-is-requires t)
     (when-end-if-requires t)
@@ -630,7 +630,7 @@ pub +action+another+arm+arms+cases+list+next-arm+otherwise+when-spec : {M : Type
     (when-returns-3 t)
     (when-at-requires t)
     (when-otherwise-requires t)
-    (when-enum-told-3 t)
+    (when-unread-requires-3 t)
     (when-returns-4 t)
     (when-end-if-requires-2 t)
     (when-choose-again-requires t)

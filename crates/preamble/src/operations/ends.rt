@@ -2,7 +2,6 @@
 use course::Answer;
 use course::Bearing;
 use course::State;
-use course::Verdict;
 use course::kinds;
 use course::taking;
 use words::Word;
@@ -24,13 +23,10 @@ fn closed(text: &[u8], w: Word, s: State) -> Answer
     ensures { λ r. ⌜ Shuts (now (text .entry)) w s r ⌝ }
 {
     let end = taking::take(text, w, s, false, Bearing::Level);
-    let verdict = end.verdict;
-    let Verdict::Done = verdict else {
+    if course::unread(end) {
         return end;
-    };
-    let next = end.next;
-    let state = end.state;
-    control(text, next, state)
+    }
+    control(text, end.next, end.state)
 }
 
 // What ends the operations, where no comma follows.

@@ -2,7 +2,6 @@
 use course::Answer;
 use course::Bearing;
 use course::State;
-use course::Verdict;
 use course::kinds;
 use course::taking;
 use words::Word;
@@ -47,18 +46,18 @@ pub fn head(text: &[u8], w: Word, s: State) -> Answer
     ensures { λ r. ⌜ Heads (now (text .entry)) w s r ⌝ }
 {
     let named = name(text, w, s);
-    let verdict = named.verdict;
-    let Verdict::Done = verdict else {
+    if course::unread(named) {
         return named;
-    };
-    let next = named.next;
-    let state = named.state;
-    let equal = taking::expect(text, next, state, kinds::EQUAL, Bearing::Level);
-    let verdict = equal.verdict;
-    let Verdict::Done = verdict else {
+    }
+    let equal = taking::expect(text, named.next, named.state, kinds::EQUAL, Bearing::Level);
+    if course::unread(equal) {
         return equal;
-    };
-    let next = equal.next;
-    let state = equal.state;
-    taking::expect(text, next, state, kinds::OPEN_BRACKET, Bearing::Opens)
+    }
+    taking::expect(
+        text,
+        equal.next,
+        equal.state,
+        kinds::OPEN_BRACKET,
+        Bearing::Opens,
+    )
 }

@@ -3,7 +3,6 @@ use crate::operations::ends;
 use crate::operations::one;
 use course::Bearing;
 use course::State;
-use course::Verdict;
 use course::kinds;
 use course::taking;
 use simple::Acted;
@@ -16,14 +15,16 @@ pub fn operations(text: &[u8], w: Word, work: &mut [u8; 275296], s: State, acts:
     ensures { λ r. ⌜ Lists (now (text .entry)) w s acts (now (work .entry)) (now (work .exit)) r ⌝ }
 {
     let first = one::operation(text, w, work, s, acts);
-    let answer = first.answer;
-    let verdict = answer.verdict;
-    let Verdict::Done = verdict else {
+    if course::unread(first.answer) {
         return first;
-    };
-    let next = answer.next;
-    let state = answer.state;
-    more(text, next, work, state, first.actions)
+    }
+    more(
+        text,
+        first.answer.next,
+        work,
+        first.answer.state,
+        first.actions,
+    )
 }
 
 // Behind an operation: others, and the end. Each counts, so that there are not too many.
@@ -44,21 +45,18 @@ fn more(text: &[u8], w: Word, work: &mut [u8; 275296], s: State, acts: u16) -> A
             };
         }
         let comma = taking::take(text, next, state, false, Bearing::Level);
-        let verdict = comma.verdict;
-        let Verdict::Done = verdict else {
+        if course::unread(comma) {
             return Acted {
                 answer: comma,
                 actions: count,
             };
-        };
+        }
         let another = one::operation(text, comma.next, work, comma.state, count);
-        let answer = another.answer;
-        let verdict = answer.verdict;
-        let Verdict::Done = verdict else {
+        if course::unread(another.answer) {
             return another;
-        };
-        next = answer.next;
-        state = answer.state;
+        }
+        next = another.answer.next;
+        state = another.answer.state;
         count = another.actions;
     }
 }

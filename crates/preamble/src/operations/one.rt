@@ -2,7 +2,6 @@
 use crate::operations::heads;
 use course::Bearing;
 use course::State;
-use course::Verdict;
 use course::kinds;
 use course::taking;
 use image::runs::Run;
@@ -20,14 +19,16 @@ fn body(s: State, text: &[u8], w: Word, work: &mut [u8; 275296], n: Counts, acts
     ensures { λ r. ⌜ Body (now (text .entry)) n w s acts (now (work .entry)) (now (work .exit)) r ⌝ }
 {
     let list = actions::list(s, false, text, w, work, n, acts);
-    let answer = list.answer;
-    let verdict = answer.verdict;
-    let Verdict::Done = verdict else {
+    if course::unread(list.answer) {
         return list;
-    };
-    let next = answer.next;
-    let state = answer.state;
-    let end = taking::expect(text, next, state, kinds::CLOSE_BRACKET, Bearing::Closes);
+    }
+    let end = taking::expect(
+        text,
+        list.answer.next,
+        list.answer.state,
+        kinds::CLOSE_BRACKET,
+        Bearing::Closes,
+    );
     Acted {
         answer: end,
         actions: list.actions,
@@ -46,26 +47,21 @@ pub fn operation(text: &[u8], w: Word, work: &mut [u8; 275296], s: State, acts: 
     ensures { λ r. ⌜ One (now (text .entry)) w s acts (now (work .entry)) (now (work .exit)) r ⌝ }
 {
     let head = heads::head(text, w, s);
-    let verdict = head.verdict;
-    let Verdict::Done = verdict else {
+    if course::unread(head) {
         return Acted {
             answer: head,
             actions: acts,
         };
-    };
-    let next = head.next;
-    let state = head.state;
+    }
     let n = Counts {
         facilities: s.known,
         operations: s.operations,
         states: 0,
     };
-    let read = body(state, text, next, work, n, acts);
-    let answer = read.answer;
-    let verdict = answer.verdict;
-    let Verdict::Done = verdict else {
+    let read = body(head.state, text, head.next, work, n, acts);
+    if course::unread(read.answer) {
         return read;
-    };
+    }
     let at = w.at;
     let run = Run {
         first: acts,

@@ -13,9 +13,6 @@ enum-told c = search needs
 write-image-requires : tie.Need-write-image-requires
 write-image-requires c κs = search needs
 
-told-requires : tie.Need-told-requires
-told-requires c κs = search needs
-
 enum-known-fault : tie.Need-enum-known-fault
 enum-known-fault c = search needs
 
@@ -27,7 +24,7 @@ same-length c = search needs
 
 returns : tie.Need-returns
 returns c =
-    λ p h. rest-written p h (length (c .before .before .before .before .before .before .before .before .before .before .args .image .now)) (c .before .before .before .before .before .before .before .judge .ensures) (c .before .before .before .before .before .enum-told .given .1) (c .told .ensures _) (c .before .before .before .write-image .ensures)
+    λ p h. rest-written p h (length (c .before .before .before .before .before .before .before .before .before .args .image .now)) (c .before .before .before .before .before .before .judge .ensures) (c .before .before .before .before .enum-told .given .1) (c .before .before .write-image .ensures)
 
 same-length-2 : tie.Need-same-length-2
 same-length-2 c = search needs
@@ -43,7 +40,6 @@ written-spec =
     judge-requires
     enum-told
     write-image-requires
-    told-requires
     enum-known-fault
     refuse-requires
     same-length

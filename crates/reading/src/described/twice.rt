@@ -1,7 +1,6 @@
 // The states of a text, read a first time for their labels and a second time with them as names.
 use crate::described::labels;
 use course::State;
-use course::Verdict;
 use meanings::Counts;
 use simple::Acted;
 use states::reading;
@@ -26,12 +25,10 @@ pub fn states_of(
         states: 0,
     };
     let first = reading::states(s, text, w, work, unnamed, acts, l);
-    let answer = first.answer;
-    let verdict = answer.verdict;
-    let Verdict::Done = verdict else {
+    if course::unread(first.answer) {
         return first;
-    };
-    let read = answer.state;
+    }
+    let read = first.answer.state;
     labels::copy_labels(work, read.states);
     let named = Counts {
         facilities: s.known,

@@ -6,7 +6,6 @@ use Rattle.operands.specs.References.{lettersOf}
 use Rattle.simple.proofs.ActionWords.{set-begins, performs-in-state}
 use Rattle.grammar.specs.Following.{among}
 use Prim.Native.Nat.{ℕ}
-use Rattle.course.proofs.Answers.{not-done}
 use mathlib.Core.List.{[], _∷_}
 use mathlib.Core.Path.{sym, ap, _∙_}
 use Rattle.simple.proofs.StoreLaws.{referred, unreferred}
@@ -22,19 +21,19 @@ sets-requires c κs = search needs
 reference-requires : tie.Need-reference-requires
 reference-requires c κs = search needs
 
-enum-told : tie.Need-enum-told
-enum-told c = search needs
+unread-requires : tie.Need-unread-requires
+unread-requires c κs = search needs
 
 returns : tie.Need-returns
 returns c =
-    unreferred (c .before .before .before .before .before .before .before .args .name) stateName setSign (λ z K b. set-begins (c .before .before .before .before .before .before .before .args .text .now) (c .before .before .before .before .before .before .before .args .w) z b (countsOf (c .before .before .before .before .before .before .before .args .s)) (ap (λ (j : ℕ). among j (19 ∷ 18 ∷ [])) (sym (c .before .before .before .before .before .number .ensures)) ∙ sym (c .before .before .before .before .sets .ensures) ∙ c .before .before .before .if1 .taken) K) (c .before .reference .ensures .0) (c .before .reference .ensures .1) (not-done (c .match .keys2))
+    unreferred (c .before .before .before .before .before .before .before .before .args .name) stateName setSign (λ z K b. set-begins (c .before .before .before .before .before .before .before .before .args .text .now) (c .before .before .before .before .before .before .before .before .args .w) z b (countsOf (c .before .before .before .before .before .before .before .before .args .s)) (ap (λ (j : ℕ). among j (19 ∷ 18 ∷ [])) (sym (c .before .before .before .before .before .before .number .ensures)) ∙ sym (c .before .before .before .before .before .sets .ensures) ∙ c .before .before .before .before .if1 .taken) K) (c .before .before .reference .ensures .0) (c .before .before .reference .ensures .1) (c .before .unread .ensures .1 (c .if2 .taken))
 
 set-requires : tie.Need-set-requires
 set-requires c κs = search needs
 
 returns-2 : tie.Need-returns-2
 returns-2 c =
-    referred (c .before .before .before .before .before .before .before .before .before .before .before .before .args .name) stateName setSign (λ z K b. set-begins (c .before .before .before .before .before .before .before .before .before .before .before .before .args .text .now) (c .before .before .before .before .before .before .before .before .before .before .before .before .args .w) z b (countsOf (c .before .before .before .before .before .before .before .before .before .before .before .before .args .s)) (ap (λ (j : ℕ). among j (19 ∷ 18 ∷ [])) (sym (c .before .before .before .before .before .before .before .before .before .before .number .ensures)) ∙ sym (c .before .before .before .before .before .before .before .before .before .sets .ensures) ∙ c .before .before .before .before .before .before .before .before .if1 .taken) K) (c .before .before .before .before .before .before .reference .ensures .0) (c .before .before .before .before .before .before .reference .ensures .1) (c .before .before .before .before .enum-told .given .1) (c .set .ensures)
+    referred (c .before .before .before .before .before .before .before .before .before .before .args .name) stateName setSign (λ z K b. set-begins (c .before .before .before .before .before .before .before .before .before .before .args .text .now) (c .before .before .before .before .before .before .before .before .before .before .args .w) z b (countsOf (c .before .before .before .before .before .before .before .before .before .before .args .s)) (ap (λ (j : ℕ). among j (19 ∷ 18 ∷ [])) (sym (c .before .before .before .before .before .before .before .before .number .ensures)) ∙ sym (c .before .before .before .before .before .before .before .sets .ensures) ∙ c .before .before .before .before .before .before .if1 .taken) K) (c .before .before .before .before .reference .ensures .0) (c .before .before .before .before .reference .ensures .1) (c .before .before .before .unread .ensures .0 (c .before .before .if2 .left)) (c .set .ensures)
 
 perform-requires : tie.Need-perform-requires
 perform-requires c κs = search needs
@@ -50,7 +49,7 @@ named-in-state-spec =
     number-requires
     sets-requires
     reference-requires
-    enum-told
+    unread-requires
     returns
     set-requires
     returns-2

@@ -1,4 +1,3 @@
-use Rattle.course.proofs.Answers.{not-done}
 use Rattle.simple.proofs.SignLaws.{performs, unperformed}
 use borrow.Author.Needs.{needs}
 use Rattle.simple.proofs.perform.Statement.{statement}
@@ -7,12 +6,12 @@ use Rattle.simple.proofs.perform.Tie as tie
 pass-requires : tie.Need-pass-requires
 pass-requires c κs = search needs
 
-enum-told : tie.Need-enum-told
-enum-told c = search needs
+unread-requires : tie.Need-unread-requires
+unread-requires c κs = search needs
 
 returns : tie.Need-returns
 returns c =
-    unperformed (c .before .pass .ensures) (not-done (c .match .keys2))
+    unperformed (c .before .before .pass .ensures) (c .before .unread .ensures .1 (c .if1 .taken))
 
 meaning-requires : tie.Need-meaning-requires
 meaning-requires c κs = search needs
@@ -25,14 +24,14 @@ put-requires c κs = search needs
 
 returns-2 : tie.Need-returns-2
 returns-2 c =
-    performs (c .before .before .before .before .before .before .before .before .before .pass .ensures) (c .before .before .before .before .before .before .before .enum-told .given .1) (c .before .before .before .before .before .meaning .result) (c .before .before .before .before .before .meaning .ensures) (c .before .before .performing .ensures) (c .put .ensures)
+    performs (c .before .before .before .before .before .before .before .before .pass .ensures) (c .before .before .before .before .before .before .before .unread .ensures .0 (c .before .before .before .before .before .before .if1 .left)) (c .before .before .before .before .meaning .result) (c .before .before .before .before .meaning .ensures) (c .before .before .performing .ensures) (c .put .ensures)
 
 pub perform-spec : {M : Type 1} → statement M
 perform-spec =
     tie.close
     (tie.spec
     pass-requires
-    enum-told
+    unread-requires
     returns
     meaning-requires
     performing-requires

@@ -1,7 +1,6 @@
 use lib.Dec.{eqb}
 use Prim.Native.Nat.{ℕ}
 use mathlib.Core.Path.{sym, ap, _∙_}
-use Rattle.course.proofs.Answers.{not-done}
 use Rattle.simple.proofs.SignLaws.{sign-arrow, sign-returns, sign-untaken}
 use borrow.Author.Needs.{needs}
 use Rattle.simple.proofs.signed.Statement.{statement}
@@ -10,12 +9,12 @@ use Rattle.simple.proofs.signed.Tie as tie
 take-requires : tie.Need-take-requires
 take-requires c κs = search needs
 
-enum-told : tie.Need-enum-told
-enum-told c = search needs
+unread-requires : tie.Need-unread-requires
+unread-requires c κs = search needs
 
 returns : tie.Need-returns
 returns c =
-    λ e. sign-untaken (c .before .before .before .args .text .now) (c .before .before .before .args .w) (c .before .before .before .args .s) e (c .before .take .ensures) (not-done (c .match .keys2))
+    λ e. sign-untaken (c .before .before .before .before .args .text .now) (c .before .before .before .before .args .w) (c .before .before .before .before .args .s) e (c .before .before .take .ensures) (c .before .unread .ensures .1 (c .if1 .taken))
 
 number-requires : tie.Need-number-requires
 number-requires c κs = search needs
@@ -25,21 +24,21 @@ put-requires c κs = search needs
 
 returns-2 : tie.Need-returns-2
 returns-2 c =
-    λ e. sign-returns (c .before .before .before .before .before .before .before .before .before .before .before .args .text .now) (c .before .before .before .before .before .before .before .before .before .before .before .args .w) (c .before .before .before .before .before .before .before .before .before .before .before .args .s) e (c .before .before .before .before .before .before .before .before .before .take .ensures) (c .before .before .before .before .before .before .before .enum-told .given .1) (sym (c .before .before .before .before .number .ensures) ∙ c .before .before .before .if1 .taken) (c .put .ensures)
+    λ e. sign-returns (c .before .before .before .before .before .before .before .before .before .args .text .now) (c .before .before .before .before .before .before .before .before .before .args .w) (c .before .before .before .before .before .before .before .before .before .args .s) e (c .before .before .before .before .before .before .before .take .ensures) (c .before .before .before .before .before .before .unread .ensures .0 (c .before .before .before .before .before .if1 .left)) (sym (c .before .before .before .before .number .ensures) ∙ c .before .before .before .if2 .taken) (c .put .ensures)
 
 arrow-requires : tie.Need-arrow-requires
 arrow-requires c κs = search needs
 
 returns-3 : tie.Need-returns-3
 returns-3 c =
-    λ e. sign-arrow (c .before .before .before .before .before .before .before .before .before .before .args .text .now) (c .before .before .before .before .before .before .before .before .before .before .args .w) (c .before .before .before .before .before .before .before .before .before .before .args .s) e (c .before .before .before .before .before .before .before .before .take .ensures) (c .before .before .before .before .before .before .enum-told .given .1) (λ q. c .before .before .if1 .left (c .before .before .before .number .ensures ∙ q)) (ap (λ (j : ℕ). eqb j 28) (c .before .before .before .number .ensures)) (c .arrow .ensures)
+    λ e. sign-arrow (c .before .before .before .before .before .before .before .before .args .text .now) (c .before .before .before .before .before .before .before .before .args .w) (c .before .before .before .before .before .before .before .before .args .s) e (c .before .before .before .before .before .before .take .ensures) (c .before .before .before .before .before .unread .ensures .0 (c .before .before .before .before .if1 .left)) (λ q. c .before .before .if2 .left (c .before .before .before .number .ensures ∙ q)) (ap (λ (j : ℕ). eqb j 28) (c .before .before .before .number .ensures)) (c .arrow .ensures)
 
 pub signed-spec : {M : Type 1} → statement M
 signed-spec =
     tie.close
     (tie.spec
     take-requires
-    enum-told
+    unread-requires
     returns
     number-requires
     put-requires

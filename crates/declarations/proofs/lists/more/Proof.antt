@@ -3,7 +3,6 @@ use Rattle.declarations.specs.Lists.{listing}
 use mathlib.Core.List.{List}
 use mathlib.Core.Path.{sym, _∙_}
 use Prim.Native.Nat.{_-_}
-use Rattle.course.proofs.Answers.{not-done}
 use Rattle.language.specs.Tree.{Declaration}
 use Rattle.declarations.specs.Declares.{Standing}
 use Rattle.declarations.proofs.ListLaws.{Here, another, another-not, comma-not, list-ended, none-yet, one-fewer}
@@ -35,30 +34,30 @@ returns c =
 take-requires : tie.Need-take-requires Inv-loop μ-loop
 take-requires c κs = search needs
 
-enum-told : tie.Need-enum-told Inv-loop μ-loop
-enum-told c = search needs
+unread-requires : tie.Need-unread-requires Inv-loop μ-loop
+unread-requires c κs = search needs
 
 returns-2 : tie.Need-returns-2 Inv-loop μ-loop
 returns-2 c =
-    λ ds st. comma-not (c .before .before .before .before .before .before .args .text .now) ds (listing (c .before .before .before .before .before .before .args .list)) (c .before .before .before .before .before .before .args .w) (c .before .before .before .before .before .before .args .s) (c .before .before .before .before .loop .inv ds st) (sym (c .before .before .before .number .ensures) ∙ c .before .before .if1 .left) (c .before .take .ensures) (not-done (c .match .keys2))
+    λ ds st. comma-not (c .before .before .before .before .before .before .before .args .text .now) ds (listing (c .before .before .before .before .before .before .before .args .list)) (c .before .before .before .before .before .before .before .args .w) (c .before .before .before .before .before .before .before .args .s) (c .before .before .before .before .before .loop .inv ds st) (sym (c .before .before .before .before .number .ensures) ∙ c .before .before .before .if1 .left) (c .before .before .take .ensures) (c .before .unread .ensures .1 (c .if2 .taken))
 
 one-requires : tie.Need-one-requires Inv-loop μ-loop
 one-requires c κs = search needs
 
-enum-told-2 : tie.Need-enum-told-2 Inv-loop μ-loop
-enum-told-2 c = search needs
+unread-requires-2 : tie.Need-unread-requires-2 Inv-loop μ-loop
+unread-requires-2 c κs = search needs
 
 returns-3 : tie.Need-returns-3 Inv-loop μ-loop
 returns-3 c =
-    λ ds st. another-not (c .before .before .before .before .before .before .before .before .before .before .before .args .text .now) ds (listing (c .before .before .before .before .before .before .before .before .before .before .before .args .list)) (c .before .before .before .before .before .before .before .before .before .before .before .args .w) (c .before .before .before .before .before .before .before .before .before .before .before .args .s) (c .before .before .before .before .before .before .before .before .before .loop .inv ds st) (sym (c .before .before .before .before .before .before .before .before .number .ensures) ∙ c .before .before .before .before .before .before .before .if1 .left) (c .before .before .before .before .before .before .take .ensures) (c .before .before .before .before .enum-told .given .1) (c .before .before .one .ensures) (not-done (c .match2 .keys2))
+    λ ds st. another-not (c .before .before .before .before .before .before .before .before .before .before .before .args .text .now) ds (listing (c .before .before .before .before .before .before .before .before .before .before .before .args .list)) (c .before .before .before .before .before .before .before .before .before .before .before .args .w) (c .before .before .before .before .before .before .before .before .before .before .before .args .s) (c .before .before .before .before .before .before .before .before .before .loop .inv ds st) (sym (c .before .before .before .before .before .before .before .before .number .ensures) ∙ c .before .before .before .before .before .before .before .if1 .left) (c .before .before .before .before .before .before .take .ensures) (c .before .before .before .before .before .unread .ensures .0 (c .before .before .before .before .if2 .left)) (c .before .before .one .ensures) (c .before .unread2 .ensures .1 (c .if3 .taken))
 
 loop-less : tie.Need-loop-less Inv-loop μ-loop
 loop-less c =
-    one-fewer (c .before .before .before .before .before .before .before .before .before .before .before .before .before .before .args .text .now) (c .before .before .before .before .before .before .before .before .before .before .before .before .before .before .pre .declared) (listing (c .before .before .before .before .before .before .before .before .before .before .before .before .before .before .args .list)) (c .before .before .before .before .before .before .before .before .before .before .before .before .before .before .args .w) (c .before .before .before .before .before .before .before .before .before .before .before .before .before .before .args .s) (c .before .before .before .before .before .before .before .before .before .before .before .before .loop .inv (c .before .before .before .before .before .before .before .before .before .before .before .before .before .before .pre .declared) (c .before .before .before .before .before .before .before .before .before .before .before .before .before .before .pre .standing)) (sym (c .before .before .before .before .before .before .before .before .before .before .before .number .ensures) ∙ c .before .before .before .before .before .before .before .before .before .before .if1 .left) (c .before .before .before .before .before .before .before .before .before .take .ensures) (c .before .before .before .before .before .before .before .enum-told .given .1) (c .before .before .before .before .before .one .ensures) (c .before .before .enum-told2 .given .1)
+    one-fewer (c .before .before .before .before .before .before .before .before .before .before .before .before .before .args .text .now) (c .before .before .before .before .before .before .before .before .before .before .before .before .before .pre .declared) (listing (c .before .before .before .before .before .before .before .before .before .before .before .before .before .args .list)) (c .before .before .before .before .before .before .before .before .before .before .before .before .before .args .w) (c .before .before .before .before .before .before .before .before .before .before .before .before .before .args .s) (c .before .before .before .before .before .before .before .before .before .before .before .loop .inv (c .before .before .before .before .before .before .before .before .before .before .before .before .before .pre .declared) (c .before .before .before .before .before .before .before .before .before .before .before .before .before .pre .standing)) (sym (c .before .before .before .before .before .before .before .before .before .before .number .ensures) ∙ c .before .before .before .before .before .before .before .before .before .if1 .left) (c .before .before .before .before .before .before .before .before .take .ensures) (c .before .before .before .before .before .before .before .unread .ensures .0 (c .before .before .before .before .before .before .if2 .left)) (c .before .before .before .before .one .ensures) (c .before .before .before .unread2 .ensures .0 (c .before .before .if3 .left))
 
 loop-again : tie.Need-loop-again Inv-loop μ-loop
 loop-again c =
-    λ ds st. another (c .before .before .before .before .before .before .before .before .before .before .before .before .before .before .args .text .now) ds (listing (c .before .before .before .before .before .before .before .before .before .before .before .before .before .before .args .list)) (c .before .before .before .before .before .before .before .before .before .before .before .before .before .before .args .w) (c .before .before .before .before .before .before .before .before .before .before .before .before .before .before .args .s) (c .before .before .before .before .before .before .before .before .before .before .before .before .loop .inv ds st) (sym (c .before .before .before .before .before .before .before .before .before .before .before .number .ensures) ∙ c .before .before .before .before .before .before .before .before .before .before .if1 .left) (c .before .before .before .before .before .before .before .before .before .take .ensures) (c .before .before .before .before .before .before .before .enum-told .given .1) (c .before .before .before .before .before .one .ensures) (c .before .before .enum-told2 .given .1)
+    λ ds st. another (c .before .before .before .before .before .before .before .before .before .before .before .before .before .args .text .now) ds (listing (c .before .before .before .before .before .before .before .before .before .before .before .before .before .args .list)) (c .before .before .before .before .before .before .before .before .before .before .before .before .before .args .w) (c .before .before .before .before .before .before .before .before .before .before .before .before .before .args .s) (c .before .before .before .before .before .before .before .before .before .before .before .loop .inv ds st) (sym (c .before .before .before .before .before .before .before .before .before .before .number .ensures) ∙ c .before .before .before .before .before .before .before .before .before .if1 .left) (c .before .before .before .before .before .before .before .before .take .ensures) (c .before .before .before .before .before .before .before .unread .ensures .0 (c .before .before .before .before .before .before .if2 .left)) (c .before .before .before .before .one .ensures) (c .before .before .before .unread2 .ensures .0 (c .before .before .if3 .left))
 
 pub more-spec : {M : Type 1} → statement M
 more-spec =
@@ -71,10 +70,10 @@ more-spec =
     ended-requires
     returns
     take-requires
-    enum-told
+    unread-requires
     returns-2
     one-requires
-    enum-told-2
+    unread-requires-2
     returns-3
     loop-less
     loop-again)

@@ -1,5 +1,4 @@
 use mathlib.Core.Path.{sym, _∙_}
-use Rattle.course.proofs.Answers.{not-done}
 use Rattle.declarations.proofs.StoredLaws.{hash-not, register-plain, register-sequencing}
 use borrow.Author.Needs.{needs}
 use Rattle.declarations.proofs.stored.register.Statement.{statement}
@@ -18,19 +17,19 @@ returns c =
 take-requires : tie.Need-take-requires
 take-requires c κs = search needs
 
-enum-told : tie.Need-enum-told
-enum-told c = search needs
+unread-requires : tie.Need-unread-requires
+unread-requires c κs = search needs
 
 returns-2 : tie.Need-returns-2
 returns-2 c =
-    hash-not (sym (c .before .before .before .number .ensures) ∙ c .before .before .if1 .left) (c .before .take .ensures) (not-done (c .match .keys2))
+    hash-not (sym (c .before .before .before .before .number .ensures) ∙ c .before .before .before .if1 .left) (c .before .before .take .ensures) (c .before .unread .ensures .1 (c .if2 .taken))
 
 stored-requires-2 : tie.Need-stored-requires-2
 stored-requires-2 c κs = search needs
 
 returns-3 : tie.Need-returns-3
 returns-3 c =
-    register-sequencing (sym (c .before .before .before .before .before .before .before .before .number .ensures) ∙ c .before .before .before .before .before .before .before .if1 .left) (c .before .before .before .before .before .before .take .ensures) (c .before .before .before .before .enum-told .given .1) (c .stored2 .ensures)
+    register-sequencing (sym (c .before .before .before .before .before .before .number .ensures) ∙ c .before .before .before .before .before .if1 .left) (c .before .before .before .before .take .ensures) (c .before .before .before .unread .ensures .0 (c .before .before .if2 .left)) (c .stored2 .ensures)
 
 pub register-spec : {M : Type 1} → statement M
 register-spec =
@@ -40,7 +39,7 @@ register-spec =
     stored-requires
     returns
     take-requires
-    enum-told
+    unread-requires
     returns-2
     stored-requires-2
     returns-3)

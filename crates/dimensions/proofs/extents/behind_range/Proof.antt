@@ -1,5 +1,4 @@
 use mathlib.Core.Path.{sym, _∙_}
-use Rattle.course.proofs.Answers.{not-done}
 use Rattle.dimensions.proofs.ExtentLaws.{comma-not, neither, row-closed, second-not, table-closed}
 use borrow.Author.Needs.{needs}
 use Rattle.dimensions.proofs.extents.behind_range.Statement.{statement}
@@ -28,22 +27,22 @@ returns-2 c =
 take-requires-2 : tie.Need-take-requires-2
 take-requires-2 c κs = search needs
 
-enum-told : tie.Need-enum-told
-enum-told c = search needs
+unread-requires : tie.Need-unread-requires
+unread-requires c κs = search needs
 
 returns-3 : tie.Need-returns-3
 returns-3 c =
-    comma-not (sym (c .before .before .before .before .before .number .ensures) ∙ c .before .before .if2 .left) (c .before .take2 .ensures) (not-done (c .match .keys2))
+    comma-not (sym (c .before .before .before .before .before .before .number .ensures) ∙ c .before .before .before .if2 .left) (c .before .before .take2 .ensures) (c .before .unread .ensures .1 (c .if3 .taken))
 
 range-requires : tie.Need-range-requires
 range-requires c κs = search needs
 
-enum-told-2 : tie.Need-enum-told-2
-enum-told-2 c = search needs
+unread-requires-2 : tie.Need-unread-requires-2
+unread-requires-2 c κs = search needs
 
 returns-4 : tie.Need-returns-4
 returns-4 c =
-    second-not (sym (c .before .before .before .before .before .before .before .before .before .before .before .number .ensures) ∙ c .before .before .before .before .before .before .before .before .if2 .left) (c .before .before .before .before .before .before .before .take2 .ensures) (c .before .before .before .before .before .enum-told .given .1) (c .before .before .range .ensures) (not-done (c .match2 .keys2))
+    second-not (sym (c .before .before .before .before .before .before .before .before .before .before .number .ensures) ∙ c .before .before .before .before .before .before .before .if2 .left) (c .before .before .before .before .before .before .take2 .ensures) (c .before .before .before .before .before .unread .ensures .0 (c .before .before .before .before .if3 .left)) (c .before .before .before .range .ensures) (c .before .before .unread2 .ensures .1 (c .before .if4 .taken))
 
 expect-requires : tie.Need-expect-requires
 expect-requires c κs = search needs
@@ -53,7 +52,7 @@ table-requires c κs = search needs
 
 returns-5 : tie.Need-returns-5
 returns-5 c =
-    table-closed (sym (c .before .before .before .before .before .before .before .before .before .before .before .before .before .before .before .before .before .number .ensures) ∙ c .before .before .before .before .before .before .before .before .before .before .before .before .before .before .if2 .left) (c .before .before .before .before .before .before .before .before .before .before .before .before .before .take2 .ensures) (c .before .before .before .before .before .before .before .before .before .before .before .enum-told .given .1) (c .before .before .before .before .before .before .before .before .range .ensures) (c .before .before .before .before .before .enum-told2 .given .1) (c .before .before .expect .ensures) (c .table .ensures)
+    table-closed (sym (c .before .before .before .before .before .before .before .before .before .before .before .before .number .ensures) ∙ c .before .before .before .before .before .before .before .before .before .if2 .left) (c .before .before .before .before .before .before .before .before .take2 .ensures) (c .before .before .before .before .before .before .before .unread .ensures .0 (c .before .before .before .before .before .before .if3 .left)) (c .before .before .before .before .before .range .ensures) (c .before .before .before .before .unread2 .ensures .0 (c .before .before .before .if4 .left)) (c .before .before .expect .ensures) (c .table .ensures)
 
 pub behind-range-spec : {M : Type 1} → statement M
 behind-range-spec =
@@ -66,10 +65,10 @@ behind-range-spec =
     refuse-requires
     returns-2
     take-requires-2
-    enum-told
+    unread-requires
     returns-3
     range-requires
-    enum-told-2
+    unread-requires-2
     returns-4
     expect-requires
     table-requires

@@ -1,7 +1,6 @@
 use native.Mathlib.Omega.{arith}
 use Rattle.course.proofs.Paying.{expected-spends, kept-comes, spent, unspent}
 use Rattle.operands.proofs.EndLaws.{closed-not, closed-says}
-use Rattle.course.proofs.Answers.{not-done}
 use borrow.Author.Needs.{needs}
 use Rattle.operands.proofs.constants.closed.Statement.{statement}
 use Rattle.operands.proofs.constants.closed.Tie as tie
@@ -9,20 +8,20 @@ use Rattle.operands.proofs.constants.closed.Tie as tie
 keep-constant-requires : tie.Need-keep-constant-requires
 keep-constant-requires c κs = search needs
 
-enum-told : tie.Need-enum-told
-enum-told c = search needs
+unread-requires : tie.Need-unread-requires
+unread-requires c κs = search needs
 
 returns : tie.Need-returns
 returns c =
-    (closed-not (c .before .keep-constant .ensures) (not-done (c .match .keys2)), unspent (not-done (c .match .keys2)) (c .before .keep-constant .ensures .full))
+    (closed-not (c .before .before .keep-constant .ensures) (c .before .unread .ensures .1 (c .if1 .taken)), unspent (c .before .unread .ensures .1 (c .if1 .taken)) (c .before .before .keep-constant .ensures .full))
 
 expect-requires : tie.Need-expect-requires
 expect-requires c κs = search needs
 
 returns-2 : tie.Need-returns-2
 returns-2 c =
-    (closed-says (c .before .before .before .before .before .keep-constant .ensures) (c .before .before .before .enum-told .given .1) (c .expect .ensures), spent (kept-comes (c .before .before .before .before .before .keep-constant .ensures) (c .before .before .before .enum-told .given .1)) (expected-spends (c .expect .ensures) (omega arith)) (omega arith))
+    (closed-says (c .before .before .before .keep-constant .ensures) (c .before .before .unread .ensures .0 (c .before .if1 .left)) (c .expect .ensures), spent (kept-comes (c .before .before .before .keep-constant .ensures) (c .before .before .unread .ensures .0 (c .before .if1 .left))) (expected-spends (c .expect .ensures) (omega arith)) (omega arith))
 
 pub closed-spec : {M : Type 1} → statement M
 closed-spec =
-    tie.close (tie.spec keep-constant-requires enum-told returns expect-requires returns-2)
+    tie.close (tie.spec keep-constant-requires unread-requires returns expect-requires returns-2)

@@ -7,7 +7,6 @@ use Rattle.course.specs.Taken.{constantWord}
 use Rattle.course.proofs.Paying.{not-took}
 use Rattle.operands.proofs.OperandCosts.{constant-spends}
 use Rattle.operands.proofs.OperandLaws.{constant-says, term-course}
-use Rattle.course.proofs.Answers.{not-done}
 use borrow.Author.Needs.{needs}
 use Rattle.operands.proofs.constants.constant.Statement.{statement}
 use Rattle.operands.proofs.constants.constant.Tie as tie
@@ -15,20 +14,20 @@ use Rattle.operands.proofs.constants.constant.Tie as tie
 take-requires : tie.Need-take-requires
 take-requires c κs = search needs
 
-enum-told : tie.Need-enum-told
-enum-told c = search needs
+unread-requires : tie.Need-unread-requires
+unread-requires c κs = search needs
 
 returns : tie.Need-returns
 returns c =
-    λ e. (λ sc h. not-taken (c .before .take .ensures) (not-done (c .match .keys2)) (λ K. make (treeSteps .makeConstant) ∷ K) (λ b. keepWord (constantWord (c .before .before .before .args .w)) b) (term-course e h), not-took (c .before .take .ensures) (not-done (c .match .keys2)))
+    λ e. (λ sc h. not-taken (c .before .before .take .ensures) (c .before .unread .ensures .1 (c .if1 .taken)) (λ K. make (treeSteps .makeConstant) ∷ K) (λ b. keepWord (constantWord (c .before .before .before .before .args .w)) b) (term-course e h), not-took (c .before .before .take .ensures) (c .before .unread .ensures .1 (c .if1 .taken)))
 
 add-constant-requires : tie.Need-add-constant-requires
 add-constant-requires c κs = search needs
 
 returns-2 : tie.Need-returns-2
 returns-2 c =
-    λ e. (λ sc h. constant-says e h (c .before .before .before .before .before .before .take .ensures) (c .before .before .before .before .enum-told .given .1) (c .add-constant .ensures), constant-spends e (c .before .before .before .before .before .before .take .ensures) (c .before .before .before .before .enum-told .given .1) (c .add-constant .ensures))
+    λ e. (λ sc h. constant-says e h (c .before .before .before .before .take .ensures) (c .before .before .before .unread .ensures .0 (c .before .before .if1 .left)) (c .add-constant .ensures), constant-spends e (c .before .before .before .before .take .ensures) (c .before .before .before .unread .ensures .0 (c .before .before .if1 .left)) (c .add-constant .ensures))
 
 pub constant-spec : {M : Type 1} → statement M
 constant-spec =
-    tie.close (tie.spec take-requires enum-told returns add-constant-requires returns-2)
+    tie.close (tie.spec take-requires unread-requires returns add-constant-requires returns-2)

@@ -1,5 +1,4 @@
 use borrow.Author.Needs.{needs}
-use Rattle.course.proofs.Answers.{not-done}
 use mathlib.Core.Path.{sym, _∙_}
 use Rattle.simple.proofs.StoreLaws.{set-untaken, sets, unset}
 use Rattle.simple.proofs.stores.set.Statement.{statement}
@@ -11,12 +10,12 @@ number-requires c κs = search needs
 take-requires : tie.Need-take-requires
 take-requires c κs = search needs
 
-enum-told : tie.Need-enum-told
-enum-told c = search needs
+unread-requires : tie.Need-unread-requires
+unread-requires c κs = search needs
 
 returns : tie.Need-returns
 returns c =
-    set-untaken (sym (c .before .before .before .number .ensures) ∙ c .before .before .if1 .taken) (c .before .take .ensures) (not-done (c .match .keys2))
+    set-untaken (sym (c .before .before .before .before .number .ensures) ∙ c .before .before .before .if1 .taken) (c .before .before .take .ensures) (c .before .unread .ensures .1 (c .if2 .taken))
 
 last-requires : tie.Need-last-requires
 last-requires c κs = search needs
@@ -26,7 +25,7 @@ put-requires c κs = search needs
 
 returns-2 : tie.Need-returns-2
 returns-2 c =
-    sets (sym (c .before .before .before .before .before .before .before .before .before .before .number .ensures) ∙ c .before .before .before .before .before .before .before .before .before .if1 .taken) (c .before .before .before .before .before .before .before .before .take .ensures) (c .before .before .before .before .before .before .enum-told .given .1) (c .before .before .last .ensures) (c .put .ensures)
+    sets (sym (c .before .before .before .before .before .before .before .before .number .ensures) ∙ c .before .before .before .before .before .before .before .if1 .taken) (c .before .before .before .before .before .before .take .ensures) (c .before .before .before .before .before .unread .ensures .0 (c .before .before .before .before .if2 .left)) (c .before .before .last .ensures) (c .put .ensures)
 
 refuse-requires : tie.Need-refuse-requires
 refuse-requires c κs = search needs
@@ -41,7 +40,7 @@ set-spec =
     (tie.spec
     number-requires
     take-requires
-    enum-told
+    unread-requires
     returns
     last-requires
     put-requires

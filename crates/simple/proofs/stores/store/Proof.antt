@@ -1,7 +1,6 @@
 use borrow.Author.Needs.{needs}
 use Rattle.grammar.specs.Following.{among}
 use Prim.Native.Nat.{ℕ}
-use Rattle.course.proofs.Answers.{not-done}
 use mathlib.Core.List.{[], _∷_}
 use mathlib.Core.Path.{sym, ap, _∙_}
 use Rattle.simple.proofs.StoreLaws.{right-unread, sign-untaken, stores, unstored}
@@ -17,22 +16,22 @@ signs-requires c κs = search needs
 take-requires : tie.Need-take-requires
 take-requires c κs = search needs
 
-enum-told : tie.Need-enum-told
-enum-told c = search needs
+unread-requires : tie.Need-unread-requires
+unread-requires c κs = search needs
 
 returns : tie.Need-returns
 returns c =
-    sign-untaken (c .before .before .before .before .before .before .args .left) (ap (λ (j : ℕ). among j (29 ∷ 16 ∷ [])) (sym (c .before .before .before .before .number .ensures)) ∙ sym (c .before .before .before .signs .ensures) ∙ c .before .before .if1 .taken) (c .before .take .ensures) (not-done (c .match .keys2))
+    sign-untaken (c .before .before .before .before .before .before .before .args .left) (ap (λ (j : ℕ). among j (29 ∷ 16 ∷ [])) (sym (c .before .before .before .before .before .number .ensures)) ∙ sym (c .before .before .before .before .signs .ensures) ∙ c .before .before .before .if1 .taken) (c .before .before .take .ensures) (c .before .unread .ensures .1 (c .if2 .taken))
 
 start-requires : tie.Need-start-requires
 start-requires c κs = search needs
 
-enum-told-2 : tie.Need-enum-told-2
-enum-told-2 c = search needs
+unread-requires-2 : tie.Need-unread-requires-2
+unread-requires-2 c κs = search needs
 
 returns-2 : tie.Need-returns-2
 returns-2 c =
-    right-unread (c .before .before .before .before .before .before .before .before .before .before .args .left) (ap (λ (j : ℕ). among j (29 ∷ 16 ∷ [])) (sym (c .before .before .before .before .before .before .before .before .number .ensures)) ∙ sym (c .before .before .before .before .before .before .before .signs .ensures) ∙ c .before .before .before .before .before .before .if1 .taken) (c .before .before .before .before .before .take .ensures) (c .before .before .before .enum-told .given .1) (c .before .start .ensures .0) (c .before .start .ensures .1) (not-done (c .match2 .keys2))
+    right-unread (c .before .before .before .before .before .before .before .before .before .before .before .args .left) (ap (λ (j : ℕ). among j (29 ∷ 16 ∷ [])) (sym (c .before .before .before .before .before .before .before .before .before .number .ensures)) ∙ sym (c .before .before .before .before .before .before .before .before .signs .ensures) ∙ c .before .before .before .before .before .before .before .if1 .taken) (c .before .before .before .before .before .before .take .ensures) (c .before .before .before .before .before .unread .ensures .0 (c .before .before .before .before .if2 .left)) (c .before .before .start .ensures .0) (c .before .before .start .ensures .1) (c .before .unread2 .ensures .1 (c .if3 .taken))
 
 last-requires : tie.Need-last-requires
 last-requires c κs = search needs
@@ -45,7 +44,7 @@ put-requires c κs = search needs
 
 returns-3 : tie.Need-returns-3
 returns-3 c =
-    stores (c .before .before .before .before .before .before .before .before .before .before .before .before .before .before .before .before .before .args .left) (ap (λ (j : ℕ). among j (29 ∷ 16 ∷ [])) (sym (c .before .before .before .before .before .before .before .before .before .before .before .before .before .before .before .number .ensures)) ∙ sym (c .before .before .before .before .before .before .before .before .before .before .before .before .before .before .signs .ensures) ∙ c .before .before .before .before .before .before .before .before .before .before .before .before .before .if1 .taken) (c .before .before .before .before .before .before .before .before .before .before .before .before .take .ensures) (c .before .before .before .before .before .before .before .before .before .before .enum-told .given .1) (c .before .before .before .before .before .before .before .before .start .ensures .0) (c .before .before .before .before .before .before .before .before .start .ensures .1) (c .before .before .before .before .before .before .enum-told2 .given .1) (c .before .before .before .before .before .before .before .before .before .before .before .before .before .before .before .number .ensures) (c .before .before .before .last .ensures) (c .before .before .storing .ensures) (c .put .ensures)
+    stores (c .before .before .before .before .before .before .before .before .before .before .before .before .before .before .before .before .args .left) (ap (λ (j : ℕ). among j (29 ∷ 16 ∷ [])) (sym (c .before .before .before .before .before .before .before .before .before .before .before .before .before .before .number .ensures)) ∙ sym (c .before .before .before .before .before .before .before .before .before .before .before .before .before .signs .ensures) ∙ c .before .before .before .before .before .before .before .before .before .before .before .before .if1 .taken) (c .before .before .before .before .before .before .before .before .before .before .before .take .ensures) (c .before .before .before .before .before .before .before .before .before .before .unread .ensures .0 (c .before .before .before .before .before .before .before .before .before .if2 .left)) (c .before .before .before .before .before .before .before .start .ensures .0) (c .before .before .before .before .before .before .before .start .ensures .1) (c .before .before .before .before .before .before .unread2 .ensures .0 (c .before .before .before .before .before .if3 .left)) (c .before .before .before .before .before .before .before .before .before .before .before .before .before .before .number .ensures) (c .before .before .before .last .ensures) (c .before .before .storing .ensures) (c .put .ensures)
 
 refuse-requires : tie.Need-refuse-requires
 refuse-requires c κs = search needs
@@ -61,10 +60,10 @@ store-spec =
     number-requires
     signs-requires
     take-requires
-    enum-told
+    unread-requires
     returns
     start-requires
-    enum-told-2
+    unread-requires-2
     returns-2
     last-requires
     storing-requires

@@ -1,7 +1,6 @@
 use borrow.Author.Needs.{needs}
 use mathlib.Core.Path.{sym, _∙_}
 use Prim.Native.Nat.{_-_}
-use Rattle.course.proofs.Answers.{not-done}
 use Rattle.language.specs.Naming.{Scope}
 use Rattle.simple.specs.Actions.{Standing}
 use Rattle.states.proofs.BodyLaws.{Here, another, another-not, comma-not, none-yet, one-fewer, rest-ended}
@@ -32,30 +31,30 @@ returns c =
 take-requires : tie.Need-take-requires Inv-loop μ-loop
 take-requires c κs = search needs
 
-enum-told : tie.Need-enum-told Inv-loop μ-loop
-enum-told c = search needs
+unread-requires : tie.Need-unread-requires Inv-loop μ-loop
+unread-requires c κs = search needs
 
 returns-2 : tie.Need-returns-2 Inv-loop μ-loop
 returns-2 c =
-    λ sc st t. comma-not (c .before .before .before .before .loop .inv sc st) (sym (c .before .before .before .number .ensures) ∙ c .before .before .if1 .left) (c .before .take .ensures) (not-done (c .match .keys2)) t
+    λ sc st t. comma-not (c .before .before .before .before .before .loop .inv sc st) (sym (c .before .before .before .before .number .ensures) ∙ c .before .before .before .if1 .left) (c .before .before .take .ensures) (c .before .unread .ensures .1 (c .if2 .taken)) t
 
 action-requires : tie.Need-action-requires Inv-loop μ-loop
 action-requires c κs = search needs
 
-enum-told-2 : tie.Need-enum-told-2 Inv-loop μ-loop
-enum-told-2 c = search needs
+unread-requires-2 : tie.Need-unread-requires-2 Inv-loop μ-loop
+unread-requires-2 c κs = search needs
 
 returns-3 : tie.Need-returns-3 Inv-loop μ-loop
 returns-3 c =
-    λ sc st t. another-not (c .before .before .before .before .before .before .before .before .before .loop .inv sc st) (sym (c .before .before .before .before .before .before .before .before .number .ensures) ∙ c .before .before .before .before .before .before .before .if1 .left) (c .before .before .before .before .before .before .take .ensures) (c .before .before .before .before .enum-told .given .1) (c .before .before .action .ensures) (not-done (c .match2 .keys2)) t
+    λ sc st t. another-not (c .before .before .before .before .before .before .before .before .before .loop .inv sc st) (sym (c .before .before .before .before .before .before .before .before .number .ensures) ∙ c .before .before .before .before .before .before .before .if1 .left) (c .before .before .before .before .before .before .take .ensures) (c .before .before .before .before .before .unread .ensures .0 (c .before .before .before .before .if2 .left)) (c .before .before .action .ensures) (c .before .unread2 .ensures .1 (c .if3 .taken)) t
 
 loop-less : tie.Need-loop-less Inv-loop μ-loop
 loop-less c =
-    one-fewer (c .before .before .before .before .before .before .before .before .before .before .before .before .loop .inv (c .before .before .before .before .before .before .before .before .before .before .before .before .before .before .pre .scope) (c .before .before .before .before .before .before .before .before .before .before .before .before .before .before .pre .standing)) (sym (c .before .before .before .before .before .before .before .before .before .before .before .number .ensures) ∙ c .before .before .before .before .before .before .before .before .before .before .if1 .left) (c .before .before .before .before .before .before .before .before .before .take .ensures) (c .before .before .before .before .before .before .before .enum-told .given .1) (c .before .before .before .before .before .action .ensures) (c .before .before .enum-told2 .given .1)
+    one-fewer (c .before .before .before .before .before .before .before .before .before .before .before .loop .inv (c .before .before .before .before .before .before .before .before .before .before .before .before .before .pre .scope) (c .before .before .before .before .before .before .before .before .before .before .before .before .before .pre .standing)) (sym (c .before .before .before .before .before .before .before .before .before .before .number .ensures) ∙ c .before .before .before .before .before .before .before .before .before .if1 .left) (c .before .before .before .before .before .before .before .before .take .ensures) (c .before .before .before .before .before .before .before .unread .ensures .0 (c .before .before .before .before .before .before .if2 .left)) (c .before .before .before .before .action .ensures) (c .before .before .before .unread2 .ensures .0 (c .before .before .if3 .left))
 
 loop-again : tie.Need-loop-again Inv-loop μ-loop
 loop-again c =
-    λ sc st. another (c .before .before .before .before .before .before .before .before .before .before .before .before .loop .inv sc st) (sym (c .before .before .before .before .before .before .before .before .before .before .before .number .ensures) ∙ c .before .before .before .before .before .before .before .before .before .before .if1 .left) (c .before .before .before .before .before .before .before .before .before .take .ensures) (c .before .before .before .before .before .before .before .enum-told .given .1) (c .before .before .before .before .before .action .ensures) (c .before .before .enum-told2 .given .1)
+    λ sc st. another (c .before .before .before .before .before .before .before .before .before .before .before .loop .inv sc st) (sym (c .before .before .before .before .before .before .before .before .before .before .number .ensures) ∙ c .before .before .before .before .before .before .before .before .before .if1 .left) (c .before .before .before .before .before .before .before .before .take .ensures) (c .before .before .before .before .before .before .before .unread .ensures .0 (c .before .before .before .before .before .before .if2 .left)) (c .before .before .before .before .action .ensures) (c .before .before .before .unread2 .ensures .0 (c .before .before .if3 .left))
 
 pub rest-spec : {M : Type 1} → statement M
 rest-spec =
@@ -68,10 +67,10 @@ rest-spec =
     expect-requires
     returns
     take-requires
-    enum-told
+    unread-requires
     returns-2
     action-requires
-    enum-told-2
+    unread-requires-2
     returns-3
     loop-less
     loop-again)

@@ -1,6 +1,5 @@
 use mathlib.Core.List.{[]}
 use mathlib.Core.Path.{sym, _∙_}
-use Rattle.course.proofs.Answers.{not-done}
 use Rattle.states.proofs.EndLaws.{ends-behind, not-ended, to-dollar, without-dollar}
 use borrow.Author.Needs.{needs}
 use Rattle.states.proofs.ends.dollar.Statement.{statement}
@@ -19,19 +18,19 @@ returns c =
 take-requires : tie.Need-take-requires
 take-requires c κs = search needs
 
-enum-told : tie.Need-enum-told
-enum-told c = search needs
+unread-requires : tie.Need-unread-requires
+unread-requires c κs = search needs
 
 returns-2 : tie.Need-returns-2
 returns-2 c =
-    not-ended [] (c .before .take .ensures) (to-dollar (c .before .before .before .before .before .args .s) (sym (c .before .before .before .number .ensures) ∙ c .before .before .if1 .left)) (not-done (c .match .keys2))
+    not-ended [] (c .before .before .take .ensures) (to-dollar (c .before .before .before .before .before .before .args .s) (sym (c .before .before .before .before .number .ensures) ∙ c .before .before .before .if1 .left)) (c .before .unread .ensures .1 (c .if2 .taken))
 
 nothing-requires-2 : tie.Need-nothing-requires-2
 nothing-requires-2 c κs = search needs
 
 returns-3 : tie.Need-returns-3
 returns-3 c =
-    ends-behind [] (c .before .before .before .take .ensures) (to-dollar (c .before .before .before .before .before .before .before .args .s) (sym (c .before .before .before .before .before .number .ensures) ∙ c .before .before .before .before .if1 .left)) (c .before .enum-told .given .1) (c .nothing2 .ensures (c .before .before .before .before .before .before .before .args .text .now))
+    ends-behind [] (c .before .before .before .take .ensures) (to-dollar (c .before .before .before .before .before .before .before .args .s) (sym (c .before .before .before .before .before .number .ensures) ∙ c .before .before .before .before .if1 .left)) (c .before .before .unread .ensures .0 (c .before .if2 .left)) (c .nothing2 .ensures (c .before .before .before .before .before .before .before .args .text .now))
 
 pub dollar-spec : {M : Type 1} → statement M
 dollar-spec =
@@ -41,7 +40,7 @@ dollar-spec =
     nothing-requires
     returns
     take-requires
-    enum-told
+    unread-requires
     returns-2
     nothing-requires-2
     returns-3)

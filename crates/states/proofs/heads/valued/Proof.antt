@@ -1,4 +1,3 @@
-use Rattle.course.proofs.Answers.{not-done}
 use Rattle.states.proofs.HeadLaws.{value-not, value-read}
 use borrow.Author.Needs.{needs}
 use Rattle.states.proofs.heads.valued.Statement.{statement}
@@ -7,15 +6,15 @@ use Rattle.states.proofs.heads.valued.Tie as tie
 in-brackets-requires : tie.Need-in-brackets-requires
 in-brackets-requires c κs = search needs
 
-enum-told : tie.Need-enum-told
-enum-told c = search needs
+unread-requires : tie.Need-unread-requires
+unread-requires c κs = search needs
 
 plain-requires : tie.Need-plain-requires
 plain-requires c κs = search needs
 
 returns : tie.Need-returns
 returns c =
-    value-not (c .before .before .before .before .before .before .args .name) (c .before .before .before .before .in-brackets .ensures) (not-done (c .before .match .keys2))
+    value-not (c .before .before .before .before .before .before .before .args .name) (c .before .before .before .before .before .in-brackets .ensures) (c .before .before .before .unread .ensures .1 (c .before .before .if1 .taken))
 
 stated-requires : tie.Need-stated-requires
 stated-requires c κs = search needs
@@ -28,14 +27,14 @@ last-requires c κs = search needs
 
 returns-2 : tie.Need-returns-2
 returns-2 c =
-    value-read (c .before .before .before .before .before .before .before .before .before .before .before .before .before .args .name) (c .before .before .before .before .before .before .before .before .before .before .before .in-brackets .ensures) (c .before .before .before .before .before .before .before .enum-told .given .1) (c .before .before .before .before .stated .ensures) (c .before .before .add-constant .ensures) (c .last .ensures)
+    value-read (c .before .before .before .before .before .before .before .before .before .before .before .args .name) (c .before .before .before .before .before .before .before .before .before .in-brackets .ensures) (c .before .before .before .before .before .before .before .unread .ensures .0 (c .before .before .before .before .before .before .if1 .left)) (c .before .before .before .stated .ensures) (c .before .add-constant .ensures) (c .last .ensures)
 
 pub valued-spec : {M : Type 1} → statement M
 valued-spec =
     tie.close
     (tie.spec
     in-brackets-requires
-    enum-told
+    unread-requires
     plain-requires
     returns
     stated-requires

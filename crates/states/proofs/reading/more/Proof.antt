@@ -4,7 +4,6 @@ use mathlib.Core.Path.{sym, _∙_}
 use Prim.Native.Nat.{_-_}
 use Rattle.language.specs.Naming.{Scope}
 use Rattle.simple.specs.Actions.{Standing}
-use Rattle.course.proofs.Answers.{not-done}
 use Rattle.states.proofs.StateLaws.{Here, all-read, another, another-not, none-yet, one-fewer}
 use Rattle.states.proofs.reading.more.Statement.{statement}
 use Rattle.states.proofs.reading.more.Tie as tie
@@ -41,20 +40,20 @@ one-requires : tie.Need-one-requires Inv-loop μ-loop
 one-requires c κs =
     record { scope = c .before .before .before .before .before .before .pre .scope; standing = c .before .before .before .before .loop .inv (c .before .before .before .before .before .before .pre .scope) (c .before .before .before .before .before .before .pre .standing) .standing }
 
-enum-told : tie.Need-enum-told Inv-loop μ-loop
-enum-told c = search needs
+unread-requires : tie.Need-unread-requires Inv-loop μ-loop
+unread-requires c κs = search needs
 
 returns-3 : tie.Need-returns-3 Inv-loop μ-loop
 returns-3 c =
-    λ sc st. another-not (c .before .before .before .before .before .before .before .loop .inv sc st) (λ e. c .before .before .before .before .before .if1 .left (c .before .before .before .before .before .before .number .ensures ∙ e)) (λ e. c .before .before .before .before .if2 .left (c .before .before .before .before .before .before .number .ensures ∙ e)) (c .before .before .one .ensures) (not-done (c .match .keys2))
+    λ sc st. another-not (c .before .before .before .before .before .before .before .loop .inv sc st) (λ e. c .before .before .before .before .before .if1 .left (c .before .before .before .before .before .before .number .ensures ∙ e)) (λ e. c .before .before .before .before .if2 .left (c .before .before .before .before .before .before .number .ensures ∙ e)) (c .before .before .one .ensures) (c .before .unread .ensures .1 (c .if3 .taken))
 
 loop-less : tie.Need-loop-less Inv-loop μ-loop
 loop-less c =
-    one-fewer (c .before .before .before .before .before .before .before .before .before .before .loop .inv (c .before .before .before .before .before .before .before .before .before .before .before .before .pre .scope) (c .before .before .before .before .before .before .before .before .before .before .before .before .pre .standing)) (λ e. c .before .before .before .before .before .before .before .before .if1 .left (c .before .before .before .before .before .before .before .before .before .number .ensures ∙ e)) (λ e. c .before .before .before .before .before .before .before .if2 .left (c .before .before .before .before .before .before .before .before .before .number .ensures ∙ e)) (c .before .before .before .before .before .one .ensures) (c .before .before .enum-told .given .1)
+    one-fewer (c .before .before .before .before .before .before .before .before .before .loop .inv (c .before .before .before .before .before .before .before .before .before .before .before .pre .scope) (c .before .before .before .before .before .before .before .before .before .before .before .pre .standing)) (λ e. c .before .before .before .before .before .before .before .if1 .left (c .before .before .before .before .before .before .before .before .number .ensures ∙ e)) (λ e. c .before .before .before .before .before .before .if2 .left (c .before .before .before .before .before .before .before .before .number .ensures ∙ e)) (c .before .before .before .before .one .ensures) (c .before .before .before .unread .ensures .0 (c .before .before .if3 .left))
 
 loop-again : tie.Need-loop-again Inv-loop μ-loop
 loop-again c =
-    λ sc st. another (c .before .before .before .before .before .before .before .before .before .before .loop .inv sc st) (λ e. c .before .before .before .before .before .before .before .before .if1 .left (c .before .before .before .before .before .before .before .before .before .number .ensures ∙ e)) (λ e. c .before .before .before .before .before .before .before .if2 .left (c .before .before .before .before .before .before .before .before .before .number .ensures ∙ e)) (c .before .before .before .before .before .one .ensures) (c .before .before .enum-told .given .1)
+    λ sc st. another (c .before .before .before .before .before .before .before .before .before .loop .inv sc st) (λ e. c .before .before .before .before .before .before .before .if1 .left (c .before .before .before .before .before .before .before .before .number .ensures ∙ e)) (λ e. c .before .before .before .before .before .before .if2 .left (c .before .before .before .before .before .before .before .before .number .ensures ∙ e)) (c .before .before .before .before .one .ensures) (c .before .before .before .unread .ensures .0 (c .before .before .if3 .left))
 
 pub more-spec : {M : Type 1} → statement M
 more-spec =
@@ -69,7 +68,7 @@ more-spec =
     ended-requires-2
     returns-2
     one-requires
-    enum-told
+    unread-requires
     returns-3
     loop-less
     loop-again)

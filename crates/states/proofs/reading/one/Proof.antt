@@ -1,4 +1,3 @@
-use Rattle.course.proofs.Answers.{not-done}
 use Rattle.states.proofs.StateLaws.{body-not, head-stands, not-begun, one-read}
 use borrow.Author.Needs.{needs}
 use Rattle.states.proofs.reading.one.Statement.{statement}
@@ -7,23 +6,23 @@ use Rattle.states.proofs.reading.one.Tie as tie
 head-requires : tie.Need-head-requires
 head-requires c κs = search needs
 
-enum-told : tie.Need-enum-told
-enum-told c = search needs
+unread-requires : tie.Need-unread-requires
+unread-requires c κs = search needs
 
 returns : tie.Need-returns
 returns c =
-    not-begun (c .before .before .head .ensures) (not-done (c .match .keys2))
+    not-begun (c .before .before .before .head .ensures) (c .before .before .unread .ensures .1 (c .before .if1 .taken))
 
 body-requires : tie.Need-body-requires
 body-requires c κs =
-    head-stands (c .before .before .before .before .before .before .head .ensures) (c .before .before .before .enum-told .given .1) (c .before .before .before .before .before .before .before .before .before .pre)
+    head-stands (c .before .before .before .head .ensures) (c .before .before .unread .ensures .0 (c .before .if1 .left)) (c .before .before .before .before .before .before .pre)
 
-enum-told-2 : tie.Need-enum-told-2
-enum-told-2 c = search needs
+unread-requires-2 : tie.Need-unread-requires-2
+unread-requires-2 c κs = search needs
 
 returns-2 : tie.Need-returns-2
 returns-2 c =
-    body-not (c .before .before .before .before .before .before .before .before .before .head .ensures) (c .before .before .before .before .before .before .enum-told .given .1) (c .before .before .body .ensures) (not-done (c .match2 .keys2))
+    body-not (c .before .before .before .before .before .before .head .ensures) (c .before .before .before .before .before .unread .ensures .0 (c .before .before .before .before .if1 .left)) (c .before .before .body .ensures) (c .before .unread2 .ensures .1 (c .if2 .taken))
 
 run-requires : tie.Need-run-requires
 run-requires c κs = search needs
@@ -33,17 +32,17 @@ close-requires c κs = search needs
 
 returns-3 : tie.Need-returns-3
 returns-3 c =
-    one-read (c .before .before .before .before .before .before .before .before .before .before .before .before .before .before .head .ensures) (c .before .before .before .before .before .before .before .before .before .before .before .enum-told .given .1) (c .before .before .before .before .before .before .before .body .ensures) (c .before .before .before .before .enum-told2 .given .1) (c .before .before .run .ensures) (c .close .ensures)
+    one-read (c .before .before .before .before .before .before .before .before .before .before .head .ensures) (c .before .before .before .before .before .before .before .before .before .unread .ensures .0 (c .before .before .before .before .before .before .before .before .if1 .left)) (c .before .before .before .before .before .before .body .ensures) (c .before .before .before .before .before .unread2 .ensures .0 (c .before .before .before .before .if2 .left)) (c .before .before .run .ensures) (c .close .ensures)
 
 pub one-spec : {M : Type 1} → statement M
 one-spec =
     tie.close
     (tie.spec
     head-requires
-    enum-told
+    unread-requires
     returns
     body-requires
-    enum-told-2
+    unread-requires-2
     returns-2
     run-requires
     close-requires

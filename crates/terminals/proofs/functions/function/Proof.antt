@@ -1,5 +1,4 @@
 use mathlib.Core.Path.{sym, _∙_}
-use Rattle.course.proofs.Answers.{not-done}
 use Rattle.terminals.proofs.FunctionLaws.{equal-not, function-read, none-read, table-read}
 use borrow.Author.Needs.{needs}
 use Rattle.terminals.proofs.functions.function.Statement.{statement}
@@ -25,22 +24,22 @@ returns-2 c =
 take-requires : tie.Need-take-requires
 take-requires c κs = search needs
 
-enum-told : tie.Need-enum-told
-enum-told c = search needs
+unread-requires : tie.Need-unread-requires
+unread-requires c κs = search needs
 
 position-requires : tie.Need-position-requires
 position-requires c κs = search needs
 
 returns-3 : tie.Need-returns-3
 returns-3 c =
-    equal-not (c .before .before .before .before .before .before .before .args .name) (c .before .before .before .before .before .if1 .left) (sym (c .before .before .before .before .number .ensures) ∙ c .before .before .before .if2 .left) (c .before .before .take .ensures) (not-done (c .before .match .keys2))
+    equal-not (c .before .before .before .before .before .before .before .before .args .name) (c .before .before .before .before .before .before .if1 .left) (sym (c .before .before .before .before .before .number .ensures) ∙ c .before .before .before .before .if2 .left) (c .before .before .before .take .ensures) (c .before .before .unread .ensures .1 (c .before .if3 .taken))
 
 behind-equal-requires : tie.Need-behind-equal-requires
 behind-equal-requires c κs = search needs
 
 returns-4 : tie.Need-returns-4
 returns-4 c =
-    function-read (c .before .before .before .before .before .before .before .before .before .before .before .args .name) (c .before .before .before .before .before .before .before .before .before .if1 .left) (sym (c .before .before .before .before .before .before .before .before .number .ensures) ∙ c .before .before .before .before .before .before .before .if2 .left) (c .before .before .before .before .before .before .take .ensures) (c .before .before .before .before .enum-told .given .1) (c .behind-equal .ensures)
+    function-read (c .before .before .before .before .before .before .before .before .before .args .name) (c .before .before .before .before .before .before .before .if1 .left) (sym (c .before .before .before .before .before .before .number .ensures) ∙ c .before .before .before .before .before .if2 .left) (c .before .before .before .before .take .ensures) (c .before .before .before .unread .ensures .0 (c .before .before .if3 .left)) (c .behind-equal .ensures)
 
 pub function-spec : {M : Type 1} → statement M
 function-spec =
@@ -52,7 +51,7 @@ function-spec =
     plain-requires-2
     returns-2
     take-requires
-    enum-told
+    unread-requires
     position-requires
     returns-3
     behind-equal-requires

@@ -1,4 +1,3 @@
-use Rattle.course.proofs.Answers.{not-done}
 use Rattle.terminals.proofs.InputLaws.{closed-not, closed-read}
 use borrow.Author.Needs.{needs}
 use Rattle.terminals.proofs.inputs.closed.Statement.{statement}
@@ -7,26 +6,26 @@ use Rattle.terminals.proofs.inputs.closed.Tie as tie
 again-requires : tie.Need-again-requires
 again-requires c κs = search needs
 
-enum-told : tie.Need-enum-told
-enum-told c = search needs
+unread-requires : tie.Need-unread-requires
+unread-requires c κs = search needs
 
 returns : tie.Need-returns
 returns c =
-    closed-not (c .before .before .before .args .name) (c .before .again .ensures) (not-done (c .match .keys2))
+    closed-not (c .before .before .before .before .args .name) (c .before .before .again .ensures) (c .before .unread .ensures .1 (c .if1 .taken))
 
 expect-requires : tie.Need-expect-requires
 expect-requires c κs = search needs
 
 returns-2 : tie.Need-returns-2
 returns-2 c =
-    closed-read (c .before .before .before .before .before .before .before .args .name) (c .before .before .before .before .before .again .ensures) (c .before .before .before .enum-told .given .1) (c .expect .ensures)
+    closed-read (c .before .before .before .before .before .args .name) (c .before .before .before .again .ensures) (c .before .before .unread .ensures .0 (c .before .if1 .left)) (c .expect .ensures)
 
 pub closed-spec : {M : Type 1} → statement M
 closed-spec =
     tie.close
     (tie.spec
     again-requires
-    enum-told
+    unread-requires
     returns
     expect-requires
     returns-2)

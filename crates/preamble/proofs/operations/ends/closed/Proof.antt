@@ -1,4 +1,3 @@
-use Rattle.course.proofs.Answers.{not-done}
 use Rattle.preamble.proofs.HeadLaws.{shut, shut-not}
 use borrow.Author.Needs.{needs}
 use Rattle.preamble.proofs.operations.ends.closed.Statement.{statement}
@@ -7,19 +6,19 @@ use Rattle.preamble.proofs.operations.ends.closed.Tie as tie
 take-requires : tie.Need-take-requires
 take-requires c κs = search needs
 
-enum-told : tie.Need-enum-told
-enum-told c = search needs
+unread-requires : tie.Need-unread-requires
+unread-requires c κs = search needs
 
 returns : tie.Need-returns
 returns c =
-    shut-not (c .before .take .ensures) (not-done (c .match .keys2))
+    shut-not (c .before .before .take .ensures) (c .before .unread .ensures .1 (c .if1 .taken))
 
 control-requires : tie.Need-control-requires
 control-requires c κs = search needs
 
 returns-2 : tie.Need-returns-2
 returns-2 c =
-    shut (c .before .before .before .before .before .take .ensures) (c .before .before .before .enum-told .given .1) (c .control .ensures)
+    shut (c .before .before .before .take .ensures) (c .before .before .unread .ensures .0 (c .before .if1 .left)) (c .control .ensures)
 
 pub closed-spec : {M : Type 1} → statement M
-closed-spec = tie.close (tie.spec take-requires enum-told returns control-requires returns-2)
+closed-spec = tie.close (tie.spec take-requires unread-requires returns control-requires returns-2)

@@ -2,7 +2,6 @@ use borrow.Author.Needs.{needs}
 use mathlib.Core.List.{List}
 use mathlib.Core.Path.{sym, _∙_}
 use Prim.Native.Nat.{ℕ, _-_}
-use Rattle.course.proofs.Answers.{not-done}
 use Rattle.language.specs.Tree.{Name, Operation}
 use Rattle.work.specs.Held.{Held}
 use Rattle.preamble.specs.Listed.{Standing}
@@ -38,33 +37,33 @@ take-requires : tie.Need-take-requires Inv-loop μ-loop
 take-requires c κs =
     search needs
 
-enum-told : tie.Need-enum-told Inv-loop μ-loop
-enum-told c =
+unread-requires : tie.Need-unread-requires Inv-loop μ-loop
+unread-requires c κs =
     search needs
 
 returns-2 : tie.Need-returns-2 Inv-loop μ-loop
 returns-2 c =
-    λ names first h os st. comma-not (c .before .before .before .before .loop .inv names first h os st) (sym (c .before .before .before .number .ensures) ∙ c .before .before .if1 .left) (c .before .take .ensures) (not-done (c .match .keys2))
+    λ names first h os st. comma-not (c .before .before .before .before .before .loop .inv names first h os st) (sym (c .before .before .before .before .number .ensures) ∙ c .before .before .before .if1 .left) (c .before .before .take .ensures) (c .before .unread .ensures .1 (c .if2 .taken))
 
 operation-requires : tie.Need-operation-requires Inv-loop μ-loop
 operation-requires c κs =
     search needs
 
-enum-told-2 : tie.Need-enum-told-2 Inv-loop μ-loop
-enum-told-2 c =
+unread-requires-2 : tie.Need-unread-requires-2 Inv-loop μ-loop
+unread-requires-2 c κs =
     search needs
 
 returns-3 : tie.Need-returns-3 Inv-loop μ-loop
 returns-3 c =
-    λ names first h os st. another-not (c .before .before .before .before .before .before .before .before .before .loop .inv names first h os st) (sym (c .before .before .before .before .before .before .before .before .number .ensures) ∙ c .before .before .before .before .before .before .before .if1 .left) (c .before .before .before .before .before .before .take .ensures) (c .before .before .before .before .enum-told .given .1) (c .before .before .operation .ensures) (not-done (c .match2 .keys2))
+    λ names first h os st. another-not (c .before .before .before .before .before .before .before .before .before .loop .inv names first h os st) (sym (c .before .before .before .before .before .before .before .before .number .ensures) ∙ c .before .before .before .before .before .before .before .if1 .left) (c .before .before .before .before .before .before .take .ensures) (c .before .before .before .before .before .unread .ensures .0 (c .before .before .before .before .if2 .left)) (c .before .before .operation .ensures) (c .before .unread2 .ensures .1 (c .if3 .taken))
 
 loop-less : tie.Need-loop-less Inv-loop μ-loop
 loop-less c =
-    one-fewer (c .before .before .before .before .before .before .before .before .before .before .before .before .loop .inv (c .before .before .before .before .before .before .before .before .before .before .before .before .before .before .pre .names) (c .before .before .before .before .before .before .before .before .before .before .before .before .before .before .pre .first) (c .before .before .before .before .before .before .before .before .before .before .before .before .before .before .pre .before) (c .before .before .before .before .before .before .before .before .before .before .before .before .before .before .pre .declared) (c .before .before .before .before .before .before .before .before .before .before .before .before .before .before .pre .standing)) (sym (c .before .before .before .before .before .before .before .before .before .before .before .number .ensures) ∙ c .before .before .before .before .before .before .before .before .before .before .if1 .left) (c .before .before .before .before .before .before .before .before .before .take .ensures) (c .before .before .before .before .before .before .before .enum-told .given .1) (c .before .before .before .before .before .operation .ensures) (c .before .before .enum-told2 .given .1)
+    one-fewer (c .before .before .before .before .before .before .before .before .before .before .before .loop .inv (c .before .before .before .before .before .before .before .before .before .before .before .before .before .pre .names) (c .before .before .before .before .before .before .before .before .before .before .before .before .before .pre .first) (c .before .before .before .before .before .before .before .before .before .before .before .before .before .pre .before) (c .before .before .before .before .before .before .before .before .before .before .before .before .before .pre .declared) (c .before .before .before .before .before .before .before .before .before .before .before .before .before .pre .standing)) (sym (c .before .before .before .before .before .before .before .before .before .before .number .ensures) ∙ c .before .before .before .before .before .before .before .before .before .if1 .left) (c .before .before .before .before .before .before .before .before .take .ensures) (c .before .before .before .before .before .before .before .unread .ensures .0 (c .before .before .before .before .before .before .if2 .left)) (c .before .before .before .before .operation .ensures) (c .before .before .before .unread2 .ensures .0 (c .before .before .if3 .left))
 
 loop-again : tie.Need-loop-again Inv-loop μ-loop
 loop-again c =
-    λ names first h os st. another (c .before .before .before .before .before .before .before .before .before .before .before .before .loop .inv names first h os st) (sym (c .before .before .before .before .before .before .before .before .before .before .before .number .ensures) ∙ c .before .before .before .before .before .before .before .before .before .before .if1 .left) (c .before .before .before .before .before .before .before .before .before .take .ensures) (c .before .before .before .before .before .before .before .enum-told .given .1) (c .before .before .before .before .before .operation .ensures) (c .before .before .enum-told2 .given .1)
+    λ names first h os st. another (c .before .before .before .before .before .before .before .before .before .before .before .loop .inv names first h os st) (sym (c .before .before .before .before .before .before .before .before .before .before .number .ensures) ∙ c .before .before .before .before .before .before .before .before .before .if1 .left) (c .before .before .before .before .before .before .before .before .take .ensures) (c .before .before .before .before .before .before .before .unread .ensures .0 (c .before .before .before .before .before .before .if2 .left)) (c .before .before .before .before .operation .ensures) (c .before .before .before .unread2 .ensures .0 (c .before .before .if3 .left))
 
 pub more-spec : {M : Type 1} → statement M
 more-spec =
@@ -77,10 +76,10 @@ more-spec =
     ended-requires
     returns
     take-requires
-    enum-told
+    unread-requires
     returns-2
     operation-requires
-    enum-told-2
+    unread-requires-2
     returns-3
     loop-less
     loop-again)

@@ -1,14 +1,18 @@
 use borrow.Author.Needs.{needs}
 use mathlib.Core.Path.{_≡_}
+use Prim.Native.Nat.{_≤_}
 use lib.ListN.{length}
-use Rattle.image_cases.proofs.run.Statement.{statement}
-use Rattle.image_cases.proofs.run.Tie as tie
+use Rattle.cases.proofs.each.run.Statement.{statement}
+use Rattle.cases.proofs.each.run.Tie as tie
 
 abbrev Inv-loop : tie.InvT-loop
-Inv-loop file buffer₀ t₀ left₀ buffer t left = length buffer ≡ length buffer₀
+Inv-loop file wanted text₀ image₀ case₀ t₀ about₀ left₀ text image case t about left = (left ≤ 100000) × (length text ≡ length text₀) × (length image ≡ length image₀) × (length case ≡ length case₀)
 
 abbrev μ-loop : tie.MeasureT-loop
-μ-loop file buffer₀ t₀ left₀ buffer t left = left
+μ-loop file wanted text₀ image₀ case₀ t₀ about₀ left₀ text image case t about left = left
+
+nothing-requires : tie.Need-nothing-requires Inv-loop μ-loop
+nothing-requires c κs = search needs
 
 loop-holds : tie.Need-loop-holds Inv-loop μ-loop
 loop-holds c = search needs
@@ -16,11 +20,14 @@ loop-holds c = search needs
 next-requires : tie.Need-next-requires Inv-loop μ-loop
 next-requires c κs = search needs
 
-enum-told : tie.Need-enum-told Inv-loop μ-loop
-enum-told c = search needs
-
 same-length : tie.Need-same-length Inv-loop μ-loop
 same-length c = search needs
+
+same-length-2 : tie.Need-same-length-2 Inv-loop μ-loop
+same-length-2 c = search needs
+
+same-length-3 : tie.Need-same-length-3 Inv-loop μ-loop
+same-length-3 c = search needs
 
 returns : tie.Need-returns Inv-loop μ-loop
 returns c = search needs
@@ -37,8 +44,14 @@ loop-less c = search needs
 loop-again : tie.Need-loop-again Inv-loop μ-loop
 loop-again c = search needs
 
-same-length-2 : tie.Need-same-length-2 Inv-loop μ-loop
-same-length-2 c = search needs
+same-length-4 : tie.Need-same-length-4 Inv-loop μ-loop
+same-length-4 c = search needs
+
+same-length-5 : tie.Need-same-length-5 Inv-loop μ-loop
+same-length-5 c = search needs
+
+same-length-6 : tie.Need-same-length-6 Inv-loop μ-loop
+same-length-6 c = search needs
 
 returns-2 : tie.Need-returns-2 Inv-loop μ-loop
 returns-2 c = search needs
@@ -49,14 +62,18 @@ run-spec =
     (tie.spec
     Inv-loop
     μ-loop
+    nothing-requires
     loop-holds
     next-requires
-    enum-told
     same-length
+    same-length-2
+    same-length-3
     returns
     counted-requires
     sub-left
     loop-less
     loop-again
-    same-length-2
+    same-length-4
+    same-length-5
+    same-length-6
     returns-2)

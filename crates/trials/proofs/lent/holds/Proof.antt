@@ -1,8 +1,8 @@
 use borrow.Author.Needs.{needs}
 use Prim.Native.Nat.{_-_, _≤_}
 use lib.ListN.{length}
-use Rattle.cases.proofs.lent.holds.Statement.{statement}
-use Rattle.cases.proofs.lent.holds.Tie as tie
+use Rattle.trials.proofs.lent.holds.Statement.{statement}
+use Rattle.trials.proofs.lent.holds.Tie as tie
 
 abbrev Inv-loop : tie.InvT-loop
 Inv-loop s front i₀ i = i ≤ length s

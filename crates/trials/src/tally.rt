@@ -8,12 +8,16 @@ pub struct Tally {
     pub first: u32,
 }
 
-// What a part of a file comes to.
+// What the next case of a file comes to.
 pub enum Came {
     End,
-    Nothing,
     Agrees,
     Differs,
+}
+
+// Whether it agrees.
+pub fn told(agrees: bool) -> Came {
+    if agrees { Came::Agrees } else { Came::Differs }
 }
 
 pub fn nothing() -> Tally {
@@ -36,7 +40,6 @@ fn first(t: Tally) -> u32 {
 pub fn counted(t: Tally, came: Came) -> Tally {
     match came {
         Came::End => t,
-        Came::Nothing => t,
         Came::Agrees => Tally {
             agree: std::num::wrapping_add_u32(t.agree, 1),
             differ: t.differ,

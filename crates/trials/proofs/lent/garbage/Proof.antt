@@ -2,8 +2,8 @@ use borrow.Author.Needs.{needs}
 use mathlib.Core.Path.{_≡_}
 use Prim.Native.Nat.{_-_}
 use lib.ListN.{length}
-use Rattle.cases.proofs.lent.garbage.Statement.{statement}
-use Rattle.cases.proofs.lent.garbage.Tie as tie
+use Rattle.trials.proofs.lent.garbage.Statement.{statement}
+use Rattle.trials.proofs.lent.garbage.Tie as tie
 
 abbrev Inv-loop : tie.InvT-loop
 Inv-loop s₀ first x₀ i₀ s x i = length s ≡ length s₀

@@ -1,13 +1,13 @@
 use borrow.Author.Needs.{needs}
 use Prim.Native.Nat.{_≤_}
-use Rattle.cases.proofs.parts.run.Statement.{statement}
-use Rattle.cases.proofs.parts.run.Tie as tie
+use Rattle.cases.proofs.files.run.Statement.{statement}
+use Rattle.cases.proofs.files.run.Tie as tie
 
 abbrev Inv-loop : tie.InvT-loop
-Inv-loop file wanted text₀ image₀ t₀ about₀ left₀ text image t about left = left ≤ 100000
+Inv-loop file kind t₀ left₀ t left = left ≤ 100000
 
 abbrev μ-loop : tie.MeasureT-loop
-μ-loop file wanted text₀ image₀ t₀ about₀ left₀ text image t about left = left
+μ-loop file kind t₀ left₀ t left = left
 
 nothing-requires : tie.Need-nothing-requires Inv-loop μ-loop
 nothing-requires c κs = search needs

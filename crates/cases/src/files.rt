@@ -1,0 +1,33 @@
+// The cases of a file that has nothing else: traces or images.
+use crate::images;
+use crate::traces;
+use trials::tally;
+use trials::tally::Came;
+use trials::tally::Tally;
+
+pub const TRACES: u8 = 0;
+
+pub const IMAGES: u8 = 1;
+
+// The next case.
+fn next(file: i32, kind: u8) -> Came {
+    if kind == TRACES {
+        return traces::next(file);
+    }
+    images::next(file)
+}
+
+// Every case.
+pub fn run(file: i32, kind: u8) -> Tally {
+    let mut t = tally::nothing();
+    let mut left: u32 = 100000;
+    while 0 < left {
+        let came = next(file, kind);
+        if let Came::End = came {
+            return t;
+        }
+        t = tally::counted(t, came);
+        left -= 1;
+    }
+    t
+}
