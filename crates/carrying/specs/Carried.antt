@@ -1,7 +1,7 @@
 -- What a cycle is carried out on, and the call that its answer means.
 use mathlib.Core.List.{List}
 use mathlib.Core.Path.{_≡_}
-use Prim.Native.Nat.{ℕ}
+use Prim.Native.Nat.{ℕ, zero, suc}
 use lib.ListN.{length}
 use Rattle.language.specs.Calls as L
 use Rattle.language.specs.Decode.{sectionAt}
@@ -27,6 +27,11 @@ abbrev pub keptStore : Verdict → List ℕ → List ℕ → List ℕ
 keptStore Ends.Completed work store = copied store work
 keptStore (Ends.Stopped k) work store = store
 keptStore (Ends.Stuck x) work store = store
+
+-- The record's bytes after so many completed cycles, which came to r from the bytes K.
+abbrev pub keptRecord : ℕ → S.Record → List ℕ → List ℕ
+keptRecord zero r K = K
+keptRecord (suc n) r K = L.over (recordBytes r) K
 
 -- The call of a cycle that comes to this, with the store left, the record's bytes K before it and n bytes of scratch.
 abbrev pub calledWith : Verdict → S.Record → ℕ → List ℕ → List ℕ → ℕ → L.CycleCall

@@ -1,5 +1,6 @@
 // A cycle that is not refused: on the caller's store, from sections of the image and a record by value.
 use next::record::Record;
+use sound::record;
 use step::outcome::Stepped;
 use step::outcome::Verdict;
 use store::slices;
@@ -13,7 +14,7 @@ ghost use Rattle.language.specs.Decode.{decode};
 ghost use Rattle.language.specs.Layout.{storeSize};
 ghost use Rattle.language.specs.RecordBytes.{recordFrom};
 ghost use Rattle.next.specs.Seen.{recordMeant};
-ghost use Rattle.carrying.specs.Carried.{Sliced, called, completedBack, keptStore};
+ghost use Rattle.carrying.specs.Carried.{Sliced, called, completedBack, keptRecord, keptStore};
 
 // A completed cycle's working copy, kept; of any other cycle nothing is.
 fn keep(verdict: Verdict, work: &[u8], store: &mut [u8])
@@ -60,4 +61,13 @@ pub fn carried(
     let verdict = a.verdict;
     keep(verdict, work, store);
     a
+}
+
+// The record of a run with completed cycles is written.
+pub fn note(record: &mut [u8], completed: u32, r: Record)
+    ensures { λ _. ⌜ (80 ≤ length (now («record» .entry)) → now («record» .exit) ≡ keptRecord completed (recordMeant r) (now («record» .entry))) ⌝ }
+{
+    if 0 < completed {
+        record::write_record(record, r);
+    }
 }

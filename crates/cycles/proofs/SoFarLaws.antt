@@ -1,7 +1,7 @@
 -- A run so far, with its record by value: the record's bytes are those lent until a cycle has completed. Assumes nothing.
 use mathlib.Core.List.{List}
 use mathlib.Core.Path.{_≡_, refl, ap, _∙_}
-use Prim.Native.Nat.{ℕ, zero, suc, _+_, _<_, _≤_}
+use Prim.Native.Nat.{ℕ, zero, suc, _+_, _<_}
 use native.Mathlib.Omega.{arith}
 use lib.ListN.{drop, length, take}
 use lib.Seq.{drop-append-seam}
@@ -12,23 +12,15 @@ use Rattle.language.specs.Reading.{zeroes}
 use Rattle.language.specs.RecordBytes.{recordBytes, recordFrom, recordSize}
 use Rattle.language.specs.Step.{Record}
 use Rattle.records.specs.Placed.{placed}
-use Rattle.carrying.specs.Carried.{ReadBack}
+use Rattle.carrying.specs.Carried.{ReadBack, keptRecord}
 use Rattle.cycles.proofs.RunLaws.{Left, left-all, left-more}
-use Rattle.cycles.specs.Lent.{Lent, keptRecord}
+use Rattle.cycles.specs.Lent.{Lent}
 
 -- The run of `count` cycles that began with B₀ and K₀, after n of them, which came to r.
 pub record SoFar (image S : List ℕ) (count scratch : ℕ) (B₀ K₀ B : List ℕ) (r : Record) (T : List ℕ) (n conflicts at to : ℕ) : Type 0 where
   pub left : Left image S count scratch B₀ K₀ B (keptRecord n r K₀) T n conflicts at to
   pub read : recordFrom (keptRecord n r K₀) ≡ r
   pub whole : 0 < n → length (recordBytes r) ≡ recordSize
-
-pub kept-some : (n : ℕ) (r : Record) (K : List ℕ) → 0 < n → over (recordBytes r) K ≡ keptRecord n r K
-kept-some zero r K h = absurd (omega (arith, h))
-kept-some (suc n) r K h = refl
-
-pub kept-none : (n : ℕ) (r : Record) (K : List ℕ) → n ≤ 0 → K ≡ keptRecord n r K
-kept-none zero r K h = refl
-kept-none (suc n) r K h = absurd (omega (arith, h))
 
 -- Of two records written one over the other, the later is left.
 kept-over : (n : ℕ) (r q : Record) (K : List ℕ) → (0 < n → length (recordBytes r) ≡ recordSize) → length (recordBytes q) ≡ recordSize → over (recordBytes q) (keptRecord n r K) ≡ keptRecord (n + 1) q K

@@ -2,20 +2,15 @@
 use mathlib.Core.List.{List}
 use mathlib.Core.Option.{none}
 use mathlib.Core.Path.{_≡_}
-use Prim.Native.Nat.{ℕ, zero, suc}
+use Prim.Native.Nat.{ℕ}
 use lib.ListN.{length}
 use Rattle.language.specs.Calls as L
 use Rattle.language.specs.Decode.{decode}
 use Rattle.language.specs.Layout.{storeSize}
 use Rattle.language.specs.Reading.{zeroes}
-use Rattle.language.specs.RecordBytes.{recordBytes, recordFrom}
+use Rattle.language.specs.RecordBytes.{recordFrom}
 use Rattle.language.specs.Step as S
 use Rattle.carrying.specs.Carried.{Sliced}
-
--- The record's bytes after so many completed cycles, which came to r from the bytes K.
-abbrev pub keptRecord : ℕ → S.Record → List ℕ → List ℕ
-keptRecord zero r K = K
-keptRecord (suc n) r K = L.over (recordBytes r) K
 
 -- What the cycles of a run are carried out on: the sections of an image and the record in K, which a scratch of n bytes does not refuse; as many bytes as the store has for the working copy, for delayed stores that wait, and for their mask; a trace of zeroes.
 pub record Lent (image K : List ℕ) (n : ℕ) (facilities operations expressions actions states : List ℕ) (r : S.Record) (store stimuli : List ℕ) (cycles : ℕ) (work pending mask trace : List ℕ) : Type 0 where

@@ -18,7 +18,8 @@ ghost use Rattle.language.specs.Calls.{runRefusal};
 ghost use Rattle.language.specs.Reading.{zeroes};
 ghost use Rattle.next.specs.Seen.{recordMeant};
 ghost use Rattle.answers.specs.Run.{tallied};
-ghost use Rattle.cycles.specs.Lent.{Lent, SomeLent, keptRecord};
+ghost use Rattle.carrying.specs.Carried.{keptRecord};
+ghost use Rattle.cycles.specs.Lent.{Lent, SomeLent};
 
 // A run so far, and the record that it has come to.
 struct Run {
@@ -95,15 +96,6 @@ fn carry_on(
     ended(n, conflicts, 0, reached)
 }
 
-// The record of a run with completed cycles is written.
-fn note(record: &mut [u8], completed: u32, r: Record)
-    ensures { λ _. ⌜ (80 ≤ length (now («record» .entry)) → now («record» .exit) ≡ keptRecord completed (recordMeant r) (now («record» .entry))) ⌝ }
-{
-    if 0 < completed {
-        record::write_record(record, r);
-    }
-}
-
 // The run that is owed, where nothing is refused and the trace is zero. What the cycles work on is made once.
 pub fn carry_out(
     image: &[u8],
@@ -138,6 +130,6 @@ pub fn carry_out(
     );
     slices::zero(scratch);
     let tally = a.tally;
-    note(record, tally.completed, a.record);
+    carrying::note(record, tally.completed, a.record);
     tally
 }

@@ -1,9 +1,9 @@
 use mathlib.Core.Path.{_∙_}
 use Rattle.next.specs.Seen.{recordMeant}
-use Rattle.cycles.proofs.SoFarLaws.{kept-none, kept-some}
+use Rattle.carrying.proofs.KeptLaws.{kept-none, kept-some}
 use borrow.Author.Needs.{needs}
-use Rattle.cycles.proofs.carry.note.Statement.{statement}
-use Rattle.cycles.proofs.carry.note.Tie as tie
+use Rattle.carrying.proofs.note.Statement.{statement}
+use Rattle.carrying.proofs.note.Tie as tie
 
 write-record-requires : tie.Need-write-record-requires
 write-record-requires c κs = search needs
