@@ -61,16 +61,6 @@ fn one(fp: &[u8], n: usize, another: bool, before: u32, f: Facility, v: Verdict)
     bounds::or_else(own, all)
 }
 
-// Whether there is one more sequencing register.
-fn either(a: bool, b: bool) -> bool
-    ensures { λ r. ⌜ r ≡ (a || b) ⌝ }
-{
-    if a {
-        return true;
-    }
-    b
-}
-
 // All facilities; the verdicts on computed terminals are kept.
 pub fn facilities(fs: &[u8], es: &[u8], fp: &[u8], ep: &[u8], memo: &mut [usize]) -> Judged
     requires { ⌜ length (now memo) ≡ 512 ⌝ }
@@ -87,7 +77,7 @@ pub fn facilities(fs: &[u8], es: &[u8], fp: &[u8], ep: &[u8], memo: &mut [usize]
         let kind = f.kind;
         let v = terminal(fs, es, fp, ep, memo, k, f);
         all = faults::earlier(all, one(fp, k, another, before, f, v));
-        another = either(another, kinds::is_sequencing(kind));
+        another = another | kinds::is_sequencing(kind);
         before = memory::place_after(before, f);
         memory::remember(memo, k, v);
     }

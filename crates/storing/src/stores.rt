@@ -89,12 +89,6 @@ fn may_both(sign: u8, k: Kind, l: Kind) -> bool
     }
 }
 
-fn either(a: bool, b: bool) -> bool
-    ensures { λ r. ⌜ r ≡ a || b ⌝ }
-{
-    if a { true } else { b }
-}
-
 // A store of v to two places: the right one takes the low bits and lands later.
 pub fn store_pair(
     sign: u8,
@@ -121,10 +115,10 @@ pub fn store_pair(
     let s = spots::spot_of(f, p);
     let t = spots::spot_of(h, q);
     if sign == actions::DELAYED {
-        let hit = either(spots::marked(mask, s), spots::marked(mask, t));
+        let hit = spots::marked(mask, s) | spots::marked(mask, t);
         spots::delay(pending, mask, s, high(v, q.count));
         spots::delay(pending, mask, t, low(v, q.count));
-        let sequenced = either(kinds::is_sequencing(k), kinds::is_sequencing(l));
+        let sequenced = kinds::is_sequencing(k) | kinds::is_sequencing(l);
         return Did::Went(doing::delaying(g, hit, sequenced));
     }
     spots::put(store, s, high(v, q.count));

@@ -8,8 +8,8 @@ use Rattle.language.specs.Description.{Description, Places, facilityAt}
 use lib.ListN.{drop, length}
 use native.Mathlib.Omega.{arith}
 use Prim.Native.Nat.{_-_, _/_, _≤_}
-use mathlib.Core.Path.{_≡_}
-use mathlib.Core.Bool.{false}
+use mathlib.Core.Path.{_≡_, refl}
+use mathlib.Core.Bool.{false, _||_}
 use Rattle.judge.proofs.facilities.facilities.Statement.{statement}
 use Rattle.judge.proofs.facilities.facilities.Tie as tie
 
@@ -42,29 +42,26 @@ earlier-requires c κs = search needs
 is-sequencing-requires : tie.Need-is-sequencing-requires Inv-loop μ-loop
 is-sequencing-requires c κs = search needs
 
-either-requires : tie.Need-either-requires Inv-loop μ-loop
-either-requires c κs = search needs
-
 place-after-requires : tie.Need-place-after-requires Inv-loop μ-loop
 place-after-requires c κs = search needs
 
 remember-requires : tie.Need-remember-requires Inv-loop μ-loop
 remember-requires c κs =
-    c .before .before .before .before .before .before .before .before .before .before .loop .inv .1
+    c .before .before .before .before .before .before .before .before .before .loop .inv .1
 
 loop-less : tie.Need-loop-less Inv-loop μ-loop
 loop-less c =
-    omega (arith, c .before .before .before .before .before .before .before .before .before .before .before .before .loop-test .taken)
+    omega (arith, c .before .before .before .before .before .before .before .before .before .before .before .loop-test .taken)
 
 loop-again : tie.Need-loop-again Inv-loop μ-loop
 loop-again c = (
-  omega (arith, c .before .before .before .before .before .before .before .before .before .before .before .before .loop-test .taken),
+  omega (arith, c .before .before .before .before .before .before .before .before .before .before .before .loop-test .taken),
   c .before .before .remember .ensures .0,
   λ d p s.
-      let i = c .before .before .before .before .before .before .before .before .before .before .before .before .before .loop .inv .2 d p s in
-      let f = s .facility (c .before .before .before .before .before .before .before .before .before .before .before .before .before .loop .n) (c .before .before .before .before .before .before .before .before .before .before .before .before .loop-test .taken) (c .before .before .before .before .before .before .before .before .before .before .before .facility-at .result) (c .before .before .before .before .before .before .before .before .before .before .before .facility-at .ensures) in
-      let v = c .before .before .before .before .before .before .before .before .before .terminal .ensures d p s (i .1) in (
-        step d p s (c .before .before .before .before .before .before .before .before .before .before .before .before .before .loop .n) (c .before .before .before .before .before .before .before .before .before .before .before .facility-at .result) (judged (c .before .before .before .before .before .before .before .before .before .before .before .before .before .loop .all)) (judged (c .before .before .before .before .before .before .before .before .one .result)) (c .before .before .before .before .before .before .before .before .before .before .before .before .before .loop .another) (c .before .before .before .before .before .either .result) (c .before .before .before .before .before .before .is-sequencing .result) (c .before .before .before .before .before .before .before .before .before .before .before .before .before .loop .before) (c .before .before .before .before .place-after .result) f (c .before .before .before .before .before .before .before .before .before .before .before .before .loop-test .taken) (c .before .before .before .before .before .before .before .earlier .ensures) (c .before .before .before .before .before .before .before .before .one .ensures d p (s .place (c .before .before .before .before .before .before .before .before .before .before .before .before .before .loop .n)) f v) (c .before .before .before .before .place-after .ensures (facilityAt d (c .before .before .before .before .before .before .before .before .before .before .before .before .before .loop .n) .name)) (c .before .before .before .before .before .either .ensures) (c .before .before .before .before .before .before .is-sequencing .ensures) (i .0),
+      let i = c .before .before .before .before .before .before .before .before .before .before .before .before .loop .inv .2 d p s in
+      let f = s .facility (c .before .before .before .before .before .before .before .before .before .before .before .before .loop .n) (c .before .before .before .before .before .before .before .before .before .before .before .loop-test .taken) (c .before .before .before .before .before .before .before .before .before .before .facility-at .result) (c .before .before .before .before .before .before .before .before .before .before .facility-at .ensures) in
+      let v = c .before .before .before .before .before .before .before .before .terminal .ensures d p s (i .1) in (
+        step d p s (c .before .before .before .before .before .before .before .before .before .before .before .before .loop .n) (c .before .before .before .before .before .before .before .before .before .before .facility-at .result) (judged (c .before .before .before .before .before .before .before .before .before .before .before .before .loop .all)) (judged (c .before .before .before .before .before .before .before .one .result)) (c .before .before .before .before .before .before .before .before .before .before .before .before .loop .another) (c .before .before .before .before .before .before .before .before .before .before .before .before .loop .another || c .before .before .before .before .before .is-sequencing .result) (c .before .before .before .before .before .is-sequencing .result) (c .before .before .before .before .before .before .before .before .before .before .before .before .loop .before) (c .before .before .before .before .place-after .result) f (c .before .before .before .before .before .before .before .before .before .before .before .loop-test .taken) (c .before .before .before .before .before .before .earlier .ensures) (c .before .before .before .before .before .before .before .one .ensures d p (s .place (c .before .before .before .before .before .before .before .before .before .before .before .before .loop .n)) f v) (c .before .before .before .before .place-after .ensures (facilityAt d (c .before .before .before .before .before .before .before .before .before .before .before .before .loop .n) .name)) refl (c .before .before .before .before .before .is-sequencing .ensures) (i .0),
         remember-next s (i .1) v (c .before .before .remember .ensures .1) (c .before .before .remember .ensures .2),
       ),
 )
@@ -89,7 +86,6 @@ facilities-spec =
     one-requires
     earlier-requires
     is-sequencing-requires
-    either-requires
     place-after-requires
     remember-requires
     loop-less

@@ -57,9 +57,6 @@ marked-requires c κs = search needs
 marked-requires-2 : tie.Need-marked-requires-2
 marked-requires-2 c κs = search needs
 
-either-requires : tie.Need-either-requires
-either-requires c κs = search needs
-
 high-requires : tie.Need-high-requires
 high-requires c κs = search needs
 
@@ -78,9 +75,6 @@ is-sequencing-requires c κs = search needs
 is-sequencing-requires-2 : tie.Need-is-sequencing-requires-2
 is-sequencing-requires-2 c κs = search needs
 
-either-requires-2 : tie.Need-either-requires-2
-either-requires-2 c κs = search needs
-
 delaying-requires : tie.Need-delaying-requires
 delaying-requires c κs = search needs
 
@@ -94,25 +88,25 @@ returns-3 : tie.Need-returns-3
 unfolding putAll markAll anyMarked
 returns-3 c =
     λ F E d x h e t u.
-    let a = c .before .before .before .before .before .before .before .before .before .before .before .before .before .before .before .before .before .before .before .before .before .before .before .before .before .before .before .before .before .before .before .before .before .before .before .before .before .args in
-    let y = sym (c .before .before .before .before .before .before .before .before .before .before .before .before .before .before .before .before .before .before .before .before .before .before .before .before .before .before .before .before .before .may-both .ensures) ∙ not-false _ (c .before .before .before .before .before .before .before .before .before .before .before .before .before .before .before .before .before .before .before .before .before .before .before .before .before .before .before .before .if2 .left) in
+    let a = c .before .before .before .before .before .before .before .before .before .before .before .before .before .before .before .before .before .before .before .before .before .before .before .before .before .before .before .before .before .before .before .before .before .before .before .args in
+    let y = sym (c .before .before .before .before .before .before .before .before .before .before .before .before .before .before .before .before .before .before .before .before .before .before .before .before .before .before .before .may-both .ensures) ∙ not-false _ (c .before .before .before .before .before .before .before .before .before .before .before .before .before .before .before .before .before .before .before .before .before .before .before .before .before .before .if2 .left) in
     let k = ap₂ (λ (m n : Kind). cond (mayStore (a .sign) m) (mayStore (a .sign) n) false) (kind-known h (a .p) (a .f) t) (kind-known h (a .q) (a .h) u) in
     let z = both-true _ _ y in
-    let left = spot-put h (a .p) (a .f) t (stored-kind (a .sign) _ (z .0)) (c .before .before .before .before .before .before .before .before .before .before .before .before .before .before .before .before .before .before .before .before .before .before .before .before .before .before .before .spot-of .result) (c .before .before .before .before .before .before .before .before .before .before .before .before .before .before .before .before .before .before .before .before .before .before .before .before .before .before .before .spot-of .ensures (nameOf h (a .p .facility) (a .f) (t .read))) in
-    let right = spot-put h (a .q) (a .h) u (stored-kind (a .sign) _ (z .1)) (c .before .before .before .before .before .before .before .before .before .before .before .before .before .before .before .before .before .before .before .before .before .before .before .before .before .before .spot-of2 .result) (c .before .before .before .before .before .before .before .before .before .before .before .before .before .before .before .before .before .before .before .before .before .before .before .before .before .before .spot-of2 .ensures (nameOf h (a .q .facility) (a .h) (u .read))) in
-    let hits = spot-load h (a .p) (a .f) t (stored-kind (a .sign) _ (z .0)) (c .before .before .before .before .before .before .before .before .before .before .before .before .before .before .before .before .before .before .before .before .before .before .before .before .before .before .before .spot-of .result) (c .before .before .before .before .before .before .before .before .before .before .before .before .before .before .before .before .before .before .before .before .before .before .before .before .before .before .before .spot-of .ensures (nameOf h (a .p .facility) (a .f) (t .read))) (a .mask .now) in
-    let meets = spot-load h (a .q) (a .h) u (stored-kind (a .sign) _ (z .1)) (c .before .before .before .before .before .before .before .before .before .before .before .before .before .before .before .before .before .before .before .before .before .before .before .before .before .before .spot-of2 .result) (c .before .before .before .before .before .before .before .before .before .before .before .before .before .before .before .before .before .before .before .before .before .before .before .before .before .before .spot-of2 .ensures (nameOf h (a .q .facility) (a .h) (u .read))) (a .mask .now) in
+    let left = spot-put h (a .p) (a .f) t (stored-kind (a .sign) _ (z .0)) (c .before .before .before .before .before .before .before .before .before .before .before .before .before .before .before .before .before .before .before .before .before .before .before .before .before .spot-of .result) (c .before .before .before .before .before .before .before .before .before .before .before .before .before .before .before .before .before .before .before .before .before .before .before .before .before .spot-of .ensures (nameOf h (a .p .facility) (a .f) (t .read))) in
+    let right = spot-put h (a .q) (a .h) u (stored-kind (a .sign) _ (z .1)) (c .before .before .before .before .before .before .before .before .before .before .before .before .before .before .before .before .before .before .before .before .before .before .before .before .spot-of2 .result) (c .before .before .before .before .before .before .before .before .before .before .before .before .before .before .before .before .before .before .before .before .before .before .before .before .spot-of2 .ensures (nameOf h (a .q .facility) (a .h) (u .read))) in
+    let hits = spot-load h (a .p) (a .f) t (stored-kind (a .sign) _ (z .0)) (c .before .before .before .before .before .before .before .before .before .before .before .before .before .before .before .before .before .before .before .before .before .before .before .before .before .spot-of .result) (c .before .before .before .before .before .before .before .before .before .before .before .before .before .before .before .before .before .before .before .before .before .before .before .before .before .spot-of .ensures (nameOf h (a .p .facility) (a .f) (t .read))) (a .mask .now) in
+    let meets = spot-load h (a .q) (a .h) u (stored-kind (a .sign) _ (z .1)) (c .before .before .before .before .before .before .before .before .before .before .before .before .before .before .before .before .before .before .before .before .before .before .before .before .spot-of2 .result) (c .before .before .before .before .before .before .before .before .before .before .before .before .before .before .before .before .before .before .before .before .before .before .before .before .spot-of2 .ensures (nameOf h (a .q .facility) (a .h) (u .read))) (a .mask .now) in
     let P = a .pending .now in
     let M = a .mask .now in
     let at-p : ℕ → Write = T.write (bytes d) d (placeMeant (a .p)) in
     let at-q : ℕ → Write = T.write (bytes d) d (placeMeant (a .q)) in
     let ws = at-p (number (a .v .limbs) / 2 ^ a .q .count) ∷ at-q (number (a .v .limbs) % 2 ^ a .q .count) ∷ [] in
-    let pend = c .before .before .before .before .before .before .before .before .delay2 .ensures .0 ∙ (right _ _ ∙ ap₂ (λ (Z : List ℕ) (n : ℕ). putBytes d Z (at-q n)) (c .before .before .before .before .before .before .before .before .before .before .before .before .before .before .before .before .delay .ensures .0 ∙ (left P _ ∙ ap (λ (n : ℕ). putBytes d P (at-p n)) (c .before .before .before .before .before .before .before .before .before .before .before .before .before .before .before .before .before .high .ensures))) (c .before .before .before .before .before .before .before .before .before .low .ensures)) in
-    let masks = c .before .before .before .before .before .before .before .before .delay2 .ensures .1 ∙ (right _ _ ∙ ap (λ (Z : List ℕ). putBytes d Z (at-q (2 ^ 256 - 1))) (c .before .before .before .before .before .before .before .before .before .before .before .before .before .before .before .before .delay .ensures .1 ∙ left M (2 ^ 256 - 1))) in
-    let hit = c .before .before .before .before .before .before .before .before .before .before .before .before .before .before .before .before .before .before .before .before .either .ensures ∙ ap₂ (λ (m n : Bool). m || n) (c .before .before .before .before .before .before .before .before .before .before .before .before .before .before .before .before .before .before .before .before .before .before .before .marked .ensures ∙ ap (ltb 0) hits) (c .before .before .before .before .before .before .before .before .before .before .before .before .before .before .before .before .before .before .before .before .before .marked2 .ensures ∙ (ap (ltb 0) meets ∙ sym (or-false _))) in
-    let seq = c .before .either2 .ensures ∙ ap₂ (λ (m n : Bool). m || n) (c .before .before .before .is-sequencing .ensures ∙ sym (ap isSequencing (kind-known h (a .p) (a .f) t))) (c .before .before .is-sequencing2 .ensures ∙ sym (ap isSequencing (kind-known h (a .q) (a .h) u))) in
-    ap went (seen-late d x (a .g) (a .store .now) P M e (c .delaying .result) ws _ _ (c .before .before .before .before .before .before .before .before .before .before .before .before .before .before .before .before .before .before .before .before .either .result) (c .before .either2 .result) _ pend masks hit seq (c .delaying .ensures))
-    ∙ ap ranSeen (sym (stores-late (bytes d) d _ _ _ _ _ ws x (c .before .before .before .before .before .before .before .before .before .before .before .before .before .before .before .before .before .before .before .before .before .before .before .before .before .before .before .before .before .before .if1 .left) (k ∙ y) (c .before .before .before .before .before .before .before .before .before .before .before .before .before .before .before .before .before .before .before .before .before .before .before .before .before .if3 .taken)))
+    let pend = c .before .before .before .before .before .before .before .delay2 .ensures .0 ∙ (right _ _ ∙ ap₂ (λ (Z : List ℕ) (n : ℕ). putBytes d Z (at-q n)) (c .before .before .before .before .before .before .before .before .before .before .before .before .before .before .before .delay .ensures .0 ∙ (left P _ ∙ ap (λ (n : ℕ). putBytes d P (at-p n)) (c .before .before .before .before .before .before .before .before .before .before .before .before .before .before .before .before .high .ensures))) (c .before .before .before .before .before .before .before .before .low .ensures)) in
+    let masks = c .before .before .before .before .before .before .before .delay2 .ensures .1 ∙ (right _ _ ∙ ap (λ (Z : List ℕ). putBytes d Z (at-q (2 ^ 256 - 1))) (c .before .before .before .before .before .before .before .before .before .before .before .before .before .before .before .delay .ensures .1 ∙ left M (2 ^ 256 - 1))) in
+    let hit = ap₂ (λ (m n : Bool). m || n) (c .before .before .before .before .before .before .before .before .before .before .before .before .before .before .before .before .before .before .before .before .before .marked .ensures ∙ ap (ltb 0) hits) (c .before .before .before .before .before .before .before .before .before .before .before .before .before .before .before .before .before .before .before .marked2 .ensures ∙ (ap (ltb 0) meets ∙ sym (or-false _))) in
+    let seq = ap₂ (λ (m n : Bool). m || n) (c .before .before .is-sequencing .ensures ∙ sym (ap isSequencing (kind-known h (a .p) (a .f) t))) (c .before .is-sequencing2 .ensures ∙ sym (ap isSequencing (kind-known h (a .q) (a .h) u))) in
+    ap went (seen-late d x (a .g) (a .store .now) P M e (c .delaying .result) ws _ _ (c .before .before .before .before .before .before .before .before .before .before .before .before .before .before .before .before .before .before .before .before .before .marked .result || c .before .before .before .before .before .before .before .before .before .before .before .before .before .before .before .before .before .before .before .marked2 .result) (c .before .before .is-sequencing .result || c .before .is-sequencing2 .result) _ pend masks hit seq (c .delaying .ensures))
+    ∙ ap ranSeen (sym (stores-late (bytes d) d _ _ _ _ _ ws x (c .before .before .before .before .before .before .before .before .before .before .before .before .before .before .before .before .before .before .before .before .before .before .before .before .before .before .before .before .if1 .left) (k ∙ y) (c .before .before .before .before .before .before .before .before .before .before .before .before .before .before .before .before .before .before .before .before .before .before .before .if3 .taken)))
 
 high-requires-2 : tie.Need-high-requires-2
 high-requires-2 c κs = search needs
@@ -163,14 +157,12 @@ store-pair-spec =
     spot-of-requires-2
     marked-requires
     marked-requires-2
-    either-requires
     high-requires
     delay-requires
     low-requires
     delay-requires-2
     is-sequencing-requires
     is-sequencing-requires-2
-    either-requires-2
     delaying-requires
     same-length
     same-length-2
