@@ -10,10 +10,9 @@ use borrow.Author.Tests.{le-leb, lt-leb}
 use lib.ListN.{getD, length}
 use Rattle.language.specs.Decode.{boundsAt, facilityOf, halfAt, kindOf, numberAt, runAt, valueOf}
 use Rattle.language.specs.Description as D
-use Rattle.language.specs.Description.{bounds, isComputed, noRun}
+use Rattle.language.specs.Description.{isComputed, noRun}
 use Rattle.language.specs.Tree as T
 use Rattle.language.specs.Tree.{Name}
-use Rattle.records.proofs.NumberLaws.{number-past}
 use Rattle.image.specs.Declarations.{facilityIn, nameLengthIn, noneNamed, operationIn, placeFieldIn, stateIn}
 
 pub name-past : (size inside : ℕ) (s : List ℕ) (n : ℕ) → length s < size * n + size → nameLengthIn size inside s n ≡ 0

@@ -1,6 +1,6 @@
 -- The cases that 01 marks P ("Cases"), as entries of one table under one statement: a text, its lines of input bits, and what the trace program prints.
-use mathlib.Core.Bool.{Bool, true, false, cond, _&&_}
-use mathlib.Core.List.{List, [], _∷_, _++_, map}
+use mathlib.Core.Bool.{Bool, true, _&&_}
+use mathlib.Core.List.{List, [], _∷_, map}
 use mathlib.Core.Path.{_≡_, refl}
 use Prim.Native.String.{String}
 use Rattle.language.specs.Computing.{computing}

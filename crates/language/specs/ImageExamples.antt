@@ -1,17 +1,16 @@
 -- The worked image of docs/IMAGE.md, computed from 01's example; it passes, it is read back, and what is changed in it no longer passes.
-use mathlib.Core.Bool.{Bool, true, false}
+use mathlib.Core.Bool.{true, false}
 use mathlib.Core.List.{List, [], _∷_, _++_}
 use mathlib.Core.Path.{_≡_, refl}
 use Prim.Native.Nat.{ℕ}
 use lib.ListN.{set, take}
-use Rattle.language.specs.Calls as Calls
-use Rattle.language.specs.Calls.{CycleAnswer, cycle, open′, refusedFor}
+use Rattle.language.specs.Calls.{cycle, open′, refusedFor}
 use Rattle.language.specs.Computing.{computing}
 use Rattle.language.specs.Image.{passes}
 use Rattle.language.specs.Lookups.{facilityName, partOf, refused, stateName}
 use Rattle.language.specs.Reading.{accepted, read}
 use Rattle.language.specs.Reading as Reading
-use Rattle.language.specs.Scan.{bytes, same}
+use Rattle.language.specs.Scan.{bytes}
 
 -- 01, "Cases".
 example : List ℕ

@@ -1,6 +1,6 @@
 -- The rules of references (01, "Lengths" and refusals 4, 6 and 7; the manual, 5.1.1).
 use mathlib.Core.Bool.{cond}
-use mathlib.Core.List.{List, [], _∷_, _++_}
+use mathlib.Core.List.{List, [], _++_}
 use mathlib.Core.Option.{Option, none, some}
 use Prim.Native.Nat.{ℕ, _+_}
 use lib.Dec.{eqb, ltb}

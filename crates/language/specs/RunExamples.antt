@@ -2,7 +2,6 @@
 use mathlib.Core.Bool.{true}
 use mathlib.Core.List.{List, [], _∷_}
 use mathlib.Core.Path.{_≡_, refl}
-use Prim.Native.String.{String}
 use Rattle.language.specs.Cases.{Case, allHold, entry, holds}
 use Rattle.language.specs.Computing.{computing}
 

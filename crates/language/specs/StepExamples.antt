@@ -1,10 +1,10 @@
 -- What a cycle answers, computed over the calls on bytes: conflicts, bytes kept and landed, the record, refusals of store and record.
-use mathlib.Core.List.{List, [], _∷_, _++_}
+use mathlib.Core.List.{List, [], _∷_}
 use mathlib.Core.Path.{_≡_, refl}
 use Prim.Native.Nat.{ℕ}
 use Prim.Native.String.{String}
 use lib.ListN.{replicate, set}
-use Rattle.language.specs.Calls.{CycleCall, OpenCall, cycle, cycled, open′, refusedFor, run, ran, stoppedFor}
+use Rattle.language.specs.Calls.{CycleCall, OpenCall, cycle, cycled, open′, refusedFor, run, stoppedFor}
 use Rattle.language.specs.Computing.{computing}
 use Rattle.language.specs.Encode.{encode}
 use Rattle.language.specs.Reading.{Read, legal, readText, refusedAt}

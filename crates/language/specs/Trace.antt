@@ -1,10 +1,10 @@
 -- What the trace program prints (01, "Cases"), over the public calls alone: reading, opening, and a cycle for each line of input bits.
-use mathlib.Core.Bool.{Bool, true, false, cond}
+use mathlib.Core.Bool.{Bool, false, cond}
 use mathlib.Core.List.{List, [], _∷_, _++_}
 use mathlib.Core.Option.{Option, none, some}
 use Prim.Native.Nat.{ℕ, zero, suc, _+_, _-_, _*_, _/_, _%_, _^_}
 use lib.Dec.{eqb, leb}
-use lib.ListN.{drop, length, take}
+use lib.ListN.{drop}
 use Rattle.language.specs.Calls.{CycleAnswer, CycleCall, OpenCall, cycle, cycled, open′, refusedFor, stoppedFor}
 use Rattle.language.specs.Decode.{decode}
 use Rattle.language.specs.Description.{Description, Facility, isComputed, stateAt, wordLength}

@@ -1,13 +1,13 @@
 -- The ends of a part.
 use mathlib.Core.Bool.{Bool, true, false, true≢false}
 use mathlib.Core.List.{List, _∷_}
-use mathlib.Core.Path.{_≡_, refl, sym, ap, _∙_}
+use mathlib.Core.Path.{_≡_, sym, ap, _∙_}
 use Prim.Native.Nat.{ℕ, _-_}
 use native.Mathlib.Omega.{arith}
 use borrow.Author.Tests.{eqb-true}
 use lib.Dec.{eqb}
 use Rattle.language.specs.Building.{Built, keepWord}
-use Rattle.language.specs.Machine.{Counts, ask, both, closes, keep, make, refused, word}
+use Rattle.language.specs.Machine.{Counts, ask, closes, keep, make, refused, word}
 use Rattle.language.specs.Words as L
 use Rattle.words.specs.declared.Word.{Word}
 use Rattle.course.specs.declared.Answer.{Answer}

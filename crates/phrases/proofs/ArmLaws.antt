@@ -11,7 +11,7 @@ use Rattle.language.specs.Declaring.{treeSteps}
 use Rattle.language.specs.Describe.{armsOf, expressionSize, lastOf, nodesOf, noted}
 use Rattle.language.specs.Description as D
 use Rattle.language.specs.Encode.{nodeBytes}
-use Rattle.language.specs.Machine.{Counts, ask, both, closes, expression, make, level, term, word}
+use Rattle.language.specs.Machine.{Counts, ask, closes, expression, make, level, term, word}
 use Rattle.language.specs.Naming.{Scope}
 use Rattle.language.specs.Tree as T
 use Rattle.language.specs.Tree.{Expression}

@@ -9,7 +9,6 @@ use Rattle.language.specs.Building.{Built, expressionNo, keepWord, wordNo}
 use Rattle.language.specs.Declaring.{treeSteps}
 use Rattle.language.specs.Describe.{expressionSize, lastOf, nodesOf, noted}
 use Rattle.language.specs.Description as D
-use Rattle.language.specs.Encode.{nodeBytes}
 use Rattle.language.specs.Machine.{Counts, ask, cutTail, keep, make}
 use Rattle.language.specs.Naming.{Scope}
 use Rattle.language.specs.Tree as T

@@ -4,7 +4,7 @@ use mathlib.Core.Option.{Option, none, some}
 use Prim.Native.Nat.{ℕ, _+_}
 use lib.Dec.{eqb, ltb}
 use Rattle.language.specs.Description as D
-use Rattle.language.specs.Description.{Bounds, Description, Facility, FacilityPlaces, Node, NodePlaces, Places, StatePlaces, actionPlace, facilityAt, facilityPlace, inBounds, isComputed, nodeAt, nodePlace, statePlace}
+use Rattle.language.specs.Description.{Bounds, Description, Facility, FacilityPlaces, Node, NodePlaces, Places, actionPlace, facilityAt, facilityPlace, inBounds, isComputed, nodeAt, nodePlace, statePlace}
 use Rattle.language.specs.Expressions as E
 use Rattle.language.specs.Expressions.{judgeNode, ownWork, selects}
 use Rattle.language.specs.Judging.{Judged, both}

@@ -3,7 +3,7 @@ use mathlib.Core.Bool.{Bool, true, false, cond}
 use mathlib.Core.List.{List, [], _∷_, _++_}
 use Prim.Native.Nat.{ℕ, zero, suc}
 use lib.Dec.{eqb, leb, ltb}
-use Rattle.language.specs.Judging.{Judged, Worth, armList, faultsOf, faulty, fine, given, givenBoth, orFaulty, proper, refuse, sized, unless, worth}
+use Rattle.language.specs.Judging.{Judged, Worth, armList, faultsOf, faulty, fine, given, givenBoth, orFaulty, proper, refuse, sized, unless}
 use Rattle.language.specs.Recursion.{below}
 use Rattle.language.specs.Value.{longest}
 use Rattle.language.specs.Words.{Fault, Position}

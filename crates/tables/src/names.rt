@@ -4,10 +4,8 @@ use crate::rows;
 use records::numbers;
 use words::Position;
 use words::places;
-ghost use mathlib.Core.List.{_++_};
 ghost use mathlib.Core.Path.{_≡_};
 ghost use Prim.Native.Nat.{_<_};
-ghost use Rattle.language.specs.Encode as L;
 ghost use Rattle.tables.specs.Names.{nameRow};
 ghost use Rattle.tables.specs.Rows.{Wrote, most, size};
 
