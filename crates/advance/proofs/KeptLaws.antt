@@ -6,10 +6,10 @@ use Rattle.language.specs.Description.{Facility}
 use Rattle.language.specs.Store.{Words}
 use Rattle.next.specs.Seen.{recordMeant}
 use Rattle.next.specs.declared.record.Record.{Record}
-use Rattle.step.specs.Stepped.{ended, stepped}
-use Rattle.step.specs.declared.outcome.Stepped.{Stepped}
-use Rattle.step.specs.declared.outcome.Verdict.{Verdict}
-use Rattle.step.specs.declared.outcome.Verdict.the-variants as Ends
+use Rattle.ending.specs.Stepped.{ended, stepped}
+use Rattle.ending.specs.declared.outcome.Stepped.{Stepped}
+use Rattle.ending.specs.declared.outcome.Verdict.{Verdict}
+use Rattle.ending.specs.declared.outcome.Verdict.the-variants as Ends
 use Rattle.advance.specs.Kept.{kept}
 
 pub kept-again : (v : Verdict) (r t : Record) → kept v r t ≡ kept v r (kept v r t)

@@ -1,7 +1,7 @@
 // The run record advanced where it stands: the one function that lends it mutably.
+use ending::outcome::Stepped;
+use ending::outcome::Verdict;
 use next::record::Record;
-use step::outcome::Stepped;
-use step::outcome::Verdict;
 ghost use mathlib.Core.Path.{_≡_};
 ghost use Prim.Native.Nat.{_/_, _≤_};
 ghost use lib.ListN.{length};
@@ -12,8 +12,8 @@ ghost use Rattle.language.specs.Step as S;
 ghost use Rattle.language.specs.Store.{fromBytes, inputsOf};
 ghost use Rattle.act.specs.Acts.{Acts};
 ghost use Rattle.next.specs.Seen.{recordMeant};
-ghost use Rattle.step.specs.Register.{Enters};
-ghost use Rattle.step.specs.Stepped.{Clear, counted, stepped};
+ghost use Rattle.ending.specs.Register.{Enters};
+ghost use Rattle.ending.specs.Stepped.{Clear, counted, stepped};
 ghost use Rattle.advance.specs.Kept.{kept};
 
 // The answer s of a cycle from the record r, with the record that the cycle leaves.

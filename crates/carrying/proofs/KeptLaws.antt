@@ -17,9 +17,9 @@ use Rattle.stays.specs.StaysSound.{completed-back}
 use Rattle.layout.proofs.Inverse.{bytes-again}
 use Rattle.layout.specs.Layout.{Bytes}
 use Rattle.layout.specs.Slices.{copied}
-use Rattle.step.specs.Stepped.{ended}
-use Rattle.step.specs.declared.outcome.Verdict.{Verdict}
-use Rattle.step.specs.declared.outcome.Verdict.the-variants as Ends
+use Rattle.ending.specs.Stepped.{ended}
+use Rattle.ending.specs.declared.outcome.Verdict.{Verdict}
+use Rattle.ending.specs.declared.outcome.Verdict.the-variants as Ends
 use Rattle.carrying.specs.Carried.{calledWith, completedBack, keptRecord, keptStore}
 
 pub copied-over : (B X : List ℕ) → length X ≤ length B → copied B X ≡ over X B

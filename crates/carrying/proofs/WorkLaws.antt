@@ -18,8 +18,8 @@ use Rattle.act.proofs.SectionLaws.{sections-act}
 use Rattle.act.specs.Acts.{Acts}
 use Rattle.lookups.proofs.PassLaws.{states-many}
 use Rattle.sound.proofs.PassedLaws.{passed-described, passed-fits, passed-register, passed-valued}
-use Rattle.step.specs.Register.{Enters}
-use Rattle.step.specs.Stepped.{counted}
+use Rattle.ending.specs.Register.{Enters}
+use Rattle.ending.specs.Stepped.{counted}
 
 module _ (image : List ℕ) (passed : passes image ≡ true) where
   abbrev d : Description

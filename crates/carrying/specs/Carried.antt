@@ -10,9 +10,9 @@ use Rattle.language.specs.RecordBytes.{recordBytes, recordFrom, recordSize}
 use Rattle.language.specs.Step as S
 use Rattle.layout.specs.Slices.{copied}
 use Rattle.next.specs.Seen.{recordMeant}
-use Rattle.step.specs.declared.outcome.Stepped.{Stepped}
-use Rattle.step.specs.declared.outcome.Verdict.{Verdict}
-use Rattle.step.specs.declared.outcome.Verdict.the-variants as Ends
+use Rattle.ending.specs.declared.outcome.Stepped.{Stepped}
+use Rattle.ending.specs.declared.outcome.Verdict.{Verdict}
+use Rattle.ending.specs.declared.outcome.Verdict.the-variants as Ends
 
 -- The sections of an image, but for its names.
 pub record Sliced (image facilities operations expressions actions states : List ℕ) : Type 0 where

@@ -1,8 +1,8 @@
 // A cycle that is not refused: on the caller's store, from sections of the image and a record by value.
+use ending::outcome::Stepped;
+use ending::outcome::Verdict;
 use next::record::Record;
 use sound::record;
-use step::outcome::Stepped;
-use step::outcome::Verdict;
 use store::slices;
 ghost use mathlib.Core.List.{List};
 ghost use mathlib.Core.Option.{none};

@@ -20,7 +20,7 @@ pub fn read(text: &[u8], image: &[u8], case: &[u8], room: &mut [u8], first: u8) 
 pub fn open(image: &[u8], case: &[u8], store: &mut [u8], record: &mut [u8], first: u8) -> bool {
     lent::garbage(store, first);
     lent::garbage(record, first);
-    let answer = open::open::open(image, store, record);
+    let answer = open::open::open(image, passes::passes(image), store, record);
     if !told::open_told(case, answer) {
         return false;
     }
@@ -56,7 +56,14 @@ fn cycle(
     scratch: &mut [u8],
 ) -> bool {
     let stimulus = case::part(case, case::STIMULI);
-    let answer = cycle::cycle::cycle(image, store, record, stimulus, scratch);
+    let answer = cycle::cycle::cycle(
+        image,
+        passes::passes(image),
+        store,
+        record,
+        stimulus,
+        scratch,
+    );
     if !told::cycle_told(case, answer) {
         return false;
     }
@@ -73,7 +80,16 @@ fn run(
 ) -> bool {
     let stimuli = case::part(case, case::STIMULI);
     let cycles = numbers::four(case, case::CYCLES);
-    let answer = run::run::run(image, store, record, stimuli, cycles, scratch, trace);
+    let answer = run::run::run(
+        image,
+        passes::passes(image),
+        store,
+        record,
+        stimuli,
+        cycles,
+        scratch,
+        trace,
+    );
     if !told::run_told(case, answer) {
         return false;
     }

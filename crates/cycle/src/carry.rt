@@ -1,10 +1,10 @@
 // A cycle that is not refused, on the caller's buffers.
 use answers::cycled::Answer;
+use ending::outcome::Stepped;
+use ending::outcome::Verdict;
 use image::sections;
 use sound::record;
 use sound::sizes;
-use step::outcome::Stepped;
-use step::outcome::Verdict;
 use store::slices;
 ghost use mathlib.Core.List.{List};
 ghost use mathlib.Core.Option.{none};

@@ -6,6 +6,7 @@ ghost use mathlib.Core.Path.{_≡_};
 ghost use Rattle.language.specs.Calls as L;
 ghost use Rattle.language.specs.Calls.{cycleRefusal};
 ghost use Rattle.language.specs.Description.{Description};
+ghost use Rattle.language.specs.Image.{passes};
 ghost use Rattle.language.specs.Layout.{storeSize};
 ghost use Rattle.cycle.specs.Refusals.{refusalMeant};
 
@@ -27,17 +28,19 @@ pub fn roomy(size: usize, store: usize, record: usize, scratch: usize) -> bool
     size <= scratch / 4
 }
 
-// The first refusal, if there is one: 13, 12, 14, 15 in this order. `scratch` is the length of that buffer.
+// The first refusal, if there is one: 13, 12, 14, 15 in this order. Whether the image passes is known; `scratch` is the length of that buffer.
 pub fn first_refusal(
     image: &[u8],
+    passed: bool,
     store: &[u8],
     record: &[u8],
     stimulus: &[u8],
     scratch: usize,
 ) -> Refusal
+    requires { ⌜ passed ≡ passes (now image) ⌝ }
     ensures { λ r. ⌜ refusalMeant r ≡ cycleRefusal (now (image .entry)) (now (store .entry)) (now («record» .entry)) (now (stimulus .entry)) scratch ⌝ }
 {
-    if !passes::passes(image) {
+    if !passed {
         return Refusal::At(13);
     }
     let facilities = sections::section(image, 0, 13);

@@ -1,12 +1,12 @@
 // The cycles of a run that is not refused.
 use crate::formed;
 use answers::ran::Tally;
+use ending::outcome::Verdict;
 use image::sections;
 use next::record::Record;
 use records::bytes;
 use sound::record;
 use sound::sizes;
-use step::outcome::Verdict;
 use store::slices;
 ghost use mathlib.Core.List.{List};
 ghost use mathlib.Core.Option.{none};

@@ -26,7 +26,7 @@ pub extern "C" fn ddlp_open(image: &[u8], store: &mut [u8], record: &mut [u8]) -
     ensures { λ _. ⌜ now (store .exit) ≡ L.open′ (now (image .entry)) (length (now (store .entry))) (length (now («record» .entry))) .store ⌝ }
     ensures { λ _. ⌜ now («record» .exit) ≡ L.open′ (now (image .entry)) (length (now (store .entry))) (length (now («record» .entry))) .record′ ⌝ }
 {
-    let answer = open::open::open(image, store, record);
+    let answer = open::open::open(image, passes::passes(image), store, record);
     numbers::open_number(answer)
 }
 
@@ -44,7 +44,14 @@ pub extern "C" fn ddlp_cycle(
     ensures { λ _. ⌜ now («record» .exit) ≡ L.cycle (now (image .entry)) (now (store .entry)) (now («record» .entry)) (now (stimulus .entry)) (length (now (scratch .entry))) .record′ ⌝ }
     ensures { λ _. ⌜ now (scratch .exit) ≡ L.cycle (now (image .entry)) (now (store .entry)) (now («record» .entry)) (now (stimulus .entry)) (length (now (scratch .entry))) .scratch ⌝ }
 {
-    let answer = cycle::cycle::cycle(image, store, record, stimulus, scratch);
+    let answer = cycle::cycle::cycle(
+        image,
+        passes::passes(image),
+        store,
+        record,
+        stimulus,
+        scratch,
+    );
     numbers::cycle_numbers(answer)
 }
 
@@ -65,6 +72,15 @@ pub extern "C" fn ddlp_run(
     ensures { λ _. ⌜ now (scratch .exit) ≡ L.run (now (image .entry)) (now (store .entry)) (now («record» .entry)) (now (stimuli .entry)) cycles (length (now (scratch .entry))) (length (now (trace .entry))) .scratch ⌝ }
     ensures { λ _. ⌜ now (trace .exit) ≡ L.run (now (image .entry)) (now (store .entry)) (now («record» .entry)) (now (stimuli .entry)) cycles (length (now (scratch .entry))) (length (now (trace .entry))) .trace ⌝ }
 {
-    let answer = run::run::run(image, store, record, stimuli, cycles, scratch, trace);
+    let answer = run::run::run(
+        image,
+        passes::passes(image),
+        store,
+        record,
+        stimuli,
+        cycles,
+        scratch,
+        trace,
+    );
     numbers::run_numbers(answer)
 }

@@ -2,10 +2,7 @@ pub mod AddsLaws
 pub mod BitLaws
 pub mod DecimalLaws
 pub mod LabelLaws
-pub mod LineBits
 pub mod LineLoop
 pub mod LineRoom
-pub mod LineTaken
-pub mod LineWord
 pub mod NameLoop
 pub mod TextLaws

@@ -1,4 +1,3 @@
 pub mod Adds
 pub mod Room
-pub mod Stimulus
 pub mod Texts

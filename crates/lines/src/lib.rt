@@ -1,5 +1,4 @@
-// What the trace program prints and takes, line by line.
+// What the trace program prints, line by line.
 pub mod line;
 pub mod out;
 pub mod shown;
-pub mod stimulus;

@@ -25,7 +25,7 @@ use Rattle.referents.specs.Described.{Describes}
 use Rattle.lookups.proofs.PassLaws.{states-many}
 use Rattle.begin.proofs.BeginLaws.{bytes-zeros, zeros}
 use Rattle.sound.proofs.PassedLaws.{passed-described, passed-facilities, passed-fits, passed-register, passed-size, passed-valued}
-use Rattle.step.specs.Register.{Enters, entered}
+use Rattle.ending.specs.Register.{Enters, entered}
 
 drop-zeroes : (k n : ℕ) → drop k (zeroes n) ≡ zeroes (n - k)
 drop-zeroes zero n = let e : n - 0 ≡ n = omega arith in rw e

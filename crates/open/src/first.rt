@@ -1,9 +1,9 @@
 // The first state is entered, in a store and a record that are zero.
+use ending::register;
 use image::sections;
 use next::record::Record;
 use sound::record;
 use sound::sizes;
-use step::register;
 ghost use mathlib.Core.Bool.{true};
 ghost use mathlib.Core.Path.{_≡_};
 ghost use Prim.Native.Nat.{_≤_};

@@ -1,4 +1,4 @@
-// The call: the tests in their order, and every byte of both buffers.
+// Opening: the tests in their order, and every byte of both buffers, where it is known whether the image passes.
 use crate::first;
 use answers::opened::Answer;
 use image::sections;
@@ -37,12 +37,13 @@ fn roomy(image: &[u8], store: usize, kept: usize) -> bool
 }
 
 // Store and record are zero, but on success for the first state's part of them.
-pub fn open(image: &[u8], store: &mut [u8], kept: &mut [u8]) -> Answer
+pub fn open(image: &[u8], passed: bool, store: &mut [u8], kept: &mut [u8]) -> Answer
+    requires { ⌜ passed ≡ L.passes (now image) ⌝ }
     ensures { λ r. ⌜ called r (now (store .exit)) (now (kept .exit)) ≡ open′ (now (image .entry)) (length (now (store .entry))) (length (now (kept .entry))) ⌝ }
 {
     slices::zero(store);
     slices::zero(kept);
-    if !passes::passes(image) {
+    if !passed {
         return Answer::Refused(NO_IMAGE);
     }
     if !roomy(image, store.len(), kept.len()) {

@@ -27,10 +27,10 @@ use Rattle.words.specs.declared.Fault.{Fault}
 use Rattle.words.specs.declared.Judged.{Judged}
 use Rattle.words.specs.declared.Judged.the-variants as J
 use Rattle.words.specs.Meaning.{firstFault, judged}
-use Rattle.writing.proofs.StandingLaws.{image-stands}
-use Rattle.writing.proofs.TextsStand.{names-room, text-judged}
-use Rattle.writing.specs.declared.Tally.{Tally}
-use Rattle.writing.specs.Sections.{Few, besideHeld, namesHeld, sectionsHeld}
+use Rattle.held.proofs.StandingLaws.{image-stands}
+use Rattle.held.proofs.TextsStand.{names-room, text-judged}
+use Rattle.held.specs.declared.Tally.{Tally}
+use Rattle.held.specs.Sections.{Few, besideHeld, namesHeld, sectionsHeld}
 
 -- ---- The rest of the rules.
 

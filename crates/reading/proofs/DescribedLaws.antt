@@ -29,7 +29,7 @@ use Rattle.simple.specs.declared.Acted.{Acted}
 use Rattle.states.specs.Begins.{lengthOf}
 use Rattle.tables.specs.declared.Table.the-variants as Tb
 use Rattle.tables.specs.Rows.{rows}
-use Rattle.writing.proofs.NearTrees.{text-near}
+use Rattle.held.proofs.NearTrees.{text-near}
 use Rattle.reading.proofs.LengthLaws.{Lends}
 use Rattle.reading.proofs.Sequenced.{lengthNo, register-lent}
 use Rattle.reading.proofs.OutcomeLaws.{done-so, refused-so}

@@ -13,7 +13,7 @@ use Rattle.tables.specs.declared.Table.{Table}
 use Rattle.tables.specs.Rows.{from, most, rows, size}
 use Rattle.work.proofs.Regions.{same-held}
 use Rattle.work.specs.Held.{Held, held, placesFrom, withNodes}
-use Rattle.writing.proofs.BodyLaws.{row-length}
+use Rattle.held.proofs.BodyLaws.{row-length}
 
 -- ---- Rows of a table.
 

@@ -8,7 +8,7 @@ use lib.Seq.{take-append-seam}
 use Rattle.language.specs.Reading.{filled}
 use Rattle.tables.specs.declared.Table.the-variants as T
 use Rattle.tables.specs.Rows.{rows}
-use Rattle.writing.proofs.BodyLaws.{row-most}
+use Rattle.held.proofs.BodyLaws.{row-most}
 use Rattle.records.proofs.FilledLaws.{filled-none}
 
 -- Few enough facilities and operations.

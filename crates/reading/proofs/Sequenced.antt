@@ -22,10 +22,10 @@ use Rattle.legal.specs.Tidy.{TextTidy}
 use Rattle.legal.specs.WithinCounts.{declarationsOf}
 use Rattle.noted.specs.Noted.{facilityBesideBytes, placesIn}
 use Rattle.states.specs.Begins.{lengthOf, plainAt}
-use Rattle.writing.proofs.NotedBack.{description-back}
-use Rattle.writing.proofs.TextFits.{text-readable}
-use Rattle.writing.specs.NearTexts.{TextNear}
-use Rattle.writing.specs.Standing.{Readable, besideOf, zipped}
+use Rattle.held.proofs.NotedBack.{description-back}
+use Rattle.held.proofs.TextFits.{text-readable}
+use Rattle.held.specs.NearTexts.{TextNear}
+use Rattle.held.specs.Standing.{Readable, besideOf, zipped}
 use Rattle.reading.proofs.LengthLaws.{Lends}
 use Rattle.reading.proofs.WholeLaws.{besides-zipped}
 use Rattle.reading.specs.Lengths.{lending}

@@ -40,11 +40,11 @@ use Rattle.words.specs.declared.Fault.{Fault}
 use Rattle.words.specs.declared.Judged.{Judged}
 use Rattle.words.specs.declared.Judged.the-variants as J
 use Rattle.words.specs.Meaning.{firstFault, judged}
-use Rattle.writing.proofs.BodyLaws.{row-most}
-use Rattle.writing.proofs.StandingLaws.{sections-stand}
-use Rattle.writing.proofs.TextsStand.{names-room, text-judged}
-use Rattle.writing.specs.declared.Tally.{Tally}
-use Rattle.writing.specs.Sections.{besideHeld, sectionsHeld}
+use Rattle.held.proofs.BodyLaws.{row-most}
+use Rattle.held.proofs.StandingLaws.{sections-stand}
+use Rattle.held.proofs.TextsStand.{names-room, text-judged}
+use Rattle.held.specs.declared.Tally.{Tally}
+use Rattle.held.specs.Sections.{besideHeld, sectionsHeld}
 use Rattle.written.specs.Whole.{encode-long, sized}
 use Rattle.answers.specs.Reading.{Short}
 

@@ -26,9 +26,9 @@ use Rattle.tables.specs.Rows.{rows}
 use Rattle.words.specs.declared.Word.{Word}
 use Rattle.work.proofs.NodesAdded.{nodes-append, concat-append}
 use Rattle.work.specs.Held.{Held, held, withNodes}
-use Rattle.writing.proofs.StandingLaws.{zipped-one}
-use Rattle.writing.specs.Sections.{Few}
-use Rattle.writing.specs.Standing.{zipped}
+use Rattle.held.proofs.StandingLaws.{zipped-one}
+use Rattle.held.specs.Sections.{Few}
+use Rattle.held.specs.Standing.{zipped}
 use Rattle.reading.proofs.Fronts.{concat-mapped, rows-none}
 use Rattle.reading.specs.Ready.{Whole, lengthIn, tallied}
 

@@ -20,9 +20,9 @@ use Rattle.states.specs.States.{moreOf, startStack}
 use Rattle.words.specs.declared.Fault.{Fault}
 use Rattle.words.specs.declared.Word.{Word}
 use Rattle.words.specs.Meaning.{faulted}
-use Rattle.writing.specs.declared.Tally.{Tally}
-use Rattle.writing.specs.Sections.{Few}
-use Rattle.writing.specs.Standing.{Stands, StandsBeside}
+use Rattle.held.specs.declared.Tally.{Tally}
+use Rattle.held.specs.Sections.{Few}
+use Rattle.held.specs.Standing.{Stands, StandsBeside}
 
 -- For some facilities and operations.
 pub record Behind (text : List ℕ) (w : Word) (s : State) (acts : ℕ) (work : List ℕ) : Type 0 where

@@ -6,7 +6,7 @@ use lib.ListN.{length}
 use Rattle.reading.specs.Outcomes.{Parses}
 use Rattle.language.specs.DescribeText.{describe}
 use Rattle.language.specs.Reading.{ReadCall, readCall, restOf}
-use Rattle.writing.specs.declared.Tally.{Tally}
+use Rattle.held.specs.declared.Tally.{Tally}
 
 -- What is owed of a text that the array holds, in a buffer of n bytes.
 abbrev pub Writes : List ℕ → List ℕ → Tally → ℕ → ReadCall → Type 0

@@ -1,6 +1,6 @@
 // A whole text, read into the working array: its facilities, operations and states with the places of their words.
+use held::Tally;
 use words::Fault;
-use writing::Tally;
 
 pub mod labels;
 pub mod lengths;

@@ -1,12 +1,12 @@
 // What the working array holds, judged by all the rules.
 use faults::least_fault;
+use held::Tally;
+use held::body;
+use held::counts;
+use held::names;
 use records::bytes;
 use tables::Table;
 use words::Judged;
-use writing::Tally;
-use writing::body;
-use writing::counts;
-use writing::names;
 ghost use mathlib.Core.Path.{_≡_};
 ghost use Prim.Native.Nat.{_≤_};
 ghost use lib.ListN.{length};
@@ -14,7 +14,7 @@ ghost use Rattle.language.specs.Rules as L;
 ghost use Rattle.language.specs.WordStage.{least};
 ghost use Rattle.noted.specs.Noted.{notedDescription, placesIn};
 ghost use Rattle.words.specs.Meaning.{judged};
-ghost use Rattle.writing.specs.Sections.{Few, besideHeld, namesHeld, sectionsHeld};
+ghost use Rattle.held.specs.Sections.{Few, besideHeld, namesHeld, sectionsHeld};
 
 // The least of all faults. 640 names of at most 132 letters have 84,480.
 pub fn judge(text: &[u8], work: &[u8; 275296], c: Tally) -> Judged

@@ -9,6 +9,7 @@ ghost use mathlib.Core.Path.{_≡_};
 ghost use Prim.Native.Nat.{_≤_};
 ghost use Rattle.language.specs.Calls.{runRefusal, traceRoomy};
 ghost use Rattle.language.specs.Description.{Description};
+ghost use Rattle.language.specs.Image.{passes};
 ghost use Rattle.language.specs.Layout.{storeSize};
 ghost use Rattle.cycle.specs.Refusals.{refusalMeant};
 
@@ -23,9 +24,10 @@ fn trace_roomy(size: usize, cycles: u32, trace: usize) -> bool
     cycles as usize * size <= trace
 }
 
-// The first refusal, if there is one: 13, 12, 14, 15 in this order. `scratch` and `trace` are the lengths of those buffers.
+// The first refusal, if there is one: 13, 12, 14, 15 in this order. Whether the image passes is known; `scratch` and `trace` are the lengths of those buffers.
 pub fn run_refusal(
     image: &[u8],
+    passed: bool,
     store: &[u8],
     record: &[u8],
     stimuli: &[u8],
@@ -33,9 +35,10 @@ pub fn run_refusal(
     scratch: usize,
     trace: usize,
 ) -> Refusal
+    requires { ⌜ passed ≡ passes (now image) ⌝ }
     ensures { λ r. ⌜ refusalMeant r ≡ runRefusal (now (image .entry)) (now (store .entry)) (now («record» .entry)) (now (stimuli .entry)) cycles scratch trace ⌝ }
 {
-    if !passes::passes(image) {
+    if !passed {
         return Refusal::At(13);
     }
     let facilities = sections::section(image, 0, 13);

@@ -1,4 +1,1 @@
-pub mod WordPut
-pub mod RegisterLaws
-pub mod FinishLaws
 pub mod StepLaws

@@ -27,7 +27,7 @@ use Rattle.begin.proofs.BeginLaws.{zeros}
 use Rattle.begin.proofs.BegunWords.{Rooms, begun-are-bytes, begun-as-long, begun-means}
 use Rattle.join.proofs.Finished.{Ended, run-ended}
 use Rattle.join.proofs.Joined.{actions-joined}
-use Rattle.step.specs.Stepped.{Clear, Landed, counted, nothingIn}
+use Rattle.ending.specs.Stepped.{Clear, Landed, counted, nothingIn}
 
 module _ (d : Description) (s : Words) (r : S.Record) (ins : Words) where
   pub step-last : 4294967295 ≤ r .cycle → S.stopped 7 ≡ counted (S.step d s r ins)

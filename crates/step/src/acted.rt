@@ -17,7 +17,7 @@ ghost use Rattle.layout.specs.InBytes.{bytes};
 ghost use Rattle.storing.specs.Seen.{did, ranSeen};
 ghost use Rattle.act.specs.Acts.{Acts};
 ghost use Rattle.next.specs.Values.{Valued};
-ghost use Rattle.step.specs.Stepped.{nothingIn, nothingSeen};
+ghost use Rattle.ending.specs.Stepped.{nothingIn, nothingSeen};
 
 // Nothing done yet.
 fn nothing() -> Doing

@@ -1,9 +1,9 @@
 // A cycle: the actions of its state, and what follows them.
 use crate::acted;
-use crate::finish;
-use crate::outcome;
-use crate::outcome::Stepped;
-use crate::outcome::Verdict;
+use ending::finish;
+use ending::outcome;
+use ending::outcome::Stepped;
+use ending::outcome::Verdict;
 use next::record::Record;
 use referents::worth::Stuck;
 use storing::doing::Did;
@@ -17,8 +17,8 @@ ghost use Rattle.language.specs.Step as S;
 ghost use Rattle.language.specs.Store.{fromBytes, inputsOf};
 ghost use Rattle.act.specs.Acts.{Acts};
 ghost use Rattle.next.specs.Seen.{recordMeant};
-ghost use Rattle.step.specs.Register.{Enters};
-ghost use Rattle.step.specs.Stepped.{Clear, counted, stepped};
+ghost use Rattle.ending.specs.Register.{Enters};
+ghost use Rattle.ending.specs.Stepped.{Clear, counted, stepped};
 
 // The cycle number from which on no cycle is carried out, and the stop that says so.
 const LAST_CYCLE: u32 = 4294967295;

@@ -24,9 +24,9 @@ use Rattle.answers.specs.declared.cycled.Answer.the-variants as A
 use Rattle.lines.proofs.AddsLaws.{adds-as}
 use Rattle.lines.proofs.LineRoom.{cycle-short, decimal-short}
 use Rattle.lines.specs.Adds.{Adds}
-use Rattle.lines.specs.Stimulus.{Took, bytesFor, lineBytes, took, tookMeant}
-use Rattle.lines.specs.declared.stimulus.Taken.{Taken}
-use Rattle.lines.specs.declared.stimulus.Taken.the-variants as T
+use Rattle.inputs.specs.Stimulus.{Took, bytesFor, lineBytes, took, tookMeant}
+use Rattle.inputs.specs.declared.stimulus.Taken.{Taken}
+use Rattle.inputs.specs.declared.stimulus.Taken.the-variants as T
 use Rattle.turns.specs.Turns.{Carried, Turned, turnRoom}
 
 -- ---- Room.

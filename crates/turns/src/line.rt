@@ -2,9 +2,9 @@
 use crate::label;
 use answers::cycled::Answer;
 use image::sections;
+use inputs::stimulus;
+use inputs::stimulus::Taken;
 use lines::line;
-use lines::stimulus;
-use lines::stimulus::Taken;
 use records::bytes;
 use records::numbers;
 ghost use mathlib.Core.Bool.{true};
@@ -52,7 +52,7 @@ fn carried(
     ensures { λ r. ⌜ Carried (now (image .entry)) number (now («record» .entry)) (L.cycle (now (image .entry)) (now (store .entry)) (now («record» .entry)) (now (stimulus .entry)) (length (now (scratch .entry)))) (r .on) (now (store .exit)) (now («record» .exit)) (now (out .entry)) at (now (out .exit)) (r .end) ⌝ }
 {
     let state = numbers::four(record, 4);
-    match cycle::cycle::cycle(image, store, record, stimulus, scratch) {
+    match cycle::cycle::cycle(image, true, store, record, stimulus, scratch) {
         Answer::Cycled(_) => Turn {
             on: true,
             end: shown(image, state, number, store, out, at),

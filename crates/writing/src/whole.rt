@@ -1,9 +1,9 @@
 // The image of what the working array holds.
-use crate::Tally;
-use crate::body;
-use crate::counts;
-use crate::names;
 use answers::read::Answer;
+use held::Tally;
+use held::body;
+use held::counts;
+use held::names;
 use image::header;
 use store::slices;
 ghost use mathlib.Core.Path.{_≡_};
@@ -11,7 +11,7 @@ ghost use lib.ListN.{length};
 ghost use Rattle.answers.specs.Reading.{called};
 ghost use Rattle.language.specs.Encode.{imageOf};
 ghost use Rattle.language.specs.Reading.{withRoom};
-ghost use Rattle.writing.specs.Sections.{Few, sectionsHeld};
+ghost use Rattle.held.specs.Sections.{Few, sectionsHeld};
 
 // Writes the image, and zero behind it; where there is no room, zero alone.
 pub fn write_image(text: &[u8], work: &[u8; 275296], c: Tally, image: &mut [u8]) -> Answer

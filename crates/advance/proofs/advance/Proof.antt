@@ -49,11 +49,11 @@ use Rattle.next.specs.Seen.{recordMeant}
 use Rattle.next.specs.declared.record.Record.{Record}
 use Rattle.next.proofs.record.Record as T
 use Rattle.next.proofs.record.Record.Laws as T′
-use Rattle.step.specs.Register.{Enters}
-use Rattle.step.specs.Stepped.{Clear, counted, stepped}
-use Rattle.step.specs.declared.outcome.Stepped.{Stepped}
-use Rattle.step.proofs.outcome.Stepped as O
-use Rattle.step.proofs.outcome.Stepped.Laws as O′
+use Rattle.ending.specs.Register.{Enters}
+use Rattle.ending.specs.Stepped.{Clear, counted, stepped}
+use Rattle.ending.specs.declared.outcome.Stepped.{Stepped}
+use Rattle.ending.proofs.outcome.Stepped as O
+use Rattle.ending.proofs.outcome.Stepped.Laws as O′
 use Rattle.advance.specs.Kept.{kept}
 use Rattle.advance.proofs.settle as settle
 use Rattle.advance.proofs.settle.Symbol as settle-def

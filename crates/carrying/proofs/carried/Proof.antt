@@ -7,7 +7,7 @@ use Rattle.language.specs.Decode.{decode}
 use Rattle.language.specs.Layout.{storeSize}
 use Rattle.language.specs.Store.{fromBytes}
 use Rattle.next.specs.Seen.{recordMeant}
-use Rattle.step.specs.Stepped.{Clear}
+use Rattle.ending.specs.Stepped.{Clear}
 use Rattle.carrying.proofs.CarryLaws.{copy-means, cycle-is, free-passes, stimulus-there, store-there}
 use Rattle.carrying.proofs.KeptLaws.{back-so, copied-front, kept-so}
 use Rattle.carrying.proofs.WorkLaws.{all-counted, operations-many, passed-acts, passed-enters}

@@ -1,7 +1,7 @@
 // The length that the bare values of states take.
+use held::body;
 use judge::wanted;
 use tables::Table;
-use writing::body;
 ghost use mathlib.Core.List.{List};
 ghost use mathlib.Core.Path.{_≡_};
 ghost use Prim.Native.Nat.{ℕ};

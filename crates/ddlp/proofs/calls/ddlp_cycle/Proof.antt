@@ -5,8 +5,11 @@ use borrow.Author.Needs.{needs}
 use Rattle.ddlp.proofs.calls.ddlp_cycle.Statement.{statement}
 use Rattle.ddlp.proofs.calls.ddlp_cycle.Tie as tie
 
+passes-requires : tie.Need-passes-requires
+passes-requires c κs = search needs
+
 cycle-requires : tie.Need-cycle-requires
-cycle-requires c κs = search needs
+cycle-requires c κs = c .before .before .before .passes .ensures
 
 cycle-numbers-requires : tie.Need-cycle-numbers-requires
 cycle-numbers-requires c κs = search needs
@@ -26,4 +29,4 @@ returns c =
     (c .cycle-numbers .ensures ∙ ap (λ (x : CycleCall). cycleNumbers (x .answer)) e, (ap (λ (x : CycleCall). x .store) e, (ap (λ (x : CycleCall). x .record′) e, ap (λ (x : CycleCall). x .scratch) e)))
 
 pub ddlp-cycle-spec : {M : Type 1} → statement M
-ddlp-cycle-spec = tie.close (tie.spec cycle-requires cycle-numbers-requires same-length same-length-2 same-length-3 returns)
+ddlp-cycle-spec = tie.close (tie.spec passes-requires cycle-requires cycle-numbers-requires same-length same-length-2 same-length-3 returns)

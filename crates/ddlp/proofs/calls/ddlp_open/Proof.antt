@@ -5,8 +5,11 @@ use borrow.Author.Needs.{needs}
 use Rattle.ddlp.proofs.calls.ddlp_open.Statement.{statement}
 use Rattle.ddlp.proofs.calls.ddlp_open.Tie as tie
 
+passes-requires : tie.Need-passes-requires
+passes-requires c κs = search needs
+
 open-requires : tie.Need-open-requires
-open-requires c κs = search needs
+open-requires c κs = c .before .before .passes .ensures
 
 open-number-requires : tie.Need-open-number-requires
 open-number-requires c κs = search needs
@@ -23,4 +26,4 @@ returns c =
     (c .open-number .ensures ∙ ap (λ (x : OpenCall). openNumber (x .answer)) e, (ap (λ (x : OpenCall). x .store) e, ap (λ (x : OpenCall). x .record′) e))
 
 pub ddlp-open-spec : {M : Type 1} → statement M
-ddlp-open-spec = tie.close (tie.spec open-requires open-number-requires same-length same-length-2 returns)
+ddlp-open-spec = tie.close (tie.spec passes-requires open-requires open-number-requires same-length same-length-2 returns)

@@ -5,8 +5,11 @@ use borrow.Author.Needs.{needs}
 use Rattle.ddlp.proofs.calls.ddlp_run.Statement.{statement}
 use Rattle.ddlp.proofs.calls.ddlp_run.Tie as tie
 
+passes-requires : tie.Need-passes-requires
+passes-requires c κs = search needs
+
 run-requires : tie.Need-run-requires
-run-requires c κs = search needs
+run-requires c κs = c .before .before .before .before .passes .ensures
 
 run-numbers-requires : tie.Need-run-numbers-requires
 run-numbers-requires c κs = search needs
@@ -34,4 +37,4 @@ returns c =
     )
 
 pub ddlp-run-spec : {M : Type 1} → statement M
-ddlp-run-spec = tie.close (tie.spec run-requires run-numbers-requires same-length same-length-2 same-length-3 same-length-4 returns)
+ddlp-run-spec = tie.close (tie.spec passes-requires run-requires run-numbers-requires same-length same-length-2 same-length-3 same-length-4 returns)

@@ -11,9 +11,6 @@ zero-requires c κs = search needs
 zero-requires-2 : tie.Need-zero-requires-2
 zero-requires-2 c κs = search needs
 
-passes-requires : tie.Need-passes-requires
-passes-requires c κs = search needs
-
 same-length : tie.Need-same-length
 same-length c = search needs
 
@@ -22,11 +19,11 @@ same-length-2 c = search needs
 
 returns : tie.Need-returns
 returns c =
-    no-image _ (c .before .before .before .before .before .before .before .before .before .before .before .before .before .args .store .now) (c .before .before .before .before .before .before .before .before .before .before .before .before .before .args .kept .now) (c .before .before .before .before .before .before .before .before .zero .ensures) (c .before .before .before .before .zero2 .ensures) (sym (c .before .passes .ensures) ∙ not-true _ (c .if1 .taken))
+    no-image _ (c .before .before .before .before .before .before .before .before .before .before .before .before .args .store .now) (c .before .before .before .before .before .before .before .before .before .before .before .before .args .kept .now) (c .before .before .before .before .before .before .before .zero .ensures) (c .before .before .before .zero2 .ensures) (sym (c .before .before .before .before .before .before .before .before .before .before .before .before .pre) ∙ not-true _ (c .if1 .taken))
 
 roomy-requires : tie.Need-roomy-requires
 roomy-requires c κs =
-    sym (c .before .passes .ensures) ∙ not-false _ (c .if1 .left)
+    sym (c .before .before .before .before .before .before .before .before .before .before .before .before .pre) ∙ not-false _ (c .if1 .left)
 
 same-length-3 : tie.Need-same-length-3
 same-length-3 c = search needs
@@ -36,12 +33,12 @@ same-length-4 c = search needs
 
 returns-2 : tie.Need-returns-2
 returns-2 c =
-    no-room _ (c .before .before .before .before .before .before .before .before .before .before .before .before .before .before .before .args .store .now) (c .before .before .before .before .before .before .before .before .before .before .before .before .before .before .before .args .kept .now) (c .before .before .before .before .before .before .before .before .before .before .zero .ensures) (c .before .before .before .before .before .before .zero2 .ensures) (sym (c .before .before .before .passes .ensures) ∙ not-false _ (c .before .before .if1 .left)) (sym (c .before .roomy .ensures) ∙ not-true _ (c .if2 .taken))
+    no-room _ (c .before .before .before .before .before .before .before .before .before .before .before .before .before .before .args .store .now) (c .before .before .before .before .before .before .before .before .before .before .before .before .before .before .args .kept .now) (c .before .before .before .before .before .before .before .before .before .zero .ensures) (c .before .before .before .before .before .zero2 .ensures) (sym (c .before .before .before .before .before .before .before .before .before .before .before .before .before .before .pre) ∙ not-false _ (c .before .before .if1 .left)) (sym (c .before .roomy .ensures) ∙ not-true _ (c .if2 .taken))
 
 first-words-requires : tie.Need-first-words-requires
 first-words-requires c κs =
-    let p = sym (c .before .before .before .before .passes .ensures) ∙ not-false _ (c .before .before .before .if1 .left) in
-    (p, store-room _ (c .before .before .before .before .before .before .before .before .before .before .before .before .before .before .before .before .args .store .now) (c .before .before .before .before .before .before .before .before .before .before .before .before .before .before .before .before .args .kept .now) (c .before .before .before .before .before .before .before .before .before .before .before .zero .ensures) (c .before .before .before .before .before .before .before .zero2 .ensures) p (sym (c .before .before .roomy .ensures) ∙ not-false _ (c .before .if2 .left)))
+    let p = sym (c .before .before .before .before .before .before .before .before .before .before .before .before .before .before .before .pre) ∙ not-false _ (c .before .before .before .if1 .left) in
+    (p, store-room _ (c .before .before .before .before .before .before .before .before .before .before .before .before .before .before .before .args .store .now) (c .before .before .before .before .before .before .before .before .before .before .before .before .before .before .before .args .kept .now) (c .before .before .before .before .before .before .before .before .before .before .zero .ensures) (c .before .before .before .before .before .before .zero2 .ensures) p (sym (c .before .before .roomy .ensures) ∙ not-false _ (c .before .if2 .left)))
 
 first-record-requires : tie.Need-first-record-requires
 first-record-requires c κs = search needs
@@ -54,7 +51,7 @@ same-length-6 c = search needs
 
 returns-3 : tie.Need-returns-3
 returns-3 c =
-    all-right _ (c .before .before .before .before .before .before .before .before .before .before .before .before .before .before .before .before .before .before .before .before .before .before .before .args .store .now) (c .before .before .before .before .before .before .before .before .before .before .before .before .before .before .before .before .before .before .before .before .before .before .before .args .kept .now) (c .before .before .before .before .before .before .before .before .before .before .before .before .before .before .before .before .before .before .zero .ensures) (c .before .before .before .before .before .before .before .before .before .before .before .before .before .before .zero2 .ensures) (sym (c .before .before .before .before .before .before .before .before .before .before .before .passes .ensures) ∙ not-false _ (c .before .before .before .before .before .before .before .before .before .before .if1 .left)) (sym (c .before .before .before .before .before .before .before .before .before .roomy .ensures) ∙ not-false _ (c .before .before .before .before .before .before .before .before .if2 .left)) (c .before .before .before .before .before .before .first-words .ensures) (c .before .before .first-record .ensures)
+    all-right _ (c .before .before .before .before .before .before .before .before .before .before .before .before .before .before .before .before .before .before .before .before .before .before .args .store .now) (c .before .before .before .before .before .before .before .before .before .before .before .before .before .before .before .before .before .before .before .before .before .before .args .kept .now) (c .before .before .before .before .before .before .before .before .before .before .before .before .before .before .before .before .before .zero .ensures) (c .before .before .before .before .before .before .before .before .before .before .before .before .before .zero2 .ensures) (sym (c .before .before .before .before .before .before .before .before .before .before .before .before .before .before .before .before .before .before .before .before .before .before .pre) ∙ not-false _ (c .before .before .before .before .before .before .before .before .before .before .if1 .left)) (sym (c .before .before .before .before .before .before .before .before .before .roomy .ensures) ∙ not-false _ (c .before .before .before .before .before .before .before .before .if2 .left)) (c .before .before .before .before .before .before .first-words .ensures) (c .before .before .first-record .ensures)
 
 pub open-spec : {M : Type 1} → statement M
 open-spec =
@@ -62,7 +59,6 @@ open-spec =
     (tie.spec
     zero-requires
     zero-requires-2
-    passes-requires
     same-length
     same-length-2
     returns

@@ -3,10 +3,10 @@ use Rattle.language.specs.Rules.{faults}
 use Rattle.language.specs.WordStage.{least}
 use Rattle.noted.specs.Noted.{notedDescription, placesIn}
 use Rattle.words.specs.Meaning.{judged}
-use Rattle.writing.proofs.BodyLaws.{within-few}
+use Rattle.held.proofs.BodyLaws.{within-few}
 use Rattle.reading.proofs.JudgedLaws.{not-many, read-again}
-use Rattle.writing.specs.declared.Tally.{Tally}
-use Rattle.writing.specs.Sections.{besideHeld, namesHeld, sectionsHeld}
+use Rattle.held.specs.declared.Tally.{Tally}
+use Rattle.held.specs.Sections.{besideHeld, namesHeld, sectionsHeld}
 use borrow.Author.Needs.{needs}
 use Rattle.reading.proofs.judging.judge.Statement.{statement}
 use Rattle.reading.proofs.judging.judge.Tie as tie

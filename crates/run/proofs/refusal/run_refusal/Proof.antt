@@ -11,17 +11,14 @@ use Rattle.run.proofs.RefusalLaws.{no-image, no-refusal, no-room, no-tr
 use Rattle.run.proofs.refusal.run_refusal.Statement.{statement}
 use Rattle.run.proofs.refusal.run_refusal.Tie as tie
 
-passes-requires : tie.Need-passes-requires
-passes-requires c κs = search needs
-
 returns : tie.Need-returns
 returns c =
-    let a = c .before .before .before .before .before .before .args in
+    let a = c .before .before .before .before .before .args in
     let i = a .image .now in
     let B = a .store .now in
     let k = a .«record» .now in
     let t = a .stimuli .now in
-    let p = sym (c .before .passes .ensures) ∙ not-true (c .before .passes .result) (c .if1 .taken) in
+    let p = sym (c .before .before .before .before .before .pre) ∙ not-true (c .before .before .before .before .before .args .passed) (c .if1 .taken) in
     no-image i B k t (a .cycles) (a .scratch) (a .trace) p
 
 section-requires : tie.Need-section-requires
@@ -42,32 +39,32 @@ roomy-requires c κs = search needs
 returns-2 : tie.Need-returns-2
 unfolding storeSize
 returns-2 c =
-    let a = c .before .before .before .before .before .before .before .before .before .before .before .before .args in
+    let a = c .before .before .before .before .before .before .before .before .before .before .before .args in
     let i = a .image .now in
     let B = a .store .now in
     let k = a .«record» .now in
     let t = a .stimuli .now in
-    let p = sym (c .before .before .before .before .before .before .before .passes .ensures) ∙ not-false (c .before .before .before .before .before .before .before .passes .result) (c .before .before .before .before .before .before .if1 .left) in
+    let p = sym (c .before .before .before .before .before .before .before .before .before .before .before .pre) ∙ not-false (c .before .before .before .before .before .before .before .before .before .before .before .args .passed) (c .before .before .before .before .before .before .if1 .left) in
     let size = c .before .before .store-size .ensures (decode i) (sectionAt 2 8 i) (rw (c .before .before .before .before .before .section .ensures) (passed-described i p)) (passed-size i p) in
     let r = sym (c .before .roomy .ensures (decode i) size) ∙ not-true (c .before .roomy .result) (c .if2 .taken) in
     no-room i B k t (a .cycles) (a .scratch) (a .trace) p r
 
 trace-roomy-requires : tie.Need-trace-roomy-requires
 trace-roomy-requires c κs =
-    let i = c .before .before .before .before .before .before .before .before .before .before .before .before .args .image .now in
-    let p = sym (c .before .before .before .before .before .before .before .passes .ensures) ∙ not-false (c .before .before .before .before .before .before .before .passes .result) (c .before .before .before .before .before .before .if1 .left) in
+    let i = c .before .before .before .before .before .before .before .before .before .before .before .args .image .now in
+    let p = sym (c .before .before .before .before .before .before .before .before .before .before .before .pre) ∙ not-false (c .before .before .before .before .before .before .before .before .before .before .before .args .passed) (c .before .before .before .before .before .before .if1 .left) in
     let size = c .before .before .store-size .ensures (decode i) (sectionAt 2 8 i) (rw (c .before .before .before .before .before .section .ensures) (passed-described i p)) (passed-size i p) in
     omega (arith, size, passed-size i p)
 
 returns-3 : tie.Need-returns-3
 unfolding storeSize
 returns-3 c =
-    let a = c .before .before .before .before .before .before .before .before .before .before .before .before .before .before .args in
+    let a = c .before .before .before .before .before .before .before .before .before .before .before .before .before .args in
     let i = a .image .now in
     let B = a .store .now in
     let k = a .«record» .now in
     let t = a .stimuli .now in
-    let p = sym (c .before .before .before .before .before .before .before .before .before .passes .ensures) ∙ not-false (c .before .before .before .before .before .before .before .before .before .passes .result) (c .before .before .before .before .before .before .before .before .if1 .left) in
+    let p = sym (c .before .before .before .before .before .before .before .before .before .before .before .before .before .pre) ∙ not-false (c .before .before .before .before .before .before .before .before .before .before .before .before .before .args .passed) (c .before .before .before .before .before .before .before .before .if1 .left) in
     let size = c .before .before .before .before .store-size .ensures (decode i) (sectionAt 2 8 i) (rw (c .before .before .before .before .before .before .before .section .ensures) (passed-described i p)) (passed-size i p) in
     let r = sym (c .before .before .before .roomy .ensures (decode i) size) ∙ not-false (c .before .before .before .roomy .result) (c .before .before .if2 .left) in
     let q = sym (c .before .trace-roomy .ensures (decode i) size) ∙ not-true (c .before .trace-roomy .result) (c .if3 .taken) in
@@ -75,19 +72,19 @@ returns-3 c =
 
 sound-requires : tie.Need-sound-requires
 sound-requires c κs =
-    let i = c .before .before .before .before .before .before .before .before .before .before .before .before .before .before .args .image .now in
-    let p = sym (c .before .before .before .before .before .before .before .before .before .passes .ensures) ∙ not-false (c .before .before .before .before .before .before .before .before .before .passes .result) (c .before .before .before .before .before .before .before .before .if1 .left) in
+    let i = c .before .before .before .before .before .before .before .before .before .before .before .before .before .args .image .now in
+    let p = sym (c .before .before .before .before .before .before .before .before .before .before .before .before .before .pre) ∙ not-false (c .before .before .before .before .before .before .before .before .before .before .before .before .before .args .passed) (c .before .before .before .before .before .before .before .before .if1 .left) in
     rw (c .before .before .before .before .before .before .before .section .ensures) (passed-facilities i p)
 
 returns-4 : tie.Need-returns-4
 unfolding storeSize
 returns-4 c =
-    let a = c .before .before .before .before .before .before .before .before .before .before .before .before .before .before .before .before .args in
+    let a = c .before .before .before .before .before .before .before .before .before .before .before .before .before .before .before .args in
     let i = a .image .now in
     let B = a .store .now in
     let k = a .«record» .now in
     let t = a .stimuli .now in
-    let p = sym (c .before .before .before .before .before .before .before .before .before .before .before .passes .ensures) ∙ not-false (c .before .before .before .before .before .before .before .before .before .before .before .passes .result) (c .before .before .before .before .before .before .before .before .before .before .if1 .left) in
+    let p = sym (c .before .before .before .before .before .before .before .before .before .before .before .before .before .before .before .pre) ∙ not-false (c .before .before .before .before .before .before .before .before .before .before .before .before .before .before .before .args .passed) (c .before .before .before .before .before .before .before .before .before .before .if1 .left) in
     let size = c .before .before .before .before .before .before .store-size .ensures (decode i) (sectionAt 2 8 i) (rw (c .before .before .before .before .before .before .before .before .before .section .ensures) (passed-described i p)) (passed-size i p) in
     let r = sym (c .before .before .before .before .before .roomy .ensures (decode i) size) ∙ not-false (c .before .before .before .before .before .roomy .result) (c .before .before .before .before .if2 .left) in
     let q = sym (c .before .before .before .trace-roomy .ensures (decode i) size) ∙ not-false (c .before .before .before .trace-roomy .result) (c .before .before .if3 .left) in
@@ -100,12 +97,12 @@ all-well-formed-requires c κs = search needs
 returns-5 : tie.Need-returns-5
 unfolding storeSize
 returns-5 c =
-    let a = c .before .before .before .before .before .before .before .before .before .before .before .before .before .before .before .before .before .before .args in
+    let a = c .before .before .before .before .before .before .before .before .before .before .before .before .before .before .before .before .before .args in
     let i = a .image .now in
     let B = a .store .now in
     let k = a .«record» .now in
     let t = a .stimuli .now in
-    let p = sym (c .before .before .before .before .before .before .before .before .before .before .before .before .before .passes .ensures) ∙ not-false (c .before .before .before .before .before .before .before .before .before .before .before .before .before .passes .result) (c .before .before .before .before .before .before .before .before .before .before .before .before .if1 .left) in
+    let p = sym (c .before .before .before .before .before .before .before .before .before .before .before .before .before .before .before .before .before .pre) ∙ not-false (c .before .before .before .before .before .before .before .before .before .before .before .before .before .before .before .before .before .args .passed) (c .before .before .before .before .before .before .before .before .before .before .before .before .if1 .left) in
     let size = c .before .before .before .before .before .before .before .before .store-size .ensures (decode i) (sectionAt 2 8 i) (rw (c .before .before .before .before .before .before .before .before .before .before .before .section .ensures) (passed-described i p)) (passed-size i p) in
     let r = sym (c .before .before .before .before .before .before .before .roomy .ensures (decode i) size) ∙ not-false (c .before .before .before .before .before .before .before .roomy .result) (c .before .before .before .before .before .before .if2 .left) in
     let q = sym (c .before .before .before .before .before .trace-roomy .ensures (decode i) size) ∙ not-false (c .before .before .before .before .before .trace-roomy .result) (c .before .before .before .before .if3 .left) in
@@ -116,12 +113,12 @@ returns-5 c =
 returns-6 : tie.Need-returns-6
 unfolding storeSize
 returns-6 c =
-    let a = c .before .before .before .before .before .before .before .before .before .before .before .before .before .before .before .before .before .before .args in
+    let a = c .before .before .before .before .before .before .before .before .before .before .before .before .before .before .before .before .before .args in
     let i = a .image .now in
     let B = a .store .now in
     let k = a .«record» .now in
     let t = a .stimuli .now in
-    let p = sym (c .before .before .before .before .before .before .before .before .before .before .before .before .before .passes .ensures) ∙ not-false (c .before .before .before .before .before .before .before .before .before .before .before .before .before .passes .result) (c .before .before .before .before .before .before .before .before .before .before .before .before .if1 .left) in
+    let p = sym (c .before .before .before .before .before .before .before .before .before .before .before .before .before .before .before .before .before .pre) ∙ not-false (c .before .before .before .before .before .before .before .before .before .before .before .before .before .before .before .before .before .args .passed) (c .before .before .before .before .before .before .before .before .before .before .before .before .if1 .left) in
     let size = c .before .before .before .before .before .before .before .before .store-size .ensures (decode i) (sectionAt 2 8 i) (rw (c .before .before .before .before .before .before .before .before .before .before .before .section .ensures) (passed-described i p)) (passed-size i p) in
     let r = sym (c .before .before .before .before .before .before .before .roomy .ensures (decode i) size) ∙ not-false (c .before .before .before .before .before .before .before .roomy .result) (c .before .before .before .before .before .before .if2 .left) in
     let q = sym (c .before .before .before .before .before .trace-roomy .ensures (decode i) size) ∙ not-false (c .before .before .before .before .before .trace-roomy .result) (c .before .before .before .before .if3 .left) in
@@ -133,7 +130,6 @@ pub run-refusal-spec : {M : Type 1} → statement M
 run-refusal-spec =
     tie.close
     (tie.spec
-    passes-requires
     returns
     section-requires
     section-requires-2

@@ -1,5 +1,5 @@
 use mathlib.Core.Path.{refl}
-use Rattle.step.specs.Stepped.{nothingIn}
+use Rattle.ending.specs.Stepped.{nothingIn}
 use borrow.Author.Needs.{needs}
 use Rattle.step.proofs.acted.acted.Statement.{statement}
 use Rattle.step.proofs.acted.acted.Tie as tie

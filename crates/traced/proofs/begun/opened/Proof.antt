@@ -1,3 +1,4 @@
+use mathlib.Core.Path.{sym}
 use Prim.Native.Nat.{_≤_}
 use native.Mathlib.Omega.{arith}
 use lib.ListN.{length}
@@ -30,7 +31,7 @@ part-open-end c =
     search needs
 
 open-requires : tie.Need-open-requires
-open-requires c κs = search needs
+open-requires c κs = sym (c .before .before .before .before .before .before .before .pre .0)
 
 same-length : tie.Need-same-length
 same-length c = search needs
@@ -40,7 +41,7 @@ same-length-2 c = search needs
 
 returns : tie.Need-returns
 returns c =
-    opened-is _ (c .before .before .before .before .before .before .before .before .before .before .before .before .pre .0) (c .before .before .before .before .before .before .before .before .before .before .before .before .args .store .now) (c .before .before .before .before .«open» .last .1 .0) (c .before .before .before .before .«open» .result) (c .before .before .before .before .before .before .before .before .before .before .before .before .pre .1) (size-known _ (c .before .before .before .before .before .before .before .before .before .before .before .before .pre .0) (c .before .before .before .before .before .before .before .before .section .ensures) (c .before .before .before .before .before .before .before .store-size .ensures)) (search needs) (c .before .before .before .before .«open» .ensures)
+    opened-is _ (c .before .before .before .before .before .before .before .before .before .before .before .before .pre .0) (c .before .before .before .before .before .before .before .before .before .before .before .before .args .store .now) (c .before .before .before .before .«open» .last .1 .1 .0) (c .before .before .before .before .«open» .result) (c .before .before .before .before .before .before .before .before .before .before .before .before .pre .1) (size-known _ (c .before .before .before .before .before .before .before .before .before .before .before .before .pre .0) (c .before .before .before .before .before .before .before .before .section .ensures) (c .before .before .before .before .before .before .before .store-size .ensures)) (search needs) (c .before .before .before .before .«open» .ensures)
 
 pub opened-spec : {M : Type 1} → statement M
 opened-spec =

@@ -1,3 +1,4 @@
+use mathlib.Core.Path.{sym}
 use Rattle.language.specs.Scan.{bytes}
 use Rattle.turns.proofs.TurnLaws.{carried-on, carried-refused, carried-stop}
 use borrow.Author.Needs.{needs}
@@ -8,7 +9,7 @@ four-requires : tie.Need-four-requires
 four-requires c κs = search needs
 
 cycle-requires : tie.Need-cycle-requires
-cycle-requires c κs = search needs
+cycle-requires c κs = sym (c .before .before .before .before .before .before .before .before .before .before .before .pre .0)
 
 enum-told : tie.Need-enum-told
 enum-told c = search needs

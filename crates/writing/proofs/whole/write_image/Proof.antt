@@ -5,10 +5,10 @@ use Rattle.answers.specs.declared.read.Answer.the-variants.{Accepted, Refused}
 use Rattle.answers.specs.Reading.{called}
 use Rattle.language.specs.Encode.{imageOf}
 use Rattle.language.specs.Reading.{withRoom}
-use Rattle.writing.proofs.BodyLaws.{within-few}
-use Rattle.writing.proofs.WholeLaws.{no-room, room}
-use Rattle.writing.specs.declared.Tally.{Tally}
-use Rattle.writing.specs.Sections.{sectionsHeld}
+use Rattle.held.proofs.BodyLaws.{within-few}
+use Rattle.held.proofs.WholeLaws.{no-room, room}
+use Rattle.held.specs.declared.Tally.{Tally}
+use Rattle.held.specs.Sections.{sectionsHeld}
 use borrow.Author.Needs.{needs}
 use Rattle.writing.proofs.whole.write_image.Statement.{statement}
 use Rattle.writing.proofs.whole.write_image.Tie as tie

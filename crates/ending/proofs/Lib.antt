@@ -1,0 +1,3 @@
+pub mod WordPut
+pub mod RegisterLaws
+pub mod FinishLaws

@@ -1,0 +1,14 @@
+// The sections that the working array holds, and their names: counted, and put where an image has them.
+pub mod body;
+pub mod counts;
+pub mod letters;
+pub mod names;
+
+// How many records the array has of each section.
+pub struct Tally {
+    pub facilities: u16,
+    pub operations: u16,
+    pub nodes: u16,
+    pub actions: u16,
+    pub states: u16,
+}

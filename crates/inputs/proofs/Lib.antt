@@ -1,0 +1,3 @@
+pub mod LineBits
+pub mod LineTaken
+pub mod LineWord

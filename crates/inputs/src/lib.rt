@@ -1,0 +1,2 @@
+// What the trace program takes: a line of input bits.
+pub mod stimulus;
