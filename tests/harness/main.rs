@@ -37,8 +37,6 @@ pub type Failure = String;
 
 /// As much as an ordinary thread has: the deepest image must find room in it.
 const STACK: usize = 8 << 20;
-/// A failure in this many tries says enough.
-const FAILURES: usize = 5;
 /// The tries after which the mode that goes on tells what it did.
 const BATCH: u64 = 5_000;
 
@@ -76,31 +74,29 @@ fn attempt(harness: &mut Harness) -> Result<(), Failure> {
     }
 }
 
-/// True if no call differs; stops after some failures. Each try has a name
-/// and a seed of its own.
+/// True if no call differs; stops at the first try that fails. Each try has
+/// a name and a seed of its own.
 fn tried<T: Display>(
     tries: impl Iterator<Item = (T, u64)>,
     attempt: impl Fn(&mut Harness, &T) -> Result<(), Failure>,
 ) -> bool {
     let mut tally = Tally::default();
-    let (mut count, mut failures) = (0, 0);
+    let (mut count, mut agree) = (0, true);
     for (name, seed) in tries {
         count += 1;
         let mut harness = Harness { random: Random::new(seed), tally: &mut tally };
         let tried = catch_unwind(AssertUnwindSafe(|| attempt(&mut harness, &name)));
         if let Err(failure) = tried.unwrap_or(Err("panicked".to_string())) {
-            failures += 1;
             println!("{name}: {failure}");
-        }
-        if failures == FAILURES {
+            agree = false;
             break;
         }
     }
     for (what, times) in &tally.outcomes {
         println!("{times:8} {what}");
     }
-    println!("harness: {count} tries, {} cases, {failures} tries failed", tally.cases);
-    failures == 0
+    println!("harness: {count} tries, {} cases, {}", tally.cases, if agree { "all agree" } else { "the last differs" });
+    agree
 }
 
 fn random_tries(seed: u64, tries: u64) -> bool {

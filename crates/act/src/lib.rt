@@ -1,4 +1,5 @@
 // Actions: what the records of a state do to the bytes of a store, and to what a cycle has done.
 pub mod arms;
 pub mod run;
+mod sides;
 pub mod simple;

@@ -1,4 +1,5 @@
 // Actions that hold no others.
+use crate::sides;
 use records::actions::Action;
 use referents::worth::Stuck;
 use storing::doing;

@@ -3,8 +3,8 @@ use Rattle.referents.specs.Described.{There}
 use Rattle.evaluate.specs.Sides.{sideMeant}
 use Rattle.storing.proofs.StoreLaws.{bytes-seen}
 use borrow.Author.Needs.{needs}
-use Rattle.sides.proofs.set_at.Statement.{statement}
-use Rattle.sides.proofs.set_at.Tie as tie
+use Rattle.act.proofs.sides.set_at.Statement.{statement}
+use Rattle.act.proofs.sides.set_at.Tie as tie
 
 left-side-requires : tie.Need-left-side-requires
 left-side-requires c κs = search needs
