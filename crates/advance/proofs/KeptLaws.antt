@@ -10,7 +10,7 @@ use Rattle.ending.specs.Stepped.{ended, stepped}
 use Rattle.ending.specs.declared.outcome.Stepped.{Stepped}
 use Rattle.ending.specs.declared.outcome.Verdict.{Verdict}
 use Rattle.ending.specs.declared.outcome.Verdict.the-variants as Ends
-use Rattle.advance.specs.Kept.{kept}
+use Rattle.kept.specs.Kept.{kept}
 
 pub kept-again : (v : Verdict) (r t : Record) → kept v r t ≡ kept v r (kept v r t)
 kept-again Ends.Completed r t = refl

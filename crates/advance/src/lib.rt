@@ -1,6 +1,5 @@
 // The run record advanced where it stands: the one function that lends it mutably.
 use ending::outcome::Stepped;
-use ending::outcome::Verdict;
 use next::record::Record;
 ghost use mathlib.Core.Path.{_≡_};
 ghost use Prim.Native.Nat.{_/_, _≤_};
@@ -14,25 +13,7 @@ ghost use Rattle.act.specs.Acts.{Acts};
 ghost use Rattle.next.specs.Seen.{recordMeant};
 ghost use Rattle.ending.specs.Register.{Enters};
 ghost use Rattle.ending.specs.Stepped.{Clear, counted, stepped};
-ghost use Rattle.advance.specs.Kept.{kept};
-
-// The answer s of a cycle from the record r, with the record that the cycle leaves.
-fn keep(r: Record, s: Stepped) -> Stepped
-    ensures { λ a. ⌜ (a .verdict ≡ s .verdict) × (a .record ≡ kept (s .verdict) r (s .record)) × (a .conflicts ≡ s .conflicts) ⌝ }
-{
-    let verdict = s.verdict;
-    let record = s.record;
-    let left = match verdict {
-        Verdict::Completed => record,
-        Verdict::Stopped(_) => r,
-        Verdict::Stuck(_) => r,
-    };
-    Stepped {
-        verdict,
-        record: left,
-        conflicts: s.conflicts,
-    }
-}
+ghost use Rattle.kept.specs.Kept.{kept};
 
 // A cycle by value: where it does not complete, the answer has the record before it.
 fn settle(
@@ -62,7 +43,7 @@ fn settle(
         pending,
         mask,
     );
-    keep(r, s)
+    kept::keep_record(r, s)
 }
 
 // A cycle from the record lent, which is advanced where it stands, or left as found if the cycle does not complete.

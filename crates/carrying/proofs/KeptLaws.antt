@@ -2,7 +2,7 @@
 use mathlib.Core.List.{List, [], _∷_}
 use mathlib.Core.Option.{none}
 use mathlib.Core.Path.{_≡_, refl, sym, ap, _∙_}
-use Prim.Native.Nat.{ℕ, zero, suc, _-_, _<_, _≤_}
+use Prim.Native.Nat.{ℕ, _-_, _≤_}
 use native.Mathlib.Omega.{arith}
 use lib.ListN.{length, length-replicate, replicate, take}
 use lib.Seq.{length-take-le, take-length}
@@ -10,7 +10,7 @@ use Rattle.language.specs.Calls.{afterStep, cycleRefusal, over}
 use Rattle.language.specs.Description.{Description, Facility}
 use Rattle.language.specs.Layout.{storeSizeOf}
 use Rattle.language.specs.Decode.{decode}
-use Rattle.language.specs.RecordBytes.{recordBytes, recordFrom}
+use Rattle.language.specs.RecordBytes.{recordFrom}
 use Rattle.language.specs.Step as S
 use Rattle.language.specs.Store.{Words, fromBytes, inputsOf, toBytes}
 use Rattle.stays.specs.StaysSound.{completed-back}
@@ -20,7 +20,8 @@ use Rattle.layout.specs.Slices.{copied}
 use Rattle.ending.specs.Stepped.{ended}
 use Rattle.ending.specs.declared.outcome.Verdict.{Verdict}
 use Rattle.ending.specs.declared.outcome.Verdict.the-variants as Ends
-use Rattle.carrying.specs.Carried.{calledWith, completedBack, keptRecord, keptStore}
+use Rattle.kept.specs.Kept.{calledWith, keptStore}
+use Rattle.carrying.specs.Carried.{completedBack}
 
 pub copied-over : (B X : List ℕ) → length X ≤ length B → copied B X ≡ over X B
 unfolding copied
@@ -61,12 +62,3 @@ back-so image B K t n free Ends.Completed w r c e =
     record { back = λ rest. completed-back image B K t n free rest (sym e) .0; whole = completed-back image B K t n free K (sym e) .1 }
 back-so image B K t n free (Ends.Stopped k) w r c e = tt
 back-so image B K t n free (Ends.Stuck x) w r c e = tt
-
--- The record is written where a cycle has completed.
-pub kept-some : (n : ℕ) (r : S.Record) (K : List ℕ) → 0 < n → over (recordBytes r) K ≡ keptRecord n r K
-kept-some zero r K h = absurd (omega (arith, h))
-kept-some (suc n) r K h = refl
-
-pub kept-none : (n : ℕ) (r : S.Record) (K : List ℕ) → n ≤ 0 → K ≡ keptRecord n r K
-kept-none zero r K h = refl
-kept-none (suc n) r K h = absurd (omega (arith, h))

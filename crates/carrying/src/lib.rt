@@ -1,8 +1,6 @@
 // A cycle that is not refused: on the caller's store, from sections of the image and a record by value.
 use ending::outcome::Stepped;
-use ending::outcome::Verdict;
 use next::record::Record;
-use sound::record;
 use store::slices;
 ghost use mathlib.Core.List.{List};
 ghost use mathlib.Core.Option.{none};
@@ -14,18 +12,8 @@ ghost use Rattle.language.specs.Decode.{decode};
 ghost use Rattle.language.specs.Layout.{storeSize};
 ghost use Rattle.language.specs.RecordBytes.{recordFrom};
 ghost use Rattle.next.specs.Seen.{recordMeant};
-ghost use Rattle.carrying.specs.Carried.{Sliced, called, completedBack, keptRecord, keptStore};
-
-// A completed cycle's working copy, kept; of any other cycle nothing is.
-fn keep(verdict: Verdict, work: &[u8], store: &mut [u8])
-    ensures { λ _. ⌜ now (store .exit) ≡ keptStore verdict (now (work .entry)) (now (store .entry)) ⌝ }
-{
-    match verdict {
-        Verdict::Completed => slices::copy(store, work),
-        Verdict::Stopped(_) => {}
-        Verdict::Stuck(_) => {}
-    }
-}
+ghost use Rattle.kept.specs.Kept.{called};
+ghost use Rattle.carrying.specs.Carried.{Sliced, completedBack};
 
 // The cycle on a working copy, with as many bytes as the store has for the copy, for delayed stores that wait, and for their mask.
 pub fn carried(
@@ -59,15 +47,6 @@ pub fn carried(
         mask,
     );
     let verdict = a.verdict;
-    keep(verdict, work, store);
+    kept::keep_store(verdict, work, store);
     a
-}
-
-// The record of a run with completed cycles is written.
-pub fn note(record: &mut [u8], completed: u32, r: Record)
-    ensures { λ _. ⌜ (80 ≤ length (now («record» .entry)) → now («record» .exit) ≡ keptRecord completed (recordMeant r) (now («record» .entry))) ⌝ }
-{
-    if 0 < completed {
-        record::write_record(record, r);
-    }
 }

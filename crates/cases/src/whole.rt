@@ -2,7 +2,7 @@
 use lines::line as print;
 use traced::begun;
 use traced::begun::Begun;
-use turns::line;
+use traced::line;
 ghost use Prim.Native.Nat.{_<_, _≤_};
 ghost use lib.ListN.{length};
 ghost use Rattle.turns.specs.Turns.{Ready};

@@ -1,39 +1,17 @@
 // A cycle that is not refused, on the caller's buffers.
 use answers::cycled::Answer;
-use ending::outcome::Stepped;
-use ending::outcome::Verdict;
 use image::sections;
 use sound::record;
 use sound::sizes;
-use store::slices;
-ghost use mathlib.Core.List.{List};
 ghost use mathlib.Core.Option.{none};
 ghost use mathlib.Core.Path.{_≡_};
-ghost use Prim.Native.Nat.{ℕ, _≤_};
+ghost use Prim.Native.Nat.{_≤_};
 ghost use lib.ListN.{length};
 ghost use Rattle.language.specs.Calls as L;
 ghost use Rattle.language.specs.Calls.{cycleRefusal};
 ghost use Rattle.language.specs.Decode.{decode};
 ghost use Rattle.language.specs.Layout.{storeSize};
-ghost use Rattle.language.specs.Reading.{zeroes};
-ghost use Rattle.carrying.specs.Carried.{called};
 ghost use Rattle.answers.specs.Cycle.{call};
-
-// The answer; the record of a completed cycle is written.
-fn answered(a: Stepped, record: &mut [u8]) -> Answer
-    ensures { λ r. ⌜ ((s : List ℕ) (n : ℕ) → 80 ≤ length (now («record» .entry)) → call r s (now («record» .exit)) (zeroes n) ≡ called a s (now («record» .entry)) n) ⌝ }
-{
-    let verdict = a.verdict;
-    match verdict {
-        Verdict::Completed => {
-            let after = a.record;
-            record::write_record(record, after);
-            Answer::Cycled(a.conflicts)
-        }
-        Verdict::Stopped(n) => Answer::Stopped(n),
-        Verdict::Stuck(_) => Answer::Refused(13),
-    }
-}
 
 // The cycle that is owed, where nothing is refused. Scratch holds the working copy and is zero afterwards; delayed stores wait in arrays that have n bytes, as the store has, or more.
 fn carry_in(
@@ -62,8 +40,7 @@ fn carry_in(
         &mut pending[0..n],
         &mut mask[0..n],
     );
-    slices::zero(scratch);
-    answered(a, record)
+    kept::answered(a, record, scratch)
 }
 
 // For most stores small arrays do; the large ones have the largest store's size. One slice cannot be lent in three parts at once, so they do not stand in scratch.

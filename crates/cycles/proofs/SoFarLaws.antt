@@ -12,7 +12,8 @@ use Rattle.language.specs.Reading.{zeroes}
 use Rattle.language.specs.RecordBytes.{recordBytes, recordFrom, recordSize}
 use Rattle.language.specs.Step.{Record}
 use Rattle.records.specs.Placed.{placed}
-use Rattle.carrying.specs.Carried.{ReadBack, keptRecord}
+use Rattle.kept.specs.Kept.{keptRecord}
+use Rattle.carrying.specs.Carried.{ReadBack}
 use Rattle.cycles.proofs.RunLaws.{Left, left-all, left-more}
 use Rattle.cycles.specs.Lent.{Lent}
 

@@ -18,7 +18,7 @@ ghost use Rattle.language.specs.Calls.{runRefusal};
 ghost use Rattle.language.specs.Reading.{zeroes};
 ghost use Rattle.next.specs.Seen.{recordMeant};
 ghost use Rattle.answers.specs.Run.{tallied};
-ghost use Rattle.carrying.specs.Carried.{keptRecord};
+ghost use Rattle.kept.specs.Kept.{keptRecord};
 ghost use Rattle.cycles.specs.Lent.{Lent, SomeLent};
 
 // A run so far, and the record that it has come to.
@@ -130,6 +130,6 @@ pub fn carry_out(
     );
     slices::zero(scratch);
     let tally = a.tally;
-    carrying::note(record, tally.completed, a.record);
+    kept::note(record, tally.completed, a.record);
     tally
 }

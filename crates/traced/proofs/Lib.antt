@@ -1,2 +1,3 @@
 pub mod BegunLaws
+pub mod LineLaws
 pub mod Whole

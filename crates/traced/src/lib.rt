@@ -1,2 +1,3 @@
-// What the trace program begins with: a text is read and opened, or refused.
+// The trace program without its files: a text is read and opened, or refused; a line of input is a cycle.
 pub mod begun;
+pub mod line;

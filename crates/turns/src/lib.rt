@@ -1,3 +1,3 @@
-// One line of input bits of the trace program: a cycle, and what is printed of it added to a buffer.
+// What the trace program prints for one line of input bits, added to a buffer.
 mod label;
-pub mod line;
+pub mod told;

@@ -54,7 +54,7 @@ use Rattle.ending.specs.Stepped.{Clear, counted, stepped}
 use Rattle.ending.specs.declared.outcome.Stepped.{Stepped}
 use Rattle.ending.proofs.outcome.Stepped as O
 use Rattle.ending.proofs.outcome.Stepped.Laws as O′
-use Rattle.advance.specs.Kept.{kept}
+use Rattle.kept.specs.Kept.{kept}
 use Rattle.advance.proofs.settle as settle
 use Rattle.advance.proofs.settle.Symbol as settle-def
 use Rattle.advance.proofs.settle.Symbol.{name as #settle}

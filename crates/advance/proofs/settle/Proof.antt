@@ -6,8 +6,8 @@ use Rattle.advance.proofs.settle.Tie as tie
 step-requires : tie.Need-step-requires
 step-requires c κs = search needs
 
-keep-requires : tie.Need-keep-requires
-keep-requires c κs = search needs
+keep-record-requires : tie.Need-keep-record-requires
+keep-record-requires c κs = search needs
 
 same-length : tie.Need-same-length
 same-length c = search needs
@@ -20,9 +20,9 @@ same-length-3 c = search needs
 
 returns : tie.Need-returns
 returns c =
-    let e = c .keep .ensures in
+    let e = c .keep-record .ensures in
     let s = c .before .before .before .before .before .before .before .step .ensures in
     (λ d h acts k room enough clear. rw (stepped-kept (d .facilities) _ _ _ _ e) (s d h acts k room enough clear), record-kept _ _ _ e)
 
 pub settle-spec : {M : Type 1} → statement M
-settle-spec = tie.close (tie.spec step-requires keep-requires same-length same-length-2 same-length-3 returns)
+settle-spec = tie.close (tie.spec step-requires keep-record-requires same-length same-length-2 same-length-3 returns)

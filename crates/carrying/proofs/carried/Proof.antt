@@ -25,8 +25,8 @@ step-requires : tie.Need-step-requires
 step-requires c κs =
     (c .before .before .before .before .before .before .before .before .before .before .before .before .before .before .before .before .before .before .before .before .before .before .pre .0, c .before .before .before .before .before .before .before .before .before .before .before .before .before .before .before .before .before .before .before .before .before .before .pre .1, c .before .before .before .before .before .before .before .before .before .before .before .before .before .before .before .before .before .before .before .before .before .before .pre .2)
 
-keep-requires : tie.Need-keep-requires
-keep-requires c κs = search needs
+keep-store-requires : tie.Need-keep-store-requires
+keep-store-requires c κs = search needs
 
 same-length : tie.Need-same-length
 same-length c = search needs
@@ -64,7 +64,7 @@ returns c =
     clear
     ∙ all-counted i p _ _ _ in
     let there = rw (means, ← read) at ran in (
-      rw (c .before .before .keep .ensures)
+      rw (c .before .before .keep-store .ensures)
           (kept-so (decode i) (s .verdict) (recordMeant (s .«record»)) (s .conflicts) B K _ n (λ j. c .before .before .before .before .before .before .before .before .before .slice-known7 .given j .fits) (omega (arith, c .before .before .before .before .before .before .before .before .before .before .work2 .given, long)) room
           ∙ (ap (afterStep (decode i) B K n) there ∙ cycle-is i B K t n free)),
       back-so i B K t n free (s .verdict) _ (recordMeant (s .«record»)) (s .conflicts) there,
@@ -77,7 +77,7 @@ carried-spec =
     copy-requires
     zero-requires
     step-requires
-    keep-requires
+    keep-store-requires
     same-length
     same-length-2
     same-length-3

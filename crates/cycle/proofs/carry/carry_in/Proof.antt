@@ -68,9 +68,6 @@ carried-requires c κs =
     let read = ap (λ (x : Record). x .held) (c .before .before .before .before .record-at .ensures) in
     rw (c .before .before .before .before .before .before .before .before .before .before .section .ensures, c .before .before .before .before .before .before .section5 .ensures) (passed-facilities i p, passed-states i p, omega (arith, read, held))
 
-zero-requires : tie.Need-zero-requires
-zero-requires c κs = search needs
-
 answered-requires : tie.Need-answered-requires
 answered-requires c κs = search needs
 
@@ -92,19 +89,18 @@ same-length-5 c = search needs
 returns : tie.Need-returns
 unfolding storeSize
 returns c =
-    let a = c .before .before .before .before .before .before .before .before .before .before .before .before .before .before .before .before .before .before .before .before .before .before .before .before .before .before .before .before .before .before .before .before .before .before .before .args in
+    let a = c .before .before .before .before .before .before .before .before .before .before .before .before .before .before .before .before .before .before .before .before .before .before .before .before .before .before .before .before .before .before .before .before .before .before .args in
     let i = a .image .now in
     let s = a .store .now in
     let k = a .«record» .now in
     let t = a .stimulus .now in
     let m = length (a .scratch .now) in
-    let pre = c .before .before .before .before .before .before .before .before .before .before .before .before .before .before .before .before .before .before .before .before .before .before .before .before .before .before .before .before .before .before .before .before .before .before .before .pre in
+    let pre = c .before .before .before .before .before .before .before .before .before .before .before .before .before .before .before .before .before .before .before .before .before .before .before .before .before .before .before .before .before .before .before .before .before .before .pre in
     let copy = length-take-le (a .n - 0) (a .scratch .now) (omega (arith, pre .1, scratch-there i s k t m (pre .0))) in
     let waiting = length-take-le (a .n - 0) (a .pending .now) (omega (arith, pre .2)) in
     let masked = length-take-le (a .n - 0) (a .mask .now) (omega (arith, pre .3)) in
-    rw (c .before .before .before .before .before .before .zero .ensures, c .before .before .before .before .before .before .before .before .before .before .before .before .before .scratch .given .1)
-    (c .before .before .answered .ensures _ m (record-there i s k t m (pre .0))
-    ∙ (c .before .before .before .before .before .before .before .before .before .before .before .before .before .before .before .before .carried .ensures i k m (record { facilities-are = c .before .before .before .before .before .before .before .before .before .before .before .before .before .before .before .before .before .before .before .before .before .before .before .before .before .before .before .section .ensures; operations-are = c .before .before .before .before .before .before .before .before .before .before .before .before .before .before .before .before .before .before .before .before .before .before .before .before .before .before .section2 .ensures; expressions-are = c .before .before .before .before .before .before .before .before .before .before .before .before .before .before .before .before .before .before .before .before .before .before .before .before .before .section3 .ensures; actions-are = c .before .before .before .before .before .before .before .before .before .before .before .before .before .before .before .before .before .before .before .before .before .before .before .before .section4 .ensures; states-are = c .before .before .before .before .before .before .before .before .before .before .before .before .before .before .before .before .before .before .before .before .before .before .before .section5 .ensures }) (sym (c .before .before .before .before .before .before .before .before .before .before .before .before .before .before .before .before .before .before .before .before .before .record-at .ensures)) (omega (arith, copy, pre .1)) (omega (arith, waiting, pre .1)) (omega (arith, masked, pre .1)) (pre .0)) .0)
+    c .before .before .before .before .answered .ensures _ (record-there i s k t m (pre .0))
+    ∙ rw (c .before .before .before .before .before .before .before .before .before .before .before .before .scratch .given .1) ((c .before .before .before .before .before .before .before .before .before .before .before .before .before .before .before .carried .ensures i k m (record { facilities-are = c .before .before .before .before .before .before .before .before .before .before .before .before .before .before .before .before .before .before .before .before .before .before .before .before .before .before .section .ensures; operations-are = c .before .before .before .before .before .before .before .before .before .before .before .before .before .before .before .before .before .before .before .before .before .before .before .before .before .section2 .ensures; expressions-are = c .before .before .before .before .before .before .before .before .before .before .before .before .before .before .before .before .before .before .before .before .before .before .before .before .section3 .ensures; actions-are = c .before .before .before .before .before .before .before .before .before .before .before .before .before .before .before .before .before .before .before .before .before .before .before .section4 .ensures; states-are = c .before .before .before .before .before .before .before .before .before .before .before .before .before .before .before .before .before .before .before .before .before .before .section5 .ensures }) (sym (c .before .before .before .before .before .before .before .before .before .before .before .before .before .before .before .before .before .before .before .before .record-at .ensures)) (omega (arith, copy, pre .1)) (omega (arith, waiting, pre .1)) (omega (arith, masked, pre .1)) (pre .0)) .0)
 
 pub carry-in-spec : {M : Type 1} → statement M
 carry-in-spec =
@@ -126,7 +122,6 @@ carry-in-spec =
     part-carried-start-3
     part-carried-end-3
     carried-requires
-    zero-requires
     answered-requires
     same-length
     same-length-2

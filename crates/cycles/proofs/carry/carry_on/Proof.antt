@@ -9,7 +9,7 @@ use Rattle.next.specs.Seen.{recordMeant}
 use Rattle.sound.proofs.PassedLaws.{passed-facilities, passed-states}
 use Rattle.carrying.proofs.CarryLaws.{few-held}
 use Rattle.stays.specs.ManyCycles.{run-free}
-use Rattle.carrying.specs.Carried.{keptRecord}
+use Rattle.kept.specs.Kept.{keptRecord}
 use Rattle.cycles.specs.Lent.{Lent}
 use Rattle.cycles.proofs.RunLaws.{each-so, left-none, left-refused, left-stop, next-free, next-there, run-small, run-so}
 use Rattle.cycles.proofs.SoFarLaws.{SoFar, so-far-more, so-far-none}

@@ -1,10 +1,9 @@
 use Rattle.language.specs.Decode.{decode, sectionAt}
-use Rattle.language.specs.Scan.{bytes}
 use Rattle.turns.proofs.LabelLaws.{image-described}
-use Rattle.turns.proofs.TurnLaws.{turned-none, turned-taken}
+use Rattle.traced.proofs.LineLaws.{turned-none, turned-taken}
 use borrow.Author.Needs.{needs}
-use Rattle.turns.proofs.line.line_done.Statement.{statement}
-use Rattle.turns.proofs.line.line_done.Tie as tie
+use Rattle.traced.proofs.line.line_done.Statement.{statement}
+use Rattle.traced.proofs.line.line_done.Tie as tie
 
 section-requires : tie.Need-section-requires
 section-requires c κs = search needs
@@ -15,11 +14,8 @@ stimulus-of-requires c κs = search needs
 enum-told : tie.Need-enum-told
 enum-told c = search needs
 
-slice-aggregate-numbered : tie.Need-slice-aggregate-numbered
-slice-aggregate-numbered c = search needs
-
-numbered-requires : tie.Need-numbered-requires
-numbered-requires c κs = search needs
+not-taken-requires : tie.Need-not-taken-requires
+not-taken-requires c κs = search needs
 
 enum-known-n : tie.Need-enum-known-n
 enum-known-n c = search needs
@@ -37,10 +33,9 @@ same-length-2 : tie.Need-same-length-2
 same-length-2 c = search needs
 
 returns : tie.Need-returns
-unfolding bytes
 returns c =
-    let i = c .before .before .before .before .before .before .before .before .before .before .before .before .before .before .before .before .before .before .before .args .image .now in
-    turned-none (c .before .before .before .before .before .before .before .before .before .before .before .before .before .before .before .before .before .before .before .args .stimulus .now) (c .before .before .before .before .before .before .before .before .before .stimulus-of .last .1 .1 .0) (c .before .before .before .before .before .before .before .before .before .stimulus-of .result) (c .before .before .before .before .before .enum-told .given .1) (c .before .before .before .before .before .before .before .before .before .stimulus-of .ensures (decode i) (sectionAt 2 8 i) (image-described i (c .before .before .before .before .before .before .before .before .before .before .before .before .before .before .before .before .before .before .before .pre .0) (c .before .before .before .before .before .before .before .before .before .before .before .section .ensures)) (c .before .before .before .before .before .before .before .before .before .before .before .before .before .before .before .before .before .before .before .pre .3)) (c .before .before .numbered .ensures)
+    let i = c .before .before .before .before .before .before .before .before .before .before .before .before .before .before .before .before .before .before .args .image .now in
+    turned-none (c .before .before .before .before .before .before .before .before .before .before .before .before .before .before .before .before .before .before .args .stimulus .now) (c .before .before .before .before .before .before .before .before .stimulus-of .last .1 .1 .0) (c .before .before .before .before .before .before .before .before .stimulus-of .result) (c .before .before .before .before .enum-told .given .1) (c .before .before .before .before .before .before .before .before .stimulus-of .ensures (decode i) (sectionAt 2 8 i) (image-described i (c .before .before .before .before .before .before .before .before .before .before .before .before .before .before .before .before .before .before .pre .0) (c .before .before .before .before .before .before .before .before .before .before .section .ensures)) (c .before .before .before .before .before .before .before .before .before .before .before .before .before .before .before .before .before .before .pre .3)) (c .before .before .not-taken .ensures .0) (c .before .before .not-taken .ensures .1)
 
 same-length-3 : tie.Need-same-length-3
 same-length-3 c = search needs
@@ -69,8 +64,7 @@ line-done-spec =
     section-requires
     stimulus-of-requires
     enum-told
-    slice-aggregate-numbered
-    numbered-requires
+    not-taken-requires
     enum-known-n
     part-requires
     carried-requires

@@ -1,7 +1,7 @@
 use mathlib.Core.Path.{refl}
 use borrow.Author.Needs.{needs}
-use Rattle.carrying.proofs.keep.Statement.{statement}
-use Rattle.carrying.proofs.keep.Tie as tie
+use Rattle.kept.proofs.keep_store.Statement.{statement}
+use Rattle.kept.proofs.keep_store.Tie as tie
 
 enum-told : tie.Need-enum-told
 enum-told c = search needs
@@ -28,8 +28,8 @@ returns-2 c = search needs
 returns-3 : tie.Need-returns-3
 returns-3 c = search needs
 
-pub keep-spec : {M : Type 1} → statement M
-keep-spec =
+pub keep-store-spec : {M : Type 1} → statement M
+keep-store-spec =
     tie.close
     (tie.spec
     enum-told

@@ -1,9 +1,9 @@
 use mathlib.Core.Path.{_∙_}
 use Rattle.next.specs.Seen.{recordMeant}
-use Rattle.carrying.proofs.KeptLaws.{kept-none, kept-some}
+use Rattle.kept.proofs.KeptLaws.{kept-none, kept-some}
 use borrow.Author.Needs.{needs}
-use Rattle.carrying.proofs.note.Statement.{statement}
-use Rattle.carrying.proofs.note.Tie as tie
+use Rattle.kept.proofs.note.Statement.{statement}
+use Rattle.kept.proofs.note.Tie as tie
 
 write-record-requires : tie.Need-write-record-requires
 write-record-requires c κs = search needs

@@ -1,12 +1,11 @@
 // One line of input bits: a cycle and its line of output, or the stop or the refusal that ends the run.
-use crate::label;
-use answers::cycled::Answer;
 use image::sections;
 use inputs::stimulus;
 use inputs::stimulus::Taken;
-use lines::line;
 use records::bytes;
 use records::numbers;
+use turns::told;
+use turns::told::Turn;
 ghost use mathlib.Core.Bool.{true};
 ghost use mathlib.Core.Path.{_≡_};
 ghost use Prim.Native.Nat.{_*_, _≤_};
@@ -16,26 +15,7 @@ ghost use Rattle.language.specs.Calls.{stimulusSize};
 ghost use Rattle.language.specs.Decode.{decode};
 ghost use Rattle.language.specs.Image.{passes};
 ghost use Rattle.language.specs.Layout.{storeSize};
-ghost use Rattle.language.specs.Trace.{cycleLine};
-ghost use Rattle.lines.specs.Adds.{Adds};
 ghost use Rattle.turns.specs.Turns.{Carried, Ready, Turned};
-
-// Whether the run goes on, and where the output ends.
-pub struct Turn {
-    pub on: bool,
-    pub end: usize,
-}
-
-// The line of a cycle that was carried out in a state.
-fn shown(image: &[u8], state: u32, number: u64, store: &[u8], out: &mut [u8], at: usize) -> usize
-    requires { ⌜ (passes (now image) ≡ true) × (storeSize (decode (now image)) ≤ length (now store)) ⌝ }
-    ensures { λ r. ⌜ Adds (cycleLine (decode (now (image .entry))) number state (now (store .entry))) (now (out .entry)) at (now (out .exit)) r ⌝ }
-{
-    let name = label::label(image, state);
-    let facilities = sections::section(image, 0, 13);
-    let names = sections::section(image, 5, 1);
-    line::cycle_line(out, at, number, name, facilities, names, store)
-}
 
 // A cycle with a stimulus.
 fn carried(
@@ -52,20 +32,8 @@ fn carried(
     ensures { λ r. ⌜ Carried (now (image .entry)) number (now («record» .entry)) (L.cycle (now (image .entry)) (now (store .entry)) (now («record» .entry)) (now (stimulus .entry)) (length (now (scratch .entry)))) (r .on) (now (store .exit)) (now («record» .exit)) (now (out .entry)) at (now (out .exit)) (r .end) ⌝ }
 {
     let state = numbers::four(record, 4);
-    match cycle::cycle::cycle(image, true, store, record, stimulus, scratch) {
-        Answer::Cycled(_) => Turn {
-            on: true,
-            end: shown(image, state, number, store, out, at),
-        },
-        Answer::Stopped(n) => Turn {
-            on: false,
-            end: line::numbered(out, at, b"stop ", n as u64),
-        },
-        Answer::Refused(n) => Turn {
-            on: false,
-            end: line::numbered(out, at, b"refused ", n as u64),
-        },
-    }
+    let answer = cycle::cycle::cycle(image, true, store, record, stimulus, scratch);
+    told::told(image, answer, state, number, store, out, at)
 }
 
 // The cycle of this number, by a line of input.
@@ -85,10 +53,7 @@ pub fn line_done(
 {
     let facilities = sections::section(image, 0, 13);
     match stimulus::stimulus_of(facilities, line, stimulus) {
-        Taken::None => Turn {
-            on: false,
-            end: line::numbered(out, at, b"refused ", 15),
-        },
+        Taken::None => told::not_taken(out, at),
         Taken::Bytes(n) => {
             let taken = bytes::part(stimulus, 0, n);
             carried(image, store, record, scratch, taken, number, out, at)

@@ -3,10 +3,10 @@ use Prim.Native.Nat.{ℕ, _*_}
 use native.Mathlib.Omega.{arith}
 use lib.ListN.{length, length-replicate}
 use Rattle.carrying.proofs.KeptLaws.{first-zeroes}
-use Rattle.turns.proofs.TurnLaws.{small-stimulus, small-store}
+use Rattle.traced.proofs.LineLaws.{small-stimulus, small-store}
 use borrow.Author.Needs.{needs}
-use Rattle.turns.proofs.line.turned.Statement.{statement}
-use Rattle.turns.proofs.line.turned.Tie as tie
+use Rattle.traced.proofs.line.turned.Statement.{statement}
+use Rattle.traced.proofs.line.turned.Tie as tie
 
 mul-size : tie.Need-mul-size
 mul-size c =

@@ -3,8 +3,8 @@ use Rattle.language.specs.Layout.{storeSize}
 use Rattle.sound.proofs.PassedLaws.{passed-facilities}
 use Rattle.turns.proofs.LabelLaws.{image-described, image-named}
 use borrow.Author.Needs.{needs}
-use Rattle.turns.proofs.line.shown.Statement.{statement}
-use Rattle.turns.proofs.line.shown.Tie as tie
+use Rattle.turns.proofs.told.shown.Statement.{statement}
+use Rattle.turns.proofs.told.shown.Tie as tie
 
 label-requires : tie.Need-label-requires
 label-requires c κs = search needs
