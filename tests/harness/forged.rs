@@ -4,7 +4,6 @@
 use crate::fields::{count, four, resize, set_four, start, SIZES};
 use crate::runs::{legal_image, some_loan};
 use crate::untold::untold;
-use crate::walls::garbage;
 use crate::{fields, held, Failure, Harness};
 use second::bytes::stimulus_bytes;
 use second::image::HEADER;
@@ -161,7 +160,7 @@ fn any_bytes(image: &mut Vec<u8>, random: &mut Random) -> &'static str {
         1 => image.truncate(random.below(total)),
         _ => {
             let length = random.pick(&[0, 3, 4, HEADER - 1, HEADER, HEADER + 1, 200]);
-            *image = garbage(length, random);
+            *image = random.bytes(length);
         }
     }
     "cut short or of any bytes"

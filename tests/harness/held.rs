@@ -2,7 +2,7 @@
 //! every byte of every part lent, with two fillings of garbage.
 
 use crate::module;
-use crate::walls::{garbage, Walled};
+use crate::walls::Walled;
 use crate::{Failure, Harness};
 use second::calls::{self, CycleAnswer, Lent, NameAnswer, ReadAnswer, RunAnswer};
 use std::fmt::Debug;
@@ -41,7 +41,7 @@ pub fn read(harness: &mut Harness, kind: &str, text: &[u8], room: usize) -> Resu
     for _ in 0..2 {
         let random = &mut harness.random;
         let mut lent_text = Walled::around(text, random);
-        let mut image = Walled::around(&garbage(room, random), random);
+        let mut image = Walled::around(&random.bytes(room), random);
         same("read", module::read(lent_text.part(), image.part()), answer)?;
         image.holds("read: image", &expected)?;
         lent_text.holds("read: text", text)?;
@@ -62,8 +62,8 @@ pub fn open(
     for _ in 0..2 {
         let random = &mut harness.random;
         let mut lent_image = Walled::around(image, random);
-        let mut lent_store = Walled::around(&garbage(rooms[0], random), random);
-        let mut lent_record = Walled::around(&garbage(rooms[1], random), random);
+        let mut lent_store = Walled::around(&random.bytes(rooms[0]), random);
+        let mut lent_record = Walled::around(&random.bytes(rooms[1]), random);
         same("open", module::open(lent_image.part(), lent_store.part(), lent_record.part()), refusal)?;
         lent_store.holds("open: store", &store)?;
         lent_record.holds("open: record", &record)?;
@@ -74,7 +74,7 @@ pub fn open(
 
 /// Advances the loan's store and record as a cycle does.
 pub fn cycle(harness: &mut Harness, kind: &str, loan: &mut Loan, stimulus: &[u8]) -> Result<CycleAnswer, Failure> {
-    let found = loan.clone();
+    let found = Loan { trace: 0, ..loan.clone() };
     let mut scratch = vec![0; loan.scratch];
     let lent = Lent { store: &mut loan.store, record: &mut loan.record, scratch: &mut scratch, trace: &mut [] };
     let answer = calls::cycle(&loan.image, lent, stimulus);
@@ -127,7 +127,7 @@ struct Parts {
 impl Parts {
     fn of(found: &Loan, stimuli: &[u8], harness: &mut Harness) -> Parts {
         let random = &mut harness.random;
-        let (scratch, trace) = (garbage(found.scratch, random), garbage(found.trace, random));
+        let (scratch, trace) = (random.bytes(found.scratch), random.bytes(found.trace));
         let written = [&found.store, &found.record, &scratch, &trace];
         Parts {
             image: Walled::around(&found.image, random),

@@ -2,7 +2,7 @@
 //!
 //!     harness SEED TRIES         tries from this seed; ends with status 1 if any call differs
 //!     harness --on SEED          goes on with new seeds until a call differs
-//!     harness --corpus FOLDER    the cases of the corpus
+//!     harness --cases FOLDER     the cases of the corpus, and each fault that a cycle can have
 //!
 //! A try makes many calls; each is held against the second simulator in its
 //! answer and in every byte of every part lent. What was tried is printed by
@@ -12,6 +12,7 @@
 mod altered;
 mod corpus;
 mod deep;
+mod faults;
 mod fields;
 mod forged;
 mod held;
@@ -27,6 +28,7 @@ use std::collections::BTreeMap;
 use std::env;
 use std::fmt::Display;
 use std::fs;
+use std::iter;
 use std::panic::{catch_unwind, AssertUnwindSafe};
 use std::path::Path;
 use std::process::ExitCode;
@@ -104,12 +106,13 @@ fn random_tries(seed: u64, tries: u64) -> bool {
     tried(seeds.map(|seed| (format!("seed {seed}"), seed)), |harness, _| attempt(harness))
 }
 
-fn corpus_tries(folder: &str) -> Result<bool, String> {
+fn cases_tried(folder: &str) -> Result<bool, String> {
     let entries = fs::read_dir(folder).map_err(|error| format!("{folder}: {error}"))?;
     let mut cases: Vec<_> = entries.flatten().map(|entry| entry.path()).collect();
     cases.sort();
     let named = cases.iter().map(|case| (case.display(), 1));
-    Ok(tried(named, |harness, case| corpus::one_case(harness, Path::new(&case.to_string()))))
+    Ok(tried(named, |harness, case| corpus::one_case(harness, Path::new(&case.to_string())))
+        && tried(iter::once(("each fault", 1)), |harness, _| faults::each_fault(harness)))
 }
 
 fn harness(arguments: &[String]) -> Result<bool, String> {
@@ -122,9 +125,9 @@ fn harness(arguments: &[String]) -> Result<bool, String> {
             }
             Ok(false)
         }
-        [corpus, folder] if corpus == "--corpus" => corpus_tries(folder),
+        [cases, folder] if cases == "--cases" => cases_tried(folder),
         [seed, tries] => Ok(random_tries(number(seed)?, number(tries)?)),
-        _ => Err("usage: harness SEED TRIES, harness --on SEED, or harness --corpus FOLDER".to_string()),
+        _ => Err("usage: harness SEED TRIES, harness --on SEED, or harness --cases FOLDER".to_string()),
     }
 }
 

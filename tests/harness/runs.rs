@@ -2,7 +2,6 @@
 //! record; cycle by cycle, then the same cycles by one run; and lookups.
 
 use crate::held::{self, Loan};
-use crate::walls::garbage;
 use crate::{Failure, Harness};
 use second::bytes::{stimulus_bytes, store_bytes};
 use second::calls::{store_size, RunAnswer};
@@ -24,7 +23,7 @@ pub fn legal_image(harness: &mut Harness) -> Result<(Description, Vec<u8>), Fail
     let (answer, mut image) = held::read(harness, "legal", &text, room)?;
     image.truncate(answer.length as usize);
     let beyond = harness.random.pick(&[0, 0, 1, 9]);
-    image.extend(garbage(beyond, &mut harness.random));
+    image.extend(harness.random.bytes(beyond));
     let loaded = load(&image).ok_or(format!("a legal text's image does not pass: {answer:?}"))?;
     Ok((loaded.description, image))
 }
@@ -41,9 +40,9 @@ pub fn some_loan(harness: &mut Harness, description: &Description, image: Vec<u8
         record[..RECORD].copy_from_slice(&record_bytes(&run));
     }
     // What lies beyond is kept, so it is to be seen.
-    let beyond = garbage(stored - size, &mut harness.random);
+    let beyond = harness.random.bytes(stored - size);
     store[size..].copy_from_slice(&beyond);
-    let beyond = garbage(recorded - RECORD, &mut harness.random);
+    let beyond = harness.random.bytes(recorded - RECORD);
     record[RECORD..].copy_from_slice(&beyond);
     Ok(Loan { image, store, record, scratch, trace: 0 })
 }

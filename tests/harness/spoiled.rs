@@ -3,7 +3,6 @@
 
 use crate::held::{self, Loan};
 use crate::runs::{legal_image, some_loan};
-use crate::walls::garbage;
 use crate::{Failure, Harness};
 use second::bytes::stimulus_bytes;
 use second::calls::{stimulus_size, store_size};
@@ -13,10 +12,11 @@ use second::trials::supply;
 use second::Description;
 
 /// A loan, and what the cycles are fed.
-struct Spoiled {
-    loan: Loan,
-    stimuli: Vec<u8>,
-    cycles: u32,
+#[derive(Clone)]
+pub struct Fed {
+    pub loan: Loan,
+    pub stimuli: Vec<u8>,
+    pub cycles: u32,
 }
 
 pub fn some_spoiled(harness: &mut Harness) -> Result<(), Failure> {
@@ -28,7 +28,7 @@ pub fn some_spoiled(harness: &mut Harness) -> Result<(), Failure> {
     for _ in 0..4 {
         let cycles = harness.random.pick(&[0, 1, 2, 5]);
         let trace = harness.random.pick(&[0, 0, 1]) * cycles as usize * size;
-        let mut one = Spoiled { loan: Loan { trace, ..loan.clone() }, stimuli: Vec::new(), cycles };
+        let mut one = Fed { loan: Loan { trace, ..loan.clone() }, stimuli: Vec::new(), cycles };
         for _ in 0..cycles {
             one.stimuli.extend(stimulus_bytes(&supply::stimulus(&description, &mut harness.random)));
         }
@@ -44,7 +44,7 @@ pub fn some_spoiled(harness: &mut Harness) -> Result<(), Failure> {
     Ok(())
 }
 
-fn spoil(one: &mut Spoiled, description: &Description, random: &mut Random) {
+fn spoil(one: &mut Fed, description: &Description, random: &mut Random) {
     match random.below(12) {
         0 => change(&mut one.loan.store, random),
         1 => spare_bit(&mut one.loan.store, description, random),
@@ -97,9 +97,9 @@ fn shorten(bytes: &mut Vec<u8>, needed: usize, random: &mut Random) {
 }
 
 /// Stimuli too long or too short, or with a high bit set.
-fn stimuli(one: &mut Spoiled, random: &mut Random) {
+fn stimuli(one: &mut Fed, random: &mut Random) {
     match random.below(3) {
-        0 => one.stimuli.extend(garbage(1, random)),
+        0 => one.stimuli.extend(random.bytes(1)),
         1 => drop(one.stimuli.pop()),
         _ if one.stimuli.is_empty() => {}
         _ => {
@@ -110,7 +110,7 @@ fn stimuli(one: &mut Spoiled, random: &mut Random) {
 }
 
 /// Another count of cycles. A huge one only where stimuli are due, so that it cannot be run.
-fn cycles(one: &mut Spoiled, description: &Description, random: &mut Random) {
+fn cycles(one: &mut Fed, description: &Description, random: &mut Random) {
     let huge = if stimulus_size(description) > 0 { u32::MAX } else { 3 };
     one.cycles = random.pick(&[0, 1, one.cycles.saturating_add(1), huge, huge / 2 + 1]);
 }

@@ -1,7 +1,6 @@
 //! Texts of all kinds: legal, at a ceiling, broken, or obeying the grammar
 //! alone; each with a buffer that is short, exact or long.
 
-use crate::walls::garbage;
 use crate::{held, Failure, Harness};
 use second::image::image;
 use second::trials::supply;
@@ -20,7 +19,7 @@ pub fn any_text(harness: &mut Harness) -> Result<(), Failure> {
 
 fn any_bytes(harness: &mut Harness) -> Vec<u8> {
     let length = harness.random.pick(&[0, 1, 2, 10, 100]);
-    garbage(length, &mut harness.random)
+    harness.random.bytes(length)
 }
 
 fn room(harness: &mut Harness, needed: usize) -> (&'static str, usize) {

@@ -12,14 +12,10 @@ pub struct Walled {
     right: Vec<u8>,
 }
 
-pub fn garbage(length: usize, random: &mut Random) -> Vec<u8> {
-    (0..length).map(|_| random.below(256) as u8).collect()
-}
-
 impl Walled {
     pub fn around(contents: &[u8], random: &mut Random) -> Walled {
         let thickness = random.between(8, 40);
-        let (left, right) = (garbage(thickness, random), garbage(thickness, random));
+        let (left, right) = (random.bytes(thickness), random.bytes(thickness));
         let bytes = [&left[..], contents, &right[..]].concat();
         Walled { bytes, left, right }
     }
@@ -40,9 +36,13 @@ impl Walled {
             return Err(format!("{what}: a byte outside was written"));
         }
         let found = &self.bytes[self.left.len()..end];
-        match found.iter().zip(expected).position(|(found, expected)| found != expected) {
-            Some(at) => Err(format!("{what}: byte {at} is {} and not {}", found[at], expected[at])),
-            None => Ok(()),
+        if found == expected {
+            return Ok(());
         }
+        let differs = found.iter().zip(expected).position(|(found, expected)| found != expected);
+        Err(match differs {
+            Some(at) => format!("{what}: byte {at} is {} and not {}", found[at], expected[at]),
+            None => format!("{what}: {} bytes and not {}", found.len(), expected.len()),
+        })
     }
 }

@@ -1,6 +1,5 @@
 //! The command line: the trace program over `run.ddl` and standard input; with
-//! `--random SEED COUNT` the self-check; with `--calls SEED FOLDER...` calls
-//! packed for another module; with `--text SEED` a text, and with
+//! `--random SEED COUNT` the self-check; with `--text SEED` a text, and with
 //! `--input SEED LINES` input lines for `run.ddl`, to hold another simulator
 //! against this one; with `--images SEED MOST TEXT...` images that pass and
 //! that do not, those of the texts up to so many bytes among them; with
@@ -19,13 +18,12 @@ fn main() -> ExitCode {
     let done = match &arguments[..] {
         [] => traced().map_err(|error| error.to_string()),
         [mode, seed, count] if mode == "--random" => checked(seed, count),
-        [mode, seed, folders @ ..] if mode == "--calls" => second::trials::call_cases::packed(seed, folders),
         [mode, seed] if mode == "--text" => supplied(seed, None),
         [mode, seed, lines] if mode == "--input" => supplied(seed, Some(lines)),
         [mode, seed, most, texts @ ..] if mode == "--images" => forged(seed, most, texts),
         [mode, folders @ ..] if mode == "--pack" => packed(folders).map_err(|error| error.to_string()),
-        _ => Err("usage: second [--random SEED COUNT | --calls SEED FOLDER... | --text SEED | --input SEED LINES | \
-            --images SEED MOST TEXT... | --pack FOLDER...]"
+        _ => Err("usage: second [--random SEED COUNT | --text SEED | --input SEED LINES | --images SEED MOST TEXT... | \
+            --pack FOLDER...]"
             .to_string()),
     };
     match done {

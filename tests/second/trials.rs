@@ -3,7 +3,6 @@
 
 pub mod bnf;
 mod by_hand;
-pub mod call_cases;
 pub mod check;
 mod deeds;
 pub mod edges;
@@ -13,10 +12,8 @@ pub mod generate;
 mod images;
 pub mod layout;
 pub mod mutate;
-mod packed;
 mod phrases;
 mod piece;
 pub mod random;
 pub mod running;
-mod spoiled;
 pub mod supply;

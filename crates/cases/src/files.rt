@@ -1,9 +1,9 @@
 // The cases of a file that has nothing else: traces or images.
 use crate::images;
+use crate::tally;
+use crate::tally::Came;
+use crate::tally::Tally;
 use crate::traces;
-use trials::tally;
-use trials::tally::Came;
-use trials::tally::Tally;
 
 pub const TRACES: u8 = 0;
 

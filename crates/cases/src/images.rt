@@ -1,9 +1,9 @@
 // The cases of data/images, as the second simulator packs them: the length of an image in four bytes, whether it passes, and its bytes.
+use crate::fetched;
+use crate::tally;
+use crate::tally::Came;
 use records::bytes;
 use records::numbers;
-use trials::fetched;
-use trials::tally;
-use trials::tally::Came;
 
 // Whether an image passes exactly if it should.
 fn agrees(image: &[u8], expected: u8) -> bool {

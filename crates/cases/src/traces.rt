@@ -1,10 +1,10 @@
 // The cases of data/corpus, as the second simulator packs them: the lengths of a text, its input and the output that is owed in four bytes each, and these.
+use crate::fetched;
+use crate::tally;
+use crate::tally::Came;
 use crate::whole;
 use records::bytes;
 use records::numbers;
-use trials::fetched;
-use trials::tally;
-use trials::tally::Came;
 
 // Whether the trace of a text and its input is the output that is owed.
 fn agrees(text: &[u8], input: &[u8], owed: &[u8]) -> bool {

@@ -1,6 +1,6 @@
 // The cycles of a run that is not refused.
-use crate::formed;
 use answers::ran::Tally;
+use begin::formed;
 use ending::outcome::Verdict;
 use image::sections;
 use next::record::Record;

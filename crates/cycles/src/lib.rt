@@ -1,3 +1,2 @@
-// The cycles of a run that is not refused: the stimuli of all of them, and each carried out after the other.
+// The cycles of a run that is not refused, each carried out after the other.
 pub mod carry;
-pub mod formed;

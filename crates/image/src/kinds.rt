@@ -1,6 +1,7 @@
 // What a facility is, and what may be stored to it, by its kind.
 use crate::facilities::Kind;
 use records::actions;
+ghost use mathlib.Core.Bool.{cond, false};
 ghost use mathlib.Core.Path.{_≡_};
 ghost use Rattle.language.specs.Description.{isComputed, isSequencing};
 ghost use Rattle.language.specs.Store.{isInput};
@@ -43,6 +44,17 @@ pub fn may_store(sign: u8, kind: Kind) -> bool
         actions::DELAYED => takes_delayed(kind),
         actions::IMMEDIATE => takes_immediate(kind),
         _ => false,
+    }
+}
+
+// Whether it may go to both.
+pub fn may_both(sign: u8, k: Kind, l: Kind) -> bool
+    ensures { λ r. ⌜ r ≡ cond (mayStore sign (kindMeant k)) (mayStore sign (kindMeant l)) false ⌝ }
+{
+    if may_store(sign, k) {
+        may_store(sign, l)
+    } else {
+        false
     }
 }
 

@@ -1,4 +1,5 @@
 -- The two sides of a store.
+use mathlib.Core.Bool.{Bool, true, false, cond}
 use mathlib.Core.Path.{_≡_, refl, ap}
 use native.Mathlib.Omega.{arith}
 use Prim.Native.Nat.{ℕ, _+_}
@@ -13,6 +14,10 @@ use Rattle.verdict.specs.Meaning.{capped, met, paired, seen}
 use Rattle.words.specs.declared.Fault.{Fault}
 use Rattle.terms.specs.Shown.{worked}
 use Rattle.lists.specs.Stored.{pairSides}
+
+pub both-cond : (a b : Bool) → L.both a b ≡ cond a b false
+both-cond true b = refl
+both-cond false b = refl
 
 -- A part of which only faults and work are known.
 pub worked-fine : (j k : Judged) (v w : Worth) (on : L.Worth → L.Worth → Judged) {r : Verdict} → paired (seen (worked j)) (seen k) ≡ P.Fine v w

@@ -98,16 +98,6 @@ pub fn store(
     stored(at, allowed, length_of(a), only_work(a), b)
 }
 
-// Whether two facilities may be stored to.
-fn both_allowed(sign: u8, a: Kind, b: Kind) -> bool
-    ensures { λ r. ⌜ r ≡ L.both (mayStore sign (kindMeant a)) (mayStore sign (kindMeant b)) ⌝ }
-{
-    if kinds::may_store(sign, a) {
-        return kinds::may_store(sign, b);
-    }
-    false
-}
-
 // A store to two references, whose lengths count together.
 pub fn store_pair(
     fs: &[u8],
@@ -127,7 +117,7 @@ pub fn store_pair(
     let a = walk::left(fs, es, fp, ep, memo, known, l);
     let b = walk::left(fs, es, fp, ep, memo, known, m);
     let c = walk::expression(fs, es, fp, ep, memo, known, r);
-    let allowed = both_allowed(sign, kind_at(fs, es, ep, l), kind_at(fs, es, ep, m));
+    let allowed = kinds::may_both(sign, kind_at(fs, es, ep, l), kind_at(fs, es, ep, m));
     let length = length_of(a) + length_of(b);
     stored(at, allowed, length, operators::together(a, b), c)
 }

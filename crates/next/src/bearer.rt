@@ -1,8 +1,8 @@
 // The state whose value the sequencing register has.
 use image::states;
 use image::states::StateValue;
-use records::constants;
 use referents::arms::Found;
+use referents::constants;
 use value::Value;
 use value::numbers;
 ghost use mathlib.Core.Path.{_≡_};

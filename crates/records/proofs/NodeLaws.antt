@@ -1,8 +1,8 @@
 -- What record n of the expressions is, by its mark.
 use mathlib.Core.Bool.{true, false}
 use mathlib.Core.List.{List, [], _∷_}
-use mathlib.Core.Path.{_≡_, refl, ap, _∙_}
-use Prim.Native.Nat.{ℕ, suc, _+_, _*_, _/_, _%_, _^_, _<_, _≤_}
+use mathlib.Core.Path.{_≡_, refl, _∙_}
+use Prim.Native.Nat.{ℕ, _+_, _*_, _/_, _<_, _≤_}
 use native.Mathlib.Omega.{arith}
 use borrow.Author.Tests.{ne-eqb, le-leb, lt-leb}
 use denote.Enum.Declared.{tagOf}
@@ -12,10 +12,10 @@ use lib.ListN.{length, getD}
 use Rattle.language.specs.Decode.{constantAt, digitsMarked, nodeOf, numberAt, pick, plainNode}
 use Rattle.language.specs.Description as D
 use Rattle.language.specs.Description.{constantValue}
-use Rattle.language.specs.Value.{Value, value}
-use Rattle.records.proofs.DigitLaws.{constant-digits, further-of}
+use Rattle.language.specs.Value.{value}
+use Rattle.records.proofs.DigitLaws.{further-of}
 use Rattle.records.proofs.nodes.Node.{the-type}
-use Rattle.records.specs.Nodes.{constantNumber, digits, held, meant}
+use Rattle.records.specs.Nodes.{constantNumber, meant}
 use Rattle.records.specs.declared.nodes.Node.{Node}
 use Rattle.records.specs.declared.nodes.Node.the-variants as N
 
@@ -71,13 +71,3 @@ no-value v (N.FirstArm e) k = refl
 no-value v (N.NextArm a e) k = refl
 no-value v (N.Choice e a n) k = refl
 no-value v N.Broken k = refl
-
-pub none-held : {x : Value} → x ≡ value 0 0 → value 0 0 ≡ held x
-unfolding held
-none-held e = rw e
-
-pub value-held : (s : List ℕ) (n l : ℕ) {x : ℕ} → D.constant (value l (constantNumber n s)) ≡ nodeOf s n
-    → x ≡ digits (suc (getD s (8 * n + 1) 0 / 48)) (suc n) s % 2 ^ 256 → value l x ≡ held (constantValue (nodeOf s n))
-unfolding held
-value-held s n l e p =
-    rw (← e, constant-digits n s, further-of (getD s (8 * n + 1) 0)) (ap (value l) p)

@@ -1,6 +1,7 @@
 // What references name and what operators give: the parts that evaluation is made of.
 pub mod arms;
 pub mod bounds;
+pub mod constants;
 pub mod places;
 pub mod reading;
 pub mod references;

@@ -1,7 +1,7 @@
 // Why a run is refused: an image that does not pass, too little room, store or record not sound, a stimulus of another form.
+use begin::formed;
 use cycle::refusal;
 use cycle::refusal::Refusal;
-use cycles::formed;
 use image::sections;
 use sound::sizes;
 use sound::soundness;

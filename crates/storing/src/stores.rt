@@ -4,7 +4,6 @@ use crate::doing::Did;
 use crate::doing::Doing;
 use crate::spots;
 use image::facilities::Facility;
-use image::facilities::Kind;
 use image::kinds;
 use records::actions;
 use referents::places::Place;
@@ -15,10 +14,8 @@ ghost use mathlib.Core.List.{List, [], _∷_};
 ghost use mathlib.Core.Path.{_≡_};
 ghost use Prim.Native.Nat.{ℕ, _+_, _/_, _%_, _^_};
 ghost use Rattle.language.specs.Acting as T;
-ghost use Rattle.language.specs.Storing.{mayStore};
 ghost use Rattle.limbs.specs.Limbs.{number};
 ghost use Rattle.value.specs.Meaning.{valued};
-ghost use Rattle.image.specs.Declarations.{kindMeant};
 ghost use Rattle.layout.specs.InBytes.{bytes};
 ghost use Rattle.referents.specs.Places.{placeMeant};
 ghost use Rattle.referents.specs.Described.{There};
@@ -78,17 +75,6 @@ fn low(v: Value, n: u16) -> Value
     }
 }
 
-// Whether both places may be stored to.
-fn may_both(sign: u8, k: Kind, l: Kind) -> bool
-    ensures { λ r. ⌜ r ≡ cond (mayStore sign (kindMeant k)) (mayStore sign (kindMeant l)) false ⌝ }
-{
-    if kinds::may_store(sign, k) {
-        kinds::may_store(sign, l)
-    } else {
-        false
-    }
-}
-
 // A store of v to two places: the right one takes the low bits and lands later.
 pub fn store_pair(
     sign: u8,
@@ -109,7 +95,7 @@ pub fn store_pair(
     }
     let k = f.kind;
     let l = h.kind;
-    if !may_both(sign, k, l) {
+    if !kinds::may_both(sign, k, l) {
         return Did::Stuck(Stuck::NotStorable);
     }
     let s = spots::spot_of(f, p);

@@ -5,7 +5,10 @@ use records::constants;
 use records::nodes::Node;
 use value::Value;
 use words::Position;
+ghost use mathlib.Core.Path.{_≡_};
+ghost use Prim.Native.Nat.{_*_, _/_, _%_, _^_};
 ghost use Rattle.language.specs.Describe.{constantNodes, constantSize};
+ghost use Rattle.limbs.specs.Limbs.{number};
 ghost use Rattle.value.specs.Meaning.{valued};
 ghost use Rattle.words.specs.Meaning.{positioned};
 ghost use Rattle.work.specs.Held.{Grew};
@@ -16,6 +19,16 @@ pub struct Room {
     pub enough: bool,
 }
 
+// Digit i of a value: 48 bits, the lowest first.
+fn digit_of(v: Value, i: u16) -> u64
+    ensures { λ r. ⌜ r ≡ number (v .limbs) / 2 ^ (48 * i) % 2 ^ 48 ⌝ }
+{
+    let limbs = v.limbs;
+    let above = limbs::shifts::right(limbs, 48 * (i as u32));
+    let low = limbs::taken(above);
+    low.l0 % 0x1000000000000
+}
+
 // Adds the records of a constant behind n others.
 pub fn add_constant(work: &mut [u8; 275296], n: u16, v: Value, at: Position) -> Room
     ensures { λ r. ⌜ Grew n (constantNodes (valued v) (positioned at)) (constantSize (valued v)) (now (work .entry)) (now (work .exit)) r ⌝ }
@@ -24,7 +37,7 @@ pub fn add_constant(work: &mut [u8; 275296], n: u16, v: Value, at: Position) -> 
     let mut i = constants::further_digits(v.length);
     let mut k = n;
     while i > 0 {
-        let digit = constants::digit_of(v, i);
+        let digit = digit_of(v, i);
         if nodes::add_node(work, k, Node::More(digit), 0, beside) {
             k += 1;
             i -= 1;
@@ -35,7 +48,7 @@ pub fn add_constant(work: &mut [u8; 275296], n: u16, v: Value, at: Position) -> 
             };
         }
     }
-    let lowest = constants::digit_of(v, 0);
+    let lowest = digit_of(v, 0);
     if nodes::add_node(work, k, Node::Constant(v.length), lowest, beside) {
         return Room {
             nodes: k + 1,

@@ -29,6 +29,12 @@ impl Random {
         self.below(100) < percent
     }
 
+    pub fn bytes(&mut self, length: usize) -> Vec<u8> {
+        let mut bytes: Vec<u8> = (0..length.div_ceil(4)).flat_map(|_| (self.next() as u32).to_le_bytes()).collect();
+        bytes.truncate(length);
+        bytes
+    }
+
     pub fn pick<T: Clone>(&mut self, from: &[T]) -> T {
         from[self.below(from.len())].clone()
     }

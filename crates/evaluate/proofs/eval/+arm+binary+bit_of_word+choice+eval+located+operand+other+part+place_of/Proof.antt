@@ -70,7 +70,7 @@ use Rattle.referents.proofs.worth.sticks.Reads as sticks-reads
 use Rattle.referents.proofs.worth.stops.Reads as stops-reads
 use Rattle.image.proofs.facilities.facility_at.Reads as facility-at-reads
 use Rattle.image.proofs.kinds.is_computed.Reads as is-computed-reads
-use Rattle.records.proofs.constants.constant_at.Reads as constant-at-reads
+use Rattle.referents.proofs.constants.constant_at.Reads as constant-at-reads
 use Rattle.records.proofs.nodes.node_at.Reads as node-at-reads
 use Rattle.value.proofs.lengths.minus.Reads as minus-reads
 use Rattle.evaluate.proofs.eval.+arm+binary+bit_of_word+choice+eval+located+operand+other+part+place_of.{statement}

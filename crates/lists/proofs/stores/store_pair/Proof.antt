@@ -1,10 +1,11 @@
+use Rattle.language.specs.ActionRules.{kindAt}
 use Rattle.language.specs.Expressions.{leftAt}
-use Rattle.lists.proofs.StoreLaws.{pair-length, pair-worked}
+use Rattle.lists.proofs.StoreLaws.{both-cond, pair-length, pair-worked}
 use Rattle.verdict.specs.Meaning.{seen}
 use Rattle.language.specs.Tree.{Kind}
 use Rattle.language.specs.Storing.{mayStore}
-use Rattle.language.specs.Judging.{both}
-use mathlib.Core.Path.{ap, ap₂, _∙_}
+use mathlib.Core.Bool.{cond, false}
+use mathlib.Core.Path.{sym, ap, ap₂, _∙_}
 use borrow.Author.Needs.{needs}
 use Rattle.lists.proofs.stores.store_pair.Statement.{statement}
 use Rattle.lists.proofs.stores.store_pair.Tie as tie
@@ -24,8 +25,8 @@ kind-at-requires c κs = search needs
 kind-at-requires-2 : tie.Need-kind-at-requires-2
 kind-at-requires-2 c κs = search needs
 
-both-allowed-requires : tie.Need-both-allowed-requires
-both-allowed-requires c κs = search needs
+may-both-requires : tie.Need-may-both-requires
+may-both-requires c κs = search needs
 
 length-of-requires : tie.Need-length-of-requires
 length-of-requires c κs = search needs
@@ -45,7 +46,7 @@ stored-requires c κs = search needs
 returns : tie.Need-returns
 returns c =
     λ q z d p t sh.
-    rw (← (c .before .before .before .before .both-allowed .ensures ∙ ap₂ (λ (a b : Kind). both (mayStore (c .before .before .before .before .before .before .before .before .before .before .before .before .before .before .before .args .sign) a) (mayStore (c .before .before .before .before .before .before .before .before .before .before .before .before .before .before .before .args .sign) b)) (c .before .before .before .before .before .before .kind-at .ensures .kind d p t _ _ _ sh) (c .before .before .before .before .before .kind-at2 .ensures .kind d p t _ _ _ sh)))
+    rw (← (c .before .before .before .before .may-both .ensures ∙ ap₂ (λ (a b : Kind). cond (mayStore (c .before .before .before .before .before .before .before .before .before .before .before .before .before .before .before .args .sign) a) (mayStore (c .before .before .before .before .before .before .before .before .before .before .before .before .before .before .before .args .sign) b) false) (c .before .before .before .before .before .before .kind-at .ensures .kind d p t _ _ _ sh) (c .before .before .before .before .before .kind-at2 .ensures .kind d p t _ _ _ sh) ∙ sym (both-cond (mayStore (c .before .before .before .before .before .before .before .before .before .before .before .before .before .before .before .args .sign) (kindAt d (c .before .before .before .before .before .before .before .before .before .before .before .before .before .before .before .args .l))) (mayStore (c .before .before .before .before .before .before .before .before .before .before .before .before .before .before .before .args .sign) (kindAt d (c .before .before .before .before .before .before .before .before .before .before .before .before .before .before .before .args .m))))))
     (c .stored .ensures q _ _ z
     (λ w i. pair-length _ _ _ _ w i (λ x u. c .before .before .before .length-of .ensures .0 x (c .before .before .before .before .before .before .before .before .before .left .ensures d p t sh ∙ ap seen u)) (λ y u. c .before .before .length-of2 .ensures .0 y (c .before .before .before .before .before .before .before .before .left2 .ensures d p t sh ∙ ap seen u)))
     (c .before .together .ensures _ _ (c .before .before .before .before .before .before .before .before .before .left .ensures d p t sh) (c .before .before .before .before .before .before .before .before .left2 .ensures d p t sh) ∙ ap seen (pair-worked (leftAt d p t (c .before .before .before .before .before .before .before .before .before .before .before .before .before .before .before .args .known) (c .before .before .before .before .before .before .before .before .before .before .before .before .before .before .before .args .l)) (leftAt d p t (c .before .before .before .before .before .before .before .before .before .before .before .before .before .before .before .args .known) (c .before .before .before .before .before .before .before .before .before .before .before .before .before .before .before .args .m))))
@@ -60,7 +61,7 @@ store-pair-spec =
     expression-requires
     kind-at-requires
     kind-at-requires-2
-    both-allowed-requires
+    may-both-requires
     length-of-requires
     length-of-requires-2
     add-length

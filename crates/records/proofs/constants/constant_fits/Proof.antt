@@ -1,10 +1,11 @@
 use mathlib.Core.Path.{ap₂, _∙_}
-use Prim.Native.Nat.{_+_, _*_, _/_, _%_}
+use Prim.Native.Nat.{_+_, _*_, _/_, _%_, _^_}
+use native.Mathlib.Nat.{one-mul}
 use native.Mathlib.Omega.{arith}
 use borrow.Author.Needs.{needs}
 use lib.Dec.{ltb}
 use lib.ListN.{getD}
-use Rattle.limbs.proofs.Laws.{one-left}
+use lib.Pow.{shl-exact}
 use Rattle.records.proofs.ConstantLaws.{constant-ends, constant-fit, marked-within}
 use Rattle.records.proofs.constants.constant_fits.Statement.{statement}
 use Rattle.records.proofs.constants.constant_fits.Tie as tie
@@ -55,7 +56,7 @@ returns-3 c =
     let s = c .before .before .before .before .before .args .exprs .now in
     let n = c .before .before .before .before .before .args .n in
     λ v e.
-    ap₂ ltb (c .six-there .ensures .0) (one-left 64 (getD s (8 * n + 1) 0 % 48 + 1) (omega arith))
+    ap₂ ltb (c .six-there .ensures .0) (shl-exact 1 (getD s (8 * n + 1) 0 % 48 + 1) 64 (omega arith) (omega arith) ∙ one-mul (2 ^ (getD s (8 * n + 1) 0 % 48 + 1)))
     ∙ constant-fit s n v (λ i. c .before .before .shared-slice-known2 .given i .fits) (constant-ends s n v e)
 
 pub constant-fits-spec : {M : Type 1} → statement M

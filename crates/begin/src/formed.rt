@@ -1,5 +1,5 @@
 // The stimuli of a run, one after the other.
-use begin::stimulus;
+use crate::stimulus;
 use records::bytes;
 ghost use mathlib.Core.List.{List};
 ghost use mathlib.Core.Path.{_≡_};

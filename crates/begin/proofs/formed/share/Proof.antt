@@ -1,7 +1,7 @@
 use borrow.Author.Needs.{needs}
-use Rattle.cycles.proofs.FormLaws.{shared}
-use Rattle.cycles.proofs.formed.share.Statement.{statement}
-use Rattle.cycles.proofs.formed.share.Tie as tie
+use Rattle.begin.proofs.FormLaws.{shared}
+use Rattle.begin.proofs.formed.share.Statement.{statement}
+use Rattle.begin.proofs.formed.share.Tie as tie
 
 returns : tie.Need-returns
 returns c = search needs

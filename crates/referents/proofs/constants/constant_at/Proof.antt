@@ -2,10 +2,11 @@ use mathlib.Core.Path.{sym, ap, _∙_}
 use borrow.Author.Needs.{needs}
 use Rattle.language.specs.Description.{constantValue}
 use Rattle.limbs.specs.Limbs.{number}
-use Rattle.records.proofs.NodeLaws.{node-past, no-value, none-held, value-held}
+use Rattle.records.proofs.NodeLaws.{node-past, no-value}
+use Rattle.referents.proofs.ConstantLaws.{none-held, value-held}
 use Rattle.records.specs.Nodes.{constantNumber, meant}
-use Rattle.records.proofs.constants.constant_at.Statement.{statement}
-use Rattle.records.proofs.constants.constant_at.Tie as tie
+use Rattle.referents.proofs.constants.constant_at.Statement.{statement}
+use Rattle.referents.proofs.constants.constant_at.Tie as tie
 
 returns : tie.Need-returns
 unfolding number

@@ -8,9 +8,9 @@ use lib.ListN.{drop, length}
 use Rattle.language.specs.Calls.{allWellFormed, wellFormed}
 use Rattle.language.specs.Description.{Description}
 use Rattle.referents.specs.Described.{Describes}
-use Rattle.cycles.proofs.FormLaws.{ill-formed, none-left, none-there, one-more}
-use Rattle.cycles.proofs.formed.all_well_formed.Statement.{statement}
-use Rattle.cycles.proofs.formed.all_well_formed.Tie as tie
+use Rattle.begin.proofs.FormLaws.{ill-formed, none-left, none-there, one-more}
+use Rattle.begin.proofs.formed.all_well_formed.Statement.{statement}
+use Rattle.begin.proofs.formed.all_well_formed.Tie as tie
 
 abbrev Inv-loop : tie.InvT-loop
 Inv-loop section stimuli cycles each n₀ at₀ n at =

@@ -3,10 +3,10 @@ use Prim.Native.Nat.{ℕ, _+_, _-_, _%_, _^_, _≤_}
 use native.Mathlib.Omega.{arith}
 use borrow.Author.Needs.{needs}
 use Rattle.limbs.specs.Limbs.{number}
-use Rattle.records.proofs.DigitLaws.{digits-start, digits-next, digits-end}
+use Rattle.referents.proofs.ConstantLaws.{digits-start, digits-next, digits-end}
 use Rattle.records.specs.Nodes.{digits}
-use Rattle.records.proofs.constants.number_at.Statement.{statement}
-use Rattle.records.proofs.constants.number_at.Tie as tie
+use Rattle.referents.proofs.constants.number_at.Statement.{statement}
+use Rattle.referents.proofs.constants.number_at.Tie as tie
 
 abbrev Inv-loop : tie.InvT-loop
 Inv-loop exprs n k x₀ i₀ x i = (n - k ≤ i) × (i ≤ n + 1) × (number x ≡ digits (i - (n - k)) i exprs % 2 ^ 256)

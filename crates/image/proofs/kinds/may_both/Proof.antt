@@ -1,7 +1,7 @@
 use mathlib.Core.Path.{sym, _∙_}
 use borrow.Author.Needs.{needs}
-use Rattle.storing.proofs.stores.may_both.Statement.{statement}
-use Rattle.storing.proofs.stores.may_both.Tie as tie
+use Rattle.image.proofs.kinds.may_both.Statement.{statement}
+use Rattle.image.proofs.kinds.may_both.Tie as tie
 
 may-store-requires : tie.Need-may-store-requires
 may-store-requires c κs = search needs

@@ -1,11 +1,15 @@
-use mathlib.Core.Path.{sym, ap, _∙_}
+use mathlib.Core.Path.{_≡_, sym, ap, _∙_}
 use Prim.Native.Nat.{ℕ, _%_, _^_}
+use native.Mathlib.Nat.{dvd-mul-right, mod-mod-of-dvd}
 use borrow.Author.Needs.{needs}
 use lib.Pow.{low}
 use Rattle.limbs.specs.Limbs.{cat, four, number}
-use Rattle.records.proofs.DigitLaws.{low-digit}
-use Rattle.records.proofs.constants.digit_of.Statement.{statement}
-use Rattle.records.proofs.constants.digit_of.Tie as tie
+use Rattle.work.proofs.constants.digit_of.Statement.{statement}
+use Rattle.work.proofs.constants.digit_of.Tie as tie
+
+-- The low 48 bits of a limb are those of the whole.
+low-digit : (n : ℕ) → n % 2 ^ 64 % 2 ^ 48 ≡ n % 2 ^ 48
+low-digit n = mod-mod-of-dvd (2 ^ 48) n (dvd-mul-right (2 ^ 48) (2 ^ 16))
 
 mul-right : tie.Need-mul-right
 mul-right c = search needs
