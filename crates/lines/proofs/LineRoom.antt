@@ -34,7 +34,7 @@ facilities-short (f ∷ fs) (ws ∷ s) = go (shown f) (facilities-short fs s)
     word : List ℕ
     word = bits (wordLength f) (firstWord ws)
 
-    go : (b : Bool) → length rest ≤ lineRoom fs → length (cond b (32 ∷ (f .name ++ (61 ∷ (word ++ rest)))) rest) ≤ 2 + length (f .name) + wordLength f + lineRoom fs
+    go : (b : Bool) → length rest ≤ lineRoom fs → length (cond b (32 ∷ (f .name ++ (61 ∷ (word ++ rest)))) rest) ≤ cond b (2 + length (f .name) + wordLength f) 0 + lineRoom fs
     go true i =
         omega (arith, length-append (f .name) (61 ∷ (word ++ rest)), length-append word rest, length-bits (wordLength f) (firstWord ws))
     go false i = omega arith

@@ -1,3 +1,4 @@
 pub mod NameLaws
+pub mod NamesThere
 pub mod PassLaws
 pub mod PlaceLaws

@@ -80,6 +80,10 @@ module _ (image : List ℕ) (h : passes image ≡ true) (n : ℕ) where
     unfolding facilityAt
     facility-fits = omega (arith, long, names-upto (λ (f : Facility). f .name) noFacility (decode image .facilities) n inside)
 
+    pub facility-within : I.facilityPart (sectionAt 0 13 image) n .offset + I.facilityPart (sectionAt 0 13 image) n .length ≤ length names
+    unfolding I.facilityPart
+    facility-within = omega (arith, offset-is, length-is, facility-fits)
+
     pub facility-short : I.facilityPart (sectionAt 0 13 image) n .offset < 2 ^ 32
     unfolding I.facilityPart
     facility-short = omega (arith, offset-is, facility-fits, names-short image h)
@@ -132,6 +136,10 @@ module _ (image : List ℕ) (h : passes image ≡ true) (n : ℕ) where
 
     abbrev part : L.Part
     part = I.statePart (sectionAt 0 13 image) (countsIn image .facilities) (sectionAt 1 5 image) (countsIn image .operations) (sectionAt 4 7 image) n
+
+    pub state-within : part .offset + part .length ≤ length names
+    unfolding I.statePart
+    state-within = omega (arith, first-is, second-is, third-is, label-is, state-fits)
 
     pub state-short : part .offset < 2 ^ 32
     unfolding I.statePart

@@ -29,7 +29,7 @@ use Rattle.lookups.proofs.PassLaws.{facilities-are, facilities-many, he
 use Rattle.answers.specs.Lookups.{Looks, answered}
 use Rattle.answers.specs.declared.looked.Looked.the-variants as A
 
-store-fits : (d : Description) (n : ℕ) (another : Bool) (before : ℕ) (f : Facility) → facilityFaults d noPlaces n another before f (facilityPlace noPlaces n) ≡ []
+pub store-fits : (d : Description) (n : ℕ) (another : Bool) (before : ℕ) (f : Facility) → facilityFaults d noPlaces n another before f (facilityPlace noPlaces n) ≡ []
     → before + facilityBytes f ≤ 16384
 unfolding facilityFaults largestStore
 store-fits d n another before f e =

@@ -15,9 +15,8 @@ use Rattle.language.specs.Description as D
 use Rattle.language.specs.Description.{Description, Facility, Node, constantValue, facilityAt, facilityPlace, isComputed, isSequencing, noPlaces, nodeAt, sequencingOf, stateAt, wordLength}
 use Rattle.language.specs.Encode.{facilityRecord, little}
 use Rattle.language.specs.Image.{passes}
-use Rattle.language.specs.Judging.{unless}
 use Rattle.language.specs.Layout.{facilityBytes, placeIn, storeSizeOf}
-use Rattle.language.specs.Rules.{boundsFaults, facilitiesFaults, facilityFaults, largestStore, orElse, sequencingRight}
+use Rattle.language.specs.Rules.{boundsFaults, facilitiesFaults, facilityFaults, orElse, sequencingRight}
 use Rattle.language.specs.Step.{stateNumber}
 use Rattle.language.specs.Value.{longest}
 use Rattle.theorems.specs.Judged.{append-none-left, append-none-right, unless-none}
@@ -33,6 +32,7 @@ use Rattle.exact.specs.Legal.{few-facilities, few-states}
 use Rattle.referents.proofs.SectionLaws.{sections-describe}
 use Rattle.referents.specs.Described.{Describes}
 use Rattle.next.specs.Values.{Valued}
+use Rattle.lookups.proofs.PlaceLaws.{store-fits}
 use Rattle.lookups.proofs.PassLaws.{facilities-are, facilities-many, legal-so, range-so, states-many}
 use Rattle.sound.proofs.RegisterLaws.{register-there}
 use Rattle.sound.proofs.WordLaws.{in-room}
@@ -41,14 +41,6 @@ use Rattle.sound.specs.Tested.{Testable}
 -- ---- Facilities without fault.
 
 module _ (d : Description) (n : ℕ) (another : Bool) (before : ℕ) (f : Facility) (e : facilityFaults d noPlaces n another before f (facilityPlace noPlaces n) ≡ []) where
-  store-fits : before + facilityBytes f ≤ 16384
-  unfolding facilityFaults largestStore
-  store-fits =
-      let at = facilityPlace noPlaces n in
-      leb-true (before + facilityBytes f) 16384
-      (unless-none (leb (before + facilityBytes f) 16384) (at .name) 10
-      (append-none-left _ _ (append-none-right (unless (cond (isSequencing (f .kind)) (sequencingRight d noPlaces another f) true) (at .name) 9) _ e)))
-
   register-short : isSequencing (f .kind) ≡ true → wordLength f ≤ 256
   unfolding facilityFaults sequencingRight longest
   register-short k =

@@ -1,2 +1,3 @@
-pub mod LabelLaws
+pub mod RoomEnough
+pub mod SectionLaws
 pub mod TurnLaws

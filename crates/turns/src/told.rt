@@ -1,8 +1,8 @@
 // What is printed of a line of input: the line of its cycle, or the stop or the refusal that ends the run.
-use crate::label;
 use answers::cycled::Answer;
 use image::sections;
 use lines::line;
+use lookups::named;
 ghost use mathlib.Core.Bool.{false, true};
 ghost use mathlib.Core.List.{List};
 ghost use mathlib.Core.Path.{_≡_};
@@ -28,7 +28,7 @@ fn shown(image: &[u8], state: u32, number: u64, store: &[u8], out: &mut [u8], at
     requires { ⌜ (passes (now image) ≡ true) × (storeSize (decode (now image)) ≤ length (now store)) ⌝ }
     ensures { λ r. ⌜ Adds (cycleLine (decode (now (image .entry))) number state (now (store .entry))) (now (out .entry)) at (now (out .exit)) r ⌝ }
 {
-    let name = label::label(image, state);
+    let name = named::state_name(image, true, state);
     let facilities = sections::section(image, 0, 13);
     let names = sections::section(image, 5, 1);
     line::cycle_line(out, at, number, name, facilities, names, store)
