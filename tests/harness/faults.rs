@@ -50,11 +50,8 @@ const UNSOUND: [Fault; 14] = [
 ];
 
 /// 15: too long, too short, a spare bit.
-const STIMULI: [Fault; 3] = [
-    |fed, _| fed.stimuli.push(0),
-    |fed, _| fed.stimuli.truncate(fed.stimuli.len() - 1),
-    stimulus_bit,
-];
+const STIMULI: [Fault; 3] =
+    [|fed, _| fed.stimuli.push(0), |fed, _| fed.stimuli.truncate(fed.stimuli.len() - 1), stimulus_bit];
 
 /// No fault, but few cycles or none are left; or all returns are held.
 const LAST: [Fault; 4] = [

@@ -22,9 +22,11 @@ fn main() -> ExitCode {
         [mode, seed, lines] if mode == "--input" => supplied(seed, Some(lines)),
         [mode, seed, most, texts @ ..] if mode == "--images" => forged(seed, most, texts),
         [mode, folders @ ..] if mode == "--pack" => packed(folders).map_err(|error| error.to_string()),
-        _ => Err("usage: second [--random SEED COUNT | --text SEED | --input SEED LINES | --images SEED MOST TEXT... | \
+        _ => {
+            Err("usage: second [--random SEED COUNT | --text SEED | --input SEED LINES | --images SEED MOST TEXT... | \
             --pack FOLDER...]"
-            .to_string()),
+                .to_string())
+        }
     };
     match done {
         Ok(()) => ExitCode::SUCCESS,
@@ -74,7 +76,8 @@ fn packed(folders: &[String]) -> io::Result<()> {
     let mut output = io::BufWriter::new(io::stdout().lock());
     for place in &places {
         let folder = Path::new(place);
-        let parts = [fs::read(folder.join("run.ddl"))?, fs::read(folder.join("stdin"))?, fs::read(folder.join("stdout"))?];
+        let parts =
+            [fs::read(folder.join("run.ddl"))?, fs::read(folder.join("stdin"))?, fs::read(folder.join("stdout"))?];
         for part in &parts {
             output.write_all(&(part.len() as u32).to_le_bytes())?;
         }

@@ -1,5 +1,5 @@
 use Rattle.language.specs.Decode.{decode, sectionAt}
-use Rattle.turns.proofs.LabelLaws.{image-described}
+use Rattle.turns.proofs.SectionLaws.{image-described}
 use Rattle.traced.proofs.LineLaws.{turned-none, turned-taken}
 use borrow.Author.Needs.{needs}
 use Rattle.traced.proofs.line.line_done.Statement.{statement}
