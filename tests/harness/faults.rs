@@ -11,6 +11,8 @@ use second::calls::{stimulus_size, store_size};
 use second::image::image;
 use second::load::load;
 use second::record::{MARK, RECORD};
+use second::trials::generate::legal;
+use second::trials::layout::lay_out;
 use second::trials::random::Random;
 use second::trials::supply;
 use second::Description;
@@ -22,6 +24,24 @@ const TEXT: &[u8] = b"REGISTER #S[2], A[4], B[11]. MEMORY M[0:3,5].
 TERMINAL T, I[3] = INPUT(1,I), J[9] = INPUT(1,J), C[5] = M[I[2:3]].
 OPERATION O = [M[A[1:2]] = C, B <- J CON I[1:2], T @, A <- I CON T], U = [A = 4D9, B[1:4] <- A, B[3:4] <- 2D1].
 CONTROL P(0): O, IF I[1] THEN =>R ENDIF/ Q(1): U, ->P/ R(3): O, IF J[9] THEN RETURN ELSE =>R ENDIF/ V(2): ->V/.";
+
+/// How many texts are made beside it, and the bytes of their stores at most.
+const MADE: usize = 7;
+const STORE: usize = 200;
+
+/// The text above, and others from the seed that have a store and inputs.
+pub fn texts(random: &mut Random) -> Vec<Vec<u8>> {
+    let mut texts = vec![TEXT.to_vec()];
+    while texts.len() <= MADE {
+        let words = legal(Random::new(random.below(1 << 48) as u64));
+        let text = lay_out(&words, false, random).bytes;
+        let small = |made: &Description| (1..=STORE).contains(&store_size(made)) && stimulus_size(made) > 0;
+        if second::read(&text).is_ok_and(|made| small(&made)) {
+            texts.push(text);
+        }
+    }
+    texts
+}
 
 /// 12: each part a byte short; the trace is a run's alone.
 const SHORT: [Fault; 4] = [
@@ -130,9 +150,9 @@ fn both(harness: &mut Harness, sound: &Fed, description: &Description, faults: &
     held::run(harness, "with faults", &mut run.loan, &run.stimuli, run.cycles).map(|_| ())
 }
 
-/// Any of the three refusals together, or none.
+/// Any of the three refusals together, or none: scratch too short, so that store and record can be judged.
 fn together(harness: &mut Harness, sound: &Fed, description: &Description) -> Result<(), Failure> {
-    let faults = [SHORT[0], UNSOUND[0], STIMULI[0]];
+    let faults = [SHORT[2], UNSOUND[0], STIMULI[0]];
     for chosen in 0..8 {
         let faults: Vec<Fault> = (0..3).filter(|order| chosen >> order & 1 == 1).map(|order| faults[order]).collect();
         both(harness, sound, description, &faults)?;
@@ -141,8 +161,8 @@ fn together(harness: &mut Harness, sound: &Fed, description: &Description) -> Re
 }
 
 /// Each fault alone, then those that meet, then with images that do not pass or are longer.
-pub fn each_fault(harness: &mut Harness) -> Result<(), Failure> {
-    let description = second::read(TEXT).map_err(|refusal| format!("the text with faults: {refusal:?}"))?;
+pub fn each_fault(harness: &mut Harness, text: &[u8]) -> Result<(), Failure> {
+    let description = second::read(text).map_err(|refusal| format!("the text is refused: {refusal:?}"))?;
     let sound = sound(harness, &description)?;
     for fault in SHORT.iter().chain(&UNSOUND).chain(&STIMULI).chain(&LAST) {
         both(harness, &sound, &description, &[*fault])?;

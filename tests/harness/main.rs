@@ -28,7 +28,6 @@ use std::collections::BTreeMap;
 use std::env;
 use std::fmt::Display;
 use std::fs;
-use std::iter;
 use std::panic::{catch_unwind, AssertUnwindSafe};
 use std::path::Path;
 use std::process::ExitCode;
@@ -111,8 +110,13 @@ fn cases_tried(folder: &str) -> Result<bool, String> {
     let mut cases: Vec<_> = entries.flatten().map(|entry| entry.path()).collect();
     cases.sort();
     let named = cases.iter().map(|case| (case.display(), 1));
-    Ok(tried(named, |harness, case| corpus::one_case(harness, Path::new(&case.to_string())))
-        && tried(iter::once(("each fault", 1)), |harness, _| faults::each_fault(harness)))
+    let corpus = tried(named, |harness, case| corpus::one_case(harness, Path::new(&case.to_string())));
+    let texts = faults::texts(&mut Random::new(1));
+    let numbered = (0..texts.len()).map(|number| (number, number as u64));
+    let faulty = |harness: &mut Harness, number: &usize| {
+        faults::each_fault(harness, &texts[*number]).map_err(|failure| format!("with faults: {failure}"))
+    };
+    Ok(corpus && tried(numbered, faulty))
 }
 
 fn harness(arguments: &[String]) -> Result<bool, String> {
