@@ -13,7 +13,7 @@ use second::Description;
 use std::fs;
 use std::path::Path;
 
-/// The bytes of the largest trace that is asked for.
+/// The bytes of the largest trace that is needed.
 const TRACE: usize = 16_384;
 
 /// The text `run.ddl` and the lines `stdin` in this folder.

@@ -1,4 +1,4 @@
-// What references name and what operators give: the parts that evaluation is made of.
+// What references name, what constants are and what operators give: the parts that evaluation is made of.
 pub mod arms;
 pub mod bounds;
 pub mod constants;
