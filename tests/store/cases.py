@@ -1,5 +1,5 @@
 #!/usr/bin/env python3
-"""Writes the commands of crates/store_cases, and what they give: python3 tests/store/cases.py crates/store_cases
+"""Writes the commands of crates/cases_store, and what they give: python3 tests/store/cases.py crates/cases_store
 
 A command is a line of fixed columns: a letter, four decimal numbers, and a value in hexadecimal. It acts on three slices, the store, the
 pending bytes and the mask, all zero at first; the program keeps them from line to line.

@@ -1,5 +1,5 @@
 #!/usr/bin/env python3
-"""Writes the cases of crates/value_cases/stdin: python3 tests/value/cases.py > crates/value_cases/stdin
+"""Writes the cases of crates/cases_value/stdin: python3 tests/value/cases.py > crates/cases_value/stdin
 
 Each case is a line of fixed columns: an operator's letter, the operands x (m bits), y (n bits) and a count c, and the value that
 is expected, of length 0 where there is none. Numbers are hexadecimal, lengths and counts decimal. For a constant m is its length, its

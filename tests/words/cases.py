@@ -1,7 +1,7 @@
 #!/usr/bin/env python3
-"""Writes the texts of crates/words_cases: data/ with one text a file, stdin with their names, stdout with what is expected.
+"""Writes the texts of crates/cases_words: data/ with one text a file, stdin with their names, stdout with what is expected.
 
-    python3 tests/words/cases.py crates/words_cases
+    python3 tests/words/cases.py crates/cases_words
 
 The words and refusals are worked out here from document 01 and the manual, sections 2.1 to 2.5, by regular expressions and by
 Python's numbers."""

@@ -17,14 +17,14 @@ use Rattle.language.specs.Image.{passes}
 use Rattle.language.specs.Lookups as L
 use Rattle.language.specs.Lookups.{facilityName, stateName}
 use Rattle.language.specs.RecordBytes.{fours}
-use Rattle.image.proofs.ImageLaws.{Right, header-sized, right-parts, total-below}
-use Rattle.image.specs.Header.{countsIn, headerNumbers, headerRight, namesFrom}
-use Rattle.image.specs.declared.header.Counts.{Counts}
-use Rattle.written.specs.Begins.{passes-begins}
-use Rattle.written.specs.Names.{names-length, namesOf}
-use Rattle.written.specs.Whole.{right-header}
-use Rattle.lookups.proofs.PassLaws.{names-are, range-so}
-use Rattle.answers.specs.Numbers.{Short}
+use Rattle.image_sections.proofs.ImageLaws.{Right, header-sized, right-parts, total-below}
+use Rattle.image_sections.specs.Header.{countsIn, headerNumbers, headerRight, namesFrom}
+use Rattle.image_sections.specs.declared.header.Counts.{Counts}
+use Rattle.about_writing.specs.Begins.{passes-begins}
+use Rattle.about_writing.specs.Names.{names-length, namesOf}
+use Rattle.about_writing.specs.Whole.{right-header}
+use Rattle.image_lookups.proofs.PassLaws.{names-are, range-so}
+use Rattle.call_answers.specs.Numbers.{Short}
 
 -- The names before the n-th, and it, are among all.
 upto : {A : Type 0} (name : A → List ℕ) (z : A) (xs : List A) (n : ℕ) → n < length xs → namesOf name (take n xs) + length (name (getD xs n z)) ≤ namesOf name xs

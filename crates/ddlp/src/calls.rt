@@ -1,13 +1,13 @@
 // Reading, opening, a cycle and many of them.
-use answers::exported::CycleAnswer;
-use answers::exported::ReadAnswer;
-use answers::exported::RunAnswer;
-use answers::numbers;
+use call_answers::exported::CycleAnswer;
+use call_answers::exported::ReadAnswer;
+use call_answers::exported::RunAnswer;
+use call_answers::numbers;
 ghost use mathlib.Core.Path.{_≡_};
 ghost use lib.ListN.{length};
 ghost use Rattle.language.specs.Calls as L;
 ghost use Rattle.language.specs.Reading as R;
-ghost use Rattle.answers.specs.Numbers.{cycleNumbers, openNumber, readNumbers, runNumbers};
+ghost use Rattle.call_answers.specs.Numbers.{cycleNumbers, openNumber, readNumbers, runNumbers};
 
 // The image of a text, or zero and the refusal with its place.
 #[no_mangle]
@@ -15,7 +15,7 @@ pub extern "C" fn ddlp_read(text: &[u8], image: &mut [u8]) -> ReadAnswer
     ensures { λ r. ⌜ r ≡ readNumbers (R.read (now (text .entry)) (length (now (image .entry))) .answer) ⌝ }
     ensures { λ _. ⌜ now (image .exit) ≡ R.read (now (text .entry)) (length (now (image .entry))) .image ⌝ }
 {
-    let answer = reading::read(text, image);
+    let answer = call_read::read(text, image);
     numbers::read_numbers(answer)
 }
 
@@ -26,7 +26,7 @@ pub extern "C" fn ddlp_open(image: &[u8], store: &mut [u8], record: &mut [u8]) -
     ensures { λ _. ⌜ now (store .exit) ≡ L.open′ (now (image .entry)) (length (now (store .entry))) (length (now («record» .entry))) .store ⌝ }
     ensures { λ _. ⌜ now («record» .exit) ≡ L.open′ (now (image .entry)) (length (now (store .entry))) (length (now («record» .entry))) .record′ ⌝ }
 {
-    let answer = open::open::open(image, passes::passes(image), store, record);
+    let answer = call_open::open::open(image, call_check::passes(image), store, record);
     numbers::open_number(answer)
 }
 
@@ -44,9 +44,9 @@ pub extern "C" fn ddlp_cycle(
     ensures { λ _. ⌜ now («record» .exit) ≡ L.cycle (now (image .entry)) (now (store .entry)) (now («record» .entry)) (now (stimulus .entry)) (length (now (scratch .entry))) .record′ ⌝ }
     ensures { λ _. ⌜ now (scratch .exit) ≡ L.cycle (now (image .entry)) (now (store .entry)) (now («record» .entry)) (now (stimulus .entry)) (length (now (scratch .entry))) .scratch ⌝ }
 {
-    let answer = cycle::cycle::cycle(
+    let answer = call_cycle::cycle::cycle(
         image,
-        passes::passes(image),
+        call_check::passes(image),
         store,
         record,
         stimulus,
@@ -72,9 +72,9 @@ pub extern "C" fn ddlp_run(
     ensures { λ _. ⌜ now (scratch .exit) ≡ L.run (now (image .entry)) (now (store .entry)) (now («record» .entry)) (now (stimuli .entry)) cycles (length (now (scratch .entry))) (length (now (trace .entry))) .scratch ⌝ }
     ensures { λ _. ⌜ now (trace .exit) ≡ L.run (now (image .entry)) (now (store .entry)) (now («record» .entry)) (now (stimuli .entry)) cycles (length (now (scratch .entry))) (length (now (trace .entry))) .trace ⌝ }
 {
-    let answer = run::run::run(
+    let answer = call_run::run::run(
         image,
-        passes::passes(image),
+        call_check::passes(image),
         store,
         record,
         stimuli,

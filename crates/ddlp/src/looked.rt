@@ -1,11 +1,11 @@
 // The lookups: a name as a part of the image, and a facility's declaration with its place in the store.
-use answers::exported::FacilityAnswer;
-use answers::exported::NameAnswer;
-use answers::numbers;
-use passes::looked;
+use call_answers::exported::FacilityAnswer;
+use call_answers::exported::NameAnswer;
+use call_answers::numbers;
+use call_check::looked;
 ghost use mathlib.Core.Path.{_≡_};
 ghost use Rattle.language.specs.Lookups as L;
-ghost use Rattle.answers.specs.Numbers.{facilityNumbers, nameNumbers};
+ghost use Rattle.call_answers.specs.Numbers.{facilityNumbers, nameNumbers};
 
 // The name of a facility.
 #[no_mangle]

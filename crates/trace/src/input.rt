@@ -1,13 +1,13 @@
 // Standard input line by line: a cycle for each line, until the run or the input ends.
+use image_records::bytes;
 use libc::STDIN_FILENO;
 use libc::STDOUT_FILENO;
-use lines::line as print;
-use records::bytes;
-use traced::line as taken;
+use trace_output::line as print;
+use trace_whole::line as taken;
 ghost use mathlib.Core.Path.{_≡_};
 ghost use Prim.Native.Nat.{_≤_};
 ghost use lib.ListN.{length};
-ghost use Rattle.turns.specs.Turns.{Ready};
+ghost use Rattle.trace_line.specs.Turns.{Ready};
 
 // The bytes of the line so far, the completed cycles, and whether the run goes on.
 struct State {

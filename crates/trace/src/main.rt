@@ -1,10 +1,10 @@
 // The trace program (01, "Cases"): the text of run.ddl, a line of input bits for each cycle from standard input, and a line of output for each.
 mod input;
 
+use image_records::bytes;
 use libc::STDOUT_FILENO;
-use records::bytes;
-use traced::begun;
-use traced::begun::Begun;
+use trace_whole::begun;
+use trace_whole::begun::Begun;
 
 // Reads the text, and runs it or says why it is refused.
 fn run(text: &[u8]) {

@@ -6,7 +6,7 @@ use lib.Seq.{length-take-le}
 use Rattle.language.specs.Decode.{decode}
 use Rattle.language.specs.Image.{passes}
 use Rattle.language.specs.Layout.{storeSize}
-use Rattle.traced.specs.Begins.{Runs}
+use Rattle.trace_whole.specs.Begins.{Runs}
 use borrow.Author.Needs.{needs}
 use Rattle.trace.proofs.run.Statement.{statement}
 use Rattle.trace.proofs.run.Tie as tie

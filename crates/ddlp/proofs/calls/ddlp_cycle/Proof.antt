@@ -1,6 +1,6 @@
 use mathlib.Core.Path.{ap, _∙_}
 use Rattle.language.specs.Calls.{CycleCall}
-use Rattle.answers.specs.Numbers.{cycleNumbers}
+use Rattle.call_answers.specs.Numbers.{cycleNumbers}
 use borrow.Author.Needs.{needs}
 use Rattle.ddlp.proofs.calls.ddlp_cycle.Statement.{statement}
 use Rattle.ddlp.proofs.calls.ddlp_cycle.Tie as tie

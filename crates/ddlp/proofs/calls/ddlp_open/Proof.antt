@@ -1,6 +1,6 @@
 use mathlib.Core.Path.{ap, _∙_}
 use Rattle.language.specs.Calls.{OpenCall}
-use Rattle.answers.specs.Numbers.{openNumber}
+use Rattle.call_answers.specs.Numbers.{openNumber}
 use borrow.Author.Needs.{needs}
 use Rattle.ddlp.proofs.calls.ddlp_open.Statement.{statement}
 use Rattle.ddlp.proofs.calls.ddlp_open.Tie as tie

@@ -1,7 +1,7 @@
 use mathlib.Core.Path.{ap, subst, sym, _∙_}
 use Rattle.language.specs.Reading.{ReadCall}
-use Rattle.answers.specs.Reading.{Short}
-use Rattle.answers.specs.Numbers.{readNumbers}
+use Rattle.call_answers.specs.Reading.{Short}
+use Rattle.call_answers.specs.Numbers.{readNumbers}
 use borrow.Author.Needs.{needs}
 use Rattle.ddlp.proofs.calls.ddlp_read.Statement.{statement}
 use Rattle.ddlp.proofs.calls.ddlp_read.Tie as tie

@@ -1,6 +1,6 @@
 use mathlib.Core.Path.{ap, _∙_}
 use Rattle.language.specs.Calls.{RunCall}
-use Rattle.answers.specs.Numbers.{runNumbers}
+use Rattle.call_answers.specs.Numbers.{runNumbers}
 use borrow.Author.Needs.{needs}
 use Rattle.ddlp.proofs.calls.ddlp_run.Statement.{statement}
 use Rattle.ddlp.proofs.calls.ddlp_run.Tie as tie

@@ -1,7 +1,7 @@
 use mathlib.Core.Path.{ap, _∙_}
 use Rattle.language.specs.Decode.{decode}
 use Rattle.language.specs.Description.{facilityAt}
-use Rattle.answers.specs.Numbers.{facilityNumbers}
+use Rattle.call_answers.specs.Numbers.{facilityNumbers}
 use borrow.Author.Needs.{needs}
 use Rattle.ddlp.proofs.looked.ddlp_facility.Statement.{statement}
 use Rattle.ddlp.proofs.looked.ddlp_facility.Tie as tie

@@ -3,7 +3,7 @@ use Prim.Native.Nat.{_≤_}
 use native.Mathlib.Omega.{arith}
 use borrow.Author.Needs.{needs}
 use lib.ListN.{length}
-use Rattle.turns.specs.Turns.{Ready}
+use Rattle.trace_line.specs.Turns.{Ready}
 use Rattle.trace.proofs.input.all.Statement.{statement}
 use Rattle.trace.proofs.input.all.Tie as tie
 

@@ -3,7 +3,7 @@ use Prim.Native.Nat.{_-_, _≤_}
 use native.Mathlib.Omega.{arith}
 use borrow.Author.Needs.{needs}
 use lib.ListN.{length}
-use Rattle.turns.specs.Turns.{Ready}
+use Rattle.trace_line.specs.Turns.{Ready}
 use Rattle.trace.proofs.input.feed.Statement.{statement}
 use Rattle.trace.proofs.input.feed.Tie as tie
 

@@ -1,0 +1,146 @@
+-- Kept: a bit that no executed store names, of a facility that is neither input, plain terminal nor sequencing register, has the value that it had. Assumes nothing.
+use mathlib.Core.Bool.{Bool, true, false, cond}
+use mathlib.Core.List.{List, [], _∷_, _++_}
+use mathlib.Core.Option.{Option, none, some}
+use mathlib.Core.Path.{_≡_, refl, sym, ap, _∙_}
+use native.Mathlib.Omega.{arith}
+use Prim.Native.Nat.{ℕ, zero, suc, _<_}
+use lib.Dec.{leb, ltb}
+use lib.ListN.{drop, getD, length}
+use Rattle.language.specs.Acting.{Doing, Ran, runActions, went}
+use Rattle.language.specs.Description.{Description, Facility, facilityAt, noFacility, sequencingOf, stateAt}
+use Rattle.language.specs.Meaning.{Stores, Write, noState}
+use Rattle.language.specs.Step.{Outcome, Record, afterActions, completed, entered, finished, landed, lastCycle, nextRecord, nothingDone, orStopped, setRegister, stateCount, stateNumber, step, stopAfter}
+use Rattle.language.specs.Store.{Held, Words, begin, begun, headOf, held, isInput, landAll, loadPart, numbers, putPart, wordOf, setWord}
+use Rattle.language.specs.Tree.{Kind, computed, input, memory, plain, register, sequencing}
+use Rattle.about_running.specs.BitsKept.{NoneHas, NoneHasAny, bitOf, land-keeps, other-facility, put-keeps}
+use Rattle.about_running.specs.SameActions as Actions
+use Rattle.about_running.specs.SameActions.{Joins}
+use Rattle.about_running.specs.SameRuns.{Alike, actions-alike}
+use Rattle.language.specs.Stops.{lastCycleReached}
+
+-- ---- A store that also notes every write carried out at once.
+
+pub record Noted : Type 0 where
+  pub store : Held
+  pub writes : List Write
+
+unfoldable pub noting : Description → Stores Noted
+noting d = record {
+  load = λ x p. loadPart d (x .store .words) p;
+  put = λ x w. record { store = held (putPart d (x .store .words) w) (x .store .waits); writes = x .writes ++ w ∷ [] };
+  delay = λ x g. record { store = held (x .store .words) (x .store .waits ++ g ∷ []); writes = x .writes };
+}
+
+none-of : (d : Description) (f w k : ℕ) (xs ys : List Write) → NoneHas d f w k (xs ++ ys) → NoneHas d f w k xs × NoneHas d f w k ys
+none-of d f w k [] ys h = (tt, h)
+none-of d f w k (x ∷ xs) ys h = let y = none-of d f w k xs ys (h .1) in ((h .0, y .0), y .1)
+
+module _ (d : Description) (start : Words) where
+  -- The store is the one noted, and what no noted write has is as at the start.
+  record Stands (x : Held) (y : Noted) : Type 0 where
+    same : x ≡ y .store
+    rest : (f w k : ℕ) → NoneHas d f w k (y .writes) → bitOf (wordOf (y .store .words) f w) k ≡ bitOf (wordOf start f w) k
+
+  joins : Joins (numbers d) (noting d) d Stands
+  unfolding noting
+  joins = record {
+    loads = λ x y h p s. ap (λ (z : Held). loadPart d (z .words) p) (h .same);
+    puts = λ x y w h s. record {
+      same = ap (λ (z : Held). held (putPart d (z .words) w) (z .waits)) (h .same);
+      rest = λ f v k n. let o = none-of d f v k (y .writes) (w ∷ []) n in put-keeps d f v k (y .store .words) w (o .1 .0) ∙ h .rest f v k (o .0);
+    };
+    delays = λ x y ws h s. record { same = ap (λ (z : Held). held (z .words) (z .waits ++ ws ∷ [])) (h .same); rest = h .rest };
+  }
+
+-- ---- The begin of a cycle.
+
+abbrev pub steady : Kind → Bool
+steady register = true
+steady sequencing = false
+steady memory = true
+steady plain = false
+steady input = false
+steady computed = true
+
+begin-keeps : (fs : List Facility) (s ins : Words) (f w : ℕ) → f < length fs → steady (getD fs f noFacility .kind) ≡ true → wordOf (begin fs s ins) f w ≡ wordOf s f w
+unfolding begin wordOf
+begin-keeps [] s ins f w h q = absurd (omega arith)
+begin-keeps (x ∷ fs) s ins zero w h q = go (x .kind) q s
+  where
+    go : (t : Kind) → steady t ≡ true → (s : Words) → getD (begun t x (headOf s) ins) w 0 ≡ getD (getD s 0 []) w 0
+    go register e [] = refl
+    go register e (r ∷ s) = refl
+    go memory e [] = refl
+    go memory e (r ∷ s) = refl
+    go computed e [] = refl
+    go computed e (r ∷ s) = refl
+    go sequencing e s = absurd (let z : _≡_ {A = ℕ} 0 1 = cc in omega arith)
+    go plain e s = absurd (let z : _≡_ {A = ℕ} 0 1 = cc in omega arith)
+    go input e s = absurd (let z : _≡_ {A = ℕ} 0 1 = cc in omega arith)
+begin-keeps (x ∷ fs) s ins (suc f) w h q = begin-keeps fs (drop 1 s) (cond (isInput (x .kind)) (drop 1 ins) ins) f w (omega arith) q ∙ dropped s
+  where
+    dropped : (s : Words) → getD (getD (drop 1 s) f []) w 0 ≡ getD (getD s (suc f) []) w 0
+    dropped [] = refl
+    dropped (r ∷ s) = refl
+
+-- ---- The cycle.
+
+module _ (d : Description) (s : Words) (r : Record) (ins : Words) where
+  abbrev begins : Words
+  begins = begin (d .facilities) s ins
+
+  abbrev first : Doing Noted
+  first = record { store = record { store = held begins []; writes = [] }; gotos = []; returns = 0; calls = []; sequenced = false }
+
+  -- The state's actions, carried out with every write noted.
+  unfoldable pub executed : Ran Noted
+  executed = runActions (noting d) d (stateAt d (r .state) .actions) first
+
+  abbrev run : Ran Held
+  run = runActions (numbers d) d (stateAt d (r .state) .actions) (nothingDone d begins)
+
+  alike : Alike (numbers d) (noting d) d (Stands d begins) (joins d begins) run executed
+  unfolding executed
+  alike = actions-alike (numbers d) (noting d) d (Stands d begins) (joins d begins) (stateAt d (r .state) .actions) (nothingDone d begins) first
+      (record { stores = record { same = refl; rest = λ f w k h. refl }; gotos-same = refl; returns-same = refl; calls-same = refl; sequenced-same = refl })
+
+  module _ (c : Doing Noted) (executed-so : executed ≡ went c) (t : Words) (q : Record) (n : ℕ) (completes : step d s r ins ≡ completed t q n) where
+    module _ (f w k : ℕ) (inside : f < length (d .facilities)) (is-steady : steady (facilityAt d f .kind) ≡ true) (not-register : (g : ℕ) → sequencingOf d ≡ some g → f ≡ g → ⊥)
+        (none-at-once : NoneHas d f w k (c .store .writes)) (none-later : NoneHasAny d f w k (c .store .store .waits)) where
+      set-keeps : (x v : Option ℕ) (u : Words) → sequencingOf d ≡ x → (e : Doing Held) → entered d r e (setRegister d x v u) ≡ completed t q n → wordOf t f w ≡ wordOf u f w
+      set-keeps none v u z e h = let y : u ≡ t = cc in rw y refl
+      set-keeps (some g) none u z e h = absurd (let y : _≡_ {A = ℕ} 0 1 = cc in omega arith)
+      set-keeps (some g) (some x) u z e h =
+          let y : setWord u g 0 x ≡ t = cc in
+          ap (λ (o : Words). wordOf o f w) (sym y) ∙ other-facility u f g w 0 x (not-register g z)
+
+      finish-keeps : (e : Doing Held) (x : Option ℕ) → orStopped d r e x ≡ completed t q n → wordOf t f w ≡ wordOf (landed d r e) f w
+      finish-keeps e none h = set-keeps (sequencingOf d) (stateNumber d (nextRecord d r e .state)) (landed d r e) refl e h
+      finish-keeps e (some m) h = absurd (let y : _≡_ {A = ℕ} 0 1 = cc in omega arith)
+
+      after-keeps : (a : Ran Held) (b : Ran Noted) → Alike (numbers d) (noting d) d (Stands d begins) (joins d begins) a b → b ≡ went c → afterActions d r a ≡ completed t q n
+          → bitOf (wordOf t f w) k ≡ bitOf (wordOf begins f w) k
+      unfolding finished
+      after-keeps (went e) (went c′) (Actions.go-on z) y h =
+          let c-same : c′ ≡ c = cc in
+          let st : e .store ≡ c .store .store = z .stores .same ∙ ap (λ (o : Doing Noted). o .store .store) c-same in
+          let there : wordOf t f w ≡ wordOf (landed d r e) f w = finish-keeps e (stopAfter d r e) h in
+          let lands : bitOf (wordOf (landAll d (c .store .store .words) (c .store .store .waits)) f w) k ≡ bitOf (wordOf (c .store .store .words) f w) k = land-keeps d f w k (c .store .store .words) (c .store .store .waits) none-later in
+          let kept-before : bitOf (wordOf (c .store .store .words) f w) k ≡ bitOf (wordOf begins f w) k = (rw c-same at (z .stores .rest)) f w k none-at-once in
+          ap (λ (o : ℕ). bitOf o k) there ∙ (ap (λ (o : Held). bitOf (wordOf (landAll d (o .words) (o .waits)) f w) k) st ∙ (lands ∙ kept-before))
+      after-keeps (Ran.stopped m) b z y h = absurd (let o : _≡_ {A = ℕ} 0 1 = cc in omega arith)
+      after-keeps (Ran.stuck m) b z y h = absurd (let o : _≡_ {A = ℕ} 0 1 = cc in omega arith)
+
+      ran-so : afterActions d r run ≡ completed t q n
+      unfolding step
+      ran-so = go (leb lastCycle (r .cycle)) (ltb (r .state) (stateCount d)) completes
+        where
+          go : (a b : Bool) → cond a (Outcome.stopped lastCycleReached) (cond b (afterActions d r run) (Outcome.stuck noState)) ≡ completed t q n → afterActions d r run ≡ completed t q n
+          go true b h = absurd (let o : _≡_ {A = ℕ} 0 1 = cc in omega arith)
+          go false true h = h
+          go false false h = absurd (let o : _≡_ {A = ℕ} 0 1 = cc in omega arith)
+
+      pub kept : bitOf (wordOf t f w) k ≡ bitOf (wordOf s f w) k
+      unfolding facilityAt
+      kept = after-keeps run executed alike executed-so ran-so ∙ ap (λ (o : ℕ). bitOf o k) (begin-keeps (d .facilities) s ins f w inside is-steady)

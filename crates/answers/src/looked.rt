@@ -1,8 +1,0 @@
-// A facility's declaration, or why there is none.
-use image::facilities::Facility;
-
-pub enum Looked {
-    // its `place` is the first byte in the store; of a computed terminal, the number of its expression
-    Declared(Facility),
-    Refused(u8),
-}

@@ -1,7 +1,0 @@
-// Where a name stands, in bytes of the image, or why there is none.
-use image::names::Part;
-
-pub enum Answer {
-    Named(Part),
-    Refused(u8),
-}

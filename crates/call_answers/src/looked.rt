@@ -1,0 +1,8 @@
+// A facility's declaration, or why there is none.
+use image_sections::facilities::Facility;
+
+pub enum Looked {
+    // its `place` is the first byte in the store; of a computed terminal, the number of its expression
+    Declared(Facility),
+    Refused(u8),
+}

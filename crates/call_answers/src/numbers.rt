@@ -1,0 +1,175 @@
+// The numbers that C gets for each answer.
+use crate::cycled;
+use crate::exported::CycleAnswer;
+use crate::exported::FacilityAnswer;
+use crate::exported::NameAnswer;
+use crate::exported::ReadAnswer;
+use crate::exported::RunAnswer;
+use crate::looked::Looked;
+use crate::named;
+use crate::opened;
+use crate::ran;
+use crate::read;
+use image_sections::facilities;
+use image_sections::facilities::Facility;
+use image_sections::kinds;
+ghost use mathlib.Core.Path.{_≡_};
+ghost use Rattle.language.specs.Tree.{Name};
+ghost use Rattle.image_sections.specs.Declarations.{facilityMeant};
+ghost use Rattle.call_answers.specs.Cycle as Cycled;
+ghost use Rattle.call_answers.specs.Lookups.{answered, nameMeant};
+ghost use Rattle.call_answers.specs.Numbers.{Short, cycleNumbers, facilityNumbers, nameNumbers, openNumber, readNumbers, runNumbers, shown};
+ghost use Rattle.call_answers.specs.Opening as Opened;
+ghost use Rattle.call_answers.specs.Reading as Reads;
+ghost use Rattle.call_answers.specs.Run as Ran;
+ghost use Rattle.call_answers.specs.declared.looked.Looked.the-variants as Looked;
+
+// The length of an image, or a refusal and its place; both have 32 bits.
+pub fn read_numbers(a: read::Answer) -> ReadAnswer
+    requires { ⌜ Reads.Short (Reads.answered a) ⌝ }
+    ensures { λ r. ⌜ r ≡ readNumbers (Reads.answered a) ⌝ }
+{
+    match a {
+        read::Answer::Accepted(n) => ReadAnswer {
+            refusal: 0,
+            place: 0,
+            length: n as u32,
+        },
+        read::Answer::Refused(n, p) => ReadAnswer {
+            refusal: n as u32,
+            place: p as u32,
+            length: 0,
+        },
+    }
+}
+
+// The refusal, or 0.
+pub fn open_number(a: opened::Answer) -> u32
+    ensures { λ r. ⌜ r ≡ openNumber (Opened.answered a) ⌝ }
+{
+    match a {
+        opened::Answer::Opened => 0,
+        opened::Answer::Refused(n) => n as u32,
+    }
+}
+
+// The conflicts of a completed cycle, a stop or a refusal.
+pub fn cycle_numbers(a: cycled::Answer) -> CycleAnswer
+    ensures { λ r. ⌜ r ≡ cycleNumbers (Cycled.answered a) ⌝ }
+{
+    match a {
+        cycled::Answer::Cycled(n) => CycleAnswer {
+            refusal: 0,
+            stop: 0,
+            conflicts: n,
+        },
+        cycled::Answer::Stopped(n) => CycleAnswer {
+            refusal: 0,
+            stop: n as u32,
+            conflicts: 0,
+        },
+        cycled::Answer::Refused(n) => CycleAnswer {
+            refusal: n as u32,
+            stop: 0,
+            conflicts: 0,
+        },
+    }
+}
+
+// Completed cycles, their conflicts and the stop that ended them, or a refusal.
+pub fn run_numbers(a: ran::Answer) -> RunAnswer
+    ensures { λ r. ⌜ r ≡ runNumbers (Ran.answered a) ⌝ }
+{
+    match a {
+        ran::Answer::Ran(t) => RunAnswer {
+            refusal: 0,
+            stop: t.stop as u32,
+            cycles: t.completed as u64,
+            conflicts: t.conflicts,
+        },
+        ran::Answer::Refused(n) => RunAnswer {
+            refusal: n as u32,
+            stop: 0,
+            cycles: 0,
+            conflicts: 0,
+        },
+    }
+}
+
+// Where a name stands, which has 32 bits, since the total length of an image has.
+pub fn name_numbers(a: named::Answer) -> NameAnswer
+    requires { ⌜ Short (nameMeant a) ⌝ }
+    ensures { λ r. ⌜ r ≡ nameNumbers (nameMeant a) ⌝ }
+{
+    match a {
+        named::Answer::Named(p) => NameAnswer {
+            refusal: 0,
+            offset: p.offset as u32,
+            length: p.length as u32,
+        },
+        named::Answer::Refused(n) => NameAnswer {
+            refusal: n as u32,
+            offset: 0,
+            length: 0,
+        },
+    }
+}
+
+// A declaration, whether it is stored, and where.
+fn shown(f: Facility, stored: u32, place: u32) -> FacilityAnswer
+    ensures { λ r. ⌜ ((name : Name) → r ≡ shown (facilityMeant name f) stored place) ⌝ }
+{
+    let kind = f.kind;
+    let words = f.words;
+    let bits = f.bits;
+    FacilityAnswer {
+        refusal: 0,
+        kind: facilities::kind_number(kind) as u32,
+        dimensions: f.dimensions as u32,
+        words_first: words.first as u32,
+        words_last: words.last as u32,
+        bits_first: bits.first as u32,
+        bits_last: bits.last as u32,
+        stored,
+        place,
+    }
+}
+
+// A computed terminal has no place.
+fn declared(f: Facility) -> FacilityAnswer
+    ensures { λ r. ⌜ ((name : Name) → r ≡ facilityNumbers (answered name (Looked.Declared f))) ⌝ }
+{
+    let kind = f.kind;
+    if kinds::is_computed(kind) {
+        shown(f, 0, 0)
+    } else {
+        shown(f, 1, f.place as u32)
+    }
+}
+
+// No facility.
+fn unknown(n: u8) -> FacilityAnswer
+    ensures { λ r. ⌜ ((name : Name) → r ≡ facilityNumbers (answered name (Looked.Refused n))) ⌝ }
+{
+    FacilityAnswer {
+        refusal: n as u32,
+        kind: 0,
+        dimensions: 0,
+        words_first: 0,
+        words_last: 0,
+        bits_first: 0,
+        bits_last: 0,
+        stored: 0,
+        place: 0,
+    }
+}
+
+// A declaration or a refusal.
+pub fn facility_numbers(a: Looked) -> FacilityAnswer
+    ensures { λ r. ⌜ ((name : Name) → r ≡ facilityNumbers (answered name a)) ⌝ }
+{
+    match a {
+        Looked::Declared(f) => declared(f),
+        Looked::Refused(n) => unknown(n),
+    }
+}

@@ -1,0 +1,30 @@
+-- What a cycle is carried out on, and the record that it leaves.
+use mathlib.Core.List.{List}
+use mathlib.Core.Path.{_≡_}
+use Prim.Native.Nat.{ℕ}
+use lib.ListN.{length}
+use Rattle.language.specs.Calls as L
+use Rattle.language.specs.Decode.{sectionAt}
+use Rattle.language.specs.RecordBytes.{recordBytes, recordFrom, recordSize}
+use Rattle.language.specs.Step as S
+use Rattle.run_end.specs.declared.outcome.Verdict.{Verdict}
+use Rattle.run_end.specs.declared.outcome.Verdict.the-variants as Ends
+
+-- The sections of an image, but for its names.
+pub record Sliced (image facilities operations expressions actions states : List ℕ) : Type 0 where
+  pub facilities-are : facilities ≡ sectionAt 0 13 image
+  pub operations-are : operations ≡ sectionAt 1 5 image
+  pub expressions-are : expressions ≡ sectionAt 2 8 image
+  pub actions-are : actions ≡ sectionAt 3 7 image
+  pub states-are : states ≡ sectionAt 4 7 image
+
+-- A record that is read back from its bytes, whatever lies behind them.
+pub record ReadBack (r : S.Record) : Type 0 where
+  pub back : (K : List ℕ) → recordFrom (L.over (recordBytes r) K) ≡ r
+  pub whole : length (recordBytes r) ≡ recordSize
+
+-- So is that of a completed cycle.
+abbrev pub completedBack : Verdict → S.Record → Type 0
+completedBack Ends.Completed r = ReadBack r
+completedBack (Ends.Stopped k) r = Unit {0}
+completedBack (Ends.Stuck x) r = Unit {0}

@@ -1,0 +1,210 @@
+-- States read twice: first for their labels, then with them as names.
+use mathlib.Core.Bool.{true}
+use mathlib.Core.List.{List, [], _∷_, _++_, map}
+use mathlib.Core.Path.{_≡_, refl, sym, ap, _∙_}
+use Prim.Native.Nat.{ℕ, _+_, _≤_}
+use native.Mathlib.Omega.{arith}
+use lib.ListN.{length}
+use Rattle.parse_step.proofs.Ceilings.{few-counted}
+use Rattle.parse_step.specs.declared.State.{State}
+use Rattle.parse_step.specs.declared.Verdict.the-variants as Vd
+use Rattle.parse_step.specs.Course.{countsOf}
+use Rattle.parse_facilities.proofs.NameWords.{few-facilities}
+use Rattle.language.specs.Building.{Built, nothingBuilt, withText}
+use Rattle.language.specs.Decode.{upTo}
+use Rattle.language.specs.Machine.{Parsed, parsed, refused}
+use Rattle.language.specs.Tree as T
+use Rattle.language.specs.Tree.{Declaration, Operation}
+use Rattle.parse_names.specs.declared.Counts.{Counts}
+use Rattle.parse_sections.specs.Sections.{Ready}
+use Rattle.parse_stores.proofs.Keeping.{front-kept, names-kept}
+use Rattle.parse_stores.proofs.Standings.{few-operations, few-states}
+use Rattle.parse_stores.specs.Actions.{Standing, frontOf}
+use Rattle.parse_stores.specs.declared.Acted.{Acted}
+use Rattle.parse_states.specs.Bodies.{Stands}
+use Rattle.parse_states.specs.States.{All, AllRead, Ends, moreOf, startStack}
+use Rattle.parse_states.specs.Written.{Written, labelsOf}
+use Rattle.parse_tables.specs.declared.Table.{Table}
+use Rattle.parse_tables.specs.declared.Table.the-variants as Tb
+use Rattle.parse_tables.specs.Names.{namesOf}
+use Rattle.parse_tables.specs.Rows.{apartFrom, most, rows}
+use Rattle.text_words.specs.declared.Word.{Word}
+use Rattle.parse_array.specs.Held.{otherIn}
+use Rattle.parse_array.specs.Names.{namesIn}
+use Rattle.call_read.proofs.Fronts.{front-before, rows-before}
+use Rattle.call_read.proofs.WholeLaws.{named, whole-at}
+use Rattle.call_read.specs.Labels.{Copied}
+use Rattle.call_read.specs.Ready.{Behind, Closes, Finished}
+
+abbrev pub counts : State → ℕ → Counts
+counts s n = record { facilities = s .known; operations = s .operations; states = n }
+
+no-names : (text s : List ℕ) → [] ≡ namesOf text s 0
+unfolding namesOf upTo
+no-names text s = refl
+
+-- The states of what was parsed.
+statesIn : Parsed Built → List T.State
+statesIn (parsed b) = b .text .states
+statesIn (refused f) = []
+
+-- The machine gives one tree.
+same-states : {p : Built → Parsed Built} {ts us : List T.State} → ((b : Built) → p b ≡ parsed (withText b (moreOf ts (b .text)))) → ((b : Built) → p b ≡ parsed (withText b (moreOf us (b .text)))) → ts ≡ us
+unfolding statesIn
+same-states f g = ap statesIn (sym (f nothingBuilt) ∙ g nothingBuilt)
+
+-- What was read the second time is what was read the first time.
+labels-again : (text work : List ℕ) {n m : ℕ} {ts us : List T.State} → n ≡ m → ts ≡ us → namesOf text (rows Tb.StateNames n work) n ≡ labelsOf ts → namesOf text (rows Tb.StateNames m work) m ≡ labelsOf us
+labels-again text work e f h = rw (e, f) at h
+
+written-again : {text : List ℕ} (ds : List Declaration) (os : List Operation) {l : ℕ} {ts us : List T.State} {s s′ : State} {acts acts′ : ℕ} {work work′ : List ℕ} → ts ≡ us
+    → Written text (named ds os (labelsOf ts)) l us s acts work s′ acts′ work′ → Written text (named ds os (labelsOf us)) l us s acts work s′ acts′ work′
+written-again ds os e h = rw e at h
+
+module _ {text : List ℕ} {ds : List Declaration} {os : List Operation} {w : Word} {s : State} {acts : ℕ} where
+  -- Where the labels of n states are known.
+  stands : {work : List ℕ} → Ready text ds os w s acts work → (n : ℕ) (labels : List (List ℕ)) → n ≤ 256 → labels ≡ namesOf text (rows Tb.StateNames n work) n
+      → Standing text (named ds os labels) (counts s n) w s acts work
+  stands a n labels h e = record {
+    seen = a .standing .seen;
+    short = a .standing .short;
+    whole = a .standing .whole;
+    within = a .standing .within;
+    known = record {
+      facilities = a .standing .known;
+      operations = sym (a .standing .tabled .names);
+      states = e;
+      fewOperations = few-operations (countsOf s) (a .standing .within);
+      fewStates = h;
+    };
+    facilities = refl;
+    nodes = omega (arith, a .standing .nodes);
+    actions = a .standing .actions;
+  }
+
+  module _ {w₁ : List ℕ} (a : Ready text ds os w s acts w₁) where
+    pub first-stands : Standing text (named ds os []) (counts s 0) w s acts w₁
+    first-stands = stands a 0 [] (omega arith) (no-names text (rows Tb.StateNames 0 w₁))
+
+    module _ {l : ℕ} {r : Acted} {w′ : List ℕ} (q : All startStack l text (counts s 0) w s acts w₁ w′ r) where
+      pub not-read : (r .answer .verdict ≡ Vd.Done → ⊥) → Closes text ds os l w s w′ r
+      not-read n = let z = q (named ds os []) first-stands in record { done = λ d. absurd (n d); refused = z .refused; full = z .full }
+
+      module _ (d : r .answer .verdict ≡ Vd.Done) where
+        pub first : AllRead text (named ds os []) (counts s 0) l startStack w s acts w₁ w′ r
+        first = q (named ds os []) first-stands .done d
+
+        pub few : r .answer .state .states ≤ 256
+        few = few-states (countsOf (r .answer .state)) (first .standing .within)
+
+        module _ {w₂ : List ℕ} (c : Copied (r .answer .state .states) w′ w₂) where
+          long : length w₂ ≡ 275296
+          long = c .whole (first .standing .whole)
+
+          kept : (u : Table) → apartFrom u (Tb.Actions ∷ Tb.ActionPlaces ∷ Tb.States ∷ Tb.StatePlaces ∷ Tb.Labels ∷ []) ≡ true → apartFrom u (Tb.StateNames ∷ []) ≡ true
+              → (m : ℕ) → m ≤ most u → rows u m w₂ ≡ rows u m w₁
+          kept u e f m h = c .kept .tables u f m h ∙ first .written .tables u e m h
+
+          few-known : s .known ≤ 256
+          few-known = omega (arith, a .counted, few-facilities (countsOf s) (a .standing .within))
+
+          few-named : s .operations ≤ 128
+          few-named = few-operations (countsOf s) (a .standing .within)
+
+          few-nodes : s .nodes ≤ 15888
+          few-nodes = omega (arith, a .standing .nodes, few-counted (countsOf s) (a .standing .within))
+
+          few-actions : acts ≤ 4352
+          few-actions = omega (arith, a .standing .actions, few-counted (countsOf s) (a .standing .within))
+
+          front : frontOf (s .nodes) w₂ ≡ frontOf (s .nodes) w₁
+          front =
+              front-kept w′ w₂ (first .standing .whole) long (c .kept .front) (s .nodes) few-nodes
+              ∙ front-before (s .nodes) (r .answer .state .nodes) w₁ w′ _ (a .standing .whole) (omega (arith, first .written .nodes)) few-nodes (first .written .expressions)
+
+          facility-names-kept : namesIn text (otherIn w₂) (s .known) ≡ map (λ d. d .name) ds
+          facility-names-kept = names-kept text w₁ w₂ (λ m h. kept Tb.FacilityNames refl refl m h) (s .known) ∙ a .facilities .names
+
+          again : Ready text ds os w s acts w₂
+          again = record {
+            counted = a .counted;
+            level = a .level;
+            facilities = record {
+              known = a .facilities .known;
+              records = kept Tb.Facilities refl refl (s .known) few-known ∙ a .facilities .records;
+              places = kept Tb.FacilityPlaces refl refl (s .known) few-known ∙ a .facilities .places;
+              names = facility-names-kept;
+              store = a .facilities .store;
+            };
+            standing = record {
+              seen = a .standing .seen;
+              short = a .standing .short;
+              whole = long;
+              within = a .standing .within;
+              known = sym facility-names-kept;
+              states = a .standing .states;
+              nodes = a .standing .nodes;
+              actions = a .standing .actions;
+              tabled = record {
+                count = a .standing .tabled .count;
+                records = kept Tb.Operations refl refl (s .operations) few-named ∙ a .standing .tabled .records;
+                places = kept Tb.OperationPlaces refl refl (s .operations) few-named ∙ a .standing .tabled .places;
+                names = ap (λ (x : List ℕ). namesOf text x (s .operations)) (kept Tb.OperationNames refl refl (s .operations) few-named) ∙ a .standing .tabled .names;
+              };
+              bodies = record {
+                count = a .standing .bodies .count;
+                records = c .kept .tables Tb.Actions refl acts few-actions
+                    ∙ rows-before Tb.Actions acts (r .actions) w₁ w′ _ (a .standing .whole) (omega (arith, first .written .count)) few-actions (first .written .actions)
+                    ∙ a .standing .bodies .records;
+                places = c .kept .tables Tb.ActionPlaces refl acts few-actions
+                    ∙ rows-before Tb.ActionPlaces acts (r .actions) w₁ w′ _ (a .standing .whole) (omega (arith, first .written .count)) few-actions (first .written .actionPlaces)
+                    ∙ a .standing .bodies .places;
+                nodes = a .standing .bodies .nodes;
+                expressions = front ∙ a .standing .bodies .expressions;
+              };
+            };
+          }
+
+          labels : namesOf text (rows Tb.StateNames (r .answer .state .states) w₂) (r .answer .state .states) ≡ labelsOf (first .trees)
+          labels =
+              ap (λ (x : List ℕ). namesOf text x (r .answer .state .states)) (c .names)
+              ∙ first .written .labels
+              ∙ ap (λ (x : List (List ℕ)). x ++ labelsOf (first .trees)) (none-before (a .standing .states))
+            where
+              none-before : s .states ≡ 0 → namesOf text (rows Tb.Labels (s .states) w₁) (s .states) ≡ []
+              none-before e = rw e (sym (no-names text (rows Tb.Labels 0 w₁)))
+
+          pub second-stands : Standing text (named ds os (labelsOf (first .trees))) (counts s (r .answer .state .states)) w s acts w₂
+          second-stands = stands again (r .answer .state .states) (labelsOf (first .trees)) few (sym labels)
+
+          pub read-twice : {r₂ : Acted} {w₃ : List ℕ} → All startStack l text (counts s (r .answer .state .states)) w s acts w₂ w₃ r₂ → Closes text ds os l w s w₃ r₂
+          read-twice {r₂} {w₃} q₂ = record { done = finished; refused = z .refused; full = z .full }
+            where
+              z : Ends text startStack w s r₂ (AllRead text (named ds os (labelsOf (first .trees))) (counts s (r .answer .state .states)) l startStack w s acts w₂ w₃ r₂)
+              z = q₂ (named ds os (labelsOf (first .trees))) second-stands
+
+              finished : r₂ .answer .verdict ≡ Vd.Done → Finished text ds os l w s w₃ r₂
+              finished e =
+                  let y = z .done e in
+                  let same : first .trees ≡ y .trees = same-states (first .course) (y .course) in
+                  let number : r .answer .state .states ≡ r₂ .answer .state .states = first .written .number ∙ ap (λ (ts : List T.State). s .states + length ts) same ∙ sym (y .written .number) in
+                  record {
+                    trees = y .trees;
+                    course = y .course;
+                    whole = λ t i j k g. whole-at t i j k again g (written-again ds os same (y .written)) (labels-again text w₂ number same labels) (record {
+                      facilities = few-known;
+                      operations = few-named;
+                      nodes = omega (arith, y .standing .nodes, few-counted (countsOf (r₂ .answer .state)) (y .standing .within), few-states (countsOf (r₂ .answer .state)) (y .standing .within));
+                      actions = omega (arith, y .standing .actions, few-counted (countsOf (r₂ .answer .state)) (y .standing .within));
+                      states = few-states (countsOf (r₂ .answer .state)) (y .standing .within);
+                    });
+                  }
+
+-- ---- As the code takes it.
+
+pub first-known : {text : List ℕ} {w : Word} {s : State} {acts : ℕ} {work : List ℕ} → Behind text w s acts work → Stands text (counts s 0) w s acts work
+first-known b = record { scope = named (b .declared) (b .operations) []; standing = first-stands (b .ready) }
+
+pub second-known : {text : List ℕ} {w : Word} {s : State} {acts l : ℕ} {r : Acted} {work w′ w₂ : List ℕ} → Behind text w s acts work → All startStack l text (counts s 0) w s acts work w′ r
+    → r .answer .verdict ≡ Vd.Done → Copied (r .answer .state .states) w′ w₂ → Stands text (counts s (r .answer .state .states)) w s acts w₂
+second-known b q d c = record { scope = named (b .declared) (b .operations) (labelsOf (first (b .ready) q d .trees)); standing = second-stands (b .ready) q d c }

@@ -1,0 +1,14 @@
+// A whole text, read into the working array: its facilities, operations and states with the places of their words.
+use parse_held::Tally;
+use text_words::Fault;
+
+pub mod labels;
+pub mod lengths;
+pub mod twice;
+pub mod whole;
+
+// The first fault against the grammar, or how many records the array holds.
+pub enum Outcome {
+    Refused(Fault),
+    Done(Tally),
+}

@@ -1,0 +1,57 @@
+// A whole text into the working array: all before the states, the length that their values take, and the states.
+use crate::described::Outcome;
+use crate::described::lengths;
+use crate::described::twice;
+use parse_held::Tally;
+use parse_step::Verdict;
+use text_words::Fault;
+use text_words::Position;
+ghost use Prim.Native.Nat.{_≤_};
+ghost use lib.ListN.{length};
+ghost use Rattle.call_read.specs.Outcomes.{Described, Stops};
+
+// The fault of a verdict that is a refusal; the other verdicts do not come here.
+fn stopped(verdict: Verdict) -> Outcome
+    ensures { λ r. ⌜ Stops verdict r ⌝ }
+{
+    let none = Fault {
+        at: Position { place: 0 },
+        number: 0,
+    };
+    match verdict {
+        Verdict::Refused(f) => Outcome::Refused(f),
+        Verdict::Done => Outcome::Refused(none),
+        Verdict::Full => Outcome::Refused(none),
+    }
+}
+
+// Reads the text whole, whatever the array held.
+pub fn described(text: &[u8], work: &mut [u8; 275296]) -> Outcome
+    requires { ⌜ length (now text) ≤ 32768 ⌝ }
+    ensures { λ r. ⌜ Described (now (text .entry)) (now (work .exit)) r ⌝ }
+{
+    let opened = parse_sections::preamble(text, work);
+    let answer = opened.answer;
+    let verdict = answer.verdict;
+    let Verdict::Done = verdict else {
+        return stopped(verdict);
+    };
+    let w = answer.next;
+    let s = answer.state;
+    let l = lengths::sequencing_length(work, s.known);
+    let read = twice::states_of(text, work, w, s, opened.actions, l);
+    let last = read.answer;
+    let verdict = last.verdict;
+    let Verdict::Done = verdict else {
+        return stopped(verdict);
+    };
+    let end = last.state;
+    let c = Tally {
+        facilities: s.known,
+        operations: s.operations,
+        nodes: end.nodes,
+        actions: read.actions,
+        states: end.states,
+    };
+    Outcome::Done(c)
+}

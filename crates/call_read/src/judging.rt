@@ -1,0 +1,40 @@
+// What the working array holds, judged by all the rules.
+use image_records::bytes;
+use judge_all::least_fault;
+use parse_held::Tally;
+use parse_held::body;
+use parse_held::counts;
+use parse_held::names;
+use parse_tables::Table;
+use text_words::Judged;
+ghost use mathlib.Core.Path.{_≡_};
+ghost use Prim.Native.Nat.{_≤_};
+ghost use lib.ListN.{length};
+ghost use Rattle.language.specs.Rules as L;
+ghost use Rattle.language.specs.WordStage.{least};
+ghost use Rattle.judge_records.specs.Noted.{notedDescription, placesIn};
+ghost use Rattle.text_words.specs.Meaning.{judged};
+ghost use Rattle.parse_held.specs.Sections.{Few, besideHeld, namesHeld, sectionsHeld};
+
+// The least of all faults. 640 names of at most 132 letters have 84,480.
+pub fn judge(text: &[u8], work: &[u8; 275296], c: Tally) -> Judged
+    ensures { λ r. ⌜ (Few c → length (namesHeld (now (text .entry)) (now (work .entry)) c) ≤ 84480 → judged r ≡ least (L.faults (notedDescription (sectionsHeld (now (text .entry)) (now (work .entry)) c) (besideHeld (now (work .entry)) c)) (placesIn (besideHeld (now (work .entry)) c)))) ⌝ }
+{
+    let s: &[u8] = work;
+    let few = counts::within(c);
+    let mut letters = [0u8; 84480];
+    names::put(&mut letters, 0, text, work, few);
+    let n = names::count(text, work, few);
+    let ns = bytes::part(&letters, 0, n);
+    let fs = body::rows_of(s, Table::Facilities, few.facilities);
+    let os = body::rows_of(s, Table::Operations, few.operations);
+    let es = body::nodes_of(s, few.nodes);
+    let acts = body::rows_of(s, Table::Actions, few.actions);
+    let ss = body::rows_of(s, Table::States, few.states);
+    let fp = body::rows_of(s, Table::FacilityPlaces, few.facilities);
+    let op = body::rows_of(s, Table::OperationPlaces, few.operations);
+    let ep = body::node_places_of(s, few.nodes);
+    let ap = body::rows_of(s, Table::ActionPlaces, few.actions);
+    let sp = body::rows_of(s, Table::StatePlaces, few.states);
+    least_fault(fs, os, es, acts, ss, ns, fp, op, ep, ap, sp)
+}

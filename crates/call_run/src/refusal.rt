@@ -1,0 +1,61 @@
+// Why a run is refused: an image that does not pass, too little room, store or record not sound, a stimulus of another form.
+use call_cycle::refusal;
+use call_cycle::refusal::Refusal;
+use image_sections::sections;
+use run_begin::formed;
+use run_soundness::sizes;
+use run_soundness::soundness;
+ghost use mathlib.Core.Path.{_≡_};
+ghost use Prim.Native.Nat.{_≤_};
+ghost use Rattle.language.specs.Calls.{runRefusal, traceRoomy};
+ghost use Rattle.language.specs.Description.{Description};
+ghost use Rattle.language.specs.Image.{passes};
+ghost use Rattle.language.specs.Layout.{storeSize};
+ghost use Rattle.call_cycle.specs.Refusals.{refusalMeant};
+
+// Whether the trace takes a store of this size after each cycle, or is empty.
+fn trace_roomy(size: usize, cycles: u32, trace: usize) -> bool
+    requires { ⌜ size ≤ 16384 ⌝ }
+    ensures { λ r. ⌜ ((d : Description) → size ≡ storeSize d → r ≡ traceRoomy d cycles trace) ⌝ }
+{
+    if trace == 0 {
+        return true;
+    }
+    cycles as usize * size <= trace
+}
+
+// The first refusal, if there is one: 13, 12, 14, 15 in this order. Whether the image passes is known; `scratch` and `trace` are the lengths of those buffers.
+pub fn run_refusal(
+    image: &[u8],
+    passed: bool,
+    store: &[u8],
+    record: &[u8],
+    stimuli: &[u8],
+    cycles: u32,
+    scratch: usize,
+    trace: usize,
+) -> Refusal
+    requires { ⌜ passed ≡ passes (now image) ⌝ }
+    ensures { λ r. ⌜ refusalMeant r ≡ runRefusal (now (image .entry)) (now (store .entry)) (now («record» .entry)) (now (stimuli .entry)) cycles scratch trace ⌝ }
+{
+    if !passed {
+        return Refusal::At(13);
+    }
+    let facilities = sections::section(image, 0, 13);
+    let expressions = sections::section(image, 2, 8);
+    let states = sections::section(image, 4, 7);
+    let size = sizes::store_size(facilities);
+    if !refusal::roomy(size, store.len(), record.len(), scratch) {
+        return Refusal::At(12);
+    }
+    if !trace_roomy(size, cycles, trace) {
+        return Refusal::At(12);
+    }
+    if !soundness::sound(facilities, expressions, states, store, record) {
+        return Refusal::At(14);
+    }
+    if !formed::all_well_formed(facilities, stimuli, cycles) {
+        return Refusal::At(15);
+    }
+    Refusal::None
+}

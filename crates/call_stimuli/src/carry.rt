@@ -1,0 +1,135 @@
+// The cycles of a run that is not refused.
+use call_answers::ran::Tally;
+use image_records::bytes;
+use image_sections::sections;
+use run_begin::formed;
+use run_end::outcome::Verdict;
+use run_next::record::Record;
+use run_soundness::record;
+use run_soundness::sizes;
+use store_words::slices;
+ghost use mathlib.Core.List.{List};
+ghost use mathlib.Core.Option.{none};
+ghost use mathlib.Core.Path.{_≡_};
+ghost use Prim.Native.Nat.{ℕ, _≤_};
+ghost use lib.ListN.{length};
+ghost use Rattle.language.specs.Calls as L;
+ghost use Rattle.language.specs.Calls.{runRefusal};
+ghost use Rattle.language.specs.Reading.{zeroes};
+ghost use Rattle.run_next.specs.Seen.{recordMeant};
+ghost use Rattle.call_answers.specs.Run.{tallied};
+ghost use Rattle.call_left.specs.Kept.{keptRecord};
+ghost use Rattle.call_stimuli.specs.Lent.{Lent, SomeLent};
+
+// A run so far, and the record that it has come to.
+struct Run {
+    tally: Tally,
+    record: Record,
+}
+
+// So many cycles completed, with so many conflicts, and the stop that ended them, or 0.
+fn ended(completed: u32, conflicts: u64, stop: u8, r: Record) -> Run
+    ensures { λ a. ⌜ a ≡ record { tally = record { completed = completed; conflicts = conflicts; stop = stop }; «record» = r } ⌝ }
+{
+    let tally = Tally {
+        completed,
+        conflicts,
+        stop,
+    };
+    Run { tally, record: r }
+}
+
+// One cycle after the other, each with its own stimulus, until one stops; no later one is refused. The store after each goes to the trace, where there is one.
+fn carry_on(
+    facilities: &[u8],
+    operations: &[u8],
+    expressions: &[u8],
+    actions: &[u8],
+    states: &[u8],
+    r: Record,
+    store: &mut [u8],
+    stimuli: &[u8],
+    cycles: u32,
+    work: &mut [u8],
+    pending: &mut [u8],
+    mask: &mut [u8],
+    trace: &mut [u8],
+) -> Run
+    requires { ⌜ SomeLent (now facilities) (now operations) (now expressions) (now actions) (now states) (recordMeant r) (now store) (now stimuli) cycles (now work) (now pending) (now mask) (now trace) ⌝ }
+    ensures { λ a. ⌜ ((i K : List ℕ) (n : ℕ) → Lent i K n (now (facilities .entry)) (now (operations .entry)) (now (expressions .entry)) (now (actions .entry)) (now (states .entry)) (recordMeant r) (now (store .entry)) (now (stimuli .entry)) cycles (now (work .entry)) (now (pending .entry)) (now (mask .entry)) (now (trace .entry)) → tallied (a .tally) (now (store .exit)) (keptRecord (a .tally .completed) (recordMeant (a .«record»)) K) (zeroes n) (now (trace .exit)) ≡ L.run i (now (store .entry)) K (now (stimuli .entry)) cycles n (length (now (trace .entry)))) ⌝ }
+{
+    let size = work.len();
+    let each = formed::share(stimuli.len(), cycles);
+    let mut n: u32 = 0;
+    let mut conflicts: u64 = 0;
+    let mut at: usize = 0;
+    let mut to: usize = 0;
+    let mut reached = r;
+    while n < cycles {
+        let a = call_carried::carried(
+            facilities,
+            operations,
+            expressions,
+            actions,
+            states,
+            reached,
+            store,
+            bytes::part(stimuli, at, each),
+            work,
+            pending,
+            mask,
+        );
+        let verdict = a.verdict;
+        match verdict {
+            Verdict::Completed => {
+                conflicts += a.conflicts as u64;
+                bytes::put(trace, to, bytes::part(store, 0, size));
+                at += each;
+                to += size;
+                n += 1;
+                reached = a.record;
+            }
+            Verdict::Stopped(stop) => return ended(n, conflicts, stop, reached),
+            Verdict::Stuck(_) => return ended(n, conflicts, 13, reached),
+        }
+    }
+    ended(n, conflicts, 0, reached)
+}
+
+// The run that is owed, where nothing is refused and the trace is zero. What the cycles work on is made once.
+pub fn carry_out(
+    image: &[u8],
+    store: &mut [u8],
+    record: &mut [u8],
+    stimuli: &[u8],
+    cycles: u32,
+    scratch: &mut [u8],
+    trace: &mut [u8],
+) -> Tally
+    requires { ⌜ (runRefusal (now image) (now store) (now «record») (now stimuli) cycles (length (now scratch)) (length (now trace)) ≡ none) × (now trace ≡ zeroes (length (now trace))) ⌝ }
+    ensures { λ r. ⌜ tallied r (now (store .exit)) (now («record» .exit)) (now (scratch .exit)) (now (trace .exit)) ≡ L.run (now (image .entry)) (now (store .entry)) (now («record» .entry)) (now (stimuli .entry)) cycles (length (now (scratch .entry))) (length (now (trace .entry))) ⌝ }
+{
+    let facilities = sections::section(image, 0, 13);
+    let n = sizes::store_size(facilities);
+    let mut pending = [0u8; 16384];
+    let mut mask = [0u8; 16384];
+    let a = carry_on(
+        facilities,
+        sections::section(image, 1, 5),
+        sections::section(image, 2, 8),
+        sections::section(image, 3, 7),
+        sections::section(image, 4, 7),
+        record::record_at(record),
+        store,
+        stimuli,
+        cycles,
+        &mut scratch[0..n],
+        &mut pending[0..n],
+        &mut mask[0..n],
+        trace,
+    );
+    slices::zero(scratch);
+    let tally = a.tally;
+    call_left::note(record, tally.completed, a.record);
+    tally
+}

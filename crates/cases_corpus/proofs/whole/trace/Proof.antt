@@ -1,0 +1,103 @@
+use mathlib.Core.Path.{_≡_, sym, ap, _∙_}
+use Prim.Native.Nat.{ℕ, _-_, _≤_}
+use native.Mathlib.Omega.{arith}
+use lib.ListN.{length, length-replicate, take}
+use lib.Seq.{length-take-le}
+use Rattle.language.specs.Decode.{decode}
+use Rattle.language.specs.Image.{passes}
+use Rattle.language.specs.Layout.{storeSize}
+use Rattle.trace_whole.specs.Begins.{Runs}
+use borrow.Author.Needs.{needs}
+use Rattle.cases_corpus.proofs.whole.trace.Statement.{statement}
+use Rattle.cases_corpus.proofs.whole.trace.Tie as tie
+
+slice-aggregate-begin-run : tie.Need-slice-aggregate-begin-run
+slice-aggregate-begin-run c = search needs
+
+slice-aggregate-begin-run-2 : tie.Need-slice-aggregate-begin-run-2
+slice-aggregate-begin-run-2 c = search needs
+
+slice-aggregate-begin-run-3 : tie.Need-slice-aggregate-begin-run-3
+slice-aggregate-begin-run-3 c = search needs
+
+begin-run-requires : tie.Need-begin-run-requires
+begin-run-requires c κs = search needs
+
+enum-known-end : tie.Need-enum-known-end
+enum-known-end c = search needs
+
+enum-known-n : tie.Need-enum-known-n
+enum-known-n c = search needs
+
+sub-run : tie.Need-sub-run
+sub-run c = search needs
+
+part-run-start : tie.Need-part-run-start
+part-run-start c = search needs
+
+part-run-end : tie.Need-part-run-end
+part-run-end c =
+    let r : Runs (c .before .before .before .before .before .before .before .before .before .before .before .before .before .before .before .before .before .args .text .now) (c .before .before .n .given .0 .0) (c .before .before .n .given .0 .1 .0) _ (c .before .before .before .before .before .before .before .before .before .begin-run .last .1 .0) (c .before .before .before .before .before .before .before .before .before .begin-run .last .1 .1 .0) (c .before .before .before .before .before .before .before .before .before .begin-run .last .1 .1 .1 .0) = rw (c .before .before .n .given .1) at (c .before .before .before .before .before .before .before .before .before .begin-run .ensures) in
+    let h : c .before .before .n .given .0 .0 ≤ length (c .before .before .before .before .before .before .before .before .before .begin-run .last .1 .0) = r .inside in
+    search needs
+
+sub-run-2 : tie.Need-sub-run-2
+sub-run-2 c = search needs
+
+part-store-start : tie.Need-part-store-start
+part-store-start c = search needs
+
+part-store-end : tie.Need-part-store-end
+part-store-end c =
+    let r : Runs (c .before .before .before .before .before .before .before .before .before .before .before .before .before .before .before .before .before .before .args .text .now) (c .before .before .before .n .given .0 .0) (c .before .before .before .n .given .0 .1 .0) _ (c .before .before .before .before .before .before .before .before .before .before .begin-run .last .1 .0) (c .before .before .before .before .before .before .before .before .before .before .begin-run .last .1 .1 .0) (c .before .before .before .before .before .before .before .before .before .before .begin-run .last .1 .1 .1 .0) = rw (c .before .before .before .n .given .1) at (c .before .before .before .before .before .before .before .before .before .before .begin-run .ensures) in
+    let h : c .before .before .before .n .given .0 .1 .0 ≤ 16384 = omega (arith, r .fits, length-replicate {A = ℕ} 16384 0) in
+    search needs
+
+slice-aggregate-run : tie.Need-slice-aggregate-run
+slice-aggregate-run c = search needs
+
+run-requires : tie.Need-run-requires
+run-requires c κs =
+    let r : Runs (c .before .before .before .before .before .before .before .before .before .before .before .before .before .before .before .before .before .before .before .before .before .args .text .now) (c .before .before .before .before .before .before .n .given .0 .0) (c .before .before .before .before .before .before .n .given .0 .1 .0) _ (c .before .before .before .before .before .before .before .before .before .before .before .before .before .begin-run .last .1 .0) (c .before .before .before .before .before .before .before .before .before .before .before .before .before .begin-run .last .1 .1 .0) (c .before .before .before .before .before .before .before .before .before .before .before .before .before .begin-run .last .1 .1 .1 .0) = rw (c .before .before .before .before .before .before .n .given .1) at (c .before .before .before .before .before .before .before .before .before .before .before .before .before .begin-run .ensures) in
+    let z : c .before .before .before .before .before .before .n .given .0 .0 - 0 ≡ c .before .before .before .before .before .before .n .given .0 .0 = omega arith in
+    let w : c .before .before .before .before .before .before .n .given .0 .1 .0 - 0 ≡ c .before .before .before .before .before .before .n .given .0 .1 .0 = omega arith in
+    let h : c .before .before .before .before .before .before .n .given .0 .1 .0 ≤ 16384 = omega (arith, r .fits, length-replicate {A = ℕ} 16384 0) in
+    let k : length (c .before .before .before .before .before .before .before .before .before .before .before .before .before .begin-run .last .1 .1 .0) ≡ 16384 = search needs in (
+      ap (λ (m : ℕ). passes (take m (c .before .before .before .before .before .before .before .before .before .before .before .before .before .begin-run .last .1 .0))) z ∙ r .passed,
+      length-take-le (c .before .before .before .before .before .before .n .given .0 .1 .0 - 0) (c .before .before .before .before .before .before .before .before .before .before .before .before .before .begin-run .last .1 .1 .0) (omega (arith, h, k)) ∙ (w ∙ (r .is ∙ ap (λ (m : ℕ). storeSize (decode (take m (c .before .before .before .before .before .before .before .before .before .before .before .before .before .begin-run .last .1 .0)))) (sym z))),
+    )
+
+same-length : tie.Need-same-length
+same-length c = search needs
+
+returns : tie.Need-returns
+returns c = search needs
+
+same-length-2 : tie.Need-same-length-2
+same-length-2 c = search needs
+
+returns-2 : tie.Need-returns-2
+returns-2 c = search needs
+
+pub trace-spec : {M : Type 1} → statement M
+trace-spec =
+    tie.close
+    (tie.spec
+    slice-aggregate-begin-run
+    slice-aggregate-begin-run-2
+    slice-aggregate-begin-run-3
+    begin-run-requires
+    enum-known-end
+    enum-known-n
+    sub-run
+    part-run-start
+    part-run-end
+    sub-run-2
+    part-store-start
+    part-store-end
+    slice-aggregate-run
+    run-requires
+    same-length
+    returns
+    same-length-2
+    returns-2)

@@ -1,0 +1,113 @@
+// The form of an image: its bytes are those of what they describe, in the layout that reading writes. Of the check all but the rules.
+pub mod counts;
+pub mod labels;
+pub mod rows;
+pub mod shapes;
+
+use image_order::runs;
+use image_order::trees;
+use image_records::bytes;
+use image_sections::header;
+use image_sections::header::Counts;
+use image_sections::names;
+use image_sections::sections;
+ghost use mathlib.Core.Path.{_≡_};
+ghost use Prim.Native.Nat.{_^_, _<_};
+ghost use lib.ListN.{length};
+ghost use Rattle.language.specs.Canonical.{canonical};
+ghost use Rattle.language.specs.Decode.{described};
+ghost use Rattle.image_sections.proofs.ImageLaws.{Sized};
+ghost use Rattle.about_writing.specs.Whole.{sectionsSame};
+ghost use Rattle.image_form.specs.Form.{formRight, sectioned};
+ghost use Rattle.image_form.specs.Names.{namedRight};
+
+// Whether sections are those that writing gives what they describe. Records of operations and states always are.
+fn written(
+    c: Counts,
+    facilities: &[u8],
+    operations: &[u8],
+    exprs: &[u8],
+    acts: &[u8],
+    states: &[u8],
+    names: &[u8],
+) -> bool
+    requires { ⌜ Sized (sectioned (now facilities) (now operations) (now exprs) (now acts) (now states) (now names)) c ⌝ }
+    ensures { λ r. ⌜ r ≡ sectionsSame (sectioned (now (facilities .entry)) (now (operations .entry)) (now (exprs .entry)) (now (acts .entry)) (now (states .entry)) (now (names .entry))) ⌝ }
+{
+    if !labels::names_fit(c, facilities, operations, states, names) {
+        return false;
+    }
+    if !rows::facilities_right(facilities) {
+        return false;
+    }
+    if !rows::nodes_right(exprs) {
+        return false;
+    }
+    rows::actions_right(acts)
+}
+
+// Whether the names of facilities, operations and states are right.
+fn named(c: Counts, facilities: &[u8], operations: &[u8], states: &[u8], names: &[u8]) -> bool
+    requires { ⌜ length (now states) < 2 ^ 36 ⌝ }
+    ensures { λ r. ⌜ r ≡ namedRight c (now (facilities .entry)) (now (operations .entry)) (now (states .entry)) (now (names .entry)) ⌝ }
+{
+    if !labels::names_right(facilities, c.facilities, 2, 13, names) {
+        return false;
+    }
+    let first = names::names_length(facilities, c.facilities, 2, 13);
+    let second = bytes::part(names, first, names.len());
+    if !labels::names_right(operations, c.operations, 0, 5, second) {
+        return false;
+    }
+    let next = names::names_length(operations, c.operations, 0, 5);
+    let third = bytes::part(second, next, names.len());
+    labels::labels_right(states, third)
+}
+
+// Whether what the sections describe is in the form that reading gives. Runs come before trees: only then are the trees of all actions a single walk.
+fn formed(
+    c: Counts,
+    facilities: &[u8],
+    operations: &[u8],
+    exprs: &[u8],
+    acts: &[u8],
+    states: &[u8],
+    names: &[u8],
+) -> bool
+    requires { ⌜ Sized (sectioned (now facilities) (now operations) (now exprs) (now acts) (now states) (now names)) c ⌝ }
+    ensures { λ r. ⌜ r ≡ canonical (described (sectioned (now (facilities .entry)) (now (operations .entry)) (now (exprs .entry)) (now (acts .entry)) (now (states .entry)) (now (names .entry)))) ⌝ }
+{
+    if !counts::counts_right(facilities, operations, exprs, acts, states) {
+        return false;
+    }
+    if !shapes::facilities_shaped(facilities) {
+        return false;
+    }
+    if !named(c, facilities, operations, states, names) {
+        return false;
+    }
+    if !runs::runs_right(operations, acts, states) {
+        return false;
+    }
+    trees::trees_right(facilities, operations, exprs, acts, states)
+}
+
+// Whether an image has the right form, whatever stands behind its total length.
+pub fn form(image: &[u8]) -> bool
+    ensures { λ r. ⌜ r ≡ formRight (now (image .entry)) ⌝ }
+{
+    if !header::header_right(image) {
+        return false;
+    }
+    let c = header::counts_at(image);
+    let facilities = sections::section(image, 0, 13);
+    let operations = sections::section(image, 1, 5);
+    let exprs = sections::section(image, 2, 8);
+    let acts = sections::section(image, 3, 7);
+    let states = sections::section(image, 4, 7);
+    let names = sections::section(image, 5, 1);
+    if !written(c, facilities, operations, exprs, acts, states, names) {
+        return false;
+    }
+    formed(c, facilities, operations, exprs, acts, states, names)
+}

@@ -1,0 +1,23 @@
+// A facility's declaration, and its place in the store.
+use crate::NO_IMAGE;
+use crate::NO_SUCH;
+use call_answers::looked::Looked;
+use image_sections::facilities;
+use image_sections::sections;
+ghost use mathlib.Core.Path.{_≡_};
+ghost use Rattle.language.specs.Image.{passes};
+ghost use Rattle.call_answers.specs.Lookups.{Looks};
+
+pub fn facility(image: &[u8], passed: bool, n: u32) -> Looked
+    requires { ⌜ passed ≡ passes (now image) ⌝ }
+    ensures { λ r. ⌜ Looks (now (image .entry)) n r ⌝ }
+{
+    if !passed {
+        return Looked::Refused(NO_IMAGE);
+    }
+    let facilities = sections::section(image, 0, 13);
+    if facilities.len() / 13 <= n as usize {
+        return Looked::Refused(NO_SUCH);
+    }
+    Looked::Declared(facilities::facility_at(facilities, n as usize))
+}

@@ -1,0 +1,45 @@
+use mathlib.Core.Path.{sym, ap₂, _∙_}
+use Prim.Native.Nat.{ℕ, _+_, _*_}
+use native.Mathlib.Omega.{arith}
+use Rattle.image_records.proofs.NumberLaws.{number-six}
+use borrow.Author.Needs.{needs}
+use Rattle.image_records.proofs.numbers.six_there.Statement.{statement}
+use Rattle.image_records.proofs.numbers.six_there.Tie as tie
+
+four-there-requires : tie.Need-four-there-requires
+four-there-requires c κs = search needs
+
+cast-result : tie.Need-cast-result
+cast-result c = search needs
+
+add-two-there : tie.Need-add-two-there
+add-two-there c = search needs
+
+two-there-requires : tie.Need-two-there-requires
+two-there-requires c κs = search needs
+
+cast-result-2 : tie.Need-cast-result-2
+cast-result-2 c = search needs
+
+mul-result : tie.Need-mul-result
+mul-result c = search needs
+
+add-result : tie.Need-add-result
+add-result c = search needs
+
+returns : tie.Need-returns
+returns c =
+    (ap₂ (λ (m n : ℕ). m + n * 0x100000000) (c .before .four-there .ensures) (c .two-there .ensures) ∙ sym (number-six _ _), omega arith)
+
+pub six-there-spec : {M : Type 1} → statement M
+six-there-spec =
+    tie.close
+    (tie.spec
+    four-there-requires
+    cast-result
+    add-two-there
+    two-there-requires
+    cast-result-2
+    mul-result
+    add-result
+    returns)

@@ -1,0 +1,79 @@
+// The bytes of an action's record: as they are written, and whether they stand there.
+use crate::actions;
+use crate::actions::Action;
+use crate::bytes;
+use crate::numbers;
+ghost use mathlib.Core.Path.{_≡_};
+ghost use Prim.Native.Nat.{_*_, _<_};
+ghost use lib.ListN.{take, drop};
+ghost use Rattle.language.specs.Decode.{actionOf};
+ghost use Rattle.language.specs.Encode.{actionBytes, actionRecord, storeMark};
+ghost use Rattle.language.specs.Scan.{same};
+ghost use Rattle.image_records.specs.Actions.{meant};
+ghost use Rattle.image_records.specs.Placed.{placed};
+
+// A mark and three numbers.
+fn fields(mark: u8, a: u16, b: u16, c: u16) -> [u8; 7]
+    ensures { λ r. ⌜ r ≡ actionRecord mark a b c ⌝ }
+{
+    let a0 = numbers::low(a);
+    let a1 = numbers::high(a);
+    let b0 = numbers::low(b);
+    let b1 = numbers::high(b);
+    let c0 = numbers::low(c);
+    let c1 = numbers::high(c);
+    [mark, a0, a1, b0, b1, c0, c1]
+}
+
+// The mark of a delayed store or, after it, of an immediate one.
+fn store_mark(sign: u8, mark: u8) -> u8
+    requires { ⌜ mark < 255 ⌝ }
+    ensures { λ r. ⌜ r ≡ storeMark sign mark ⌝ }
+{
+    if sign == actions::DELAYED {
+        mark
+    } else {
+        mark + 1
+    }
+}
+
+// The bytes of a record.
+pub fn action_bytes(action: Action) -> [u8; 7]
+    ensures { λ r. ⌜ r ≡ actionBytes (meant action) ⌝ }
+{
+    match action {
+        Action::Store(k, l, r) => fields(store_mark(k, 1), l, r, 0),
+        Action::StorePair(k, l, m, r) => fields(store_mark(k, 3), l, m, r),
+        Action::Set(l) => fields(5, l, 0, 0),
+        Action::Perform(o) => fields(6, o, 0, 0),
+        Action::Goto(s) => fields(7, s, 0, 0),
+        Action::Call(s) => fields(8, s, 0, 0),
+        Action::Return => fields(9, 0, 0, 0),
+        Action::When(c, x) => fields(10, c, x, 0),
+        Action::Choose(c, n, x) => fields(11, c, n, x),
+        Action::Arm(x) => fields(12, x, 0, 0),
+        Action::Broken => fields(0, 0, 0, 0),
+    }
+}
+
+// Whether record n has the bytes that writing gives it.
+pub fn action_right(acts: &[u8], n: usize) -> bool
+    ensures { λ r. ⌜ r ≡ same (take 7 (drop (7 * n) (now (acts .entry)))) (actionBytes (actionOf (now (acts .entry)) n)) ⌝ }
+{
+    if acts.len() / 7 <= n {
+        return false;
+    }
+    let written = action_bytes(actions::action_at(acts, n));
+    bytes::stand(acts, 7 * n, &written)
+}
+
+// Writes record n of a section, where there is room for it.
+pub fn write_action(acts: &mut [u8], n: usize, action: Action)
+    ensures { λ _. ⌜ now (acts .exit) ≡ placed (now (acts .entry)) (7 * n) (actionBytes (meant action)) ⌝ }
+{
+    if acts.len() / 7 <= n {
+        return;
+    }
+    let written = action_bytes(action);
+    bytes::put(acts, 7 * n, &written);
+}

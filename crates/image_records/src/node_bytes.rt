@@ -1,0 +1,97 @@
+// The bytes of an expression's record: as they are written, and whether they stand there.
+use crate::bytes;
+use crate::nodes;
+use crate::nodes::Node;
+use crate::numbers;
+ghost use mathlib.Core.Path.{_≡_};
+ghost use Prim.Native.Nat.{_-_, _*_, _%_};
+ghost use lib.ListN.{take, drop};
+ghost use Rattle.language.specs.Decode.{nodeOf};
+ghost use Rattle.language.specs.Encode.{digitRecord, nodeBytes, nodeRecord};
+ghost use Rattle.language.specs.Scan.{same};
+ghost use Rattle.image_records.specs.Nodes.{meant};
+ghost use Rattle.image_records.specs.Placed.{placed};
+
+// A mark, a byte, and three numbers.
+fn fields(mark: u16, x: u8, a: u16, b: u16, c: u16) -> [u8; 8]
+    ensures { λ r. ⌜ r ≡ nodeRecord mark x a b c ⌝ }
+{
+    let m = numbers::low(mark);
+    let a0 = numbers::low(a);
+    let a1 = numbers::high(a);
+    let b0 = numbers::low(b);
+    let b1 = numbers::high(b);
+    let c0 = numbers::low(c);
+    let c1 = numbers::high(c);
+    [m, x, a0, a1, b0, b1, c0, c1]
+}
+
+// A mark, a byte, and a number in six bytes.
+fn digit_record(mark: u8, x: u8, n: u64) -> [u8; 8]
+    ensures { λ r. ⌜ r ≡ digitRecord mark x n ⌝ }
+{
+    let n1 = n / 256;
+    let n2 = n1 / 256;
+    let n3 = n2 / 256;
+    let n4 = n3 / 256;
+    let n5 = n4 / 256;
+    let b0 = (n % 256) as u8;
+    let b1 = (n1 % 256) as u8;
+    let b2 = (n2 % 256) as u8;
+    let b3 = (n3 % 256) as u8;
+    let b4 = (n4 % 256) as u8;
+    let b5 = (n5 % 256) as u8;
+    [mark, x, b0, b1, b2, b3, b4, b5]
+}
+
+// The field for a constant's length.
+fn length_field(l: u16) -> u8
+    ensures { λ r. ⌜ r ≡ (l - 1) % 256 ⌝ }
+{
+    if l == 0 { 0 } else { numbers::low(l - 1) }
+}
+
+// The bytes of a record; v is a constant's number, or its low 64 bits.
+pub fn node_bytes(node: Node, v: u64) -> [u8; 8]
+    ensures { λ r. ⌜ r ≡ nodeBytes (meant v node) ⌝ }
+{
+    match node {
+        Node::Constant(l) => digit_record(1, length_field(l), v % 0x1000000000000),
+        Node::More(d) => digit_record(2, 0, d),
+        Node::Whole(f) => fields(3, f, 0, 0, 0),
+        Node::One(f, e) => fields(4, f, e, 0, 0),
+        Node::Part(f, a, b) => fields(5, f, a, b, 0),
+        Node::Two(f, e, g) => fields(6, f, e, g, 0),
+        Node::WordPart(f, e, a, b) => fields(7, f, e, a, b),
+        Node::FirstArm(e) => fields(8, 0, e, 0, 0),
+        Node::NextArm(a, e) => fields(9, 0, a, e, 0),
+        Node::Choice(e, a, n) => fields(10, 0, e, a, n),
+        Node::Binary(k, a, b) => fields(64 + k as u16, 0, a, b, 0),
+        Node::Prefix(k, a) => fields(128 + k as u16, 0, a, 0, 0),
+        Node::Cut(k, a, c) => fields(192 + k as u16, 0, a, c, 0),
+        Node::Broken => fields(0, 0, 0, 0, 0),
+    }
+}
+
+// Whether record n has the bytes that writing gives it.
+pub fn node_right(exprs: &[u8], n: usize) -> bool
+    ensures { λ r. ⌜ r ≡ same (take 8 (drop (8 * n) (now (exprs .entry)))) (nodeBytes (nodeOf (now (exprs .entry)) n)) ⌝ }
+{
+    if exprs.len() / 8 <= n {
+        return false;
+    }
+    let at = 8 * n;
+    let written = node_bytes(nodes::node_at(exprs, n), numbers::six(exprs, at + 2));
+    bytes::stand(exprs, at, &written)
+}
+
+// Writes record n of a section, where there is room for it.
+pub fn write_node(exprs: &mut [u8], n: usize, node: Node, v: u64)
+    ensures { λ _. ⌜ now (exprs .exit) ≡ placed (now (exprs .entry)) (8 * n) (nodeBytes (meant v node)) ⌝ }
+{
+    if exprs.len() / 8 <= n {
+        return;
+    }
+    let written = node_bytes(node, v);
+    bytes::put(exprs, 8 * n, &written);
+}

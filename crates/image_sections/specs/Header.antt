@@ -1,0 +1,59 @@
+-- The header's thirteen numbers, from how many records the sections have.
+use mathlib.Core.Bool.{Bool, false, cond}
+use mathlib.Core.List.{List, [], _∷_}
+use Prim.Native.Nat.{ℕ, _+_, _*_}
+use lib.Dec.{eqb, leb}
+use lib.ListN.{drop, length, take}
+use Rattle.language.specs.Decode.{countOf, numberAt}
+use Rattle.language.specs.Encode.{actionSize, facilitySize, headerSize, nodeSize, operationSize, stateSize}
+use Rattle.language.specs.RecordBytes.{fours}
+use Rattle.language.specs.Scan.{same}
+use Rattle.image_sections.specs.declared.header.Counts.{Counts}
+
+unfoldable pub countsIn : List ℕ → Counts
+countsIn s = record {
+  facilities = countOf 0 s;
+  operations = countOf 1 s;
+  expressions = countOf 2 s;
+  actions = countOf 3 s;
+  states = countOf 4 s;
+  names = countOf 5 s;
+}
+
+-- ---- Where the sections begin, one after the other behind the header.
+
+abbrev pub operationsFrom : Counts → ℕ
+operationsFrom c = headerSize + facilitySize * c .facilities
+
+abbrev pub expressionsFrom : Counts → ℕ
+expressionsFrom c = operationsFrom c + operationSize * c .operations
+
+abbrev pub actionsFrom : Counts → ℕ
+actionsFrom c = expressionsFrom c + nodeSize * c .expressions
+
+abbrev pub statesFrom : Counts → ℕ
+statesFrom c = actionsFrom c + actionSize * c .actions
+
+abbrev pub namesFrom : Counts → ℕ
+namesFrom c = statesFrom c + stateSize * c .states
+
+abbrev pub totalOf : Counts → ℕ
+totalOf c = namesFrom c + c .names
+
+-- The total length, and the count and the offset of each section.
+unfoldable pub headerNumbers : Counts → List ℕ
+headerNumbers c =
+    totalOf c
+    ∷ c .facilities ∷ headerSize
+    ∷ c .operations ∷ operationsFrom c
+    ∷ c .expressions ∷ expressionsFrom c
+    ∷ c .actions ∷ actionsFrom c
+    ∷ c .states ∷ statesFrom c
+    ∷ c .names ∷ namesFrom c
+    ∷ []
+
+-- The numbers are those for the counts, and the image is as long as they say.
+unfoldable pub headerRight : List ℕ → Bool
+headerRight s =
+    let c = countsIn s in
+    cond (leb (totalOf c) (length s)) (cond (eqb (numberAt 4 0 s) (totalOf c)) (same (take headerSize (drop 0 s)) (fours (headerNumbers c))) false) false

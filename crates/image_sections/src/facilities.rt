@@ -1,0 +1,110 @@
+// A facility's record; its name stands elsewhere.
+use image_records::numbers;
+ghost use mathlib.Core.Path.{_≡_};
+ghost use Prim.Native.Nat.{_+_, _≤_};
+ghost use lib.ListN.{length};
+ghost use Rattle.language.specs.Decode.{boundsAt, kindOf};
+ghost use Rattle.language.specs.Encode.{kindNumber};
+ghost use Rattle.language.specs.Tree.{Name};
+ghost use Rattle.image_sections.specs.Declarations.{FacilityRead, boundsMeant, facilityMeant, kindMeant, noneNamed};
+
+pub enum Kind {
+    Register,
+    Sequencing,
+    Memory,
+    Plain,
+    Input,
+    Computed,
+}
+
+pub struct Bounds {
+    pub first: u16,
+    pub last: u16,
+}
+
+pub struct Facility {
+    pub kind: Kind,
+    pub dimensions: u8,
+    // the length of its name
+    pub name: u8,
+    pub words: Bounds,
+    pub bits: Bounds,
+    // the place of its first byte in the store, or the number of a computed terminal's expression
+    pub place: u16,
+}
+
+// The kind that a number stands for.
+pub fn kind_of(k: u8) -> Kind
+    ensures { λ r. ⌜ kindMeant r ≡ kindOf k ⌝ }
+{
+    match k {
+        0 => Kind::Register,
+        1 => Kind::Sequencing,
+        2 => Kind::Memory,
+        3 => Kind::Plain,
+        4 => Kind::Input,
+        _ => Kind::Computed,
+    }
+}
+
+// The number that stands for a kind.
+pub fn kind_number(kind: Kind) -> u8
+    ensures { λ r. ⌜ r ≡ kindNumber (kindMeant kind) ⌝ }
+{
+    match kind {
+        Kind::Register => 0,
+        Kind::Sequencing => 1,
+        Kind::Memory => 2,
+        Kind::Plain => 3,
+        Kind::Input => 4,
+        Kind::Computed => 5,
+    }
+}
+
+// First and last bound.
+fn bounds_at(s: &[u8], at: usize) -> Bounds
+    requires { ⌜ at + 4 ≤ length (now s) ⌝ }
+    ensures { λ r. ⌜ boundsMeant r ≡ boundsAt at (now (s .entry)) ⌝ }
+{
+    Bounds {
+        first: numbers::two_there(s, at),
+        last: numbers::two_there(s, at + 2),
+    }
+}
+
+// No facility.
+fn no_facility() -> Facility
+    ensures { λ r. ⌜ (r .name ≡ 0) × (r .place ≡ 0) × ((name : Name) → facilityMeant name r ≡ noneNamed name) ⌝ }
+{
+    let none = Bounds { first: 0, last: 0 };
+    Facility {
+        kind: Kind::Plain,
+        dimensions: 0,
+        name: 0,
+        words: none,
+        bits: none,
+        place: 0,
+    }
+}
+
+// Record n of a section of facilities.
+pub fn facility_at(facilities: &[u8], n: usize) -> Facility
+    ensures { λ r. ⌜ FacilityRead (now (facilities .entry)) n r ⌝ }
+{
+    if facilities.len() / 13 <= n {
+        return no_facility();
+    }
+    let at = 13 * n;
+    let kind = kind_of(facilities[at]);
+    let words = bounds_at(facilities, at + 3);
+    let bits = bounds_at(facilities, at + 7);
+    let place = numbers::two_there(facilities, at + 11);
+    Facility {
+        kind,
+        dimensions: facilities[at + 1],
+        name: facilities[at + 2],
+        words,
+        bits,
+        place,
+    }
+}

@@ -1,0 +1,86 @@
+// The bytes of a facility's record: as they are written, and whether they stand there.
+use crate::facilities;
+use crate::facilities::Facility;
+use crate::kinds;
+use image_records::bytes;
+use image_records::numbers;
+ghost use mathlib.Core.Bool.{cond};
+ghost use mathlib.Core.Path.{_≡_};
+ghost use Prim.Native.Nat.{_*_};
+ghost use lib.ListN.{drop, length, take};
+ghost use Rattle.language.specs.Description.{isComputed};
+ghost use Rattle.language.specs.Encode.{facilityRecord};
+ghost use Rattle.language.specs.Scan.{same};
+ghost use Rattle.language.specs.Tree.{Name};
+ghost use Rattle.image_records.specs.Placed.{placed};
+ghost use Rattle.image_sections.specs.Declarations.{facilityIn, facilityMeant, kindMeant, nameLengthIn};
+
+// Where a facility is: the number of its expression, or else its place in the store.
+fn located(f: Facility, place: u32) -> u32
+    ensures { λ r. ⌜ r ≡ cond (isComputed (kindMeant (f .kind))) (f .place) place ⌝ }
+{
+    let kind = f.kind;
+    if kinds::is_computed(kind) {
+        f.place as u32
+    } else {
+        place
+    }
+}
+
+// The bytes of a record, for the place in the store that the layout gives.
+pub fn facility_bytes(f: Facility, place: u32) -> [u8; 13]
+    ensures { λ r. ⌜ ((name : Name) → length name ≡ f .name → r ≡ facilityRecord place (facilityMeant name f)) ⌝ }
+{
+    let kind = f.kind;
+    let words = f.words;
+    let bits = f.bits;
+    let k = facilities::kind_number(kind);
+    let w0 = numbers::low(words.first);
+    let w1 = numbers::high(words.first);
+    let w2 = numbers::low(words.last);
+    let w3 = numbers::high(words.last);
+    let b0 = numbers::low(bits.first);
+    let b1 = numbers::high(bits.first);
+    let b2 = numbers::low(bits.last);
+    let b3 = numbers::high(bits.last);
+    let p = located(f, place);
+    let p0 = (p % 256) as u8;
+    let p1 = (p / 256 % 256) as u8;
+    [
+        k,
+        f.dimensions,
+        f.name,
+        w0,
+        w1,
+        w2,
+        w3,
+        b0,
+        b1,
+        b2,
+        b3,
+        p0,
+        p1,
+    ]
+}
+
+// Whether record n has the bytes that writing gives it at that place in the store.
+pub fn facility_right(facilities: &[u8], n: usize, place: u32) -> bool
+    ensures { λ r. ⌜ ((name : Name) → length name ≡ nameLengthIn 13 2 (now (facilities .entry)) n → r ≡ same (take 13 (drop (13 * n) (now (facilities .entry)))) (facilityRecord place (facilityIn (now (facilities .entry)) n name))) ⌝ }
+{
+    if facilities.len() / 13 <= n {
+        return false;
+    }
+    let written = facility_bytes(facilities::facility_at(facilities, n), place);
+    bytes::stand(facilities, 13 * n, &written)
+}
+
+// Writes record n of a section, where there is room for it.
+pub fn write_facility(facilities: &mut [u8], n: usize, f: Facility, place: u32)
+    ensures { λ _. ⌜ ((name : Name) → length name ≡ f .name → now (facilities .exit) ≡ placed (now (facilities .entry)) (13 * n) (facilityRecord place (facilityMeant name f))) ⌝ }
+{
+    if facilities.len() / 13 <= n {
+        return;
+    }
+    let written = facility_bytes(f, place);
+    bytes::put(facilities, 13 * n, &written);
+}

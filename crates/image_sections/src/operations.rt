@@ -1,0 +1,60 @@
+// An operation's record; its name stands elsewhere.
+use crate::runs;
+use crate::runs::Run;
+use image_records::bytes;
+use image_records::numbers;
+ghost use mathlib.Core.Path.{_≡_};
+ghost use Prim.Native.Nat.{_*_};
+ghost use lib.ListN.{length};
+ghost use Rattle.language.specs.Encode.{operationRecord};
+ghost use Rattle.language.specs.Tree.{Name};
+ghost use Rattle.image_records.specs.Placed.{placed};
+ghost use Rattle.image_sections.specs.Declarations.{OperationRead, operationMeant};
+
+pub struct Operation {
+    // the length of its name
+    pub name: u8,
+    pub body: Run,
+}
+
+// Record n of a section of operations.
+pub fn operation_at(operations: &[u8], n: usize) -> Operation
+    ensures { λ r. ⌜ OperationRead (now (operations .entry)) n r ⌝ }
+{
+    if operations.len() / 5 <= n {
+        let none = Run { first: 0, count: 0 };
+        return Operation {
+            name: 0,
+            body: none,
+        };
+    }
+    let at = 5 * n;
+    let body = runs::run_at(operations, at + 1);
+    Operation {
+        name: operations[at],
+        body,
+    }
+}
+
+// The bytes of a record.
+pub fn operation_bytes(o: Operation) -> [u8; 5]
+    ensures { λ r. ⌜ ((name : Name) → length name ≡ o .name → r ≡ operationRecord (operationMeant name o)) ⌝ }
+{
+    let body = o.body;
+    let f0 = numbers::low(body.first);
+    let f1 = numbers::high(body.first);
+    let c0 = numbers::low(body.count);
+    let c1 = numbers::high(body.count);
+    [o.name, f0, f1, c0, c1]
+}
+
+// Writes record n of a section, where there is room for it.
+pub fn write_operation(operations: &mut [u8], n: usize, o: Operation)
+    ensures { λ _. ⌜ ((name : Name) → length name ≡ o .name → now (operations .exit) ≡ placed (now (operations .entry)) (5 * n) (operationRecord (operationMeant name o))) ⌝ }
+{
+    if operations.len() / 5 <= n {
+        return;
+    }
+    let written = operation_bytes(o);
+    bytes::put(operations, 5 * n, &written);
+}

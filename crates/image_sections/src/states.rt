@@ -1,0 +1,96 @@
+// A state's record; its label stands elsewhere.
+use crate::runs;
+use crate::runs::Run;
+use image_records::bytes;
+use image_records::numbers;
+ghost use mathlib.Core.Path.{_≡_};
+ghost use Prim.Native.Nat.{_*_};
+ghost use lib.ListN.{length};
+ghost use Rattle.language.specs.Decode.{valueOf};
+ghost use Rattle.language.specs.Encode.{stateRecord, valueField};
+ghost use Rattle.language.specs.Tree.{Name};
+ghost use Rattle.image_records.specs.Placed.{placed};
+ghost use Rattle.image_sections.specs.Declarations.{StateRead, stateMeant, valueMeant};
+
+// The number of the constant that is a state's value, if it has one.
+pub enum StateValue {
+    At(u16),
+    None,
+}
+
+pub struct State {
+    // the length of its label
+    pub name: u8,
+    pub value: StateValue,
+    pub actions: Run,
+}
+
+// The value that a field stands for.
+fn value_of(n: u16) -> StateValue
+    ensures { λ r. ⌜ valueMeant r ≡ valueOf n ⌝ }
+{
+    if n == 65535 {
+        StateValue::None
+    } else {
+        StateValue::At(n)
+    }
+}
+
+// Record n of a section of states.
+pub fn state_at(states: &[u8], n: usize) -> State
+    ensures { λ r. ⌜ StateRead (now (states .entry)) n r ⌝ }
+{
+    if states.len() / 7 <= n {
+        let none = Run { first: 0, count: 0 };
+        return State {
+            name: 0,
+            value: StateValue::None,
+            actions: none,
+        };
+    }
+    let at = 7 * n;
+    let value = value_of(numbers::two_there(states, at + 1));
+    let actions = runs::run_at(states, at + 3);
+    State {
+        name: states[at],
+        value,
+        actions,
+    }
+}
+
+// The field that stands for a value.
+fn value_field(value: StateValue) -> u16
+    ensures { λ r. ⌜ r ≡ valueField (valueMeant value) ⌝ }
+{
+    match value {
+        StateValue::At(n) => n,
+        StateValue::None => 65535,
+    }
+}
+
+// The bytes of a record.
+pub fn state_bytes(s: State) -> [u8; 7]
+    ensures { λ r. ⌜ ((name : Name) → length name ≡ s .name → r ≡ stateRecord (stateMeant name s)) ⌝ }
+{
+    let value = s.value;
+    let actions = s.actions;
+    let v = value_field(value);
+    let v0 = numbers::low(v);
+    let v1 = numbers::high(v);
+    let f0 = numbers::low(actions.first);
+    let f1 = numbers::high(actions.first);
+    let c0 = numbers::low(actions.count);
+    let c1 = numbers::high(actions.count);
+    [s.name, v0, v1, f0, f1, c0, c1]
+}
+
+// Writes record n of a section, where there is room for it.
+pub fn write_state(states: &mut [u8], n: usize, s: State)
+    ensures { λ _. ⌜ ((name : Name) → length name ≡ s .name → now (states .exit) ≡ placed (now (states .entry)) (7 * n) (stateRecord (stateMeant name s))) ⌝ }
+{
+    if states.len() / 7 <= n {
+        return;
+    }
+    let written = state_bytes(s);
+    bytes::put(states, 7 * n, &written);
+}

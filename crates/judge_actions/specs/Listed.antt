@@ -1,0 +1,65 @@
+-- What slices show of a description and its places, as far as lists of actions need it.
+use mathlib.Core.Bool.{Bool, true, false, cond}
+use mathlib.Core.List.{List}
+use mathlib.Core.Path.{_≡_}
+use Prim.Native.Nat.{ℕ, _+_, _-_, _/_, _<_, _≤_}
+use lib.Dec.{eqb, leb}
+use lib.ListN.{drop, length, take}
+use Rattle.image_sections.specs.Declarations.{nameLengthIn}
+use Rattle.language.specs.ActionRules as A
+use Rattle.language.specs.ActionRules.{actions, arms, runBelow, runStep}
+use Rattle.language.specs.Decode.{actionOf, namesLength}
+use Rattle.language.specs.Description as D
+use Rattle.language.specs.Description.{Description, Places, actionAt, actionPlace, stateAt}
+use Rattle.language.specs.Encode.{facilitySize, stateSize}
+use Rattle.language.specs.Expressions.{selects, terminalBelow}
+use Rattle.language.specs.Judging.{Judged, Worth, both, givenBoth, refuse}
+use Rattle.language.specs.Words.{Position}
+use Rattle.judge_records.specs.Read.{placeOf}
+use Rattle.judge_verdicts.specs.declared.Verdict.{Verdict}
+use Rattle.judge_verdicts.specs.Meaning.{recalled, seen}
+use Rattle.judge_terms.specs.Shown.{Shown, worked}
+use Rattle.judge_actions.specs.declared.conditionals.Choices.{Choices}
+use Rattle.judge_actions.specs.declared.conditionals.Choices.the-variants.{One, Several}
+
+-- `works` judges the operations that may be named: `ops` of them, whose verdicts are kept.
+pub record Listed (facs exprs marks places memo acts beside states labels kept : List ℕ) (ops : ℕ) (d : Description) (p : Places) (works : ℕ → Judged) : Type 0 where
+  pub count : length (d .facilities) ≡ length facs / facilitySize
+  pub shown : Shown facs exprs marks places memo (length facs / facilitySize) d p (terminalBelow d p (length facs / facilitySize))
+  pub action : (n : ℕ) → actionAt d n ≡ actionOf acts n
+  pub place : (n : ℕ) → actionPlace p n ≡ placeOf 1 beside n 0
+  pub label : (n : ℕ) → stateAt d n .name ≡ take (nameLengthIn stateSize 0 states n) (drop (namesLength n 0 stateSize states) labels)
+  pub operation : (o : ℕ) → o < 65536 → o < ops → recalled kept o ≡ seen (worked (works o))
+  pub unknown : (o : ℕ) → ops ≤ o → works o ≡ refuse D.nowhere 4
+
+-- The verdict that every description with these slices calls for.
+abbrev pub Lists : List ℕ → List ℕ → List ℕ → List ℕ → List ℕ → List ℕ → List ℕ → List ℕ → List ℕ → List ℕ → ℕ
+    → (Description → Places → (ℕ → Judged) → Judged) → Verdict → Type 0
+Lists facs exprs marks places memo acts beside states labels kept ops j r =
+    (d : Description) (p : Places) (w : ℕ → Judged) → Listed facs exprs marks places memo acts beside states labels kept ops d p w → r ≡ seen (j d p w)
+
+-- k records from i on: a list of actions, and a list of arms.
+unfoldable pub listAt : Description → Places → Bool → (ℕ → Judged) → ℕ → ℕ → Judged
+listAt d p inState w k i = runStep d p inState w (runBelow d p inState w k) k i actions
+
+unfoldable pub armsAt : Description → Places → Bool → (ℕ → Judged) → ℕ → ℕ → Judged
+armsAt d p inState w k i = runStep d p inState w (runBelow d p inState w k) k i arms
+
+-- IF without ELSE takes one bit and has one arm; any other conditional has as many arms as its condition selects.
+abbrev pub rightArms : Choices → Worth → Worth → Bool
+rightArms One v w = both (eqb (v .length) 1) (eqb (w .arms) 1)
+rightArms (Several n) v w = both (selects (v .length) n) (eqb (w .arms) n)
+
+-- What stands only in operations or only in states, where it is right.
+abbrev pub inRight : Bool → Position → Judged → Judged
+inRight true at j = j
+inRight false at j = refuse at 3
+
+-- A conditional at i, to which x of the m records after it belong, and the list after those.
+unfoldable pub heldAt : Description → Places → Bool → (ℕ → Judged) → ℕ → ℕ → ℕ → Choices → ℕ → Judged
+heldAt d p inState w m i c choices x =
+    cond (leb x m)
+    (givenBoth
+    (A.conditional d p inState w (actionPlace p i) (A.right d p inState w c) (armsAt d p inState w x (i + 1)) (rightArms choices))
+    (listAt d p inState w (m - x) (i + 1 + x)) (A.allWork d p inState w))
+    (refuse D.nowhere 3)

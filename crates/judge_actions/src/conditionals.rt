@@ -1,0 +1,111 @@
+// What a conditional makes of the verdicts on its condition and its arms.
+use judge_rules::lengths;
+use judge_verdicts::Pair;
+use judge_verdicts::Verdict;
+use judge_verdicts::Worth;
+use judge_verdicts::faults;
+use judge_verdicts::work;
+use text_words::Position;
+ghost use mathlib.Core.Bool.{cond};
+ghost use mathlib.Core.Path.{_≡_};
+ghost use Prim.Native.Nat.{ℕ, _+_};
+ghost use lib.Dec.{eqb};
+ghost use Rattle.language.specs.Expressions.{ownWork};
+ghost use Rattle.language.specs.Judging as L;
+ghost use Rattle.language.specs.Words as W;
+ghost use Rattle.judge_verdicts.specs.Meaning.{capped, met, seen};
+ghost use Rattle.text_words.specs.Meaning.{positioned};
+ghost use Rattle.judge_actions.specs.Listed.{rightArms};
+
+// What a conditional chooses among: IF without ELSE has one arm.
+pub enum Choices {
+    One,
+    Several(u16),
+}
+
+// A conditional: the number of its record, its condition, its choices, and how many records belong to it.
+pub struct Branch {
+    pub number: usize,
+    pub condition: u16,
+    pub choices: Choices,
+    pub size: u16,
+}
+
+// The conditional that a record's fields give.
+pub fn branch_of(number: usize, condition: u16, choices: Choices, size: u16) -> Branch
+    ensures { λ r. ⌜ (r .number ≡ number) × (r .condition ≡ condition) × (r .choices ≡ choices) × (r .size ≡ size) ⌝ }
+{
+    Branch {
+        number,
+        condition,
+        choices,
+        size,
+    }
+}
+
+// Whether there are n arms.
+fn are(arms: usize, n: u16) -> bool
+    ensures { λ r. ⌜ ((a : ℕ) → arms ≡ capped a → r ≡ eqb a n) ⌝ }
+{
+    arms == n as usize
+}
+
+// Whether condition and arms fit.
+fn right_arms(c: Choices, v: Worth, w: Worth) -> bool
+    ensures { λ r. ⌜ ((x y : L.Worth) → v ≡ met x → w ≡ met y → r ≡ rightArms c x y) ⌝ }
+{
+    match c {
+        Choices::One => {
+            if v.length == 1 {
+                return are(w.arms, 1);
+            }
+            false
+        }
+        Choices::Several(n) => {
+            if lengths::selects(v.length, n) {
+                return are(w.arms, n);
+            }
+            false
+        }
+    }
+}
+
+// An action that counts one, with the work of its parts.
+pub fn counted(x: usize, y: usize) -> Verdict
+    ensures { λ r. ⌜ ((a b : ℕ) → x ≡ capped a → y ≡ capped b → r ≡ seen (L.worth 1 0 (ownWork + a + b))) ⌝ }
+{
+    Verdict::Fine(Worth {
+        length: 1,
+        arms: 0,
+        work: work::with_two(x, y),
+    })
+}
+
+// A condition, and the arms that it chooses among.
+pub fn conditional(at: Position, c: Choices, a: Verdict, b: Verdict) -> Verdict
+    ensures { λ r. ⌜ ((q : W.Position) (j k : L.Judged) → positioned at ≡ q → a ≡ seen j → b ≡ seen k → r ≡ seen (L.givenBoth j k (λ v w. cond (rightArms c v w) (L.worth 1 0 (ownWork + v .work + w .work)) (L.refuse q 7)))) ⌝ }
+{
+    match faults::both(a, b) {
+        Pair::Fine(v, w) => {
+            if right_arms(c, v, w) {
+                return counted(v.work, w.work);
+            }
+            faults::refused(at, 7)
+        }
+        Pair::Faulty(f) => Verdict::Faulty(f),
+    }
+}
+
+// An arm's list, and the arms after it.
+pub fn arm(a: Verdict, b: Verdict) -> Verdict
+    ensures { λ r. ⌜ ((j k : L.Judged) → a ≡ seen j → b ≡ seen k → r ≡ seen (L.givenBoth j k (λ v w. L.worth 1 (w .arms + 1) (v .work + w .work)))) ⌝ }
+{
+    match faults::both(a, b) {
+        Pair::Fine(v, w) => Verdict::Fine(Worth {
+            length: 1,
+            arms: work::added(w.arms, 1),
+            work: work::added(v.work, w.work),
+        }),
+        Pair::Faulty(f) => Verdict::Faulty(f),
+    }
+}

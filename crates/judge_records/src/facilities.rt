@@ -1,0 +1,72 @@
+// A facility's record with the marks beside it, and the ends of a part with theirs.
+use crate::places;
+use image_sections::facilities::Kind;
+ghost use mathlib.Core.Path.{_≡_};
+ghost use Prim.Native.Nat.{_+_, _*_, _<_};
+ghost use Rattle.language.specs.Description as D;
+ghost use Rattle.judge_records.specs.Noted.{largeNo, widened};
+ghost use Rattle.judge_records.specs.Read.{FacilityRead, boundsMeant};
+
+// Bounds that may be above 65,535.
+pub struct Bounds {
+    pub first: u32,
+    pub last: u32,
+}
+
+pub struct Facility {
+    pub kind: Kind,
+    pub dimensions: u8,
+    pub words: Bounds,
+    pub bits: Bounds,
+    // of a computed terminal, the number of its expression
+    pub expression: u16,
+}
+
+// Bounds with the marks at the k-th place and the one after it.
+fn widened_at(places: &[u8], k: usize, first: u16, last: u16) -> Bounds
+    requires { ⌜ k < 0x7fffffffffffffff ⌝ }
+    ensures { λ r. ⌜ boundsMeant r ≡ widened (D.bounds first last) (largeNo (now (places .entry)) k) (largeNo (now (places .entry)) (k + 1)) ⌝ }
+{
+    let f = places::large_no(places, k);
+    let l = places::large_no(places, k + 1);
+    Bounds {
+        first: first as u32 + 65536 * f,
+        last: last as u32 + 65536 * l,
+    }
+}
+
+// The ends of a part, in record n.
+pub fn ends(places: &[u8], n: u16, first: u16, last: u16) -> Bounds
+    ensures { λ r. ⌜ boundsMeant r ≡ widened (D.bounds first last) (largeNo (now (places .entry)) (3 * n + 1)) (largeNo (now (places .entry)) (3 * n + 2)) ⌝ }
+{
+    widened_at(places, 3 * n as usize + 1, first, last)
+}
+
+// Record n of a section of facilities; past its end, only the kind is told.
+pub fn facility_at(facilities: &[u8], places: &[u8], n: usize) -> Facility
+    ensures { λ r. ⌜ FacilityRead (now (facilities .entry)) (now (places .entry)) n r ⌝ }
+{
+    let f = image_sections::facilities::facility_at(facilities, n);
+    let kind = f.kind;
+    let w = f.words;
+    let b = f.bits;
+    if facilities.len() / 13 <= n {
+        let none = Bounds { first: 0, last: 0 };
+        return Facility {
+            kind,
+            dimensions: 0,
+            words: none,
+            bits: none,
+            expression: 0,
+        };
+    }
+    let words = widened_at(places, 6 * n + 1, w.first, w.last);
+    let bits = widened_at(places, 6 * n + 3, b.first, b.last);
+    Facility {
+        kind,
+        dimensions: f.dimensions,
+        words,
+        bits,
+        expression: f.place,
+    }
+}

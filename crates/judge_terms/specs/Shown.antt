@@ -1,0 +1,54 @@
+-- What slices show of a description and its places, as far as expressions need it.
+use mathlib.Core.Bool.{true}
+use mathlib.Core.List.{List, []}
+use mathlib.Core.Option.{Option, none}
+use mathlib.Core.Path.{_≡_}
+use Prim.Native.Nat.{ℕ, _+_, _*_, _<_}
+use Rattle.image_sections.specs.Declarations.{facilityIn}
+use Rattle.language.specs.Decode.{nodeOf}
+use Rattle.language.specs.Description as D
+use Rattle.language.specs.Description.{Description, NodePlaces, Places, facilityAt, isComputed, nodeAt, nodePlace}
+use Rattle.language.specs.Judging.{Judged, faulty, fine, worth}
+use Rattle.language.specs.References as R
+use Rattle.judge_records.specs.Noted.{largeNo, widenedNode}
+use Rattle.judge_records.specs.Read.{FacilityRead, facilityMeant, placeOf}
+use Rattle.judge_records.specs.declared.facilities.Facility.{Facility}
+use Rattle.judge_rules.specs.Meaning.{subscribed}
+use Rattle.judge_verdicts.specs.declared.Verdict.{Verdict}
+use Rattle.judge_verdicts.specs.Meaning.{recalled, seen}
+use Rattle.judge_terms.specs.declared.references.Reference.{Reference}
+use Rattle.judge_terms.specs.declared.references.Reference.the-variants.{To, None}
+
+-- Record n with the marks beside it.
+unfoldable pub nodeNoted : List ℕ → List ℕ → ℕ → D.Node
+nodeNoted exprs places n = widenedNode (largeNo places (3 * n + 1)) (largeNo places (3 * n + 2)) (nodeOf exprs n)
+
+abbrev pub placesNoted : List ℕ → ℕ → NodePlaces
+placesNoted places n = record { at = placeOf 3 places n 0; first = placeOf 3 places n 1; last = placeOf 3 places n 2 }
+
+-- The records of expressions, and their places.
+pub record Records (exprs places : List ℕ) (d : Description) (p : Places) : Type 0 where
+  pub nodes : (n : ℕ) → nodeAt d n ≡ nodeNoted exprs places n
+  pub places-of : (n : ℕ) → nodePlace p n ≡ placesNoted places n
+
+-- Of an expression that is named elsewhere only faults and work count.
+abbrev pub worked : Judged → Judged
+worked (fine w) = worth 1 0 (w .work)
+worked (faulty f fs) = faulty f fs
+
+-- With the facilities that may be named, of which the computed ones are judged already.
+pub record Shown (facs exprs marks places memo : List ℕ) (known : ℕ) (d : Description) (p : Places) (terminals : ℕ → Judged) : Type 0 where
+  pub records : Records exprs places d p
+  pub facility : (n : ℕ) → n < known → (f : Facility) → FacilityRead facs marks n f → facilityMeant (facilityAt d n .name) f ≡ facilityAt d n
+  pub kind : (n : ℕ) → facilityAt d n .kind ≡ facilityIn facs n [] .kind
+  pub terminal : (n : ℕ) → n < 256 → n < known → isComputed (facilityIn facs n [] .kind) ≡ true → recalled memo n ≡ seen (worked (terminals n))
+
+-- A reference, if a record is one.
+abbrev pub referred : Reference → Option R.Reference
+referred (To f s) = R.referTo f (subscribed s)
+referred None = none
+
+-- The verdict that every description with these slices calls for.
+abbrev pub Judges : List ℕ → List ℕ → List ℕ → List ℕ → List ℕ → ℕ → (Description → Places → (ℕ → Judged) → Judged) → Verdict → Type 0
+Judges facs exprs marks places memo known j r =
+    (d : Description) (p : Places) (t : ℕ → Judged) → Shown facs exprs marks places memo known d p t → r ≡ seen (j d p t)

@@ -1,0 +1,39 @@
+-- Where reading actions stands with other records, and that there is room for more.
+use mathlib.Core.List.{List}
+use mathlib.Core.Path.{_≡_}
+use Prim.Native.Nat.{ℕ, _*_, _≤_}
+use native.Mathlib.Omega.{arith}
+use lib.ListN.{length}
+use Rattle.parse_step.proofs.Ceilings.{few-counted}
+use Rattle.parse_step.specs.declared.State.{State}
+use Rattle.parse_step.specs.Course.{countsOf}
+use Rattle.language.specs.Naming.{Scope}
+use Rattle.parse_names.specs.declared.Counts.{Counts}
+use Rattle.parse_stores.proofs.Keeping.{known-kept}
+use Rattle.parse_stores.proofs.Standings.{few-states}
+use Rattle.parse_stores.specs.Actions.{OthersKept, Standing}
+use Rattle.text_words.specs.declared.Word.{Word}
+
+module _ {text : List ℕ} {sc : Scope} {n : Counts} {w : Word} {s : State} {acts : ℕ} {work : List ℕ} where
+  pub standing-kept : {work′ : List ℕ} → Standing text sc n w s acts work → OthersKept work work′ → length work′ ≡ 275296 → Standing text sc n w s acts work′
+  standing-kept {work′} st o l = record {
+    seen = st .seen;
+    short = st .short;
+    whole = l;
+    within = st .within;
+    known = known-kept work′ o (st .known);
+    facilities = st .facilities;
+    nodes = st .nodes;
+    actions = st .actions;
+  }
+
+  -- Another number of action records.
+  pub standing-acts : (m : ℕ) → Standing text sc n w s acts work → m ≤ 2 * s .counted → Standing text sc n w s m work
+  standing-acts m st h = record { seen = st .seen; short = st .short; whole = st .whole; within = st .within; known = st .known; facilities = st .facilities; nodes = st .nodes; actions = h }
+
+  -- There is room.
+  pub few-actions : Standing text sc n w s acts work → acts ≤ 4096
+  few-actions st = omega (arith, st .actions, few-counted (countsOf s) (st .within))
+
+  pub few-nodes : Standing text sc n w s acts work → s .nodes ≤ 15888
+  few-nodes st = omega (arith, st .nodes, few-counted (countsOf s) (st .within), few-states (countsOf s) (st .within))

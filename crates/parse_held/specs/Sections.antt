@@ -1,0 +1,76 @@
+-- The sections that the working array holds, and the places beside them.
+use mathlib.Core.List.{List, _++_}
+use Prim.Native.Nat.{ℕ, _≤_, min}
+use Rattle.image_sections.specs.declared.header.Counts.{Counts}
+use Rattle.language.specs.Encode.{Sections, concat}
+use Rattle.judge_records.specs.Noted.{Beside}
+use Rattle.parse_tables.specs.declared.Table.{Table}
+use Rattle.parse_tables.specs.declared.Table.the-variants as T
+use Rattle.parse_tables.specs.Names.{namesOf}
+use Rattle.parse_tables.specs.Rows.{rows}
+use Rattle.parse_array.specs.Held.{held}
+use Rattle.parse_held.specs.declared.Tally.{Tally}
+
+-- The array has room for as many.
+pub record Few (c : Tally) : Type 0 where
+  pub facilities : c .facilities ≤ 256
+  pub operations : c .operations ≤ 128
+  pub nodes : c .nodes ≤ 15888
+  pub actions : c .actions ≤ 4352
+  pub states : c .states ≤ 256
+
+unfoldable pub within : Tally → Tally
+within c = record {
+  facilities = min (c .facilities) 256;
+  operations = min (c .operations) 128;
+  nodes = min (c .nodes) 15888;
+  actions = min (c .actions) 4352;
+  states = min (c .states) 256;
+}
+
+-- What a header counts, with the bytes of names.
+abbrev pub countsHeld : Tally → ℕ → Counts
+countsHeld c names = record {
+  facilities = c .facilities;
+  operations = c .operations;
+  expressions = c .nodes;
+  actions = c .actions;
+  states = c .states;
+  names = names;
+}
+
+-- The letters of the first n names of a table, one name after the other.
+unfoldable pub lettersOf : List ℕ → Table → ℕ → List ℕ → List ℕ
+lettersOf text t n w = concat (λ s. s) (namesOf text (rows t n w) n)
+
+-- Those of facilities, operations and states.
+unfoldable pub namesHeld : List ℕ → List ℕ → Tally → List ℕ
+namesHeld text w c =
+    lettersOf text T.FacilityNames (c .facilities) w
+    ++ (lettersOf text T.OperationNames (c .operations) w ++ lettersOf text T.StateNames (c .states) w)
+
+-- The records of all sections.
+unfoldable pub recordsHeld : List ℕ → Tally → List ℕ
+recordsHeld w c =
+    rows T.Facilities (c .facilities) w
+    ++ (rows T.Operations (c .operations) w
+    ++ (held (c .nodes) w .nodes ++ (rows T.Actions (c .actions) w ++ rows T.States (c .states) w)))
+
+unfoldable pub sectionsHeld : List ℕ → List ℕ → Tally → Sections
+sectionsHeld text w c = record {
+  facilities = rows T.Facilities (c .facilities) w;
+  operations = rows T.Operations (c .operations) w;
+  expressions = held (c .nodes) w .nodes;
+  actions = rows T.Actions (c .actions) w;
+  states = rows T.States (c .states) w;
+  names = namesHeld text w c;
+}
+
+unfoldable pub besideHeld : List ℕ → Tally → Beside
+besideHeld w c = record {
+  facilities = rows T.FacilityPlaces (c .facilities) w;
+  operations = rows T.OperationPlaces (c .operations) w;
+  expressions = held (c .nodes) w .places;
+  actions = rows T.ActionPlaces (c .actions) w;
+  states = rows T.StatePlaces (c .states) w;
+}

@@ -1,0 +1,52 @@
+// How many records of each section there are.
+use crate::Tally;
+use image_sections::header::Counts;
+ghost use mathlib.Core.Path.{_≡_};
+ghost use Prim.Native.Nat.{_≤_, min};
+ghost use Rattle.image_sections.specs.Header.{namesFrom};
+ghost use Rattle.parse_held.specs.Sections.{Few, countsHeld, within as Within};
+
+// The lesser of two numbers.
+fn least(a: u16, b: u16) -> u16
+    ensures { λ r. ⌜ r ≡ min a b ⌝ }
+{
+    if a < b { a } else { b }
+}
+
+// As many as there is room for in the array.
+pub fn within(c: Tally) -> Tally
+    ensures { λ r. ⌜ (r ≡ Within c) × Few r ⌝ }
+{
+    Tally {
+        facilities: least(c.facilities, 256),
+        operations: least(c.operations, 128),
+        nodes: least(c.nodes, 15888),
+        actions: least(c.actions, 4352),
+        states: least(c.states, 256),
+    }
+}
+
+// Where the names begin in an image.
+pub fn names_from(c: Tally) -> usize
+    ensures { λ r. ⌜ (r ≡ namesFrom (countsHeld c 0)) × (r ≤ 3000000) ⌝ }
+{
+    let operations = 52 + 13 * c.facilities as usize;
+    let expressions = operations + 5 * c.operations as usize;
+    let actions = expressions + 8 * c.nodes as usize;
+    let states = actions + 7 * c.actions as usize;
+    states + 7 * c.states as usize
+}
+
+// What a header counts.
+pub fn header_counts(c: Tally, names: u32) -> Counts
+    ensures { λ r. ⌜ r ≡ countsHeld c names ⌝ }
+{
+    Counts {
+        facilities: c.facilities as u32,
+        operations: c.operations as u32,
+        expressions: c.nodes as u32,
+        actions: c.actions as u32,
+        states: c.states as u32,
+        names,
+    }
+}

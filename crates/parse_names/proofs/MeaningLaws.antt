@@ -1,0 +1,49 @@
+-- A meaning by what is found among facilities, operations and states.
+use mathlib.Core.List.{List}
+use mathlib.Core.Path.{_≡_, refl, sym, ap, _∙_}
+use Prim.Native.Nat.{ℕ, _≤_}
+use native.Mathlib.Omega.{arith}
+use Rattle.language.specs.Naming as L
+use Rattle.language.specs.Naming.{Scope, meaning, numberOf, orElse}
+use Rattle.parse_tables.specs.declared.Table.the-variants as T
+use Rattle.parse_tables.specs.Names.{namesOf}
+use Rattle.parse_tables.specs.Rows.{rows}
+use Rattle.parse_array.specs.declared.names.Found.{Found}
+use Rattle.parse_array.specs.declared.names.Found.the-variants.{At, Nothing}
+use Rattle.parse_array.specs.Held.{otherIn}
+use Rattle.parse_array.specs.Names.{found, letters, namesIn}
+use Rattle.parse_names.specs.declared.Counts.{Counts}
+use Rattle.parse_names.specs.Known.{Known}
+
+-- The first of the three that is found.
+abbrev pub chosen : Found → Found → Found → L.Meaning
+chosen f o s = orElse (found f) L.facility (orElse (found o) L.operation (orElse (found s) L.state L.unknown))
+
+module _ (f o s : Found) where
+  pub as-facility : {k : ℕ} → f ≡ At k → L.facility k ≡ chosen f o s
+  as-facility e = sym (ap (λ (x : Found). chosen x o s) e)
+
+  pub as-operation : {k : ℕ} → f ≡ Nothing → o ≡ At k → L.operation k ≡ chosen f o s
+  as-operation e g = sym (ap (λ (x : Found). chosen x o s) e ∙ ap (λ (x : Found). chosen Nothing x s) g)
+
+  pub as-state : {k : ℕ} → f ≡ Nothing → o ≡ Nothing → s ≡ At k → L.state k ≡ chosen f o s
+  as-state e g h = sym (ap (λ (x : Found). chosen x o s) e ∙ ap (λ (x : Found). chosen Nothing x s) g ∙ ap (λ (x : Found). chosen Nothing Nothing x) h)
+
+  pub as-unknown : f ≡ Nothing → o ≡ Nothing → s ≡ Nothing → L.unknown ≡ chosen f o s
+  as-unknown e g h = sym (ap (λ (x : Found). chosen x o s) e ∙ ap (λ (x : Found). chosen Nothing x s) g ∙ ap (λ (x : Found). chosen Nothing Nothing x) h)
+
+pub by-tables : (text work : List ℕ) (n : Counts) (place length : ℕ) (f o s : Found)
+    → found f ≡ numberOf (letters text place length) 0 (namesIn text (otherIn work) (n .facilities))
+    → (_≡_ {A = ℕ} 4 4 → n .operations ≤ 128 → n .operations ≤ 256 → found o ≡ numberOf (letters text place length) 0 (namesOf text (rows T.OperationNames (n .operations) work) (n .operations)))
+    → (_≡_ {A = ℕ} 4 4 → n .states ≤ 256 → n .states ≤ 256 → found s ≡ numberOf (letters text place length) 0 (namesOf text (rows T.StateNames (n .states) work) (n .states)))
+    → (sc : Scope) → Known text sc n work → chosen f o s ≡ meaning sc (letters text place length)
+unfolding meaning
+by-tables text work n place length f o s e g h sc k =
+    rw (
+      k .facilities,
+      k .operations,
+      k .states,
+      ← e,
+      ← g refl (k .fewOperations) (omega (arith, k .fewOperations)),
+      ← h refl (k .fewStates) (k .fewStates),
+    )

@@ -1,0 +1,46 @@
+// What a name means: a facility, or else an operation, or else a state, the first that was declared.
+use parse_array::names;
+use parse_array::names::Found;
+use parse_tables::Table;
+use parse_tables::finding;
+ghost use Rattle.parse_names.specs.Known.{Means};
+
+pub enum Meaning {
+    Facility(u8),
+    Operation(u8),
+    State(u8),
+    Unknown,
+}
+
+// How many names of each kind are known.
+pub struct Counts {
+    pub facilities: u16,
+    pub operations: u16,
+    pub states: u16,
+}
+
+// What the word of this place and length means.
+pub fn what(text: &[u8], work: &[u8; 275296], n: Counts, place: usize, length: usize) -> Meaning
+    ensures { λ r. ⌜ Means (now (text .entry)) (now (work .entry)) n place length r ⌝ }
+{
+    let f = names::facility(text, work, n.facilities, place, length);
+    let o = finding::find(
+        text,
+        work,
+        Table::OperationNames,
+        n.operations,
+        place,
+        length,
+    );
+    let s = finding::find(text, work, Table::StateNames, n.states, place, length);
+    match f {
+        Found::At(k) => Meaning::Facility(k),
+        Found::Nothing => match o {
+            Found::At(k) => Meaning::Operation(k),
+            Found::Nothing => match s {
+                Found::At(k) => Meaning::State(k),
+                Found::Nothing => Meaning::Unknown,
+            },
+        },
+    }
+}

@@ -1,0 +1,72 @@
+// One operation: what it begins with, its body, and its record.
+use crate::operations::heads;
+use image_sections::runs::Run;
+use parse_names::Counts;
+use parse_step::Bearing;
+use parse_step::State;
+use parse_step::kinds;
+use parse_step::taking;
+use parse_stores::Acted;
+use parse_tables::operations;
+use text_words::Word;
+ghost use mathlib.Core.Path.{_≡_};
+ghost use Prim.Native.Nat.{_-_, _<_};
+ghost use Rattle.parse_sections.specs.Heads.{Body};
+ghost use Rattle.parse_sections.specs.Lists.{One};
+
+// The body and the bracket behind it.
+fn body(s: State, text: &[u8], w: Word, work: &mut [u8; 275296], n: Counts, acts: u16) -> Acted
+    ensures { λ r. ⌜ Body (now (text .entry)) n w s acts (now (work .entry)) (now (work .exit)) r ⌝ }
+{
+    let list = parse_actions::list(s, false, text, w, work, n, acts);
+    if parse_step::unread(list.answer) {
+        return list;
+    }
+    let end = taking::expect(
+        text,
+        list.answer.next,
+        list.answer.state,
+        kinds::CLOSE_BRACKET,
+        Bearing::Closes,
+    );
+    Acted {
+        answer: end,
+        actions: list.actions,
+    }
+}
+
+// How many of `count` records stand from record n on.
+fn since(n: u16, count: u16) -> u16
+    ensures { λ r. ⌜ r ≡ count - n ⌝ }
+{
+    if count < n { 0 } else { count - n }
+}
+
+// Reads an operation. It knows the operations before it, and not itself.
+pub fn operation(text: &[u8], w: Word, work: &mut [u8; 275296], s: State, acts: u16) -> Acted
+    ensures { λ r. ⌜ One (now (text .entry)) w s acts (now (work .entry)) (now (work .exit)) r ⌝ }
+{
+    let head = heads::head(text, w, s);
+    if parse_step::unread(head) {
+        return Acted {
+            answer: head,
+            actions: acts,
+        };
+    }
+    let n = Counts {
+        facilities: s.known,
+        operations: s.operations,
+        states: 0,
+    };
+    let read = body(head.state, text, head.next, work, n, acts);
+    if parse_step::unread(read.answer) {
+        return read;
+    }
+    let at = w.at;
+    let run = Run {
+        first: acts,
+        count: since(acts, read.actions),
+    };
+    operations::add_operation(work, s.operations, at, w.size, run);
+    read
+}

@@ -1,0 +1,111 @@
+// The sections in their order; each word decides what may follow.
+use crate::lists;
+use crate::operations::lists as operations;
+use parse_facilities::List;
+use parse_step::Bearing;
+use parse_step::State;
+use parse_step::kinds;
+use parse_step::taking;
+use parse_stores::Acted;
+use text_words::Word;
+ghost use Rattle.parse_facilities.specs.Lists.{memories, registers, terminals};
+ghost use Rattle.language.specs.Machine.{afterMemories, afterRegisters, afterTerminals};
+ghost use Rattle.parse_sections.specs.Sections.{From, Goes, Operates, Somewhere, Starts};
+
+// Operations, whose word has been seen, and CONTROL.
+fn operations(text: &[u8], w: Word, work: &mut [u8; 275296], s: State, place: u16) -> Acted
+    requires { ⌜ Somewhere (now text) place w s (now work) ⌝ }
+    ensures { λ r. ⌜ Operates (now (text .entry)) w s place (now (work .entry)) (now (work .exit)) r ⌝ }
+{
+    parse_array::whole(work);
+    let first = taking::take(text, w, s, false, Bearing::Level);
+    if parse_step::unread(first) {
+        return Acted {
+            answer: first,
+            actions: 0,
+        };
+    }
+    operations::operations(text, first.next, work, first.state, 0)
+}
+
+// Behind the terminals.
+fn behind_terminals(text: &[u8], w: Word, work: &mut [u8; 275296], s: State, place: u16) -> Acted
+    requires { ⌜ Somewhere (now text) place w s (now work) ⌝ }
+    ensures { λ r. ⌜ Goes terminals afterTerminals (now (text .entry)) w s place (now (work .entry)) (now (work .exit)) r ⌝ }
+{
+    let kind = w.kind;
+    let k = kinds::number(kind);
+    if k == kinds::OPERATION {
+        return operations(text, w, work, s, place);
+    }
+    parse_array::whole(work);
+    if k == kinds::CONTROL {
+        let answer = taking::take(text, w, s, false, Bearing::Level);
+        return Acted { answer, actions: 0 };
+    }
+    let answer = taking::refuse(w, s, 3);
+    Acted { answer, actions: 0 }
+}
+
+// Terminals, whose word has been seen, and what follows.
+pub fn terminals(text: &[u8], w: Word, work: &mut [u8; 275296], s: State, place: u16) -> Acted
+    requires { ⌜ Starts terminals (now text) place w s (now work) ⌝ }
+    ensures { λ r. ⌜ From terminals (now (text .entry)) w s place (now (work .entry)) (now (work .exit)) r ⌝ }
+{
+    let read = lists::defined(text, w, work, s, place);
+    if parse_step::unread(read.answer) {
+        let answer = read.answer;
+        return Acted { answer, actions: 0 };
+    }
+    behind_terminals(text, read.answer.next, work, read.answer.state, read.place)
+}
+
+// Behind the memories.
+fn behind_memories(text: &[u8], w: Word, work: &mut [u8; 275296], s: State, place: u16) -> Acted
+    requires { ⌜ Somewhere (now text) place w s (now work) ⌝ }
+    ensures { λ r. ⌜ Goes memories afterMemories (now (text .entry)) w s place (now (work .entry)) (now (work .exit)) r ⌝ }
+{
+    let kind = w.kind;
+    if kinds::number(kind) == kinds::TERMINAL {
+        return terminals(text, w, work, s, place);
+    }
+    behind_terminals(text, w, work, s, place)
+}
+
+// Memories, whose word has been seen, and what follows.
+pub fn memories(text: &[u8], w: Word, work: &mut [u8; 275296], s: State, place: u16) -> Acted
+    requires { ⌜ Starts memories (now text) place w s (now work) ⌝ }
+    ensures { λ r. ⌜ From memories (now (text .entry)) w s place (now (work .entry)) (now (work .exit)) r ⌝ }
+{
+    let read = lists::stored(text, w, work, s, place, List::Memories);
+    if parse_step::unread(read.answer) {
+        let answer = read.answer;
+        return Acted { answer, actions: 0 };
+    }
+    behind_memories(text, read.answer.next, work, read.answer.state, read.place)
+}
+
+// Behind the registers.
+fn behind_registers(text: &[u8], w: Word, work: &mut [u8; 275296], s: State, place: u16) -> Acted
+    requires { ⌜ Somewhere (now text) place w s (now work) ⌝ }
+    ensures { λ r. ⌜ Goes registers afterRegisters (now (text .entry)) w s place (now (work .entry)) (now (work .exit)) r ⌝ }
+{
+    let kind = w.kind;
+    if kinds::number(kind) == kinds::MEMORY {
+        return memories(text, w, work, s, place);
+    }
+    behind_memories(text, w, work, s, place)
+}
+
+// Registers, whose word has been seen, and what follows.
+pub fn registers(text: &[u8], w: Word, work: &mut [u8; 275296], s: State, place: u16) -> Acted
+    requires { ⌜ Starts registers (now text) place w s (now work) ⌝ }
+    ensures { λ r. ⌜ From registers (now (text .entry)) w s place (now (work .entry)) (now (work .exit)) r ⌝ }
+{
+    let read = lists::stored(text, w, work, s, place, List::Registers);
+    if parse_step::unread(read.answer) {
+        let answer = read.answer;
+        return Acted { answer, actions: 0 };
+    }
+    behind_registers(text, read.answer.next, work, read.answer.state, read.place)
+}

@@ -1,0 +1,91 @@
+-- What stays as it is while actions are read: the tables of names, the records before, the ceilings.
+use mathlib.Core.List.{List}
+use mathlib.Core.Path.{_≡_, refl, sym, ap, _∙_}
+use Prim.Native.Nat.{ℕ, _+_, _-_, _*_, _≤_, min}
+use native.Mathlib.Omega.{arith}
+use lib.ListN.{drop, length, length-drop, take}
+use lib.Seq.{drop-at, drop-drop, length-take-le, take-add, take-take}
+use Rattle.language.specs.Naming.{Scope}
+use Rattle.parse_names.specs.declared.Counts.{Counts}
+use Rattle.parse_names.specs.Known.{Known}
+use Rattle.parse_tables.proofs.NamesGrown.{facility-names}
+use Rattle.parse_tables.specs.declared.Table.{Table}
+use Rattle.parse_tables.specs.declared.Table.the-variants as T
+use Rattle.parse_tables.specs.Names.{namesOf}
+use Rattle.parse_tables.specs.Rows.{expressions, from, rows, size}
+use Rattle.parse_array.proofs.Regions.{same-held}
+use Rattle.parse_array.specs.Held.{held, otherFrom, otherIn, placesFrom}
+use Rattle.parse_array.specs.Names.{namesIn}
+use Rattle.parse_stores.specs.Actions.{OthersKept, frontOf}
+
+-- ---- Tables, read from all that stands behind the expressions.
+
+behind : (u : Table) → 222432 ≤ from u
+behind T.Actions = omega arith
+behind T.ActionPlaces = omega arith
+behind T.Facilities = omega arith
+behind T.FacilityPlaces = omega arith
+behind T.Operations = omega arith
+behind T.OperationPlaces = omega arith
+behind T.States = omega arith
+behind T.StatePlaces = omega arith
+behind T.FacilityNames = omega arith
+behind T.OperationNames = omega arith
+behind T.StateNames = omega arith
+behind T.Labels = omega arith
+
+module _ (w w′ : List ℕ) where
+  pub rows-other : otherIn w′ ≡ otherIn w → (u : Table) (m : ℕ) → rows u m w′ ≡ rows u m w
+  unfolding rows otherIn otherFrom
+  rows-other e u m =
+      let k = from u - 222432 in
+      let g : from u ≡ 222432 + k = omega (arith, behind u) in
+      ap (take (size u * m))
+      (ap (λ (n : ℕ). drop n w′) g ∙ sym (drop-drop k 222432 w′) ∙ ap (drop k) e ∙ drop-drop k 222432 w ∙ sym (ap (λ (n : ℕ). drop n w) g))
+
+  pub others-other : otherIn w′ ≡ otherIn w → OthersKept w w′
+  others-other e u a m h = rows-other e u m
+
+  pub whole-other : otherIn w′ ≡ otherIn w → length w ≡ 275296 → length w′ ≡ 275296
+  unfolding otherIn otherFrom
+  whole-other e l = omega (arith, length-drop 222432 w′, length-drop 222432 w, ap length e)
+
+  -- ---- The first records, where nothing before the tables changes.
+
+  front-part : length w ≡ 275296 → length w′ ≡ 275296 → expressions w′ ≡ expressions w → (p k : ℕ) → p + k ≤ 222432 → take k (drop p w′) ≡ take k (drop p w)
+  unfolding expressions otherFrom
+  front-part l l′ e p k h = part w′ (omega arith) ∙ ap (drop p) (sym (take-take (p + k) 222432 w′ h) ∙ ap (take (p + k)) e ∙ take-take (p + k) 222432 w h) ∙ sym (part w (omega arith))
+    where
+      part : (v : List ℕ) → p ≤ length v → take k (drop p v) ≡ drop p (take (p + k) v)
+      part v g = sym (ap (drop p) (take-add p k v) ∙ drop-at (take p v) (take k (drop p v)) p (length-take-le p v g))
+
+  pub front-kept : length w ≡ 275296 → length w′ ≡ 275296 → expressions w′ ≡ expressions w → (n : ℕ) → n ≤ 15888 → frontOf n w′ ≡ frontOf n w
+  unfolding frontOf held placesFrom
+  front-kept l l′ e n h = same-held (front-part l l′ e 0 (8 * n) (omega arith)) (front-part l l′ e 127104 (6 * n) (omega arith)) refl
+
+-- ---- The names known.
+
+module _ (text : List ℕ) where
+  few-names : (v : List ℕ) (n : ℕ) → namesIn text v n ≡ namesIn text v (min n 256)
+  unfolding namesIn
+  few-names v n = let e : min (min n 256) 256 ≡ min n 256 = omega arith in rw e
+
+  pub names-kept : (w w′ : List ℕ) → ((m : ℕ) → m ≤ 256 → rows T.FacilityNames m w′ ≡ rows T.FacilityNames m w) → (n : ℕ) → namesIn text (otherIn w′) n ≡ namesIn text (otherIn w) n
+  names-kept w w′ o n =
+      let h : min n 256 ≤ 256 = omega arith in
+      few-names (otherIn w′) n ∙ facility-names text w′ (min n 256) h ∙ ap (λ (r : List ℕ). namesOf text r (min n 256)) (o (min n 256) h)
+      ∙ sym (facility-names text w (min n 256) h) ∙ sym (few-names (otherIn w) n)
+
+-- Where the tables of names are as they were.
+pub known-by : {text : List ℕ} {sc : Scope} {n : Counts} {w : List ℕ} (w′ : List ℕ) → ((m : ℕ) → m ≤ 256 → rows T.FacilityNames m w′ ≡ rows T.FacilityNames m w)
+    → ((m : ℕ) → m ≤ 128 → rows T.OperationNames m w′ ≡ rows T.OperationNames m w) → ((m : ℕ) → m ≤ 256 → rows T.StateNames m w′ ≡ rows T.StateNames m w) → Known text sc n w → Known text sc n w′
+known-by {text} {n = n} {w} w′ f o s k = record {
+  facilities = k .facilities ∙ sym (names-kept text w w′ f (n .facilities));
+  operations = k .operations ∙ ap (λ (r : List ℕ). namesOf text r (n .operations)) (sym (o (n .operations) (k .fewOperations)));
+  states = k .states ∙ ap (λ (r : List ℕ). namesOf text r (n .states)) (sym (s (n .states) (k .fewStates)));
+  fewOperations = k .fewOperations;
+  fewStates = k .fewStates;
+}
+
+pub known-kept : {text : List ℕ} {sc : Scope} {n : Counts} {w : List ℕ} (w′ : List ℕ) → OthersKept w w′ → Known text sc n w → Known text sc n w′
+known-kept w′ o k = known-by w′ (o T.FacilityNames refl) (o T.OperationNames refl) (o T.StateNames refl) k

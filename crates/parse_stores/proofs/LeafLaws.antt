@@ -1,0 +1,59 @@
+-- A name that is kept, and an action's record that is put.
+use mathlib.Core.Bool.{Bool, true, false, true≢false}
+use mathlib.Core.List.{List}
+use mathlib.Core.Path.{_≡_, refl, sym, ap, _∙_}
+use Prim.Native.Nat.{ℕ, _+_}
+use lib.ListN.{length}
+use Rattle.parse_step.proofs.Answers.{done-full, done-refused, refused-full, same-fault}
+use Rattle.parse_step.specs.declared.Answer.{Answer}
+use Rattle.parse_step.specs.declared.Bearing.the-variants.{Level}
+use Rattle.parse_step.specs.declared.State.{State}
+use Rattle.parse_step.specs.declared.Verdict.the-variants.{Done, Full}
+use Rattle.parse_step.specs.Course.{countsOf, kindNo}
+use Rattle.parse_step.specs.Taken.{Refuses, Took, afterWord}
+use Rattle.language.specs.Description as D
+use Rattle.language.specs.Machine.{refused}
+use Rattle.parse_tables.specs.Actions.{ActionAdded}
+use Rattle.text_words.specs.declared.Position.{Position}
+use Rattle.text_words.specs.declared.Word.{Word}
+use Rattle.text_words.specs.Meaning.{faulted}
+use Rattle.parse_stores.proofs.ActionWords.{name-kept, no-name}
+use Rattle.parse_stores.specs.Leaves.{KeepsName, Puts}
+
+module _ {text : List ℕ} {w : Word} {s : State} {r : Answer} where
+  pub keeps-name : kindNo (w .kind) ≡ 1 → Took text w (afterWord false Level s) s r → KeepsName text w s r
+  keeps-name e t = record {
+    done = λ d z. let p = t .done d in record { course = λ K b. name-kept text w z b (countsOf s) e K ∙ rw (p .words z, p .counts); took = t };
+    refused = λ f d z h. absurd (true≢false (sym h ∙ t .refused f d .0));
+    full = t .full;
+  }
+
+  pub keeps-no-name : (kindNo (w .kind) ≡ 1 → ⊥) → Refuses w 3 r → KeepsName text w s r
+  keeps-no-name n x = record {
+    done = λ d z. done-refused (sym d ∙ x .verdict);
+    refused = λ f d z h K b. no-name text w z b (countsOf s) n K ∙ ap refused (sym (ap faulted (same-fault (sym d ∙ x .verdict)) ∙ x .is));
+    full = λ d. refused-full (sym (x .verdict) ∙ d);
+  }
+
+module _ {a : D.Action} {at : Position} {next : Word} {s : State} {acts : ℕ} {work work′ : List ℕ} (l : length work′ ≡ 275296) where
+  pub put-done : {z : Bool} → ActionAdded acts a at work work′ z → z ≡ true → Puts a at next s acts work work′ (record { answer = record { verdict = Done; next = next; state = s }; actions = acts + 1 })
+  put-done {z} x e = record {
+    word = refl;
+    state = refl;
+    whole = l;
+    count = λ d. refl;
+    added = λ d. rw e at x;
+    refused = λ f d. done-refused d;
+    full = λ d. done-full d;
+  }
+
+  pub put-full : {z : Bool} → ActionAdded acts a at work work′ z → z ≡ false → {k : ℕ} → Puts a at next s acts work work′ (record { answer = record { verdict = Full; next = next; state = s }; actions = k })
+  put-full x e = record {
+    word = refl;
+    state = refl;
+    whole = l;
+    count = λ d. done-full (sym d);
+    added = λ d. done-full (sym d);
+    refused = λ f d. refused-full (sym d);
+    full = λ d. x .full e;
+  }

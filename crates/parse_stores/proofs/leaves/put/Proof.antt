@@ -1,0 +1,23 @@
+use native.Mathlib.Omega.{arith}
+use Rattle.parse_stores.proofs.LeafLaws.{put-done, put-full}
+use borrow.Author.Needs.{needs}
+use Rattle.parse_stores.proofs.leaves.put.Statement.{statement}
+use Rattle.parse_stores.proofs.leaves.put.Tie as tie
+
+add-action-requires : tie.Need-add-action-requires
+add-action-requires c κs = search needs
+
+whole-requires : tie.Need-whole-requires
+whole-requires c κs = search needs
+
+add-t15 : tie.Need-add-t15
+add-t15 c = let h = c .before .before .before .add-action .ensures .room (c .if1 .taken) in omega (arith, h)
+
+returns : tie.Need-returns
+returns c = put-done (c .before .whole .ensures) (c .before .before .before .add-action .ensures) (c .if1 .taken)
+
+returns-2 : tie.Need-returns-2
+returns-2 c = put-full (c .before .whole .ensures) (c .before .before .before .add-action .ensures) (c .if1 .left)
+
+pub put-spec : {M : Type 1} → statement M
+put-spec = tie.close (tie.spec add-action-requires whole-requires add-t15 returns returns-2)

@@ -1,0 +1,197 @@
+// Simple actions (the manual, 7.1 and 8.2), read as the machine of the grammar reads them.
+use image_records::actions::Action;
+use parse_names::Counts;
+use parse_step::Answer;
+use parse_step::Bearing;
+use parse_step::State;
+use parse_step::kinds;
+use parse_step::taking;
+use text_words::Word;
+ghost use mathlib.Core.Bool.{true};
+ghost use mathlib.Core.List.{[], _∷_};
+ghost use mathlib.Core.Path.{_≡_};
+ghost use Rattle.parse_step.specs.Course.{kindNo};
+ghost use Rattle.about_grammar.specs.Following.{among};
+ghost use Rattle.language.specs.Machine as L;
+ghost use Rattle.language.specs.Machine.{ask};
+ghost use Rattle.parse_expressions.specs.Phrases.{afterName, same};
+ghost use Rattle.parse_stores.specs.Actions.{Acts};
+ghost use Rattle.parse_stores.specs.Leaves.{Performs};
+ghost use Rattle.parse_stores.specs.Reached.{Arrows};
+
+pub mod leaves;
+mod stores;
+
+// What became of actions, and where they are done how many action records there are.
+pub struct Acted {
+    pub answer: Answer,
+    pub actions: u16,
+}
+
+// A name alone: it performs an operation, and counts.
+fn perform(
+    s: State,
+    name: Word,
+    text: &[u8],
+    w: Word,
+    work: &mut [u8; 275296],
+    n: Counts,
+    acts: u16,
+) -> Acted
+    ensures { λ r. ⌜ Performs name (now (text .entry)) n w s acts (now (work .entry)) (now (work .exit)) r ⌝ }
+{
+    let counted = taking::pass(name, w, s, true, Bearing::Level);
+    if parse_step::unread(counted) {
+        return Acted {
+            answer: counted,
+            actions: acts,
+        };
+    }
+    let m = leaves::meaning(text, work, n, name);
+    let at = name.at;
+    leaves::put(counted.state, leaves::performing(m), at, w, work, acts)
+}
+
+// A state's name behind `->` or `=>`.
+fn arrow(
+    s: State,
+    call: bool,
+    text: &[u8],
+    w: Word,
+    work: &mut [u8; 275296],
+    n: Counts,
+    acts: u16,
+) -> Acted
+    ensures { λ r. ⌜ Arrows call (now (text .entry)) n w s acts (now (work .entry)) (now (work .exit)) r ⌝ }
+{
+    let kept = leaves::keep_name(text, w, s);
+    if parse_step::unread(kept) {
+        return Acted {
+            answer: kept,
+            actions: acts,
+        };
+    }
+    let m = leaves::meaning(text, work, n, w);
+    let at = w.at;
+    leaves::put(
+        kept.state,
+        leaves::going(call, m),
+        at,
+        kept.next,
+        work,
+        acts,
+    )
+}
+
+// What begins with a sign in a state: `->`, `=>` or RETURN.
+pub fn signed(
+    s: State,
+    text: &[u8],
+    w: Word,
+    work: &mut [u8; 275296],
+    n: Counts,
+    acts: u16,
+) -> Acted
+    ensures { λ r. ⌜ (among (kindNo (w .kind)) (27 ∷ 28 ∷ 47 ∷ []) ≡ true → Acts (ask L.stateAction ∷ []) same (now (text .entry)) n w s acts (now (work .entry)) (now (work .exit)) r) ⌝ }
+{
+    let taken = taking::take(text, w, s, true, Bearing::Level);
+    if parse_step::unread(taken) {
+        return Acted {
+            answer: taken,
+            actions: acts,
+        };
+    }
+    let found = w.kind;
+    let kind = kinds::number(found);
+    if kind == kinds::RETURN {
+        let at = w.at;
+        return leaves::put(taken.state, Action::Return, at, taken.next, work, acts);
+    }
+    arrow(
+        taken.state,
+        kind == kinds::CALL,
+        text,
+        taken.next,
+        work,
+        n,
+        acts,
+    )
+}
+
+// Whether a reference goes on behind a name in an operation: `[`, CON, `@`, `<-` or `=` comes.
+fn refers(kind: u8) -> bool
+    ensures { λ r. ⌜ r ≡ among kind (19 ∷ 38 ∷ 18 ∷ 29 ∷ 16 ∷ []) ⌝ }
+{
+    if kind == kinds::OPEN_BRACKET {
+        return true;
+    }
+    if kind == kinds::CON {
+        return true;
+    }
+    if kind == kinds::AT {
+        return true;
+    }
+    stores::signs(kind)
+}
+
+// The same in a state: `[` or `@` comes.
+fn sets(kind: u8) -> bool
+    ensures { λ r. ⌜ r ≡ among kind (19 ∷ 18 ∷ []) ⌝ }
+{
+    if kind == kinds::OPEN_BRACKET {
+        return true;
+    }
+    kind == kinds::AT
+}
+
+// An action of an operation, behind its first name.
+pub fn named_in_operation(
+    s: State,
+    name: Word,
+    text: &[u8],
+    w: Word,
+    work: &mut [u8; 275296],
+    n: Counts,
+    acts: u16,
+) -> Acted
+    ensures { λ r. ⌜ Acts (ask L.operationName ∷ []) (afterName name) (now (text .entry)) n w s acts (now (work .entry)) (now (work .exit)) r ⌝ }
+{
+    let kind = w.kind;
+    if refers(kinds::number(kind)) {
+        let first = parse_expressions::reference(s, name, text, w, work);
+        if parse_step::unread(first) {
+            return Acted {
+                answer: first,
+                actions: acts,
+            };
+        }
+        return stores::rest(first.state, text, first.next, work, acts);
+    }
+    perform(s, name, text, w, work, n, acts)
+}
+
+// An action of a state, behind its first name.
+pub fn named_in_state(
+    s: State,
+    name: Word,
+    text: &[u8],
+    w: Word,
+    work: &mut [u8; 275296],
+    n: Counts,
+    acts: u16,
+) -> Acted
+    ensures { λ r. ⌜ Acts (ask L.stateName ∷ []) (afterName name) (now (text .entry)) n w s acts (now (work .entry)) (now (work .exit)) r ⌝ }
+{
+    let kind = w.kind;
+    if sets(kinds::number(kind)) {
+        let first = parse_expressions::reference(s, name, text, w, work);
+        if parse_step::unread(first) {
+            return Acted {
+                answer: first,
+                actions: acts,
+            };
+        }
+        return stores::set(first.state, text, first.next, work, acts);
+    }
+    perform(s, name, text, w, work, n, acts)
+}

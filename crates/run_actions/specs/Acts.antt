@@ -1,0 +1,104 @@
+-- Actions by their sections, and one action apart from those that follow it.
+use mathlib.Core.Bool.{cond}
+use mathlib.Core.List.{List}
+use mathlib.Core.Option.{Option, none, some}
+use mathlib.Core.Path.{_≡_}
+use Prim.Native.Nat.{ℕ, _+_, _-_, _/_, _<_}
+use lib.Dec.{eqb}
+use lib.ListN.{length}
+use Rattle.language.specs.Acting as T
+use Rattle.language.specs.Decode.{actionOf}
+use Rattle.language.specs.Description as D
+use Rattle.language.specs.Description.{Description, actionAt, operationAt}
+use Rattle.language.specs.Meaning as M
+use Rattle.language.specs.Stops.{noArm}
+use Rattle.language.specs.Tree.{Name}
+use Rattle.language.specs.Value.{Value}
+use Rattle.image_records.specs.declared.actions.Action.{Action}
+use Rattle.image_records.specs.declared.actions.Action.the-variants as A
+use Rattle.image_sections.specs.Declarations.{operationIn}
+use Rattle.run_references.specs.Described.{Describes}
+use Rattle.run_references.specs.declared.arms.Found.{Found}
+use Rattle.run_references.specs.declared.arms.Found.the-variants as F
+use Rattle.store_layout.specs.InBytes.{InBytes}
+use Rattle.run_stores.specs.Seen.{View, seen}
+use Rattle.run_actions.specs.declared.arms.Arm.{Arm}
+use Rattle.run_actions.specs.declared.arms.Arm.the-variants as R
+
+-- ---- Sections.
+
+-- The actions of d are those of the section S.
+abbrev pub Actions : Description → List ℕ → Type 0
+Actions d S = (n : ℕ) → actionAt d n ≡ actionOf S n
+
+-- Operation n of d is the one of the section O, under some name.
+pub record OperationOf (d : Description) (O : List ℕ) (n : ℕ) : Type 0 where
+  pub name : Name
+  pub is : operationAt d n ≡ operationIn O n name
+
+-- The sections of facilities, operations, expressions and actions describe d, which has so many states.
+pub record Acts (d : Description) (F O E S : List ℕ) (states : ℕ) : Type 0 where
+  pub described : Describes d F E
+  pub actions : Actions d S
+  pub operations : (n : ℕ) → OperationOf d O n
+  pub stateCount : length (d .states) ≡ states
+
+-- A claim about each such description, and each doing that is seen as this view.
+abbrev pub ForActs : List ℕ → List ℕ → List ℕ → List ℕ → ℕ → View → (Description → T.Doing InBytes → Type 0) → Type 0
+ForActs F O E S states v claim = (d : Description) (c : T.Doing InBytes) → Acts d F O E S states → v ≡ seen c → claim d c
+
+-- ---- Arms.
+
+-- An arm that is found is a record of the section, of n bytes.
+abbrev pub Within : ℕ → ℕ → Found → Type 0
+Within i n (F.At x) = i < n / 7
+Within i n F.Nowhere = Unit {0}
+
+abbrev pub runOf : ℕ → ℕ → D.Run
+runOf i k = record { first = i; count = k }
+
+abbrev pub armMeant : Arm → Option D.Run
+armMeant (R.At i k) = some (runOf i k)
+armMeant R.Nowhere = none
+
+-- ---- One action, and then those after the records that it passes over.
+
+abbrev pub passedOf : Action → ℕ
+passedOf (A.Store k l r) = 0
+passedOf (A.StorePair k l m r) = 0
+passedOf (A.Set l) = 0
+passedOf (A.Perform o) = 0
+passedOf (A.Goto s) = 0
+passedOf (A.Call s) = 0
+passedOf A.Return = 0
+passedOf (A.When e x) = x
+passedOf (A.Choose e n x) = x
+passedOf (A.Arm x) = 0
+passedOf A.Broken = 0
+
+module _ {X : Type 0} (S : M.Stores X) (d : Description) (perform : ℕ → T.Doing X → T.Ran X) (ev : ℕ → ℕ → T.Doing X → T.Ran X) where
+  abbrev pub armDone : Option D.Run → T.Doing X → T.Ran X
+  armDone none c = T.stuck M.runsOver
+  armDone (some r) c = ev (r .count) (r .first) c
+
+  abbrev pub whenDone : ℕ → ℕ → Value → T.Doing X → T.Ran X
+  whenDone i x v c =
+      cond (eqb (v .length) 1) (cond (eqb (v .number) 0) (T.went c) (armDone (T.armAt d 0 (i + 1) x) c)) (T.stuck M.notOneBit)
+
+  abbrev pub chosenDone : ℕ → ℕ → Option ℕ → T.Doing X → T.Ran X
+  chosenDone i x none c = T.stopped noArm
+  chosenDone i x (some k) c = armDone (T.armAt d (k - 1) (i + 1) x) c
+
+  -- What the action at record i does.
+  abbrev pub oneDone : ℕ → D.Action → T.Doing X → T.Ran X
+  oneDone i (D.store k l r) c = T.simple S d perform (D.store k l r) c
+  oneDone i (D.storePair k l m r) c = T.simple S d perform (D.storePair k l m r) c
+  oneDone i (D.set l) c = T.simple S d perform (D.set l) c
+  oneDone i (D.perform o) c = T.simple S d perform (D.perform o) c
+  oneDone i (D.goto s) c = T.simple S d perform (D.goto s) c
+  oneDone i (D.call s) c = T.simple S d perform (D.call s) c
+  oneDone i D.return c = T.simple S d perform D.return c
+  oneDone i (D.when e x) c = T.onValue (M.evalAt S d (c .store) e) (λ v. whenDone i x v c)
+  oneDone i (D.choose e n x) c = T.onValue (M.evalAt S d (c .store) e) (λ v. chosenDone i x (M.armNumber n (v .number)) c)
+  oneDone i (D.arm x) c = T.stuck M.wrongRecord
+  oneDone i D.Action.broken c = T.stuck M.wrongRecord

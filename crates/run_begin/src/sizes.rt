@@ -1,0 +1,31 @@
+// How many bytes a facility's words take, in the store and in the stimulus.
+use image_sections::facilities::Facility;
+use image_sections::kinds;
+use run_references::bounds;
+use store_words::places;
+ghost use mathlib.Core.Path.{_≡_};
+ghost use Prim.Native.Nat.{_*_, _≤_};
+ghost use Rattle.language.specs.Description.{wordCount, wordLength};
+ghost use Rattle.language.specs.Layout.{wordBytes};
+ghost use Rattle.language.specs.Tree.{Name};
+ghost use Rattle.image_sections.specs.Declarations.{facilityMeant};
+ghost use Rattle.run_begin.specs.InBytes.{inputBytes};
+
+// Bytes of all words.
+pub fn words_bytes(f: Facility) -> usize
+    ensures { λ r. ⌜ (r ≤ 536870912) × ((name : Name) → r ≡ wordCount (facilityMeant name f) * wordBytes (wordLength (facilityMeant name f))) ⌝ }
+{
+    let n = bounds::word_count(f) as usize;
+    n * places::word_bytes(bounds::word_length(f))
+}
+
+// Bytes that a facility has in the stimulus.
+pub fn input_bytes(f: Facility) -> usize
+    ensures { λ r. ⌜ (r ≤ 536870912) × ((name : Name) → r ≡ inputBytes (facilityMeant name f)) ⌝ }
+{
+    let kind = f.kind;
+    if kinds::is_input(kind) {
+        return words_bytes(f);
+    }
+    0
+}

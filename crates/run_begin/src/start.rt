@@ -1,0 +1,55 @@
+// A cycle begins: inputs are set from the stimulus, and plain terminals cleared.
+use crate::ranges;
+use crate::sizes;
+use image_records::bytes;
+use image_sections::facilities;
+use image_sections::facilities::Facility;
+use image_sections::facilities::Kind;
+ghost use mathlib.Core.List.{List};
+ghost use mathlib.Core.Path.{_≡_};
+ghost use Prim.Native.Nat.{ℕ, _/_, _≤_};
+ghost use lib.ListN.{length};
+ghost use Rattle.language.specs.Calls.{over, stimulusSize};
+ghost use Rattle.language.specs.Description.{Description};
+ghost use Rattle.language.specs.Layout.{storeSizeOf};
+ghost use Rattle.language.specs.Store as L;
+ghost use Rattle.language.specs.Tree.{Name};
+ghost use Rattle.image_sections.specs.Declarations.{facilityMeant};
+ghost use Rattle.run_references.specs.Described.{Describes};
+ghost use Rattle.run_begin.specs.InBytes.{begunAt};
+
+// One facility, whose words stand in the stimulus from `at` on where it is an input.
+fn begin_one(store: &mut [u8], f: Facility, stimulus: &[u8], at: usize)
+    ensures { λ _. ⌜ ((name : Name) → now (store .exit) ≡ begunAt (facilityMeant name f) (f .place) (now (store .entry)) (now (stimulus .entry)) at) ⌝ }
+{
+    let kind = f.kind;
+    let place = f.place as usize;
+    match kind {
+        Kind::Register => {}
+        Kind::Sequencing => {}
+        Kind::Memory => {}
+        Kind::Plain => ranges::clear(store, place, sizes::words_bytes(f)),
+        Kind::Input => bytes::put(
+            store,
+            place,
+            bytes::part(stimulus, at, sizes::words_bytes(f)),
+        ),
+        Kind::Computed => {}
+    }
+}
+
+// Every facility: the bytes of the words that the cycle begins with, in front of what lies beyond the store.
+pub fn begin(section: &[u8], store: &mut [u8], stimulus: &[u8])
+    requires { ⌜ length (now section) / 13 ≤ 65536 ⌝ }
+    ensures { λ _. ⌜ ((d : Description) (E : List ℕ) → Describes d (now (section .entry)) E → storeSizeOf (d .facilities) ≤ length (now (store .entry)) → stimulusSize d ≤ length (now (stimulus .entry)) → now (store .exit) ≡ over (L.toBytes (d .facilities) (L.begin (d .facilities) (L.fromBytes (d .facilities) (now (store .entry))) (L.fromBytes (L.inputsOf (d .facilities)) (now (stimulus .entry))))) (now (store .entry))) ⌝ }
+{
+    let count = section.len() / 13;
+    let mut n: usize = 0;
+    let mut at: usize = 0;
+    while n < count {
+        let f = facilities::facility_at(section, n);
+        begin_one(store, f, stimulus, at);
+        at += sizes::input_bytes(f);
+        n += 1;
+    }
+}

@@ -1,0 +1,44 @@
+use native.Mathlib.Omega.{arith}
+use Rattle.language.specs.Layout.{wordBytes}
+use borrow.Author.Needs.{needs}
+use Rattle.run_end.proofs.register.put_first_word.Statement.{statement}
+use Rattle.run_end.proofs.register.put_first_word.Tie as tie
+
+word-length-requires : tie.Need-word-length-requires
+word-length-requires c κs = search needs
+
+returns : tie.Need-returns
+returns c = λ name h. absurd (omega (arith, c .if1 .taken, c .before .word-length .ensures .1 name))
+
+add-all : tie.Need-add-all
+add-all c = search needs
+
+mul-all : tie.Need-mul-all
+mul-all c = search needs
+
+cast-save : tie.Need-cast-save
+cast-save c = search needs
+
+save-requires : tie.Need-save-requires
+save-requires c κs = search needs
+
+same-length : tie.Need-same-length
+same-length c = search needs
+
+returns-2 : tie.Need-returns-2
+unfolding wordBytes
+returns-2 c =
+    λ name h. rw (← (c .before .before .before .before .before .before .word-length .ensures .1 name)) (c .before .before .save .ensures)
+
+pub put-first-word-spec : {M : Type 1} → statement M
+put-first-word-spec =
+    tie.close
+    (tie.spec
+    word-length-requires
+    returns
+    add-all
+    mul-all
+    cast-save
+    save-requires
+    same-length
+    returns-2)

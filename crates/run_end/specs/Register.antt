@@ -1,0 +1,29 @@
+-- What entering a state knows of the sections, and what it gives.
+use mathlib.Core.Bool.{Bool, true, false}
+use mathlib.Core.List.{List}
+use mathlib.Core.Option.{Option, none, some}
+use mathlib.Core.Path.{_≡_}
+use Prim.Native.Nat.{ℕ, _/_, _^_, _≤_, _<_}
+use lib.ListN.{length}
+use Rattle.language.specs.Description.{Description, facilityAt, sequencingOf, wordLength}
+use Rattle.language.specs.Step.{stateNumber}
+use Rattle.language.specs.Store.{Words}
+use Rattle.run_references.specs.Described.{Describes}
+use Rattle.run_next.specs.Values.{Valued}
+
+-- The sequencing register, if there is one, is no longer than a value, and the value of every state fits it.
+pub record Holds (d : Description) : Type 0 where
+  pub short : (f : ℕ) → sequencingOf d ≡ some f → wordLength (facilityAt d f) ≤ 256
+  pub fits : (f s x : ℕ) → sequencingOf d ≡ some f → stateNumber d s ≡ some x → x < 2 ^ wordLength (facilityAt d f)
+
+-- The sections of facilities, expressions and states describe d, whose sequencing register holds the values of states.
+pub record Enters (d : Description) (F E T : List ℕ) : Type 0 where
+  pub described : Describes d F E
+  pub valued : Valued d E T
+  pub register : Holds d
+  pub states : length (d .states) ≡ length T / 7
+
+-- The words left, unless the state entered has no value.
+abbrev pub entered : Bool → Words → Option Words
+entered true s = some s
+entered false s = none

@@ -1,0 +1,275 @@
+// What a record of the expressions is worth, from its parts, which stand before it. Only what is needed is worked out.
+use image_records::nodes;
+use image_records::nodes::Node;
+use image_sections::facilities;
+use image_sections::facilities::Bounds;
+use image_sections::facilities::Facility;
+use image_sections::kinds;
+use run_references::arms;
+use run_references::arms::Found;
+use run_references::bounds;
+use run_references::constants;
+use run_references::places;
+use run_references::places::Distance;
+use run_references::places::Located;
+use run_references::places::Place;
+use run_references::places::Subscripts;
+use run_references::reading;
+use run_references::references;
+use run_references::references::Reference;
+use run_references::worth;
+use run_references::worth::Outcome;
+use run_references::worth::Stuck;
+use run_references::worth::Worth;
+use value_operations::lengths;
+ghost use mathlib.Core.Path.{_≡_};
+ghost use Rattle.language.specs.Acting.{side};
+ghost use Rattle.language.specs.Meaning as M;
+ghost use Rattle.language.specs.Meaning.{evalAt, evalBelow, placeOf};
+ghost use Rattle.language.specs.Operators.{binaryOf};
+ghost use Rattle.language.specs.References.{referenceOf};
+ghost use Rattle.language.specs.Tree.{Name};
+ghost use Rattle.image_sections.specs.Declarations.{boundsMeant, facilityMeant};
+ghost use Rattle.image_records.specs.Nodes.{meant};
+ghost use Rattle.store_layout.specs.InBytes.{bytes};
+ghost use Rattle.run_references.specs.Described.{ForEach};
+ghost use Rattle.run_references.specs.Places.{foundMeant, locatedMeant, onDistance, referred, refersTo, subscriptsMeant};
+ghost use Rattle.run_expressions.specs.Sides.{SideRead, SideThere, sideMeant};
+ghost use Rattle.run_references.specs.Worth.{answered};
+
+// A CASE value without an arm.
+const NO_ARM: u8 = 8;
+
+// The facility that a reference names and the place in it, or why there is none.
+pub enum Side {
+    At(Facility, Place),
+    Stops(u8),
+    Stuck(Stuck),
+}
+
+// The place that subscripts name.
+fn located(
+    section: &[u8],
+    expressions: &[u8],
+    store: &[u8],
+    n: usize,
+    number: u8,
+    f: Facility,
+    s: Subscripts,
+) -> Located
+    ensures { λ r. ⌜ ForEach (now (section .entry)) (now (expressions .entry)) (now (store .entry)) (λ d x. ((name : Name) → locatedMeant r ≡ M.located (evalBelow (bytes d) d x n) number (facilityMeant name f) (subscriptsMeant s))) ⌝ }
+{
+    let words = f.words;
+    let bits = f.bits;
+    match s {
+        Subscripts::Whole => places::narrow(number, 0, 0, bounds::word_length(f)),
+        Subscripts::One(e) => {
+            let w = part(section, expressions, store, n, e);
+            if f.dimensions == 1 {
+                return places::bit(number, 0, places::subscript(w, bits));
+            }
+            let at = places::subscript(w, words);
+            places::word(number, at, bounds::word_length(f))
+        }
+        Subscripts::Part(x) => places::constant_part(number, 0, bits, x),
+        Subscripts::Two(e, g) => {
+            let at = places::subscript(part(section, expressions, store, n, e), words);
+            bit_of_word(section, expressions, store, n, number, at, g, bits)
+        }
+        Subscripts::WordPart(e, x) => {
+            let at = places::subscript(part(section, expressions, store, n, e), words);
+            places::part_of_word(number, at, bits, x)
+        }
+    }
+}
+
+// One bit of a computed word; its subscript is worked out where there is such a word.
+fn bit_of_word(
+    section: &[u8],
+    expressions: &[u8],
+    store: &[u8],
+    n: usize,
+    number: u8,
+    at: Distance,
+    e: u16,
+    bits: Bounds,
+) -> Located
+    ensures { λ r. ⌜ ForEach (now (section .entry)) (now (expressions .entry)) (now (store .entry)) (λ d x. locatedMeant r ≡ onDistance at (λ w. M.subscript (evalBelow (bytes d) d x n e) (boundsMeant bits) (λ b. M.narrow (M.place number w b 1)))) ⌝ }
+{
+    match at {
+        Distance::At(w) => {
+            let b = part(section, expressions, store, n, e);
+            places::bit(number, w, places::subscript(b, bits))
+        }
+        Distance::Stops(k) => Located::Stops(k),
+        Distance::Stuck(k) => Located::Stuck(k),
+    }
+}
+
+// The place that a reference at record n names.
+pub fn place_of(
+    section: &[u8],
+    expressions: &[u8],
+    store: &[u8],
+    n: usize,
+    number: u8,
+    s: Subscripts,
+) -> Side
+    ensures { λ r. ⌜ SideRead (now (section .entry)) number r × ForEach (now (section .entry)) (now (expressions .entry)) (now (store .entry)) (λ d x. sideMeant r ≡ placeOf d (evalBelow (bytes d) d x n) (refersTo number s)) ⌝ }
+{
+    let f = facilities::facility_at(section, number as usize);
+    if section.len() / 13 <= number as usize {
+        return Side::Stuck(Stuck::NoFacility);
+    }
+    if !places::right_count(f.dimensions, s) {
+        return Side::Stuck(Stuck::WrongSubscripts);
+    }
+    match located(section, expressions, store, n, number, f, s) {
+        Located::At(p) => Side::At(f, p),
+        Located::Stops(k) => Side::Stops(k),
+        Located::Stuck(k) => Side::Stuck(k),
+    }
+}
+
+// The value of what a reference names.
+fn operand(
+    section: &[u8],
+    expressions: &[u8],
+    store: &[u8],
+    n: usize,
+    number: u8,
+    s: Subscripts,
+) -> Worth
+    ensures { λ r. ⌜ ForEach (now (section .entry)) (now (expressions .entry)) (now (store .entry)) (λ d x. answered r ≡ M.operand (bytes d) d x (evalBelow (bytes d) d x n) number (subscriptsMeant s)) ⌝ }
+{
+    match place_of(section, expressions, store, n, number, s) {
+        Side::At(f, p) => {
+            let kind = f.kind;
+            if kinds::is_computed(kind) {
+                let w = part(section, expressions, store, n, f.place);
+                return reading::of_computed(f, p, w);
+            }
+            reading::of_stored(store, f, p)
+        }
+        Side::Stops(k) => worth::stops(k),
+        Side::Stuck(k) => worth::sticks(k),
+    }
+}
+
+// The arm that a conditional takes, if it has one.
+fn arm(
+    section: &[u8],
+    expressions: &[u8],
+    store: &[u8],
+    n: usize,
+    last: u16,
+    count: u16,
+    number: Found,
+) -> Worth
+    ensures { λ r. ⌜ ForEach (now (section .entry)) (now (expressions .entry)) (now (store .entry)) (λ d x. answered r ≡ M.chosen (bytes d) d x (evalBelow (bytes d) d x n) last count (foundMeant number)) ⌝ }
+{
+    let Found::At(k) = number else {
+        return worth::stops(NO_ARM);
+    };
+    let back = lengths::minus(count as u32, k as u32);
+    match arms::arm_back(expressions, last, back) {
+        Found::At(e) => part(section, expressions, store, n, e),
+        Found::Nowhere => worth::sticks(Stuck::WrongRecord),
+    }
+}
+
+// A conditional: its condition, and the chosen arm.
+fn choice(
+    section: &[u8],
+    expressions: &[u8],
+    store: &[u8],
+    n: usize,
+    e: u16,
+    last: u16,
+    count: u16,
+) -> Worth
+    ensures { λ r. ⌜ ForEach (now (section .entry)) (now (expressions .entry)) (now (store .entry)) (λ d x. answered r ≡ M.after (evalBelow (bytes d) d x n e) (λ v. M.chosen (bytes d) d x (evalBelow (bytes d) d x n) last count (M.armNumber count (v .number)))) ⌝ }
+{
+    let w = part(section, expressions, store, n, e);
+    let outcome = w.outcome;
+    match outcome {
+        Outcome::Is => {
+            let v = w.value;
+            let number = arms::arm_number(count, v);
+            arm(section, expressions, store, n, last, count, number)
+        }
+        Outcome::Stops(_) => w,
+        Outcome::Stuck(_) => w,
+    }
+}
+
+// An operator between two operands, the left one first.
+fn binary(
+    section: &[u8],
+    expressions: &[u8],
+    store: &[u8],
+    n: usize,
+    kind: u8,
+    a: u16,
+    b: u16,
+) -> Worth
+    ensures { λ r. ⌜ ForEach (now (section .entry)) (now (expressions .entry)) (now (store .entry)) (λ d x. answered r ≡ M.after (evalBelow (bytes d) d x n a) (λ v. M.after (evalBelow (bytes d) d x n b) (λ w. M.worthOr M.wrongLength (binaryOf kind v w)))) ⌝ }
+{
+    let x = part(section, expressions, store, n, a);
+    let outcome = x.outcome;
+    match outcome {
+        Outcome::Is => {
+            let v = x.value;
+            let y = part(section, expressions, store, n, b);
+            worth::binary(kind, v, y)
+        }
+        Outcome::Stops(_) => x,
+        Outcome::Stuck(_) => x,
+    }
+}
+
+// A reference, or a record that is no expression.
+fn other(section: &[u8], expressions: &[u8], store: &[u8], n: usize, node: Node) -> Worth
+    ensures { λ r. ⌜ ForEach (now (section .entry)) (now (expressions .entry)) (now (store .entry)) (λ d x. answered r ≡ referred (bytes d) d x (evalBelow (bytes d) d x n) (referenceOf (meant 0 node))) ⌝ }
+{
+    match references::reference_of(node) {
+        Reference::To(number, s) => operand(section, expressions, store, n, number, s),
+        Reference::None => worth::sticks(Stuck::WrongRecord),
+    }
+}
+
+// The worth of record n.
+pub fn eval(section: &[u8], expressions: &[u8], store: &[u8], n: usize) -> Worth
+    ensures { λ r. ⌜ ForEach (now (section .entry)) (now (expressions .entry)) (now (store .entry)) (λ d x. answered r ≡ evalAt (bytes d) d x n) ⌝ }
+{
+    let node = nodes::node_at(expressions, n);
+    match node {
+        Node::Constant(_) => worth::is(constants::constant_at(expressions, n)),
+        Node::Binary(k, a, b) => binary(section, expressions, store, n, k, a, b),
+        Node::Prefix(k, a) => worth::prefix(k, part(section, expressions, store, n, a)),
+        Node::Cut(k, a, c) => worth::cut(k, part(section, expressions, store, n, a), c),
+        Node::Choice(e, last, count) => choice(section, expressions, store, n, e, last, count),
+        _ => other(section, expressions, store, n, node),
+    }
+}
+
+// The worth of a part, which stands before its owner at record n.
+fn part(section: &[u8], expressions: &[u8], store: &[u8], n: usize, a: u16) -> Worth
+    ensures { λ r. ⌜ ForEach (now (section .entry)) (now (expressions .entry)) (now (store .entry)) (λ d x. answered r ≡ evalBelow (bytes d) d x n a) ⌝ }
+{
+    if (a as usize) < n {
+        eval(section, expressions, store, a as usize)
+    } else {
+        worth::sticks(Stuck::NotBefore)
+    }
+}
+
+// The place that the left side at record n names.
+pub fn left_side(section: &[u8], expressions: &[u8], store: &[u8], n: usize) -> Side
+    ensures { λ r. ⌜ ForEach (now (section .entry)) (now (expressions .entry)) (now (store .entry)) (λ d x. (sideMeant r ≡ side (bytes d) d x n) × SideThere d (now (section .entry)) r) ⌝ }
+{
+    match references::reference_of(nodes::node_at(expressions, n)) {
+        Reference::To(number, s) => place_of(section, expressions, store, n, number, s),
+        Reference::None => Side::Stuck(Stuck::WrongRecord),
+    }
+}

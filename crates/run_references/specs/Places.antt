@@ -1,0 +1,76 @@
+-- What the code's places, subscripts and arms mean in the language.
+use mathlib.Core.Option.{Option, none, some}
+use Prim.Native.Nat.{ℕ}
+use Rattle.language.specs.Description.{Description}
+use Rattle.language.specs.Meaning as M
+use Rattle.language.specs.Meaning.{Answer, Stores}
+use Rattle.language.specs.References as R
+use Rattle.image_records.specs.declared.nodes.Node.{Node}
+use Rattle.image_records.specs.declared.nodes.Node.the-variants as N
+use Rattle.image_sections.specs.Declarations.{boundsMeant}
+use Rattle.run_references.specs.Worth.{stuckMeant}
+use Rattle.run_references.specs.declared.arms.Found.{Found}
+use Rattle.run_references.specs.declared.arms.Found.the-variants as F
+use Rattle.run_references.specs.declared.places.Distance.{Distance}
+use Rattle.run_references.specs.declared.places.Distance.the-variants as D
+use Rattle.run_references.specs.declared.places.Located.{Located}
+use Rattle.run_references.specs.declared.places.Located.the-variants as L
+use Rattle.run_references.specs.declared.places.Place.{Place}
+use Rattle.run_references.specs.declared.places.Subscripts.{Subscripts}
+use Rattle.run_references.specs.declared.places.Subscripts.the-variants as S
+use Rattle.run_references.specs.declared.references.Reference.{Reference}
+use Rattle.run_references.specs.declared.references.Reference.the-variants as T
+
+abbrev pub placeMeant : Place → M.Place
+placeMeant p = M.place (p .facility) (p .word) (p .from) (p .count)
+
+abbrev pub locatedMeant : Located → M.Located
+locatedMeant (L.At p) = M.Located.at (placeMeant p)
+locatedMeant (L.Stops n) = M.Located.stops n
+locatedMeant (L.Stuck s) = M.Located.stuck (stuckMeant s)
+
+-- What goes on with a subscript's distance.
+abbrev pub onDistance : Distance → (ℕ → M.Located) → M.Located
+onDistance (D.At n) on = on n
+onDistance (D.Stops n) on = M.Located.stops n
+onDistance (D.Stuck s) on = M.Located.stuck (stuckMeant s)
+
+abbrev pub subscriptsMeant : Subscripts → R.Subscripts
+subscriptsMeant S.Whole = R.whole
+subscriptsMeant (S.One e) = R.one e
+subscriptsMeant (S.Part b) = R.part (boundsMeant b)
+subscriptsMeant (S.Two e g) = R.two e g
+subscriptsMeant (S.WordPart e b) = R.wordPart e (boundsMeant b)
+
+abbrev pub foundMeant : Found → Option ℕ
+foundMeant (F.At n) = some n
+foundMeant F.Nowhere = none
+
+-- The expression of a record that is an arm.
+abbrev pub armExpression : Node → Option ℕ
+armExpression (N.Constant l) = none
+armExpression (N.More d) = none
+armExpression (N.Whole f) = none
+armExpression (N.One f e) = none
+armExpression (N.Part f a b) = none
+armExpression (N.Two f e g) = none
+armExpression (N.WordPart f e a b) = none
+armExpression (N.Binary k a b) = none
+armExpression (N.Prefix k a) = none
+armExpression (N.Cut k a c) = none
+armExpression (N.FirstArm e) = some e
+armExpression (N.NextArm a e) = some e
+armExpression (N.Choice e a n) = none
+armExpression N.Broken = none
+
+abbrev pub refersTo : ℕ → Subscripts → R.Reference
+refersTo f s = record { facility = f; subscripts = subscriptsMeant s }
+
+abbrev pub referenceMeant : Reference → Option R.Reference
+referenceMeant (T.To f s) = some (refersTo f s)
+referenceMeant T.None = none
+
+-- What a reference is worth, and what is no reference.
+abbrev pub referred : {X : Type 0} → Stores X → Description → X → (ℕ → Answer) → Option R.Reference → Answer
+referred S d x ev none = M.Answer.stuck M.wrongRecord
+referred S d x ev (some r) = M.operand S d x ev (r .facility) (r .subscripts)

@@ -1,0 +1,133 @@
+// What an expression gives, and what an operator makes of its operands' worth.
+use value_operations::Made;
+use value_operations::Value;
+ghost use mathlib.Core.Path.{_≡_};
+ghost use Rattle.language.specs.Meaning as M;
+ghost use Rattle.language.specs.Operators.{binaryOf, cutOf, prefixOf};
+ghost use Rattle.value_operations.specs.Meaning.{meant, valued};
+ghost use Rattle.run_references.specs.Worth.{answered, stuckMeant};
+
+// The ways to be stuck, which no passing image reaches.
+pub enum Stuck {
+    NotBefore,
+    WrongRecord,
+    NoFacility,
+    NoOperation,
+    NoState,
+    WrongSubscripts,
+    Outside,
+    WrongLength,
+    WrongCount,
+    LengthDiffers,
+    NotOneBit,
+    SidesDiffer,
+    NotStorable,
+    RunsOver,
+    NoStateValue,
+}
+
+pub enum Outcome {
+    Is,
+    Stops(u8),
+    Stuck(Stuck),
+}
+
+// A value where the outcome is one; any other outcome stands beside some value.
+pub struct Worth {
+    pub outcome: Outcome,
+    pub value: Value,
+}
+
+// A value.
+pub fn is(value: Value) -> Worth
+    ensures { λ r. ⌜ answered r ≡ M.Answer.is (valued value) ⌝ }
+{
+    Worth {
+        outcome: Outcome::Is,
+        value,
+    }
+}
+
+// No value: a stop.
+pub fn stops(n: u8) -> Worth
+    ensures { λ r. ⌜ answered r ≡ M.Answer.stops n ⌝ }
+{
+    let none = Value {
+        limbs: [0u64; 4],
+        length: 0,
+    };
+    Worth {
+        outcome: Outcome::Stops(n),
+        value: none,
+    }
+}
+
+// No value and no stop.
+pub fn sticks(s: Stuck) -> Worth
+    ensures { λ r. ⌜ answered r ≡ M.Answer.stuck (stuckMeant s) ⌝ }
+{
+    let none = Value {
+        limbs: [0u64; 4],
+        length: 0,
+    };
+    Worth {
+        outcome: Outcome::Stuck(s),
+        value: none,
+    }
+}
+
+// What an operator made, or stuck where that is nothing.
+pub fn worth_or(s: Stuck, made: Made) -> Worth
+    ensures { λ r. ⌜ answered r ≡ M.worthOr (stuckMeant s) (meant made) ⌝ }
+{
+    if made.fits {
+        let v = made.value;
+        return is(v);
+    }
+    sticks(s)
+}
+
+// An operator between a value and what comes after it.
+pub fn binary(kind: u8, x: Value, y: Worth) -> Worth
+    ensures { λ r. ⌜ answered r ≡ M.after (answered y) (λ w. M.worthOr M.wrongLength (binaryOf kind (valued x) w)) ⌝ }
+{
+    let outcome = y.outcome;
+    match outcome {
+        Outcome::Is => {
+            let v = y.value;
+            worth_or(Stuck::WrongLength, value_operators::binary(kind, x, v))
+        }
+        Outcome::Stops(_) => y,
+        Outcome::Stuck(_) => y,
+    }
+}
+
+// An operator before its operand.
+pub fn prefix(kind: u8, x: Worth) -> Worth
+    ensures { λ r. ⌜ answered r ≡ M.after (answered x) (λ v. M.worthOr M.wrongLength (prefixOf kind v)) ⌝ }
+{
+    let outcome = x.outcome;
+    match outcome {
+        Outcome::Is => {
+            let v = x.value;
+            worth_or(Stuck::WrongLength, value_operators::prefix(kind, v))
+        }
+        Outcome::Stops(_) => x,
+        Outcome::Stuck(_) => x,
+    }
+}
+
+// HEAD, TAIL and EXT with their count.
+pub fn cut(kind: u8, x: Worth, c: u16) -> Worth
+    ensures { λ r. ⌜ answered r ≡ M.after (answered x) (λ v. M.worthOr M.wrongCount (cutOf kind v c)) ⌝ }
+{
+    let outcome = x.outcome;
+    match outcome {
+        Outcome::Is => {
+            let v = x.value;
+            worth_or(Stuck::WrongCount, value_operators::cut(kind, v, c))
+        }
+        Outcome::Stops(_) => x,
+        Outcome::Stuck(_) => x,
+    }
+}

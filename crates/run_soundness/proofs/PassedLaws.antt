@@ -1,0 +1,144 @@
+-- What is known of an image that passes: its sections describe it, constants and the sequencing register are no longer than a value, and the store is no larger than a store may be. Assumes nothing.
+use mathlib.Core.Bool.{Bool, true, false, cond, _||_}
+use mathlib.Core.List.{List, [], _∷_}
+use mathlib.Core.Option.{some}
+use mathlib.Core.Path.{_≡_, refl, sym, subst, _∙_}
+use Prim.Native.Nat.{ℕ, suc, _+_, _*_, _/_, _^_, _≤_, _<_}
+use native.Mathlib.Nat.{lt-of-lt-of-le}
+use native.Mathlib.Omega.{arith}
+use borrow.Author.Tests.{leb-true, ltb-false, ltb-true}
+use lib.Dec.{leb, ltb}
+use lib.ListN.{List·getD-eq-default, length}
+use lib.Pow.{pow-mono, pow-pos}
+use Rattle.language.specs.Decode.{decode, sectionAt, sectionsIn}
+use Rattle.language.specs.Description as D
+use Rattle.language.specs.Description.{Description, Facility, Node, constantValue, facilityAt, facilityPlace, isComputed, isSequencing, noPlaces, nodeAt, sequencingOf, stateAt, wordLength}
+use Rattle.language.specs.Encode.{facilityRecord, little}
+use Rattle.language.specs.Image.{passes}
+use Rattle.language.specs.Layout.{facilityBytes, placeIn, storeSizeOf}
+use Rattle.language.specs.Rules.{boundsFaults, facilitiesFaults, facilityFaults, orElse, sequencingRight}
+use Rattle.language.specs.Step.{stateNumber}
+use Rattle.language.specs.Value.{longest}
+use Rattle.about_running.specs.Judged.{append-none-left, append-none-right, unless-none}
+use Rattle.about_running.specs.NeverStuck.{legal-image}
+use Rattle.about_running.specs.StateValues.{bears-value}
+use Rattle.about_running.specs.LegalForm.{after-names, facility-none, no-faults, or-else-both, right-of}
+use Rattle.image_records.proofs.NodeBack.{half-back}
+use Rattle.image_sections.proofs.DeclarationLaws.{place-whole}
+use Rattle.image_sections.proofs.DescribedLaws.{state-described}
+use Rattle.image_sections.specs.Declarations.{placeFieldIn}
+use Rattle.about_writing.specs.Back.{NodeInRange, facility-stands}
+use Rattle.about_images.specs.Legal.{few-facilities, few-states}
+use Rattle.run_references.proofs.SectionLaws.{sections-describe}
+use Rattle.run_references.specs.Described.{Describes}
+use Rattle.run_next.specs.Values.{Valued}
+use Rattle.image_lookups.proofs.PlaceLaws.{store-fits}
+use Rattle.image_lookups.proofs.PassLaws.{facilities-are, facilities-many, legal-so, range-so, states-many}
+use Rattle.run_soundness.proofs.RegisterLaws.{register-there}
+use Rattle.run_soundness.proofs.WordLaws.{in-room}
+use Rattle.run_soundness.specs.Tested.{Testable}
+
+-- ---- Facilities without fault.
+
+module _ (d : Description) (n : ℕ) (another : Bool) (before : ℕ) (f : Facility) (e : facilityFaults d noPlaces n another before f (facilityPlace noPlaces n) ≡ []) where
+  register-short : isSequencing (f .kind) ≡ true → wordLength f ≤ 256
+  unfolding facilityFaults sequencingRight longest
+  register-short k =
+      let s : cond (isSequencing (f .kind)) (sequencingRight d noPlaces another f) true ≡ true = unless-none _ (facilityPlace noPlaces n .name) 9 (append-none-left _ _ e) in
+      leb-true (wordLength f) 256 (right-of (leb (f .dimensions) 1) _ (right-of (cond another false true) _ (rw k at s)))
+
+store-small : (d : Description) (n : ℕ) (another : Bool) (before : ℕ) (fs : List Facility) → facilitiesFaults d noPlaces n another before fs ≡ [] → before ≤ 16384 → before + storeSizeOf fs ≤ 16384
+unfolding facilitiesFaults storeSizeOf
+store-small d n another before [] e b = omega arith
+store-small d n another before (f ∷ fs) e b =
+    let at = facilityPlace noPlaces n in
+    let m = store-fits d n another before f (or-else-both d noPlaces (boundsFaults d noPlaces f at) (facilityFaults d noPlaces n another before f at) (append-none-left _ _ e)) in
+    let rest = append-none-right (orElse d noPlaces (boundsFaults d noPlaces f at) (facilityFaults d noPlaces n another before f at)) _ e in
+    omega (arith, store-small d (suc n) (another || isSequencing (f .kind)) (before + facilityBytes f) fs rest m)
+
+-- ---- Constants in range.
+
+value-small : (d : Description) (n : ℕ) (x : Node) → NodeInRange d n x → constantValue x .number < 2 ^ 256
+value-small d n (D.constant v) h = lt-of-lt-of-le (h .2) (pow-mono (h .1))
+value-small d n (D.more m) h = pow-pos 256
+value-small d n (D.whole f) h = pow-pos 256
+value-small d n (D.one f e) h = pow-pos 256
+value-small d n (D.part f b) h = pow-pos 256
+value-small d n (D.two f e g) h = pow-pos 256
+value-small d n (D.wordPart f e b) h = pow-pos 256
+value-small d n (D.binary k a b) h = pow-pos 256
+value-small d n (D.prefix k a) h = pow-pos 256
+value-small d n (D.cut k a c) h = pow-pos 256
+value-small d n (D.firstArm e) h = pow-pos 256
+value-small d n (D.nextArm a e) h = pow-pos 256
+value-small d n (D.choice e a m) h = pow-pos 256
+value-small d n D.Node.broken h = pow-pos 256
+
+-- ---- The image.
+
+module _ (image : List ℕ) (passed : passes image ≡ true) where
+  abbrev d : Description
+  d = decode image
+
+  facilities-right : facilitiesFaults d noPlaces 0 false 0 (d .facilities) ≡ []
+  facilities-right = append-none-left _ _ (after-names d (no-faults d (legal-so image passed)))
+
+  pub passed-size : storeSizeOf (d .facilities) ≤ 16384
+  passed-size = omega (arith, store-small d 0 false 0 (d .facilities) facilities-right (omega arith))
+
+  pub passed-register : (f : ℕ) → sequencingOf d ≡ some f → wordLength (facilityAt d f) ≤ 256
+  unfolding facilityAt
+  passed-register f q =
+      let r = register-there d f q in
+      let y = facility-none d noPlaces (d .facilities) 0 f false 0 facilities-right (r .inside) in
+      register-short d (0 + f) (y .0) (y .1 .0) (facilityAt d f) (y .1 .1) (r .sequencing)
+
+  pub passed-value : (n : ℕ) → constantValue (nodeAt d n) .number < 2 ^ 256
+  unfolding nodeAt
+  passed-value n = by-test (ltb n (length (d .expressions))) refl
+    where
+      by-test : (b : Bool) → ltb n (length (d .expressions)) ≡ b → constantValue (nodeAt d n) .number < 2 ^ 256
+      by-test true t = value-small d n (nodeAt d n) (range-so image passed .expressions n (ltb-true n (length (d .expressions)) t))
+      by-test false t = rw (List·getD-eq-default (d .expressions) D.Node.broken (ltb-false n (length (d .expressions)) t)) (pow-pos 256)
+
+  passed-place : (n : ℕ) → n < length (d .facilities) → isComputed (facilityAt d n .kind) ≡ false → placeFieldIn (sectionAt 0 13 image) n ≡ placeIn (d .facilities) n
+  unfolding facilityAt facilityRecord little
+  passed-place n l k =
+      let s = facility-stands d (range-so image passed) n l in
+      let z : 13 * n + 11 + 1 ≡ 13 * n + 12 = omega arith in
+      let p = in-room (d .facilities) n (facilityAt d n) refl l k in
+      let m : placeIn (d .facilities) n < 65536 = omega (arith, p, passed-size) in
+      place-whole (sectionAt 0 13 image) n (omega (arith, facilities-many image))
+      ∙ rw (facilities-are image passed) (half-back _ (13 * n + 11) (placeIn (d .facilities) n) m (s 11 (omega arith) ∙ rw k) (rw z (s 12 (omega arith) ∙ rw k)))
+
+  pub passed-described : Describes d (sectionAt 0 13 image) (sectionAt 2 8 image)
+  unfolding decode sectionsIn
+  passed-described = sections-describe (sectionsIn image) passed-place (λ n v e. subst (λ (x : Node). constantValue x .number < 2 ^ 256) e (passed-value n))
+
+  pub passed-valued : Valued d (sectionAt 2 8 image) (sectionAt 4 7 image)
+  unfolding decode sectionsIn
+  passed-valued = record { nodes = passed-described .nodes; states = λ n. record { name = _; is = state-described (sectionsIn image) n }; fit = passed-value }
+
+  -- The value of a state fits the sequencing register.
+  pub passed-fits : (f s x : ℕ) → sequencingOf d ≡ some f → stateNumber d s ≡ some x → x < 2 ^ wordLength (facilityAt d f)
+  unfolding stateNumber stateAt
+  passed-fits f s x q v = by-test (ltb s (length (d .states))) refl
+    where
+      by-test : (b : Bool) → ltb s (length (d .states)) ≡ b → x < 2 ^ wordLength (facilityAt d f)
+      by-test true t =
+          let b = bears-value d (legal-image image passed) f q s (ltb-true s (length (d .states)) t) in
+          let z : b .number ≡ x = let e = sym (b .borne) ∙ v in cc in
+          rw z at (b .fits)
+      by-test false t =
+          let e = rw (List·getD-eq-default (d .states) _ (ltb-false s (length (d .states)) t)) at v in
+          absurd (let z : _≡_ {A = ℕ} 0 1 = cc in omega arith)
+
+  -- Few enough records.
+  pub passed-facilities : length (sectionAt 0 13 image) / 13 ≤ 65536
+  passed-facilities = omega (arith, facilities-many image, few-facilities d (legal-so image passed))
+
+  pub passed-states : length (sectionAt 4 7 image) / 7 ≤ 65536
+  passed-states = omega (arith, states-many image, few-states d (legal-so image passed))
+
+  pub passed-testable : Testable d (sectionAt 0 13 image) (sectionAt 2 8 image) (sectionAt 4 7 image)
+  passed-testable = record { described = passed-described; valued = passed-valued; states = states-many image; register = passed-register }

@@ -1,0 +1,24 @@
+use mathlib.Core.Path.{_∙_, sym}
+use native.Mathlib.Omega.{arith}
+use borrow.Author.Tests.{eq-eqb, ne-eqb}
+use Rattle.language.specs.Description.{wordCount}
+use Rattle.store_words.specs.Shape.{facility}
+use borrow.Author.Needs.{needs}
+use Rattle.store_words.proofs.places.word_count.Statement.{statement}
+use Rattle.store_words.proofs.places.word_count.Tie as tie
+
+returns : tie.Need-returns
+unfolding wordCount facility
+returns c =
+    (simp (ne-eqb _ _ (c .if1 .taken)), omega arith)
+
+span-requires : tie.Need-span-requires
+span-requires c κs = search needs
+
+returns-2 : tie.Need-returns-2
+unfolding wordCount facility
+returns-2 c =
+    (c .span .ensures .0 ∙ sym (simp (eq-eqb _ _ (c .before .before .if1 .left))), c .span .ensures .1)
+
+pub word-count-spec : {M : Type 1} → statement M
+word-count-spec = tie.close (tie.spec returns span-requires returns-2)

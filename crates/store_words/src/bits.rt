@@ -1,0 +1,73 @@
+// Up to 64 bits of a word, byte by byte from the most significant one.
+use crate::bytes;
+use crate::places;
+ghost use mathlib.Core.Path.{_≡_};
+ghost use Prim.Native.Nat.{_+_, _*_, _/_, _^_, _≤_, _<_};
+ghost use lib.ListN.{length as size};
+ghost use Rattle.language.specs.Layout.{wordBytes};
+ghost use Rattle.store_layout.specs.Layout.{position};
+ghost use Rattle.store_layout.specs.Parts.{partIn, withPart};
+ghost use Rattle.store_words.specs.Runs.{Cuts};
+
+// Bits that lie in one byte of a word: the byte, counted from the least significant one, and which of its bits.
+struct Cut {
+    byte: usize,
+    shift: usize,
+    bits: usize,
+}
+
+// The uppermost of `left` bits above the lowest `low` ones.
+fn uppermost(low: usize, left: usize) -> Cut
+    requires { ⌜ (0 < left) × (low + left < 2 ^ 64) ⌝ }
+    ensures { λ r. ⌜ Cuts low left (r .byte) (r .shift) (r .bits) ⌝ }
+{
+    let end = low + left;
+    let byte = (end - 1) / 8;
+    let room = end - 8 * byte;
+    let bits = bytes::least(room, left);
+    Cut {
+        byte,
+        shift: room - bits,
+        bits,
+    }
+}
+
+// The index of a word's byte j, counted from the least significant one.
+fn position_of(length: u32, j: usize) -> usize
+    requires { ⌜ j < wordBytes length ⌝ }
+    ensures { λ r. ⌜ r ≡ position length j ⌝ }
+{
+    places::word_bytes(length) - 1 - j
+}
+
+// `count` bits of a word above its lowest `low` ones.
+pub fn bits(s: &[u8], at: usize, length: u32, low: usize, count: usize) -> u64
+    requires { ⌜ (at + wordBytes length ≤ size (now s)) × (low + count ≤ 8 * wordBytes length) × (count ≤ 64) ⌝ }
+    ensures { λ r. ⌜ r ≡ partIn (now (s .entry)) at length low count ⌝ }
+{
+    let mut acc: u64 = 0;
+    let mut left = count;
+    while 0 < left {
+        let c = uppermost(low, left);
+        let i = at + position_of(length, c.byte);
+        let b = s[i];
+        acc = bytes::join(acc, c.bits, bytes::field(b, c.shift, c.bits));
+        left -= c.bits;
+    }
+    acc
+}
+
+// These bits replaced by the low ones of v.
+pub fn put(s: &mut [u8], at: usize, length: u32, low: usize, count: usize, v: u64)
+    requires { ⌜ (at + wordBytes length ≤ size (now s)) × (low + count ≤ 8 * wordBytes length) × (count ≤ 64) ⌝ }
+    ensures { λ _. ⌜ now (s .exit) ≡ withPart (now (s .entry)) at length low count v ⌝ }
+{
+    let mut left = count;
+    while 0 < left {
+        let c = uppermost(low, left);
+        let i = at + position_of(length, c.byte);
+        let old = s[i];
+        left -= c.bits;
+        s[i] = bytes::insert(old, c.shift, c.bits, v >> left);
+    }
+}

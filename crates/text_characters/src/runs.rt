@@ -1,0 +1,63 @@
+// Runs of bytes at the start of a text.
+use crate::classes;
+use crate::letters;
+ghost use mathlib.Core.Path.{_≡_};
+ghost use Rattle.language.specs.Scan.{span};
+ghost use Rattle.text_characters.specs.Runs.{belonging};
+
+// What the bytes of a run are.
+pub enum Run {
+    // Letters and digits.
+    Name,
+    // Digits of a base.
+    Digits(u8),
+    // What stands in a comment.
+    Comment,
+}
+
+// Whether a byte belongs to a name.
+fn is_name_part(b: u8) -> bool
+    ensures { λ r. ⌜ r ≡ belonging Run.Name b ⌝ }
+{
+    let class = classes::class_of(b);
+    if class == classes::LETTER {
+        return true;
+    }
+    class == classes::DIGIT
+}
+
+// Whether a byte leaves a comment open.
+fn in_comment(b: u8) -> bool
+    ensures { λ r. ⌜ r ≡ belonging Run.Comment b ⌝ }
+{
+    if b == b'"' {
+        return false;
+    }
+    b != b'\n'
+}
+
+// Whether a byte belongs to a run.
+fn belongs(run: Run, b: u8) -> bool
+    ensures { λ r. ⌜ r ≡ belonging run b ⌝ }
+{
+    match run {
+        Run::Name => is_name_part(b),
+        Run::Digits(base) => letters::digit_worth(b) < base,
+        Run::Comment => in_comment(b),
+    }
+}
+
+// How many bytes at the start of a text belong to a run.
+pub fn length_of(run: Run, text: &[u8]) -> usize
+    ensures { λ r. ⌜ r ≡ span (belonging run) (now (text .entry)) ⌝ }
+{
+    let mut n = 0;
+    while n < text.len() {
+        if belongs(run, text[n]) {
+            n += 1;
+        } else {
+            return n;
+        }
+    }
+    n
+}

@@ -1,0 +1,42 @@
+// From bytes to words (01, "Words" and "Refusal numbers"): the next word from a place on, and the stage that judges a whole text.
+use value_operations::Value;
+
+pub mod faults;
+pub mod lines;
+pub mod next;
+pub mod places;
+pub mod stage;
+
+// Where a word stands: only this crate takes it apart.
+pub struct Position {
+    pub place: usize,
+}
+
+// What a word is; a sign is a symbol or a reserved word by its kind.
+pub enum Kind {
+    End,
+    Name,
+    Constant,
+    Sign(u8),
+}
+
+// A word or the end of the text: where it stands, how many bytes it takes, and for a constant its value and whether it was written without a length.
+pub struct Word {
+    pub kind: Kind,
+    pub at: Position,
+    pub size: usize,
+    pub bare: bool,
+    pub value: Value,
+}
+
+// What is at fault, by its refusal's number.
+pub struct Fault {
+    pub at: Position,
+    pub number: u8,
+}
+
+// What comes of judging.
+pub enum Judged {
+    Passed,
+    Refused(Fault),
+}

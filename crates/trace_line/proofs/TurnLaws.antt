@@ -1,0 +1,69 @@
+-- A cycle's text by its answer. Assumes nothing.
+use mathlib.Core.Bool.{true, false}
+use mathlib.Core.List.{List, [], _++_, append-nil}
+use mathlib.Core.Path.{_≡_, sym, ap, _∙_}
+use Prim.Native.Nat.{ℕ, _+_, _≤_}
+use native.Mathlib.Omega.{arith}
+use lib.ListN.{length, length-append}
+use Rattle.language.specs.Calls.{CycleCall}
+use Rattle.language.specs.Decode.{decode, numberAt}
+use Rattle.language.specs.Description.{Description}
+use Rattle.language.specs.RecordBytes.{recordFrom}
+use Rattle.language.specs.Scan.{bytes}
+use Rattle.language.specs.Trace.{afterCall, cycleLine, decimal, lineEnd, refusedLine, stopLine}
+use Rattle.call_answers.specs.Cycle.{call}
+use Rattle.call_answers.specs.declared.cycled.Answer.{Answer}
+use Rattle.call_answers.specs.declared.cycled.Answer.the-variants as A
+use Rattle.trace_output.proofs.AddsLaws.{adds-as}
+use Rattle.trace_output.proofs.LineRoom.{cycle-short, decimal-short}
+use Rattle.trace_output.specs.Adds.{Adds}
+use Rattle.trace_line.specs.Turns.{Carried, turnRoom}
+
+-- ---- Room.
+
+numbered-short : (word : List ℕ) (n : ℕ) → length (word ++ (decimal n ++ lineEnd)) ≤ length word + 21
+numbered-short word n = omega (arith, length-append word (decimal n ++ lineEnd), length-append (decimal n) lineEnd, decimal-short 20 n [])
+
+module _ (d : Description) (state : ℕ) where
+  short-stop : (n : ℕ) → length (stopLine n) ≤ turnRoom d state
+  unfolding turnRoom bytes
+  short-stop n = omega (arith, numbered-short (bytes "stop ") n)
+
+  pub short-refused : (n : ℕ) → length (refusedLine n) ≤ turnRoom d state
+  unfolding turnRoom bytes
+  short-refused n = omega (arith, numbered-short (bytes "refused ") n)
+
+  short-cycle : (number : ℕ) (B : List ℕ) → length (cycleLine d number state B) ≤ turnRoom d state
+  unfolding turnRoom
+  short-cycle number B = omega (arith, cycle-short d number state B)
+
+-- ---- By the answer of the cycle.
+
+abbrev after : List ℕ → ℕ → List ℕ → (List ℕ → List ℕ → List ℕ) → CycleCall → List ℕ
+after image number R rest c = afterCall image (decode image) number (recordFrom R .state) rest c
+
+module _ {image : List ℕ} {number : ℕ} {R : List ℕ} {c : CycleCall} {S′ R′ B : List ℕ} {at : ℕ} {C : List ℕ} {end : ℕ} (a : Answer) (scratch : List ℕ) (is : call a S′ R′ scratch ≡ c) where
+  pub carried-on : (n : ℕ) → a ≡ A.Cycled n → (state : ℕ) → state ≡ numberAt 4 4 R → Adds (cycleLine (decode image) number state S′) B at C end → Carried image number R c true S′ R′ B at C end
+  unfolding recordFrom
+  carried-on n e state q x = record {
+    text = cycleLine (decode image) number (recordFrom R .state) S′;
+    adds = adds-as x (ap (λ (s : ℕ). cycleLine (decode image) number s S′) q);
+    short = short-cycle (decode image) (recordFrom R .state) number S′;
+    same = λ rest. ap (after image number R rest) (sym is ∙ ap (λ (b : Answer). call b S′ R′ scratch) e);
+  }
+
+  pub carried-stop : (n : ℕ) → a ≡ A.Stopped n → Adds (stopLine n) B at C end → Carried image number R c false S′ R′ B at C end
+  carried-stop n e x = record {
+    text = stopLine n;
+    adds = x;
+    short = short-stop (decode image) (recordFrom R .state) n;
+    same = λ rest. ap (after image number R rest) (sym is ∙ ap (λ (b : Answer). call b S′ R′ scratch) e) ∙ sym (append-nil (stopLine n));
+  }
+
+  pub carried-refused : (n : ℕ) → a ≡ A.Refused n → Adds (refusedLine n) B at C end → Carried image number R c false S′ R′ B at C end
+  carried-refused n e x = record {
+    text = refusedLine n;
+    adds = x;
+    short = short-refused (decode image) (recordFrom R .state) n;
+    same = λ rest. ap (after image number R rest) (sym is ∙ ap (λ (b : Answer). call b S′ R′ scratch) e) ∙ sym (append-nil (refusedLine n));
+  }
