@@ -154,10 +154,6 @@ pub tails-1 : {K : Stack} {b : Built} {c : Counts} → among (headOf K) afterSum
 unfolding within among
 tails-1 {K} f r = no-arithmeticTail f r
 
-pub tails-2 : {K : Stack} {b : Built} {c : Counts} → among (headOf K) afterRelation ≡ false → Completed K b c → Completed (ask Machine.arithmeticTail ∷ ask Machine.relationTail ∷ K) b c
-unfolding within among
-tails-2 {K} f r = no-arithmeticTail (among-within (headOf K) afterSum afterRelation refl f) (no-relationTail f r)
-
 pub tails-3 : {K : Stack} {b : Built} {c : Counts} → among (headOf K) afterCut ≡ false → Completed K b c → Completed (ask Machine.arithmeticTail ∷ ask Machine.relationTail ∷ ask Machine.cutTail ∷ K) b c
 unfolding within among
 tails-3 {K} f r = no-arithmeticTail (among-within (headOf K) afterSum afterCut refl f) (no-relationTail (among-within (headOf K) afterRelation afterCut refl f) (no-cutTail f r))

@@ -23,7 +23,7 @@ use Rattle.language.specs.Words.{Constant, Position, Word, sign}
 use Rattle.about_grammar.specs.Acting.{back, deeper}
 use Rattle.about_grammar.specs.Courses.{Ceiling, Comes, Stack, Under, _⊳_, asking, at-last, comes, respelt, then-move, then-words, took-it}
 use Rattle.about_grammar.specs.Dimensions.{Dimensioned}
-use Rattle.about_grammar.specs.Following.{Follows, afterOr, among, follows-within, within}
+use Rattle.about_grammar.specs.Following.{afterOr, among, follows-within, within}
 use Rattle.about_grammar.specs.Levels.{Boolean, whole-expression}
 use Rattle.about_grammar.specs.Operations.{plain-word}
 use Rattle.about_grammar.specs.Operators.{building}
@@ -98,11 +98,6 @@ function-begins [] f x = absurd f
 function-begins {C} (w ∷ us) f {K = K} {r = r} x =
     comes (λ vs end g. begins-later treeSteps (C .fits) (ruleOf treeSteps) functionOf M.expression (make makeComputed ∷ []) (lead inputWord (word openParen opens ∷ plainWord aConstant ∷ plainWord comma ∷ again ∷ closing closeParen ∷ make makeInput ∷ []) ∷ []) (expressionWays treeSteps (termWays treeSteps)) refl refl refl K r w f (us ++ vs) end
     ∙ x .course vs end g)
-
-heads-follow-none : (us vs : List Word) → Heads notBoolean us → Follows [] (us ++ vs)
-unfolding among
-heads-follow-none [] vs f = absurd f
-heads-follow-none (w ∷ us) vs f = refl
 
 -- The declared name once more.
 pub same-name : (n : Name) → same n n ≡ true

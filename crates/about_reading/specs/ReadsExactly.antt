@@ -3,7 +3,7 @@ use mathlib.Core.Bool.{Bool, true, false, cond}
 use mathlib.Core.List.{List, []}
 use mathlib.Core.Option.{Option, none, some}
 use mathlib.Core.Logic.{_⊎_}
-use mathlib.Core.Path.{_≡_, refl, sym, subst}
+use mathlib.Core.Path.{_≡_, refl, subst}
 use native.Mathlib.Omega.{arith}
 use Prim.Native.Nat.{ℕ, _≤_, _<_}
 use borrow.Author.Tests.{le-ltb, ltb-false, ltb-true}
@@ -15,7 +15,6 @@ use Rattle.language.specs.DescribeText.{describe}
 use Rattle.language.specs.Description.{Description}
 use Rattle.language.specs.Grammar.{Is}
 use Rattle.language.specs.Image as Image
-use Rattle.language.specs.Image.{legalForm}
 use Rattle.language.specs.Machine.{Parsed, deepest, parsed, refused}
 use Rattle.language.specs.Notions.{text, wholeText}
 use Rattle.language.specs.Reading.{afterGrammar, afterWords, legal, longestText, orLegal, readText, refusedAt, restOf}
@@ -28,7 +27,6 @@ use Rattle.about_grammar.specs.Complete.{unique}
 use Rattle.about_grammar.specs.Exact.{exact-text, refusal-of-text}
 use Rattle.about_grammar.specs.FirstFault.{FirstFault}
 use Rattle.about_grammar.specs.Refusals.{PlaceOfTen}
-use Rattle.about_rules.specs.LegalTexts.{in-legal-form}
 use Rattle.about_rules.specs.RightWords.{words-right}
 use Rattle.about_reading.specs.Least.{Least, least-so, none-least}
 
@@ -135,6 +133,3 @@ refuses-least s f e = by-length (ltb longestText (length s)) refl e
 
 pub as-legal : (s : List ℕ) (t : Text) → LegalText s t → Image.Legal t
 as-legal s t x = record { words = scan s .words; nesting = deepest; right = words-right s; derived = x .derived; within = x .within; faultless = x .faultless }
-
-pub accepted-form : (s : List ℕ) (d : Description) → readText s ≡ legal d → legalForm d ≡ true
-accepted-form s d e = let a = accepted s d e in rw (sym (a .described)) (in-legal-form (a .tree) (as-legal s (a .tree) (a .legal-text)))

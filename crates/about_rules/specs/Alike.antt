@@ -6,7 +6,7 @@ use native.Mathlib.Omega.{arith}
 use Prim.Native.Nat.{ℕ, zero, suc}
 use lib.Dec.{eqb, eqb·suc-zero, leb, ltb}
 use lib.ListN.{length}
-use Rattle.language.specs.Judging.{Judged, Worth, armList, faultsOf, faulty, fine, given, givenBoth, orFaulty, proper, refuse, sized, unless, worth}
+use Rattle.language.specs.Judging.{Judged, Worth, armList, faultsOf, faulty, fine, given, givenBoth, orFaulty, proper, sized, unless}
 use Rattle.language.specs.Recursion.{below}
 use Rattle.language.specs.Value.{longest}
 use Rattle.language.specs.Words.{Fault, Position}
@@ -47,9 +47,6 @@ none-as-well some-fault e = absurd (let z : _≡_ {A = ℕ} 0 1 = cc in omega ar
 
 -- ---- Judgements.
 
-pub refuse-alike : {p q : Position} {m n : ℕ} → Alike (refuse p m) (refuse q n)
-refuse-alike = both-faulty
-
 pub cond-alike : (b : Bool) {i j k l : Judged} → Alike i j → Alike k l → Alike (cond b i k) (cond b j l)
 cond-alike true h k = h
 cond-alike false h k = k
@@ -77,9 +74,6 @@ arms-alike p q both-faulty = both-faulty
 pub sized-alike : (p q : Position) (l w : ℕ) → Alike (sized p l w) (sized q l w)
 unfolding sized
 sized-alike p q l w = cond-alike (ltb 0 l) (cond-alike (leb l longest) both-fine both-faulty) both-faulty
-
-pub worth-alike : {l a w : ℕ} → Alike (worth l a w) (worth l a w)
-worth-alike = both-fine
 
 pub or-alike : {xs ys : List Fault} {i j : Judged} → Together xs ys → Alike i j → Alike (orFaulty xs i) (orFaulty ys j)
 or-alike no-fault h = h

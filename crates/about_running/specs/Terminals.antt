@@ -1,18 +1,16 @@
 -- Never stuck, for computed terminals: each is worked out from facilities before it, to its declared length. Assumes nothing.
 use mathlib.Core.Bool.{Bool, true, false}
 use mathlib.Core.List.{List, [], _∷_}
-use mathlib.Core.Option.{none, some}
+use mathlib.Core.Option.{some}
 use mathlib.Core.Path.{_≡_, refl, sym, subst, _∙_}
 use native.Mathlib.Omega.{arith}
 use Prim.Native.Nat.{ℕ, zero, suc, _+_, _^_, _≤_, _<_}
 use lib.ListN.{getD, length}
-use Rattle.language.specs.Description as D
 use Rattle.language.specs.Description.{Description, Facility, Places, facilityAt, isComputed, noFacility, wordLength}
-use Rattle.language.specs.Expressions.{judgeAt, terminalBelow, terminalJudged, terminalStep}
-use Rattle.language.specs.Judging.{Worth, fine, refuse}
+use Rattle.language.specs.Expressions.{judgeAt, terminalBelow, terminalJudged}
+use Rattle.language.specs.Judging.{Worth, fine}
 use Rattle.language.specs.Meaning.{Place, Stores, evalAt}
 use Rattle.language.specs.Order.{facilityRoots, functionRoot, startAt, treesEnd}
-use Rattle.language.specs.Recursion.{below-lt}
 use Rattle.language.specs.Tree as T
 use Rattle.language.specs.Tree.{Kind}
 use Rattle.about_running.specs.Evaluates.{Terminal, evaluates}
@@ -85,10 +83,6 @@ module _ (d : Description) where
 
 module _ (d : Description) (p : Places) (base : ℕ) (order : treesEnd d 0 (facilityRoots d (d .facilities)) ≡ some base)
     (judged : (f : ℕ) → f < length (d .facilities) → isComputed (facilityAt d f .kind) ≡ true → (w : Worth) × (terminalJudged d p f ≡ fine w) × (wordLength (facilityAt d f) ≡ w .length)) where
-  terminal-lt : (n f : ℕ) → f < n → terminalBelow d p n f ≡ terminalJudged d p f
-  unfolding terminalBelow terminalJudged
-  terminal-lt n f h = below-lt (refuse D.nowhere 4) (terminalStep d p) n f h
-
   module _ {X : Type 0} (S : Stores X) (x : X) (loads : (q : Place) → S .load x q < 2 ^ q .count) where
     -- What a computed terminal gives.
     Works : ℕ → Type 0

@@ -24,17 +24,8 @@ here = position 0
 
 -- ---- From a term up to an expression.
 
-pub as-arithmetic : {h : ℕ} {us : List Word} {t : Tree} → Is N.term h us t → Is N.arithmetic h us t
-as-arithmetic x = G.arithmetic-one x
-
 pub as-adjustment : {h : ℕ} {us : List Word} {t : Tree} → Is N.arithmetic h us t → Is N.adjustment h us t
 as-adjustment x = G.cut-none (G.relation-none x)
-
-pub as-reduction : {h : ℕ} {us : List Word} {t : Tree} → Is N.adjustment h us t → Is N.reduction h us t
-as-reduction x = G.reduction-none x
-
-pub as-complement : {h : ℕ} {us : List Word} {t : Tree} → Is N.chain h us t → Is N.complement h us t
-as-complement x = G.complement-none x
 
 pub of-complement : {h : ℕ} {us : List Word} {t : Tree} → Is N.complement h us t → Is N.booleanExp h us t
 of-complement x = G.or-one (G.exclusive-one (G.and-one x))

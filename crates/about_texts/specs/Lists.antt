@@ -156,11 +156,6 @@ module _ (d : Description) (sc : Scope) (knows : Knows d sc (length (d .faciliti
   after-one : (n i o m : ℕ) {w : Worth} → Fewer (suc n) → judged n (i + 1) actions ≡ fine w → treesEnd d o (runRoots d n (suc i)) ≡ some m → Listed actions n (suc i) o m
   after-one n i o m ih e g = ih .lists n (suc i) o m _ (omega arith) (rw (next-to i) at e) g
 
-  -- The roots of the first record, and then those of the others.
-  roots-so : (n i s m : ℕ) (a : Action) → actionAt d i ≡ a → treesEnd d s (runRoots d (suc n) i) ≡ some m → treesEnd d s (actionRoots d a ++ runRoots d n (suc i)) ≡ some m
-  unfolding runRoots
-  roots-so n i s m a q g = rw q at g
-
   allowed-store : (k : ℕ) (f : Kind) → mayStore k f ≡ true → isStore k ≡ true
   unfolding mayStore
   allowed-store k f e = go (eqb k delayedSign) refl (eqb k equalSign) refl e

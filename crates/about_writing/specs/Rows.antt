@@ -13,9 +13,6 @@ use Rattle.about_writing.specs.Running.{placeAt, running, running-at, ru
 -- ---- Records that stand for themselves.
 
 module _ {A : Type 0} (write : A → List ℕ) where
-  row : List A → List ℕ
-  row = running (λ p. write) (λ x. 0) 0
-
   concat-running : (p : ℕ) (xs : List A) → concat write xs ≡ running (λ p. write) (λ x. 0) p xs
   unfolding concat running
   concat-running p [] = refl

@@ -2,7 +2,7 @@
 use mathlib.Core.Bool.{Bool, true, false}
 use mathlib.Core.List.{List}
 use mathlib.Core.Path.{_≡_, refl, sym, ap, _∙_}
-use Prim.Native.Nat.{ℕ, _+_, _*_, _/_, _^_, _<_, _≤_}
+use Prim.Native.Nat.{ℕ, _+_, _/_, _≤_}
 use native.Mathlib.Omega.{arith}
 use borrow.Author.Tests.{eqb-false, eqb-true}
 use lib.Dec.{eqb}
@@ -44,15 +44,6 @@ module _ (x : Sections) (c : Counts) (z : Sized x c) where
 
   states-many : length (x .states) / 7 ≡ c .states
   states-many = omega (arith, z .states)
-
-  pub facilities-whole : length (x .facilities) ≡ 13 * (length (x .facilities) / 13)
-  facilities-whole = omega (arith, z .facilities)
-
-  pub nodes-whole : length (x .expressions) ≡ 8 * (length (x .expressions) / 8)
-  nodes-whole = omega (arith, z .expressions)
-
-  pub actions-whole : length (x .actions) ≡ 7 * (length (x .actions) / 7)
-  actions-whole = omega (arith, z .actions)
 
   -- ---- The bytes.
 
@@ -98,9 +89,6 @@ module _ (x : Sections) (c : Counts) (z : Sized x c) where
           (both-true (same (x .actions) (concat actionBytes (described x .actions))))
 
   -- ---- What they describe.
-
-  pub states-short : c .states < 2 ^ 32 → length (x .states) < 2 ^ 36
-  states-short h = omega (arith, z .states)
 
   abbrev allNamed : Bool
   allNamed = both (all (λ f. nameRight (f .name)) (described x .facilities))

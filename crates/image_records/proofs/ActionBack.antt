@@ -1,33 +1,19 @@
--- An action that was written is read back, and writing a record leaves all others.
-use mathlib.Core.Bool.{Bool, true, false}
+-- An action that was written is read back.
 use mathlib.Core.List.{List}
 use mathlib.Core.Logic.{_⊎_, inl, inr}
-use mathlib.Core.Path.{_≡_, refl, sym, subst, _∙_}
+use mathlib.Core.Path.{_≡_, subst, _∙_}
 use Prim.Native.Nat.{ℕ, _+_, _*_, _/_, _<_, _≤_}
 use native.Mathlib.Omega.{arith}
-use borrow.Author.Tests.{ltb-false, ltb-true}
-use lib.Dec.{ltb}
 use lib.ListN.{length, getD}
 use Rattle.language.specs.Decode.{actionOf, actionWith, numberAt}
 use Rattle.language.specs.Description as D
 use Rattle.language.specs.Description.{Action}
 use Rattle.language.specs.Encode.{actionBytes, actionRecord, little}
 use Rattle.language.specs.Kinds.{delayedSign, equalSign}
-use Rattle.image_records.proofs.ActionLaws.{action-length, action-past, action-whole}
-use Rattle.image_records.proofs.ByteLaws.{placed-after, placed-before, placed-in, placed-length}
+use Rattle.image_records.proofs.ActionLaws.{action-length, action-whole}
+use Rattle.image_records.proofs.ByteLaws.{placed-in, placed-length}
 use Rattle.image_records.proofs.NodeBack.{Half, half-back}
-use Rattle.image_records.proofs.NumberLaws.{number-same}
 use Rattle.image_records.specs.Placed.{placed}
-
--- Record n is the same where its bytes are.
-pub action-same : (s t : List ℕ) (n : ℕ) → n < length s / 7 → n < length t / 7 → ((i : ℕ) → 7 * n ≤ i → i < 7 * n + 7 → getD s i 0 ≡ getD t i 0)
-    → actionOf s n ≡ actionOf t n
-action-same s t n h g f =
-    let m : getD s (7 * n) 0 ≡ getD t (7 * n) 0 = f (7 * n) (omega arith) (omega arith) in
-    let a : numberAt 2 (7 * n + 1) s ≡ numberAt 2 (7 * n + 1) t = number-same 2 (7 * n + 1) s t (λ i p q. f i (omega arith) (omega arith)) in
-    let b : numberAt 2 (7 * n + 3) s ≡ numberAt 2 (7 * n + 3) t = number-same 2 (7 * n + 3) s t (λ i p q. f i (omega arith) (omega arith)) in
-    let c : numberAt 2 (7 * n + 5) s ≡ numberAt 2 (7 * n + 5) t = number-same 2 (7 * n + 5) s t (λ i p q. f i (omega arith) (omega arith)) in
-    action-whole s n h ∙ rw (m, a, b, c) (sym (action-whole t n g))
 
 -- ---- Fields that fit.
 
@@ -103,24 +89,3 @@ module _ (s : List ℕ) (n : ℕ) (x : Action) where
       let p : length written ≡ length s = placed-length s (actionBytes x) (7 * n) in
       let r : 7 * n + length (actionBytes x) ≤ length s = omega arith in
       action-back written n (rw p h) x g (λ i j. placed-in s (actionBytes x) (7 * n) r i (omega arith))
-
-  pub action-kept : (m : ℕ) → (m ≡ n → ⊥) → actionOf written m ≡ actionOf s m
-  action-kept m d = by-test (ltb m (length s / 7)) refl
-    where
-      p : length written ≡ length s
-      p = placed-length s (actionBytes x) (7 * n)
-
-      byte : (b : Bool) → ltb m n ≡ b → (i : ℕ) → 7 * m ≤ i → i < 7 * m + 7 → getD written i 0 ≡ getD s i 0
-      byte true e i u v = let o : m < n = ltb-true _ _ e in placed-before s (actionBytes x) (7 * n) i (omega arith)
-      byte false e i u v =
-          let o : n ≤ m = ltb-false _ _ e in
-          let l = action-length x in
-          placed-after s (actionBytes x) (7 * n) i (omega (arith, d))
-
-      by-test : (b : Bool) → ltb m (length s / 7) ≡ b → actionOf written m ≡ actionOf s m
-      by-test true e =
-          let q : m < length s / 7 = ltb-true _ _ e in
-          action-same written s m (rw p q) q (byte (ltb m n) refl)
-      by-test false e =
-          let q : length s / 7 ≤ m = ltb-false _ _ e in
-          action-past written m (rw p q) ∙ sym (action-past s m q)

@@ -1,54 +1,22 @@
--- A node that was written is read back, and writing a record leaves those before it.
-use mathlib.Core.Bool.{Bool, true, false}
+-- A node that was written is read back.
+use mathlib.Core.Bool.{true}
 use mathlib.Core.List.{List}
-use mathlib.Core.Path.{_≡_, refl, sym, _∙_}
-use Prim.Native.Nat.{ℕ, zero, suc, _+_, _-_, _*_, _/_, _%_, _^_, _<_, _≤_}
+use mathlib.Core.Path.{_≡_, _∙_}
+use Prim.Native.Nat.{ℕ, suc, _+_, _-_, _*_, _/_, _%_, _^_, _<_, _≤_}
 use native.Mathlib.Nat.{mod-eq-of-lt, mod-lt}
 use native.Mathlib.Omega.{arith}
-use borrow.Author.Tests.{ltb-false, ltb-true, ne-eqb}
-use lib.Dec.{ltb}
+use borrow.Author.Tests.{ne-eqb}
 use lib.ListN.{length, getD}
 use Rattle.language.specs.Decode.{constantAt, digitsBefore, digitsMarked, nodeOf, numberAt, operatorOf, plainNode}
 use Rattle.language.specs.Description as D
 use Rattle.language.specs.Description.{Node, digitLength, furtherDigits}
 use Rattle.language.specs.Encode.{digitRecord, little, nodeBytes, nodeRecord}
 use Rattle.language.specs.Value.{Value}
-use Rattle.image_records.proofs.ByteLaws.{placed-before, placed-in, placed-length}
-use Rattle.image_records.proofs.NodeLaws.{node-past, node-whole}
-use Rattle.image_records.proofs.NumberLaws.{number-back, number-same, number-two}
+use Rattle.image_records.proofs.ByteLaws.{placed-in, placed-length}
+use Rattle.image_records.proofs.NodeLaws.{node-whole}
+use Rattle.image_records.proofs.NumberLaws.{number-back, number-two}
 use Rattle.image_records.proofs.WrittenNodes.{node-length}
 use Rattle.image_records.specs.Placed.{placed}
-
--- ---- Records that stand in two sections alike.
-
-marked-same : (k n : ℕ) (s t : List ℕ) → ((i : ℕ) → i < 8 * n → getD s i 0 ≡ getD t i 0) → digitsMarked k n s ≡ digitsMarked k n t
-unfolding digitsMarked
-marked-same zero n s t f = refl
-marked-same (suc k) zero s t f = refl
-marked-same (suc k) (suc n) s t f =
-    rw (f (8 * n) (omega arith), marked-same k n s t (λ i h. f i (omega arith)))
-
-before-same : (k n : ℕ) (s t : List ℕ) → ((i : ℕ) → i < 8 * n → getD s i 0 ≡ getD t i 0) → digitsBefore k n s ≡ digitsBefore k n t
-unfolding digitsBefore digitLength
-before-same zero n s t f = refl
-before-same (suc k) zero s t f = refl
-before-same (suc k) (suc n) s t f =
-    rw (number-same 6 (8 * n + 2) s t (λ i g h. f i (omega arith)), before-same k n s t (λ i h. f i (omega arith)))
-
--- The records up to n are the same, so record n is.
-pub node-same : (s t : List ℕ) (n : ℕ) → n < length s / 8 → n < length t / 8 → ((i : ℕ) → i < 8 * n + 8 → getD s i 0 ≡ getD t i 0) → nodeOf s n ≡ nodeOf t n
-unfolding constantAt
-node-same s t n h g f =
-    let m : getD s (8 * n) 0 ≡ getD t (8 * n) 0 = f (8 * n) (omega arith) in
-    let x : getD s (8 * n + 1) 0 ≡ getD t (8 * n + 1) 0 = f (8 * n + 1) (omega arith) in
-    let a : numberAt 2 (8 * n + 2) s ≡ numberAt 2 (8 * n + 2) t = number-same 2 (8 * n + 2) s t (λ i p q. f i (omega arith)) in
-    let b : numberAt 2 (8 * n + 4) s ≡ numberAt 2 (8 * n + 4) t = number-same 2 (8 * n + 4) s t (λ i p q. f i (omega arith)) in
-    let c : numberAt 2 (8 * n + 6) s ≡ numberAt 2 (8 * n + 6) t = number-same 2 (8 * n + 6) s t (λ i p q. f i (omega arith)) in
-    let d : numberAt 6 (8 * n + 2) s ≡ numberAt 6 (8 * n + 2) t = number-same 6 (8 * n + 2) s t (λ i p q. f i (omega arith)) in
-    let k = furtherDigits (getD t (8 * n + 1) 0 + 1) in
-    let u : digitsMarked k n s ≡ digitsMarked k n t = marked-same k n s t (λ i p. f i (omega arith)) in
-    let v : digitsBefore k n s ≡ digitsBefore k n t = before-same k n s t (λ i p. f i (omega arith)) in
-    node-whole s n h ∙ rw (m, x, a, b, c, d, u, v) (sym (node-whole t n g))
 
 -- ---- Fields that fit.
 
@@ -189,17 +157,3 @@ module _ (s : List ℕ) (n : ℕ) (x : Node) where
       let q : n < length written / 8 = rw p h in
       let r : 8 * n + length (nodeBytes x) ≤ length s = omega arith in
       node-back written n q x g (λ i j. placed-in s (nodeBytes x) (8 * n) r i (omega arith))
-
-  pub node-kept : (m : ℕ) → m < n → nodeOf written m ≡ nodeOf s m
-  node-kept m h = by-test (ltb m (length s / 8)) refl
-    where
-      p : length written ≡ length s
-      p = placed-length s (nodeBytes x) (8 * n)
-
-      by-test : (b : Bool) → ltb m (length s / 8) ≡ b → nodeOf written m ≡ nodeOf s m
-      by-test true e =
-          let q : m < length s / 8 = ltb-true _ _ e in
-          node-same written s m (rw p q) q (λ i j. placed-before s (nodeBytes x) (8 * n) i (omega arith))
-      by-test false e =
-          let q : length s / 8 ≤ m = ltb-false _ _ e in
-          node-past written m (rw p q) ∙ sym (node-past s m q)

@@ -29,13 +29,7 @@ pub number-six : (at : ℕ) (s : List ℕ) → numberAt 6 at s ≡ numberAt 4 at
 unfolding numberAt
 number-six at s = let e : at + 4 ≡ suc (suc (suc (suc at))) = omega arith in rw e (omega arith)
 
--- ---- Bytes that stand in two rows alike, and bytes that were written.
-
-pub number-same : (k at : ℕ) (s t : List ℕ) → ((i : ℕ) → at ≤ i → i < at + k → getD s i 0 ≡ getD t i 0) → numberAt k at s ≡ numberAt k at t
-unfolding numberAt
-number-same zero at s t f = refl
-number-same (suc k) at s t f =
-    rw (f at (omega arith) (omega arith), number-same k (suc at) s t (λ i g h. f i (omega arith) (omega arith)))
+-- ---- Bytes that were written.
 
 pub number-back : (k at x : ℕ) (s : List ℕ) → x < 256 ^ k → ((i : ℕ) → i < k → getD s (at + i) 0 ≡ getD (little k x) i 0) → numberAt k at s ≡ x
 unfolding numberAt little

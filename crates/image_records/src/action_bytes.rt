@@ -10,7 +10,6 @@ ghost use Rattle.language.specs.Decode.{actionOf};
 ghost use Rattle.language.specs.Encode.{actionBytes, actionRecord, storeMark};
 ghost use Rattle.language.specs.Scan.{same};
 ghost use Rattle.image_records.specs.Actions.{meant};
-ghost use Rattle.image_records.specs.Placed.{placed};
 
 // A mark and three numbers.
 fn fields(mark: u8, a: u16, b: u16, c: u16) -> [u8; 7]
@@ -65,15 +64,4 @@ pub fn action_right(acts: &[u8], n: usize) -> bool
     }
     let written = action_bytes(actions::action_at(acts, n));
     bytes::stand(acts, 7 * n, &written)
-}
-
-// Writes record n of a section, where there is room for it.
-pub fn write_action(acts: &mut [u8], n: usize, action: Action)
-    ensures { λ _. ⌜ now (acts .exit) ≡ placed (now (acts .entry)) (7 * n) (actionBytes (meant action)) ⌝ }
-{
-    if acts.len() / 7 <= n {
-        return;
-    }
-    let written = action_bytes(action);
-    bytes::put(acts, 7 * n, &written);
 }

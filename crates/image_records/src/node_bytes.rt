@@ -10,7 +10,6 @@ ghost use Rattle.language.specs.Decode.{nodeOf};
 ghost use Rattle.language.specs.Encode.{digitRecord, nodeBytes, nodeRecord};
 ghost use Rattle.language.specs.Scan.{same};
 ghost use Rattle.image_records.specs.Nodes.{meant};
-ghost use Rattle.image_records.specs.Placed.{placed};
 
 // A mark, a byte, and three numbers.
 fn fields(mark: u16, x: u8, a: u16, b: u16, c: u16) -> [u8; 8]
@@ -83,15 +82,4 @@ pub fn node_right(exprs: &[u8], n: usize) -> bool
     let at = 8 * n;
     let written = node_bytes(nodes::node_at(exprs, n), numbers::six(exprs, at + 2));
     bytes::stand(exprs, at, &written)
-}
-
-// Writes record n of a section, where there is room for it.
-pub fn write_node(exprs: &mut [u8], n: usize, node: Node, v: u64)
-    ensures { λ _. ⌜ now (exprs .exit) ≡ placed (now (exprs .entry)) (8 * n) (nodeBytes (meant v node)) ⌝ }
-{
-    if exprs.len() / 8 <= n {
-        return;
-    }
-    let written = node_bytes(node, v);
-    bytes::put(exprs, 8 * n, &written);
 }

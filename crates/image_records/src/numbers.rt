@@ -110,15 +110,6 @@ pub fn four_bytes(x: u64) -> [u8; 4]
     [b0, b1, b2, b3]
 }
 
-// Writes a number in two bytes at a place, where they fit.
-pub fn write_two(s: &mut [u8], at: usize, x: u16)
-    ensures { λ _. ⌜ now (s .exit) ≡ placed (now (s .entry)) at (L.two x) ⌝ }
-{
-    let b0 = low(x);
-    let b1 = high(x);
-    bytes::put(s, at, &[b0, b1]);
-}
-
 // Writes a number in four bytes at a place, where they fit.
 pub fn write_four(s: &mut [u8], at: usize, x: u32)
     ensures { λ _. ⌜ now (s .exit) ≡ placed (now (s .entry)) at (L.four x) ⌝ }

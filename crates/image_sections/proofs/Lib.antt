@@ -1,5 +1,4 @@
 pub mod DeclarationBack
-pub mod DeclarationKept
 pub mod DeclarationLaws
 pub mod DescribedLaws
 pub mod HeaderLaws

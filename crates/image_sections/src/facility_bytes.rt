@@ -12,7 +12,6 @@ ghost use Rattle.language.specs.Description.{isComputed};
 ghost use Rattle.language.specs.Encode.{facilityRecord};
 ghost use Rattle.language.specs.Scan.{same};
 ghost use Rattle.language.specs.Tree.{Name};
-ghost use Rattle.image_records.specs.Placed.{placed};
 ghost use Rattle.image_sections.specs.Declarations.{facilityIn, facilityMeant, kindMeant, nameLengthIn};
 
 // Where a facility is: the number of its expression, or else its place in the store.
@@ -72,15 +71,4 @@ pub fn facility_right(facilities: &[u8], n: usize, place: u32) -> bool
     }
     let written = facility_bytes(facilities::facility_at(facilities, n), place);
     bytes::stand(facilities, 13 * n, &written)
-}
-
-// Writes record n of a section, where there is room for it.
-pub fn write_facility(facilities: &mut [u8], n: usize, f: Facility, place: u32)
-    ensures { λ _. ⌜ ((name : Name) → length name ≡ f .name → now (facilities .exit) ≡ placed (now (facilities .entry)) (13 * n) (facilityRecord place (facilityMeant name f))) ⌝ }
-{
-    if facilities.len() / 13 <= n {
-        return;
-    }
-    let written = facility_bytes(f, place);
-    bytes::put(facilities, 13 * n, &written);
 }

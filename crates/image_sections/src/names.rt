@@ -7,7 +7,7 @@ use image_records::numbers;
 ghost use mathlib.Core.Path.{_≡_};
 ghost use Prim.Native.Nat.{_*_, _≤_};
 ghost use Rattle.language.specs.Decode.{namesLength};
-ghost use Rattle.image_sections.specs.Names.{facilityPart, named, operationPart, partMeant, statePart};
+ghost use Rattle.image_sections.specs.Names.{facilityPart, named, partMeant, statePart};
 
 // Where a name stands among the names.
 pub struct Part {
@@ -38,18 +38,6 @@ pub fn facility_part(facilities: &[u8], n: u32) -> Part
     Part {
         offset: names_length(facilities, n, 2, 13),
         length: f.name as usize,
-    }
-}
-
-// The name of operation n, after those of `count` facilities.
-pub fn operation_part(facilities: &[u8], count: u32, operations: &[u8], n: u32) -> Part
-    ensures { λ r. ⌜ partMeant r ≡ operationPart (now (facilities .entry)) count (now (operations .entry)) n ⌝ }
-{
-    let before = names_length(facilities, count, 2, 13);
-    let o = operations::operation_at(operations, n as usize);
-    Part {
-        offset: before + names_length(operations, n, 0, 5),
-        length: o.name as usize,
     }
 }
 

@@ -1,14 +1,12 @@
 // An operation's record; its name stands elsewhere.
 use crate::runs;
 use crate::runs::Run;
-use image_records::bytes;
 use image_records::numbers;
 ghost use mathlib.Core.Path.{_≡_};
 ghost use Prim.Native.Nat.{_*_};
 ghost use lib.ListN.{length};
 ghost use Rattle.language.specs.Encode.{operationRecord};
 ghost use Rattle.language.specs.Tree.{Name};
-ghost use Rattle.image_records.specs.Placed.{placed};
 ghost use Rattle.image_sections.specs.Declarations.{OperationRead, operationMeant};
 
 pub struct Operation {
@@ -46,15 +44,4 @@ pub fn operation_bytes(o: Operation) -> [u8; 5]
     let c0 = numbers::low(body.count);
     let c1 = numbers::high(body.count);
     [o.name, f0, f1, c0, c1]
-}
-
-// Writes record n of a section, where there is room for it.
-pub fn write_operation(operations: &mut [u8], n: usize, o: Operation)
-    ensures { λ _. ⌜ ((name : Name) → length name ≡ o .name → now (operations .exit) ≡ placed (now (operations .entry)) (5 * n) (operationRecord (operationMeant name o))) ⌝ }
-{
-    if operations.len() / 5 <= n {
-        return;
-    }
-    let written = operation_bytes(o);
-    bytes::put(operations, 5 * n, &written);
 }

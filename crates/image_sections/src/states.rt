@@ -1,7 +1,6 @@
 // A state's record; its label stands elsewhere.
 use crate::runs;
 use crate::runs::Run;
-use image_records::bytes;
 use image_records::numbers;
 ghost use mathlib.Core.Path.{_≡_};
 ghost use Prim.Native.Nat.{_*_};
@@ -9,7 +8,6 @@ ghost use lib.ListN.{length};
 ghost use Rattle.language.specs.Decode.{valueOf};
 ghost use Rattle.language.specs.Encode.{stateRecord, valueField};
 ghost use Rattle.language.specs.Tree.{Name};
-ghost use Rattle.image_records.specs.Placed.{placed};
 ghost use Rattle.image_sections.specs.Declarations.{StateRead, stateMeant, valueMeant};
 
 // The number of the constant that is a state's value, if it has one.
@@ -82,15 +80,4 @@ pub fn state_bytes(s: State) -> [u8; 7]
     let c0 = numbers::low(actions.count);
     let c1 = numbers::high(actions.count);
     [s.name, v0, v1, f0, f1, c0, c1]
-}
-
-// Writes record n of a section, where there is room for it.
-pub fn write_state(states: &mut [u8], n: usize, s: State)
-    ensures { λ _. ⌜ ((name : Name) → length name ≡ s .name → now (states .exit) ≡ placed (now (states .entry)) (7 * n) (stateRecord (stateMeant name s))) ⌝ }
-{
-    if states.len() / 7 <= n {
-        return;
-    }
-    let written = state_bytes(s);
-    bytes::put(states, 7 * n, &written);
 }

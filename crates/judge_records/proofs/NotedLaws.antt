@@ -14,7 +14,7 @@ use Rattle.image_sections.specs.Names.{facilityPart, named}
 use Rattle.image_sections.specs.declared.facilities.Facility as F
 use Rattle.language.specs.Decode.{actionOf, described, facilityOf, nodeOf, numberAt, pick, upTo}
 use Rattle.language.specs.Description as D
-use Rattle.language.specs.Description.{Facility, FacilityPlaces, Node, actionAt, actionPlace, facilityAt, facilityPlace, noFacility, nodeAt, nodePlace, nodePlaces, noPlaces, nowhere, operationAt, operationPlace, stateAt, statePlace}
+use Rattle.language.specs.Description.{Facility, FacilityPlaces, Node, actionAt, actionPlace, facilityAt, facilityPlace, noFacility, nodeAt, nodePlace, nodePlaces, noPlaces, nowhere, operationAt, stateAt, statePlace}
 use Rattle.language.specs.Encode.{Sections}
 use Rattle.language.specs.Tree.{Name}
 use Rattle.image_records.proofs.NumberLaws.{number-past}
@@ -84,13 +84,6 @@ widened-kind s k n [] = refl
 widened-kind s k zero (f ∷ fs) = refl
 widened-kind s k (suc n) (f ∷ fs) = widened-kind s (suc k) n fs
 
-widened-name : (s : List ℕ) (k n : ℕ) (fs : List Facility)
-    → getD (widenedFacilities s k fs) n noFacility .name ≡ getD fs n noFacility .name
-unfolding widenedFacilities widenedFacility
-widened-name s k n [] = refl
-widened-name s k zero (f ∷ fs) = refl
-widened-name s k (suc n) (f ∷ fs) = widened-name s (suc k) n fs
-
 kind-nameless : (s : List ℕ) (n : ℕ) (name : Name) → facilityIn s n name .kind ≡ facilityIn s n [] .kind
 unfolding facilityIn facilityOf
 kind-nameless s n name = by-test (leb (13 * n + 13) (length s))
@@ -103,10 +96,6 @@ module _ (x : Sections) (q : Beside) where
   pub count-noted : length (notedDescription x q .facilities) ≡ length (x .facilities) / 13
   unfolding notedDescription
   count-noted = widened-length (q .facilities) 0 (described x .facilities) ∙ facilities-count x
-
-  pub name-noted : (n : ℕ) → facilityAt (notedDescription x q) n .name ≡ facilityAt (described x) n .name
-  unfolding notedDescription facilityAt
-  name-noted n = widened-name (q .facilities) 0 n (described x .facilities)
 
   pub facility-noted : (n : ℕ) → n < length (x .facilities) / 13
       → facilityAt (notedDescription x q) n
@@ -157,12 +146,6 @@ module _ (q : Beside) (n : ℕ) where
   action-place =
       let z : 0 + n ≡ 1 * n + 0 = omega arith in
       up-to-pick (placeNo (q .actions)) nowhere 0 (length (q .actions) / 2) n ∙ rw z
-
-  pub operation-place : operationPlace (placesIn q) n ≡ placeOf 1 (q .operations) n 0
-  unfolding placesIn operationPlace placeOf
-  operation-place =
-      let z : 0 + n ≡ 1 * n + 0 = omega arith in
-      up-to-pick (placeNo (q .operations)) nowhere 0 (length (q .operations) / 2) n ∙ rw z
 
   pub state-places : statePlace (placesIn q) n ≡ record { at = placeOf 2 (q .states) n 0; value = placeOf 2 (q .states) n 1 }
   unfolding placesIn statePlace placeOf statePlacesNo

@@ -1,7 +1,6 @@
 -- What a parser has built so far, and the steps by which it builds the tree: each takes what it needs from the tops of the rows and puts the node there.
 use mathlib.Core.Bool.{true}
 use mathlib.Core.List.{List, [], _∷_}
-use mathlib.Core.Option.{none}
 use Prim.Native.Nat.{ℕ}
 use lib.ListN.{drop, getD}
 use Rattle.language.specs.Notions.{pairOf}
@@ -41,9 +40,6 @@ noExpression = T.whole [] (position 0)
 
 abbrev pub noEnds : Ends
 noEnds = pairOf noConstant (position 0) noConstant (position 0)
-
-abbrev noState : State
-noState = record { at = position 0; label = none; value = none; actions = T.done }
 
 unfoldable pub wordNo : ℕ → Built → Word
 wordNo k b = getD (b .words) k noWord

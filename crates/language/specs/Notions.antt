@@ -7,7 +7,7 @@ use lib.Dec.{eqb}
 use Rattle.language.specs.Constants.{bareConstant}
 use Rattle.language.specs.Kinds.{atLeastSign, atMostSign, closeBracket, delayedSign, differenceSign, endWord, equalSign, equalsSign, exclusiveSign, extWord, greaterSign, hash, headWord, lessSign, openBracket, period, plus, star, sumSign, tailWord}
 use Rattle.language.specs.Tree as T
-use Rattle.language.specs.Tree.{Actions, Declaration, Ends, Expression, Extent, Function, Kind, Label, Left, Name, Operation, State, StateValue, Text, computed, fromInput, given, input, plain, row, table, unspecified}
+use Rattle.language.specs.Tree.{Actions, Declaration, Ends, Expression, Extent, Function, Kind, Label, Left, Name, Operation, State, StateValue, Text, row, table}
 use Rattle.language.specs.Words as W
 use Rattle.language.specs.Words.{Constant, Position, Word, sign}
 
@@ -18,7 +18,6 @@ pub data Tree : Type 0 where
   actions : Actions → Tree
   ends : Ends → Tree
   extent : Extent → Tree
-  function : Function → Tree
   facility : Declaration → Tree
   facilities : List Declaration → Tree
   declared : List Declaration → List Declaration → List Declaration → Tree
@@ -76,12 +75,6 @@ oneBound = record { bare = true; value = bareConstant (1 ∷ []) }
 
 abbrev pub facilityOf : Kind → Name → Position → Extent → Function → Declaration
 facilityOf k n p x f = record { kind = k; name = n; at = p; extent = x; function = f }
-
--- A terminal is plain, input or computed, by its function.
-abbrev pub terminalKind : Function → Kind
-terminalKind unspecified = plain
-terminalKind fromInput = input
-terminalKind (given p e) = computed
 
 abbrev pub operationOf : Name → Position → Actions → Operation
 operationOf n p a = record { name = n; at = p; body = a }

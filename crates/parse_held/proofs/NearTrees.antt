@@ -73,7 +73,6 @@ TreeNear (N.left l) = LeftNear l
 TreeNear (N.actions a) = ActionsNear a
 TreeNear (N.ends x) = EndsNear x
 TreeNear (N.extent x) = ExtentNear x
-TreeNear (N.function f) = FunctionNear f
 TreeNear (N.facility d) = Near (d .at) × (ExtentNear (d .extent) × FunctionNear (d .function))
 TreeNear (N.facilities ds) = DeclarationsNear ds
 TreeNear (N.declared rs ms ts) = DeclarationsNear rs × (DeclarationsNear ms × DeclarationsNear ts)

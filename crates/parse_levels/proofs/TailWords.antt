@@ -205,29 +205,3 @@ module _ (text : List ℕ) (w : Word) (z : Seen text w) (b : Built) (c : Counts)
       among-first-or k 41 (42 ∷ 40 ∷ []) e (λ q. subst CutTaken (sym q) (head-taken q)) λ e1.
       among-first-or k 42 (40 ∷ []) e1 (λ q. subst CutTaken (sym q) (last-taken q)) λ e2.
       among-first-or k 40 [] e2 (λ q. subst CutTaken (sym q) (ext-taken q)) (among-none k)
-
--- An operator's kind is not that of a name or a constant.
-pub operator-kind : (k : ℕ) (r : Rank) → among k (operatorsOf r) ≡ true → 3 ≤ k
-operator-kind k R.Sum e =
-    among-first-or k 22 (23 ∷ []) e (λ q. omega arith) λ e1.
-    among-first-or k 23 [] e1 (λ q. omega arith) (among-none k)
-operator-kind k R.Relation e =
-    among-first-or k 24 (3 ∷ 15 ∷ 17 ∷ 26 ∷ 25 ∷ []) e (λ q. omega arith) λ e1.
-    among-first-or k 3 (15 ∷ 17 ∷ 26 ∷ 25 ∷ []) e1 (λ q. omega arith) λ e2.
-    among-first-or k 15 (17 ∷ 26 ∷ 25 ∷ []) e2 (λ q. omega arith) λ e3.
-    among-first-or k 17 (26 ∷ 25 ∷ []) e3 (λ q. omega arith) λ e4.
-    among-first-or k 26 (25 ∷ []) e4 (λ q. omega arith) λ e5.
-    among-first-or k 25 [] e5 (λ q. omega arith) (among-none k)
-operator-kind k R.Cut e =
-    among-first-or k 41 (42 ∷ 40 ∷ []) e (λ q. omega arith) λ e1.
-    among-first-or k 42 (40 ∷ []) e1 (λ q. omega arith) λ e2.
-    among-first-or k 40 [] e2 (λ q. omega arith) (among-none k)
-operator-kind k R.Con e =
-    among-first-or k 38 [] e (λ q. omega arith) (among-none k)
-operator-kind k R.And e =
-    among-first-or k 7 [] e (λ q. omega arith) (among-none k)
-operator-kind k R.Exclusive e =
-    among-first-or k 21 [] e (λ q. omega arith) (among-none k)
-operator-kind k R.Or e =
-    among-first-or k 8 [] e (λ q. omega arith) (among-none k)
-operator-kind k R.Beyond e = among-none k e

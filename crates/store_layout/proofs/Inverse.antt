@@ -8,16 +8,16 @@ use native.Mathlib.Omega.{arith}
 use borrow.Author.Tests.{ltb-true}
 use lib.ListN.{drop, length, length-append, length-drop, take}
 use lib.Pow.{pow-mono}
-use lib.Seq.{drop-at, length-take-le, take-add, take-at, take-length}
+use lib.Seq.{drop-at, length-take-le, take-add, take-at}
 use Rattle.language.specs.Description.{Facility, isComputed, wordCount, wordLength}
 use Rattle.language.specs.Judging.{both}
 use Rattle.language.specs.Layout.{facilityBytes, noSpareBits, storeSizeOf, wordBytes, wordFromBytes, wordToBytes}
 use Rattle.language.specs.Store.{Words, allNarrow, facilityWords, fromBytes, narrow, toBytes, wordsFrom, wordsTo}
 use Rattle.store_layout.specs.InBytes.{Shaped, rowLength}
 use Rattle.store_layout.specs.Layout.{Bytes}
-use Rattle.store_layout.proofs.ByteLists.{bytes-append, bytes-drop, bytes-take}
+use Rattle.store_layout.proofs.ByteLists.{bytes-drop, bytes-take}
 use Rattle.store_layout.proofs.ByteOrder.{length-word, word-room}
-use Rattle.store_layout.proofs.Words.{bytes-word, from-to, to-from}
+use Rattle.store_layout.proofs.Words.{from-to, to-from}
 
 -- ---- From bytes, and back.
 
@@ -47,12 +47,6 @@ bytes-again (f ∷ fs) B b h =
     ap₂ (λ (X Y : List ℕ). X ++ Y) (facility-back f B b (omega arith))
     (bytes-again fs (drop (facilityBytes f) B) (bytes-drop B (facilityBytes f) b) (omega (arith, length-drop (facilityBytes f) B)))
     ∙ sym (take-add (facilityBytes f) (storeSizeOf fs) B)
-
--- Two stores in bytes with the same words are the same.
-pub same-bytes : (fs : List Facility) (A B : List ℕ) → Bytes A → Bytes B → length A ≡ storeSizeOf fs → length B ≡ storeSizeOf fs → fromBytes fs A ≡ fromBytes fs B → A ≡ B
-same-bytes fs A B a b e f q =
-    sym (bytes-again fs A a (omega arith) ∙ ap (λ (n : ℕ). take n A) (sym e) ∙ take-length A) ∙ ap (toBytes fs) q
-    ∙ bytes-again fs B b (omega arith) ∙ ap (λ (n : ℕ). take n B) (sym f) ∙ take-length B
 
 -- ---- To bytes, and back.
 
@@ -117,14 +111,3 @@ words-same (f ∷ fs) (ws ∷ s) h n =
     let t = both-true (allNarrow (wordLength f) ws) (narrow fs s) n in
     ap₂ (λ (r : List ℕ) (q : Words). r ∷ q) (row-again f ws (toBytes fs s) (h .0) (t .0))
     (ap (fromBytes fs) (drop-at (wordsTo (wordLength f) ws) (toBytes fs s) (facilityBytes f) (row-bytes f ws [] (h .0))) ∙ words-same fs s (h .1) (t .1))
-
-words-bytes : (l : ℕ) (ws : List ℕ) → Bytes (wordsTo l ws)
-unfolding wordsTo
-words-bytes l [] i = omega arith
-words-bytes l (x ∷ ws) i = bytes-append (wordToBytes l x) (wordsTo l ws) (bytes-word l x) (words-bytes l ws) i
-
-pub bytes-to : (fs : List Facility) (s : Words) → Bytes (toBytes fs s)
-unfolding toBytes
-bytes-to [] s i = omega arith
-bytes-to (f ∷ fs) [] i = omega arith
-bytes-to (f ∷ fs) (ws ∷ s) i = bytes-append (wordsTo (wordLength f) ws) (toBytes fs s) (words-bytes (wordLength f) ws) (bytes-to fs s) i

@@ -11,10 +11,6 @@ use Rattle.store_layout.specs.Bits.{bitOf}
 
 -- ---- Bits.
 
-pub bit-lt : (x k : ℕ) → bitOf x k < 2
-unfolding bitOf
-bit-lt x k = omega arith
-
 pub bit-high : (x a k : ℕ) → bitOf (x / 2 ^ a) k ≡ bitOf x (a + k)
 unfolding bitOf
 bit-high x a k = ap (λ (n : ℕ). n % 2) (shr-shr x a k)

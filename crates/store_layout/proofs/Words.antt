@@ -103,9 +103,6 @@ word-same A B at l e h =
     min′ n = Prim.Native.Nat.min (wordBytes l) n
 
 module _ (B : List ℕ) (at l : ℕ) (fits : at + wordBytes l ≤ length B) where
-  chunk : List ℕ
-  chunk = take (wordBytes l) (drop at B)
-
   head-size : length (take at B) ≡ at
   head-size = length-take-le at B (omega arith)
 

@@ -3,7 +3,7 @@ ghost use mathlib.Core.Path.{_≡_};
 ghost use Prim.Native.Nat.{_+_, _*_, _≤_};
 ghost use Rattle.language.specs.Description.{spanOf, wordCount, wordLength};
 ghost use Rattle.language.specs.Layout.{facilityBytes, wordBytes};
-ghost use Rattle.store_words.specs.Shape.{bounded, capped, facility};
+ghost use Rattle.store_words.specs.Shape.{bounded, facility};
 
 // The first and the last number of a dimension, in either direction.
 pub struct Bounds {
@@ -68,26 +68,6 @@ pub fn facility_bytes(f: Shape) -> usize
     }
     let n = word_count(f) as usize;
     n * word_bytes(word_length(f))
-}
-
-// The largest store, and what stands for every larger one.
-const LARGEST: usize = 16384;
-
-const TOO_LARGE: u32 = 16385;
-
-// The place after that of a facility: facility by facility it gives each one's place and at last the size of the store, and no sum wraps.
-pub fn place_after(place: u32, f: Shape) -> u32
-    ensures { λ r. ⌜ r ≡ capped (place + facilityBytes (facility f)) ⌝ }
-{
-    let at = place as usize;
-    let n = facility_bytes(f);
-    if LARGEST < at {
-        return TOO_LARGE;
-    }
-    if LARGEST - at < n {
-        return TOO_LARGE;
-    }
-    (at + n) as u32
 }
 
 // The first byte of a word of a facility whose first byte is at `place`.

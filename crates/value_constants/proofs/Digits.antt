@@ -1,15 +1,14 @@
 -- Laws of digits taken one by one: what is held after each, and the constant of the language at the end.
 use mathlib.Core.Bool.{Bool, true, false, cond}
-use mathlib.Core.List.{List, [], _∷_, _++_}
+use mathlib.Core.List.{List, [], _∷_}
 use mathlib.Core.Path.{_≡_, refl, sym, ap, ap₂, _∙_, subst}
 use mathlib.Core.Logic.{⊎-elim}
 use Prim.Native.Nat.{ℕ, zero, suc, _+_, _-_, _*_, _/_, _%_, _^_, _≤_, _<_, min}
 use native.Mathlib.Nat.{eq-zero-or-pos, div-eq-of-lt, le-div-iff-mul-le, one-mul, min-eq-left, min-eq-right, mod-eq-of-lt, le-of-lt, lt-of-lt-of-le, add-sub-of-le, add-mul, mul-assoc, mul-add-div-right, mul-div-mul-right, sub-self, sub-zero, add-zero, zero-add, add-assoc, add-comm, mul-zero, mul-suc}
-use native.Mathlib.Numerals.{add-one}
 use native.Mathlib.Omega.{arith}
 use lib.Arith.{digits-lt, lt-one}
 use lib.Dec.{leb, ltb}
-use lib.ListN.{length, getD, length-append}
+use lib.ListN.{length, getD}
 use lib.Pow.{pow-mono, pow-pos, pow-add, shl-lt, shr-lt, shr-shr, shl-shr, high}
 use borrow.Author.Tests.{lt-ltb, lt-leb, le-leb}
 use Rattle.language.specs.Value.{fit, made, none, value, longest}
@@ -38,11 +37,6 @@ pub byte-lt : {d : ℕ} → d < 2 ^ 8 → d < 2 ^ 256
 byte-lt h = lt-of-lt-of-le h (pow-mono {i = 8} {j = 256} (omega arith))
 
 -- ---- One digit more.
-
-pub digits-more : (base n d : ℕ) (ds : List ℕ) → digitsAfter base n (ds ++ d ∷ []) ≡ digitsAfter base n ds * base + d
-unfolding digitsAfter
-digits-more base n d [] = refl
-digits-more base n d (e ∷ ds) = digits-more base (n * base + e) d ds
 
 pub decimal-more : (n d : ℕ) → decimalMore (holding n) d ≡ holding (n * 10 + d)
 unfolding decimalMore holding
@@ -179,22 +173,6 @@ digits-below k j n (d ∷ ds) h below =
 
 number-below : (k : ℕ) (ds : List ℕ) → ((i : ℕ) → i < length ds → getD ds i 0 < 2 ^ k) → digitsNumber (2 ^ k) ds < 2 ^ (k * length ds)
 number-below k ds below = subst (λ (m : ℕ). digitsNumber (2 ^ k) ds < 2 ^ m) (zero-add (k * length ds)) (digits-below k 0 0 ds (omega arith) below)
-
--- What is held of digits, after one more.
-module _ (ds : List ℕ) (d : ℕ) where
-  pub decimal-step : decimalMore (holding (digitsNumber 10 ds)) d ≡ holding (digitsNumber 10 (ds ++ d ∷ []))
-  decimal-step = decimal-more (digitsNumber 10 ds) d ∙ ap holding (sym (digits-more 10 0 d ds))
-
-  module _ (k : ℕ) where
-    bits-of : k * length ds + k ≡ k * length (ds ++ d ∷ [])
-    bits-of = sym (ap (λ (n : ℕ). k * n) (length-append ds (d ∷ []) ∙ add-one (length ds)) ∙ mul-suc k (length ds))
-
-    pub right-step : rightMore (onRight (k * length ds) (digitsNumber (2 ^ k) ds)) k d ≡ onRight (k * length (ds ++ d ∷ [])) (digitsNumber (2 ^ k) (ds ++ d ∷ []))
-    right-step = right-more (k * length ds) k (digitsNumber (2 ^ k) ds) d ∙ ap₂ onRight bits-of (sym (digits-more (2 ^ k) 0 d ds))
-
-    pub left-step : ((i : ℕ) → i < length ds → getD ds i 0 < 2 ^ k) → d < 2 ^ k
-        → leftMore (onLeft (k * length ds) (digitsNumber (2 ^ k) ds)) k d ≡ onLeft (k * length (ds ++ d ∷ [])) (digitsNumber (2 ^ k) (ds ++ d ∷ []))
-    left-step below h = left-more (k * length ds) k (digitsNumber (2 ^ k) ds) d (number-below k ds below) h ∙ ap₂ onLeft bits-of (sym (digits-more (2 ^ k) 0 d ds))
 
 -- What the digits make.
 module _ (l : ℕ) (ds : List ℕ) (a : allowed l ≡ true) where

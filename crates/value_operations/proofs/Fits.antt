@@ -7,7 +7,7 @@ use native.Mathlib.Nat.{eq-zero-or-pos, sub-add-cancel, mod-add-mod, mul-add-mod
 use native.Mathlib.Omega.{arith}
 use lib.Dec.{leb, ltb}
 use lib.Pow.{mod-mod-pow, pow-add, pow-pos, ones-split, ones-lt, low}
-use borrow.Author.Tests.{lt-ltb, ltb-true, lt-leb, le-leb, leb-true}
+use borrow.Author.Tests.{lt-ltb, lt-leb, le-leb, ltb-true, leb-true}
 use Rattle.language.specs.Value as L
 use Rattle.language.specs.Value.{fit, longest, made, none, value, differenceNumber, complementNumber, repeated}
 use Rattle.value_operations.specs.Meaning.{Means, allowed, blank, valued}
@@ -25,13 +25,6 @@ means-fit e p q = means-of e (ap₂ fit p q)
 
 pub means-none : {r : Made} {m : L.Made} → (r .fits ≡ false) × (r .value ≡ blank) → m ≡ none → Means r m
 means-none {r} e p = record { meaning = ap (λ (b : Bool). cond b (made (valued (r .value))) none) (e .0) ∙ sym p; rest = λ f. e .1 }
-
--- What is known of the meaning from the answer.
-pub made-of : {r : Made} {m : L.Made} → Means r m → r .fits ≡ true → m ≡ made (valued (r .value))
-made-of {r} e p = sym (e .meaning) ∙ ap (λ (b : Bool). cond b (made (valued (r .value))) none) p
-
-pub none-of : {r : Made} {m : L.Made} → Means r m → r .fits ≡ false → m ≡ none
-none-of {r} e p = sym (e .meaning) ∙ ap (λ (b : Bool). cond b (made (valued (r .value))) none) p
 
 -- ---- The lengths that a value may have.
 
