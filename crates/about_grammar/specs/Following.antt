@@ -5,7 +5,8 @@ use mathlib.Core.Path.{_≡_, _∙_, ap, sym, refl, subst}
 use Prim.Native.Nat.{ℕ}
 use borrow.Author.Tests.{eqb-true}
 use lib.Dec.{eqb}
-use Rattle.language.specs.Kinds.{atLeastSign, atMostSign, conWord, differenceSign, equalsSign, exclusiveSign, extWord, greaterSign, hash, headWord, lessSign, openBracket, plus, star, sumSign, tailWord}
+use Rattle.language.specs.Kinds.{conWord, exclusiveSign, openBracket, plus, star}
+use Rattle.language.specs.Operators.{cuts, relations, sums}
 use Rattle.language.specs.Words.{Word, kindOf}
 
 unfoldable pub among : ℕ → List ℕ → Bool
@@ -21,13 +22,13 @@ abbrev pub afterTerm : List ℕ
 afterTerm = openBracket ∷ []
 
 abbrev pub afterSum : List ℕ
-afterSum = sumSign ∷ differenceSign ∷ afterTerm
+afterSum = sums ++ afterTerm
 
 abbrev pub afterRelation : List ℕ
-afterRelation = equalsSign ∷ hash ∷ lessSign ∷ greaterSign ∷ atMostSign ∷ atLeastSign ∷ afterSum
+afterRelation = relations ++ afterSum
 
 abbrev pub afterCut : List ℕ
-afterCut = headWord ∷ tailWord ∷ extWord ∷ afterRelation
+afterCut = cuts ++ afterRelation
 
 abbrev pub afterCon : List ℕ
 afterCon = conWord ∷ afterCut

@@ -14,7 +14,7 @@ use Rattle.language.specs.Kinds.{differenceSign, exclusiveSign, minus, plus, re
 use Rattle.language.specs.Machine as M
 use Rattle.language.specs.Machine.{Counts, ask, counted, ease, level, make, more, tallied}
 use Rattle.language.specs.Notions as N
-use Rattle.language.specs.Notions.{Notion, expression, isReduction}
+use Rattle.language.specs.Notions.{Notion, expression}
 use Rattle.language.specs.Sections.{ruleOf}
 use Rattle.language.specs.Tree.{Expression, prefix}
 use Rattle.language.specs.Ways.{adjustmentWays, arithmeticWays, complementWays, mintermWays, productWays, reductionWays, termWays}
@@ -29,6 +29,7 @@ use Rattle.about_grammar.specs.FoundTerms.{a-term, raised}
 use Rattle.about_grammar.specs.Levels.{minusWay, negatingWay, reducingWays}
 use Rattle.about_grammar.specs.Peeling.{early-or-later, worded}
 use Rattle.about_grammar.specs.Stacks.{plainWays}
+use Rattle.language.specs.Operators.{isReduction}
 
 -- A prefix operator's node, behind its operand; `front` is what stands before the operand.
 module _ (J : Judge) (K : Stack) (n m g k : ℕ) (p : Position) (b : Built) (c : Counts) (s : n ≡ suc m) where

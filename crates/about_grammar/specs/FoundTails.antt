@@ -15,7 +15,7 @@ use Rattle.language.specs.Kinds.{aConstant, atLeastSign, atMostSign, difference
 use Rattle.language.specs.Machine as M
 use Rattle.language.specs.Machine.{Counts, ask, counted, keep, make, more, tallied}
 use Rattle.language.specs.Notions as N
-use Rattle.language.specs.Notions.{expression, isArithmetic, isCut, isRelation}
+use Rattle.language.specs.Notions.{expression}
 use Rattle.language.specs.Sections.{ruleOf}
 use Rattle.language.specs.Tree.{Expression, binary, cut, nextArm}
 use Rattle.language.specs.Ways.{andWays, arithmeticTailWays, conWays, cutWays, exclusiveWays, orWays, relationWays}
@@ -26,6 +26,7 @@ use Rattle.about_grammar.specs.Courses.{Grown, Stack}
 use Rattle.about_grammar.specs.Finding.{Extended, Found, Inverts, extended, found, loop, no-more, spelt}
 use Rattle.about_grammar.specs.Peeling.{kept-word}
 use Rattle.about_grammar.specs.Taking.{push}
+use Rattle.language.specs.Operators.{isArithmetic, isCut, isRelation}
 
 module _ (J : Judge) (n : ℕ) (ih : (m : ℕ) → n ≡ suc m → Inverts J m) (K : Stack) (h : ℕ) (b : Built) (e : Expression) (c : Counts) (xs : List Word) where
   pub or-tail : (ws : List Word) → Accepts J (ask M.orTail ∷ K) n h (push e b) c ws → Is N.booleanExp h xs (expression e) → Extended J N.booleanExp K n h xs e b c ws

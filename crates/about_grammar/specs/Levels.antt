@@ -6,7 +6,7 @@ use Prim.Native.Nat.{ℕ}
 use Rattle.language.specs.Alternatives.{countsOpening, each, plainWord}
 use Rattle.language.specs.Building.{Built}
 use Rattle.language.specs.Declaring.{treeSteps}
-use Rattle.language.specs.Kinds.{differenceSign, exclusiveSign, minus, plus, redWord, star, sumSign}
+use Rattle.language.specs.Kinds.{differenceSign, minus, redWord}
 use Rattle.language.specs.Machine.{Alternative, Reading, adjustment, andTail, arithmetic, arithmeticTail, ask, complement, conTail, cutTail, ease, exclusiveTail, expression, make, minterm, orTail, product, reading, reduction, relationTail, term}
 use Rattle.language.specs.Notions.{Tree}
 use Rattle.language.specs.Sections.{ruleOf}
@@ -17,6 +17,7 @@ use Rattle.about_grammar.specs.Following.{afterAnd, afterCon, afterCut, 
 use Rattle.about_grammar.specs.Operators.{clean}
 use Rattle.about_grammar.specs.Stacks.{begins, begins-later, kindsOf, plainWays}
 use Rattle.about_grammar.specs.Taking.{Heads, Phrase, Takes, arriving, notAdjustment, notBoolean, notChain, notTerm, put}
+use Rattle.language.specs.Operators.{reductions}
 
 -- The words of a phrase from another stack that begins alike; below the phrase's own stack stands M.
 pub lift : {C : Ceiling} {hs js : List ℕ} {P Q : Stack} {ks : List ℕ} {h : ℕ} {us : List Word} {t : Tree} (P₁ Q₁ M : Stack)
@@ -79,7 +80,7 @@ minusWay = countsOpening minus (ask reduction ∷ ask conTail ∷ make (treeStep
 
 abbrev pub reducingWays : List (Alternative Built)
 reducingWays =
-    each (plus ∷ star ∷ exclusiveSign ∷ sumSign ∷ []) (λ k. countsOpening k (plainWord redWord ∷ ask adjustment ∷ make (treeSteps .makePrefix) ∷ ease ∷ []))
+    each reductions (λ k. countsOpening k (plainWord redWord ∷ ask adjustment ∷ make (treeSteps .makePrefix) ∷ ease ∷ []))
 
 abbrev pub negatingWay : Alternative Built
 negatingWay = countsOpening differenceSign (ask term ∷ make (treeSteps .makePrefix) ∷ ease ∷ ask arithmeticTail ∷ [])

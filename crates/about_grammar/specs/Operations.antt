@@ -12,7 +12,7 @@ use Rattle.language.specs.Ceilings.{countedExpression}
 use Rattle.language.specs.Declaring.{treeSteps}
 use Rattle.language.specs.Kinds.{aConstant, atLeastSign, atMostSign, colon, conWord, differenceSign, equalsSign, exclusiveSign, extWord, greaterSign, hash, headWord, lessSign, minus, plus, redWord, star, sumSign, tailWord}
 use Rattle.language.specs.Machine.{Counts, adjustment, after, arithmetic, ask, choose, counted, cutTail, feed, keep, make, more, reading, relationTail, run, stuck, taken, tallied}
-use Rattle.language.specs.Notions.{expression, isArithmetic, isCut, isReduction, isRelation}
+use Rattle.language.specs.Notions.{expression}
 use Rattle.language.specs.Sections.{ruleOf}
 use Rattle.language.specs.Tree.{Expression, binary, cut, prefix}
 use Rattle.language.specs.Words as W
@@ -22,6 +22,7 @@ use Rattle.about_grammar.specs.Following.{afterRelation, afterSum, among
 use Rattle.about_grammar.specs.Levels.{Adjustment, Arithmetic, Boolean, Chain, Complement, Minterm, Product, Reduction, Relation, Term, whole-adjustment, whole-arithmetic, whole-chain, whole-minterm, whole-product}
 use Rattle.about_grammar.specs.Operators.{apart-on, asking-more, building, heads-on, left-binary, prefixed}
 use Rattle.about_grammar.specs.Taking.{Phrase, Takes, arriving, notAdjustment, notBoolean, notChain, push}
+use Rattle.language.specs.Operators.{isArithmetic, isCut, isReduction, isRelation, relations}
 
 module _ {C : Ceiling} {h : ℕ} {us vs : List Word} {p : Position} {e f : Expression} where
   pub or-more : Boolean C h us (expression e) → Minterm C h vs (expression f) → Boolean C h (us ++ sign plus p ∷ vs) (expression (binary plus p e f))
@@ -99,7 +100,7 @@ module _ {C : Ceiling} {h : ℕ} {us vs : List Word} {p : Position} {e f : Expre
       → Relation C h (us ++ sign k p ∷ vs) (expression (binary k p e f))
   unfolding run feed choose ruleOf tallied among
   relation-of k a x y =
-      asking-more (equalsSign ∷ hash ∷ lessSign ∷ greaterSign ∷ atMostSign ∷ atLeastSign ∷ [])
+      asking-more relations
       (relation-kinds (λ k. Phrase C notAdjustment (ask arithmetic ∷ ask relationTail ∷ []) [] afterSum h (us ++ sign k p ∷ vs) (expression (binary k p e f)))
       (relation-by equalsSign refl refl (λ K b c u. comes (λ ws end _. took-it C _ _ _ _ u _)) x y)
       (relation-by hash refl refl (λ K b c u. comes (λ ws end _. took-it C _ _ _ _ u _)) x y)

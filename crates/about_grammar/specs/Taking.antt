@@ -6,7 +6,7 @@ use Prim.Native.Nat.{ℕ, suc}
 use lib.Dec.{eqb}
 use Rattle.language.specs.Building.{Built, withExpressions, keepWord}
 use Rattle.language.specs.Ceilings.{countedExpression, countedReference}
-use Rattle.language.specs.Kinds.{aConstant, colon, differenceSign, exclusiveSign, inputWord, minus, openBracket, plus, star, sumSign}
+use Rattle.language.specs.Kinds.{aConstant, colon, differenceSign, inputWord, minus, openBracket}
 use Rattle.language.specs.Machine.{Counts, ask, reading, subscripts}
 use Rattle.language.specs.Notions as N
 use Rattle.language.specs.Notions.{Tree}
@@ -15,6 +15,7 @@ use Rattle.language.specs.Words as W
 use Rattle.language.specs.Words.{Position, Word, kindOf}
 use Rattle.about_grammar.specs.Courses.{Ceiling, Comes, Grown, Room, Stack}
 use Rattle.about_grammar.specs.Following.{Follows, afterTerm, among}
+use Rattle.language.specs.Operators.{reductions}
 
 -- The counted words of a tree that is an expression.
 abbrev pub countOf : Tree → ℕ
@@ -78,7 +79,7 @@ abbrev pub notChain : List ℕ
 notChain = minus ∷ notBoolean
 
 abbrev pub notAdjustment : List ℕ
-notAdjustment = plus ∷ star ∷ exclusiveSign ∷ sumSign ∷ notChain
+notAdjustment = reductions ++ notChain
 
 abbrev pub notTerm : List ℕ
 notTerm = differenceSign ∷ notAdjustment

@@ -27,6 +27,7 @@ use Rattle.image_records.proofs.NodeBack.{Half}
 use Rattle.about_writing.specs.Whole.{both-left, both-right}
 use Rattle.about_images.specs.Counted.{count, count-add, count-one}
 use Rattle.about_images.specs.Trees.{Tree, selects-few}
+use Rattle.language.specs.Kinds.{delayedSign, equalSign}
 
 -- A root whose tree is sane wherever it begins.
 abbrev pub Own : Description → ℕ → Type 0
@@ -51,11 +52,11 @@ acts d n = actionCount (actionAt d n)
 
 sign-so : (k : ℕ) (f : Kind) → mayStore k f ≡ true → Sign k
 unfolding mayStore
-sign-so k f e = by-delayed (eqb k 29) refl (eqb k 16) refl e
+sign-so k f e = by-delayed (eqb k delayedSign) refl (eqb k equalSign) refl e
   where
-    by-delayed : (a : Bool) → eqb k 29 ≡ a → (b : Bool) → eqb k 16 ≡ b → cond a (takesDelayed f) (cond b (takesImmediate f) false) ≡ true → Sign k
-    by-delayed true p b q z = inl (eqb-true k 29 p)
-    by-delayed false p true q z = inr (eqb-true k 16 q)
+    by-delayed : (a : Bool) → eqb k delayedSign ≡ a → (b : Bool) → eqb k equalSign ≡ b → cond a (takesDelayed f) (cond b (takesImmediate f) false) ≡ true → Sign k
+    by-delayed true p b q z = inl (eqb-true k delayedSign p)
+    by-delayed false p true q z = inr (eqb-true k equalSign q)
     by-delayed false p false q z = absurd (true≢false (sym z))
 
 -- A state with a name is there.

@@ -12,7 +12,6 @@ use Rattle.language.specs.Canonical.{nodeCount}
 use Rattle.language.specs.Description as D
 use Rattle.language.specs.Description.{Bounds, Description, Node, digitLength, furtherDigits, inBounds, nodeAt}
 use Rattle.language.specs.Expressions.{longestSelector, selects}
-use Rattle.language.specs.Judging.{fine, proper}
 use Rattle.language.specs.Operators.{binaryLength, cutLengthOf, prefixLength}
 use Rattle.language.specs.Order.{digitsStand, isDigit48}
 use Rattle.language.specs.Value.{cutLength, repeatLength}
@@ -21,6 +20,7 @@ use Rattle.about_writing.specs.Whole.{both-left, both-right}
 use Rattle.image_records.proofs.NodeBack.{Half}
 use Rattle.about_images.specs.Counted.{count, count-add, count-more, count-one}
 use Rattle.about_images.specs.Depth.{depth-leaf, depthAt}
+use Rattle.language.specs.Kinds.{atLeastSign, atMostSign, conWord, differenceSign, equalsSign, exclusiveSign, extWord, greaterSign, hash, headWord, lessSign, minus, plus, star, sumSign, tailWord}
 
 -- ---- Sane records: what they name stands before them.
 
@@ -176,18 +176,18 @@ pub binary-kind : (k m n : ℕ) → 1 ≤ binaryLength k m n → k < 64
 unfolding binaryLength
 binary-kind k m n h = below-so k 64 (λ g.
     let z : 1 ≤ 0 = rw (
-      ne-eqb k 22 (λ e. omega arith),
-      ne-eqb k 23 (λ e. omega arith),
-      ne-eqb k 38 (λ e. omega arith),
-      ne-eqb k 8 (λ e. omega arith),
-      ne-eqb k 7 (λ e. omega arith),
-      ne-eqb k 21 (λ e. omega arith),
-      ne-eqb k 24 (λ e. omega arith),
-      ne-eqb k 3 (λ e. omega arith),
-      ne-eqb k 15 (λ e. omega arith),
-      ne-eqb k 17 (λ e. omega arith),
-      ne-eqb k 26 (λ e. omega arith),
-      ne-eqb k 25 (λ e. omega arith),
+      ne-eqb k sumSign (λ e. omega arith),
+      ne-eqb k differenceSign (λ e. omega arith),
+      ne-eqb k conWord (λ e. omega arith),
+      ne-eqb k plus (λ e. omega arith),
+      ne-eqb k star (λ e. omega arith),
+      ne-eqb k exclusiveSign (λ e. omega arith),
+      ne-eqb k equalsSign (λ e. omega arith),
+      ne-eqb k hash (λ e. omega arith),
+      ne-eqb k lessSign (λ e. omega arith),
+      ne-eqb k greaterSign (λ e. omega arith),
+      ne-eqb k atMostSign (λ e. omega arith),
+      ne-eqb k atLeastSign (λ e. omega arith),
     ) at h in
     omega arith)
 
@@ -195,19 +195,19 @@ pub prefix-kind : (k m : ℕ) → 1 ≤ prefixLength k m → k < 64
 unfolding prefixLength
 prefix-kind k m h = below-so k 64 (λ g.
     let z : 1 ≤ 0 = rw (
-      ne-eqb k 10 (λ e. omega arith),
-      ne-eqb k 23 (λ e. omega arith),
-      ne-eqb k 22 (λ e. omega arith),
-      ne-eqb k 8 (λ e. omega arith),
-      ne-eqb k 7 (λ e. omega arith),
-      ne-eqb k 21 (λ e. omega arith),
+      ne-eqb k minus (λ e. omega arith),
+      ne-eqb k differenceSign (λ e. omega arith),
+      ne-eqb k sumSign (λ e. omega arith),
+      ne-eqb k plus (λ e. omega arith),
+      ne-eqb k star (λ e. omega arith),
+      ne-eqb k exclusiveSign (λ e. omega arith),
     ) at h in
     omega arith)
 
 pub cut-kind : (k m c : ℕ) → 1 ≤ cutLengthOf k m c → k < 64
 unfolding cutLengthOf
 cut-kind k m c h = below-so k 64 (λ g.
-    let z : 1 ≤ 0 = rw (ne-eqb k 41 (λ e. omega arith), ne-eqb k 42 (λ e. omega arith), ne-eqb k 40 (λ e. omega arith)) at h in
+    let z : 1 ≤ 0 = rw (ne-eqb k headWord (λ e. omega arith), ne-eqb k tailWord (λ e. omega arith), ne-eqb k extWord (λ e. omega arith)) at h in
     omega arith)
 
 repeat-count : (m c : ℕ) → 1 ≤ m * c → c ≤ m * c
@@ -217,7 +217,7 @@ repeat-count (suc m) c h = omega (arith, suc-mul m c)
 -- A result of up to 256 bits has a count of up to 256.
 pub cut-count : (k m c : ℕ) → 1 ≤ cutLengthOf k m c → cutLengthOf k m c ≤ 256 → c ≤ 256
 unfolding cutLengthOf cutLength repeatLength
-cut-count k m c h g = by-kind (eqb k 41 || eqb k 42) (eqb k 40) h g
+cut-count k m c h g = by-kind (eqb k headWord || eqb k tailWord) (eqb k extWord) h g
   where
     by-fit : (b : Bool) → 1 ≤ cond b c 0 → cond b c 0 ≤ 256 → c ≤ 256
     by-fit true p q = q

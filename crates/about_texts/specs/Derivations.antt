@@ -10,8 +10,8 @@ use Rattle.language.specs.Grammar as G
 use Rattle.language.specs.Grammar.{Is}
 use Rattle.language.specs.Kinds.{closeParen, conWord, differenceSign, exclusiveSign, extWord, headWord, minus, openParen, plus, redWord, star, sumSign, tailWord}
 use Rattle.language.specs.Notions as N
-use Rattle.language.specs.Notions.{Tree, expression, isArithmetic, isCut, isReduction, isRelation}
-use Rattle.language.specs.Operators.{binaryLength, cutLengthOf, prefixLength}
+use Rattle.language.specs.Notions.{Tree, expression}
+use Rattle.language.specs.Operators.{binaryLength, cutLengthOf, isArithmetic, isCut, isReduction, isRelation, prefixLength}
 use Rattle.language.specs.Tree as T
 use Rattle.language.specs.Tree.{Expression}
 use Rattle.language.specs.Value.{cutLength, complementLength, countLength, differenceLength, joinLength, logicalLength, negationLength, reductionLength, relationLength, repeatLength, sumLength}

@@ -13,7 +13,7 @@ use Rattle.language.specs.Description.{Description, Places}
 use Rattle.language.specs.Rules.{sequencingLength}
 use Rattle.language.specs.Value.{longest}
 use Rattle.parse_states.specs.Begins.{lengthOf}
-use Rattle.value_operations.specs.Meaning.{allowed}
+use Rattle.value_operators.specs.Meaning.{allowed}
 use Rattle.call_read.specs.Lengths.{lending}
 
 -- ---- As the code has it.

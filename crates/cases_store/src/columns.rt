@@ -1,5 +1,5 @@
 // The columns of a line: a letter, four numbers of six decimal digits, and a value of 64 hexadecimal ones.
-use value_operations::Value;
+use value_operators::Value;
 ghost use Prim.Native.Nat.{_<_};
 
 // Where a part lies, or the words of a facility, and the value for it.

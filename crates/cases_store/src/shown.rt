@@ -1,6 +1,6 @@
 // What a command gives, as a line.
 use libc::STDOUT_FILENO;
-use value_operations::Value;
+use value_operators::Value;
 ghost use Prim.Native.Nat.{_<_};
 
 // Whether something holds.

@@ -1,6 +1,6 @@
 // The columns of a line: numbers of 64 hexadecimal digits, and lengths and counts of three decimal ones.
-use value_operations::Made;
-use value_operations::Value;
+use value_operators::Made;
+use value_operators::Value;
 ghost use Prim.Native.Nat.{_<_};
 
 // The number of a digit.

@@ -2,9 +2,9 @@
 use crate::columns;
 use value_constants::Binary;
 use value_constants::Decimal;
-use value_operations::Made;
-use value_operations::fitting;
-use value_operations::numbers;
+use value_operators::Made;
+use value_operators::fitting;
+use value_operators::numbers;
 
 // The decimal digits before the first blank.
 fn decimals(s: &[u8]) -> Decimal {

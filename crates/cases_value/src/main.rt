@@ -5,7 +5,7 @@ mod operators;
 
 use libc::STDIN_FILENO;
 use libc::STDOUT_FILENO;
-use value_operations::Made;
+use value_operators::Made;
 
 // What came of one line.
 enum Outcome {
@@ -24,7 +24,7 @@ fn same(a: Made, b: Made) -> bool {
     if x.length != y.length {
         return false;
     }
-    value_operations::numbers::same(x, y)
+    value_operators::numbers::same(x, y)
 }
 
 // What the line's operator gives.

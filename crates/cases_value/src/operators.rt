@@ -1,14 +1,14 @@
 // The operator that a letter stands for.
-use value_operations::Made;
-use value_operations::Value;
-use value_operations::arithmetic;
-use value_operations::fitting;
-use value_operations::logical;
-use value_operations::numbers;
-use value_operations::parts;
-use value_operations::reductions;
-use value_operations::relations;
-use value_operations::substrings;
+use value_operators::Made;
+use value_operators::Value;
+use value_operators::arithmetic;
+use value_operators::fitting;
+use value_operators::logical;
+use value_operators::numbers;
+use value_operators::parts;
+use value_operators::reductions;
+use value_operators::relations;
+use value_operators::substrings;
 
 // Relations.
 fn related(op: u8, x: Value, y: Value) -> Made {

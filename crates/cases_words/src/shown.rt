@@ -8,7 +8,7 @@ use text_words::Word;
 use text_words::next;
 use text_words::places;
 use text_words::stage;
-use value_operations::Value;
+use value_operators::Value;
 
 fn say(s: &[u8]) {
     io::write_all(STDOUT_FILENO, s);

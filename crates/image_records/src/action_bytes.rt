@@ -29,7 +29,7 @@ fn store_mark(sign: u8, mark: u8) -> u8
     requires { ⌜ mark < 255 ⌝ }
     ensures { λ r. ⌜ r ≡ storeMark sign mark ⌝ }
 {
-    if sign == actions::DELAYED {
+    if sign == text_kinds::DELAYED {
         mark
     } else {
         mark + 1

@@ -4,11 +4,6 @@ ghost use mathlib.Core.Path.{_≡_};
 ghost use Rattle.language.specs.Decode.{actionOf, actionWith};
 ghost use Rattle.image_records.specs.Actions.{meant};
 
-// The kinds of the words `<-` and `=`.
-pub const DELAYED: u8 = 29;
-
-pub const IMMEDIATE: u8 = 16;
-
 pub enum Action {
     // a store's sign, what is on its left, its right side
     Store(u8, u16, u16),
@@ -30,10 +25,10 @@ fn action_with(mark: u8, a: u16, b: u16, c: u16) -> Action
     ensures { λ r. ⌜ meant r ≡ actionWith mark a b c ⌝ }
 {
     match mark {
-        1 => Action::Store(DELAYED, a, b),
-        2 => Action::Store(IMMEDIATE, a, b),
-        3 => Action::StorePair(DELAYED, a, b, c),
-        4 => Action::StorePair(IMMEDIATE, a, b, c),
+        1 => Action::Store(text_kinds::DELAYED, a, b),
+        2 => Action::Store(text_kinds::EQUAL, a, b),
+        3 => Action::StorePair(text_kinds::DELAYED, a, b, c),
+        4 => Action::StorePair(text_kinds::EQUAL, a, b, c),
         5 => Action::Set(a),
         6 => Action::Perform(a),
         7 => Action::Goto(a),

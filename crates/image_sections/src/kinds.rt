@@ -1,6 +1,5 @@
 // What a facility is, and what may be stored to it, by its kind.
 use crate::facilities::Kind;
-use image_records::actions;
 ghost use mathlib.Core.Bool.{cond, false};
 ghost use mathlib.Core.Path.{_≡_};
 ghost use Rattle.language.specs.Description.{isComputed, isSequencing};
@@ -41,8 +40,8 @@ pub fn may_store(sign: u8, kind: Kind) -> bool
     ensures { λ r. ⌜ r ≡ mayStore sign (kindMeant kind) ⌝ }
 {
     match sign {
-        actions::DELAYED => takes_delayed(kind),
-        actions::IMMEDIATE => takes_immediate(kind),
+        text_kinds::DELAYED => takes_delayed(kind),
+        text_kinds::EQUAL => takes_immediate(kind),
         _ => false,
     }
 }

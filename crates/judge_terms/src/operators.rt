@@ -7,6 +7,7 @@ use judge_verdicts::faults;
 use judge_verdicts::tests;
 use judge_verdicts::work;
 use text_words::Position;
+use value_operators::operators;
 ghost use mathlib.Core.Path.{_≡_};
 ghost use Prim.Native.Nat.{ℕ, suc, _+_};
 ghost use Rattle.language.specs.Description.{Description, Places};
@@ -30,7 +31,7 @@ pub fn binary(at: Position, kind: u8, a: Verdict, b: Verdict) -> Verdict
 {
     match faults::both(a, b) {
         Pair::Fine(v, w) => {
-            let length = lengths::binary_length(kind, v.length, w.length);
+            let length = operators::binary_length(kind, v.length, w.length);
             tests::sized(at, length as u64, work::with_two(v.work, w.work))
         }
         Pair::Faulty(f) => Verdict::Faulty(f),
@@ -43,7 +44,7 @@ pub fn prefix(at: Position, kind: u8, a: Verdict) -> Verdict
 {
     match a {
         Verdict::Fine(v) => {
-            let length = lengths::prefix_length(kind, v.length);
+            let length = operators::prefix_length(kind, v.length);
             tests::sized(at, length as u64, work::with_one(v.work))
         }
         Verdict::Faulty(f) => Verdict::Faulty(f),
@@ -56,7 +57,7 @@ pub fn cut(at: Position, kind: u8, a: Verdict, count: u16) -> Verdict
 {
     match a {
         Verdict::Fine(v) => {
-            let length = lengths::cut_length(kind, v.length, count);
+            let length = operators::cut_length(kind, v.length, count);
             tests::sized(at, length as u64, work::with_one(v.work))
         }
         Verdict::Faulty(f) => Verdict::Faulty(f),

@@ -5,7 +5,8 @@ use mathlib.Core.Option.{Option, none, some}
 use mathlib.Core.Path.{_≡_}
 use Prim.Native.Nat.{ℕ, suc}
 use Rattle.language.specs.Kinds.{atSign, callSign, caseWord, closeBracket, closeParen, colon, comma, conWord, controlWord, differenceSign, doWord, dollar, elseWord, endCaseWord, endIfWord, equalSign, exclusiveSign, gotoSign, hash, ifWord, inputWord, memoryWord, minus, openBracket, openParen, operationWord, plus, redWord, registerWord, returnWord, slash, star, terminalWord, thenWord}
-use Rattle.language.specs.Notions.{AtMostOne, Notion, Section, Tree, actionList, actions, adjustment, arithmetic, arms, betweenSubscripts, booleanExp, chain, complement, controlSection, declaration, declared, dimensions, dollarOption, ending, ends, endsSection, expression, expressionArms, extent, facilities, facility, facilityOf, firstPlace, inOperation, inState, isArithmetic, isCut, isReduction, isRelation, isStore, label, left, leftSide, memoryOption, memorySection, memorySpec, memorySpecs, minterm, moreArms, nothing, oneBound, operationDefs, operationOf, operationSection, operations, optionalEnding, pairOf, product, range, reduction, reference, registerSection, registerSpec, registerSpecs, relation, rest, stateDef, stateDefs, stateLabel, stateOf, states, term, terminalOption, terminalSection, terminalSpec, terminalSpecs, text, wholeText}
+use Rattle.language.specs.Notions.{AtMostOne, Notion, Section, Tree, actionList, actions, adjustment, arithmetic, arms, betweenSubscripts, booleanExp, chain, complement, controlSection, declaration, declared, dimensions, dollarOption, ending, ends, endsSection, expression, expressionArms, extent, facilities, facility, facilityOf, firstPlace, inOperation, inState, isStore, label, left, leftSide, memoryOption, memorySection, memorySpec, memorySpecs, minterm, moreArms, nothing, oneBound, operationDefs, operationOf, operationSection, operations, optionalEnding, pairOf, product, range, reduction, reference, registerSection, registerSpec, registerSpecs, relation, rest, stateDef, stateDefs, stateLabel, stateOf, states, term, terminalOption, terminalSection, terminalSpec, terminalSpecs, text, wholeText}
+use Rattle.language.specs.Operators.{isArithmetic, isCut, isReduction, isRelation}
 use Rattle.language.specs.Tree as T
 use Rattle.language.specs.Tree.{Actions, Declaration, Ends, Expression, Extent, Label, Left, Name, Operation, State, StateValue, binary, choice, computed, constant, cut, firstArm, fromInput, given, input, memory, nextArm, one, pair, part, plain, prefix, register, row, sequencing, table, two, unspecified, whole, wordPart}
 use Rattle.language.specs.Words as W

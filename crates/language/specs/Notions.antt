@@ -5,7 +5,7 @@ use mathlib.Core.Option.{Option}
 use Prim.Native.Nat.{ℕ}
 use lib.Dec.{eqb}
 use Rattle.language.specs.Constants.{bareConstant}
-use Rattle.language.specs.Kinds.{atLeastSign, atMostSign, closeBracket, delayedSign, differenceSign, endWord, equalSign, equalsSign, exclusiveSign, extWord, greaterSign, hash, headWord, lessSign, openBracket, period, plus, star, sumSign, tailWord}
+use Rattle.language.specs.Kinds.{closeBracket, delayedSign, endWord, equalSign, openBracket, period}
 use Rattle.language.specs.Tree as T
 use Rattle.language.specs.Tree.{Actions, Declaration, Ends, Expression, Extent, Function, Kind, Label, Left, Name, Operation, State, StateValue, Text, row, table}
 use Rattle.language.specs.Words as W
@@ -44,18 +44,6 @@ pub data Notion : Type 0 where
   ending optionalEnding dollarOption wholeText : Notion
 
 -- ---- The words that a rule has a choice of.
-
-abbrev pub isRelation : ℕ → Bool
-isRelation k = eqb k equalsSign || eqb k hash || eqb k lessSign || eqb k greaterSign || eqb k atMostSign || eqb k atLeastSign
-
-abbrev pub isArithmetic : ℕ → Bool
-isArithmetic k = eqb k sumSign || eqb k differenceSign
-
-abbrev pub isReduction : ℕ → Bool
-isReduction k = eqb k plus || eqb k star || eqb k exclusiveSign || eqb k sumSign
-
-abbrev pub isCut : ℕ → Bool
-isCut k = eqb k headWord || eqb k tailWord || eqb k extWord
 
 abbrev pub isStore : ℕ → Bool
 isStore k = eqb k delayedSign || eqb k equalSign

@@ -1,10 +1,39 @@
--- The operators by the kinds of their words: how long a result is, and what it is. A length of 0 stands for a broken rule (01, "Lengths").
-use mathlib.Core.Bool.{cond, _||_}
+-- The operators by the kinds of their words: which there are, how long a result is, and what it is. A length of 0 stands for a broken rule (01, "Lengths").
+use mathlib.Core.Bool.{Bool, cond, _||_}
+use mathlib.Core.List.{List, [], _∷_}
 use Prim.Native.Nat.{ℕ}
 use lib.Dec.{eqb}
 use Rattle.language.specs.Kinds.{atLeastSign, atMostSign, conWord, differenceSign, equalsSign, exclusiveSign, extWord, greaterSign, hash, headWord, lessSign, minus, plus, star, sumSign, tailWord}
-use Rattle.language.specs.Notions.{isRelation}
 use Rattle.language.specs.Value.{Made, Value, andReduction, atLeast, atMost, complement, complementLength, conjunction, countLength, cutLength, difference, differenceLength, disjunction, equal, exclusive, exclusiveReduction, extended, greater, head, join, joinLength, less, logicalLength, negation, negationLength, none, orReduction, reductionLength, relationLength, repeatLength, sum, sumLength, sumReduction, tail, unequal}
+
+-- ---- The operators of which a level has several (the manual, Appendix B).
+
+abbrev pub sums : List ℕ
+sums = sumSign ∷ differenceSign ∷ []
+
+abbrev pub isArithmetic : ℕ → Bool
+isArithmetic k = eqb k sumSign || eqb k differenceSign
+
+abbrev pub relations : List ℕ
+relations = equalsSign ∷ hash ∷ lessSign ∷ greaterSign ∷ atMostSign ∷ atLeastSign ∷ []
+
+abbrev pub isRelation : ℕ → Bool
+isRelation k = eqb k equalsSign || eqb k hash || eqb k lessSign || eqb k greaterSign || eqb k atMostSign || eqb k atLeastSign
+
+abbrev pub cuts : List ℕ
+cuts = headWord ∷ tailWord ∷ extWord ∷ []
+
+abbrev pub isCut : ℕ → Bool
+isCut k = eqb k headWord || eqb k tailWord || eqb k extWord
+
+-- The signs that stand before RED.
+abbrev pub reductions : List ℕ
+reductions = plus ∷ star ∷ exclusiveSign ∷ sumSign ∷ []
+
+abbrev pub isReduction : ℕ → Bool
+isReduction k = eqb k plus || eqb k star || eqb k exclusiveSign || eqb k sumSign
+
+-- ---- Lengths.
 
 -- An operand of m bits on the left, one of n bits on the right.
 unfoldable pub binaryLength : ℕ → ℕ → ℕ → ℕ
@@ -27,6 +56,8 @@ unfoldable pub cutLengthOf : ℕ → ℕ → ℕ → ℕ
 cutLengthOf k m c =
     cond (eqb k headWord || eqb k tailWord) (cutLength m c)
     (cond (eqb k extWord) (repeatLength m c) 0)
+
+-- ---- Values.
 
 unfoldable pub binaryOf : ℕ → Value → Value → Made
 binaryOf k x y =

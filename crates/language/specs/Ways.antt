@@ -3,8 +3,9 @@ use mathlib.Core.Bool.{true, false}
 use mathlib.Core.List.{List, [], _∷_, _++_, map}
 use Prim.Native.Nat.{ℕ}
 use Rattle.language.specs.Alternatives.{afterStep, closing, counts, countsOpening, each, enter, followed, kept, lead, noStep, plainWord, shut, way}
-use Rattle.language.specs.Kinds.{aConstant, aName, atLeastSign, atMostSign, atSign, callSign, caseWord, closeBracket, closeParen, colon, comma, conWord, delayedSign, differenceSign, doWord, elseWord, endCaseWord, endIfWord, equalSign, equalsSign, exclusiveSign, extWord, gotoSign, greaterSign, hash, headWord, ifWord, lessSign, minus, openBracket, openParen, plus, redWord, returnWord, slash, star, sumSign, tailWord, thenWord}
-use Rattle.language.specs.Machine.{Alternative, Ask, Sym, adjustment, andTail, arithmetic, arithmeticTail, ask, complement, conTail, counted, cutTail, ease, exclusiveTail, expression, keep, level, make, may, minterm, moreArms, operand, operationAction, operationArms, operationIfRest, operationMore, operationName, orTail, product, reduction, relationTail, second, secondOption, setSign, state, stateAction, stateArms, stateIfRest, stateMore, storeSign, subscript, subscripts, term}
+use Rattle.language.specs.Kinds.{aConstant, aName, atSign, callSign, caseWord, closeBracket, closeParen, colon, comma, conWord, delayedSign, differenceSign, doWord, elseWord, endCaseWord, endIfWord, equalSign, exclusiveSign, gotoSign, ifWord, minus, openBracket, openParen, plus, redWord, returnWord, slash, star, thenWord}
+use Rattle.language.specs.Machine.{Alternative, Ask, Sym, adjustment, andTail, arithmetic, arithmeticTail, ask, complement, conTail, counted, cutTail, ease, exclusiveTail, expression, keep, level, make, minterm, moreArms, operationAction, operationArms, operationIfRest, operationMore, operationName, orTail, product, reduction, relationTail, second, secondOption, setSign, stateAction, stateArms, stateIfRest, stateMore, storeSign, subscript, subscripts, term}
+use Rattle.language.specs.Operators.{cuts, reductions, relations, sums}
 use Rattle.language.specs.Steps.{Step, Steps}
 
 module _ {B : Type 0} (S : Steps B) where
@@ -35,7 +36,7 @@ module _ {B : Type 0} (S : Steps B) where
 
   abbrev pub reductionWays : List (Alternative B) → List (Alternative B)
   reductionWays terms =
-      each (plus ∷ star ∷ exclusiveSign ∷ sumSign ∷ []) (λ k. countsOpening k (plainWord redWord ∷ ask adjustment ∷ make S.makePrefix ∷ ease ∷ []))
+      each reductions (λ k. countsOpening k (plainWord redWord ∷ ask adjustment ∷ make S.makePrefix ∷ ease ∷ []))
       ++ adjustmentWays terms
 
   abbrev pub complementWays : List (Alternative B) → List (Alternative B)
@@ -69,13 +70,13 @@ module _ {B : Type 0} (S : Steps B) where
   conWays = operatorWay reduction conTail conWord ∷ []
 
   abbrev pub cutWays : List (Alternative B)
-  cutWays = each (headWord ∷ tailWord ∷ extWord ∷ []) (λ k. counts k (keep aConstant ∷ make S.makeCut ∷ ask cutTail ∷ []))
+  cutWays = each cuts (λ k. counts k (keep aConstant ∷ make S.makeCut ∷ ask cutTail ∷ []))
 
   abbrev pub relationWays : List (Alternative B)
-  relationWays = each (equalsSign ∷ hash ∷ lessSign ∷ greaterSign ∷ atMostSign ∷ atLeastSign ∷ []) (λ k. counts k (ask arithmetic ∷ make S.makeBinary ∷ []))
+  relationWays = each relations (λ k. counts k (ask arithmetic ∷ make S.makeBinary ∷ []))
 
   abbrev pub arithmeticTailWays : List (Alternative B)
-  arithmeticTailWays = each (sumSign ∷ differenceSign ∷ []) (operatorWay term arithmeticTail)
+  arithmeticTailWays = each sums (operatorWay term arithmeticTail)
 
   -- ---- References (the manual, 5.1.1).
 

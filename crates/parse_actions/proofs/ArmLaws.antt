@@ -21,6 +21,7 @@ use Rattle.language.specs.Declaring.{treeSteps}
 use Rattle.language.specs.Describe.{act, actionsIn, actionsOf, armsIn, expressionsIn, nodesIn}
 use Rattle.language.specs.Description as D
 use Rattle.language.specs.Encode.{actionBytes}
+use Rattle.language.specs.Kinds.{doWord, elseWord, endIfWord}
 use Rattle.language.specs.Machine.{ask, make}
 use Rattle.language.specs.Naming.{Scope}
 use Rattle.language.specs.Tree as T
@@ -88,13 +89,13 @@ module _ (q : Bool) {text : List ℕ} {n : Counts} {w : Word} {s : State} {acts 
 
 -- ---- ELSE and its arm.
 
-module _ (q : Bool) {text : List ℕ} {w : Word} {s : State} {t : Answer} (x : Expected text 35 Level w s t) where
-  else-course : t .verdict ≡ Done → (kindNo (w .kind) ≡ 36 → ⊥) → Seen text w → (K : Stack) (b : Built) → runs text (ask (restAsk q) ∷ K) w b s ≡ runs text (ownStack q ++ (elseStack ++ K)) (t .next) b s
+module _ (q : Bool) {text : List ℕ} {w : Word} {s : State} {t : Answer} (x : Expected text elseWord Level w s t) where
+  else-course : t .verdict ≡ Done → (kindNo (w .kind) ≡ endIfWord → ⊥) → Seen text w → (K : Stack) (b : Built) → runs text (ask (restAsk q) ∷ K) w b s ≡ runs text (ownStack q ++ (elseStack ++ K)) (t .next) b s
   else-course d e z K b =
       else-comes text w z b (countsOf s) e q K ∙ x .done d z (omega arith) .1 (ownStack q ++ (elseStack ++ K)) b
       ∙ ap (λ (v : State). runs text (ownStack q ++ (elseStack ++ K)) (t .next) b v) (level-same (x .done d z (omega arith) .0))
 
-module _ (q : Bool) {text : List ℕ} {n : Counts} {w : Word} {s : State} {acts : ℕ} {work : List ℕ} {t : Answer} (x : Expected text 35 Level w s t) where
+module _ (q : Bool) {text : List ℕ} {n : Counts} {w : Word} {s : State} {acts : ℕ} {work : List ℕ} {t : Answer} (x : Expected text elseWord Level w s t) where
   pub else-not : (t .verdict ≡ Done → ⊥) → {work′ : List ℕ} → Else q text n w s acts work work′ (record { answer = t; actions = acts })
   else-not m e sc st = record {
     done = λ d. absurd (m d);
@@ -139,7 +140,7 @@ made-arms : (q : Bool) {text : List ℕ} {sc : Scope} {n : Counts} {w : Word} {s
 made-arms q y = record { done = λ d. arm-made q (y .done d); refused = λ f d K b. y .refused f d (make (treeSteps .makeArm) ∷ ask (armsAsk q) ∷ K) b; full = y .full }
 
 module _ (q : Bool) {text : List ℕ} {w : Word} {s : State} {t : Answer} (x : Took text w (afterWord false Level s) s t) where
-  do-course : t .verdict ≡ Done → kindNo (w .kind) ≡ 31 → Seen text w → (K : Stack) (b : Built) → runs text (ask (armsAsk q) ∷ K) w b s ≡ runs text (armStack q ++ K) (t .next) b s
+  do-course : t .verdict ≡ Done → kindNo (w .kind) ≡ doWord → Seen text w → (K : Stack) (b : Built) → runs text (ask (armsAsk q) ∷ K) w b s ≡ runs text (armStack q ++ K) (t .next) b s
   do-course d e z K b =
       do-comes text w z b (countsOf s) e q K ∙ took-done (x .done d) z (armStack q ++ K) b
       ∙ ap (λ (v : State). runs text (armStack q ++ K) (t .next) b v) (level-same (x .done d))
@@ -200,13 +201,13 @@ pub arming-begin : (q : Bool) {text : List ℕ} {n : Counts} {w : Word} {s : Sta
 arming-begin q x sc st = made-arms q (x sc st)
 
 module _ (q : Bool) {text : List ℕ} {n : Counts} {w : Word} {s : State} {acts : ℕ} {work : List ℕ} {count : ℕ} {r : Acted} {work′ : List ℕ} (g : Arming q text n w s acts work count r work′) where
-  pub arming-more : r .answer .verdict ≡ Done → {z : Bool} → z ≡ eqb (kindNo (r .answer .next .kind)) 31 → z ≡ true → {i : State} → i ≡ atNesting (r .answer .state) (s .nesting) → {work₂ : List ℕ} {r₂ : Acted} → NextArm q text n (r .answer .next) i (r .actions) work′ work₂ r₂
+  pub arming-more : r .answer .verdict ≡ Done → {z : Bool} → z ≡ eqb (kindNo (r .answer .next .kind)) doWord → z ≡ true → {i : State} → i ≡ atNesting (r .answer .state) (s .nesting) → {work₂ : List ℕ} {r₂ : Acted} → NextArm q text n (r .answer .next) i (r .actions) work′ work₂ r₂
       → {m : ℕ} → m ≡ count + 1 → Arming q text n w s acts work m r₂ work₂
   arming-more d e₁ e₂ {i} h {work₂} {r₂} y₀ {m} f sc st =
       let x = g sc st .done d in
       let j : i ≡ r .answer .state = h ∙ at-same (r .answer .state) (s .nesting) (x .paid .nesting) in
       let y₁ : NextArm q text n (r .answer .next) (r .answer .state) (r .actions) work′ work₂ r₂ = rw j at y₀ in
-      let y = y₁ (eqb-true (kindNo (r .answer .next .kind)) 31 (sym e₁ ∙ e₂)) sc (standing-acts (r .actions + 1) (x .standing) (omega (arith, x .paid .actions, st .actions))) in
+      let y = y₁ (eqb-true (kindNo (r .answer .next .kind)) doWord (sym e₁ ∙ e₂)) sc (standing-acts (r .actions + 1) (x .standing) (omega (arith, x .paid .actions, st .actions))) in
       record {
         done = λ u. arms-then x (y .done u) m f;
         refused = λ v u K b. x .course K b ∙ y .refused v u K (grown (x .tree) b);
@@ -216,7 +217,7 @@ module _ (q : Bool) {text : List ℕ} {n : Counts} {w : Word} {s : State} {acts 
   pub arms-not : (r .answer .verdict ≡ Done → ⊥) → Arms q text n w s acts work work′ (record { acted = r; count = count })
   arms-not m sc st = let y = g sc st in record { done = λ d. absurd (m d); refused = y .refused; full = y .full }
 
-  pub arms-end : {z : Bool} → z ≡ eqb (kindNo (r .answer .next .kind)) 31 → z ≡ false → Arms q text n w s acts work work′ (record { acted = r; count = count })
+  pub arms-end : {z : Bool} → z ≡ eqb (kindNo (r .answer .next .kind)) doWord → z ≡ false → Arms q text n w s acts work work′ (record { acted = r; count = count })
   arms-end e₁ e₂ sc st =
       let y = g sc st in
       record {
@@ -225,7 +226,7 @@ module _ (q : Bool) {text : List ℕ} {n : Counts} {w : Word} {s : State} {acts 
               tree = z .tree;
               arms = z .arms;
               counted = z .counted;
-              course = λ K b. z .course K b ∙ no-do text (r .answer .next) (z .standing .seen) (grown (z .tree) b) (countsOf (r .answer .state)) (eqb-false (kindNo (r .answer .next .kind)) 31 (sym e₁ ∙ e₂)) q K;
+              course = λ K b. z .course K b ∙ no-do text (r .answer .next) (z .standing .seen) (grown (z .tree) b) (countsOf (r .answer .state)) (eqb-false (kindNo (r .answer .next .kind)) doWord (sym e₁ ∙ e₂)) q K;
               written = z .written;
               paid = z .paid;
               standing = z .standing;

@@ -17,6 +17,7 @@ use Rattle.language.specs.Declaring.{treeSteps}
 use Rattle.language.specs.Describe.{armsIn}
 use Rattle.language.specs.Description as D
 use Rattle.language.specs.Encode.{actionBytes}
+use Rattle.language.specs.Kinds.{caseWord, endCaseWord}
 use Rattle.language.specs.Machine.{closes, make, word}
 use Rattle.language.specs.Naming.{Scope}
 use Rattle.language.specs.Tree as T
@@ -39,7 +40,7 @@ module _ (q : Bool) {text : List ℕ} {n : Counts} {w : Word} {s : State} {acts 
 
   module _ (d₁ : c .answer .verdict ≡ Done) {work₂ : List ℕ} {a : Armed} (y : Arms q text n (c .answer .next) (c .answer .state) (c .actions) work₁ work₂ a) where
     -- What is built when the arms begin.
-    module _ (e : kindNo (w .kind) ≡ 30) {sc : Scope} (st : Standing text sc n w s acts work) where
+    module _ (e : kindNo (w .kind) ≡ caseWord) {sc : Scope} (st : Standing text sc n w s acts work) where
       head : ConditionRead true text sc n w s acts work work₁ c
       head = x e q sc st .done d₁
 
@@ -47,7 +48,7 @@ module _ (q : Bool) {text : List ℕ} {n : Counts} {w : Word} {s : State} {acts 
       told = y sc (head .standing)
 
     ending : Stack → Stack
-    ending K = word 32 closes ∷ make (treeSteps .makeChoose) ∷ K
+    ending K = word endCaseWord closes ∷ make (treeSteps .makeChoose) ∷ K
 
     pub arms-refused : (a .acted .answer .verdict ≡ Done → ⊥) → Conditional q true text n w s acts work work₂ (a .acted)
     unfolding ending
@@ -57,7 +58,7 @@ module _ (q : Bool) {text : List ℕ} {n : Counts} {w : Word} {s : State} {acts 
       full = told e st .full;
     }
 
-    pub case-says : a .acted .answer .verdict ≡ Done → {t : Answer} → Expected text 32 Closes (a .acted .answer .next) (a .acted .answer .state) t → {work₃ : List ℕ}
+    pub case-says : a .acted .answer .verdict ≡ Done → {t : Answer} → Expected text endCaseWord Closes (a .acted .answer .next) (a .acted .answer .state) t → {work₃ : List ℕ}
         → (acts < 4352 → Wrote Tb.Actions acts (actionBytes (D.choose (c .answer .state .nodes - 1) (a .count) (a .acted .actions - acts - 1))) work₂ work₃) → Conditional q true text n w s acts work work₃ (record { answer = t; actions = a .acted .actions })
     unfolding wordNo expressionNo listNo joined ending armsIn
     case-says d {t} u {work₃} v₀ e sc st =

@@ -18,6 +18,7 @@ use Rattle.language.specs.Building.{Built, keepWord, withLists}
 use Rattle.language.specs.Declaring.{treeSteps}
 use Rattle.language.specs.Describe.{act, expressionSize, nodesOf}
 use Rattle.language.specs.Description as D
+use Rattle.language.specs.Kinds.{doWord}
 use Rattle.language.specs.Machine.{Counts, ask, expression, level, word}
 use Rattle.language.specs.Naming.{Scope}
 use Rattle.language.specs.Tree as T
@@ -45,7 +46,7 @@ use Rattle.parse_actions.specs.Lists.{Condition, ConditionRead, Deeper, 
 -- CASE begins the list of its arms before the word of the first.
 branches : (text : List ℕ) (q case : Bool) (w : Word) (s : State) (K : Stack) (b : Built) → runs text (conditionStack q case ++ K) w b s ≡ runs text (word (firstWord case) level ∷ (branchStack q case ++ K)) w (branching case b) s
 branches text q false w s K b = refl
-branches text q true w s K b = makes-it text (treeSteps .beginArms) (word 31 level ∷ (branchStack q true ++ K)) w b (withLists b (T.done ∷ b .lists)) s (λ p. refl)
+branches text q true w s K b = makes-it text (treeSteps .beginArms) (word doWord level ∷ (branchStack q true ++ K)) w b (withLists b (T.done ∷ b .lists)) s (λ p. refl)
 
 -- ---- Its word.
 

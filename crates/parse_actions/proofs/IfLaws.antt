@@ -18,6 +18,7 @@ use Rattle.language.specs.Declaring.{treeSteps}
 use Rattle.language.specs.Describe.{act, actionsIn, actionsOf, armsIn}
 use Rattle.language.specs.Description as D
 use Rattle.language.specs.Encode.{actionBytes}
+use Rattle.language.specs.Kinds.{endIfWord, ifWord}
 use Rattle.language.specs.Machine.{ask}
 use Rattle.language.specs.Naming.{Scope}
 use Rattle.language.specs.Tree as T
@@ -44,7 +45,7 @@ module _ (q : Bool) {text : List ℕ} {n : Counts} {w : Word} {s : State} {acts 
   if-not m e sc st = let y = x e q sc st in record { done = λ d. absurd (m d); refused = y .refused; full = y .full }
 
   module _ (d₁ : c .answer .verdict ≡ Done) {work₂ : List ℕ} {a : Acted} (y : Arm q text n (c .answer .next) (c .answer .state) (c .actions) work₁ work₂ a) where
-    module _ (e : kindNo (w .kind) ≡ 33) {sc : Scope} (st : Standing text sc n w s acts work) where
+    module _ (e : kindNo (w .kind) ≡ ifWord) {sc : Scope} (st : Standing text sc n w s acts work) where
       head : ConditionRead false text sc n w s acts work work₁ c
       head = x e q sc st .done d₁
 
@@ -63,7 +64,7 @@ module _ (q : Bool) {text : List ℕ} {n : Counts} {w : Word} {s : State} {acts 
       abbrev held : Expression → Actions → Built → Built
       held t l b = withLists (pushed t (keepWord (signOf false w) b)) (l ∷ b .lists)
 
-      module _ (e : kindNo (w .kind) ≡ 33) {sc : Scope} (st : Standing text sc n w s acts work) where
+      module _ (e : kindNo (w .kind) ≡ ifWord) {sc : Scope} (st : Standing text sc n w s acts work) where
         first : ArmRead (ownStack q) [] text sc n (c .answer .next) (c .answer .state) (c .actions) work₁ work₂ a
         first = then-told e st .done d₂
 
@@ -72,12 +73,12 @@ module _ (q : Bool) {text : List ℕ} {n : Counts} {w : Word} {s : State} {acts 
 
       -- ---- One arm.
 
-      pub if-says : {z : Bool} → z ≡ eqb (kindNo (a .answer .next .kind)) 36 → z ≡ true → {t : Answer} → Expected text 36 Closes (a .answer .next) (a .answer .state) t → {work₃ : List ℕ}
+      pub if-says : {z : Bool} → z ≡ eqb (kindNo (a .answer .next .kind)) endIfWord → z ≡ true → {t : Answer} → Expected text endIfWord Closes (a .answer .next) (a .answer .state) t → {work₃ : List ℕ}
           → (acts < 4352 → c .actions < 4352 → OneBranch acts (c .actions) (c .answer .state .nodes - 1) (a .actions) (w .at) work₂ work₃) → Conditional q false text n w s acts work work₃ (record { answer = t; actions = a .actions })
       unfolding wordNo expressionNo listNo actionsOf actionsIn
       if-says f₁ f₂ {t} u {work₃} v₀ e sc st =
           concluded q st (h .entered) (h .laid .count) (o .paid) (o .standing) (v .place .still) (T.when (positioned (w .at)) (h .tree) (o .tree) T.done) written u (omega arith) (treeSteps .makeWhen) (held (h .tree) (o .tree))
-          (λ K b. first-course e st K b ∙ end-if-comes text (a .answer .next) (o .standing .seen) (held (h .tree) (o .tree) b) (countsOf (a .answer .state)) (eqb-true (kindNo (a .answer .next .kind)) 36 (sym f₁ ∙ f₂)) q K) (λ b p. refl)
+          (λ K b. first-course e st K b ∙ end-if-comes text (a .answer .next) (o .standing .seen) (held (h .tree) (o .tree) b) (countsOf (a .answer .state)) (eqb-true (kindNo (a .answer .next .kind)) endIfWord (sym f₁ ∙ f₂)) q K) (λ b p. refl)
         where
           k : ℕ
           k = c .answer .state .nodes - 1
@@ -103,14 +104,14 @@ module _ (q : Bool) {text : List ℕ} {n : Counts} {w : Word} {s : State} {acts 
 
       -- ---- ELSE.
 
-      module _ {f : Bool} (f₁ : f ≡ eqb (kindNo (a .answer .next .kind)) 36) (f₂ : f ≡ false) {i : State} (g : i ≡ atNesting (a .answer .state) (c .answer .state .nesting)) {work₃ : List ℕ} {o : Acted} (z : Else q text n (a .answer .next) i (a .actions) work₂ work₃ o) where
-        other-told : kindNo (w .kind) ≡ 33 → {sc : Scope} → Standing text sc n w s acts work
+      module _ {f : Bool} (f₁ : f ≡ eqb (kindNo (a .answer .next .kind)) endIfWord) (f₂ : f ≡ false) {i : State} (g : i ≡ atNesting (a .answer .state) (c .answer .state .nesting)) {work₃ : List ℕ} {o : Acted} (z : Else q text n (a .answer .next) i (a .actions) work₂ work₃ o) where
+        other-told : kindNo (w .kind) ≡ ifWord → {sc : Scope} → Standing text sc n w s acts work
             → Told text (ask (restAsk q) ∷ []) (a .answer .next) (a .answer .state) (o .answer) (ArmRead (ask (restAsk q) ∷ []) elseStack text sc n (a .answer .next) (a .answer .state) (a .actions) work₂ work₃ o)
         other-told e {sc} st =
             let p = first e st in
             let j : i ≡ a .answer .state = g ∙ at-same (a .answer .state) (c .answer .state .nesting) (p .paid .nesting) in
             let z₁ : Else q text n (a .answer .next) (a .answer .state) (a .actions) work₂ work₃ o = rw j at z in
-            z₁ (eqb-false (kindNo (a .answer .next .kind)) 36 (sym f₁ ∙ f₂)) sc (standing-acts (a .actions + 1) (p .standing) (omega (arith, p .paid .actions, head e st .standing .actions)))
+            z₁ (eqb-false (kindNo (a .answer .next .kind)) endIfWord (sym f₁ ∙ f₂)) sc (standing-acts (a .actions + 1) (p .standing) (omega (arith, p .paid .actions, head e st .standing .actions)))
 
         pub other-not : (o .answer .verdict ≡ Done → ⊥) → Conditional q false text n w s acts work work₃ o
         other-not m e sc st = record {
@@ -119,7 +120,7 @@ module _ (q : Bool) {text : List ℕ} {n : Counts} {w : Word} {s : State} {acts 
           full = other-told e st .full;
         }
 
-        pub if-else-says : o .answer .verdict ≡ Done → {t : Answer} → Expected text 36 Closes (o .answer .next) (o .answer .state) t → {work₄ : List ℕ}
+        pub if-else-says : o .answer .verdict ≡ Done → {t : Answer} → Expected text endIfWord Closes (o .answer .next) (o .answer .state) t → {work₄ : List ℕ}
             → (acts < 4352 → Wrote Tb.Actions acts (actionBytes (D.choose (c .answer .state .nodes - 1) 2 (o .actions - acts - 1))) work₃ work₄) → Conditional q false text n w s acts work work₄ (record { answer = t; actions = o .actions })
         unfolding wordNo expressionNo listNo joined armsIn
         if-else-says d {t} u {work₄} v₀ e sc st =

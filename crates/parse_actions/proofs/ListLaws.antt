@@ -16,6 +16,7 @@ use Rattle.parse_step.specs.Course.{Seen, Stack, countsOf, kindNo, runs}
 use Rattle.parse_step.specs.Taken.{Passed, Took, afterWord}
 use Rattle.parse_bounds.proofs.States.{state-of}
 use Rattle.language.specs.Building.{Built, joined}
+use Rattle.language.specs.Kinds.{comma}
 use Rattle.language.specs.Machine.{ask}
 use Rattle.language.specs.Naming.{Scope}
 use Rattle.parse_names.specs.declared.Counts.{Counts}
@@ -65,7 +66,7 @@ module _ {text : List ℕ} {sc : Scope} {n : Counts} {P Q : Stack} {w : Word} {s
 -- ---- A comma and an action.
 
 module _ (q : Bool) {text : List ℕ} {w : Word} {s : State} {t : Answer} (x : Took text w (afterWord false Level s) s t) where
-  comma-course : t .verdict ≡ Done → kindNo (w .kind) ≡ 9 → Seen text w → (K : Stack) (b : Built) → runs text (ask (moreAsk q) ∷ K) w b s ≡ runs text (ask (actionAsk q) ∷ ask (moreAsk q) ∷ K) (t .next) b s
+  comma-course : t .verdict ≡ Done → kindNo (w .kind) ≡ comma → Seen text w → (K : Stack) (b : Built) → runs text (ask (moreAsk q) ∷ K) w b s ≡ runs text (ask (actionAsk q) ∷ ask (moreAsk q) ∷ K) (t .next) b s
   comma-course d e z K b =
       comma-comes text w z b (countsOf s) e q K ∙ took-done (x .done d) z (ask (actionAsk q) ∷ ask (moreAsk q) ∷ K) b
       ∙ ap (λ (v : State). runs text (ask (actionAsk q) ∷ ask (moreAsk q) ∷ K) (t .next) b v) (level-same (x .done d))
@@ -113,7 +114,7 @@ going-begin q {text} {n} {w} {s} {acts} {work} {work′} {r} x = record { reads 
         }
 
 module _ {q : Bool} {text : List ℕ} {n : Counts} {w : Word} {s : State} {acts : ℕ} {work : List ℕ} {count : ℕ} {r : Acted} {work′ : List ℕ} (g : Going q text n w s acts work count r work′) where
-  pub going-more : r .answer .verdict ≡ Done → {z : Bool} → z ≡ eqb (kindNo (r .answer .next .kind)) 9 → z ≡ true → {i : State} → i ≡ atNesting (r .answer .state) (s .nesting) → {work₂ : List ℕ} {r₂ : Acted} → Another q text n (r .answer .next) i (r .actions) work′ work₂ r₂
+  pub going-more : r .answer .verdict ≡ Done → {z : Bool} → z ≡ eqb (kindNo (r .answer .next .kind)) comma → z ≡ true → {i : State} → i ≡ atNesting (r .answer .state) (s .nesting) → {work₂ : List ℕ} {r₂ : Acted} → Another q text n (r .answer .next) i (r .actions) work′ work₂ r₂
       → {m : ℕ} → m ≡ count + 1 → Going q text n w s acts work m r₂ work₂
   going-more d e₁ e₂ {i} h {work₂} {r₂} y₀ {m} f = record { reads = λ sc st. reads-then (first sc st) (next sc st); counted = λ sc st u. omega (arith, f, g .counted sc st d, counts-one (next sc st .done u)) }
     where
@@ -124,19 +125,19 @@ module _ {q : Bool} {text : List ℕ} {n : Counts} {w : Word} {s : State} {acts 
       next sc st =
           let j : i ≡ r .answer .state = h ∙ at-same (r .answer .state) (s .nesting) (first sc st .paid .nesting) in
           let y : Another q text n (r .answer .next) (r .answer .state) (r .actions) work′ work₂ r₂ = rw j at y₀ in
-          y (eqb-true (kindNo (r .answer .next .kind)) 9 (sym e₁ ∙ e₂)) sc (first sc st .standing)
+          y (eqb-true (kindNo (r .answer .next .kind)) comma (sym e₁ ∙ e₂)) sc (first sc st .standing)
 
   pub list-not : (r .answer .verdict ≡ Done → ⊥) → Acts (listStack q) same text n w s acts work work′ r
   list-not m sc st = reads-not (g .reads sc st) m []
 
-  pub list-ends : {z : Bool} → z ≡ eqb (kindNo (r .answer .next .kind)) 9 → z ≡ false → Acts (listStack q) same text n w s acts work work′ r
+  pub list-ends : {z : Bool} → z ≡ eqb (kindNo (r .answer .next .kind)) comma → z ≡ false → Acts (listStack q) same text n w s acts work work′ r
   list-ends e₁ e₂ sc st =
       let y = g .reads sc st in
       record {
         done = λ d. let z = y .done d in
             record {
               tree = z .tree;
-              course = λ K b. z .course K b ∙ no-comma text (r .answer .next) (z .standing .seen) (grown (z .tree) b) (countsOf (r .answer .state)) (eqb-false (kindNo (r .answer .next .kind)) 9 (sym e₁ ∙ e₂)) q K;
+              course = λ K b. z .course K b ∙ no-comma text (r .answer .next) (z .standing .seen) (grown (z .tree) b) (countsOf (r .answer .state)) (eqb-false (kindNo (r .answer .next .kind)) comma (sym e₁ ∙ e₂)) q K;
               written = z .written;
               paid = z .paid;
               standing = z .standing;

@@ -13,6 +13,7 @@ use Rattle.parse_step.specs.Course.{Seen, Stack, countsOf, kindNo, runs}
 use Rattle.parse_step.specs.Taken.{Passed, Refuses, Took, afterWord}
 use Rattle.about_grammar.specs.Following.{among}
 use Rattle.language.specs.Building.{Built}
+use Rattle.language.specs.Kinds.{aName, callSign, gotoSign, returnWord}
 use Rattle.language.specs.Machine.{ask, refused, stateAction}
 use Rattle.language.specs.Naming.{Scope}
 use Rattle.language.specs.Words.{fault}
@@ -30,7 +31,7 @@ use Rattle.parse_actions.specs.Lists.{Named, Plain, Signed, actionAsk, n
 -- ---- Names.
 
 module _ (q : Bool) {text : List ℕ} {w : Word} {s : State} {t : Answer} (x : Took text w (afterWord false Level s) s t) where
-  name-course : t .verdict ≡ Done → kindNo (w .kind) ≡ 1 → Seen text w → (K : Stack) (b : Built) → runs text (ask (actionAsk q) ∷ K) w b s ≡ runs text (ask (nameAsk q) ∷ K) (t .next) (afterName w text b) s
+  name-course : t .verdict ≡ Done → kindNo (w .kind) ≡ aName → Seen text w → (K : Stack) (b : Built) → runs text (ask (actionAsk q) ∷ K) w b s ≡ runs text (ask (nameAsk q) ∷ K) (t .next) (afterName w text b) s
   name-course d e z K b =
       name-comes text w z b (countsOf s) e q K ∙ took-done (x .done d) z (ask (nameAsk q) ∷ K) (afterName w text b)
       ∙ ap (λ (v : State). runs text (ask (nameAsk q) ∷ K) (t .next) (afterName w text b) v) (level-same (x .done d))
@@ -68,12 +69,12 @@ refuses x g = record {
 }
 
 module _ {text : List ℕ} {n : Counts} {w : Word} {s : State} {acts : ℕ} {work work′ : List ℕ} {a : Answer} (x : Refuses w 3 a) {k : ℕ} (e : k ≡ kindNo (w .kind)) where
-  pub signed-not : {z : Bool} → z ≡ among k (27 ∷ 28 ∷ 47 ∷ []) → z ≡ false → Signed text n w s acts work work′ (record { answer = a; actions = acts })
-  signed-not f g m₁ m₂ m₃ sc st = refuses x (λ K b. no-control text w (st .seen) b (countsOf s) m₁ (ap (λ (v : ℕ). among v (27 ∷ 28 ∷ 47 ∷ [])) (sym e) ∙ sym f ∙ g) m₂ m₃ K)
+  pub signed-not : {z : Bool} → z ≡ among k (gotoSign ∷ callSign ∷ returnWord ∷ []) → z ≡ false → Signed text n w s acts work work′ (record { answer = a; actions = acts })
+  signed-not f g m₁ m₂ m₃ sc st = refuses x (λ K b. no-control text w (st .seen) b (countsOf s) m₁ (ap (λ (v : ℕ). among v (gotoSign ∷ callSign ∷ returnWord ∷ [])) (sym e) ∙ sym f ∙ g) m₂ m₃ K)
 
-  pub operation-not : (k ≡ 1 → ⊥) → Plain false text n w s acts work work′ (record { answer = a; actions = acts })
+  pub operation-not : (k ≡ aName → ⊥) → Plain false text n w s acts work work′ (record { answer = a; actions = acts })
   operation-not m₁ m₂ m₃ sc st = refuses x (λ K b. no-operation text w (st .seen) b (countsOf s) (λ d. m₁ (e ∙ d)) m₂ m₃ K)
 
-pub signed-says : {text : List ℕ} {n : Counts} {w : Word} {s : State} {acts : ℕ} {work work′ : List ℕ} {r : Acted} {k : ℕ} → k ≡ kindNo (w .kind) → {z : Bool} → z ≡ among k (27 ∷ 28 ∷ 47 ∷ []) → z ≡ true
-    → (among (kindNo (w .kind)) (27 ∷ 28 ∷ 47 ∷ []) ≡ true → Acts (ask stateAction ∷ []) same text n w s acts work work′ r) → Signed text n w s acts work work′ r
-signed-says e f g y m₁ m₂ m₃ = y (ap (λ (v : ℕ). among v (27 ∷ 28 ∷ 47 ∷ [])) (sym e) ∙ sym f ∙ g)
+pub signed-says : {text : List ℕ} {n : Counts} {w : Word} {s : State} {acts : ℕ} {work work′ : List ℕ} {r : Acted} {k : ℕ} → k ≡ kindNo (w .kind) → {z : Bool} → z ≡ among k (gotoSign ∷ callSign ∷ returnWord ∷ []) → z ≡ true
+    → (among (kindNo (w .kind)) (gotoSign ∷ callSign ∷ returnWord ∷ []) ≡ true → Acts (ask stateAction ∷ []) same text n w s acts work work′ r) → Signed text n w s acts work work′ r
+signed-says e f g y m₁ m₂ m₃ = y (ap (λ (v : ℕ). among v (gotoSign ∷ callSign ∷ returnWord ∷ [])) (sym e) ∙ sym f ∙ g)

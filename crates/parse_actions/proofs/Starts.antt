@@ -7,6 +7,7 @@ use Rattle.parse_step.proofs.Looking.{View, begun, ended, view}
 use Rattle.parse_step.specs.Course.{Seen, Stack, ahead, kindNo, runsOn}
 use Rattle.language.specs.Building.{Built, wordNo}
 use Rattle.language.specs.Declaring.{treeSteps}
+use Rattle.language.specs.Kinds.{colon, openParen}
 use Rattle.language.specs.Machine.{Counts, Parsed, ask, choose, feed, finish, firstName, run, stateName}
 use Rattle.language.specs.Sections.{ruleOf}
 use Rattle.language.specs.Words as L
@@ -24,10 +25,10 @@ module _ (text : List ℕ) (w : Word) (b : Built) (c : Counts) where
   at = positioned (w .at)
 
   -- A name first, which is no label.
-  pub name-acts : Seen text w → (k ≡ 13 → ⊥) → (k ≡ 5 → ⊥) → (K : Stack) → on (ask firstName ∷ K) ≡ runsOn text (ask stateName ∷ K) (ahead text w) (treeSteps .beginAtName at b) c
+  pub name-acts : Seen text w → (k ≡ colon → ⊥) → (k ≡ openParen → ⊥) → (K : Stack) → on (ask firstName ∷ K) ≡ runsOn text (ask stateName ∷ K) (ahead text w) (treeSteps .beginAtName at b) c
   unfolding runsOn run feed finish choose ruleOf wordNo
   name-acts z n m K = go (view text w z)
     where
       go : View text w → on (ask firstName ∷ K) ≡ runsOn text (ask stateName ∷ K) (ahead text w) (treeSteps .beginAtName at b) c
       go (ended x y e) = rw x
-      go (begun v x e y) = rw (x, e, ne-eqb k 13 n, ne-eqb k 5 m)
+      go (begun v x e y) = rw (x, e, ne-eqb k colon n, ne-eqb k openParen m)

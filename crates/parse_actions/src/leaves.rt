@@ -21,6 +21,7 @@ ghost use Rattle.parse_step.specs.Taken.{Expected};
 ghost use Rattle.about_grammar.specs.Following.{among};
 ghost use Rattle.language.specs.Description as D;
 ghost use Rattle.language.specs.Encode.{actionBytes};
+ghost use Rattle.language.specs.Kinds.{callSign, endIfWord, gotoSign, returnWord};
 ghost use Rattle.parse_tables.specs.declared.Table.the-variants as T;
 ghost use Rattle.parse_tables.specs.Rows.{Wrote};
 ghost use Rattle.parse_actions.specs.Lists.{OneBranch};
@@ -35,15 +36,15 @@ pub fn is(w: Word, kind: u8) -> bool
 
 // Whether an action begins with a kind in a state besides a name: `->`, `=>` or RETURN.
 pub fn signs(kind: u8) -> bool
-    ensures { λ r. ⌜ r ≡ among kind (27 ∷ 28 ∷ 47 ∷ []) ⌝ }
+    ensures { λ r. ⌜ r ≡ among kind (gotoSign ∷ callSign ∷ returnWord ∷ []) ⌝ }
 {
-    if kind == kinds::GOTO {
+    if kind == text_kinds::GOTO {
         return true;
     }
-    if kind == kinds::CALL {
+    if kind == text_kinds::CALL {
         return true;
     }
-    kind == kinds::RETURN
+    kind == text_kinds::RETURN
 }
 
 // How many of `count` records stand behind record n.
@@ -88,7 +89,7 @@ pub fn when_again(work: &mut [u8; 275296], acts: u16, arm: u16, nodes: u16, coun
 
 // The word ENDIF behind what an answer has read.
 pub fn end_if(text: &[u8], a: Answer) -> Answer
-    ensures { λ r. ⌜ Expected (now (text .entry)) 36 Closes (a .next) (a .state) r ⌝ }
+    ensures { λ r. ⌜ Expected (now (text .entry)) endIfWord Closes (a .next) (a .state) r ⌝ }
 {
-    taking::expect(text, a.next, a.state, kinds::END_IF, Bearing::Closes)
+    taking::expect(text, a.next, a.state, text_kinds::END_IF, Bearing::Closes)
 }

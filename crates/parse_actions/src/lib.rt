@@ -42,7 +42,7 @@ pub fn list(
         if parse_step::unread(read.answer) {
             return read;
         }
-        if leaves::is(read.answer.next, kinds::COMMA) {
+        if leaves::is(read.answer.next, text_kinds::COMMA) {
             let state = parse_expressions::pieces::at(read.answer.state, s.nesting);
             read = another(
                 state,
@@ -95,10 +95,10 @@ pub fn action(
 {
     let found = w.kind;
     let kind = kinds::number(found);
-    if kind == kinds::IF {
+    if kind == text_kinds::IF {
         return when(s, in_state, text, w, work, n, acts);
     }
-    if kind == kinds::CASE {
+    if kind == text_kinds::CASE {
         return cases(s, in_state, text, w, work, n, acts);
     }
     plain(s, in_state, text, w, work, n, acts)
@@ -161,7 +161,7 @@ fn when(
     if parse_step::unread(first.answer) {
         return first;
     }
-    if leaves::is(first.answer.next, kinds::END_IF) {
+    if leaves::is(first.answer.next, text_kinds::END_IF) {
         let end = leaves::end_if(text, first.answer);
         leaves::when_again(
             work,
@@ -203,7 +203,7 @@ fn otherwise(
 ) -> Acted
     ensures { λ r. ⌜ Else in_state (now (text .entry)) n w s acts (now (work .entry)) (now (work .exit)) r ⌝ }
 {
-    let word = taking::expect(text, w, s, kinds::ELSE, Bearing::Level);
+    let word = taking::expect(text, w, s, text_kinds::ELSE, Bearing::Level);
     if parse_step::unread(word) {
         return leaves::answered(word, acts);
     }
@@ -244,7 +244,7 @@ fn cases(
         text,
         acted.answer.next,
         acted.answer.state,
-        kinds::END_CASE,
+        text_kinds::END_CASE,
         Bearing::Closes,
     );
     leaves::choose_again(
@@ -275,7 +275,7 @@ fn arms(
         if parse_step::unread(read.answer) {
             return Armed { acted: read, count };
         }
-        if leaves::is(read.answer.next, kinds::DO) {
+        if leaves::is(read.answer.next, text_kinds::DO) {
             let state = parse_expressions::pieces::at(read.answer.state, s.nesting);
             read = next_arm(
                 state,
@@ -352,7 +352,7 @@ fn plain(
     ensures { λ r. ⌜ Plain in_state (now (text .entry)) n w s acts (now (work .entry)) (now (work .exit)) r ⌝ }
 {
     let found = w.kind;
-    if kinds::number(found) == kinds::NAME {
+    if kinds::number(found) == text_kinds::NAME {
         return named(s, in_state, text, w, work, n, acts);
     }
     if in_state {

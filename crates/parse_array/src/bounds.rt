@@ -1,6 +1,6 @@
 // The numbers of constants as records hold them.
-use value_operations::Value;
-use value_operations::numbers;
+use value_operators::Value;
+use value_operators::numbers;
 ghost use mathlib.Core.Path.{_≡_};
 ghost use Prim.Native.Nat.{_≤_, min};
 ghost use Rattle.language.specs.Describe as L;

@@ -4,12 +4,12 @@ use crate::places;
 use image_records::constants;
 use image_records::nodes::Node;
 use text_words::Position;
-use value_operations::Value;
+use value_operators::Value;
 ghost use mathlib.Core.Path.{_≡_};
 ghost use Prim.Native.Nat.{_*_, _/_, _%_, _^_};
 ghost use Rattle.language.specs.Describe.{constantNodes, constantSize};
 ghost use Rattle.value_limbs.specs.Limbs.{number};
-ghost use Rattle.value_operations.specs.Meaning.{valued};
+ghost use Rattle.value_operators.specs.Meaning.{valued};
 ghost use Rattle.text_words.specs.Meaning.{positioned};
 ghost use Rattle.parse_array.specs.Held.{Grew};
 

@@ -16,7 +16,7 @@ use Rattle.parse_step.specs.Taken.{Expected, Passed, Refuses, Took, afterWord}
 use Rattle.language.specs.Alternatives.{closing}
 use Rattle.language.specs.Building.{Built}
 use Rattle.language.specs.Declaring.{makeRow, makeTable}
-use Rattle.language.specs.Kinds.{aConstant, closeBracket}
+use Rattle.language.specs.Kinds.{aConstant, closeBracket, comma, openBracket}
 use Rattle.language.specs.Machine.{ask, keep, make, rangeRest}
 use Rattle.language.specs.Tree as T
 use Rattle.parse_tables.specs.declared.extents.Ends.{Ends}
@@ -53,7 +53,7 @@ table-sized a b = record { dimensions = refl; words = a .bounds; bits = b .bound
 -- ---- Behind a first range.
 
 module _ {text : List ℕ} {w : Word} {s : State} where
-  pub row-closed : {f : Ends} {e : Extent} {a : Answer} → kindNo (w .kind) ≡ 20 → Took text w (afterWord false Closes s) s a → ((x : T.Ends) → Bounded x f → Sized (T.row x) e) → Follows text w s f (record { answer = a; extent = e })
+  pub row-closed : {f : Ends} {e : Extent} {a : Answer} → kindNo (w .kind) ≡ closeBracket → Took text w (afterWord false Closes s) s a → ((x : T.Ends) → Bounded x f → Sized (T.row x) e) → Follows text w s f (record { answer = a; extent = e })
   row-closed {e = e} {a = a} k t g o z x b = word-taken t (λ d. read (t .done d)) (λ K. make makeRow ∷ (toCome o (T.row x) ++ K)) (withRange x) closes
     where
       closes : (K : Stack) (c : Built) → runs text (ask (restOf o) ∷ K) w (withRange x c) s ≡ onTaken text w (make makeRow ∷ (toCome o (T.row x) ++ K)) (withRange x c) (counts5 s (s .counted) (s .nesting - 1))
@@ -69,10 +69,10 @@ module _ {text : List ℕ} {w : Word} {s : State} where
         seen = p .seen;
       }
 
-  pub neither : {f : Ends} {e : Extent} {a : Answer} → (kindNo (w .kind) ≡ 20 → ⊥) → (kindNo (w .kind) ≡ 9 → ⊥) → Refuses w 3 a → Follows text w s f (record { answer = a; extent = e })
+  pub neither : {f : Ends} {e : Extent} {a : Answer} → (kindNo (w .kind) ≡ closeBracket → ⊥) → (kindNo (w .kind) ≡ comma → ⊥) → Refuses w 3 a → Follows text w s f (record { answer = a; extent = e })
   neither n m r o z x b = refuses 3 r (λ K c. extent-stuck text w K (withRange x c) s o z n m)
 
-  module _ (k : kindNo (w .kind) ≡ 9) {a : Answer} (t : Took text w (countsOf s) s a) where
+  module _ (k : kindNo (w .kind) ≡ comma) {a : Answer} (t : Took text w (countsOf s) s a) where
     comma : (o : Whose) (x y : T.Ends) (K : Stack) (c : Built) → runs text (ask (restOf o) ∷ K) w (withRange x c) s
         ≡ onTaken text w (keep aConstant ∷ ask rangeRest ∷ closing closeBracket ∷ make makeTable ∷ (toCome o (T.table x y) ++ K)) (withRange x c) (countsOf s)
     comma o x y K c = extent-comma text w K (withRange x c) s o x y k
@@ -95,7 +95,7 @@ module _ {text : List ℕ} {w : Word} {s : State} where
         full = q (p .seen) .full;
       }
 
-      pub table-closed : r .answer .verdict ≡ Done → {l : Answer} {f : Ends} {e : Extent} → Expected text 20 Closes (r .answer .next) (r .answer .state) l
+      pub table-closed : r .answer .verdict ≡ Done → {l : Answer} {f : Ends} {e : Extent} → Expected text closeBracket Closes (r .answer .next) (r .answer .state) l
           → ((x y : T.Ends) → Bounded x f → Bounded y (r .ends) → Sized (T.table x y) e) → Follows text w s f (record { answer = l; extent = e })
       table-closed ranged {l} {e = e} m g o z x b = expected m (λ d. read (m .done d (y .seen) (omega arith))) (y .seen) (omega arith) (λ K. make makeTable ∷ (toCome o (T.table x (y .tree)) ++ K)) (λ c. withRange (y .tree) (withRange x c)) to-close
         where
@@ -121,14 +121,14 @@ module _ {text : List ℕ} {w : Word} {s : State} where
 -- ---- Dimensions.
 
 module _ {text : List ℕ} {w : Word} {s : State} where
-  pub none-read : {e : Extent} → (kindNo (w .kind) ≡ 19 → ⊥) → Sized T.single e → Measures text w s (record { answer = record { verdict = Done; next = w; state = s }; extent = e })
+  pub none-read : {e : Extent} → (kindNo (w .kind) ≡ openBracket → ⊥) → Sized T.single e → Measures text w s (record { answer = record { verdict = Done; next = w; state = s }; extent = e })
   none-read n g o z = record {
     done = λ d. record { tree = T.single; course = λ K b. extent-none text w K b s o z n; state = refl; extent = g; seen = z };
     refused = λ f d. done-refused d;
     full = λ d. done-full d;
   }
 
-  module _ (k : kindNo (w .kind) ≡ 19) {a : Answer} (t : Took text w (afterWord false Opens s) s a) where
+  module _ (k : kindNo (w .kind) ≡ openBracket) {a : Answer} (t : Took text w (afterWord false Opens s) s a) where
     opens : (o : Whose) (K : Stack) (b : Built) → runs text (ask (askOf o) ∷ K) w b s ≡ onTaken text w (keep aConstant ∷ ask rangeRest ∷ ask (restOf o) ∷ K) b (afterWord false Opens s)
     opens o K b = extent-opened text w K b s o k
 

@@ -14,7 +14,7 @@ use Rattle.language.specs.Building.{Built, keepWord, wordNo}
 use Rattle.language.specs.Constants.{bareConstant, bareLength, decimalConstant, digitsAfter, rightJustified}
 use Rattle.language.specs.Declaring.{makeBoth}
 use Rattle.language.specs.Describe.{bound}
-use Rattle.language.specs.Kinds.{aConstant}
+use Rattle.language.specs.Kinds.{aConstant, colon}
 use Rattle.language.specs.Machine.{ask, keep, make, rangeRest}
 use Rattle.value_limbs.specs.Limbs.{number}
 use Rattle.parse_tables.specs.declared.extents.Ends.{Ends}
@@ -32,7 +32,7 @@ module _ {text : List ℕ} {w : Word} {s : State} {a : Answer} (k : Keeps text w
 
   module _ (done : a .verdict ≡ Done) where
     -- It is the last one.
-    pub range-ended : {e : Ends} → Bounded (lastEnd w) e → (kindNo (a .next .kind) ≡ 13 → ⊥) → Ranges text w s (record { answer = a; ends = e })
+    pub range-ended : {e : Ends} → Bounded (lastEnd w) e → (kindNo (a .next .kind) ≡ colon → ⊥) → Ranges text w s (record { answer = a; ends = e })
     unfolding wordNo
     range-ended {e} g n z = record { done = λ d. read (k .done done z); refused = λ f d. done-refused (sym done ∙ d); full = λ d. done-full (sym done ∙ d) }
       where
@@ -45,7 +45,7 @@ module _ {text : List ℕ} {w : Word} {s : State} {a : Answer} (k : Keeps text w
           seen = y .seen;
         }
 
-    module _ (colon : kindNo (a .next .kind) ≡ 13) {t : Answer} (x : Took text (a .next) (countsOf (a .state)) (a .state) t) where
+    module _ (colon : kindNo (a .next .kind) ≡ colon) {t : Answer} (x : Took text (a .next) (countsOf (a .state)) (a .state) t) where
       to-colon : Seen text w → (K : Stack) (b : Built) → runs text (keep aConstant ∷ ask rangeRest ∷ K) w b s ≡ onTaken text (a .next) (keep aConstant ∷ make makeBoth ∷ K) (keepWord (constantWord w) b) (countsOf (a .state))
       to-colon z K b = k .done done z .course (ask rangeRest ∷ K) b ∙ range-colon text (a .next) K (keepWord (constantWord w) b) (a .state) colon
 

@@ -27,11 +27,11 @@ not-among k x h = rw (ne-eqb k x h)
 
 module _ (text : List ℕ) (w : Word) (K : Stack) (b : Built) (s : State) where
   -- A colon, and the last bound behind it.
-  pub range-colon : kindNo (w .kind) ≡ 13 → runs text (ask rangeRest ∷ K) w b s ≡ onTaken text w (keep aConstant ∷ make makeBoth ∷ K) b (countsOf s)
+  pub range-colon : kindNo (w .kind) ≡ colon → runs text (ask rangeRest ∷ K) w b s ≡ onTaken text w (keep aConstant ∷ make makeBoth ∷ K) b (countsOf s)
   unfolding runsOn run feed choose ruleOf tallied
-  range-colon e = rw (sign-ahead text w 13 e (omega arith)) (taken-on text (positioned (w .at)) (keep aConstant ∷ make makeBoth ∷ K) (behind text w) b (countsOf s))
+  range-colon e = rw (sign-ahead text w colon e (omega arith)) (taken-on text (positioned (w .at)) (keep aConstant ∷ make makeBoth ∷ K) (behind text w) b (countsOf s))
 
   -- No colon: the bound that was kept is the last.
-  pub range-last : (d : Built) → ((p : L.Position) → makeLast p b ≡ d) → Seen text w → (kindNo (w .kind) ≡ 13 → ⊥) → runs text (ask rangeRest ∷ K) w b s ≡ runs text K w d s
+  pub range-last : (d : Built) → ((p : L.Position) → makeLast p b ≡ d) → Seen text w → (kindNo (w .kind) ≡ colon → ⊥) → runs text (ask rangeRest ∷ K) w b s ≡ runs text K w d s
   unfolding ruleOf
-  range-last d h z n = omitted text w z rangeRest (lead colon (keep aConstant ∷ make makeBoth ∷ []) ∷ []) makeLast refl (not-among (kindNo (w .kind)) 13 n) K b d (countsOf s) h
+  range-last d h z n = omitted text w z rangeRest (lead colon (keep aConstant ∷ make makeBoth ∷ []) ∷ []) makeLast refl (not-among (kindNo (w .kind)) colon n) K b d (countsOf s) h

@@ -75,7 +75,7 @@ pub fn dimensions(text: &[u8], w: Word, s: State) -> Measured
 {
     let extent = single();
     let kind = w.kind;
-    if kinds::number(kind) != kinds::OPEN_BRACKET {
+    if kinds::number(kind) != text_kinds::OPEN_BRACKET {
         let answer = Answer {
             verdict: Verdict::Done,
             next: w,
@@ -106,11 +106,11 @@ fn behind_range(text: &[u8], w: Word, s: State, first: Ends) -> Measured
     let kind = w.kind;
     let k = kinds::number(kind);
     let extent = row(first);
-    if k == kinds::CLOSE_BRACKET {
+    if k == text_kinds::CLOSE_BRACKET {
         let answer = taking::take(text, w, s, false, Bearing::Closes);
         return Measured { answer, extent };
     }
-    if k != kinds::COMMA {
+    if k != text_kinds::COMMA {
         let answer = taking::refuse(w, s, 3);
         return Measured { answer, extent };
     }
@@ -127,7 +127,7 @@ fn behind_range(text: &[u8], w: Word, s: State, first: Ends) -> Measured
         text,
         second.answer.next,
         second.answer.state,
-        kinds::CLOSE_BRACKET,
+        text_kinds::CLOSE_BRACKET,
         Bearing::Closes,
     );
     let ends = second.ends;

@@ -17,6 +17,7 @@ use Rattle.language.specs.Tree as T
 use Rattle.language.specs.Tree.{Expression}
 use Rattle.language.specs.Words as L
 use Rattle.judge_records.specs.Noted.{nodeBesideBytes}
+use Rattle.language.specs.Kinds.{doWord}
 use Rattle.text_words.specs.declared.Word.{Word}
 use Rattle.text_words.specs.Meaning.{positioned}
 use Rattle.parse_array.specs.Held.{Held, held, mostNodes, withNodes}
@@ -128,12 +129,12 @@ armings-begin case = record {
 no-further : (text : List ℕ) (w : Word) → Seen text w → (case : Bool) → another case (kindNo (w .kind)) ≡ false → (K : Stack) (b : Built) (c : Counts)
     → runsOn text (moreStack case ++ K) (ahead text w) b c ≡ runsOn text K (ahead text w) b c
 no-further text w z false e K b c = refl
-no-further text w z true e K b c = no-more text w z b c (λ q. true≢false (sym (eq-eqb (kindNo (w .kind)) 31 q) ∙ e)) K
+no-further text w z true e K b c = no-more text w z b c (λ q. true≢false (sym (eq-eqb (kindNo (w .kind)) doWord q) ∙ e)) K
 
 further : (text : List ℕ) (w : Word) → Seen text w → (case : Bool) → another case (kindNo (w .kind)) ≡ true → (K : Stack) (b : Built) (c : Counts)
-    → runsOn text (moreStack case ++ K) (ahead text w) b c ≡ runsOn text (word 31 level ∷ ask expression ∷ make (treeSteps .makeNextArm) ∷ (moreStack case ++ K)) (ahead text w) b c
+    → runsOn text (moreStack case ++ K) (ahead text w) b c ≡ runsOn text (word doWord level ∷ ask expression ∷ make (treeSteps .makeNextArm) ∷ (moreStack case ++ K)) (ahead text w) b c
 further text w z false e K b c = absurd (true≢false (sym e))
-further text w z true e K b c = more-taken text w z b c (eqb-true (kindNo (w .kind)) 31 e) K
+further text w z true e K b c = more-taken text w z b c (eqb-true (kindNo (w .kind)) doWord e) K
 
 module _ (case : Bool) {text : List ℕ} {w : Word} {s : State} {work : List ℕ} {n : ℕ} {next : Word} {state : State} {work₁ : List ℕ} {count left : ℕ} (v : Armings case text w s work n next state work₁ count left) where
   pub armings-end : another case (kindNo (next .kind)) ≡ false → {r : Answer} → r ≡ stayed state next → MoreArms case n text w s work work₁ (record { answer = r; count = count })
@@ -159,14 +160,14 @@ module _ (case : Bool) {text : List ℕ} {w : Word} {s : State} {work : List ℕ
   armings-full e {r} f sc h q base t p i =
       rw f (record { done = λ d. done-full (sym d); refused = λ g d. refused-full (sym d); full = λ d. omega (arith, v .room sc h q base t p, e) }, λ d. done-full (sym d))
 
-  module _ (e : another case (kindNo (next .kind)) ≡ true) {i : State} (g : i ≡ atNesting state (s .nesting)) {work₂ : List ℕ} {r : Answer} (x₀ : NextArm 31 text next i work₁ work₂ r) where
+  module _ (e : another case (kindNo (next .kind)) ≡ true) {i : State} (g : i ≡ atNesting state (s .nesting)) {work₂ : List ℕ} {r : Answer} (x₀ : NextArm doWord text next i work₁ work₂ r) where
     armed : (sc : Scope) (h : Here text sc w s work) (q : Held) (base : ℕ) (t : Expression) (p : Pending sc q base t s work)
-        → (x : Says text sc (word 31 level ∷ ask expression ∷ make (treeSteps .makeNextArm) ∷ []) [] (pushed (v .reads sc h q base t p .tree)) q base (state .nesting) next state r work₂)
+        → (x : Says text sc (word doWord level ∷ ask expression ∷ make (treeSteps .makeNextArm) ∷ []) [] (pushed (v .reads sc h q base t p .tree)) q base (state .nesting) next state r work₂)
         × ((d : r .verdict ≡ Done) → armsOf (x .done d .tree) ≡ suc (armsOf (v .reads sc h q base t p .tree))) × Grows state r
     armed sc h q base t p =
         let o = v .reads sc h q base t p in
         let j : i ≡ state = g ∙ at-same state (s .nesting) (o .nesting) in
-        let x : NextArm 31 text next state work₁ work₂ r = rw j at x₀ in
+        let x : NextArm doWord text next state work₁ work₂ r = rw j at x₀ in
         x sc (o .here) (omega arith) q base (o .tree) (o .pending)
 
     pub armings-not : (r .verdict ≡ Done → ⊥) → {c : ℕ} → MoreArms case n text w s work work₂ (record { answer = r; count = c })

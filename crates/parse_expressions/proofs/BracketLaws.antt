@@ -9,13 +9,14 @@ use Rattle.language.specs.Building.{Built, expressionNo, keepWord, wordNo}
 use Rattle.language.specs.Declaring.{treeSteps}
 use Rattle.language.specs.Describe.{constantNodes, constantSize, expressionSize, lastOf, nodesOf, noted}
 use Rattle.language.specs.Description as D
+use Rattle.language.specs.Kinds.{aConstant, closeBracket, colon, comma, openBracket}
 use Rattle.language.specs.Machine.{Counts, afterSubscript, ask, closes, make, second, secondEnd, secondOption, subscript, refused, withinCeilings, word}
 use Rattle.language.specs.Naming.{Scope, meaning, ofFacility}
 use Rattle.language.specs.Scan.{written}
 use Rattle.language.specs.Tree as T
 use Rattle.language.specs.Tree.{Expression}
 use Rattle.language.specs.Words.{fault}
-use Rattle.value_operations.specs.Meaning.{valued}
+use Rattle.value_operators.specs.Meaning.{valued}
 use Rattle.text_words.specs.declared.Word.{Word}
 use Rattle.text_words.specs.Meaning.{positioned}
 use Rattle.parse_array.specs.Held.{Held, held, otherIn, withNodes}
@@ -53,10 +54,10 @@ framed {Q = Q} x g = record {
 -- ---- An expression in brackets.
 
 module _ {text : List ℕ} {w : Word} {s : State} {work : List ℕ} (later : Bool) where
-  pub inside-expression : (kindNo (w .kind) ≡ 2 → ⊥) → {work′ : List ℕ} {r : Answer} → Parses (stackOf Whole) same (s .nesting) text w s work work′ r → Inside later text w s work work′ r
+  pub inside-expression : (kindNo (w .kind) ≡ aConstant → ⊥) → {work′ : List ℕ} {r : Answer} → Parses (stackOf Whole) same (s .nesting) text w s work work′ r → Inside later text w s work work′ r
   inside-expression n y sc h e = framed (y sc h) (λ K b. expression-first text w (h .seen) b (countsOf s) n later K)
 
-  module _ (k : kindNo (w .kind) ≡ 2) {t : Answer} (x : Took text w (afterWord false Level s) s t) where
+  module _ (k : kindNo (w .kind) ≡ aConstant) {t : Answer} (x : Took text w (afterWord false Level s) s t) where
     pub inside-not : {work′ : List ℕ} → (t .verdict ≡ Done → ⊥) → Inside later text w s work work′ t
     inside-not n sc h e = not-taken x n (λ K. ask (bracketWaits later) ∷ ask (bracketRest later) ∷ K) (keepWord (constantWord w)) (λ K b. constant-first text w (h .seen) b (countsOf s) k later K)
 
@@ -64,11 +65,11 @@ module _ {text : List ℕ} {w : Word} {s : State} {work : List ℕ} (later : Boo
       abbrev counts : Counts
       counts = countsOf (oneMore (t .state))
 
-      no-colon : Seen text w → endsAhead (ahead text w) ≡ false → kindNo (t .next .kind) ≡ 13 → ⊥
+      no-colon : Seen text w → endsAhead (ahead text w) ≡ false → kindNo (t .next .kind) ≡ colon → ⊥
       no-colon z e q =
           let p = x .done d₁ in
           let f : Follows text w (t .next) = record { words = p .words; seen = p .seen } in
-          true≢false (sym (eq-eqb (kindNo (t .next .kind)) 13 q) ∙ ends-come text w (t .next) k f z ∙ e)
+          true≢false (sym (eq-eqb (kindNo (t .next .kind)) colon q) ∙ ends-come text w (t .next) k f z ∙ e)
 
       waiting : {sc : Scope} → Here text sc w s work → endsAhead (ahead text w) ≡ false → (K : Stack) (b : Built)
           → runs text (ask (bracketAsk later) ∷ K) w b s
@@ -123,7 +124,7 @@ module _ {text : List ℕ} {w : Word} {s : State} {work work₁ : List ℕ} (nam
   subscript-not m sc h = passed (inside-first sc h) m (λ K. K) (afterName name text) (λ K b. refl)
 
   module _ (d₁ : f .verdict ≡ Done) where
-    module _ (k : kindNo (f .next .kind) ≡ 9) {t : Answer} (y : Took text (f .next) (afterWord false Level (f .state)) (f .state) t) where
+    module _ (k : kindNo (f .next .kind) ≡ comma) {t : Answer} (y : Took text (f .next) (afterWord false Level (f .state)) (f .state) t) where
       comma-course : (sc : Scope) (h : Here text sc w s work) (K : Stack) (b : Built)
           → runs text (ask subscript ∷ K) w (afterName name text b) s ≡ onTaken text (f .next) (ask second ∷ K) (pushed (inside-first sc h .done d₁ .tree) (afterName name text b)) (countsOf (f .state))
       comma-course sc h K b =
@@ -145,9 +146,9 @@ module _ {text : List ℕ} {w : Word} {s : State} {work work₁ : List ℕ} (nam
           (through (v sc (here-passed (o .here) p) (held (s .nodes) work) (s .nodes) (o .tree) (pending-kept (o .pending) (p .kept)))
           (λ K b. comma-course sc h K b ∙ took-done p (o .here .seen) (ask second ∷ K) (pushed (o .tree) (afterName name text b))))
 
-    module _ (k : kindNo (f .next .kind) ≡ 9 → ⊥) {t : Answer} (y : Expected text 20 Closes (f .next) (f .state) t) where
+    module _ (k : kindNo (f .next .kind) ≡ comma → ⊥) {t : Answer} (y : Expected text closeBracket Closes (f .next) (f .state) t) where
       close-course : (sc : Scope) (h : Here text sc w s work) (K : Stack) (b : Built)
-          → runs text (ask subscript ∷ K) w (afterName name text b) s ≡ runs text (word 20 closes ∷ ask secondOption ∷ K) (f .next) (pushed (inside-first sc h .done d₁ .tree) (afterName name text b)) (f .state)
+          → runs text (ask subscript ∷ K) w (afterName name text b) s ≡ runs text (word closeBracket closes ∷ ask secondOption ∷ K) (f .next) (pushed (inside-first sc h .done d₁ .tree) (afterName name text b)) (f .state)
       close-course sc h K b =
           let o = inside-first sc h .done d₁ in
           o .course K (afterName name text b) ∙ close-follows text (f .next) (o .here .seen) (pushed (o .tree) (afterName name text b)) (countsOf (f .state)) k K
@@ -171,7 +172,7 @@ module _ {text : List ℕ} {w : Word} {s : State} {work work₁ : List ℕ} (nam
 -- ---- One subscript, or a second bracket.
 
 module _ {text : List ℕ} {w : Word} {s : State} {work : List ℕ} (name : Word) where
-  pub one-says : {k : ℕ} → k ≡ kindNo (w .kind) → (k ≡ 19 → ⊥) → {m : ℕ} → m ≡ s .nodes - 1 → {work′ : List ℕ} {r : Answer}
+  pub one-says : {k : ℕ} → k ≡ kindNo (w .kind) → (k ≡ openBracket → ⊥) → {m : ℕ} → m ≡ s .nodes - 1 → {work′ : List ℕ} {r : Answer}
       → Adds (λ sc. noted (ofFacility (meaning sc (lettersOf text name)) (λ k. D.one k m)) (positioned (name .at))) text w s work work′ r → Second secondOption name (s .nesting) text w s work work′ r
   unfolding nodesOf expressionSize
   one-says e n {m} f y sc h q base u p =
@@ -180,7 +181,7 @@ module _ {text : List ℕ} {w : Word} {s : State} {work : List ℕ} (name : Word
       (ap (λ (c : ℕ). nodesOf sc base u ++ noted (ofFacility (meaning sc (lettersOf text name)) (λ k. D.one k c)) (positioned (name .at)) ∷ []) (sym l)) refl (p .records) (p .nodes) refl refl refl h
       (λ K b. no-second text w (h .seen) (countsOf s) (λ c. n (e ∙ c)) (lettersOf text name) (positioned (name .at)) u b K)
 
-  module _ (e : kindNo (w .kind) ≡ 19) {t : Answer} (x : Took text w (afterWord false Opens s) s t) where
+  module _ (e : kindNo (w .kind) ≡ openBracket) {t : Answer} (x : Took text w (afterWord false Opens s) s t) where
     pub single-not : {work′ : List ℕ} → (t .verdict ≡ Done → ⊥) → Second secondOption name (s .nesting) text w s work work′ t
     single-not n sc h q base u p = not-taken x n (λ K. ask second ∷ K) (λ b. pushed u (afterName name text b)) (λ K b. second-opens text w (h .seen) (countsOf s) e (pushed u (afterName name text b)) K)
 
@@ -200,9 +201,9 @@ module _ {text : List ℕ} {w : Word} {s : State} {work work₁ : List ℕ} (nam
   pub second-not : (f .verdict ≡ Done → ⊥) → Second second name (s .nesting - 1) text w s work work₁ f
   second-not m sc h v base u p = passed (inside-second sc h) m (λ K. K) (λ b. pushed u (afterName name text b)) (λ K b. refl)
 
-  module _ (d₁ : f .verdict ≡ Done) {t : Answer} (y : Expected text 20 Closes (f .next) (f .state) t) where
+  module _ (d₁ : f .verdict ≡ Done) {t : Answer} (y : Expected text closeBracket Closes (f .next) (f .state) t) where
     end-course : (sc : Scope) (h : Here text sc w s work) (u : Expression) (K : Stack) (b : Built)
-        → runs text (ask second ∷ K) w (pushed u (afterName name text b)) s ≡ runs text (word 20 closes ∷ make (treeSteps .makeTwo) ∷ K) (f .next) (pushed (inside-second sc h .done d₁ .tree) (pushed u (afterName name text b))) (f .state)
+        → runs text (ask second ∷ K) w (pushed u (afterName name text b)) s ≡ runs text (word closeBracket closes ∷ make (treeSteps .makeTwo) ∷ K) (f .next) (pushed (inside-second sc h .done d₁ .tree) (pushed u (afterName name text b))) (f .state)
     end-course sc h u K b =
         let o = inside-second sc h .done d₁ in
         o .course K (pushed u (afterName name text b)) ∙ second-closes text (f .next) (o .here .seen) (pushed (o .tree) (pushed u (afterName name text b))) (countsOf (f .state)) K

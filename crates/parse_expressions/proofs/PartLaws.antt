@@ -9,6 +9,7 @@ use Rattle.language.specs.Declaring.{treeSteps}
 use Rattle.language.specs.Describe.{expressionSize, lastOf, nodesOf}
 use Rattle.language.specs.Description as D
 use Rattle.language.specs.Encode.{concat, nodeBytes}
+use Rattle.language.specs.Kinds.{redWord}
 use Rattle.language.specs.Machine.{Counts, ask, second, subscript}
 use Rattle.language.specs.Naming.{Scope}
 use Rattle.language.specs.Tree as T
@@ -44,7 +45,7 @@ unprefixed {text} {w} {s} h e f = rw e (record {
   full = λ d. done-full d;
 })
 
-pub red-prefixed : {text : List ℕ} {w : Word} {s : State} {r : Answer} → Expected text 39 Level w s r → Unprefixed H.Reduction text w s r
+pub red-prefixed : {text : List ℕ} {w : Word} {s : State} {r : Answer} → Expected text redWord Level w s r → Unprefixed H.Reduction text w s r
 red-prefixed {text} {w} {s} x = record {
   done = λ d z. let y = x .done d z (omega arith) in
       record { course = λ K b. y .1 (stackOf (prefixLevel H.Reduction) ++ K) b; nesting = ap (λ (c : Counts). c .nesting) (y .0 .counts); kept = y .0 .kept; seen = y .0 .seen };

@@ -15,6 +15,7 @@ use Rattle.language.specs.Tree as T
 use Rattle.language.specs.Tree.{Expression}
 use Rattle.language.specs.Words as L
 use Rattle.judge_records.specs.Noted.{nodeBesideBytes}
+use Rattle.language.specs.Kinds.{aConstant}
 use Rattle.text_words.specs.declared.Word.{Word}
 use Rattle.text_words.specs.Meaning.{positioned}
 use Rattle.parse_array.specs.Held.{Held, mostNodes, withNodes}
@@ -130,8 +131,8 @@ module _ (rank : Rank) {text : List ℕ} {w : Word} {s : State} {work : List ℕ
 -- ---- One operator.
 
 cut-again : (text : List ℕ) (sc : Scope) (w : Word) (s : State) (t r : Answer) (work′ : List ℕ) (u : Expression) (q : Held) (base : ℕ)
-    → Says text sc (keep 2 ∷ make (treeSteps .makeCut) ∷ []) [] (λ b. keepWord (L.sign (kindNo (w .kind)) (positioned (w .at))) (pushed u b)) q base (s .nesting) (t .next) (t .state) r work′
-    → ((K : Stack) (b : Built) → runs text (ask cutTail ∷ K) w (pushed u b) s ≡ runs text (keep 2 ∷ make (treeSteps .makeCut) ∷ ask cutTail ∷ K) (t .next) (keepWord (L.sign (kindNo (w .kind)) (positioned (w .at))) (pushed u b)) (t .state))
+    → Says text sc (keep aConstant ∷ make (treeSteps .makeCut) ∷ []) [] (λ b. keepWord (L.sign (kindNo (w .kind)) (positioned (w .at))) (pushed u b)) q base (s .nesting) (t .next) (t .state) r work′
+    → ((K : Stack) (b : Built) → runs text (ask cutTail ∷ K) w (pushed u b) s ≡ runs text (keep aConstant ∷ make (treeSteps .makeCut) ∷ ask cutTail ∷ K) (t .next) (keepWord (L.sign (kindNo (w .kind)) (positioned (w .at))) (pushed u b)) (t .state))
     → Says text sc (ask cutTail ∷ []) (ask cutTail ∷ []) (pushed u) q base (s .nesting) w s r work′
 cut-again text sc w s t r work′ u q base x g = record {
   done = λ d. let o = x .done d in
@@ -166,7 +167,7 @@ module _ {text : List ℕ} {w : Word} {s : State} {work : List ℕ} {t : Answer}
   operation-not rank {work′} n sc h e q base u p = (go rank (which rank) e, λ d. absurd (n d))
     where
       go : (r : Rank) → Which r → among (kindNo (w .kind)) (operatorsOf r) ≡ true → Says text sc (tailStack r) (again r) (pushed u) q base (s .nesting) w s t work′
-      go r cutting f = not-taken x n (λ K. keep 2 ∷ make (treeSteps .makeCut) ∷ ask cutTail ∷ K) (keeping w u) (λ K b. cut-taken text w (h .seen) (pushed u b) (countsOf s) f K)
+      go r cutting f = not-taken x n (λ K. keep aConstant ∷ make (treeSteps .makeCut) ∷ ask cutTail ∷ K) (keeping w u) (λ K b. cut-taken text w (h .seen) (pushed u b) (countsOf s) f K)
       go r (other m) f = not-taken x n (λ K. stackOf (operandLevel r) ++ under r K) (keeping w u) (λ K b. tail-taken text w (h .seen) (pushed u b) (countsOf s) r m f K)
 
   module _ (d₁ : t .verdict ≡ Done) where
@@ -179,8 +180,8 @@ module _ {text : List ℕ} {w : Word} {s : State} {work : List ℕ} {t : Answer}
             let a = x .done d₁ in
             let o = z .0 sc (here-passed h a) q base u (pending-kept p (a .kept)) in
             let m : t .state .nesting ≡ s .nesting = ap (λ (v : Counts). v .nesting) (a .counts) in (
-              cut-again text sc w s t r work′ u q base (subst (λ (v : ℕ). Says text sc (keep 2 ∷ make (treeSteps .makeCut) ∷ []) [] (keeping w u) q base v (t .next) (t .state) r work′) m o)
-                  (λ K b. cut-taken text w (h .seen) (pushed u b) (countsOf s) e K ∙ took-done a (h .seen) (keep 2 ∷ make (treeSteps .makeCut) ∷ ask cutTail ∷ K) (keeping w u b)),
+              cut-again text sc w s t r work′ u q base (subst (λ (v : ℕ). Says text sc (keep aConstant ∷ make (treeSteps .makeCut) ∷ []) [] (keeping w u) q base v (t .next) (t .state) r work′) m o)
+                  (λ K b. cut-taken text w (h .seen) (pushed u b) (countsOf s) e K ∙ took-done a (h .seen) (keep aConstant ∷ make (treeSteps .makeCut) ∷ ask cutTail ∷ K) (keeping w u b)),
               λ d. let g = z .1 (a .seen) d in (subst (λ (v : ℕ). v < r .state .nodes) (a .kept .nodes) (g .0), g .1),
             )
 

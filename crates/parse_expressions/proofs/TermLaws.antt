@@ -7,6 +7,7 @@ use native.Mathlib.Omega.{arith}
 use Rattle.language.specs.Building.{Built}
 use Rattle.language.specs.Describe.{expressionSize, nodesOf, noted}
 use Rattle.language.specs.Description as D
+use Rattle.language.specs.Kinds.{aConstant, aName, caseWord, closeParen, ifWord, openBracket, openParen}
 use Rattle.language.specs.Machine.{Counts, ask, closes, expression, subscript, subscripts, term, word}
 use Rattle.language.specs.Naming.{Scope, meaning, ofFacility}
 use Rattle.language.specs.Tree as T
@@ -54,28 +55,28 @@ from-kept work m n depth depth′ e f x = rw (← e, ← f) x
 
 -- ---- Groups.
 
-module _ {text : List ℕ} {w : Word} {s : State} {work : List ℕ} (e : kindNo (w .kind) ≡ 5) {t : Answer} (x : Took text w (afterWord false Opens s) s t) where
+module _ {text : List ℕ} {w : Word} {s : State} {work : List ℕ} (e : kindNo (w .kind) ≡ openParen) {t : Answer} (x : Took text w (afterWord false Opens s) s t) where
   pub group-not : {work′ : List ℕ} → (t .verdict ≡ Done → ⊥) → Parses (ask term ∷ []) same (s .nesting) text w s work work′ t
-  group-not n sc h = not-taken x n (λ K. ask expression ∷ word 6 closes ∷ K) (λ b. b) (λ K b. group-term text w (h .seen) b (countsOf s) e K)
+  group-not n sc h = not-taken x n (λ K. ask expression ∷ word closeParen closes ∷ K) (λ b. b) (λ K b. group-term text w (h .seen) b (countsOf s) e K)
 
   module _ (d₁ : t .verdict ≡ Done) {work₁ : List ℕ} {r : Answer} (y : Parses (ask expression ∷ []) same (t .state .nesting) text (t .next) (t .state) work work₁ r) where
-    group-course : {sc : Scope} → Here text sc w s work → (K : Stack) (b : Built) → runs text (ask term ∷ K) w b s ≡ runs text (ask expression ∷ word 6 closes ∷ K) (t .next) b (t .state)
-    group-course h K b = group-term text w (h .seen) b (countsOf s) e K ∙ took-done (x .done d₁) (h .seen) (ask expression ∷ word 6 closes ∷ K) b
+    group-course : {sc : Scope} → Here text sc w s work → (K : Stack) (b : Built) → runs text (ask term ∷ K) w b s ≡ runs text (ask expression ∷ word closeParen closes ∷ K) (t .next) b (t .state)
+    group-course h K b = group-term text w (h .seen) b (countsOf s) e K ∙ took-done (x .done d₁) (h .seen) (ask expression ∷ word closeParen closes ∷ K) b
 
     pub inner-not : (r .verdict ≡ Done → ⊥) → Parses (ask term ∷ []) same (s .nesting) text w s work work₁ r
-    inner-not n sc h = passed (y sc (here-passed h (x .done d₁))) n (λ K. word 6 closes ∷ K) (λ b. b) (group-course h)
+    inner-not n sc h = passed (y sc (here-passed h (x .done d₁))) n (λ K. word closeParen closes ∷ K) (λ b. b) (group-course h)
 
-    pub group-says : r .verdict ≡ Done → {a : Answer} → Expected text 6 Closes (r .next) (r .state) a → Parses (ask term ∷ []) same (s .nesting) text w s work work₁ a
+    pub group-says : r .verdict ≡ Done → {a : Answer} → Expected text closeParen Closes (r .next) (r .state) a → Parses (ask term ∷ []) same (s .nesting) text w s work work₁ a
     group-says d {a} z sc h =
         let p = x .done d₁ in
         let o = y sc (here-passed h p) .done d in
         from-kept work (t .state .nodes) (s .nodes) (s .nesting) (s .nesting) (p .kept .nodes) refl
         (ends-with z (omega arith) (o .tree) (o .pending) (o .here) (ap (λ (n : ℕ). n - 1) (o .nesting ∙ ap (λ (c : Counts). c .nesting) (p .counts)) ∙ omega arith)
-        (λ K b. group-course h K b ∙ o .course (word 6 closes ∷ K) b))
+        (λ K b. group-course h K b ∙ o .course (word closeParen closes ∷ K) b))
 
 -- ---- A name, and what no term begins with.
 
-module _ {text : List ℕ} {w : Word} {s : State} {work : List ℕ} (e : kindNo (w .kind) ≡ 1) {t : Answer} (x : Took text w (afterWord true Level s) s t) where
+module _ {text : List ℕ} {w : Word} {s : State} {work : List ℕ} (e : kindNo (w .kind) ≡ aName) {t : Answer} (x : Took text w (afterWord true Level s) s t) where
   pub named-not : {work′ : List ℕ} → (t .verdict ≡ Done → ⊥) → Parses (ask term ∷ []) same (s .nesting) text w s work work′ t
   named-not n sc h = not-taken x n (λ K. ask subscripts ∷ K) (afterName w text) (λ K b. name-term text w (h .seen) b (countsOf s) e K)
 
@@ -86,7 +87,7 @@ module _ {text : List ℕ} {w : Word} {s : State} {work : List ℕ} (e : kindNo 
       through (from-kept work (t .state .nodes) (s .nodes) (t .state .nesting) (s .nesting) (p .kept .nodes) (ap (λ (c : Counts). c .nesting) (p .counts)) (y sc (here-passed h p)))
       (λ K b. name-term text w (h .seen) b (countsOf s) e K ∙ took-done p (h .seen) (ask subscripts ∷ K) (afterName w text b))
 
-pub term-not : {text : List ℕ} {w : Word} {s : State} {work : List ℕ} {k : ℕ} {r : Answer} → k ≡ kindNo (w .kind) → (k ≡ 2 → ⊥) → (k ≡ 1 → ⊥) → (k ≡ 5 → ⊥) → (k ≡ 33 → ⊥) → (k ≡ 30 → ⊥) → Refuses w 3 r
+pub term-not : {text : List ℕ} {w : Word} {s : State} {work : List ℕ} {k : ℕ} {r : Answer} → k ≡ kindNo (w .kind) → (k ≡ aConstant → ⊥) → (k ≡ aName → ⊥) → (k ≡ openParen → ⊥) → (k ≡ ifWord → ⊥) → (k ≡ caseWord → ⊥) → Refuses w 3 r
     → Parses (ask term ∷ []) same (s .nesting) text w s work work r
 term-not {text} {w} {s} e n₁ n₂ n₃ n₄ n₅ x sc h =
     refuses 3 x (λ K b. no-term text w (h .seen) b (countsOf s) (λ q. n₁ (e ∙ q)) (λ q. n₂ (e ∙ q)) (λ q. n₃ (e ∙ q)) (λ q. n₄ (e ∙ q)) (λ q. n₅ (e ∙ q)) K)
@@ -94,14 +95,14 @@ term-not {text} {w} {s} e n₁ n₂ n₃ n₄ n₅ x sc h =
 -- ---- A reference.
 
 module _ {text : List ℕ} {w : Word} {s : State} {work : List ℕ} (name : Word) where
-  pub whole-says : {k : ℕ} → k ≡ kindNo (w .kind) → (k ≡ 19 → ⊥) → {work′ : List ℕ} {r : Answer}
+  pub whole-says : {k : ℕ} → k ≡ kindNo (w .kind) → (k ≡ openBracket → ⊥) → {work′ : List ℕ} {r : Answer}
       → Adds (λ sc. noted (ofFacility (meaning sc (lettersOf text name)) D.whole) (positioned (name .at))) text w s work work′ r → Parses (ask subscripts ∷ []) (afterName name) (s .nesting) text w s work work′ r
   unfolding nodesOf expressionSize
   whole-says e n y sc h =
       made (T.whole (lettersOf text name) (positioned (name .at))) [] (noted (ofFacility (meaning sc (lettersOf text name)) D.whole) (positioned (name .at))) 0 (y sc (h .names)) refl refl (with-nothing (held (s .nodes) work)) (plus-nothing (s .nodes)) refl refl refl h
       (λ K b. no-subscript text w (h .seen) (countsOf s) (λ q. n (e ∙ q)) (lettersOf text name) (positioned (name .at)) b K)
 
-  module _ (e : kindNo (w .kind) ≡ 19) {t : Answer} (x : Took text w (afterWord false Opens s) s t) where
+  module _ (e : kindNo (w .kind) ≡ openBracket) {t : Answer} (x : Took text w (afterWord false Opens s) s t) where
     pub reference-not : {work′ : List ℕ} → (t .verdict ≡ Done → ⊥) → Parses (ask subscripts ∷ []) (afterName name) (s .nesting) text w s work work′ t
     reference-not n sc h = not-taken x n (λ K. ask subscript ∷ K) (afterName name text) (λ K b. subscript-opens text w (h .seen) (countsOf s) e (afterName name text b) K)
 

@@ -19,6 +19,7 @@ ghost use mathlib.Core.Bool.{false, true};
 ghost use mathlib.Core.List.{[], _∷_};
 ghost use mathlib.Core.Path.{_≡_};
 ghost use Prim.Native.Nat.{_-_, _≤_};
+ghost use Rattle.language.specs.Kinds.{aName, openParen};
 ghost use Rattle.language.specs.Machine as L;
 ghost use Rattle.language.specs.Machine.{ask};
 ghost use Rattle.parse_step.specs.Course.{kindNo};
@@ -129,19 +130,19 @@ fn term(s: State, text: &[u8], w: Word, work: &mut [u8; 275296]) -> Answer
     ensures { λ r. ⌜ Parses (ask L.term ∷ []) same (s .nesting) (now (text .entry)) w s (now (work .entry)) (now (work .exit)) r × Spends (now (text .entry)) 0 w s r ⌝ }
 {
     let kind = kinds::kind_of(w);
-    if kind == kinds::CONSTANT {
+    if kind == text_kinds::CONSTANT {
         return constants::constant(s, text, w, work);
     }
-    if kind == kinds::NAME {
+    if kind == text_kinds::NAME {
         return named(s, text, w, work);
     }
-    if kind == kinds::OPEN_PAREN {
+    if kind == text_kinds::OPEN_PAREN {
         return group(s, text, w, work);
     }
-    if kind == kinds::IF {
+    if kind == text_kinds::IF {
         return choice(s, false, text, w, work);
     }
-    if kind == kinds::CASE {
+    if kind == text_kinds::CASE {
         return choice(s, true, text, w, work);
     }
     taking::refuse(w, s, 3)
@@ -149,7 +150,7 @@ fn term(s: State, text: &[u8], w: Word, work: &mut [u8; 275296]) -> Answer
 
 // An expression in parentheses.
 fn group(s: State, text: &[u8], w: Word, work: &mut [u8; 275296]) -> Answer
-    ensures { λ r. ⌜ (kindNo (w .kind) ≡ 5 → Parses (ask L.term ∷ []) same (s .nesting) (now (text .entry)) w s (now (work .entry)) (now (work .exit)) r) × Spends (now (text .entry)) 0 w s r ⌝ }
+    ensures { λ r. ⌜ (kindNo (w .kind) ≡ openParen → Parses (ask L.term ∷ []) same (s .nesting) (now (text .entry)) w s (now (work .entry)) (now (work .exit)) r) × Spends (now (text .entry)) 0 w s r ⌝ }
 {
     let opened = taking::take(text, w, s, false, Bearing::Opens);
     if parse_step::unread(opened) {
@@ -163,14 +164,14 @@ fn group(s: State, text: &[u8], w: Word, work: &mut [u8; 275296]) -> Answer
         text,
         inner.next,
         inner.state,
-        kinds::CLOSE_PAREN,
+        text_kinds::CLOSE_PAREN,
         Bearing::Closes,
     )
 }
 
 // A reference, from its name on.
 fn named(s: State, text: &[u8], w: Word, work: &mut [u8; 275296]) -> Answer
-    ensures { λ r. ⌜ (kindNo (w .kind) ≡ 1 → Parses (ask L.term ∷ []) same (s .nesting) (now (text .entry)) w s (now (work .entry)) (now (work .exit)) r) × Spends (now (text .entry)) 0 w s r ⌝ }
+    ensures { λ r. ⌜ (kindNo (w .kind) ≡ aName → Parses (ask L.term ∷ []) same (s .nesting) (now (text .entry)) w s (now (work .entry)) (now (work .exit)) r) × Spends (now (text .entry)) 0 w s r ⌝ }
 {
     let taken = taking::take(text, w, s, true, Bearing::Level);
     if parse_step::unread(taken) {
@@ -183,7 +184,7 @@ fn named(s: State, text: &[u8], w: Word, work: &mut [u8; 275296]) -> Answer
 pub fn reference(s: State, name: Word, text: &[u8], w: Word, work: &mut [u8; 275296]) -> Answer
     ensures { λ r. ⌜ Parses (ask L.subscripts ∷ []) (afterName name) (s .nesting) (now (text .entry)) w s (now (work .entry)) (now (work .exit)) r × Spends (now (text .entry)) 2 w s r ⌝ }
 {
-    if kinds::kind_of(w) == kinds::OPEN_BRACKET {
+    if kinds::kind_of(w) == text_kinds::OPEN_BRACKET {
         let opened = taking::take(text, w, s, false, Bearing::Opens);
         if parse_step::unread(opened) {
             return opened;
@@ -204,7 +205,7 @@ pub fn subscript(s: State, name: Word, text: &[u8], w: Word, work: &mut [u8; 275
     if parse_step::unread(first) {
         return first;
     }
-    if kinds::kind_of(first.next) == kinds::COMMA {
+    if kinds::kind_of(first.next) == text_kinds::COMMA {
         let comma = taking::take(text, first.next, first.state, false, Bearing::Level);
         if parse_step::unread(comma) {
             return comma;
@@ -216,7 +217,7 @@ pub fn subscript(s: State, name: Word, text: &[u8], w: Word, work: &mut [u8; 275
         text,
         first.next,
         first.state,
-        kinds::CLOSE_BRACKET,
+        text_kinds::CLOSE_BRACKET,
         Bearing::Closes,
     );
     if parse_step::unread(closed) {
@@ -230,7 +231,7 @@ pub fn subscript(s: State, name: Word, text: &[u8], w: Word, work: &mut [u8; 275
 fn single(s: State, name: Word, text: &[u8], w: Word, work: &mut [u8; 275296]) -> Answer
     ensures { λ r. ⌜ Second L.secondOption name (s .nesting) (now (text .entry)) w s (now (work .entry)) (now (work .exit)) r × Spends (now (text .entry)) 2 w s r ⌝ }
 {
-    if kinds::kind_of(w) == kinds::OPEN_BRACKET {
+    if kinds::kind_of(w) == text_kinds::OPEN_BRACKET {
         let opened = taking::take(text, w, s, false, Bearing::Opens);
         if parse_step::unread(opened) {
             return opened;
@@ -255,7 +256,7 @@ fn second(s: State, name: Word, text: &[u8], w: Word, work: &mut [u8; 275296]) -
         text,
         other.next,
         other.state,
-        kinds::CLOSE_BRACKET,
+        text_kinds::CLOSE_BRACKET,
         Bearing::Closes,
     );
     if parse_step::unread(closed) {
@@ -276,7 +277,7 @@ fn second(s: State, name: Word, text: &[u8], w: Word, work: &mut [u8; 275296]) -
 fn inside(s: State, later: bool, text: &[u8], w: Word, work: &mut [u8; 275296]) -> Answer
     ensures { λ r. ⌜ Inside later (now (text .entry)) w s (now (work .entry)) (now (work .exit)) r × Spends (now (text .entry)) 0 w s r ⌝ }
 {
-    if kinds::kind_of(w) == kinds::CONSTANT {
+    if kinds::kind_of(w) == text_kinds::CONSTANT {
         let kept = taking::take(text, w, s, false, Bearing::Level);
         if parse_step::unread(kept) {
             return kept;
@@ -394,7 +395,13 @@ fn more_arms(s: State, case: bool, n: u16, text: &[u8], w: Word, work: &mut [u8;
     let mut left: u16 = 15888;
     while left > 0 {
         if pieces::another(case, next) {
-            let one = next_arm(pieces::at(state, s.nesting), kinds::DO, text, next, work);
+            let one = next_arm(
+                pieces::at(state, s.nesting),
+                text_kinds::DO,
+                text,
+                next,
+                work,
+            );
             if parse_step::unread(one) {
                 return Armed { answer: one, count };
             }

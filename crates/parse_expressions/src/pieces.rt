@@ -64,19 +64,31 @@ pub fn full(s: State, w: Word) -> Answer
 pub fn first_word(case: bool) -> u8
     ensures { λ r. ⌜ r ≡ firstWord case ⌝ }
 {
-    if case { kinds::DO } else { kinds::THEN }
+    if case {
+        text_kinds::DO
+    } else {
+        text_kinds::THEN
+    }
 }
 
 pub fn other_word(case: bool) -> u8
     ensures { λ r. ⌜ r ≡ otherWord case ⌝ }
 {
-    if case { kinds::DO } else { kinds::ELSE }
+    if case {
+        text_kinds::DO
+    } else {
+        text_kinds::ELSE
+    }
 }
 
 pub fn last_word(case: bool) -> u8
     ensures { λ r. ⌜ r ≡ lastWord case ⌝ }
 {
-    if case { kinds::END_CASE } else { kinds::END_IF }
+    if case {
+        text_kinds::END_CASE
+    } else {
+        text_kinds::END_IF
+    }
 }
 
 // Whether a further arm comes.
@@ -85,7 +97,7 @@ pub fn another(case: bool, w: Word) -> bool
 {
     if case {
         let kind = w.kind;
-        return kinds::number(kind) == kinds::DO;
+        return kinds::number(kind) == text_kinds::DO;
     }
     false
 }
@@ -119,7 +131,7 @@ pub fn reducing(s: State, head: Head, text: &[u8], w: Word) -> Answer
     match head {
         Head::Plain => stay(s, w),
         Head::Negation => stay(s, w),
-        Head::Reduction => taking::expect(text, w, s, kinds::RED, Bearing::Level),
+        Head::Reduction => taking::expect(text, w, s, text_kinds::RED, Bearing::Level),
         Head::Complement => stay(s, w),
     }
 }

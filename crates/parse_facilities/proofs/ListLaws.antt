@@ -15,6 +15,7 @@ use Rattle.parse_bounds.proofs.Telling.{through}
 use Rattle.parse_bounds.specs.Telling.{Tells, same}
 use Rattle.image_sections.specs.declared.facilities.Kind.the-variants as F
 use Rattle.language.specs.Building.{Built, withText}
+use Rattle.language.specs.Kinds.{comma}
 use Rattle.language.specs.Machine.{ask}
 use Rattle.language.specs.Tree.{Declaration, Text}
 use Rattle.text_words.specs.declared.Word.{Word}
@@ -60,7 +61,7 @@ module _ (text : List ℕ) (ds : List Declaration) (l : Listing) (w : Word) (s :
   none-yet {place} {work} st = record { trees = []; course = λ K b. refl; standing = subst (λ (v : List Declaration). Standing text v place w s work) (sym (append-nil ds)) st; others = others-same refl }
 
   module _ {next : Word} {state : State} {place : ℕ} {work : List ℕ} (h : Here text ds l w s next state place work) where
-    pub list-ended : (kindNo (next .kind) ≡ 9 → ⊥) → {r : Progress} → Ends text next state place r
+    pub list-ended : (kindNo (next .kind) ≡ comma → ⊥) → {r : Progress} → Ends text next state place r
         → Tells text (ask (moreIn l) ∷ []) same w s (r .answer) (SomeRead text ds l (ask (moreIn l) ∷ []) [] w s (r .answer .next) (r .answer .state) (r .place) work)
     list-ended n {r} f = through (f l (h .standing .seen) n) (λ K. K) (λ b. withText b (putAll l (h .trees) (b .text))) (h .course) read
       where
@@ -72,7 +73,7 @@ module _ (text : List ℕ) (ds : List Declaration) (l : Listing) (w : Word) (s :
           others = others-then (h .others) (others-same (y .state));
         }
 
-    module _ (k : kindNo (next .kind) ≡ 9) {a : Answer} (t : Took text next (countsOf state) state a) where
+    module _ (k : kindNo (next .kind) ≡ comma) {a : Answer} (t : Took text next (countsOf state) state a) where
       to-comma : (K : Stack) (b : Built) → runs text (ask (moreIn l) ∷ K) w b s ≡ onTaken text next (ask (specIn l) ∷ ask (moreIn l) ∷ K) (withText b (putAll l (h .trees) (b .text))) (countsOf state)
       to-comma K b = h .course K b ∙ comma-taken text next K (withText b (putAll l (h .trees) (b .text))) state l k
 

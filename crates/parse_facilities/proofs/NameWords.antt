@@ -17,6 +17,7 @@ use Rattle.about_grammar.specs.FineWays.{both-first}
 use Rattle.image_sections.specs.declared.facilities.Kind.{Kind}
 use Rattle.image_sections.specs.declared.facilities.Kind.the-variants as F
 use Rattle.language.specs.Building.{Built, keepWord}
+use Rattle.language.specs.Kinds.{aName, hash}
 use Rattle.language.specs.Machine.{Counts, ask, choose, deepest, feed, finish, mostCounted, mostFacilities, mostOperations, mostStates, refused, run, tallied, withinCeilings}
 use Rattle.language.specs.Sections.{ruleOf}
 use Rattle.language.specs.Words.{fault}
@@ -27,7 +28,7 @@ use Rattle.parse_facilities.specs.Specs.{NameRead, Names, Plainly, endOf
 
 module _ (text : List ℕ) (w : Word) (K : Stack) (b : Built) (s : State) (z : Seen text w) where
   -- A name is kept, and counts.
-  pub name-taken : (k : Kind) → kindNo (w .kind) ≡ 1
+  pub name-taken : (k : Kind) → kindNo (w .kind) ≡ aName
       → runs text (ask (specOf k) ∷ K) w b s ≡ onTaken text w (ask (askOf (whoseOf k)) ∷ (endOf k ++ K)) (keepWord (namedWord text w) b) (countsOf (moreState s))
   unfolding runsOn run feed choose ruleOf tallied letters
   name-taken F.Register e = rw (name-ahead text w z e) (taken-on text (positioned (w .at)) (ask (askOf (whoseOf F.Register)) ∷ (endOf F.Register ++ K)) (behind text w) (keepWord (namedWord text w) b) (countsOf (moreState s)))
@@ -38,23 +39,23 @@ module _ (text : List ℕ) (w : Word) (K : Stack) (b : Built) (s : State) (z : S
   name-taken F.Computed e = rw (name-ahead text w z e) (taken-on text (positioned (w .at)) (ask (askOf (whoseOf F.Computed)) ∷ K) (behind text w) (keepWord (namedWord text w) b) (countsOf (moreState s)))
 
   -- Another word is refused.
-  pub name-stuck : (k : Kind) → Plainly k w → (kindNo (w .kind) ≡ 1 → ⊥) → runs text (ask (specOf k) ∷ K) w b s ≡ refused (fault (positioned (w .at)) 3)
+  pub name-stuck : (k : Kind) → Plainly k w → (kindNo (w .kind) ≡ aName → ⊥) → runs text (ask (specOf k) ∷ K) w b s ≡ refused (fault (positioned (w .at)) 3)
   unfolding runsOn run feed finish choose ruleOf
   name-stuck k h n = by-view k h (view text w z)
     where
       by-view : (k : Kind) → Plainly k w → View text w → runs text (ask (specOf k) ∷ K) w b s ≡ refused (fault (positioned (w .at)) 3)
       by-view F.Register h (ended e p q) = rw (e, p)
-      by-view F.Register h (begun v e q p) = rw (e, q, ne-eqb (kindNo (w .kind)) 1 n, ne-eqb (kindNo (w .kind)) 3 h, p)
+      by-view F.Register h (begun v e q p) = rw (e, q, ne-eqb (kindNo (w .kind)) aName n, ne-eqb (kindNo (w .kind)) hash h, p)
       by-view F.Sequencing h (ended e p q) = rw (e, p)
-      by-view F.Sequencing h (begun v e q p) = rw (e, q, ne-eqb (kindNo (w .kind)) 1 n, p)
+      by-view F.Sequencing h (begun v e q p) = rw (e, q, ne-eqb (kindNo (w .kind)) aName n, p)
       by-view F.Memory h (ended e p q) = rw (e, p)
-      by-view F.Memory h (begun v e q p) = rw (e, q, ne-eqb (kindNo (w .kind)) 1 n, p)
+      by-view F.Memory h (begun v e q p) = rw (e, q, ne-eqb (kindNo (w .kind)) aName n, p)
       by-view F.Plain h (ended e p q) = rw (e, p)
-      by-view F.Plain h (begun v e q p) = rw (e, q, ne-eqb (kindNo (w .kind)) 1 n, p)
+      by-view F.Plain h (begun v e q p) = rw (e, q, ne-eqb (kindNo (w .kind)) aName n, p)
       by-view F.Input h (ended e p q) = rw (e, p)
-      by-view F.Input h (begun v e q p) = rw (e, q, ne-eqb (kindNo (w .kind)) 1 n, p)
+      by-view F.Input h (begun v e q p) = rw (e, q, ne-eqb (kindNo (w .kind)) aName n, p)
       by-view F.Computed h (ended e p q) = rw (e, p)
-      by-view F.Computed h (begun v e q p) = rw (e, q, ne-eqb (kindNo (w .kind)) 1 n, p)
+      by-view F.Computed h (begun v e q p) = rw (e, q, ne-eqb (kindNo (w .kind)) aName n, p)
 
 -- ---- Facilities within their ceiling.
 
@@ -64,10 +65,10 @@ few-facilities c e = leb-true (c .facilities) 256 (both-first _ _ e)
 
 -- ---- As the code takes it.
 
-pub not-named : {text : List ℕ} {w : Word} {s : State} {r : Answer} → (kindNo (w .kind) ≡ 1 → ⊥) → Refuses w 3 r → Names text w s r
+pub not-named : {text : List ℕ} {w : Word} {s : State} {r : Answer} → (kindNo (w .kind) ≡ aName → ⊥) → Refuses w 3 r → Names text w s r
 not-named {text} {w} {s} n x k h z f = refuses 3 x (λ K b. name-stuck text w K b s z k h n)
 
-pub named : {text : List ℕ} {w : Word} {s s′ : State} {r : Answer} → kindNo (w .kind) ≡ 1 → (s .facilities ≤ 256 → s′ ≡ moreState s) → Took text w (countsOf s′) s′ r → Names text w s r
+pub named : {text : List ℕ} {w : Word} {s s′ : State} {r : Answer} → kindNo (w .kind) ≡ aName → (s .facilities ≤ 256 → s′ ≡ moreState s) → Took text w (countsOf s′) s′ r → Names text w s r
 named {text} {w} {s} {s′} {r} e g t k h z f = word-taken taken (λ d. read (taken .done d)) (λ K. ask (askOf (whoseOf k)) ∷ (endOf k ++ K)) (keepWord (namedWord text w)) (λ K b. name-taken text w K b s z k e)
   where
     taken : Took text w (countsOf (moreState s)) (moreState s) r

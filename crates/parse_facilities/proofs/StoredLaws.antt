@@ -23,6 +23,7 @@ use Rattle.language.specs.Building.{Built, keepWord, withText, wordNo}
 use Rattle.language.specs.Declaring.{makeMemory, makeRegister, makeSequencing}
 use Rattle.language.specs.DescribeText.{facilitySize}
 use Rattle.language.specs.Description.{nowhere}
+use Rattle.language.specs.Kinds.{hash}
 use Rattle.language.specs.Machine.{ask, choose, feed, registerSpec, run, sequencingSpec, tallied, withinCeilings}
 use Rattle.language.specs.Sections.{ruleOf}
 use Rattle.language.specs.Tree as T
@@ -133,15 +134,15 @@ module _ {text : List ℕ} {w : Word} {s : State} {place : ℕ} {k : Kind} {work
 
 -- ---- Registers.
 
-hash-taken : (text : List ℕ) (w : Word) (s : State) → kindNo (w .kind) ≡ 3 → (K : Stack) (b : Built) → runs text (ask registerSpec ∷ K) w b s ≡ onTaken text w (ask sequencingSpec ∷ K) b (countsOf s)
+hash-taken : (text : List ℕ) (w : Word) (s : State) → kindNo (w .kind) ≡ hash → (K : Stack) (b : Built) → runs text (ask registerSpec ∷ K) w b s ≡ onTaken text w (ask sequencingSpec ∷ K) b (countsOf s)
 unfolding runsOn run feed choose ruleOf tallied
-hash-taken text w s e K b = rw (sign-ahead text w 3 e (omega arith)) (taken-on text (positioned (w .at)) (ask sequencingSpec ∷ K) (behind text w) b (countsOf s))
+hash-taken text w s e K b = rw (sign-ahead text w hash e (omega arith)) (taken-on text (positioned (w .at)) (ask sequencingSpec ∷ K) (behind text w) b (countsOf s))
 
 module _ {text : List ℕ} {w : Word} {s : State} {place : ℕ} {work work′ : List ℕ} where
-  pub register-plain : (kindNo (w .kind) ≡ 3 → ⊥) → {r : Progress} → Stores text w s place F.Register work work′ r → Registers text w s place work work′ r
+  pub register-plain : (kindNo (w .kind) ≡ hash → ⊥) → {r : Progress} → Stores text w s place F.Register work work′ r → Registers text w s place work work′ r
   register-plain n f ds st = f tt n ds st
 
-  module _ (hash : kindNo (w .kind) ≡ 3) {a : Answer} (t : Took text w (countsOf s) s a) where
+  module _ (hash : kindNo (w .kind) ≡ hash) {a : Answer} (t : Took text w (countsOf s) s a) where
     pub hash-not : {p : ℕ} → (a .verdict ≡ Done → ⊥) → Registers text w s place work work′ (record { answer = a; place = p })
     hash-not n ds st = word-taken t (λ d. absurd (n d)) (λ K. ask sequencingSpec ∷ K) same (hash-taken text w s hash)
 

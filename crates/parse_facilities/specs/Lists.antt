@@ -8,6 +8,7 @@ use Rattle.parse_bounds.specs.Telling.{Tells, same}
 use Rattle.image_sections.specs.declared.facilities.Kind.{Kind}
 use Rattle.image_sections.specs.declared.facilities.Kind.the-variants as F
 use Rattle.language.specs.Building.{Built, withText}
+use Rattle.language.specs.Kinds.{comma}
 use Rattle.language.specs.Machine.{Ask, ask, memoryMore, memorySpec, registerMore, registerSpec, terminalMore, terminalSpec}
 use Rattle.language.specs.Tree.{Declaration, Text}
 use Rattle.text_words.specs.declared.Word.{Word}
@@ -63,7 +64,7 @@ pub record EndRead (text : List ℕ) (l : Listing) (w : Word) (s : State) (place
   pub seen : Seen text (r .answer .next)
 
 abbrev pub Ends : List ℕ → Word → State → ℕ → Progress → Type 0
-Ends text w s place r = (l : Listing) → Seen text w → (kindNo (w .kind) ≡ 9 → ⊥) → Tells text (ask (moreIn l) ∷ []) same w s (r .answer) (EndRead text l w s place r)
+Ends text w s place r = (l : Listing) → Seen text w → (kindNo (w .kind) ≡ comma → ⊥) → Tells text (ask (moreIn l) ∷ []) same w s (r .answer) (EndRead text l w s place r)
 
 -- From the stack P the machine comes to the stack Q with some declarations more at the end of their list.
 pub record SomeRead (text : List ℕ) (ds : List Declaration) (l : Listing) (P Q : Stack) (w : Word) (s : State) (next : Word) (state : State) (place : ℕ) (work′ : List ℕ) : Type 0 where

@@ -13,6 +13,7 @@ use Rattle.image_sections.specs.declared.facilities.Kind.the-variants as K
 use Rattle.image_sections.specs.Declarations.{kindMeant}
 use Rattle.language.specs.Building.{Built, keepWord}
 use Rattle.language.specs.Declaring.{makeMemory, makeRegister, makeSequencing}
+use Rattle.language.specs.Kinds.{hash}
 use Rattle.language.specs.Machine.{Ask, ask, make, memorySpec, registerSpec, sequencingSpec, terminalSpec, withinCeilings}
 use Rattle.language.specs.Notions.{facilityOf}
 use Rattle.language.specs.Tree.{Declaration, Extent, Function}
@@ -48,7 +49,7 @@ endOf K.Computed = []
 
 -- A register may begin with `#` too, and is then another.
 abbrev pub Plainly : Kind → Word → Type 0
-Plainly K.Register w = kindNo (w .kind) ≡ 3 → ⊥
+Plainly K.Register w = kindNo (w .kind) ≡ hash → ⊥
 Plainly K.Sequencing w = Unit {0}
 Plainly K.Memory w = Unit {0}
 Plainly K.Plain w = Unit {0}

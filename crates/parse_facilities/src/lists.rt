@@ -26,11 +26,11 @@ pub fn ended(text: &[u8], w: Word, s: State, place: u16) -> Progress
 {
     let kind = w.kind;
     let k = kinds::number(kind);
-    if k == kinds::PERIOD {
+    if k == text_kinds::PERIOD {
         let answer = taking::take(text, w, s, false, Bearing::Level);
         return Progress { answer, place };
     }
-    if k == kinds::END {
+    if k == text_kinds::END {
         let answer = taking::take(text, w, s, false, Bearing::Level);
         return Progress { answer, place };
     }
@@ -74,7 +74,7 @@ fn more(text: &[u8], w: Word, work: &mut [u8; 275296], s: State, place: u16, lis
     let mut after = place;
     loop {
         let kind = next.kind;
-        if kinds::number(kind) != kinds::COMMA {
+        if kinds::number(kind) != text_kinds::COMMA {
             return ended(text, next, state, after);
         }
         let comma = taking::take(text, next, state, false, Bearing::Level);

@@ -34,7 +34,7 @@ pub fn facility_name(text: &[u8], w: Word, s: State) -> Answer
     ensures { λ r. ⌜ Names (now (text .entry)) w s r ⌝ }
 {
     let kind = w.kind;
-    if kinds::number(kind) != kinds::NAME {
+    if kinds::number(kind) != text_kinds::NAME {
         return taking::refuse(w, s, 3);
     }
     let more = one_more(s);

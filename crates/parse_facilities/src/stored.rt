@@ -52,7 +52,7 @@ pub fn register(text: &[u8], w: Word, work: &mut [u8; 275296], s: State, place: 
     ensures { λ r. ⌜ Registers (now (text .entry)) w s place (now (work .entry)) (now (work .exit)) r ⌝ }
 {
     let kind = w.kind;
-    if kinds::number(kind) != kinds::HASH {
+    if kinds::number(kind) != text_kinds::HASH {
         return stored(text, w, work, s, place, Kind::Register);
     }
     let hash = taking::take(text, w, s, false, Bearing::Level);

@@ -12,13 +12,14 @@ use Rattle.language.specs.Grammar as G
 use Rattle.language.specs.Grammar.{Is}
 use Rattle.language.specs.Kinds.{atLeastSign, atMostSign, delayedSign, differenceSign, equalSign, equalsSign, exclusiveSign, extWord, greaterSign, hash, headWord, lessSign, plus, slash, star, sumSign, tailWord}
 use Rattle.language.specs.Notions as N
-use Rattle.language.specs.Notions.{Notion, Tree, firstPlace, isArithmetic, isCut, isReduction, isRelation, isStore}
+use Rattle.language.specs.Notions.{Notion, Tree, firstPlace, isStore}
 use Rattle.language.specs.Scan as S
 use Rattle.language.specs.Scan.{Item, itemAt}
 use Rattle.language.specs.Tree.{Text}
 use Rattle.language.specs.WordStage.{Scanned, noted, scan, scanFrom}
 use Rattle.language.specs.Words.{Position, Word, position, sign}
 use Rattle.image_records.proofs.ActionBack.{Sign}
+use Rattle.language.specs.Operators.{isArithmetic, isCut, isReduction, isRelation}
 use Rattle.parse_held.specs.NearTexts.{ActionsNear, DeclarationsNear, EndsNear, ExpressionNear, ExtentNear, FunctionNear, LeftNear, OperationsNear, StatesNear, TextNear, ValueNear, WordsNear}
 use Rattle.parse_held.specs.Standing.{Near}
 

@@ -11,7 +11,9 @@ use Rattle.about_grammar.specs.Stacks.{begins-later, kindsOf, plainWays}
 use Rattle.language.specs.Alternatives.{always, followed}
 use Rattle.language.specs.Building.{Built}
 use Rattle.language.specs.Declaring.{treeSteps}
+use Rattle.language.specs.Kinds.{differenceSign, minus}
 use Rattle.language.specs.Machine.{Alternative, Ask, Counts, Parsed, adjustment, andTail, arithmetic, arithmeticTail, ask, both, complement, conTail, cutTail, exclusiveTail, expression, finish, minterm, orTail, product, reading, reduction, relationTail, run, term, withinCeilings}
+use Rattle.language.specs.Operators.{reductions}
 use Rattle.language.specs.Sections.{ruleOf}
 use Rattle.language.specs.Ways.{arithmeticWays, complementWays, mintermWays, productWays, reductionWays, termWays}
 use Rattle.text_words.specs.declared.Word.{Word}
@@ -20,7 +22,7 @@ use Rattle.parse_step.proofs.Looking.{View, begun, ended, view}
 use Rattle.parse_levels.specs.declared.Level.{Level}
 use Rattle.parse_levels.specs.declared.Level.the-variants as E
 use Rattle.parse_levels.specs.declared.Rank.the-variants as R
-use Rattle.parse_levels.specs.Orders.{levelNo, reductions, stackOf, tailsFrom}
+use Rattle.parse_levels.specs.Orders.{levelNo, stackOf, tailsFrom}
 
 module _ (text : List ℕ) (w : Word) (z : Seen text w) (b : Built) (c : Counts) where
   abbrev on : Stack → Parsed Built
@@ -51,7 +53,7 @@ module _ (text : List ℕ) (w : Word) (z : Seen text w) (b : Built) (c : Counts)
   unfolding ruleOf plainWays among
   to-complement K = later product complement (ask andTail ∷ []) [] (complementWays treeSteps (termWays treeSteps)) refl refl refl refl K
 
-  to-reduction : eqb (kindNo (w .kind)) 10 ≡ false → (K : Stack) → on (ask complement ∷ K) ≡ on (ask reduction ∷ ask conTail ∷ K)
+  to-reduction : eqb (kindNo (w .kind)) minus ≡ false → (K : Stack) → on (ask complement ∷ K) ≡ on (ask reduction ∷ ask conTail ∷ K)
   unfolding ruleOf plainWays among
   to-reduction e K = later complement reduction (ask conTail ∷ []) (minusWay ∷ []) (reductionWays treeSteps (termWays treeSteps)) refl refl refl (rw e) K
 
@@ -63,7 +65,7 @@ module _ (text : List ℕ) (w : Word) (z : Seen text w) (b : Built) (c : Counts)
   unfolding ruleOf plainWays among
   adjusted K = later adjustment arithmetic (ask relationTail ∷ ask cutTail ∷ []) [] (arithmeticWays treeSteps (termWays treeSteps)) refl refl refl refl K
 
-  to-term : eqb (kindNo (w .kind)) 23 ≡ false → (K : Stack) → on (ask arithmetic ∷ K) ≡ on (ask term ∷ ask arithmeticTail ∷ K)
+  to-term : eqb (kindNo (w .kind)) differenceSign ≡ false → (K : Stack) → on (ask arithmetic ∷ K) ≡ on (ask term ∷ ask arithmeticTail ∷ K)
   unfolding ruleOf plainWays among
   to-term e K = later arithmetic term (ask arithmeticTail ∷ []) (negatingWay ∷ []) (termWays treeSteps) refl refl refl (rw e) K
 
@@ -84,7 +86,7 @@ module _ (text : List ℕ) (w : Word) (z : Seen text w) (b : Built) (c : Counts)
   down-complement E.Minterm e K = to-product K ∙ to-complement (ask exclusiveTail ∷ K)
   down-complement E.Expression e K = to-minterm K ∙ to-product (ask orTail ∷ K) ∙ to-complement (ask exclusiveTail ∷ ask orTail ∷ K)
 
-  pub down-reduction : (l : Level) → leb 3 (levelNo l) ≡ true → both (leb 5 (levelNo l)) (eqb k 10) ≡ false → (K : Stack) → on (stackOf l ++ K) ≡ on (ask reduction ∷ (tailsFrom R.Con l ++ K))
+  pub down-reduction : (l : Level) → leb 3 (levelNo l) ≡ true → both (leb 5 (levelNo l)) (eqb k minus) ≡ false → (K : Stack) → on (stackOf l ++ K) ≡ on (ask reduction ∷ (tailsFrom R.Con l ++ K))
   unfolding tailsFrom
   down-reduction E.Term e f K = absurd (true≢false (sym e))
   down-reduction E.Arithmetic e f K = absurd (true≢false (sym e))
@@ -97,7 +99,7 @@ module _ (text : List ℕ) (w : Word) (z : Seen text w) (b : Built) (c : Counts)
   down-reduction E.Expression e f K =
       to-minterm K ∙ to-product (ask orTail ∷ K) ∙ to-complement (ask exclusiveTail ∷ ask orTail ∷ K) ∙ to-reduction f (ask andTail ∷ ask exclusiveTail ∷ ask orTail ∷ K)
 
-  pub down-arithmetic : (l : Level) → leb 1 (levelNo l) ≡ true → both (leb 5 (levelNo l)) (eqb k 10) ≡ false → both (leb 3 (levelNo l)) (among k reductions) ≡ false
+  pub down-arithmetic : (l : Level) → leb 1 (levelNo l) ≡ true → both (leb 5 (levelNo l)) (eqb k minus) ≡ false → both (leb 3 (levelNo l)) (among k reductions) ≡ false
       → (K : Stack) → on (stackOf l ++ K) ≡ on (ask arithmetic ∷ (tailsFrom R.Relation l ++ K))
   unfolding tailsFrom
   down-arithmetic E.Term e f g K = absurd (true≢false (sym e))
@@ -113,8 +115,8 @@ module _ (text : List ℕ) (w : Word) (z : Seen text w) (b : Built) (c : Counts)
       to-minterm K ∙ to-product (ask orTail ∷ K) ∙ to-complement (ask exclusiveTail ∷ ask orTail ∷ K) ∙ to-reduction f (ask andTail ∷ ask exclusiveTail ∷ ask orTail ∷ K)
       ∙ to-arithmetic g (ask conTail ∷ ask andTail ∷ ask exclusiveTail ∷ ask orTail ∷ K)
 
-  pub down-term : (l : Level) → both (leb 5 (levelNo l)) (eqb k 10) ≡ false → both (leb 3 (levelNo l)) (among k reductions) ≡ false
-      → both (leb 1 (levelNo l)) (eqb k 23) ≡ false → (K : Stack) → on (stackOf l ++ K) ≡ on (ask term ∷ (tailsFrom R.Sum l ++ K))
+  pub down-term : (l : Level) → both (leb 5 (levelNo l)) (eqb k minus) ≡ false → both (leb 3 (levelNo l)) (among k reductions) ≡ false
+      → both (leb 1 (levelNo l)) (eqb k differenceSign) ≡ false → (K : Stack) → on (stackOf l ++ K) ≡ on (ask term ∷ (tailsFrom R.Sum l ++ K))
   unfolding tailsFrom
   down-term E.Term f g h K = refl
   down-term E.Arithmetic f g h K = to-term h K

@@ -4,12 +4,14 @@ use mathlib.Core.Path.{_≡_}
 use Prim.Native.Nat.{ℕ}
 use lib.Dec.{eqb, leb}
 use Rattle.about_grammar.specs.Following.{among}
+use Rattle.language.specs.Kinds.{differenceSign, minus}
 use Rattle.language.specs.Machine.{both}
+use Rattle.language.specs.Operators.{reductions}
 use Rattle.parse_levels.specs.declared.Head.the-variants as H
 use Rattle.parse_levels.specs.declared.Level.{Level}
-use Rattle.parse_levels.specs.Orders.{headOf, levelNo, reductions}
+use Rattle.parse_levels.specs.Orders.{headOf, levelNo}
 
-module _ (l : Level) (k n : ℕ) {a : Bool} (e : n ≡ levelNo l) (p : a ≡ both (leb 5 n) (eqb k 10)) where
+module _ (l : Level) (k n : ℕ) {a : Bool} (e : n ≡ levelNo l) (p : a ≡ both (leb 5 n) (eqb k minus)) where
   pub complement-head : a ≡ true → H.Complement ≡ headOf l k
   unfolding headOf
   complement-head t = rw (← e, ← p, t)
@@ -19,7 +21,7 @@ module _ (l : Level) (k n : ℕ) {a : Bool} (e : n ≡ levelNo l) (p : a ≡ bot
     unfolding headOf
     reduction-head t = rw (← e, ← p, f, ← d, ← q, t)
 
-    module _ {c : Bool} (g : b ≡ false) (r : c ≡ both (leb 1 n) (eqb k 23)) where
+    module _ {c : Bool} (g : b ≡ false) (r : c ≡ both (leb 1 n) (eqb k differenceSign)) where
       pub negation-head : c ≡ true → H.Negation ≡ headOf l k
       unfolding headOf
       negation-head t = rw (← e, ← p, f, ← d, ← q, g, ← r, t)

@@ -9,7 +9,9 @@ use lib.Dec.{eqb, leb}
 use Rattle.about_grammar.specs.Following.{among}
 use Rattle.language.specs.Building.{Built, keepWord}
 use Rattle.language.specs.Declaring.{treeSteps}
+use Rattle.language.specs.Kinds.{differenceSign, exclusiveSign, minus, plus, redWord, star, sumSign}
 use Rattle.language.specs.Machine.{Counts, adjustment, arithmetic, arithmeticTail, ask, both, choose, complement, conTail, ease, feed, level, make, reduction, run, tallied, term, word}
+use Rattle.language.specs.Operators.{reductions}
 use Rattle.language.specs.Sections.{ruleOf}
 use Rattle.language.specs.Words as L
 use Rattle.text_words.specs.declared.Word.{Word}
@@ -23,7 +25,7 @@ use Rattle.parse_levels.specs.declared.Head.the-variants as H
 use Rattle.parse_levels.specs.declared.Level.{Level}
 use Rattle.parse_levels.specs.declared.Level.the-variants as E
 use Rattle.parse_levels.specs.declared.Rank.the-variants as R
-use Rattle.parse_levels.specs.Orders.{headOf, levelNo, prefixStack, rankAfter, reductions, stackOf, tailsFrom}
+use Rattle.parse_levels.specs.Orders.{headOf, levelNo, prefixStack, rankAfter, stackOf, tailsFrom}
 use Rattle.parse_levels.proofs.Descent.{down-arithmetic, down-complement, down-reduction, down-term}
 
 -- ---- What the tests say.
@@ -104,64 +106,64 @@ module _ (text : List ℕ) (w : Word) (z : Seen text w) (b : Built) (c : Counts)
       → runsOn text (stackOf l ++ K) (ahead text w) b c ≡ runsOn text (ask term ∷ (tailsFrom R.Sum l ++ K)) (ahead text w) b c
   unfolding headOf
   plain-begins l e K =
-      let t = is-plain (both (leb 5 (levelNo l)) (eqb k 10)) (both (leb 3 (levelNo l)) (among k reductions)) (both (leb 1 (levelNo l)) (eqb k 23)) e in
+      let t = is-plain (both (leb 5 (levelNo l)) (eqb k minus)) (both (leb 3 (levelNo l)) (among k reductions)) (both (leb 1 (levelNo l)) (eqb k differenceSign)) e in
       down-term text w z b c l (t .0) (t .1) (t .2) K
 
-  complement-taken : k ≡ 10 → (K : Stack)
-      → runsOn text (ask complement ∷ K) (ahead text w) b c ≡ onTaken text w (ask reduction ∷ ask conTail ∷ make (treeSteps .makePrefix) ∷ ease ∷ K) (keepWord (L.sign 10 (positioned (w .at))) b) opened
+  complement-taken : k ≡ minus → (K : Stack)
+      → runsOn text (ask complement ∷ K) (ahead text w) b c ≡ onTaken text w (ask reduction ∷ ask conTail ∷ make (treeSteps .makePrefix) ∷ ease ∷ K) (keepWord (L.sign minus (positioned (w .at))) b) opened
   unfolding runsOn run feed choose ruleOf tallied
-  complement-taken e K = rw (sign-ahead text w 10 e (omega arith)) (taken-on text (positioned (w .at)) _ (behind text w) _ opened)
+  complement-taken e K = rw (sign-ahead text w minus e (omega arith)) (taken-on text (positioned (w .at)) _ (behind text w) _ opened)
 
-  negation-taken : k ≡ 23 → (K : Stack)
-      → runsOn text (ask arithmetic ∷ K) (ahead text w) b c ≡ onTaken text w (ask term ∷ make (treeSteps .makePrefix) ∷ ease ∷ ask arithmeticTail ∷ K) (keepWord (L.sign 23 (positioned (w .at))) b) opened
+  negation-taken : k ≡ differenceSign → (K : Stack)
+      → runsOn text (ask arithmetic ∷ K) (ahead text w) b c ≡ onTaken text w (ask term ∷ make (treeSteps .makePrefix) ∷ ease ∷ ask arithmeticTail ∷ K) (keepWord (L.sign differenceSign (positioned (w .at))) b) opened
   unfolding runsOn run feed choose ruleOf tallied
-  negation-taken e K = rw (sign-ahead text w 23 e (omega arith)) (taken-on text (positioned (w .at)) _ (behind text w) _ opened)
+  negation-taken e K = rw (sign-ahead text w differenceSign e (omega arith)) (taken-on text (positioned (w .at)) _ (behind text w) _ opened)
 
   abbrev Reduces : ℕ → Type 0
   Reduces j = (K : Stack) → runsOn text (ask reduction ∷ K) (ahead text w) b c
-      ≡ onTaken text w (word 39 level ∷ ask adjustment ∷ make (treeSteps .makePrefix) ∷ ease ∷ K) (keepWord (L.sign j (positioned (w .at))) b) opened
+      ≡ onTaken text w (word redWord level ∷ ask adjustment ∷ make (treeSteps .makePrefix) ∷ ease ∷ K) (keepWord (L.sign j (positioned (w .at))) b) opened
 
-  plus-taken : k ≡ 8 → Reduces 8
+  plus-taken : k ≡ plus → Reduces plus
   unfolding runsOn run feed choose ruleOf tallied
-  plus-taken e K = rw (sign-ahead text w 8 e (omega arith)) (taken-on text (positioned (w .at)) _ (behind text w) _ opened)
+  plus-taken e K = rw (sign-ahead text w plus e (omega arith)) (taken-on text (positioned (w .at)) _ (behind text w) _ opened)
 
-  star-taken : k ≡ 7 → Reduces 7
+  star-taken : k ≡ star → Reduces star
   unfolding runsOn run feed choose ruleOf tallied
-  star-taken e K = rw (sign-ahead text w 7 e (omega arith)) (taken-on text (positioned (w .at)) _ (behind text w) _ opened)
+  star-taken e K = rw (sign-ahead text w star e (omega arith)) (taken-on text (positioned (w .at)) _ (behind text w) _ opened)
 
-  exclusive-taken : k ≡ 21 → Reduces 21
+  exclusive-taken : k ≡ exclusiveSign → Reduces exclusiveSign
   unfolding runsOn run feed choose ruleOf tallied
-  exclusive-taken e K = rw (sign-ahead text w 21 e (omega arith)) (taken-on text (positioned (w .at)) _ (behind text w) _ opened)
+  exclusive-taken e K = rw (sign-ahead text w exclusiveSign e (omega arith)) (taken-on text (positioned (w .at)) _ (behind text w) _ opened)
 
-  sum-taken : k ≡ 22 → Reduces 22
+  sum-taken : k ≡ sumSign → Reduces sumSign
   unfolding runsOn run feed choose ruleOf tallied
-  sum-taken e K = rw (sign-ahead text w 22 e (omega arith)) (taken-on text (positioned (w .at)) _ (behind text w) _ opened)
+  sum-taken e K = rw (sign-ahead text w sumSign e (omega arith)) (taken-on text (positioned (w .at)) _ (behind text w) _ opened)
 
   reduction-taken : among k reductions ≡ true → Reduces k
   reduction-taken e =
-      among-first-or k 8 (7 ∷ 21 ∷ 22 ∷ []) e (λ q. subst Reduces (sym q) (plus-taken q)) λ e₁.
-      among-first-or k 7 (21 ∷ 22 ∷ []) e₁ (λ q. subst Reduces (sym q) (star-taken q)) λ e₂.
-      among-first-or k 21 (22 ∷ []) e₂ (λ q. subst Reduces (sym q) (exclusive-taken q)) λ e₃.
-      among-first-or k 22 [] e₃ (λ q. subst Reduces (sym q) (sum-taken q)) (among-none k)
+      among-first-or k plus (star ∷ exclusiveSign ∷ sumSign ∷ []) e (λ q. subst Reduces (sym q) (plus-taken q)) λ e₁.
+      among-first-or k star (exclusiveSign ∷ sumSign ∷ []) e₁ (λ q. subst Reduces (sym q) (star-taken q)) λ e₂.
+      among-first-or k exclusiveSign (sumSign ∷ []) e₂ (λ q. subst Reduces (sym q) (exclusive-taken q)) λ e₃.
+      among-first-or k sumSign [] e₃ (λ q. subst Reduces (sym q) (sum-taken q)) (among-none k)
 
   pub head-taken : (h : Head) → (h ≡ H.Plain → ⊥) → (l : Level) → headOf l k ≡ h → (K : Stack)
       → runsOn text (stackOf l ++ K) (ahead text w) b c ≡ onTaken text w (prefixStack h ++ (make (treeSteps .makePrefix) ∷ ease ∷ (tailsFrom (rankAfter h) l ++ K))) kept opened
   unfolding headOf
   head-taken H.Plain n l e K = absurd (n refl)
   head-taken H.Negation n l e K =
-      let t = is-negation (both (leb 5 (levelNo l)) (eqb k 10)) (both (leb 3 (levelNo l)) (among k reductions)) (both (leb 1 (levelNo l)) (eqb k 23)) e in
-      let u = both-true (leb 1 (levelNo l)) (eqb k 23) (t .2) in
-      let q : k ≡ 23 = eqb-true k 23 (u .1) in
+      let t = is-negation (both (leb 5 (levelNo l)) (eqb k minus)) (both (leb 3 (levelNo l)) (among k reductions)) (both (leb 1 (levelNo l)) (eqb k differenceSign)) e in
+      let u = both-true (leb 1 (levelNo l)) (eqb k differenceSign) (t .2) in
+      let q : k ≡ differenceSign = eqb-true k differenceSign (u .1) in
       down-arithmetic text w z b c l (u .0) (t .0) (t .1) K ∙ negation-taken q (tailsFrom R.Relation l ++ K)
       ∙ ap (λ (j : ℕ). onTaken text w (ask term ∷ make (treeSteps .makePrefix) ∷ ease ∷ ask arithmeticTail ∷ (tailsFrom R.Relation l ++ K)) (keepWord (L.sign j (positioned (w .at))) b) opened) (sym q)
       ∙ ap (λ (M : Stack). onTaken text w (ask term ∷ make (treeSteps .makePrefix) ∷ ease ∷ (M ++ K)) kept opened) (sym (sum-first l (u .0)))
   head-taken H.Reduction n l e K =
-      let t = is-reduction (both (leb 5 (levelNo l)) (eqb k 10)) (both (leb 3 (levelNo l)) (among k reductions)) (both (leb 1 (levelNo l)) (eqb k 23)) e in
+      let t = is-reduction (both (leb 5 (levelNo l)) (eqb k minus)) (both (leb 3 (levelNo l)) (among k reductions)) (both (leb 1 (levelNo l)) (eqb k differenceSign)) e in
       let u = both-true (leb 3 (levelNo l)) (among k reductions) (t .1) in
       down-reduction text w z b c l (u .0) (t .0) K ∙ reduction-taken (u .1) (tailsFrom R.Con l ++ K)
   head-taken H.Complement n l e K =
-      let t = is-complement (both (leb 5 (levelNo l)) (eqb k 10)) (both (leb 3 (levelNo l)) (among k reductions)) (both (leb 1 (levelNo l)) (eqb k 23)) e in
-      let u = both-true (leb 5 (levelNo l)) (eqb k 10) t in
-      let q : k ≡ 10 = eqb-true k 10 (u .1) in
+      let t = is-complement (both (leb 5 (levelNo l)) (eqb k minus)) (both (leb 3 (levelNo l)) (among k reductions)) (both (leb 1 (levelNo l)) (eqb k differenceSign)) e in
+      let u = both-true (leb 5 (levelNo l)) (eqb k minus) t in
+      let q : k ≡ minus = eqb-true k minus (u .1) in
       down-complement text w z b c l (u .0) K ∙ complement-taken q (tailsFrom R.And l ++ K)
       ∙ ap (λ (j : ℕ). onTaken text w (ask reduction ∷ ask conTail ∷ make (treeSteps .makePrefix) ∷ ease ∷ (tailsFrom R.And l ++ K)) (keepWord (L.sign j (positioned (w .at))) b) opened) (sym q)

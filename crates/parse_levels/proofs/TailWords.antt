@@ -14,7 +14,7 @@ use Rattle.about_grammar.specs.Following.{among}
 use Rattle.language.specs.Alternatives.{noStep}
 use Rattle.language.specs.Building.{Built, keepWord}
 use Rattle.language.specs.Declaring.{treeSteps}
-use Rattle.language.specs.Kinds.{aConstant}
+use Rattle.language.specs.Kinds.{aConstant, atLeastSign, atMostSign, conWord, differenceSign, equalsSign, exclusiveSign, extWord, greaterSign, hash, headWord, lessSign, plus, star, sumSign, tailWord}
 use Rattle.language.specs.Machine.{Counts, Parsed, Sym, andTail, arithmeticTail, ask, choose, conTail, cutTail, exclusiveTail, feed, keep, make, orTail, relationTail, run, tallied}
 use Rattle.language.specs.Sections.{ruleOf}
 use Rattle.language.specs.Ways.{andWays, arithmeticTailWays, conWays, cutWays, exclusiveWays, orWays, relationWays}
@@ -118,90 +118,90 @@ module _ (text : List ℕ) (w : Word) (z : Seen text w) (b : Built) (c : Counts)
   abbrev CutTaken : ℕ → Type 0
   CutTaken j = (K : Stack) → on (ask cutTail ∷ K) ≡ onTaken text w (keep aConstant ∷ make (treeSteps .makeCut) ∷ ask cutTail ∷ K) (kept j) counted
 
-  sum-taken : k ≡ 22 → Taken R.Sum 22
+  sum-taken : k ≡ sumSign → Taken R.Sum 22
   unfolding runsOn run feed choose ruleOf tallied
-  sum-taken e K = rw (sign-ahead text w 22 e (omega arith)) (taken-on text (positioned (w .at)) _ (behind text w) _ counted)
+  sum-taken e K = rw (sign-ahead text w sumSign e (omega arith)) (taken-on text (positioned (w .at)) _ (behind text w) _ counted)
 
-  difference-taken : k ≡ 23 → Taken R.Sum 23
+  difference-taken : k ≡ differenceSign → Taken R.Sum 23
   unfolding runsOn run feed choose ruleOf tallied
-  difference-taken e K = rw (sign-ahead text w 23 e (omega arith)) (taken-on text (positioned (w .at)) _ (behind text w) _ counted)
+  difference-taken e K = rw (sign-ahead text w differenceSign e (omega arith)) (taken-on text (positioned (w .at)) _ (behind text w) _ counted)
 
-  equals-taken : k ≡ 24 → Taken R.Relation 24
+  equals-taken : k ≡ equalsSign → Taken R.Relation 24
   unfolding runsOn run feed choose ruleOf tallied
-  equals-taken e K = rw (sign-ahead text w 24 e (omega arith)) (taken-on text (positioned (w .at)) _ (behind text w) _ counted)
+  equals-taken e K = rw (sign-ahead text w equalsSign e (omega arith)) (taken-on text (positioned (w .at)) _ (behind text w) _ counted)
 
-  differs-taken : k ≡ 3 → Taken R.Relation 3
+  differs-taken : k ≡ hash → Taken R.Relation 3
   unfolding runsOn run feed choose ruleOf tallied
-  differs-taken e K = rw (sign-ahead text w 3 e (omega arith)) (taken-on text (positioned (w .at)) _ (behind text w) _ counted)
+  differs-taken e K = rw (sign-ahead text w hash e (omega arith)) (taken-on text (positioned (w .at)) _ (behind text w) _ counted)
 
-  less-taken : k ≡ 15 → Taken R.Relation 15
+  less-taken : k ≡ lessSign → Taken R.Relation 15
   unfolding runsOn run feed choose ruleOf tallied
-  less-taken e K = rw (sign-ahead text w 15 e (omega arith)) (taken-on text (positioned (w .at)) _ (behind text w) _ counted)
+  less-taken e K = rw (sign-ahead text w lessSign e (omega arith)) (taken-on text (positioned (w .at)) _ (behind text w) _ counted)
 
-  greater-taken : k ≡ 17 → Taken R.Relation 17
+  greater-taken : k ≡ greaterSign → Taken R.Relation 17
   unfolding runsOn run feed choose ruleOf tallied
-  greater-taken e K = rw (sign-ahead text w 17 e (omega arith)) (taken-on text (positioned (w .at)) _ (behind text w) _ counted)
+  greater-taken e K = rw (sign-ahead text w greaterSign e (omega arith)) (taken-on text (positioned (w .at)) _ (behind text w) _ counted)
 
-  at-most-taken : k ≡ 26 → Taken R.Relation 26
+  at-most-taken : k ≡ atMostSign → Taken R.Relation 26
   unfolding runsOn run feed choose ruleOf tallied
-  at-most-taken e K = rw (sign-ahead text w 26 e (omega arith)) (taken-on text (positioned (w .at)) _ (behind text w) _ counted)
+  at-most-taken e K = rw (sign-ahead text w atMostSign e (omega arith)) (taken-on text (positioned (w .at)) _ (behind text w) _ counted)
 
-  at-least-taken : k ≡ 25 → Taken R.Relation 25
+  at-least-taken : k ≡ atLeastSign → Taken R.Relation 25
   unfolding runsOn run feed choose ruleOf tallied
-  at-least-taken e K = rw (sign-ahead text w 25 e (omega arith)) (taken-on text (positioned (w .at)) _ (behind text w) _ counted)
+  at-least-taken e K = rw (sign-ahead text w atLeastSign e (omega arith)) (taken-on text (positioned (w .at)) _ (behind text w) _ counted)
 
-  con-taken : k ≡ 38 → Taken R.Con 38
+  con-taken : k ≡ conWord → Taken R.Con 38
   unfolding runsOn run feed choose ruleOf tallied
-  con-taken e K = rw (sign-ahead text w 38 e (omega arith)) (taken-on text (positioned (w .at)) _ (behind text w) _ counted)
+  con-taken e K = rw (sign-ahead text w conWord e (omega arith)) (taken-on text (positioned (w .at)) _ (behind text w) _ counted)
 
-  and-taken : k ≡ 7 → Taken R.And 7
+  and-taken : k ≡ star → Taken R.And 7
   unfolding runsOn run feed choose ruleOf tallied
-  and-taken e K = rw (sign-ahead text w 7 e (omega arith)) (taken-on text (positioned (w .at)) _ (behind text w) _ counted)
+  and-taken e K = rw (sign-ahead text w star e (omega arith)) (taken-on text (positioned (w .at)) _ (behind text w) _ counted)
 
-  exclusive-taken : k ≡ 21 → Taken R.Exclusive 21
+  exclusive-taken : k ≡ exclusiveSign → Taken R.Exclusive 21
   unfolding runsOn run feed choose ruleOf tallied
-  exclusive-taken e K = rw (sign-ahead text w 21 e (omega arith)) (taken-on text (positioned (w .at)) _ (behind text w) _ counted)
+  exclusive-taken e K = rw (sign-ahead text w exclusiveSign e (omega arith)) (taken-on text (positioned (w .at)) _ (behind text w) _ counted)
 
-  or-taken : k ≡ 8 → Taken R.Or 8
+  or-taken : k ≡ plus → Taken R.Or 8
   unfolding runsOn run feed choose ruleOf tallied
-  or-taken e K = rw (sign-ahead text w 8 e (omega arith)) (taken-on text (positioned (w .at)) _ (behind text w) _ counted)
+  or-taken e K = rw (sign-ahead text w plus e (omega arith)) (taken-on text (positioned (w .at)) _ (behind text w) _ counted)
 
-  head-taken : k ≡ 41 → CutTaken 41
+  head-taken : k ≡ headWord → CutTaken 41
   unfolding runsOn run feed choose ruleOf tallied
-  head-taken e K = rw (sign-ahead text w 41 e (omega arith)) (taken-on text (positioned (w .at)) _ (behind text w) _ counted)
+  head-taken e K = rw (sign-ahead text w headWord e (omega arith)) (taken-on text (positioned (w .at)) _ (behind text w) _ counted)
 
-  last-taken : k ≡ 42 → CutTaken 42
+  last-taken : k ≡ tailWord → CutTaken 42
   unfolding runsOn run feed choose ruleOf tallied
-  last-taken e K = rw (sign-ahead text w 42 e (omega arith)) (taken-on text (positioned (w .at)) _ (behind text w) _ counted)
+  last-taken e K = rw (sign-ahead text w tailWord e (omega arith)) (taken-on text (positioned (w .at)) _ (behind text w) _ counted)
 
-  ext-taken : k ≡ 40 → CutTaken 40
+  ext-taken : k ≡ extWord → CutTaken 40
   unfolding runsOn run feed choose ruleOf tallied
-  ext-taken e K = rw (sign-ahead text w 40 e (omega arith)) (taken-on text (positioned (w .at)) _ (behind text w) _ counted)
+  ext-taken e K = rw (sign-ahead text w extWord e (omega arith)) (taken-on text (positioned (w .at)) _ (behind text w) _ counted)
 
   pub tail-taken : (r : Rank) → (r ≡ R.Cut → ⊥) → among k (operatorsOf r) ≡ true → Taken r k
   tail-taken R.Sum n e =
-      among-first-or k 22 (23 ∷ []) e (λ q. subst (Taken R.Sum) (sym q) (sum-taken q)) λ e1.
-      among-first-or k 23 [] e1 (λ q. subst (Taken R.Sum) (sym q) (difference-taken q)) (among-none k)
+      among-first-or k sumSign (differenceSign ∷ []) e (λ q. subst (Taken R.Sum) (sym q) (sum-taken q)) λ e1.
+      among-first-or k differenceSign [] e1 (λ q. subst (Taken R.Sum) (sym q) (difference-taken q)) (among-none k)
   tail-taken R.Relation n e =
-      among-first-or k 24 (3 ∷ 15 ∷ 17 ∷ 26 ∷ 25 ∷ []) e (λ q. subst (Taken R.Relation) (sym q) (equals-taken q)) λ e1.
-      among-first-or k 3 (15 ∷ 17 ∷ 26 ∷ 25 ∷ []) e1 (λ q. subst (Taken R.Relation) (sym q) (differs-taken q)) λ e2.
-      among-first-or k 15 (17 ∷ 26 ∷ 25 ∷ []) e2 (λ q. subst (Taken R.Relation) (sym q) (less-taken q)) λ e3.
-      among-first-or k 17 (26 ∷ 25 ∷ []) e3 (λ q. subst (Taken R.Relation) (sym q) (greater-taken q)) λ e4.
-      among-first-or k 26 (25 ∷ []) e4 (λ q. subst (Taken R.Relation) (sym q) (at-most-taken q)) λ e5.
-      among-first-or k 25 [] e5 (λ q. subst (Taken R.Relation) (sym q) (at-least-taken q)) (among-none k)
+      among-first-or k equalsSign (hash ∷ lessSign ∷ greaterSign ∷ atMostSign ∷ atLeastSign ∷ []) e (λ q. subst (Taken R.Relation) (sym q) (equals-taken q)) λ e1.
+      among-first-or k hash (lessSign ∷ greaterSign ∷ atMostSign ∷ atLeastSign ∷ []) e1 (λ q. subst (Taken R.Relation) (sym q) (differs-taken q)) λ e2.
+      among-first-or k lessSign (greaterSign ∷ atMostSign ∷ atLeastSign ∷ []) e2 (λ q. subst (Taken R.Relation) (sym q) (less-taken q)) λ e3.
+      among-first-or k greaterSign (atMostSign ∷ atLeastSign ∷ []) e3 (λ q. subst (Taken R.Relation) (sym q) (greater-taken q)) λ e4.
+      among-first-or k atMostSign (atLeastSign ∷ []) e4 (λ q. subst (Taken R.Relation) (sym q) (at-most-taken q)) λ e5.
+      among-first-or k atLeastSign [] e5 (λ q. subst (Taken R.Relation) (sym q) (at-least-taken q)) (among-none k)
   tail-taken R.Cut n e = absurd (n refl)
   tail-taken R.Con n e =
-      among-first-or k 38 [] e (λ q. subst (Taken R.Con) (sym q) (con-taken q)) (among-none k)
+      among-first-or k conWord [] e (λ q. subst (Taken R.Con) (sym q) (con-taken q)) (among-none k)
   tail-taken R.And n e =
-      among-first-or k 7 [] e (λ q. subst (Taken R.And) (sym q) (and-taken q)) (among-none k)
+      among-first-or k star [] e (λ q. subst (Taken R.And) (sym q) (and-taken q)) (among-none k)
   tail-taken R.Exclusive n e =
-      among-first-or k 21 [] e (λ q. subst (Taken R.Exclusive) (sym q) (exclusive-taken q)) (among-none k)
+      among-first-or k exclusiveSign [] e (λ q. subst (Taken R.Exclusive) (sym q) (exclusive-taken q)) (among-none k)
   tail-taken R.Or n e =
-      among-first-or k 8 [] e (λ q. subst (Taken R.Or) (sym q) (or-taken q)) (among-none k)
+      among-first-or k plus [] e (λ q. subst (Taken R.Or) (sym q) (or-taken q)) (among-none k)
   tail-taken R.Beyond n e = among-none k e
 
   pub cut-taken : among k (operatorsOf R.Cut) ≡ true → CutTaken k
   cut-taken e =
-      among-first-or k 41 (42 ∷ 40 ∷ []) e (λ q. subst CutTaken (sym q) (head-taken q)) λ e1.
-      among-first-or k 42 (40 ∷ []) e1 (λ q. subst CutTaken (sym q) (last-taken q)) λ e2.
-      among-first-or k 40 [] e2 (λ q. subst CutTaken (sym q) (ext-taken q)) (among-none k)
+      among-first-or k headWord (tailWord ∷ extWord ∷ []) e (λ q. subst CutTaken (sym q) (head-taken q)) λ e1.
+      among-first-or k tailWord (extWord ∷ []) e1 (λ q. subst CutTaken (sym q) (last-taken q)) λ e2.
+      among-first-or k extWord [] e2 (λ q. subst CutTaken (sym q) (ext-taken q)) (among-none k)

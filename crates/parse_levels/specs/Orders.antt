@@ -6,8 +6,9 @@ use lib.Dec.{eqb, leb}
 use lib.ListN.{drop, take}
 use Rattle.about_grammar.specs.Following.{among}
 use Rattle.language.specs.Alternatives.{plainWord}
-use Rattle.language.specs.Kinds.{atLeastSign, atMostSign, conWord, differenceSign, equalsSign, exclusiveSign, extWord, greaterSign, hash, headWord, lessSign, minus, plus, redWord, star, sumSign, tailWord}
+use Rattle.language.specs.Kinds.{conWord, differenceSign, exclusiveSign, minus, plus, redWord, star}
 use Rattle.language.specs.Machine.{adjustment, andTail, arithmetic, arithmeticTail, ask, both, complement, conTail, cutTail, exclusiveTail, expression, minterm, orTail, product, reduction, relationTail, term}
+use Rattle.language.specs.Operators.{cuts, reductions, relations, sums}
 use Rattle.parse_step.specs.Course.{Stack}
 use Rattle.parse_levels.specs.declared.Head.{Head}
 use Rattle.parse_levels.specs.declared.Head.the-variants as H
@@ -17,9 +18,9 @@ use Rattle.parse_levels.specs.declared.Rank.{Rank}
 use Rattle.parse_levels.specs.declared.Rank.the-variants as R
 
 abbrev pub operatorsOf : Rank → List ℕ
-operatorsOf R.Sum = sumSign ∷ differenceSign ∷ []
-operatorsOf R.Relation = equalsSign ∷ hash ∷ lessSign ∷ greaterSign ∷ atMostSign ∷ atLeastSign ∷ []
-operatorsOf R.Cut = headWord ∷ tailWord ∷ extWord ∷ []
+operatorsOf R.Sum = sums
+operatorsOf R.Relation = relations
+operatorsOf R.Cut = cuts
 operatorsOf R.Con = conWord ∷ []
 operatorsOf R.And = star ∷ []
 operatorsOf R.Exclusive = exclusiveSign ∷ []
@@ -79,9 +80,6 @@ topNo E.Minterm = 6
 topNo E.Expression = 7
 
 -- ---- Heads.
-
-abbrev pub reductions : List ℕ
-reductions = plus ∷ star ∷ exclusiveSign ∷ sumSign ∷ []
 
 unfoldable pub headOf : Level → ℕ → Head
 headOf l k =

@@ -3,6 +3,7 @@ use crate::Head;
 use crate::Level;
 use crate::Rank;
 use crate::kinds::member;
+use value_operators::operators;
 ghost use mathlib.Core.Path.{_≡_};
 ghost use Rattle.language.specs.Machine as L;
 ghost use Rattle.parse_levels.specs.Orders.{headOf, levelNo, prefixLevel, rankAfter};
@@ -35,13 +36,13 @@ pub fn head_of(level: Level, kind: u8) -> Head
     ensures { λ r. ⌜ r ≡ headOf level kind ⌝ }
 {
     let n = level_number(level);
-    if both(5 <= n, kind == 10) {
+    if both(5 <= n, kind == text_kinds::MINUS) {
         return Head::Complement;
     }
-    if both(3 <= n, member(kind, &[8, 7, 21, 22])) {
+    if both(3 <= n, member(kind, &operators::REDUCTION_SIGNS)) {
         return Head::Reduction;
     }
-    if both(1 <= n, kind == 23) {
+    if both(1 <= n, kind == text_kinds::DIFFERENCE) {
         return Head::Negation;
     }
     Head::Plain

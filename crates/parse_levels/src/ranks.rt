@@ -2,6 +2,7 @@
 use crate::Level;
 use crate::Rank;
 use crate::kinds::member;
+use value_operators::operators;
 ghost use mathlib.Core.Path.{_≡_};
 ghost use lib.Dec.{ltb};
 ghost use Rattle.about_grammar.specs.Following.{among};
@@ -12,13 +13,13 @@ pub fn operates(rank: Rank, kind: u8) -> bool
     ensures { λ r. ⌜ r ≡ among kind (operatorsOf rank) ⌝ }
 {
     match rank {
-        Rank::Sum => member(kind, &[22, 23]),
-        Rank::Relation => member(kind, &[24, 3, 15, 17, 26, 25]),
-        Rank::Cut => member(kind, &[41, 42, 40]),
-        Rank::Con => member(kind, &[38]),
-        Rank::And => member(kind, &[7]),
-        Rank::Exclusive => member(kind, &[21]),
-        Rank::Or => member(kind, &[8]),
+        Rank::Sum => member(kind, &operators::SUM_SIGNS),
+        Rank::Relation => member(kind, &operators::RELATION_SIGNS),
+        Rank::Cut => member(kind, &operators::CUT_WORDS),
+        Rank::Con => member(kind, &[text_kinds::CON]),
+        Rank::And => member(kind, &[text_kinds::STAR]),
+        Rank::Exclusive => member(kind, &[text_kinds::EXCLUSIVE]),
+        Rank::Or => member(kind, &[text_kinds::PLUS]),
         Rank::Beyond => false,
     }
 }

@@ -8,6 +8,7 @@ use borrow.Author.Tests.{ne-eqb}
 use lib.ListN.{length}
 use Rattle.language.specs.Building.{Built, keepWord, wordNo}
 use Rattle.language.specs.Declaring.{treeSteps}
+use Rattle.language.specs.Kinds.{aConstant, closeBracket, colon, comma}
 use Rattle.language.specs.Machine.{Counts, Fed, Parsed, after, afterSubscript, ask, choose, closes, expression, feed, finish, keep, make, refused, run, second, secondEnd, secondOption, tallied, withinCeilings, word, wrong}
 use Rattle.language.specs.Sections.{ruleOf}
 use Rattle.language.specs.Tree as T
@@ -38,48 +39,48 @@ module _ (text : List ℕ) (w : Word) (z : Seen text w) (b : Built) (c : Counts)
 
   -- ---- An expression.
 
-  pub expression-first : (k ≡ 2 → ⊥) → (q : Bool) (K : Stack) → on (ask (bracketAsk q) ∷ K) ≡ on (ask expression ∷ ask (bracketEnd q) ∷ K)
+  pub expression-first : (k ≡ aConstant → ⊥) → (q : Bool) (K : Stack) → on (ask (bracketAsk q) ∷ K) ≡ on (ask expression ∷ ask (bracketEnd q) ∷ K)
   unfolding runsOn run feed finish choose ruleOf
   expression-first n q K = go q (view text w z)
     where
       go : (q : Bool) → View text w → on (ask (bracketAsk q) ∷ K) ≡ on (ask expression ∷ ask (bracketEnd q) ∷ K)
       go false (ended x y j) = rw x
-      go false (begun v x j y) = rw (x, j, ne-eqb k 2 n)
+      go false (begun v x j y) = rw (x, j, ne-eqb k aConstant n)
       go true (ended x y j) = rw x
-      go true (begun v x j y) = rw (x, j, ne-eqb k 2 n)
+      go true (begun v x j y) = rw (x, j, ne-eqb k aConstant n)
 
   -- ---- A constant waits for what follows it.
 
-  pub constant-first : k ≡ 2 → (q : Bool) (K : Stack) → on (ask (bracketAsk q) ∷ K) ≡ onTaken text w (ask (bracketWaits q) ∷ ask (bracketRest q) ∷ K) (keepWord (constantWord w) b) c
+  pub constant-first : k ≡ aConstant → (q : Bool) (K : Stack) → on (ask (bracketAsk q) ∷ K) ≡ onTaken text w (ask (bracketWaits q) ∷ ask (bracketRest q) ∷ K) (keepWord (constantWord w) b) c
   unfolding runsOn run feed choose ruleOf tallied
   constant-first e false K = rw (constant-ahead text w z e) (taken-on text at _ (behind text w) _ _)
   constant-first e true K = rw (constant-ahead text w z e) (taken-on text at _ (behind text w) _ _)
 
-  pub colon-follows : k ≡ 13 → (q : Bool) (K : Stack)
-      → on (ask (bracketWaits q) ∷ ask (bracketRest q) ∷ K) ≡ onTaken text w (keep 2 ∷ word 20 closes ∷ make (bracketMake q) ∷ K) b c
+  pub colon-follows : k ≡ colon → (q : Bool) (K : Stack)
+      → on (ask (bracketWaits q) ∷ ask (bracketRest q) ∷ K) ≡ onTaken text w (keep aConstant ∷ word closeBracket closes ∷ make (bracketMake q) ∷ K) b c
   unfolding runsOn run feed choose ruleOf tallied
-  colon-follows e false K = rw (sign-ahead text w 13 e (omega arith)) (taken-on text at _ (behind text w) _ _)
-  colon-follows e true K = rw (sign-ahead text w 13 e (omega arith)) (taken-on text at _ (behind text w) _ _)
+  colon-follows e false K = rw (sign-ahead text w colon e (omega arith)) (taken-on text at _ (behind text w) _ _)
+  colon-follows e true K = rw (sign-ahead text w colon e (omega arith)) (taken-on text at _ (behind text w) _ _)
 
   -- ---- After a subscript.
 
-  pub comma-follows : k ≡ 9 → (K : Stack) → on (ask afterSubscript ∷ K) ≡ onTaken text w (ask second ∷ K) b c
+  pub comma-follows : k ≡ comma → (K : Stack) → on (ask afterSubscript ∷ K) ≡ onTaken text w (ask second ∷ K) b c
   unfolding runsOn run feed choose ruleOf tallied
-  comma-follows e K = rw (sign-ahead text w 9 e (omega arith)) (taken-on text at _ (behind text w) _ _)
+  comma-follows e K = rw (sign-ahead text w comma e (omega arith)) (taken-on text at _ (behind text w) _ _)
 
-  pub close-follows : (k ≡ 9 → ⊥) → (K : Stack) → on (ask afterSubscript ∷ K) ≡ on (word 20 closes ∷ ask secondOption ∷ K)
+  pub close-follows : (k ≡ comma → ⊥) → (K : Stack) → on (ask afterSubscript ∷ K) ≡ on (word closeBracket closes ∷ ask secondOption ∷ K)
   unfolding runsOn run feed finish choose ruleOf tallied
   close-follows n K = go (view text w z)
     where
-      go : View text w → on (ask afterSubscript ∷ K) ≡ on (word 20 closes ∷ ask secondOption ∷ K)
+      go : View text w → on (ask afterSubscript ∷ K) ≡ on (word closeBracket closes ∷ ask secondOption ∷ K)
       go (ended x y j) = rw x
-      go (begun v x j y) = rw (x, j, ne-eqb k 9 n)
+      go (begun v x j y) = rw (x, j, ne-eqb k comma n)
 
-  pub second-closes : (K : Stack) → on (ask secondEnd ∷ K) ≡ on (word 20 closes ∷ make (treeSteps .makeTwo) ∷ K)
+  pub second-closes : (K : Stack) → on (ask secondEnd ∷ K) ≡ on (word closeBracket closes ∷ make (treeSteps .makeTwo) ∷ K)
   unfolding runsOn run feed finish choose ruleOf tallied
   second-closes K = go (view text w z)
     where
-      go : View text w → on (ask secondEnd ∷ K) ≡ on (word 20 closes ∷ make (treeSteps .makeTwo) ∷ K)
+      go : View text w → on (ask secondEnd ∷ K) ≡ on (word closeBracket closes ∷ make (treeSteps .makeTwo) ∷ K)
       go (ended x y j) = rw x
       go (begun v x j y) = rw x
 
@@ -112,12 +113,12 @@ module _ (text : List ℕ) (w : Word) (z : Seen text w) (a : Constant) (p : Posi
   either x vs true = refl
   either x vs false = refl
 
-  by-view : (kindNo (w .kind) ≡ 13 → ⊥) → (q : Bool) (K : Stack) → View text w → begins-so q K
+  by-view : (kindNo (w .kind) ≡ colon → ⊥) → (q : Bool) (K : Stack) → View text w → begins-so q K
   unfolding runsOn run feed finish choose ruleOf wordNo
   by-view n false K (ended x y j) = rw x
-  by-view n false K (begun v x j y) = rw (x, j, ne-eqb (kindNo (w .kind)) 13 n) (either _ (behind text w) (withinCeilings counted))
+  by-view n false K (begun v x j y) = rw (x, j, ne-eqb (kindNo (w .kind)) colon n) (either _ (behind text w) (withinCeilings counted))
   by-view n true K (ended x y j) = rw x
-  by-view n true K (begun v x j y) = rw (x, j, ne-eqb (kindNo (w .kind)) 13 n) (either _ (behind text w) (withinCeilings counted))
+  by-view n true K (begun v x j y) = rw (x, j, ne-eqb (kindNo (w .kind)) colon n) (either _ (behind text w) (withinCeilings counted))
 
-  pub constant-operand : (kindNo (w .kind) ≡ 13 → ⊥) → (q : Bool) (K : Stack) → begins-so q K
+  pub constant-operand : (kindNo (w .kind) ≡ colon → ⊥) → (q : Bool) (K : Stack) → begins-so q K
   constant-operand n q K = by-view n q K (view text w z)

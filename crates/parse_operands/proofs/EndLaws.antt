@@ -1,5 +1,5 @@
 -- The ends of a part.
-use mathlib.Core.Bool.{Bool, true, false, true≢false}
+use mathlib.Core.Bool.{Bool, true, true≢false}
 use mathlib.Core.List.{List, _∷_}
 use mathlib.Core.Path.{_≡_, sym, ap, _∙_}
 use Prim.Native.Nat.{ℕ, _-_}
@@ -7,6 +7,7 @@ use native.Mathlib.Omega.{arith}
 use borrow.Author.Tests.{eqb-true}
 use lib.Dec.{eqb}
 use Rattle.language.specs.Building.{Built, keepWord}
+use Rattle.language.specs.Kinds.{aConstant, closeBracket, colon}
 use Rattle.language.specs.Machine.{Counts, ask, closes, keep, make, refused, word}
 use Rattle.language.specs.Words as L
 use Rattle.text_words.specs.declared.Word.{Word}
@@ -26,30 +27,30 @@ use Rattle.parse_operands.proofs.BracketWords.{colon-follows, constant-
 
 -- ---- A constant and a colon come.
 
-pub ends-split : (text : List ℕ) (w : Word) → Seen text w → endsAhead (ahead text w) ≡ true → (kindNo (w .kind) ≡ 2) × (colonFirst (behind text w) ≡ true)
+pub ends-split : (text : List ℕ) (w : Word) → Seen text w → endsAhead (ahead text w) ≡ true → (kindNo (w .kind) ≡ aConstant) × (colonFirst (behind text w) ≡ true)
 ends-split text w z e = go (view text w z)
   where
-    go : View text w → (kindNo (w .kind) ≡ 2) × (colonFirst (behind text w) ≡ true)
+    go : View text w → (kindNo (w .kind) ≡ aConstant) × (colonFirst (behind text w) ≡ true)
     go (ended x y j) = absurd (true≢false (sym (ap endsAhead (sym x) ∙ e)))
-    go (begun v x j y) = let t = both-true (eqb (L.kindOf v) 2) (colonFirst (behind text w)) (ap endsAhead (sym x) ∙ e) in (sym j ∙ eqb-true (L.kindOf v) 2 (t .0), t .1)
+    go (begun v x j y) = let t = both-true (eqb (L.kindOf v) aConstant) (colonFirst (behind text w)) (ap endsAhead (sym x) ∙ e) in (sym j ∙ eqb-true (L.kindOf v) aConstant (t .0), t .1)
 
-pub colon-kind : (text : List ℕ) (w : Word) → Seen text w → {vs : List L.Word} → ahead text w ≡ vs → colonFirst vs ≡ true → kindNo (w .kind) ≡ 13
+pub colon-kind : (text : List ℕ) (w : Word) → Seen text w → {vs : List L.Word} → ahead text w ≡ vs → colonFirst vs ≡ true → kindNo (w .kind) ≡ colon
 colon-kind text w z e f = go (view text w z) (ap colonFirst e ∙ f)
   where
-    go : View text w → colonFirst (ahead text w) ≡ true → kindNo (w .kind) ≡ 13
+    go : View text w → colonFirst (ahead text w) ≡ true → kindNo (w .kind) ≡ colon
     go (ended x y j) g = absurd (true≢false (sym (ap colonFirst (sym x) ∙ g)))
-    go (begun v x j y) g = sym j ∙ eqb-true (L.kindOf v) 13 (ap colonFirst (sym x) ∙ g)
+    go (begun v x j y) g = sym j ∙ eqb-true (L.kindOf v) colon (ap colonFirst (sym x) ∙ g)
 
 -- ---- The second end and the bracket.
 
 pub closed-not : {text : List ℕ} {w l : Word} {s : State} {r : Answer} → Keeps text w s r → (r .verdict ≡ Done → ⊥) → Closed text w s (record { answer = r; last = l })
 closed-not k n = record {
   done = λ d. absurd (n d);
-  refused = λ f d z K b. k .refused f d z (word 20 closes ∷ K) b;
+  refused = λ f d z K b. k .refused f d z (word closeBracket closes ∷ K) b;
   full = k .full;
 }
 
-pub closed-says : {text : List ℕ} {w : Word} {s : State} {r a : Answer} → Keeps text w s r → r .verdict ≡ Done → Expected text 20 Closes (r .next) (r .state) a → Closed text w s (record { answer = a; last = w })
+pub closed-says : {text : List ℕ} {w : Word} {s : State} {r a : Answer} → Keeps text w s r → r .verdict ≡ Done → Expected text closeBracket Closes (r .next) (r .state) a → Closed text w s (record { answer = a; last = w })
 closed-says {text} {w} {s} {r} {a} k e x = record {
   done = λ d z. let q = k .done e z in
       let y = x .done d (q .seen) (omega arith) in
@@ -60,9 +61,9 @@ closed-says {text} {w} {s} {r} {a} k e x = record {
           nodes = y .0 .kept .nodes ∙ ap (λ (t : State). t .nodes) v;
           known = y .0 .kept .known ∙ ap (λ (t : State). t .known) v;
         },
-        λ K b. q .course (word 20 closes ∷ K) b ∙ y .1 K (keepWord (constantWord w) b),
+        λ K b. q .course (word closeBracket closes ∷ K) b ∙ y .1 K (keepWord (constantWord w) b),
       );
-  refused = λ f d z K b. let q = k .done e z in q .course (word 20 closes ∷ K) b ∙ x .refused f d (q .seen) (omega arith) K (keepWord (constantWord w) b);
+  refused = λ f d z K b. let q = k .done e z in q .course (word closeBracket closes ∷ K) b ∙ x .refused f d (q .seen) (omega arith) K (keepWord (constantWord w) b);
   full = x .full;
 }
 
@@ -82,7 +83,7 @@ module _ {text : List ℕ} {w : Word} {s : State} {t : Answer} (x : Took text w 
 
   module _ (d₁ : t .verdict ≡ Done) {u : Answer} (y : Took text (t .next) (countsOf (t .state)) (t .state) u) where
     second-course : Seen text w → endsAhead (ahead text w) ≡ true → (q : Bool) (K : Stack) (b : Built)
-        → runs text (ask (bracketAsk q) ∷ K) w b s ≡ onTaken text (t .next) (keep 2 ∷ word 20 closes ∷ make (bracketMake q) ∷ K) (keepWord (constantWord w) b) (countsOf (t .state))
+        → runs text (ask (bracketAsk q) ∷ K) w b s ≡ onTaken text (t .next) (keep aConstant ∷ word closeBracket closes ∷ make (bracketMake q) ∷ K) (keepWord (constantWord w) b) (countsOf (t .state))
     second-course z e q K b =
         let p = x .done d₁ in
         first-course z e q K b ∙ took-done p z (ask (bracketWaits q) ∷ ask (bracketRest q) ∷ K) (keepWord (constantWord w) b)
@@ -91,15 +92,15 @@ module _ {text : List ℕ} {w : Word} {s : State} {t : Answer} (x : Took text w 
     pub colon-not : {l : Word} → (u .verdict ≡ Done → ⊥) → Ended text w s (record { answer = u; last = l })
     colon-not n = record {
       done = λ d. absurd (n d);
-      refused = λ f d z e q K b. second-course z e q K b ∙ took-refused y f d (keep 2 ∷ word 20 closes ∷ make (bracketMake q) ∷ K) (keepWord (constantWord w) b);
+      refused = λ f d z e q K b. second-course z e q K b ∙ took-refused y f d (keep aConstant ∷ word closeBracket closes ∷ make (bracketMake q) ∷ K) (keepWord (constantWord w) b);
       full = y .full;
     }
 
     module _ (d₂ : u .verdict ≡ Done) {r : Ends} (c : Closed text (u .next) (u .state) r) where
       third-course : Seen text w → endsAhead (ahead text w) ≡ true → (q : Bool) (K : Stack) (b : Built)
-          → runs text (ask (bracketAsk q) ∷ K) w b s ≡ runs text (keep 2 ∷ word 20 closes ∷ make (bracketMake q) ∷ K) (u .next) (keepWord (constantWord w) b) (u .state)
+          → runs text (ask (bracketAsk q) ∷ K) w b s ≡ runs text (keep aConstant ∷ word closeBracket closes ∷ make (bracketMake q) ∷ K) (u .next) (keepWord (constantWord w) b) (u .state)
       third-course z e q K b =
-          second-course z e q K b ∙ took-done (y .done d₂) (x .done d₁ .seen) (keep 2 ∷ word 20 closes ∷ make (bracketMake q) ∷ K) (keepWord (constantWord w) b)
+          second-course z e q K b ∙ took-done (y .done d₂) (x .done d₁ .seen) (keep aConstant ∷ word closeBracket closes ∷ make (bracketMake q) ∷ K) (keepWord (constantWord w) b)
 
       pub ended-says : Ended text w s r
       ended-says = record {

@@ -4,8 +4,9 @@ use mathlib.Core.Path.{_≡_, refl, sym, subst}
 use Prim.Native.Nat.{ℕ, suc, _≤_}
 use native.Mathlib.Omega.{arith}
 use Rattle.language.specs.Describe.{constantNodes, constantSize}
+use Rattle.language.specs.Kinds.{aConstant}
 use Rattle.language.specs.Naming.{Scope}
-use Rattle.value_operations.specs.Meaning.{valued}
+use Rattle.value_operators.specs.Meaning.{valued}
 use Rattle.text_words.specs.declared.Word.{Word}
 use Rattle.text_words.specs.Meaning.{positioned}
 use Rattle.parse_array.specs.Held.{otherIn}
@@ -21,7 +22,7 @@ use Rattle.parse_step.proofs.Narrow.{few-records, narrow}
 use Rattle.parse_step.proofs.Paying.{counted-comes, gained-spends, spent, spent-seen, went-pays, written-spends}
 
 module _ {w : Word} {s : State} {t r : Answer} {work work′ : List ℕ} {n : ℕ} where
-  pub constant-spends : {text : List ℕ} → kindNo (w .kind) ≡ 2 → Took text w (counts5 s (suc (s .counted)) n) s t → t .verdict ≡ Done
+  pub constant-spends : {text : List ℕ} → kindNo (w .kind) ≡ aConstant → Took text w (counts5 s (suc (s .counted)) n) s t → t .verdict ≡ Done
       → Written (constantNodes (valued (w .value)) (positioned (w .at))) (constantSize (valued (w .value))) (t .next) (t .state) work work′ r → Spends text 0 w s r
   constant-spends {text} e k d y = spent-seen (λ z. spent (counted-comes k d) (written-spends y (few-records (valued (w .value)) (narrow text w z e))) (omega arith))
 

@@ -17,7 +17,8 @@ use Rattle.language.specs.Tree.{Expression}
 use Rattle.language.specs.Words as L
 use Rattle.value_limbs.specs.Limbs.{number}
 use Rattle.judge_records.specs.Noted.{nodeBesideBytes, plainPlaces}
-use Rattle.value_operations.specs.Meaning.{valued}
+use Rattle.language.specs.Kinds.{aConstant}
+use Rattle.value_operators.specs.Meaning.{valued}
 use Rattle.text_words.specs.declared.Word.{Word}
 use Rattle.text_words.specs.Meaning.{positioned}
 use Rattle.parse_array.proofs.NodesAdded.{nodes-other}
@@ -94,7 +95,7 @@ counting-not x n = record { done = λ d. absurd (n d); refused = x .refused; ful
 
 -- ---- A constant as a term.
 
-module _ {text : List ℕ} {sc : Scope} {w : Word} {s : State} {work : List ℕ} (e : kindNo (w .kind) ≡ 2) (h : Here text sc w s work) where
+module _ {text : List ℕ} {sc : Scope} {w : Word} {s : State} {work : List ℕ} (e : kindNo (w .kind) ≡ aConstant) (h : Here text sc w s work) where
   pub term-course : (K : Stack) (b : Built) → runs text (ask term ∷ K) w b s ≡ onTaken text w (make (treeSteps .makeConstant) ∷ K) (keepWord (constantWord w) b) (countsOf (oneMore s))
   term-course K b = constant-term text w (h .seen) b (countsOf s) e K
 
@@ -111,7 +112,7 @@ module _ {text : List ℕ} {sc : Scope} {w : Word} {s : State} {work : List ℕ}
 
 module _ (kind : ℕ) (at : L.Position) {text : List ℕ} {sc : Scope} {w : Word} {s : State} {work work′ : List ℕ} (h : Here text sc w s work) {held₀ : Held} {base : ℕ} {t : Expression} (o : Pending sc held₀ base t s work) where
   pub cut-not : {r : Answer} → Keeps text w s r → (r .verdict ≡ Done → ⊥)
-      → Says text sc (keep 2 ∷ make (treeSteps .makeCut) ∷ []) [] (λ b. keepWord (L.sign kind at) (pushed t b)) held₀ base (s .nesting) w s r work′
+      → Says text sc (keep aConstant ∷ make (treeSteps .makeCut) ∷ []) [] (λ b. keepWord (L.sign kind at) (pushed t b)) held₀ base (s .nesting) w s r work′
   cut-not k n = record {
     done = λ d. absurd (n d);
     refused = λ f d K b. k .refused f d (h .seen) (make (treeSteps .makeCut) ∷ K) (keepWord (L.sign kind at) (pushed t b));
@@ -120,7 +121,7 @@ module _ (kind : ℕ) (at : L.Position) {text : List ℕ} {sc : Scope} {w : Word
 
   pub cut-says : {r a : Answer} {m n : ℕ} {ps : List ℕ} → Keeps text w s r → r .verdict ≡ Done → m ≡ r .state .nodes - 1 → n ≡ count (number (w .value .limbs)) → ps ≡ plainPlaces (nodePlaces at)
       → Gained (r .next) (r .state) (nodeBytes (D.cut kind m n)) ps work work′ a
-      → Says text sc (keep 2 ∷ make (treeSteps .makeCut) ∷ []) [] (λ b. keepWord (L.sign kind at) (pushed t b)) held₀ base (s .nesting) w s a work′
+      → Says text sc (keep aConstant ∷ make (treeSteps .makeCut) ∷ []) [] (λ b. keepWord (L.sign kind at) (pushed t b)) held₀ base (s .nesting) w s a work′
   unfolding nodesOf expressionSize wordNo expressionNo nodeBesideBytes
   cut-says {r} {m = m} k d e f i g =
       let q = k .done d (h .seen) in

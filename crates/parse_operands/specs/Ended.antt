@@ -6,11 +6,12 @@ use Prim.Native.Nat.{ℕ, suc, _-_, _≤_}
 use Rattle.language.specs.Building.{Built, keepWord}
 use Rattle.language.specs.Declaring.{treeSteps}
 use Rattle.language.specs.Describe.{constantNodes, constantSize}
+use Rattle.language.specs.Kinds.{aConstant, closeBracket}
 use Rattle.language.specs.Machine.{ask, closes, keep, make, refused, withinCeilings, word}
 use Rattle.language.specs.Naming.{Scope}
 use Rattle.language.specs.Tree.{Expression}
 use Rattle.language.specs.Words as L
-use Rattle.value_operations.specs.Meaning.{valued}
+use Rattle.value_operators.specs.Meaning.{valued}
 use Rattle.text_words.specs.declared.Fault.{Fault}
 use Rattle.text_words.specs.declared.Word.{Word}
 use Rattle.text_words.specs.Meaning.{faulted, positioned}
@@ -44,8 +45,8 @@ pub record Through (text : List ℕ) (s : State) (r : Ends) : Type 0 where
 
 pub record Closed (text : List ℕ) (w : Word) (s : State) (r : Ends) : Type 0 where
   pub done : r .answer .verdict ≡ Done → Seen text w → Through text s r
-      × ((K : Stack) (b : Built) → runs text (keep 2 ∷ word 20 closes ∷ K) w b s ≡ runs text K (r .answer .next) (keepWord (constantWord (r .last)) b) (r .answer .state))
-  pub refused : (f : Fault) → r .answer .verdict ≡ Refused f → Seen text w → (K : Stack) (b : Built) → runs text (keep 2 ∷ word 20 closes ∷ K) w b s ≡ refused (faulted f)
+      × ((K : Stack) (b : Built) → runs text (keep aConstant ∷ word closeBracket closes ∷ K) w b s ≡ runs text K (r .answer .next) (keepWord (constantWord (r .last)) b) (r .answer .state))
+  pub refused : (f : Fault) → r .answer .verdict ≡ Refused f → Seen text w → (K : Stack) (b : Built) → runs text (keep aConstant ∷ word closeBracket closes ∷ K) w b s ≡ refused (faulted f)
   pub full : r .answer .verdict ≡ Full → ⊥
 
 pub record Ended (text : List ℕ) (w : Word) (s : State) (r : Ends) : Type 0 where
@@ -58,4 +59,4 @@ pub record Ended (text : List ℕ) (w : Word) (s : State) (r : Ends) : Type 0 wh
 abbrev pub Cuts : ℕ → Word → List ℕ → Word → State → List ℕ → List ℕ → Answer → Type 0
 Cuts kind op text w s work work′ r =
     (sc : Scope) → Here text sc w s work → (h : Held) (base : ℕ) (t : Expression) → Pending sc h base t s work
-    → Says text sc (keep 2 ∷ make (treeSteps .makeCut) ∷ []) [] (λ b. keepWord (L.sign kind (positioned (op .at))) (pushed t b)) h base (s .nesting) w s r work′
+    → Says text sc (keep aConstant ∷ make (treeSteps .makeCut) ∷ []) [] (λ b. keepWord (L.sign kind (positioned (op .at))) (pushed t b)) h base (s .nesting) w s r work′

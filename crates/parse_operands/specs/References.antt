@@ -14,7 +14,7 @@ use Rattle.language.specs.Notions.{pairOf}
 use Rattle.language.specs.Scan.{written}
 use Rattle.language.specs.Tree.{Ends, Name}
 use Rattle.judge_records.specs.Noted.{nodeBesideBytes}
-use Rattle.value_operations.specs.Meaning.{valued}
+use Rattle.value_operators.specs.Meaning.{valued}
 use Rattle.text_words.specs.declared.Word.{Word}
 use Rattle.text_words.specs.Meaning.{positioned}
 use Rattle.parse_array.specs.Held.{otherIn}

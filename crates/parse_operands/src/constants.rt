@@ -3,12 +3,12 @@ use parse_step::Answer;
 use parse_step::Bearing;
 use parse_step::State;
 use parse_step::adding;
-use parse_step::kinds;
 use parse_step::taking;
 use text_words::Word;
 ghost use mathlib.Core.List.{List, [], _∷_};
 ghost use mathlib.Core.Path.{_≡_};
 ghost use Prim.Native.Nat.{ℕ, _≤_};
+ghost use Rattle.language.specs.Kinds.{aConstant};
 ghost use Rattle.language.specs.Machine.{ask, term};
 ghost use Rattle.parse_step.specs.Course.{kindNo};
 ghost use Rattle.parse_step.specs.Pays.{Spends};
@@ -17,7 +17,7 @@ ghost use Rattle.parse_operands.specs.Ended.{Closed, Counting, Ended};
 
 // A term that is a constant.
 pub fn constant(s: State, text: &[u8], w: Word, work: &mut [u8; 275296]) -> Answer
-    ensures { λ r. ⌜ (kindNo (w .kind) ≡ 2 → Parses (ask term ∷ []) (λ t b. b) (s .nesting) (now (text .entry)) w s (now (work .entry)) (now (work .exit)) r × Spends (now (text .entry)) 0 w s r) ⌝ }
+    ensures { λ r. ⌜ (kindNo (w .kind) ≡ aConstant → Parses (ask term ∷ []) (λ t b. b) (s .nesting) (now (text .entry)) w s (now (work .entry)) (now (work .exit)) r × Spends (now (text .entry)) 0 w s r) ⌝ }
 {
     let taken = taking::take(text, w, s, true, Bearing::Level);
     if parse_step::unread(taken) {
@@ -79,7 +79,7 @@ fn closed(s: State, text: &[u8], w: Word) -> Ends
         text,
         kept.next,
         kept.state,
-        kinds::CLOSE_BRACKET,
+        text_kinds::CLOSE_BRACKET,
         Bearing::Closes,
     );
     Ends {

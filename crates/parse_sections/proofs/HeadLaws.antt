@@ -17,7 +17,7 @@ use Rattle.parse_facilities.specs.Specs.{namedWord}
 use Rattle.parse_bounds.proofs.States.{counted, state-of}
 use Rattle.parse_bounds.proofs.Telling as D
 use Rattle.language.specs.Building.{Built, beginList, keepWord}
-use Rattle.language.specs.Kinds.{closeBracket, openBracket}
+use Rattle.language.specs.Kinds.{aName, closeBracket, controlWord, endWord, equalSign, openBracket, period}
 use Rattle.language.specs.Machine.{Counts, ask, closes, control, opens, operationSpec, operationsMore, withinCeilings, word}
 use Rattle.language.specs.Naming.{Scope}
 use Rattle.language.specs.Tree.{Actions}
@@ -34,10 +34,10 @@ use Rattle.parse_sections.specs.Heads.{Body, BodyRead, ControlRead, Cont
 -- ---- The name.
 
 module _ {text : List ℕ} {w : Word} {s : State} {r : Answer} where
-  pub not-named : (kindNo (w .kind) ≡ 1 → ⊥) → Refuses w 3 r → Names text w s r
+  pub not-named : (kindNo (w .kind) ≡ aName → ⊥) → Refuses w 3 r → Names text w s r
   not-named n x z f = refuses 3 x (λ K b. name-stuck text w K b s z n)
 
-  pub named : {s′ : State} → kindNo (w .kind) ≡ 1 → (s .operations ≤ 128 → s′ ≡ moreState s) → Took text w (countsOf s′) s′ r → Names text w s r
+  pub named : {s′ : State} → kindNo (w .kind) ≡ aName → (s .operations ≤ 128 → s′ ≡ moreState s) → Took text w (countsOf s′) s′ r → Names text w s r
   named {s′} e g t z f = told (D.word-taken taken (λ d. read (taken .done d)) (λ K. nameStack ++ K) (keepWord (namedWord text w)) (λ K b. name-taken text w K b s z e)) (t .full)
     where
       taken : Took text w (countsOf (moreState s)) (moreState s) r
@@ -58,13 +58,13 @@ module _ {text : List ℕ} {w : Word} {s : State} {a : Answer} (x : Names text w
   pub head-unnamed : (a .verdict ≡ Done → ⊥) → Heads text w s a
   head-unnamed n z f = let t = x z f in record { done = λ d. absurd (n d); refused = t .refused; full = t .full }
 
-  module _ (done : a .verdict ≡ Done) {e : Answer} (g : Expected text 16 Level (a .next) (a .state) e) where
+  module _ (done : a .verdict ≡ Done) {e : Answer} (g : Expected text equalSign Level (a .next) (a .state) e) where
     pub head-unequal : (e .verdict ≡ Done → ⊥) → Heads text w s e
     head-unequal n z f =
         let y = x z f .done done in
         told (D.expected g (λ d. absurd (n d)) (y .seen) (omega arith) (λ K. word openBracket opens ∷ (bodyStack ++ K)) (keepWord (namedWord text w)) (y .course)) (g .full)
 
-    pub head-read : e .verdict ≡ Done → {r : Answer} → Expected text 19 Opens (e .next) (e .state) r → Heads text w s r
+    pub head-read : e .verdict ≡ Done → {r : Answer} → Expected text openBracket Opens (e .next) (e .state) r → Heads text w s r
     head-read equal {r} o z f = told (D.expected o read (p .seen) (omega arith) (λ K. bodyStack ++ K) (keepWord (namedWord text w)) to-bracket) (o .full)
       where
         y : NameRead text w s a
@@ -108,7 +108,7 @@ module _ {text : List ℕ} {n : M.Counts} {w : Word} {s : State} {acts : ℕ} {w
   pub body-not : (r .answer .verdict ≡ Done → ⊥) → Body text n w s acts work work₁ r
   body-not m sc st = let t = x sc st in record { done = λ d. absurd (m d); refused = λ f d K b. t .refused f d (word closeBracket closes ∷ K) b; full = t .full }
 
-  pub body-read : r .answer .verdict ≡ Done → {e : Answer} → Expected text 20 Closes (r .answer .next) (r .answer .state) e → Body text n w s acts work work₁ (record { answer = e; actions = r .actions })
+  pub body-read : r .answer .verdict ≡ Done → {e : Answer} → Expected text closeBracket Closes (r .answer .next) (r .answer .state) e → Body text n w s acts work work₁ (record { answer = e; actions = r .actions })
   body-read done {e} g sc st = told (D.expected g read (y .standing .seen) (omega arith) (λ K. K) (grown (y .tree)) (λ K b. y .course (word closeBracket closes ∷ K) b)) (g .full)
     where
       y : ActionsRead text sc n (listStack false) [] (same text) w s acts work work₁ r
@@ -141,19 +141,19 @@ module _ {text : List ℕ} {w : Word} {s : State} {r : Answer} where
       read : r .verdict ≡ Done → ControlRead text P w s r
       read d = let p = t .done d in record { course = λ K b. g K b ∙ took-done p z (controlStack ++ K) b; state = state-of (p .counts) (p .kept); seen = p .seen }
 
-  pub controls : kindNo (w .kind) ≡ 52 → Took text w (countsOf s) s r → Controls text w s r
+  pub controls : kindNo (w .kind) ≡ controlWord → Took text w (countsOf s) s r → Controls text w s r
   controls e t z = by-control (ask control ∷ []) z (λ K b. control-taken text w K b s e) t
 
-  pub no-control : (kindNo (w .kind) ≡ 52 → ⊥) → Refuses w 3 r → Controls text w s r
+  pub no-control : (kindNo (w .kind) ≡ controlWord → ⊥) → Refuses w 3 r → Controls text w s r
   no-control n x z = refuses 3 x (λ K b. control-stuck text w K b s z n)
 
-  pub ends-at-once : kindNo (w .kind) ≡ 52 → Took text w (countsOf s) s r → Ends text w s r
+  pub ends-at-once : kindNo (w .kind) ≡ controlWord → Took text w (countsOf s) s r → Ends text w s r
   ends-at-once e t z n = by-control (ask operationsMore ∷ []) z (λ K b. more-control text w K b s e) t
 
   pub ends-shut : {k : ℕ} → Ending k → kindNo (w .kind) ≡ k → Shuts text w s r → Ends text w s r
   ends-shut {k} q e x z n = x z k q e
 
-  pub no-end : (kindNo (w .kind) ≡ 52 → ⊥) → (kindNo (w .kind) ≡ 11 → ⊥) → (kindNo (w .kind) ≡ 37 → ⊥) → Refuses w 3 r → Ends text w s r
+  pub no-end : (kindNo (w .kind) ≡ controlWord → ⊥) → (kindNo (w .kind) ≡ period → ⊥) → (kindNo (w .kind) ≡ endWord → ⊥) → Refuses w 3 r → Ends text w s r
   no-end c m o x z n = refuses 3 x (λ K b. more-stuck text w K b s z n c m o)
 
 module _ {text : List ℕ} {w : Word} {s : State} {a : Answer} (t : Took text w (countsOf s) s a) where

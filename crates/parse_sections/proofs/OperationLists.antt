@@ -18,6 +18,7 @@ use Rattle.language.specs.Building.{Built, withText}
 use Rattle.language.specs.Decode.{upTo}
 use Rattle.language.specs.DescribeText.{operationActions, operationExpressions, operationNodes, operationRecords, operationsOf}
 use Rattle.language.specs.Encode.{concat}
+use Rattle.language.specs.Kinds.{comma}
 use Rattle.language.specs.Machine.{ask, operationSpec, operationsMore, withinCeilings}
 use Rattle.language.specs.Tree.{Name, Operation}
 use Rattle.parse_expressions.proofs.PartLaws.{with-nothing}
@@ -88,7 +89,7 @@ module _ {text : List ℕ} {names : List Name} {first : ℕ} {h : Held} {os : Li
     abbrev with-read : Built → Built
     with-read b = withText b (withOperations (b .text) (x .trees))
 
-    pub list-ended : (kindNo (next .kind) ≡ 9 → ⊥) → {a : Answer} → Ends text next state a
+    pub list-ended : (kindNo (next .kind) ≡ comma → ⊥) → {a : Answer} → Ends text next state a
         → Told text (ask operationsMore ∷ []) w s a (SomeRead text names first h os (ask operationsMore ∷ []) controlStack w s work (a .next) (a .state) acts work₁)
     list-ended n {a} f = through (f (x .standing .seen) n) (λ K. K) with-read (x .course) read
       where
@@ -101,7 +102,7 @@ module _ {text : List ℕ} {names : List Name} {first : ℕ} {h : Held} {os : Li
           standing = standing-on (a .next) (a .state) (x .standing) (y .state) (y .seen);
         }
 
-    module _ (k : kindNo (next .kind) ≡ 9) {a : Answer} (t : Took text next (countsOf state) state a) where
+    module _ (k : kindNo (next .kind) ≡ comma) {a : Answer} (t : Took text next (countsOf state) state a) where
       to-comma : (K : Stack) (b : Built) → runs text (ask operationsMore ∷ K) w b s ≡ onTaken text next (ask operationSpec ∷ ask operationsMore ∷ K) (with-read b) (countsOf state)
       to-comma K b = x .course K b ∙ comma-taken text next K (with-read b) state k
 

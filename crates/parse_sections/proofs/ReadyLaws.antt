@@ -16,6 +16,7 @@ use Rattle.parse_facilities.specs.Lists.{terminals}
 use Rattle.parse_bounds.proofs.Telling as D
 use Rattle.language.specs.Building.{Built, withText}
 use Rattle.language.specs.DescribeText.{facilitiesOf, facilityNodes, facilitySize}
+use Rattle.language.specs.Kinds.{controlWord, operationWord}
 use Rattle.language.specs.Layout.{storeSizeOf}
 use Rattle.language.specs.Machine.{afterTerminals, ask, operationSpec, operationsMore}
 use Rattle.language.specs.Tree.{Declaration, Name}
@@ -131,7 +132,7 @@ module _ {text : List ℕ} {w : Word} {s : State} {place : ℕ} {work : List ℕ
 -- ---- CONTROL at once, or neither.
 
 module _ {text : List ℕ} {w : Word} {s : State} {place : ℕ} {work : List ℕ} {a : Answer} where
-  pub control-read : length work ≡ 275296 → kindNo (w .kind) ≡ 52 → Took text w (countsOf s) s a → Goes terminals afterTerminals text w s place work work (record { answer = a; actions = 0 })
+  pub control-read : length work ≡ 275296 → kindNo (w .kind) ≡ controlWord → Took text w (countsOf s) s a → Goes terminals afterTerminals text w s place work work (record { answer = a; actions = 0 })
   control-read l k t ds x = told (D.word-taken t read (λ K. controlStack ++ K) (λ b. b) (λ K b. control-taken text w K b s k)) (t .full)
     where
       read : a .verdict ≡ Done → AllRead text ds terminals (ask afterTerminals ∷ []) w s work (record { answer = a; actions = 0 })
@@ -146,5 +147,5 @@ module _ {text : List ℕ} {w : Word} {s : State} {place : ℕ} {work : List ℕ
         ready = subst (λ (v : List Declaration). Ready text v [] (a .next) (a .state) 0 work) (sym (append-nil ds)) (ready-at (between-passed x (t .done d)) l);
       }
 
-  pub no-section : (kindNo (w .kind) ≡ 51 → ⊥) → (kindNo (w .kind) ≡ 52 → ⊥) → Refuses w 3 a → {n : ℕ} → Goes terminals afterTerminals text w s place work work (record { answer = a; actions = n })
+  pub no-section : (kindNo (w .kind) ≡ operationWord → ⊥) → (kindNo (w .kind) ≡ controlWord → ⊥) → Refuses w 3 a → {n : ℕ} → Goes terminals afterTerminals text w s place work work (record { answer = a; actions = n })
   no-section o c f ds x = refuses 3 f (λ K b. nothing-behind text w K b s (x .standing .seen) o c)

@@ -10,6 +10,7 @@ use Rattle.parse_facilities.specs.declared.Progress.{Progress}
 use Rattle.parse_facilities.specs.Lists.{Listing, memories, putAll, registers, terminals}
 use Rattle.language.specs.Building.{Built, withText}
 use Rattle.language.specs.Declaring.{withMemory, withRegister, withTerminal}
+use Rattle.language.specs.Kinds.{memoryWord, terminalWord}
 use Rattle.language.specs.Machine.{Ask, afterMemories, afterRegisters, ask, sections}
 use Rattle.language.specs.Tree.{Declaration, Operation, Text}
 use Rattle.parse_sections.specs.Heads.{controlStack}
@@ -129,11 +130,11 @@ module _ {text : List ℕ} {w : Word} {s : State} {place : ℕ} {work work′ : 
   pub with-terminals : From terminals text w s place work work′ r → Goes memories afterMemories text w s place work work′ r
   with-terminals f ds x = sooner-read (λ K b. refl) sooner (f afterMemories behindMemories ds x)
 
-  pub without-terminals : (kindNo (w .kind) ≡ 50 → ⊥) → Goes terminals (afterIn terminals) text w s place work work′ r → Goes memories afterMemories text w s place work work′ r
+  pub without-terminals : (kindNo (w .kind) ≡ terminalWord → ⊥) → Goes terminals (afterIn terminals) text w s place work work′ r → Goes memories afterMemories text w s place work work′ r
   without-terminals n g ds x = sooner-read (λ K b. no-terminals text w K b s (x .standing .seen) n) sooner (g ds x)
 
   pub with-memories : From memories text w s place work work′ r → Goes registers afterRegisters text w s place work work′ r
   with-memories f ds x = sooner-read (λ K b. refl) (λ rs ms ts h. fromRegisters rs ms ts) (f afterRegisters behindRegisters ds x)
 
-  pub without-memories : (kindNo (w .kind) ≡ 49 → ⊥) → Goes memories afterMemories text w s place work work′ r → Goes registers afterRegisters text w s place work work′ r
+  pub without-memories : (kindNo (w .kind) ≡ memoryWord → ⊥) → Goes memories afterMemories text w s place work work′ r → Goes registers afterRegisters text w s place work work′ r
   without-memories n g ds x = sooner-read (λ K b. no-memories text w K b s (x .standing .seen) n) (λ rs ms ts h. fromRegisters rs ms ts) (g ds x)

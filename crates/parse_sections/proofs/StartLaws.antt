@@ -16,6 +16,7 @@ use Rattle.language.specs.Building.{nothingBuilt}
 use Rattle.language.specs.Decode.{upTo}
 use Rattle.language.specs.DescribeText.{facilitiesOf, facilityNodes, facilitySize}
 use Rattle.language.specs.Encode.{concat, facilityRecords}
+use Rattle.language.specs.Kinds.{memoryWord, registerWord, terminalWord}
 use Rattle.language.specs.Layout.{storeSizeOf}
 use Rattle.language.specs.Machine.{ask, deepest, mostCounted, mostFacilities, mostOperations, mostStates, noCounts, sections, withinCeilings}
 use Rattle.language.specs.Sections.{parse, parseWith}
@@ -81,7 +82,7 @@ module _ {text : List ℕ} {w : Word} {s : State} (n : Next text 0 w) (e : s ≡
         ready = y .ready;
       }
 
-  pub not-opened : (kindNo (w .kind) ≡ 48 → ⊥) → (kindNo (w .kind) ≡ 49 → ⊥) → (kindNo (w .kind) ≡ 50 → ⊥) → {a : Answer} {m : ℕ} → Refuses w 3 a → {work : List ℕ} → Preamble text work (record { answer = a; actions = m })
+  pub not-opened : (kindNo (w .kind) ≡ registerWord → ⊥) → (kindNo (w .kind) ≡ memoryWord → ⊥) → (kindNo (w .kind) ≡ terminalWord → ⊥) → {a : Answer} {m : ℕ} → Refuses w 3 a → {work : List ℕ} → Preamble text work (record { answer = a; actions = m })
   not-opened i j k {a} {m} x {work} = record { done = t .done; refused = λ f d. to-start ∙ t .refused f d [] nothingBuilt; full = t .full }
     where
       t : Told text (ask sections ∷ []) w s a (Opened text work (record { answer = a; actions = m }))

@@ -37,13 +37,13 @@ pub fn preamble(text: &[u8], work: &mut [u8; 275296]) -> Acted
     let s = start();
     let kind = w.kind;
     let k = kinds::number(kind);
-    if k == kinds::REGISTER {
+    if k == text_kinds::REGISTER {
         return sections::registers(text, w, work, s, 0);
     }
-    if k == kinds::MEMORY {
+    if k == text_kinds::MEMORY {
         return sections::memories(text, w, work, s, 0);
     }
-    if k == kinds::TERMINAL {
+    if k == text_kinds::TERMINAL {
         return sections::terminals(text, w, work, s, 0);
     }
     let answer = taking::refuse(w, s, 3);

@@ -35,11 +35,11 @@ fn behind_terminals(text: &[u8], w: Word, work: &mut [u8; 275296], s: State, pla
 {
     let kind = w.kind;
     let k = kinds::number(kind);
-    if k == kinds::OPERATION {
+    if k == text_kinds::OPERATION {
         return operations(text, w, work, s, place);
     }
     parse_array::whole(work);
-    if k == kinds::CONTROL {
+    if k == text_kinds::CONTROL {
         let answer = taking::take(text, w, s, false, Bearing::Level);
         return Acted { answer, actions: 0 };
     }
@@ -66,7 +66,7 @@ fn behind_memories(text: &[u8], w: Word, work: &mut [u8; 275296], s: State, plac
     ensures { λ r. ⌜ Goes memories afterMemories (now (text .entry)) w s place (now (work .entry)) (now (work .exit)) r ⌝ }
 {
     let kind = w.kind;
-    if kinds::number(kind) == kinds::TERMINAL {
+    if kinds::number(kind) == text_kinds::TERMINAL {
         return terminals(text, w, work, s, place);
     }
     behind_terminals(text, w, work, s, place)
@@ -91,7 +91,7 @@ fn behind_registers(text: &[u8], w: Word, work: &mut [u8; 275296], s: State, pla
     ensures { λ r. ⌜ Goes registers afterRegisters (now (text .entry)) w s place (now (work .entry)) (now (work .exit)) r ⌝ }
 {
     let kind = w.kind;
-    if kinds::number(kind) == kinds::MEMORY {
+    if kinds::number(kind) == text_kinds::MEMORY {
         return memories(text, w, work, s, place);
     }
     behind_memories(text, w, work, s, place)

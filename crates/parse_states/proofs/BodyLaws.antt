@@ -17,6 +17,7 @@ use Rattle.about_grammar.specs.Conditionals.{joined-assoc, joined-done}
 use Rattle.language.specs.Building.{Built, joined, listNo}
 use Rattle.language.specs.Describe.{actionsIn, actionsOf, expressionsIn, nodesIn}
 use Rattle.language.specs.Encode.{concat}
+use Rattle.language.specs.Kinds.{comma, slash}
 use Rattle.language.specs.Machine.{ask, level, stateAction, stateBody, stateName, stateRest, word}
 use Rattle.language.specs.Naming.{Scope}
 use Rattle.language.specs.Tree as T
@@ -81,7 +82,7 @@ module _ {text : List ℕ} {sc : Scope} {n : Counts} {w : Word} {s : State} {act
   }
 
   module _ {next : Word} {state : State} {after : ℕ} {work₁ : List ℕ} (h : Here text sc n w s acts work next state after work₁) where
-    pub rest-ended : (kindNo (next .kind) ≡ 9 → ⊥) → {a : Answer} → Expected text 12 Level next state a → (t : Actions)
+    pub rest-ended : (kindNo (next .kind) ≡ comma → ⊥) → {a : Answer} → Expected text slash Level next state a → (t : Actions)
         → Tells text (ask stateRest ∷ []) (withList t) w s a (RestRead text sc n complete w s acts work (a .next) (a .state) after work₁)
     rest-ended m {a} x t = record {
       done = λ d. read (x .done d (h .standing .seen) (omega arith));
@@ -89,10 +90,10 @@ module _ {text : List ℕ} {sc : Scope} {n : Counts} {w : Word} {s : State} {act
       full = x .full;
     }
       where
-        to-slash : (K : Stack) (b : Built) (t : Actions) → runs text (ask stateRest ∷ K) w (withList t b) s ≡ runs text (word 12 level ∷ (complete ++ K)) next (withList (joined t (h .tree)) b) state
+        to-slash : (K : Stack) (b : Built) (t : Actions) → runs text (ask stateRest ∷ K) w (withList t b) s ≡ runs text (word slash level ∷ (complete ++ K)) next (withList (joined t (h .tree)) b) state
         to-slash K b t = h .course K b t ∙ rest-last text next (h .standing .seen) state K (withList (joined t (h .tree)) b) m
 
-        read : Passed text next (afterWord false Level state) state a × ((K : Stack) (b : Built) → runs text (word 12 level ∷ K) next b state ≡ runs text K (a .next) b (a .state))
+        read : Passed text next (afterWord false Level state) state a × ((K : Stack) (b : Built) → runs text (word slash level ∷ K) next b state ≡ runs text K (a .next) b (a .state))
             → RestRead text sc n complete w s acts work (a .next) (a .state) after work₁
         read y = record {
           tree = h .tree;
@@ -102,7 +103,7 @@ module _ {text : List ℕ} {sc : Scope} {n : Counts} {w : Word} {s : State} {act
           standing = standing-passed false Level (h .standing) (y .0);
         }
 
-    module _ (k : kindNo (next .kind) ≡ 9) {a : Answer} (x : Took text next (afterWord false Level state) state a) where
+    module _ (k : kindNo (next .kind) ≡ comma) {a : Answer} (x : Took text next (afterWord false Level state) state a) where
       pub comma-not : (a .verdict ≡ Done → ⊥) → (t : Actions) {Read : Type 0} → Tells text (ask stateRest ∷ []) (withList t) w s a Read
       comma-not m t = record {
         done = λ d. absurd (m d);
@@ -205,7 +206,7 @@ module _ {named : Bool} (name : Word) {text : List ℕ} {n : Counts} {w : Word} 
   pub body-named : named ≡ true → {work′ : List ℕ} {r : Acted} → Lists true name text n w s acts work work′ r → Bodies named name text n w s acts work work′ r
   body-named e {work′} {r} f = subst (λ (q : Bool). Bodies q name text n w s acts work work′ r) (sym e) f
 
-  pub body-listed : named ≡ false → (kindNo (w .kind) ≡ 12 → ⊥) → {work′ : List ℕ} {r : Acted} → Lists false name text n w s acts work work′ r → Bodies named name text n w s acts work work′ r
+  pub body-listed : named ≡ false → (kindNo (w .kind) ≡ slash → ⊥) → {work′ : List ℕ} {r : Acted} → Lists false name text n w s acts work work′ r → Bodies named name text n w s acts work work′ r
   body-listed e m {work′} {r} f = subst (λ (q : Bool). Bodies q name text n w s acts work work′ r) (sym e) λ sc st.
       let x = f sc st in
       record {
@@ -215,7 +216,7 @@ module _ {named : Bool} (name : Word) {text : List ℕ} {n : Counts} {w : Word} 
         full = x .full;
       }
 
-  pub body-empty : named ≡ false → kindNo (w .kind) ≡ 12 → {a : Answer} → Took text w (afterWord false Level s) s a → Bodies named name text n w s acts work work (record { answer = a; actions = acts })
+  pub body-empty : named ≡ false → kindNo (w .kind) ≡ slash → {a : Answer} → Took text w (afterWord false Level s) s a → Bodies named name text n w s acts work work (record { answer = a; actions = acts })
   body-empty e k {a} x = subst (λ (q : Bool). Bodies q name text n w s acts work work (record { answer = a; actions = acts })) (sym e) λ sc st. record {
     done = λ d. read sc st (x .done d);
     refused = λ i d K b. body-ends text w (st .seen) s K b k ∙ took-refused x i d (complete ++ K) (withList T.done b);

@@ -15,6 +15,7 @@ use Rattle.parse_step.specs.Taken.{Expected, Passed, Took, afterWord, constantW
 use Rattle.parse_bounds.proofs.States.{counted, state-of}
 use Rattle.language.specs.Building.{Built, keepWord}
 use Rattle.language.specs.Declaring.{treeSteps}
+use Rattle.language.specs.Kinds.{aConstant, closeParen, colon, openParen}
 use Rattle.language.specs.Machine.{ask, closes, firstName, keep, level, make, refused, stateBody, stateRest, word}
 use Rattle.text_words.specs.declared.Word.{Word}
 use Rattle.parse_states.proofs.StateWords.{value-comes}
@@ -27,7 +28,7 @@ abbrev after : Stack → Stack
 after K = make (treeSteps .beginValued) ∷ ask stateBody ∷ K
 
 abbrev behind : Stack → Stack
-behind K = word 6 closes ∷ word 13 level ∷ after K
+behind K = word closeParen closes ∷ word colon level ∷ after K
 
 closed-again : (s : State) → counted (afterWord false Closes (counted (afterWord false Opens s) s)) (counted (afterWord false Opens s) s) ≡ s
 closed-again s = let h : suc (s .nesting) - 1 ≡ s .nesting = omega arith in rw h
@@ -36,7 +37,7 @@ module _ {text : List ℕ} {w : Word} {s : State} {a : Answer} (t : Took text w 
   pub open-not : {v : Word} → (a .verdict ≡ Done → ⊥) → Brackets text w s (record { answer = a; constant = v })
   open-not m k z = record {
     done = λ d. absurd (m d);
-    refused = λ f d K b. value-comes text w z s K b k ∙ took-refused t f d (keep 2 ∷ behind K) b;
+    refused = λ f d K b. value-comes text w z s K b k ∙ took-refused t f d (keep aConstant ∷ behind K) b;
     full = λ d. absurd (t .full d);
   }
 
@@ -44,8 +45,8 @@ module _ {text : List ℕ} {w : Word} {s : State} {a : Answer} (t : Took text w 
     p : Passed text w (afterWord false Opens s) s a
     p = t .done opened
 
-    to-constant : kindNo (w .kind) ≡ 5 → Seen text w → (K : Stack) (b : Built) → runs text (ask firstName ∷ ask stateRest ∷ K) w b s ≡ runs text (keep 2 ∷ behind K) (a .next) b (a .state)
-    to-constant k z K b = value-comes text w z s K b k ∙ took-done p z (keep 2 ∷ behind K) b
+    to-constant : kindNo (w .kind) ≡ openParen → Seen text w → (K : Stack) (b : Built) → runs text (ask firstName ∷ ask stateRest ∷ K) w b s ≡ runs text (keep aConstant ∷ behind K) (a .next) b (a .state)
+    to-constant k z K b = value-comes text w z s K b k ∙ took-done p z (keep aConstant ∷ behind K) b
 
     pub constant-not : {v : Word} → (c .verdict ≡ Done → ⊥) → Brackets text w s (record { answer = c; constant = v })
     constant-not m k z = record {
@@ -54,26 +55,26 @@ module _ {text : List ℕ} {w : Word} {s : State} {a : Answer} (t : Took text w 
       full = x .full;
     }
 
-    module _ (kept : c .verdict ≡ Done) {e : Answer} (y : Expected text 6 Closes (c .next) (c .state) e) where
+    module _ (kept : c .verdict ≡ Done) {e : Answer} (y : Expected text closeParen Closes (c .next) (c .state) e) where
       v : KeptOn text (a .next) (a .state) c
       v = x .done kept (p .seen)
 
-      to-close : kindNo (w .kind) ≡ 5 → Seen text w → (K : Stack) (b : Built) → runs text (ask firstName ∷ ask stateRest ∷ K) w b s ≡ runs text (behind K) (c .next) (keepWord (constantWord (a .next)) b) (c .state)
+      to-close : kindNo (w .kind) ≡ openParen → Seen text w → (K : Stack) (b : Built) → runs text (ask firstName ∷ ask stateRest ∷ K) w b s ≡ runs text (behind K) (c .next) (keepWord (constantWord (a .next)) b) (c .state)
       to-close k z K b = to-constant k z K b ∙ v .course (behind K) b
 
       pub close-not : (e .verdict ≡ Done → ⊥) → Brackets text w s (record { answer = e; constant = a .next })
       close-not m k z = record {
         done = λ d. absurd (m d);
-        refused = λ f d K b. to-close k z K b ∙ y .refused f d (v .seen) (omega arith) (word 13 level ∷ after K) (keepWord (constantWord (a .next)) b);
+        refused = λ f d K b. to-close k z K b ∙ y .refused f d (v .seen) (omega arith) (word colon level ∷ after K) (keepWord (constantWord (a .next)) b);
         full = y .full;
       }
 
-      module _ (closed : e .verdict ≡ Done) {g : Answer} (u : Expected text 13 Level (e .next) (e .state) g) where
+      module _ (closed : e .verdict ≡ Done) {g : Answer} (u : Expected text colon Level (e .next) (e .state) g) where
         q : Passed text (c .next) (afterWord false Closes (c .state)) (c .state) e
         q = y .done closed (v .seen) (omega arith) .0
 
-        to-colon : kindNo (w .kind) ≡ 5 → Seen text w → (K : Stack) (b : Built) → runs text (ask firstName ∷ ask stateRest ∷ K) w b s ≡ runs text (word 13 level ∷ after K) (e .next) (keepWord (constantWord (a .next)) b) (e .state)
-        to-colon k z K b = to-close k z K b ∙ y .done closed (v .seen) (omega arith) .1 (word 13 level ∷ after K) (keepWord (constantWord (a .next)) b)
+        to-colon : kindNo (w .kind) ≡ openParen → Seen text w → (K : Stack) (b : Built) → runs text (ask firstName ∷ ask stateRest ∷ K) w b s ≡ runs text (word colon level ∷ after K) (e .next) (keepWord (constantWord (a .next)) b) (e .state)
+        to-colon k z K b = to-close k z K b ∙ y .done closed (v .seen) (omega arith) .1 (word colon level ∷ after K) (keepWord (constantWord (a .next)) b)
 
         back : e .state ≡ s
         back =

@@ -15,6 +15,7 @@ use Rattle.parse_step.specs.Course.{Seen, Stack, behind, counts5, kindNo, runs,
 use Rattle.parse_step.specs.Taken.{Refuses}
 use Rattle.about_grammar.specs.Following.{among, among-first, among-rest}
 use Rattle.language.specs.Building.{Built}
+use Rattle.language.specs.Kinds.{aName, callSign, caseWord, gotoSign, ifWord, returnWord, slash}
 use Rattle.language.specs.Machine.{Counts, ask, choose, feed, finish, refused, run, stateStart, tallied, withinCeilings}
 use Rattle.language.specs.Sections.{ruleOf}
 use Rattle.language.specs.Words.{fault}
@@ -57,47 +58,47 @@ module _ (text : List ℕ) (w : Word) (z : Seen text w) (s : State) (K : Stack) 
         let at = positioned (w .at) in
         let m = suc (s .counted) in
         let j = s .nesting in
-        among-first-or k 1 (12 ∷ 27 ∷ 28 ∷ 47 ∷ 33 ∷ 30 ∷ []) e (λ q. name-starts text w z s K b q ∙ stops _ _ (after (s .counted) j) more) λ e₁.
-        among-first-or k 12 (27 ∷ 28 ∷ 47 ∷ 33 ∷ 30 ∷ []) e₁ (λ q. rw (sign-ahead text w 12 q (omega arith)) (taken-on text at _ (behind text w) _ _ ∙ stops _ _ (after (s .counted) j) more)) λ e₂.
-        among-first-or k 27 (28 ∷ 47 ∷ 33 ∷ 30 ∷ []) e₂ (λ q. rw (sign-ahead text w 27 q (omega arith)) (taken-on text at _ (behind text w) _ _ ∙ stops _ _ (after m j) more)) λ e₃.
-        among-first-or k 28 (47 ∷ 33 ∷ 30 ∷ []) e₃ (λ q. rw (sign-ahead text w 28 q (omega arith)) (taken-on text at _ (behind text w) _ _ ∙ stops _ _ (after m j) more)) λ e₄.
-        among-first-or k 47 (33 ∷ 30 ∷ []) e₄ (λ q. rw (sign-ahead text w 47 q (omega arith)) (taken-on text at _ (behind text w) _ _ ∙ stops _ _ (after m j) more)) λ e₅.
-        among-first-or k 33 (30 ∷ []) e₅ (λ q. rw (sign-ahead text w 33 q (omega arith)) (taken-on text at _ (behind text w) _ _ ∙ stops _ _ (after m (suc j)) more)) λ e₆.
-        among-first-or k 30 [] e₆ (λ q. rw (sign-ahead text w 30 q (omega arith)) (taken-on text at _ (behind text w) _ _ ∙ stops _ _ (after m (suc j)) more)) (among-none k)
+        among-first-or k aName (slash ∷ gotoSign ∷ callSign ∷ returnWord ∷ ifWord ∷ caseWord ∷ []) e (λ q. name-starts text w z s K b q ∙ stops _ _ (after (s .counted) j) more) λ e₁.
+        among-first-or k slash (gotoSign ∷ callSign ∷ returnWord ∷ ifWord ∷ caseWord ∷ []) e₁ (λ q. rw (sign-ahead text w slash q (omega arith)) (taken-on text at _ (behind text w) _ _ ∙ stops _ _ (after (s .counted) j) more)) λ e₂.
+        among-first-or k gotoSign (callSign ∷ returnWord ∷ ifWord ∷ caseWord ∷ []) e₂ (λ q. rw (sign-ahead text w gotoSign q (omega arith)) (taken-on text at _ (behind text w) _ _ ∙ stops _ _ (after m j) more)) λ e₃.
+        among-first-or k callSign (returnWord ∷ ifWord ∷ caseWord ∷ []) e₃ (λ q. rw (sign-ahead text w callSign q (omega arith)) (taken-on text at _ (behind text w) _ _ ∙ stops _ _ (after m j) more)) λ e₄.
+        among-first-or k returnWord (ifWord ∷ caseWord ∷ []) e₄ (λ q. rw (sign-ahead text w returnWord q (omega arith)) (taken-on text at _ (behind text w) _ _ ∙ stops _ _ (after m j) more)) λ e₅.
+        among-first-or k ifWord (caseWord ∷ []) e₅ (λ q. rw (sign-ahead text w ifWord q (omega arith)) (taken-on text at _ (behind text w) _ _ ∙ stops _ _ (after m (suc j)) more)) λ e₆.
+        among-first-or k caseWord [] e₆ (λ q. rw (sign-ahead text w caseWord q (omega arith)) (taken-on text at _ (behind text w) _ _ ∙ stops _ _ (after m (suc j)) more)) (among-none k)
 
   -- Another word begins none.
   pub begins-none : among k stateKinds ≡ false → Stops 3
   unfolding runsOn run feed finish choose ruleOf
   begins-none e = go (view text w z)
     where
-      e₁ : among k (12 ∷ 27 ∷ 28 ∷ 47 ∷ 33 ∷ 30 ∷ []) ≡ false
-      e₁ = among-rest k 1 (12 ∷ 27 ∷ 28 ∷ 47 ∷ 33 ∷ 30 ∷ []) e
+      e₁ : among k (slash ∷ gotoSign ∷ callSign ∷ returnWord ∷ ifWord ∷ caseWord ∷ []) ≡ false
+      e₁ = among-rest k aName (slash ∷ gotoSign ∷ callSign ∷ returnWord ∷ ifWord ∷ caseWord ∷ []) e
 
-      e₂ : among k (27 ∷ 28 ∷ 47 ∷ 33 ∷ 30 ∷ []) ≡ false
-      e₂ = among-rest k 12 (27 ∷ 28 ∷ 47 ∷ 33 ∷ 30 ∷ []) e₁
+      e₂ : among k (gotoSign ∷ callSign ∷ returnWord ∷ ifWord ∷ caseWord ∷ []) ≡ false
+      e₂ = among-rest k slash (gotoSign ∷ callSign ∷ returnWord ∷ ifWord ∷ caseWord ∷ []) e₁
 
-      e₃ : among k (28 ∷ 47 ∷ 33 ∷ 30 ∷ []) ≡ false
-      e₃ = among-rest k 27 (28 ∷ 47 ∷ 33 ∷ 30 ∷ []) e₂
+      e₃ : among k (callSign ∷ returnWord ∷ ifWord ∷ caseWord ∷ []) ≡ false
+      e₃ = among-rest k gotoSign (callSign ∷ returnWord ∷ ifWord ∷ caseWord ∷ []) e₂
 
-      e₄ : among k (47 ∷ 33 ∷ 30 ∷ []) ≡ false
-      e₄ = among-rest k 28 (47 ∷ 33 ∷ 30 ∷ []) e₃
+      e₄ : among k (returnWord ∷ ifWord ∷ caseWord ∷ []) ≡ false
+      e₄ = among-rest k callSign (returnWord ∷ ifWord ∷ caseWord ∷ []) e₃
 
-      e₅ : among k (33 ∷ 30 ∷ []) ≡ false
-      e₅ = among-rest k 47 (33 ∷ 30 ∷ []) e₄
+      e₅ : among k (ifWord ∷ caseWord ∷ []) ≡ false
+      e₅ = among-rest k returnWord (ifWord ∷ caseWord ∷ []) e₄
 
-      e₆ : among k (30 ∷ []) ≡ false
-      e₆ = among-rest k 33 (30 ∷ []) e₅
+      e₆ : among k (caseWord ∷ []) ≡ false
+      e₆ = among-rest k ifWord (caseWord ∷ []) e₅
 
       go : View text w → Stops 3
       go (ended x y q) = rw (x, y)
       go (begun v x q y) =
-          rw (x, q, among-first k 1 _ e, among-first k 12 _ e₁, among-first k 27 _ e₂, among-first k 28 _ e₃, among-first k 47 _ e₄, among-first k 33 _ e₅, among-first k 30 _ e₆, y)
+          rw (x, q, among-first k aName _ e, among-first k slash _ e₁, among-first k gotoSign _ e₂, among-first k callSign _ e₃, among-first k returnWord _ e₄, among-first k ifWord _ e₅, among-first k caseWord _ e₆, y)
 
 -- ---- As the code counts it.
 
-pub none-of : (k : ℕ) → (k ≡ 1 → ⊥) → (k ≡ 12 → ⊥) → (k ≡ 27 → ⊥) → (k ≡ 28 → ⊥) → (k ≡ 47 → ⊥) → (k ≡ 33 → ⊥) → (k ≡ 30 → ⊥) → false ≡ among k stateKinds
+pub none-of : (k : ℕ) → (k ≡ aName → ⊥) → (k ≡ slash → ⊥) → (k ≡ gotoSign → ⊥) → (k ≡ callSign → ⊥) → (k ≡ returnWord → ⊥) → (k ≡ ifWord → ⊥) → (k ≡ caseWord → ⊥) → false ≡ among k stateKinds
 unfolding among
-none-of k n₁ n₂ n₃ n₄ n₅ n₆ n₇ = rw (ne-eqb k 1 n₁, ne-eqb k 12 n₂, ne-eqb k 27 n₃, ne-eqb k 28 n₄, ne-eqb k 47 n₅, ne-eqb k 33 n₆, ne-eqb k 30 n₇)
+none-of k n₁ n₂ n₃ n₄ n₅ n₆ n₇ = rw (ne-eqb k aName n₁, ne-eqb k slash n₂, ne-eqb k gotoSign n₃, ne-eqb k callSign n₄, ne-eqb k returnWord n₅, ne-eqb k ifWord n₆, ne-eqb k caseWord n₇)
 
 module _ {w : Word} {s : State} {r : Answer} where
   pub one-over : 256 ≤ s .states → among (kindNo (w .kind)) stateKinds ≡ true → Refuses w 10 r → Counted w s r

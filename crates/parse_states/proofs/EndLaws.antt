@@ -14,6 +14,7 @@ use Rattle.parse_step.specs.declared.Verdict.the-variants.{Done}
 use Rattle.parse_step.specs.Course.{Seen, Stack, countsOf, kindNo, runs}
 use Rattle.parse_step.specs.Taken.{Passed, Refuses, Took, afterWord}
 use Rattle.language.specs.Building.{Built}
+use Rattle.language.specs.Kinds.{dollar}
 use Rattle.language.specs.Machine.{ask, dollarOption, refused}
 use Rattle.parse_expressions.specs.Phrases.{stayed}
 use Rattle.parse_stores.proofs.Standings.{standing-passed}
@@ -63,7 +64,7 @@ module _ {text : List ℕ} {P : Stack} (Q : Stack) {w : Word} {s : State} {acts 
 -- ---- A dollar or nothing.
 
 module _ {text : List ℕ} {w : Word} {s : State} {acts : ℕ} where
-  pub without-dollar : (kindNo (w .kind) ≡ 4 → ⊥) → {r : Acted} → Finish [] text w s acts r → Finish (ask dollarOption ∷ []) text w s acts r
+  pub without-dollar : (kindNo (w .kind) ≡ dollar → ⊥) → {r : Acted} → Finish [] text w s acts r → Finish (ask dollarOption ∷ []) text w s acts r
   without-dollar m f sc n work st =
       let y = f sc n work st in
       record {
@@ -73,7 +74,7 @@ module _ {text : List ℕ} {w : Word} {s : State} {acts : ℕ} where
       }
 
 module _ {text : List ℕ} {w : Word} (s : State) where
-  pub to-dollar : kindNo (w .kind) ≡ 4 → Seen text w → (b : Built) → runs text (ask dollarOption ∷ []) w b s ≡ onTaken text w [] b (countsOf s)
+  pub to-dollar : kindNo (w .kind) ≡ dollar → Seen text w → (b : Built) → runs text (ask dollarOption ∷ []) w b s ≡ onTaken text w [] b (countsOf s)
   to-dollar k z b = dollar-comes text w z s [] b k
 
   pub to-end : Ending w → Seen text w → (b : Built) → runs text moreStack w b s ≡ onTaken text w (ask dollarOption ∷ []) b (countsOf s)

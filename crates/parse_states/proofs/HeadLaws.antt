@@ -27,6 +27,7 @@ use Rattle.language.specs.Building.{Built, keepWord, wordNo}
 use Rattle.language.specs.Declaring.{treeSteps}
 use Rattle.language.specs.Describe.{constantNodes, constantSize}
 use Rattle.language.specs.DescribeText.{stateConstant, valueNodes, valueSize}
+use Rattle.language.specs.Kinds.{aName, colon, openParen}
 use Rattle.language.specs.Machine.{ask, firstName, make, stateBody, stateRest, stateStart, withinCeilings}
 use Rattle.language.specs.Naming.{Scope}
 use Rattle.language.specs.Scan.{written}
@@ -40,7 +41,7 @@ use Rattle.parse_stores.proofs.Keeping.{known-kept, others-other, whole-other}
 use Rattle.parse_stores.proofs.ReachedLaws.{front-held, nodes-none, other-held}
 use Rattle.parse_stores.proofs.Standings.{few-states, first-three, standing-passed}
 use Rattle.parse_stores.specs.Actions.{Standing, frontOf}
-use Rattle.value_operations.specs.Meaning.{valued}
+use Rattle.value_operators.specs.Meaning.{valued}
 use Rattle.text_words.specs.declared.Position.{Position}
 use Rattle.text_words.specs.declared.Word.{Word}
 use Rattle.text_words.specs.Meaning.{positioned}
@@ -96,7 +97,7 @@ front-none s work = sym (nodes-none (frontOf (s .nodes) work))
 -- ---- Behind a name.
 
 module _ {l : ℕ} {text : List ℕ} (name : Word) {w : Word} {s : State} {work : List ℕ} where
-  pub named-first : (kindNo (w .kind) ≡ 13 → ⊥) → (kindNo (w .kind) ≡ 5 → ⊥) → {x : Head} → PlainHead (name .at) 0 x
+  pub named-first : (kindNo (w .kind) ≡ colon → ⊥) → (kindNo (w .kind) ≡ openParen → ⊥) → {x : Head} → PlainHead (name .at) 0 x
       → AfterName l name text w s work work (record { answer = stayed s w; head = x; named = true })
   named-first m k {x} h sc n acts z st room = record {
     done = λ d. record {
@@ -113,7 +114,7 @@ module _ {l : ℕ} {text : List ℕ} (name : Word) {w : Word} {s : State} {work 
     full = λ d. done-full d;
   }
 
-  pub label-read : kindNo (w .kind) ≡ 13 → {a : Answer} → Took text w (afterWord false Level s) s a → {x : Head} → PlainHead (name .at) (name .size) x
+  pub label-read : kindNo (w .kind) ≡ colon → {a : Answer} → Took text w (afterWord false Level s) s a → {x : Head} → PlainHead (name .at) (name .size) x
       → AfterName l name text w s work work (record { answer = a; head = x; named = false })
   unfolding wordNo
   label-read k {a} t {x} h sc n acts z st room = record {
@@ -255,7 +256,7 @@ module _ {l : ℕ} {text : List ℕ} {w : Word} {s : State} {work : List ℕ} {a
   head-not m sc n acts st = record { done = λ d. absurd (m d); refused = λ i d K b. f .refused i d text (st .seen) (st .within) K b; full = f .full }
 
   module _ (done : a .verdict ≡ Done) where
-    pub head-plain : (kindNo (w .kind) ≡ 1 → ⊥) → {x : Head} → PlainHead (w .at) 0 x → Heads l text w s work work (record { answer = a; head = x; named = false })
+    pub head-plain : (kindNo (w .kind) ≡ aName → ⊥) → {x : Head} → PlainHead (w .at) 0 x → Heads l text w s work work (record { answer = a; head = x; named = false })
     head-plain m {x} h = subst (λ (j : Answer). Heads l text w s work work (record { answer = j; head = x; named = false })) (sym (f .done done .0)) λ sc n acts st. record {
       done = λ d. record {
         tree = plainAt (positioned (w .at));
@@ -271,7 +272,7 @@ module _ {l : ℕ} {text : List ℕ} {w : Word} {s : State} {work : List ℕ} {a
       full = λ d. done-full d;
     }
 
-    module _ (k : kindNo (w .kind) ≡ 1) {c : Answer} (t : Took text w (afterWord false Level (a .state)) (a .state) c) where
+    module _ (k : kindNo (w .kind) ≡ aName) {c : Answer} (t : Took text w (afterWord false Level (a .state)) (a .state) c) where
       pub name-not : {x : Head} → (c .verdict ≡ Done → ⊥) → Heads l text w s work work (record { answer = c; head = x; named = false })
       name-not m sc n acts st = record {
         done = λ d. absurd (m d);

@@ -10,6 +10,7 @@ use Rattle.parse_step.specs.Course.{Stack, countsOf, kindNo, runs}
 use Rattle.image_sections.specs.declared.runs.Run.{Run}
 use Rattle.language.specs.Building.{Built, listNo, withText}
 use Rattle.language.specs.Declaring.{treeSteps}
+use Rattle.language.specs.Kinds.{endWord, period}
 use Rattle.language.specs.Machine.{ask, dollarOption, parsed, stateStart, statesMore, withinCeilings}
 use Rattle.language.specs.Naming.{Scope}
 use Rattle.language.specs.Tree as T
@@ -128,7 +129,7 @@ module _ {l : ℕ} {text : List ℕ} {sc : Scope} {n : Counts} {w : Word} {s : S
           };
         }
 
-    module _ (m : kindNo (next .kind) ≡ 11 → ⊥) (k : kindNo (next .kind) ≡ 37 → ⊥) {r : Acted} {work₂ : List ℕ} (f : One l text n next state after work₁ work₂ r) where
+    module _ (m : kindNo (next .kind) ≡ period → ⊥) (k : kindNo (next .kind) ≡ endWord → ⊥) {r : Acted} {work₂ : List ℕ} (f : One l text n next state after work₁ work₂ r) where
       to-start : (K : Stack) (b : Built) → runs text (ask statesMore ∷ K) w b s ≡ runs text (ask stateStart ∷ ask statesMore ∷ K) next (withText b (moreOf (h .trees) (b .text))) state
       to-start K b = h .course K b ∙ another-starts text next (h .standing .seen) state K (withText b (moreOf (h .trees) (b .text))) m k
 

@@ -14,6 +14,7 @@ use Rattle.parse_step.specs.Course.{Seen, Stack, ahead, behind, countsOf, kindN
 use Rattle.parse_step.specs.Taken.{afterWord}
 use Rattle.language.specs.Building.{Built, wordNo}
 use Rattle.language.specs.Declaring.{treeSteps}
+use Rattle.language.specs.Kinds.{aConstant, aName, closeParen, colon, comma, dollar, endWord, openParen, period, slash}
 use Rattle.language.specs.Machine.{ask, choose, closes, dollarOption, feed, finish, firstName, keep, level, make, parsed, refused, run, stateAction, stateBody, stateName, stateRest, stateStart, statesMore, tallied, word}
 use Rattle.language.specs.Sections.{ruleOf}
 use Rattle.language.specs.Tree as T
@@ -31,92 +32,92 @@ module _ (text : List ℕ) (w : Word) (z : Seen text w) (s : State) (M : Stack) 
 
   -- ---- The first word.
 
-  pub name-starts : k ≡ 1 → runs text (ask stateStart ∷ M) w b s ≡ onTaken text w (ask firstName ∷ ask stateRest ∷ M) (afterName w text b) (countsOf (moreStates s))
+  pub name-starts : k ≡ aName → runs text (ask stateStart ∷ M) w b s ≡ onTaken text w (ask firstName ∷ ask stateRest ∷ M) (afterName w text b) (countsOf (moreStates s))
   unfolding runsOn run feed choose ruleOf tallied
   name-starts e = rw (name-ahead text w z e) (taken-on text (positioned (w .at)) _ (behind text w) _ _)
 
   -- Another word begins the state's list, or it is refused there too.
-  pub body-starts : (k ≡ 1 → ⊥) → runs text (ask stateStart ∷ M) w b s ≡ runs text (ask stateBody ∷ M) w (opened (plainAt (positioned (w .at))) b) (moreStates s)
+  pub body-starts : (k ≡ aName → ⊥) → runs text (ask stateStart ∷ M) w b s ≡ runs text (ask stateBody ∷ M) w (opened (plainAt (positioned (w .at))) b) (moreStates s)
   unfolding runsOn run feed finish choose ruleOf tallied
   body-starts n = go (view text w z)
     where
       go : View text w → runs text (ask stateStart ∷ M) w b s ≡ runs text (ask stateBody ∷ M) w (opened (plainAt (positioned (w .at))) b) (moreStates s)
       go (ended x y q) = rw (x, y)
-      go (begun v x q y) = rw (x, q, ne-eqb k 1 n, y)
+      go (begun v x q y) = rw (x, q, ne-eqb k aName n, y)
 
   -- ---- Behind a name.
 
-  pub label-comes : k ≡ 13 → runs text (ask firstName ∷ ask stateRest ∷ M) w b s ≡ onTaken text w (make (treeSteps .beginLabelled) ∷ ask stateBody ∷ M) b (countsOf s)
+  pub label-comes : k ≡ colon → runs text (ask firstName ∷ ask stateRest ∷ M) w b s ≡ onTaken text w (make (treeSteps .beginLabelled) ∷ ask stateBody ∷ M) b (countsOf s)
   unfolding runsOn run feed choose ruleOf tallied
-  label-comes e = rw (sign-ahead text w 13 e (omega arith)) (taken-on text (positioned (w .at)) _ (behind text w) _ _)
+  label-comes e = rw (sign-ahead text w colon e (omega arith)) (taken-on text (positioned (w .at)) _ (behind text w) _ _)
 
-  pub value-comes : k ≡ 5 → runs text (ask firstName ∷ ask stateRest ∷ M) w b s ≡ onTaken text w (keep 2 ∷ word 6 closes ∷ word 13 level ∷ make (treeSteps .beginValued) ∷ ask stateBody ∷ M) b (afterWord false Opens s)
+  pub value-comes : k ≡ openParen → runs text (ask firstName ∷ ask stateRest ∷ M) w b s ≡ onTaken text w (keep aConstant ∷ word closeParen closes ∷ word colon level ∷ make (treeSteps .beginValued) ∷ ask stateBody ∷ M) b (afterWord false Opens s)
   unfolding runsOn run feed choose ruleOf tallied
-  value-comes e = rw (sign-ahead text w 5 e (omega arith)) (taken-on text (positioned (w .at)) _ (behind text w) _ _)
+  value-comes e = rw (sign-ahead text w openParen e (omega arith)) (taken-on text (positioned (w .at)) _ (behind text w) _ _)
 
-  pub action-comes : (k ≡ 13 → ⊥) → (k ≡ 5 → ⊥) → (name : Word) → runs text (ask firstName ∷ M) w (afterName name text b) s
+  pub action-comes : (k ≡ colon → ⊥) → (k ≡ openParen → ⊥) → (name : Word) → runs text (ask firstName ∷ M) w (afterName name text b) s
       ≡ runs text (ask stateName ∷ M) w (afterName name text (withList T.done (opened (plainAt (positioned (name .at))) b))) s
   unfolding wordNo
   action-comes n m name = name-acts text w (afterName name text b) (countsOf s) z n m M
 
   -- ---- The list of a state.
 
-  pub body-ends : k ≡ 12 → runs text (ask stateBody ∷ M) w b s ≡ onTaken text w (make (treeSteps .makeState) ∷ M) (withList T.done b) (countsOf s)
+  pub body-ends : k ≡ slash → runs text (ask stateBody ∷ M) w b s ≡ onTaken text w (make (treeSteps .makeState) ∷ M) (withList T.done b) (countsOf s)
   unfolding runsOn run feed choose ruleOf tallied
-  body-ends e = rw (sign-ahead text w 12 e (omega arith)) (taken-on text (positioned (w .at)) _ (behind text w) _ _)
+  body-ends e = rw (sign-ahead text w slash e (omega arith)) (taken-on text (positioned (w .at)) _ (behind text w) _ _)
 
-  pub body-acts : (k ≡ 12 → ⊥) → runs text (ask stateBody ∷ M) w b s ≡ runs text (ask stateAction ∷ ask stateRest ∷ M) w (withList T.done b) s
+  pub body-acts : (k ≡ slash → ⊥) → runs text (ask stateBody ∷ M) w b s ≡ runs text (ask stateAction ∷ ask stateRest ∷ M) w (withList T.done b) s
   unfolding runsOn run feed finish choose ruleOf tallied
   body-acts n = go (view text w z)
     where
       go : View text w → runs text (ask stateBody ∷ M) w b s ≡ runs text (ask stateAction ∷ ask stateRest ∷ M) w (withList T.done b) s
       go (ended x y q) = rw (x, y)
-      go (begun v x q y) = rw (x, q, ne-eqb k 12 n, y)
+      go (begun v x q y) = rw (x, q, ne-eqb k slash n, y)
 
-  pub rest-comma : k ≡ 9 → runs text (ask stateRest ∷ M) w b s ≡ onTaken text w (ask stateAction ∷ ask stateRest ∷ M) b (countsOf s)
+  pub rest-comma : k ≡ comma → runs text (ask stateRest ∷ M) w b s ≡ onTaken text w (ask stateAction ∷ ask stateRest ∷ M) b (countsOf s)
   unfolding runsOn run feed choose ruleOf tallied
-  rest-comma e = rw (sign-ahead text w 9 e (omega arith)) (taken-on text (positioned (w .at)) _ (behind text w) _ _)
+  rest-comma e = rw (sign-ahead text w comma e (omega arith)) (taken-on text (positioned (w .at)) _ (behind text w) _ _)
 
   -- Where no comma comes, the state ends.
-  pub rest-last : (k ≡ 9 → ⊥) → runs text (ask stateRest ∷ M) w b s ≡ runs text (word 12 level ∷ make (treeSteps .makeState) ∷ M) w b s
+  pub rest-last : (k ≡ comma → ⊥) → runs text (ask stateRest ∷ M) w b s ≡ runs text (word slash level ∷ make (treeSteps .makeState) ∷ M) w b s
   unfolding runsOn run feed finish choose ruleOf tallied
   rest-last n = go (view text w z)
     where
-      go : View text w → runs text (ask stateRest ∷ M) w b s ≡ runs text (word 12 level ∷ make (treeSteps .makeState) ∷ M) w b s
+      go : View text w → runs text (ask stateRest ∷ M) w b s ≡ runs text (word slash level ∷ make (treeSteps .makeState) ∷ M) w b s
       go (ended x y q) = rw x
-      go (begun v x q y) = rw (x, q, ne-eqb k 9 n)
+      go (begun v x q y) = rw (x, q, ne-eqb k comma n)
 
   -- ---- Behind a state.
 
-  pub another-starts : (k ≡ 11 → ⊥) → (k ≡ 37 → ⊥) → runs text (ask statesMore ∷ M) w b s ≡ runs text (ask stateStart ∷ ask statesMore ∷ M) w b s
+  pub another-starts : (k ≡ period → ⊥) → (k ≡ endWord → ⊥) → runs text (ask statesMore ∷ M) w b s ≡ runs text (ask stateStart ∷ ask statesMore ∷ M) w b s
   unfolding runsOn run feed finish choose ruleOf tallied
   another-starts n m = go (view text w z)
     where
       go : View text w → runs text (ask statesMore ∷ M) w b s ≡ runs text (ask stateStart ∷ ask statesMore ∷ M) w b s
       go (ended x y q) = rw (x, y)
-      go (begun v x q y) = rw (x, q, ne-eqb k 11 n, ne-eqb k 37 m, y)
+      go (begun v x q y) = rw (x, q, ne-eqb k period n, ne-eqb k endWord m, y)
 
-  pub period-ends : k ≡ 11 → runs text (ask statesMore ∷ M) w b s ≡ onTaken text w M b (countsOf s)
+  pub period-ends : k ≡ period → runs text (ask statesMore ∷ M) w b s ≡ onTaken text w M b (countsOf s)
   unfolding runsOn run feed choose ruleOf tallied
-  period-ends e = rw (sign-ahead text w 11 e (omega arith)) (taken-on text (positioned (w .at)) M (behind text w) _ _)
+  period-ends e = rw (sign-ahead text w period e (omega arith)) (taken-on text (positioned (w .at)) M (behind text w) _ _)
 
-  pub end-ends : k ≡ 37 → runs text (ask statesMore ∷ M) w b s ≡ onTaken text w M b (countsOf s)
+  pub end-ends : k ≡ endWord → runs text (ask statesMore ∷ M) w b s ≡ onTaken text w M b (countsOf s)
   unfolding runsOn run feed choose ruleOf tallied
-  end-ends e = rw (sign-ahead text w 37 e (omega arith)) (taken-on text (positioned (w .at)) M (behind text w) _ _)
+  end-ends e = rw (sign-ahead text w endWord e (omega arith)) (taken-on text (positioned (w .at)) M (behind text w) _ _)
 
   -- ---- The end of the text.
 
-  pub dollar-comes : k ≡ 4 → runs text (ask dollarOption ∷ M) w b s ≡ onTaken text w M b (countsOf s)
+  pub dollar-comes : k ≡ dollar → runs text (ask dollarOption ∷ M) w b s ≡ onTaken text w M b (countsOf s)
   unfolding runsOn run feed choose ruleOf tallied
-  dollar-comes e = rw (sign-ahead text w 4 e (omega arith)) (taken-on text (positioned (w .at)) M (behind text w) _ _)
+  dollar-comes e = rw (sign-ahead text w dollar e (omega arith)) (taken-on text (positioned (w .at)) M (behind text w) _ _)
 
-  pub no-dollar : (k ≡ 4 → ⊥) → runs text (ask dollarOption ∷ M) w b s ≡ runs text M w b s
+  pub no-dollar : (k ≡ dollar → ⊥) → runs text (ask dollarOption ∷ M) w b s ≡ runs text M w b s
   unfolding runsOn run feed finish choose ruleOf
   no-dollar n = go (view text w z)
     where
       go : View text w → runs text (ask dollarOption ∷ M) w b s ≡ runs text M w b s
       go (ended x y q) = rw x
-      go (begun v x q y) = rw (x, q, ne-eqb k 4 n)
+      go (begun v x q y) = rw (x, q, ne-eqb k dollar n)
 
   pub text-ends : isEnd (w .kind) ≡ true → runs text [] w b s ≡ parsed b
   unfolding runsOn run finish ahead

@@ -11,8 +11,8 @@ use Rattle.language.specs.DescribeText.{stateConstant}
 use Rattle.language.specs.Scan.{written}
 use Rattle.language.specs.Value.{Value, value}
 use Rattle.language.specs.Words.{Constant}
-use Rattle.value_operations.proofs.Fits.{allowed-le}
-use Rattle.value_operations.specs.Meaning.{allowed}
+use Rattle.value_operators.proofs.Fits.{allowed-le}
+use Rattle.value_operators.specs.Meaning.{allowed}
 use Rattle.parse_states.specs.Begins.{lengthOf}
 
 module _ (l : ℕ) (v : Value) where

@@ -13,7 +13,7 @@ use Rattle.language.specs.Machine.{refused}
 use Rattle.language.specs.Tree as T
 use Rattle.language.specs.Tree.{Actions}
 use Rattle.language.specs.Words.{Position}
-use Rattle.value_operations.specs.Meaning.{allowed}
+use Rattle.value_operators.specs.Meaning.{allowed}
 use Rattle.text_words.specs.declared.Fault.{Fault}
 use Rattle.text_words.specs.declared.Word.{Word}
 use Rattle.text_words.specs.Meaning.{faulted}

@@ -15,7 +15,7 @@ use Rattle.language.specs.Building.{Built, keepWord}
 use Rattle.language.specs.Declaring.{treeSteps}
 use Rattle.language.specs.Description.{nowhere}
 use Rattle.language.specs.DescribeText.{labelOf, stateConstant, valueNodes, valueNumber, valuePlace, valueSize}
-use Rattle.language.specs.Kinds.{aConstant, openParen}
+use Rattle.language.specs.Kinds.{aConstant, aName, callSign, caseWord, gotoSign, ifWord, openParen, returnWord, slash}
 use Rattle.language.specs.Machine.{ask, firstName, make, refused, stateBody, stateName, stateRest, stateStart, withinCeilings}
 use Rattle.language.specs.Naming.{Scope}
 use Rattle.language.specs.Scan.{written}
@@ -23,7 +23,7 @@ use Rattle.language.specs.Tree as T
 use Rattle.parse_names.specs.declared.Counts.{Counts}
 use Rattle.parse_expressions.specs.Phrases.{afterName, stayed}
 use Rattle.parse_stores.specs.Actions.{Standing, frontOf}
-use Rattle.value_operations.specs.Meaning.{valued}
+use Rattle.value_operators.specs.Meaning.{valued}
 use Rattle.text_words.specs.declared.Fault.{Fault}
 use Rattle.text_words.specs.declared.Position.{Position}
 use Rattle.text_words.specs.declared.Word.{Word}
@@ -37,7 +37,7 @@ use Rattle.parse_states.specs.declared.heads.Bracketed.{Bracketed}
 
 -- The words that a state may begin with.
 abbrev pub stateKinds : List ℕ
-stateKinds = 1 ∷ 12 ∷ 27 ∷ 28 ∷ 47 ∷ 33 ∷ 30 ∷ []
+stateKinds = aName ∷ slash ∷ gotoSign ∷ callSign ∷ returnWord ∷ ifWord ∷ caseWord ∷ []
 
 -- A state is counted at its first word, which is not yet taken.
 pub record Counted (w : Word) (s : State) (r : Answer) : Type 0 where

@@ -7,6 +7,7 @@ use Rattle.parse_step.specs.declared.State.{State}
 use Rattle.parse_step.specs.declared.Verdict.the-variants as Vd
 use Rattle.parse_step.specs.Course.{Seen, Stack, kindNo, runs}
 use Rattle.language.specs.Building.{Built, withText}
+use Rattle.language.specs.Kinds.{endWord, period}
 use Rattle.language.specs.Machine.{ask, dollarOption, parsed, refused, stateStart, statesMore}
 use Rattle.language.specs.Naming.{Scope}
 use Rattle.language.specs.Tree as T
@@ -63,7 +64,7 @@ Finish P text w s acts r = (sc : Scope) (n : Counts) (work : List ℕ) → Stand
 
 -- A word behind which the text ends.
 abbrev pub Ending : Word → Type 0
-Ending w = (kindNo (w .kind) ≡ 11) ⊎ (kindNo (w .kind) ≡ 37)
+Ending w = (kindNo (w .kind) ≡ period) ⊎ (kindNo (w .kind) ≡ endWord)
 
 abbrev pub moreStack : Stack
 moreStack = ask statesMore ∷ ask dollarOption ∷ []

@@ -37,8 +37,8 @@ fn rest(s: State, text: &[u8], w: Word, work: &mut [u8; 275296], n: Counts, acts
     let mut after = acts;
     loop {
         let kind = next.kind;
-        if kinds::number(kind) != kinds::COMMA {
-            let answer = taking::expect(text, next, state, kinds::SLASH, Bearing::Level);
+        if kinds::number(kind) != text_kinds::COMMA {
+            let answer = taking::expect(text, next, state, text_kinds::SLASH, Bearing::Level);
             return Acted {
                 answer,
                 actions: after,
@@ -107,7 +107,7 @@ pub fn body(
         return list(s, true, name, text, w, work, n, acts);
     }
     let kind = w.kind;
-    if kinds::number(kind) == kinds::SLASH {
+    if kinds::number(kind) == text_kinds::SLASH {
         let answer = taking::take(text, w, s, false, Bearing::Level);
         return Acted {
             answer,

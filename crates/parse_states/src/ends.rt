@@ -41,7 +41,7 @@ fn dollar(text: &[u8], w: Word, s: State, acts: u16) -> Acted
     ensures { λ r. ⌜ Finish (L.ask L.dollarOption ∷ []) (now (text .entry)) w s acts r ⌝ }
 {
     let kind = w.kind;
-    if kinds::number(kind) != kinds::DOLLAR {
+    if kinds::number(kind) != text_kinds::DOLLAR {
         return nothing(w, s, acts);
     }
     let answer = taking::take(text, w, s, false, Bearing::Level);

@@ -28,13 +28,13 @@ fn begins(kind: u8) -> bool
     ensures { λ r. ⌜ r ≡ among kind stateKinds ⌝ }
 {
     match kind {
-        kinds::NAME => true,
-        kinds::SLASH => true,
-        kinds::GOTO => true,
-        kinds::CALL => true,
-        kinds::RETURN => true,
-        kinds::IF => true,
-        kinds::CASE => true,
+        text_kinds::NAME => true,
+        text_kinds::SLASH => true,
+        text_kinds::GOTO => true,
+        text_kinds::CALL => true,
+        text_kinds::RETURN => true,
+        text_kinds::IF => true,
+        text_kinds::CASE => true,
         _ => false,
     }
 }
@@ -102,7 +102,7 @@ fn in_brackets(text: &[u8], w: Word, s: State) -> Bracketed
         text,
         kept.next,
         kept.state,
-        kinds::CLOSE_PAREN,
+        text_kinds::CLOSE_PAREN,
         Bearing::Closes,
     );
     if parse_step::unread(close) {
@@ -111,7 +111,13 @@ fn in_brackets(text: &[u8], w: Word, s: State) -> Bracketed
             constant,
         };
     }
-    let answer = taking::expect(text, close.next, close.state, kinds::COLON, Bearing::Level);
+    let answer = taking::expect(
+        text,
+        close.next,
+        close.state,
+        text_kinds::COLON,
+        Bearing::Level,
+    );
     Bracketed { answer, constant }
 }
 
@@ -154,11 +160,11 @@ fn after_name(text: &[u8], name: Word, w: Word, work: &mut [u8; 275296], s: Stat
 {
     let kind = w.kind;
     let k = kinds::number(kind);
-    if k == kinds::OPEN_PAREN {
+    if k == text_kinds::OPEN_PAREN {
         return valued(text, name, w, work, s, l);
     }
     let at = name.at;
-    if k == kinds::COLON {
+    if k == text_kinds::COLON {
         let answer = taking::take(text, w, s, false, Bearing::Level);
         let head = plain(at, name.size);
         return Begun {
@@ -195,7 +201,7 @@ pub fn head(text: &[u8], w: Word, work: &mut [u8; 275296], s: State, l: u16) -> 
         };
     }
     let kind = w.kind;
-    if kinds::number(kind) != kinds::NAME {
+    if kinds::number(kind) != text_kinds::NAME {
         return Begun {
             answer: counted,
             head,

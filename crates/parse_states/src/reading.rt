@@ -70,10 +70,10 @@ fn more(
     loop {
         let kind = next.kind;
         let k = kinds::number(kind);
-        if k == kinds::PERIOD {
+        if k == text_kinds::PERIOD {
             return ends::ended(text, next, state, after);
         }
-        if k == kinds::END {
+        if k == text_kinds::END {
             return ends::ended(text, next, state, after);
         }
         let another = one(state, text, next, work, n, after, l);

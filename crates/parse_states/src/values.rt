@@ -1,11 +1,11 @@
 // The value of a state: a constant in parentheses, which takes the length of the sequencing register where it was written without one and fits.
 use text_words::Word;
-use value_operations::Value;
-use value_operations::lengths;
+use value_operators::Value;
+use value_operators::lengths;
 ghost use mathlib.Core.Path.{_≡_};
 ghost use Rattle.language.specs.DescribeText.{stateConstant};
 ghost use Rattle.language.specs.Scan as S;
-ghost use Rattle.value_operations.specs.Meaning.{valued};
+ghost use Rattle.value_operators.specs.Meaning.{valued};
 ghost use Rattle.parse_states.specs.Begins.{lengthOf};
 ghost use Rattle.parse_states.specs.Heads.{Stated};
 

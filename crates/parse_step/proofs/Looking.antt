@@ -1,5 +1,5 @@
 -- What the look-ahead is: a word in front of those behind it, or the end of the text.
-use mathlib.Core.Bool.{true, false, true≢false}
+use mathlib.Core.Bool.{true, true≢false}
 use mathlib.Core.List.{List, [], _∷_, map}
 use mathlib.Core.Path.{_≡_, refl, sym, ap, _∙_, subst}
 use Prim.Native.Nat.{ℕ, _+_, _≤_}
@@ -9,11 +9,12 @@ use Rattle.about_grammar.specs.Accepting.{Proper}
 use Rattle.about_grammar.specs.Following.{among}
 use Rattle.about_grammar.specs.ProperWords.{from-proper}
 use Rattle.language.specs.Characters.{folded}
+use Rattle.language.specs.Kinds.{aConstant, aName}
 use Rattle.language.specs.Scan.{written}
 use Rattle.language.specs.Words as L
 use Rattle.language.specs.Words.{position}
 use Rattle.language.specs.WordStage.{wordsFrom}
-use Rattle.value_operations.specs.Meaning.{valued}
+use Rattle.value_operators.specs.Meaning.{valued}
 use Rattle.text_words.specs.declared.Kind.{Kind}
 use Rattle.text_words.specs.declared.Kind.the-variants as K
 use Rattle.text_words.specs.declared.Word.{Word}
@@ -64,8 +65,8 @@ sign-ahead text w k e h = go (w .kind) refl
   where
     go : (q : Kind) → w .kind ≡ q → ahead text w ≡ L.sign k (positioned (w .at)) ∷ behind text w
     go K.End d = absurd (let z : _≡_ {A = ℕ} 0 k = sym (ap kindNo d) ∙ e in omega arith)
-    go K.Name d = absurd (let z : _≡_ {A = ℕ} 1 k = sym (ap kindNo d) ∙ e in omega arith)
-    go K.Constant d = absurd (let z : _≡_ {A = ℕ} 2 k = sym (ap kindNo d) ∙ e in omega arith)
+    go K.Name d = absurd (let z : _≡_ {A = ℕ} aName k = sym (ap kindNo d) ∙ e in omega arith)
+    go K.Constant d = absurd (let z : _≡_ {A = ℕ} aConstant k = sym (ap kindNo d) ∙ e in omega arith)
     go (K.Sign j) d = let z : j ≡ k = sym (ap kindNo d) ∙ e in rw (d, z)
 
 -- No sign of a text has the kind of a name or a constant.
@@ -73,26 +74,26 @@ proper : (text : List ℕ) (w : Word) → Seen text w → Proper (following text
 unfolding wordsFrom
 proper text w z = subst Proper (sym (z .next .words)) (from-proper (length (drop (z .from) text)) (z .from) (drop (z .from) text))
 
-pub name-ahead : (text : List ℕ) (w : Word) → Seen text w → kindNo (w .kind) ≡ 1 → ahead text w ≡ nameWord text w ∷ behind text w
+pub name-ahead : (text : List ℕ) (w : Word) → Seen text w → kindNo (w .kind) ≡ aName → ahead text w ≡ nameWord text w ∷ behind text w
 unfolding ahead behind among
 name-ahead text w z e = go (w .kind) refl (proper text w z)
   where
     go : (q : Kind) → w .kind ≡ q
         → Proper (inFront (map folded (take (w .size) (drop (w .at .place) text))) (written (w .bare) (valued (w .value))) (positioned (w .at)) (behind text w) q)
         → ahead text w ≡ nameWord text w ∷ behind text w
-    go K.End d p = absurd (let x : _≡_ {A = ℕ} 0 1 = sym (ap kindNo d) ∙ e in omega arith)
+    go K.End d p = absurd (let x : _≡_ {A = ℕ} 0 aName = sym (ap kindNo d) ∙ e in omega arith)
     go K.Name d p = rw d
-    go K.Constant d p = absurd (let x : _≡_ {A = ℕ} 2 1 = sym (ap kindNo d) ∙ e in omega arith)
-    go (K.Sign j) d p = let x : j ≡ 1 = sym (ap kindNo d) ∙ e in absurd (true≢false (rw x at (p .0)))
+    go K.Constant d p = absurd (let x : _≡_ {A = ℕ} aConstant aName = sym (ap kindNo d) ∙ e in omega arith)
+    go (K.Sign j) d p = let x : j ≡ aName = sym (ap kindNo d) ∙ e in absurd (true≢false (rw x at (p .0)))
 
-pub constant-ahead : (text : List ℕ) (w : Word) → Seen text w → kindNo (w .kind) ≡ 2 → ahead text w ≡ constantWord w ∷ behind text w
+pub constant-ahead : (text : List ℕ) (w : Word) → Seen text w → kindNo (w .kind) ≡ aConstant → ahead text w ≡ constantWord w ∷ behind text w
 unfolding ahead behind among
 constant-ahead text w z e = go (w .kind) refl (proper text w z)
   where
     go : (q : Kind) → w .kind ≡ q
         → Proper (inFront (map folded (take (w .size) (drop (w .at .place) text))) (written (w .bare) (valued (w .value))) (positioned (w .at)) (behind text w) q)
         → ahead text w ≡ constantWord w ∷ behind text w
-    go K.End d p = absurd (let x : _≡_ {A = ℕ} 0 2 = sym (ap kindNo d) ∙ e in omega arith)
-    go K.Name d p = absurd (let x : _≡_ {A = ℕ} 1 2 = sym (ap kindNo d) ∙ e in omega arith)
+    go K.End d p = absurd (let x : _≡_ {A = ℕ} 0 aConstant = sym (ap kindNo d) ∙ e in omega arith)
+    go K.Name d p = absurd (let x : _≡_ {A = ℕ} aName aConstant = sym (ap kindNo d) ∙ e in omega arith)
     go K.Constant d p = rw d
-    go (K.Sign j) d p = let x : j ≡ 2 = sym (ap kindNo d) ∙ e in absurd (true≢false (rw x at (p .0)))
+    go (K.Sign j) d p = let x : j ≡ aConstant = sym (ap kindNo d) ∙ e in absurd (true≢false (rw x at (p .0)))

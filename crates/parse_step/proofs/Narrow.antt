@@ -13,6 +13,7 @@ use Rattle.language.specs.Value.{Value, longest}
 use Rattle.language.specs.Words.{Position, position}
 use Rattle.language.specs.WordStage.{Scanned, noted, scan, scanFrom, wordsFrom}
 use Rattle.about_rules.specs.RightWords.{words-right}
+use Rattle.language.specs.Kinds.{aConstant}
 use Rattle.text_words.specs.declared.Word.{Word}
 use Rattle.parse_step.specs.Course.{Seen, ahead, kindNo}
 use Rattle.parse_step.proofs.Looking.{constant-ahead}
@@ -38,7 +39,7 @@ from-right : (at : ℕ) (s : List ℕ) → WordsRight (wordsFrom at s)
 unfolding scan wordsFrom
 from-right at s = moved (length s) 0 at s (words-right s)
 
-pub narrow : (text : List ℕ) (w : Word) → Seen text w → kindNo (w .kind) ≡ 2 → w .value .length ≤ 256
+pub narrow : (text : List ℕ) (w : Word) → Seen text w → kindNo (w .kind) ≡ aConstant → w .value .length ≤ 256
 unfolding ahead longest
 narrow text w z e = subst WordsRight (sym (z .next .words) ∙ constant-ahead text w z e) (from-right (z .from) (drop (z .from) text)) .0 .at-most
 

@@ -8,6 +8,7 @@ use lib.Dec.{eqb}
 use lib.ListN.{length}
 use Rattle.language.specs.Building.{Built, keepWord}
 use Rattle.language.specs.Declaring.{treeSteps}
+use Rattle.language.specs.Kinds.{aConstant, colon}
 use Rattle.language.specs.Machine.{Bearing, Counts, Parsed, after, bears, feed, finish, keep, nested, reading, refused, run, taken, took, withinCeilings, word, wrong}
 use Rattle.language.specs.Sections.{ruleOf}
 use Rattle.language.specs.Words as L
@@ -115,16 +116,16 @@ same-counts s p q = rw (p, q)
 
 -- ---- A constant that is kept.
 
-keep-stuck : (text : List ℕ) (w : Word) → Seen text w → (kindNo (w .kind) ≡ 2 → ⊥) → (K : Stack) (b : Built) (c : Counts)
-    → runsOn text (keep 2 ∷ K) (ahead text w) b c ≡ refused (fault (positioned (w .at)) 3)
+keep-stuck : (text : List ℕ) (w : Word) → Seen text w → (kindNo (w .kind) ≡ aConstant → ⊥) → (K : Stack) (b : Built) (c : Counts)
+    → runsOn text (keep aConstant ∷ K) (ahead text w) b c ≡ refused (fault (positioned (w .at)) 3)
 unfolding runsOn run feed finish
 keep-stuck text w z h K b c = go (view text w z)
   where
-    go : View text w → runsOn text (keep 2 ∷ K) (ahead text w) b c ≡ refused (fault (positioned (w .at)) 3)
+    go : View text w → runsOn text (keep aConstant ∷ K) (ahead text w) b c ≡ refused (fault (positioned (w .at)) 3)
     go (ended e p q) = rw (e, p)
-    go (begun v e q p) = rw (e, q, ne-eqb (kindNo (w .kind)) 2 h, p)
+    go (begun v e q p) = rw (e, q, ne-eqb (kindNo (w .kind)) aConstant h, p)
 
-pub keeps : {text : List ℕ} {w n : Word} {s : State} → kindNo (w .kind) ≡ 2 → Follows text w n → Keeps text w s (record { verdict = Done; next = n; state = s })
+pub keeps : {text : List ℕ} {w n : Word} {s : State} → kindNo (w .kind) ≡ aConstant → Follows text w n → Keeps text w s (record { verdict = Done; next = n; state = s })
 unfolding runsOn run feed
 keeps {text} {w} {n} {s} e x = record {
   done = λ d z. record { course = course z; kind = e; state = refl; seen = x .seen };
@@ -132,10 +133,10 @@ keeps {text} {w} {n} {s} e x = record {
   full = λ d. done-full d;
 }
   where
-    course : Seen text w → (K : Stack) (b : Built) → runs text (keep 2 ∷ K) w b s ≡ runs text K n (keepWord (constantWord w) b) s
+    course : Seen text w → (K : Stack) (b : Built) → runs text (keep aConstant ∷ K) w b s ≡ runs text K n (keepWord (constantWord w) b) s
     course z K b = rw (constant-ahead text w z e, x .words z)
 
-pub keeps-not : {text : List ℕ} {w : Word} {s : State} {r : Answer} → (kindNo (w .kind) ≡ 2 → ⊥) → Refuses w 3 r → Keeps text w s r
+pub keeps-not : {text : List ℕ} {w : Word} {s : State} {r : Answer} → (kindNo (w .kind) ≡ aConstant → ⊥) → Refuses w 3 r → Keeps text w s r
 keeps-not {text} {w} {s} {r} h x = record {
   done = λ d z. done-refused (sym d ∙ x .verdict);
   refused = λ f d z K b. keep-stuck text w z h K b (countsOf s) ∙ ap refused (sym (ap faulted (same-fault (sym d ∙ x .verdict)) ∙ x .is));
@@ -144,16 +145,16 @@ keeps-not {text} {w} {s} {r} h x = record {
 
 -- ---- A constant and a colon.
 
-pub ends-come : (text : List ℕ) (w n : Word) → kindNo (w .kind) ≡ 2 → Follows text w n → Seen text w → eqb (kindNo (n .kind)) 13 ≡ endsAhead (ahead text w)
+pub ends-come : (text : List ℕ) (w n : Word) → kindNo (w .kind) ≡ aConstant → Follows text w n → Seen text w → eqb (kindNo (n .kind)) colon ≡ endsAhead (ahead text w)
 ends-come text w n e x z = rw (constant-ahead text w z e, ← x .words z) (go (view text n (x .seen)))
   where
-    go : View text n → eqb (kindNo (n .kind)) 13 ≡ colonFirst (ahead text n)
+    go : View text n → eqb (kindNo (n .kind)) colon ≡ colonFirst (ahead text n)
     go (ended p q k) = rw (p, k)
     go (begun v p k q) = rw (p, k)
 
-pub ends-not : (text : List ℕ) (w : Word) → (kindNo (w .kind) ≡ 2 → ⊥) → Seen text w → false ≡ endsAhead (ahead text w)
+pub ends-not : (text : List ℕ) (w : Word) → (kindNo (w .kind) ≡ aConstant → ⊥) → Seen text w → false ≡ endsAhead (ahead text w)
 ends-not text w h z = go (view text w z)
   where
     go : View text w → false ≡ endsAhead (ahead text w)
     go (ended p q k) = rw p
-    go (begun v p k q) = rw (p, k, ne-eqb (kindNo (w .kind)) 2 h)
+    go (begun v p k q) = rw (p, k, ne-eqb (kindNo (w .kind)) aConstant h)

@@ -4,6 +4,7 @@ use Prim.Native.Nat.{ℕ, _+_}
 use lib.ListN.{drop, length}
 use Rattle.language.specs.Building.{Built}
 use Rattle.language.specs.Declaring.{treeSteps}
+use Rattle.language.specs.Kinds.{aConstant, aName}
 use Rattle.language.specs.Machine.{Bearing, Counts, Parsed, Sym, bears, closes, level, opens, reading, run, withinCeilings}
 use Rattle.language.specs.Sections.{ruleOf}
 use Rattle.language.specs.Words as L
@@ -22,8 +23,8 @@ Stack = List (Sym Built)
 -- A word's kind by number; the end of the text has none.
 abbrev pub kindNo : Kind → ℕ
 kindNo K.End = 0
-kindNo K.Name = 1
-kindNo K.Constant = 2
+kindNo K.Name = aName
+kindNo K.Constant = aConstant
 kindNo (K.Sign k) = k
 
 abbrev pub bearingOf : B.Bearing → Bearing

@@ -9,7 +9,7 @@ use Rattle.language.specs.Kinds.{aConstant, colon}
 use Rattle.language.specs.Machine.{Counts, both, keep, refused, withinCeilings, word}
 use Rattle.language.specs.Scan.{written}
 use Rattle.language.specs.Words as L
-use Rattle.value_operations.specs.Meaning.{valued}
+use Rattle.value_operators.specs.Meaning.{valued}
 use Rattle.text_words.specs.declared.Fault.{Fault}
 use Rattle.text_words.specs.declared.Word.{Word}
 use Rattle.text_words.specs.Meaning.{faulted, positioned}

@@ -12,7 +12,7 @@ ghost use Prim.Native.Nat.{_-_};
 ghost use Rattle.language.specs.Describe.{constantNodes, constantSize};
 ghost use Rattle.language.specs.Encode.{nodeBytes};
 ghost use Rattle.image_records.specs.Nodes.{meant};
-ghost use Rattle.value_operations.specs.Meaning.{valued};
+ghost use Rattle.value_operators.specs.Meaning.{valued};
 ghost use Rattle.text_words.specs.Meaning.{positioned};
 ghost use Rattle.parse_array.specs.Held.{fields};
 ghost use Rattle.parse_step.specs.Gained.{Gained, Written, easedState, withNodeCount};

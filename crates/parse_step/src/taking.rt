@@ -140,7 +140,7 @@ pub fn keep_constant(text: &[u8], w: Word, s: State) -> Answer
     ensures { λ r. ⌜ Keeps (now (text .entry)) w s r ⌝ }
 {
     let kind = w.kind;
-    if kinds::number(kind) == kinds::CONSTANT {
+    if kinds::number(kind) == text_kinds::CONSTANT {
         let next = following(text, w);
         return Answer {
             verdict: Verdict::Done,
@@ -156,10 +156,10 @@ pub fn ends_ahead(text: &[u8], w: Word) -> bool
     ensures { λ r. ⌜ (Seen (now (text .entry)) w → r ≡ endsAhead (ahead (now (text .entry)) w)) ⌝ }
 {
     let kind = w.kind;
-    if kinds::number(kind) == kinds::CONSTANT {
+    if kinds::number(kind) == text_kinds::CONSTANT {
         let next = following(text, w);
         let then = next.kind;
-        return kinds::number(then) == kinds::COLON;
+        return kinds::number(then) == text_kinds::COLON;
     }
     false
 }

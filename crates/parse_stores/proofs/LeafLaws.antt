@@ -12,6 +12,7 @@ use Rattle.parse_step.specs.declared.Verdict.the-variants.{Done, Full}
 use Rattle.parse_step.specs.Course.{countsOf, kindNo}
 use Rattle.parse_step.specs.Taken.{Refuses, Took, afterWord}
 use Rattle.language.specs.Description as D
+use Rattle.language.specs.Kinds.{aName}
 use Rattle.language.specs.Machine.{refused}
 use Rattle.parse_tables.specs.Actions.{ActionAdded}
 use Rattle.text_words.specs.declared.Position.{Position}
@@ -21,14 +22,14 @@ use Rattle.parse_stores.proofs.ActionWords.{name-kept, no-name}
 use Rattle.parse_stores.specs.Leaves.{KeepsName, Puts}
 
 module _ {text : List ℕ} {w : Word} {s : State} {r : Answer} where
-  pub keeps-name : kindNo (w .kind) ≡ 1 → Took text w (afterWord false Level s) s r → KeepsName text w s r
+  pub keeps-name : kindNo (w .kind) ≡ aName → Took text w (afterWord false Level s) s r → KeepsName text w s r
   keeps-name e t = record {
     done = λ d z. let p = t .done d in record { course = λ K b. name-kept text w z b (countsOf s) e K ∙ rw (p .words z, p .counts); took = t };
     refused = λ f d z h. absurd (true≢false (sym h ∙ t .refused f d .0));
     full = t .full;
   }
 
-  pub keeps-no-name : (kindNo (w .kind) ≡ 1 → ⊥) → Refuses w 3 r → KeepsName text w s r
+  pub keeps-no-name : (kindNo (w .kind) ≡ aName → ⊥) → Refuses w 3 r → KeepsName text w s r
   keeps-no-name n x = record {
     done = λ d z. done-refused (sym d ∙ x .verdict);
     refused = λ f d z h K b. no-name text w z b (countsOf s) n K ∙ ap refused (sym (ap faulted (same-fault (sym d ∙ x .verdict)) ∙ x .is));

@@ -19,6 +19,7 @@ use Rattle.language.specs.Building.{Built, keepWord, listNo, wordNo}
 use Rattle.language.specs.Declaring.{treeSteps}
 use Rattle.language.specs.Describe.{act, actionsIn, actionsOf, expressionsIn, nodesIn}
 use Rattle.language.specs.Description as D
+use Rattle.language.specs.Kinds.{aName, callSign, gotoSign, returnWord}
 use Rattle.language.specs.Machine.{Counts, ask, keep, make, stateAction}
 use Rattle.language.specs.Naming as N
 use Rattle.language.specs.Naming.{Scope, meaning, ofOperation, ofState}
@@ -109,34 +110,34 @@ module _ {text : List ℕ} {n : M.Counts} {w₁ : Word} {s₁ : State} {acts : �
 
 -- ---- A sign.
 
-module _ (text : List ℕ) (w : Word) (s : State) (e : among (kindNo (w .kind)) (27 ∷ 28 ∷ 47 ∷ []) ≡ true) where
-  arrow-comes : (kindNo (w .kind) ≡ 47 → ⊥) → Seen text w → (K : Stack) (b : Built)
-      → runs text (ask stateAction ∷ K) w b s ≡ onTaken text w (keep 1 ∷ make (arrowStep (eqb (kindNo (w .kind)) 28)) ∷ K) b (afterWord true Level s)
+module _ (text : List ℕ) (w : Word) (s : State) (e : among (kindNo (w .kind)) (gotoSign ∷ callSign ∷ returnWord ∷ []) ≡ true) where
+  arrow-comes : (kindNo (w .kind) ≡ returnWord → ⊥) → Seen text w → (K : Stack) (b : Built)
+      → runs text (ask stateAction ∷ K) w b s ≡ onTaken text w (keep aName ∷ make (arrowStep (eqb (kindNo (w .kind)) callSign)) ∷ K) b (afterWord true Level s)
   arrow-comes m z K b =
       let i = kindNo (w .kind) in
-      among-first-or i 27 (28 ∷ 47 ∷ []) e (λ q. goto-comes text w z b (countsOf s) q K ∙ ap (λ (j : ℕ). onTaken text w (keep 1 ∷ make (arrowStep (eqb j 28)) ∷ K) b (afterWord true Level s)) (sym q)) λ e₁.
-      among-first-or i 28 (47 ∷ []) e₁ (λ q. call-comes text w z b (countsOf s) q K ∙ ap (λ (j : ℕ). onTaken text w (keep 1 ∷ make (arrowStep (eqb j 28)) ∷ K) b (afterWord true Level s)) (sym q)) λ e₂.
-      among-first-or i 47 [] e₂ (λ q. absurd (m q)) (among-none i)
+      among-first-or i gotoSign (callSign ∷ returnWord ∷ []) e (λ q. goto-comes text w z b (countsOf s) q K ∙ ap (λ (j : ℕ). onTaken text w (keep aName ∷ make (arrowStep (eqb j 28)) ∷ K) b (afterWord true Level s)) (sym q)) λ e₁.
+      among-first-or i callSign (returnWord ∷ []) e₁ (λ q. call-comes text w z b (countsOf s) q K ∙ ap (λ (j : ℕ). onTaken text w (keep aName ∷ make (arrowStep (eqb j 28)) ∷ K) b (afterWord true Level s)) (sym q)) λ e₂.
+      among-first-or i returnWord [] e₂ (λ q. absurd (m q)) (among-none i)
 
   module _ {n : M.Counts} {acts : ℕ} {work : List ℕ} {a : Answer} (t : Took text w (afterWord true Level s) s a) where
     pub sign-untaken : {i : ℕ} → (a .verdict ≡ Done → ⊥) → Acts (ask stateAction ∷ []) same text n w s acts work work (record { answer = a; actions = i })
     sign-untaken m sc st =
         let i = kindNo (w .kind) in
-        among-first-or i 27 (28 ∷ 47 ∷ []) e (λ q. reads-ended (ends-untaken t m (λ K. keep 1 ∷ make (treeSteps .makeGoto) ∷ K) (λ b. b) (λ K b. goto-comes text w (st .seen) b (countsOf s) q K))) λ e₁.
-        among-first-or i 28 (47 ∷ []) e₁ (λ q. reads-ended (ends-untaken t m (λ K. keep 1 ∷ make (treeSteps .makeCall) ∷ K) (λ b. b) (λ K b. call-comes text w (st .seen) b (countsOf s) q K))) λ e₂.
-        among-first-or i 47 [] e₂ (λ q. reads-ended (ends-untaken t m (λ K. make (treeSteps .makeReturn) ∷ K) (λ b. keepWord (L.sign 47 (positioned (w .at))) b) (λ K b. return-comes text w (st .seen) b (countsOf s) q K))) (among-none i)
+        among-first-or i gotoSign (callSign ∷ returnWord ∷ []) e (λ q. reads-ended (ends-untaken t m (λ K. keep aName ∷ make (treeSteps .makeGoto) ∷ K) (λ b. b) (λ K b. goto-comes text w (st .seen) b (countsOf s) q K))) λ e₁.
+        among-first-or i callSign (returnWord ∷ []) e₁ (λ q. reads-ended (ends-untaken t m (λ K. keep aName ∷ make (treeSteps .makeCall) ∷ K) (λ b. b) (λ K b. call-comes text w (st .seen) b (countsOf s) q K))) λ e₂.
+        among-first-or i returnWord [] e₂ (λ q. reads-ended (ends-untaken t m (λ K. make (treeSteps .makeReturn) ∷ K) (λ b. keepWord (L.sign returnWord (positioned (w .at))) b) (λ K b. return-comes text w (st .seen) b (countsOf s) q K))) (among-none i)
 
     module _ (d : a .verdict ≡ Done) {work′ : List ℕ} {r : Acted} where
-      pub sign-arrow : (kindNo (w .kind) ≡ 47 → ⊥) → {call : Bool} → call ≡ eqb (kindNo (w .kind)) 28 → Arrows call text n (a .next) (a .state) acts work work′ r → Acts (ask stateAction ∷ []) same text n w s acts work work′ r
+      pub sign-arrow : (kindNo (w .kind) ≡ returnWord → ⊥) → {call : Bool} → call ≡ eqb (kindNo (w .kind)) callSign → Arrows call text n (a .next) (a .state) acts work work′ r → Acts (ask stateAction ∷ []) same text n w s acts work work′ r
       sign-arrow m {call} q y sc st =
           reads-ended (ends-through (y sc w s work st (counted-reached st (start-reached st) d (omega arith) t))
-          (λ K b. arrow-comes m (st .seen) K b ∙ took-done (t .done d) (st .seen) (keep 1 ∷ make (arrowStep (eqb (kindNo (w .kind)) 28)) ∷ K) b ∙ rw q))
+          (λ K b. arrow-comes m (st .seen) K b ∙ took-done (t .done d) (st .seen) (keep aName ∷ make (arrowStep (eqb (kindNo (w .kind)) callSign)) ∷ K) b ∙ rw q))
 
-      pub sign-returns : kindNo (w .kind) ≡ 47 → Puts D.return (w .at) (a .next) (a .state) acts work work′ r → Acts (ask stateAction ∷ []) same text n w s acts work work′ r
+      pub sign-returns : kindNo (w .kind) ≡ returnWord → Puts D.return (w .at) (a .next) (a .state) acts work work′ r → Acts (ask stateAction ∷ []) same text n w s acts work work′ r
       unfolding expressionsIn nodesIn actionsIn actionsOf wordNo listNo
       sign-returns q y sc st =
           let g = T.return (positioned (w .at)) T.done in
-          let kept : Built → Built = λ b. keepWord (L.sign 47 (positioned (w .at))) b in
+          let kept : Built → Built = λ b. keepWord (L.sign returnWord (positioned (w .at))) b in
           reads-ended (ends-with st (counted-reached st (start-reached st) d (omega arith) t) y g refl refl refl refl
           (λ K b. return-comes text w (st .seen) b (countsOf s) q K ∙ took-done (t .done d) (st .seen) (make (treeSteps .makeReturn) ∷ K) (kept b)
           ∙ makes-it text (treeSteps .makeReturn) K (a .next) (kept b) (grown g b) (a .state) (λ p. refl)))

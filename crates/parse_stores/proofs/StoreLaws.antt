@@ -19,6 +19,7 @@ use Rattle.language.specs.Building.{Built, expressionNo, keepWord, listNo, word
 use Rattle.language.specs.Declaring.{treeSteps}
 use Rattle.language.specs.Describe.{Noted, act, actionsIn, actionsOf, expressionSize, expressionsIn, lastOf, leftNodes, leftSize, nodesIn, nodesOf, storeOf}
 use Rattle.language.specs.Description as D
+use Rattle.language.specs.Kinds.{aName, atSign, conWord, delayedSign, equalSign}
 use Rattle.language.specs.Machine.{Ask, ask, expression, keep, leftRest, make, setSign, storeSign, subscripts}
 use Rattle.language.specs.Tree as T
 use Rattle.language.specs.Tree.{Expression, Left}
@@ -40,7 +41,7 @@ use Rattle.parse_stores.specs.Reached.{AfterLeft, Stores, sided, sidesOf
 -- ---- What the machine keeps of a sign, and what then comes.
 
 abbrev atKept : Word → Expression → Built → Built
-atKept w u b = keepWord (L.sign 18 (positioned (w .at))) (pushed u b)
+atKept w u b = keepWord (L.sign atSign (positioned (w .at))) (pushed u b)
 
 abbrev signKept : Word → Left → Built → Built
 signKept w l b = keepWord (L.sign (kindNo (w .kind)) (positioned (w .at))) (withLeft l b)
@@ -54,10 +55,10 @@ behindCon K = ask subscripts ∷ make (treeSteps .makePair) ∷ ask storeSign �
 -- ---- `@`.
 
 module _ {text : List ℕ} {w₁ : Word} {s₁ : State} {acts : ℕ} {work₁ : List ℕ} where
-  pub unset : {a : Answer} {k : ℕ} {work′ : List ℕ} → (kindNo (w₁ .kind) ≡ 18 → ⊥) → Refuses w₁ 3 a → AfterLeft setSign text w₁ s₁ acts work₁ work′ (record { answer = a; actions = k })
+  pub unset : {a : Answer} {k : ℕ} {work′ : List ℕ} → (kindNo (w₁ .kind) ≡ atSign → ⊥) → Refuses w₁ 3 a → AfterLeft setSign text w₁ s₁ acts work₁ work′ (record { answer = a; actions = k })
   unset m t sc n w s work u st x = ends-refused 3 t (λ K b. no-set text w₁ (x .seen) (pushed u b) (countsOf s₁) m K)
 
-  module _ (e : kindNo (w₁ .kind) ≡ 18) {a : Answer} (t : Took text w₁ (afterWord true Level s₁) s₁ a) where
+  module _ (e : kindNo (w₁ .kind) ≡ atSign) {a : Answer} (t : Took text w₁ (afterWord true Level s₁) s₁ a) where
     pub set-untaken : {k : ℕ} → (a .verdict ≡ Done → ⊥) → AfterLeft setSign text w₁ s₁ acts work₁ work₁ (record { answer = a; actions = k })
     set-untaken m sc n w s work u st x = ends-untaken t m (λ K. make (treeSteps .makeSet) ∷ K) (atKept w₁ u) (λ K b. set-comes text w₁ (x .seen) (pushed u b) (countsOf s₁) e K)
 
@@ -78,15 +79,15 @@ store-record k base (T.single f) e m h = let g : m - 1 ≡ lastOf (base + expres
 store-record k base (T.pair f g) e m h = let i : m - 1 ≡ lastOf (base + expressionSize f + expressionSize g) (expressionSize e) = omega (arith, h) in rw i
 
 -- Where the machine then stands.
-to-right : {text : List ℕ} {w₁ : Word} {s₁ : State} {a : Answer} → among (kindNo (w₁ .kind)) (29 ∷ 16 ∷ []) ≡ true → Took text w₁ (afterWord true Level s₁) s₁ a → a .verdict ≡ Done → (l : Left) → Seen text w₁ → (K : Stack) (b : Built)
+to-right : {text : List ℕ} {w₁ : Word} {s₁ : State} {a : Answer} → among (kindNo (w₁ .kind)) (delayedSign ∷ equalSign ∷ []) ≡ true → Took text w₁ (afterWord true Level s₁) s₁ a → a .verdict ≡ Done → (l : Left) → Seen text w₁ → (K : Stack) (b : Built)
     → runs text (ask storeSign ∷ K) w₁ (withLeft l b) s₁ ≡ runs text (right K) (a .next) (signKept w₁ l b) (a .state)
 to-right {text} {w₁} {s₁} e t d l z K b = store-comes text w₁ z (withLeft l b) (countsOf s₁) e K ∙ took-done (t .done d) z (right K) (signKept w₁ l b)
 
 module _ {text : List ℕ} {w₁ : Word} {s₁ : State} {acts : ℕ} {work₁ : List ℕ} (left : Sides) where
-  pub unstored : {a : Answer} {k : ℕ} {work′ : List ℕ} → among (kindNo (w₁ .kind)) (29 ∷ 16 ∷ []) ≡ false → Refuses w₁ 3 a → Stores left text w₁ s₁ acts work₁ work′ (record { answer = a; actions = k })
+  pub unstored : {a : Answer} {k : ℕ} {work′ : List ℕ} → among (kindNo (w₁ .kind)) (delayedSign ∷ equalSign ∷ []) ≡ false → Refuses w₁ 3 a → Stores left text w₁ s₁ acts work₁ work′ (record { answer = a; actions = k })
   unstored e t sc n w s work l st q x = ends-refused 3 t (λ K b. no-store text w₁ (x .seen) (withLeft l b) (countsOf s₁) e K)
 
-  module _ (e : among (kindNo (w₁ .kind)) (29 ∷ 16 ∷ []) ≡ true) {a : Answer} (t : Took text w₁ (afterWord true Level s₁) s₁ a) where
+  module _ (e : among (kindNo (w₁ .kind)) (delayedSign ∷ equalSign ∷ []) ≡ true) {a : Answer} (t : Took text w₁ (afterWord true Level s₁) s₁ a) where
     pub sign-untaken : {k : ℕ} → (a .verdict ≡ Done → ⊥) → Stores left text w₁ s₁ acts work₁ work₁ (record { answer = a; actions = k })
     sign-untaken m sc n w s work l st q x = ends-untaken t m right (signKept w₁ l) (λ K b. store-comes text w₁ (x .seen) (withLeft l b) (countsOf s₁) e K)
 
@@ -115,17 +116,17 @@ module _ {text : List ℕ} {w₁ : Word} {s₁ : State} {acts : ℕ} {work₁ : 
 
 -- ---- CON and a second reference.
 
-module _ {text : List ℕ} {w₁ : Word} {s₁ : State} (e : kindNo (w₁ .kind) ≡ 38) {a : Answer} (t : Took text w₁ (afterWord false Level s₁) s₁ a) (d : a .verdict ≡ Done) (u : Expression) (z : Seen text w₁) where
-  to-name : (K : Stack) (b : Built) → runs text (ask leftRest ∷ K) w₁ (pushed u b) s₁ ≡ runs text (keep 1 ∷ behindCon K) (a .next) (pushed u b) (a .state)
-  to-name K b = con-comes text w₁ z (pushed u b) (countsOf s₁) e K ∙ took-done (t .done d) z (keep 1 ∷ behindCon K) (pushed u b)
+module _ {text : List ℕ} {w₁ : Word} {s₁ : State} (e : kindNo (w₁ .kind) ≡ conWord) {a : Answer} (t : Took text w₁ (afterWord false Level s₁) s₁ a) (d : a .verdict ≡ Done) (u : Expression) (z : Seen text w₁) where
+  to-name : (K : Stack) (b : Built) → runs text (ask leftRest ∷ K) w₁ (pushed u b) s₁ ≡ runs text (keep aName ∷ behindCon K) (a .next) (pushed u b) (a .state)
+  to-name K b = con-comes text w₁ z (pushed u b) (countsOf s₁) e K ∙ took-done (t .done d) z (keep aName ∷ behindCon K) (pushed u b)
 
   to-subscripts : {i : Answer} → KeepsName text (a .next) (a .state) i → i .verdict ≡ Done → (K : Stack) (b : Built)
       → runs text (ask leftRest ∷ K) w₁ (pushed u b) s₁ ≡ runs text (behindCon K) (i .next) (afterName (a .next) text (pushed u b)) (i .state)
   to-subscripts f d₁ K b = to-name K b ∙ f .done d₁ (t .done d .seen) .course (behindCon K) (pushed u b)
 
-module _ {text : List ℕ} {w₁ : Word} {s₁ : State} {acts : ℕ} {work₁ : List ℕ} (e : kindNo (w₁ .kind) ≡ 38) {a : Answer} (t : Took text w₁ (afterWord false Level s₁) s₁ a) where
+module _ {text : List ℕ} {w₁ : Word} {s₁ : State} {acts : ℕ} {work₁ : List ℕ} (e : kindNo (w₁ .kind) ≡ conWord) {a : Answer} (t : Took text w₁ (afterWord false Level s₁) s₁ a) where
   pub con-untaken : {k : ℕ} → (a .verdict ≡ Done → ⊥) → AfterLeft leftRest text w₁ s₁ acts work₁ work₁ (record { answer = a; actions = k })
-  con-untaken m sc n w s work u st x = ends-untaken t m (λ K. keep 1 ∷ behindCon K) (pushed u) (λ K b. con-comes text w₁ (x .seen) (pushed u b) (countsOf s₁) e K)
+  con-untaken m sc n w s work u st x = ends-untaken t m (λ K. keep aName ∷ behindCon K) (pushed u) (λ K b. con-comes text w₁ (x .seen) (pushed u b) (countsOf s₁) e K)
 
   module _ (d : a .verdict ≡ Done) {i : Answer} (f : KeepsName text (a .next) (a .state) i) where
     pub con-unnamed : {k : ℕ} → (i .verdict ≡ Done → ⊥) → AfterLeft leftRest text w₁ s₁ acts work₁ work₁ (record { answer = i; actions = k })
@@ -157,10 +158,10 @@ module _ {text : List ℕ} {w₁ : Word} {s₁ : State} {acts : ℕ} {work₁ : 
 -- ---- What follows the first reference.
 
 module _ {text : List ℕ} {w₁ : Word} {s₁ : State} {acts : ℕ} {work₁ work₂ : List ℕ} {r : Acted} where
-  pub rest-sets : kindNo (w₁ .kind) ≡ 18 → AfterLeft setSign text w₁ s₁ acts work₁ work₂ r → AfterLeft leftRest text w₁ s₁ acts work₁ work₂ r
+  pub rest-sets : kindNo (w₁ .kind) ≡ atSign → AfterLeft setSign text w₁ s₁ acts work₁ work₂ r → AfterLeft leftRest text w₁ s₁ acts work₁ work₂ r
   rest-sets e y sc n w s work u st x = ends-through (y sc n w s work u st x) (λ K b. set-left text w₁ (x .seen) (pushed u b) (countsOf s₁) e K)
 
-  pub rest-stores : (kindNo (w₁ .kind) ≡ 38 → ⊥) → (kindNo (w₁ .kind) ≡ 18 → ⊥) → {k : ℕ} → k ≡ s₁ .nodes - 1 → Stores (One k) text w₁ s₁ acts work₁ work₂ r → AfterLeft leftRest text w₁ s₁ acts work₁ work₂ r
+  pub rest-stores : (kindNo (w₁ .kind) ≡ conWord → ⊥) → (kindNo (w₁ .kind) ≡ atSign → ⊥) → {k : ℕ} → k ≡ s₁ .nodes - 1 → Stores (One k) text w₁ s₁ acts work₁ work₂ r → AfterLeft leftRest text w₁ s₁ acts work₁ work₂ r
   rest-stores e f {k} h y sc n w s work u st x =
       let c : k ≡ lastOf (s .nodes) (expressionSize u) = h ∙ ap (λ (m : ℕ). m - 1) (x .nodes) in
       ends-through (y sc n w s work (T.single u) st (rw c) (cheaper x (omega arith))) (λ K b. store-left text w₁ (x .seen) (countsOf s₁) e f u b K)

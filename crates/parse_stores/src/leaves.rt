@@ -26,7 +26,7 @@ pub fn keep_name(text: &[u8], w: Word, s: State) -> Answer
     ensures { λ r. ⌜ KeepsName (now (text .entry)) w s r ⌝ }
 {
     let kind = w.kind;
-    if kinds::number(kind) == kinds::NAME {
+    if kinds::number(kind) == text_kinds::NAME {
         return taking::take(text, w, s, false, Bearing::Level);
     }
     taking::refuse(w, s, 3)

@@ -12,6 +12,7 @@ ghost use mathlib.Core.List.{[], _∷_};
 ghost use mathlib.Core.Path.{_≡_};
 ghost use Rattle.parse_step.specs.Course.{kindNo};
 ghost use Rattle.about_grammar.specs.Following.{among};
+ghost use Rattle.language.specs.Kinds.{atSign, callSign, conWord, delayedSign, equalSign, gotoSign, openBracket, returnWord};
 ghost use Rattle.language.specs.Machine as L;
 ghost use Rattle.language.specs.Machine.{ask};
 ghost use Rattle.parse_expressions.specs.Phrases.{afterName, same};
@@ -92,7 +93,7 @@ pub fn signed(
     n: Counts,
     acts: u16,
 ) -> Acted
-    ensures { λ r. ⌜ (among (kindNo (w .kind)) (27 ∷ 28 ∷ 47 ∷ []) ≡ true → Acts (ask L.stateAction ∷ []) same (now (text .entry)) n w s acts (now (work .entry)) (now (work .exit)) r) ⌝ }
+    ensures { λ r. ⌜ (among (kindNo (w .kind)) (gotoSign ∷ callSign ∷ returnWord ∷ []) ≡ true → Acts (ask L.stateAction ∷ []) same (now (text .entry)) n w s acts (now (work .entry)) (now (work .exit)) r) ⌝ }
 {
     let taken = taking::take(text, w, s, true, Bearing::Level);
     if parse_step::unread(taken) {
@@ -103,13 +104,13 @@ pub fn signed(
     }
     let found = w.kind;
     let kind = kinds::number(found);
-    if kind == kinds::RETURN {
+    if kind == text_kinds::RETURN {
         let at = w.at;
         return leaves::put(taken.state, Action::Return, at, taken.next, work, acts);
     }
     arrow(
         taken.state,
-        kind == kinds::CALL,
+        kind == text_kinds::CALL,
         text,
         taken.next,
         work,
@@ -120,15 +121,15 @@ pub fn signed(
 
 // Whether a reference goes on behind a name in an operation: `[`, CON, `@`, `<-` or `=` comes.
 fn refers(kind: u8) -> bool
-    ensures { λ r. ⌜ r ≡ among kind (19 ∷ 38 ∷ 18 ∷ 29 ∷ 16 ∷ []) ⌝ }
+    ensures { λ r. ⌜ r ≡ among kind (openBracket ∷ conWord ∷ atSign ∷ delayedSign ∷ equalSign ∷ []) ⌝ }
 {
-    if kind == kinds::OPEN_BRACKET {
+    if kind == text_kinds::OPEN_BRACKET {
         return true;
     }
-    if kind == kinds::CON {
+    if kind == text_kinds::CON {
         return true;
     }
-    if kind == kinds::AT {
+    if kind == text_kinds::AT {
         return true;
     }
     stores::signs(kind)
@@ -136,12 +137,12 @@ fn refers(kind: u8) -> bool
 
 // The same in a state: `[` or `@` comes.
 fn sets(kind: u8) -> bool
-    ensures { λ r. ⌜ r ≡ among kind (19 ∷ 18 ∷ []) ⌝ }
+    ensures { λ r. ⌜ r ≡ among kind (openBracket ∷ atSign ∷ []) ⌝ }
 {
-    if kind == kinds::OPEN_BRACKET {
+    if kind == text_kinds::OPEN_BRACKET {
         return true;
     }
-    kind == kinds::AT
+    kind == text_kinds::AT
 }
 
 // An action of an operation, behind its first name.

@@ -1,7 +1,6 @@
 // What follows a reference on the left: `@`, a store's sign, or CON and a second reference.
 use crate::Acted;
 use crate::leaves;
-use image_records::actions;
 use image_records::actions::Action;
 use parse_levels::Level;
 use parse_step::Bearing;
@@ -16,6 +15,7 @@ ghost use Rattle.parse_step.specs.Course.{kindNo};
 ghost use Rattle.about_grammar.specs.Following.{among};
 ghost use Rattle.language.specs.Machine as L;
 ghost use Rattle.image_records.specs.Actions.{meant};
+ghost use Rattle.language.specs.Kinds.{conWord, delayedSign, equalSign};
 ghost use Rattle.parse_stores.specs.Reached.{AfterLeft, Stores, sided};
 
 // The records of a left side: one reference, or two joined by CON.
@@ -26,12 +26,12 @@ pub enum Sides {
 
 // Whether a kind is a store's sign.
 pub fn signs(kind: u8) -> bool
-    ensures { λ r. ⌜ r ≡ among kind (29 ∷ 16 ∷ []) ⌝ }
+    ensures { λ r. ⌜ r ≡ among kind (delayedSign ∷ equalSign ∷ []) ⌝ }
 {
-    if kind == actions::DELAYED {
+    if kind == text_kinds::DELAYED {
         return true;
     }
-    kind == actions::IMMEDIATE
+    kind == text_kinds::EQUAL
 }
 
 // A store's record.
@@ -49,7 +49,7 @@ pub fn set(s: State, text: &[u8], w: Word, work: &mut [u8; 275296], acts: u16) -
     ensures { λ r. ⌜ AfterLeft L.setSign (now (text .entry)) w s acts (now (work .entry)) (now (work .exit)) r ⌝ }
 {
     let found = w.kind;
-    if kinds::number(found) == kinds::AT {
+    if kinds::number(found) == text_kinds::AT {
         let taken = taking::take(text, w, s, true, Bearing::Level);
         if parse_step::unread(taken) {
             return Acted {
@@ -106,7 +106,7 @@ fn store(s: State, left: Sides, text: &[u8], w: Word, work: &mut [u8; 275296], a
 
 // CON, a second reference, and the store.
 fn second(s: State, text: &[u8], w: Word, work: &mut [u8; 275296], acts: u16) -> Acted
-    ensures { λ r. ⌜ (kindNo (w .kind) ≡ 38 → AfterLeft L.leftRest (now (text .entry)) w s acts (now (work .entry)) (now (work .exit)) r) ⌝ }
+    ensures { λ r. ⌜ (kindNo (w .kind) ≡ conWord → AfterLeft L.leftRest (now (text .entry)) w s acts (now (work .entry)) (now (work .exit)) r) ⌝ }
 {
     let taken = taking::take(text, w, s, false, Bearing::Level);
     if parse_step::unread(taken) {
@@ -139,10 +139,10 @@ pub fn rest(s: State, text: &[u8], w: Word, work: &mut [u8; 275296], acts: u16) 
 {
     let found = w.kind;
     let kind = kinds::number(found);
-    if kind == kinds::CON {
+    if kind == text_kinds::CON {
         return second(s, text, w, work, acts);
     }
-    if kind == kinds::AT {
+    if kind == text_kinds::AT {
         return set(s, text, w, work, acts);
     }
     let left = Sides::One(adding::last(s.nodes));

@@ -24,6 +24,7 @@ use Rattle.language.specs.Building.{Built, wordNo}
 use Rattle.language.specs.Declaring.{makePlain}
 use Rattle.language.specs.DescribeText.{dimensionsOf}
 use Rattle.language.specs.Description.{nowhere}
+use Rattle.language.specs.Kinds.{equalSign, inputWord}
 use Rattle.language.specs.Machine.{ask, functionOf, make, terminalFunction, withinCeilings}
 use Rattle.language.specs.Tree as T
 use Rattle.language.specs.Tree.{Declaration, Extent, Function}
@@ -76,7 +77,7 @@ plain-read {w} {s} {e} q text ds place name x P work g clears = record {
 
 -- ---- An input.
 
-pub input-defined : (name equal : Word) {text : List ℕ} {w : Word} {s : State} {work : List ℕ} {a : Answer} {e : P.Position} → kindNo (w .kind) ≡ 44 → Inputs text name w s a → positioned e ≡ nowhere
+pub input-defined : (name equal : Word) {text : List ℕ} {w : Word} {s : State} {work : List ℕ} {a : Answer} {e : P.Position} → kindNo (w .kind) ≡ inputWord → Inputs text name w s a → positioned e ≡ nowhere
     → Follows text name equal w s work work (record { answer = a; kind = F.Input; expression = 0; equals = e })
 input-defined name equal {text} {w} {s} {work} {a} {e} k f q ds place x g = through (f x equal (g .seen) k) (λ K. K) (λ b. b) (λ K b. refl) read
   where
@@ -98,7 +99,7 @@ input-defined name equal {text} {w} {s} {work} {a} {e} k f q ds place x g = thro
 
 -- ---- An expression.
 
-pub computed-defined : (name equal : Word) {text : List ℕ} {w : Word} {s : State} {work work′ : List ℕ} {r : Defined} → (kindNo (w .kind) ≡ 44 → ⊥) → Computes text equal w s work work′ r
+pub computed-defined : (name equal : Word) {text : List ℕ} {w : Word} {s : State} {work work′ : List ℕ} {r : Defined} → (kindNo (w .kind) ≡ inputWord → ⊥) → Computes text equal w s work work′ r
     → Follows text name equal w s work work′ r
 computed-defined name equal n f ds place x g = f n ds place name x g
 
@@ -128,10 +129,10 @@ module _ {text : List ℕ} (name : Word) {n : ℕ} {w : Word} {s : State} where
     as-function {work} {work′} {r} f ds place x h g =
         subst (λ (P : Stack). Defines text ds place name x P (atDimensions text name x) w s work′ r) (sym (may-follow x (λ e. two (sym h ∙ e)))) (f ds place x g)
 
-    pub none-read : {work : List ℕ} {r : Defined} → (kindNo (w .kind) ≡ 16 → ⊥) → Plains w s r → Functions text name n w s work work r
+    pub none-read : {work : List ℕ} {r : Defined} → (kindNo (w .kind) ≡ equalSign → ⊥) → Plains w s r → Functions text name n w s work work r
     none-read {work} m f = as-function (λ ds place x g. f text ds place name x (ask terminalFunction ∷ []) work g (λ K b d l. no-function text w K b s (g .seen) m d l))
 
-    module _ (equal : kindNo (w .kind) ≡ 16) {a : Answer} (t : Took text w (countsOf s) s a) where
+    module _ (equal : kindNo (w .kind) ≡ equalSign) {a : Answer} (t : Took text w (countsOf s) s a) where
       to-equal : (x : Extent) (K : Stack) (b : Built) → runs text (ask terminalFunction ∷ K) w (atDimensions text name x b) s ≡ onTaken text w (ask functionOf ∷ K) (atFunction text name x w b) (countsOf s)
       to-equal x K b = equal-taken text w K (atDimensions text name x b) s equal
 

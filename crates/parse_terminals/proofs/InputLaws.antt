@@ -23,7 +23,7 @@ use Rattle.language.specs.Alternatives.{closing, plainWord}
 use Rattle.language.specs.Building.{Built, wordNo}
 use Rattle.language.specs.Characters.{folded}
 use Rattle.language.specs.Declaring.{makeInput}
-use Rattle.language.specs.Kinds.{aConstant, closeParen, comma}
+use Rattle.language.specs.Kinds.{aConstant, aName, closeParen, comma, inputWord, openParen}
 use Rattle.language.specs.Machine.{again, ask, functionOf, level, make, withinCeilings}
 use Rattle.language.specs.Scan as L
 use Rattle.language.specs.Tree as T
@@ -38,13 +38,13 @@ use Rattle.parse_terminals.proofs.FunctionWords.{constant-taken, input-
 -- ---- A constant that is not kept.
 
 module _ {text : List ℕ} {w : Word} {s : State} {a : Answer} where
-  pub constant-read : kindNo (w .kind) ≡ 2 → Took text w (countsOf s) s a → Constants text w s a
+  pub constant-read : kindNo (w .kind) ≡ aConstant → Took text w (countsOf s) s a → Constants text w s a
   constant-read e t z = word-taken t (λ d. read (t .done d)) (λ K. K) same (λ K b. constant-taken text w K b s z e)
     where
       read : Passed text w (countsOf s) s a → Moved text (plainWord aConstant ∷ []) same w s a
       read p = record { course = λ K b. constant-taken text w K b s z e ∙ took-done p z K b; state = state-of (p .counts) (p .kept); seen = p .seen }
 
-  pub constant-not : (kindNo (w .kind) ≡ 2 → ⊥) → Refuses w 3 a → Constants text w s a
+  pub constant-not : (kindNo (w .kind) ≡ aConstant → ⊥) → Refuses w 3 a → Constants text w s a
   constant-not n r z = refuses 3 r (λ K b. word-stuck text w 2 level z n K b (countsOf s))
 
 -- ---- The declared name once more.
@@ -57,7 +57,7 @@ letters-alike text v w {p} {q} e f g h =
     rw (g, h) (ap (λ (x : Position). L.same (letters text (x .place) (w .size)) (letters text p (v .size))) f ∙ ap (λ (x : Position). L.same (lettersOf text w) (letters text (x .place) (v .size))) e)
 
 module _ {text : List ℕ} (name : Word) {w : Word} {s : State} {a : Answer} where
-  pub repeated : kindNo (w .kind) ≡ 1 → L.same (lettersOf text w) (lettersOf text name) ≡ true → Took text w (countsOf s) s a → Repeats text name w s a
+  pub repeated : kindNo (w .kind) ≡ aName → L.same (lettersOf text w) (lettersOf text name) ≡ true → Took text w (countsOf s) s a → Repeats text name w s a
   unfolding wordNo letters
   repeated e h t x equal z f = record { done = λ d. read (t .done d); refused = λ i d. absurd (true≢false (sym f ∙ t .refused i d .0)); full = λ d. absurd (t .full d) }
     where
@@ -67,11 +67,11 @@ module _ {text : List ℕ} (name : Word) {w : Word} {s : State} {a : Answer} whe
       read : Passed text w (countsOf s) s a → Moved text (again ∷ []) (atFunction text name x equal) w s a
       read p = record { course = λ K b. step K b ∙ rw (p .words z, p .counts); state = state-of (p .counts) (p .kept); seen = p .seen }
 
-  pub different : kindNo (w .kind) ≡ 1 → L.same (lettersOf text w) (lettersOf text name) ≡ false → Refuses w 3 a → Repeats text name w s a
+  pub different : kindNo (w .kind) ≡ aName → L.same (lettersOf text w) (lettersOf text name) ≡ false → Refuses w 3 a → Repeats text name w s a
   unfolding wordNo letters
   different e h r x equal z f = refuses 3 r (λ K b. name-different text w K (atFunction text name x equal b) s z e h)
 
-  pub unnamed : (kindNo (w .kind) ≡ 1 → ⊥) → Refuses w 3 a → Repeats text name w s a
+  pub unnamed : (kindNo (w .kind) ≡ aName → ⊥) → Refuses w 3 a → Repeats text name w s a
   unnamed n r x equal z f = refuses 3 r (λ K b. no-name text w K (atFunction text name x equal b) s z n)
 
   module _ (t : Repeats text name w s a) where
@@ -80,7 +80,7 @@ module _ {text : List ℕ} (name : Word) {w : Word} {s : State} {a : Answer} whe
         let y = t x equal z f in
         record { done = λ d. absurd (n d); refused = λ i d K b. y .refused i d (closing closeParen ∷ make makeInput ∷ K) b; full = y .full }
 
-    pub closed-read : a .verdict ≡ Done → {r : Answer} → Expected text 6 Closes (a .next) (a .state) r → Closing text name w s r
+    pub closed-read : a .verdict ≡ Done → {r : Answer} → Expected text closeParen Closes (a .next) (a .state) r → Closing text name w s r
     unfolding wordNo
     closed-read done {r} u x equal z f = expected u (λ d. read (u .done d (y .seen) (omega arith))) (y .seen) (omega arith) (λ K. make makeInput ∷ K) (atFunction text name x equal) to-close
       where
@@ -106,11 +106,11 @@ module _ {text : List ℕ} (name : Word) {w : Word} {s : State} {a : Answer} (t 
   pub input-not : (a .verdict ≡ Done → ⊥) → Inputs text name w s a
   input-not n x equal z e = word-taken t (λ d. absurd (n d)) inputStack (atFunction text name x equal) (λ K b. input-taken text w K (atFunction text name x equal b) s e)
 
-  module _ (taken : a .verdict ≡ Done) {o : Answer} (u : Expected text 5 Opens (a .next) (a .state) o) where
+  module _ (taken : a .verdict ≡ Done) {o : Answer} (u : Expected text openParen Opens (a .next) (a .state) o) where
     p : Passed text w (countsOf s) s a
     p = t .done taken
 
-    to-open : Seen text w → kindNo (w .kind) ≡ 44 → (K : Stack) (b : Built) → runs text (ask functionOf ∷ K) w b s ≡ runs text (inputStack K) (a .next) b (a .state)
+    to-open : Seen text w → kindNo (w .kind) ≡ inputWord → (K : Stack) (b : Built) → runs text (ask functionOf ∷ K) w b s ≡ runs text (inputStack K) (a .next) b (a .state)
     to-open z e K b = input-taken text w K b s e ∙ took-done p z (inputStack K) b
 
     pub open-not : (o .verdict ≡ Done → ⊥) → Inputs text name w s o
@@ -121,7 +121,7 @@ module _ {text : List ℕ} (name : Word) {w : Word} {s : State} {a : Answer} (t 
           × ((K : Stack) (b : Built) → runs text (inputStack K) (a .next) b (a .state) ≡ runs text (plainWord aConstant ∷ plainWord comma ∷ (nameStack ++ K)) (o .next) b (o .state))
       q = let x = u .done opened (p .seen) (omega arith) in (x .0, λ K b. x .1 (plainWord aConstant ∷ plainWord comma ∷ (nameStack ++ K)) b)
 
-      to-constant : Seen text w → kindNo (w .kind) ≡ 44 → (K : Stack) (b : Built) → runs text (ask functionOf ∷ K) w b s ≡ runs text (plainWord aConstant ∷ plainWord comma ∷ (nameStack ++ K)) (o .next) b (o .state)
+      to-constant : Seen text w → kindNo (w .kind) ≡ inputWord → (K : Stack) (b : Built) → runs text (ask functionOf ∷ K) w b s ≡ runs text (plainWord aConstant ∷ plainWord comma ∷ (nameStack ++ K)) (o .next) b (o .state)
       to-constant z e K b = to-open z e K b ∙ q .1 K b
 
       told : Tells text (plainWord aConstant ∷ []) same (o .next) (o .state) c (Moved text (plainWord aConstant ∷ []) same (o .next) (o .state) c)
@@ -134,11 +134,11 @@ module _ {text : List ℕ} (name : Word) {w : Word} {s : State} {a : Answer} (t 
         full = told .full;
       }
 
-      module _ (valued : c .verdict ≡ Done) {m : Answer} (j : Expected text 9 Level (c .next) (c .state) m) where
+      module _ (valued : c .verdict ≡ Done) {m : Answer} (j : Expected text comma Level (c .next) (c .state) m) where
         y : Moved text (plainWord aConstant ∷ []) same (o .next) (o .state) c
         y = told .done valued
 
-        to-comma : Seen text w → kindNo (w .kind) ≡ 44 → (K : Stack) (b : Built) → runs text (ask functionOf ∷ K) w b s ≡ runs text (plainWord comma ∷ (nameStack ++ K)) (c .next) b (c .state)
+        to-comma : Seen text w → kindNo (w .kind) ≡ inputWord → (K : Stack) (b : Built) → runs text (ask functionOf ∷ K) w b s ≡ runs text (plainWord comma ∷ (nameStack ++ K)) (c .next) b (c .state)
         to-comma z e K b = to-constant z e K b ∙ y .course (plainWord comma ∷ (nameStack ++ K)) b
 
         pub comma-not : (m .verdict ≡ Done → ⊥) → Inputs text name w s m
@@ -148,7 +148,7 @@ module _ {text : List ℕ} (name : Word) {w : Word} {s : State} {a : Answer} (t 
           g : Passed text (c .next) (countsOf (c .state)) (c .state) m
           g = j .done separated (y .seen) (omega arith) .0
 
-          to-name : Seen text w → kindNo (w .kind) ≡ 44 → (K : Stack) (b : Built) → runs text (ask functionOf ∷ K) w b s ≡ runs text (nameStack ++ K) (m .next) b (m .state)
+          to-name : Seen text w → kindNo (w .kind) ≡ inputWord → (K : Stack) (b : Built) → runs text (ask functionOf ∷ K) w b s ≡ runs text (nameStack ++ K) (m .next) b (m .state)
           to-name z e K b = to-comma z e K b ∙ j .done separated (y .seen) (omega arith) .1 (nameStack ++ K) b
 
           back : closedState (m .state) ≡ s

@@ -60,7 +60,7 @@ fn behind_equal(
     ensures { λ r. ⌜ Follows (now (text .entry)) name equal w s (now (work .entry)) (now (work .exit)) r ⌝ }
 {
     let kind = w.kind;
-    if kinds::number(kind) != kinds::INPUT {
+    if kinds::number(kind) != text_kinds::INPUT {
         return computed(text, equal, w, work, s);
     }
     let equals = places::position(0);
@@ -88,7 +88,7 @@ pub fn function(
         return plain(w, s);
     }
     let kind = w.kind;
-    if kinds::number(kind) != kinds::EQUAL {
+    if kinds::number(kind) != text_kinds::EQUAL {
         return plain(w, s);
     }
     let equal = taking::take(text, w, s, false, Bearing::Level);

@@ -18,7 +18,7 @@ fn constant(text: &[u8], w: Word, s: State) -> Answer
     ensures { λ r. ⌜ Constants (now (text .entry)) w s r ⌝ }
 {
     let kind = w.kind;
-    if kinds::number(kind) == kinds::CONSTANT {
+    if kinds::number(kind) == text_kinds::CONSTANT {
         return taking::take(text, w, s, false, Bearing::Level);
     }
     taking::refuse(w, s, 3)
@@ -40,7 +40,7 @@ fn again(text: &[u8], name: Word, w: Word, s: State) -> Answer
     ensures { λ r. ⌜ Repeats (now (text .entry)) name w s r ⌝ }
 {
     let kind = w.kind;
-    if kinds::number(kind) != kinds::NAME {
+    if kinds::number(kind) != text_kinds::NAME {
         return taking::refuse(w, s, 3);
     }
     if alike(text, name, w) {
@@ -61,7 +61,7 @@ fn closed(text: &[u8], name: Word, w: Word, s: State) -> Answer
         text,
         repeated.next,
         repeated.state,
-        kinds::CLOSE_PAREN,
+        text_kinds::CLOSE_PAREN,
         Bearing::Closes,
     )
 }
@@ -78,7 +78,7 @@ pub fn input(text: &[u8], name: Word, w: Word, s: State) -> Answer
         text,
         first.next,
         first.state,
-        kinds::OPEN_PAREN,
+        text_kinds::OPEN_PAREN,
         Bearing::Opens,
     );
     if parse_step::unread(open) {
@@ -88,7 +88,13 @@ pub fn input(text: &[u8], name: Word, w: Word, s: State) -> Answer
     if parse_step::unread(value) {
         return value;
     }
-    let comma = taking::expect(text, value.next, value.state, kinds::COMMA, Bearing::Level);
+    let comma = taking::expect(
+        text,
+        value.next,
+        value.state,
+        text_kinds::COMMA,
+        Bearing::Level,
+    );
     if parse_step::unread(comma) {
         return comma;
     }

@@ -37,7 +37,7 @@ fn more(text: &[u8], w: Word, work: &mut [u8; 275296], s: State, place: u16) -> 
     let mut after = place;
     loop {
         let kind = next.kind;
-        if kinds::number(kind) != kinds::COMMA {
+        if kinds::number(kind) != text_kinds::COMMA {
             return lists::ended(text, next, state, after);
         }
         let comma = taking::take(text, next, state, false, Bearing::Level);

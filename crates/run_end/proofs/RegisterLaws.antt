@@ -18,8 +18,8 @@ use Rattle.language.specs.Tree.{Kind, computed, input, memory, plain, register,
 use Rattle.language.specs.Value as L
 use Rattle.about_running.specs.StateValues.{found-from, some-word}
 use Rattle.value_limbs.specs.Limbs.{number}
-use Rattle.value_operations.specs.Meaning.{valued}
-use Rattle.value_operations.specs.declared.Value.{Value}
+use Rattle.value_operators.specs.Meaning.{valued}
+use Rattle.value_operators.specs.declared.Value.{Value}
 use Rattle.image_records.specs.Nodes.{held}
 use Rattle.image_sections.specs.Declarations.{FacilityRead, StateRead, facilityMeant, valueMeant}
 use Rattle.image_sections.specs.declared.facilities.Facility.{Facility}

@@ -8,7 +8,7 @@ use run_references::arms::Found;
 use run_references::bounds;
 use run_references::constants;
 use store_words::parts;
-use value_operations::Value;
+use value_operators::Value;
 ghost use mathlib.Core.List.{List};
 ghost use mathlib.Core.Path.{_≡_};
 ghost use Prim.Native.Nat.{ℕ, _*_, _/_, _≤_};
@@ -29,7 +29,7 @@ fn put_first_word(store: &mut [u8], f: Facility, x: Value)
     ensures { λ _. ⌜ ((name : Name) → wordLength (facilityMeant name f) ≤ 256 → now (store .exit) ≡ saved (now (store .entry)) (f .place) (8 * wordBytes (wordLength (facilityMeant name f))) 0 (8 * wordBytes (wordLength (facilityMeant name f))) (number (x .limbs))) ⌝ }
 {
     let length = bounds::word_length(f);
-    if value_operations::lengths::LONGEST < length {
+    if value_operators::lengths::LONGEST < length {
         return;
     }
     let all = 8 * ((length + 7) / 8);

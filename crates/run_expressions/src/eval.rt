@@ -21,7 +21,7 @@ use run_references::worth;
 use run_references::worth::Outcome;
 use run_references::worth::Stuck;
 use run_references::worth::Worth;
-use value_operations::lengths;
+use value_operators::lengths;
 ghost use mathlib.Core.Path.{_≡_};
 ghost use Rattle.language.specs.Acting.{side};
 ghost use Rattle.language.specs.Meaning as M;

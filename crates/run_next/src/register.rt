@@ -5,7 +5,7 @@ use image_sections::kinds;
 use run_references::arms::Found;
 use run_references::bounds;
 use store_words::parts;
-use value_operations::Value;
+use value_operators::Value;
 ghost use mathlib.Core.List.{List};
 ghost use mathlib.Core.Path.{_≡_};
 ghost use Prim.Native.Nat.{ℕ, _*_, _/_, _≤_};
@@ -13,7 +13,7 @@ ghost use lib.ListN.{length};
 ghost use Rattle.language.specs.Description.{Description, sequencingOf, wordLength};
 ghost use Rattle.language.specs.Layout.{wordBytes};
 ghost use Rattle.language.specs.Tree.{Name};
-ghost use Rattle.value_operations.specs.Meaning.{valued};
+ghost use Rattle.value_operators.specs.Meaning.{valued};
 ghost use Rattle.image_sections.specs.Declarations.{facilityMeant};
 ghost use Rattle.store_layout.specs.Parts.{loaded};
 ghost use Rattle.run_references.specs.Described.{Describes};
@@ -42,7 +42,7 @@ pub fn first_word(store: &[u8], f: Facility) -> Value
     ensures { λ r. ⌜ ((name : Name) → wordLength (facilityMeant name f) ≤ 256 → valued r ≡ loaded (now (store .entry)) (f .place) (8 * wordBytes (wordLength (facilityMeant name f))) 0 (8 * wordBytes (wordLength (facilityMeant name f)))) ⌝ }
 {
     let length = bounds::word_length(f);
-    if value_operations::lengths::LONGEST < length {
+    if value_operators::lengths::LONGEST < length {
         return Value {
             limbs: [0u64; 4],
             length: 0,

@@ -14,7 +14,7 @@ use Rattle.language.specs.Description.{constantValue, digitLength}
 use Rattle.language.specs.Value.{Value, value}
 use Rattle.image_records.proofs.DigitLaws.{constant-digits, further-of}
 use Rattle.image_records.specs.Nodes.{constantNumber, digits, held}
-use Rattle.value_operations.proofs.Fits.{joined-cut}
+use Rattle.value_operators.proofs.Fits.{joined-cut}
 
 digits-more : (k n : ℕ) (s : List ℕ) → digits (k + 1) (n + 1) s ≡ digits k n s * 2 ^ 48 + numberAt 6 (8 * n + 2) s
 unfolding digits digitLength

@@ -1,7 +1,7 @@
 -- What the code's answers mean in the language.
 use Rattle.language.specs.Meaning as M
 use Rattle.language.specs.Value as L
-use Rattle.value_operations.specs.Meaning.{valued}
+use Rattle.value_operators.specs.Meaning.{valued}
 use Rattle.run_references.specs.declared.worth.Outcome.{Outcome}
 use Rattle.run_references.specs.declared.worth.Outcome.the-variants as O
 use Rattle.run_references.specs.declared.worth.Stuck.{Stuck}

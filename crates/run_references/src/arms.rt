@@ -2,7 +2,7 @@
 use crate::bounds;
 use image_records::nodes;
 use image_records::nodes::Node;
-use value_operations::Value;
+use value_operators::Value;
 ghost use mathlib.Core.Path.{_≡_};
 ghost use Rattle.language.specs.Description.{Description};
 ghost use Rattle.language.specs.Meaning.{armBack, armNumber};

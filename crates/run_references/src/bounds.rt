@@ -2,8 +2,8 @@
 use image_sections::facilities::Bounds;
 use image_sections::facilities::Facility;
 use store_words::places;
-use value_operations::Value;
-use value_operations::numbers;
+use value_operators::Value;
+use value_operators::numbers;
 ghost use mathlib.Core.Bool.{cond, false};
 ghost use mathlib.Core.Path.{_≡_};
 ghost use Prim.Native.Nat.{_-_, _≤_, min};

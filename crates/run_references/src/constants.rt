@@ -2,14 +2,14 @@
 use image_records::nodes;
 use image_records::nodes::Node;
 use image_records::numbers;
-use value_operations::Value;
+use value_operators::Value;
 ghost use mathlib.Core.Path.{_≡_};
 ghost use Prim.Native.Nat.{suc, _+_, _-_, _*_, _%_, _^_, _≤_};
 ghost use lib.ListN.{length};
 ghost use Rattle.language.specs.Decode.{nodeOf};
 ghost use Rattle.language.specs.Description.{constantValue};
 ghost use Rattle.value_limbs.specs.Limbs.{number};
-ghost use Rattle.value_operations.specs.Meaning.{valued};
+ghost use Rattle.value_operators.specs.Meaning.{valued};
 ghost use Rattle.image_records.specs.Nodes.{digits, held};
 
 // The record k before record n, or the first.

@@ -4,7 +4,7 @@ use crate::worth::Outcome;
 use crate::worth::Stuck;
 use crate::worth::Worth;
 use image_sections::facilities::Bounds;
-use value_operations::Value;
+use value_operators::Value;
 ghost use mathlib.Core.Bool.{cond};
 ghost use mathlib.Core.Path.{_≡_};
 ghost use Prim.Native.Nat.{ℕ};
@@ -80,7 +80,7 @@ pub fn subscript(w: Worth, b: Bounds) -> Distance
 pub fn narrow(facility: u8, word: u16, from: u16, count: u32) -> Located
     ensures { λ r. ⌜ locatedMeant r ≡ M.narrow (M.place facility word from count) ⌝ }
 {
-    if value_operations::lengths::LONGEST < count {
+    if value_operators::lengths::LONGEST < count {
         return Located::Stuck(Stuck::WrongLength);
     }
     let place = Place {

@@ -1,10 +1,11 @@
 // What an expression gives, and what an operator makes of its operands' worth.
-use value_operations::Made;
-use value_operations::Value;
+use value_operators::Made;
+use value_operators::Value;
+use value_operators::operators;
 ghost use mathlib.Core.Path.{_≡_};
 ghost use Rattle.language.specs.Meaning as M;
 ghost use Rattle.language.specs.Operators.{binaryOf, cutOf, prefixOf};
-ghost use Rattle.value_operations.specs.Meaning.{meant, valued};
+ghost use Rattle.value_operators.specs.Meaning.{meant, valued};
 ghost use Rattle.run_references.specs.Worth.{answered, stuckMeant};
 
 // The ways to be stuck, which no passing image reaches.
@@ -95,7 +96,7 @@ pub fn binary(kind: u8, x: Value, y: Worth) -> Worth
     match outcome {
         Outcome::Is => {
             let v = y.value;
-            worth_or(Stuck::WrongLength, value_operators::binary(kind, x, v))
+            worth_or(Stuck::WrongLength, operators::binary(kind, x, v))
         }
         Outcome::Stops(_) => y,
         Outcome::Stuck(_) => y,
@@ -110,7 +111,7 @@ pub fn prefix(kind: u8, x: Worth) -> Worth
     match outcome {
         Outcome::Is => {
             let v = x.value;
-            worth_or(Stuck::WrongLength, value_operators::prefix(kind, v))
+            worth_or(Stuck::WrongLength, operators::prefix(kind, v))
         }
         Outcome::Stops(_) => x,
         Outcome::Stuck(_) => x,
@@ -125,7 +126,7 @@ pub fn cut(kind: u8, x: Worth, c: u16) -> Worth
     match outcome {
         Outcome::Is => {
             let v = x.value;
-            worth_or(Stuck::WrongCount, value_operators::cut(kind, v, c))
+            worth_or(Stuck::WrongCount, operators::cut(kind, v, c))
         }
         Outcome::Stops(_) => x,
         Outcome::Stuck(_) => x,

@@ -5,7 +5,7 @@ use image_sections::states::StateValue;
 use run_next::register;
 use run_references::arms::Found;
 use run_references::constants;
-use value_operations::numbers;
+use value_operators::numbers;
 ghost use mathlib.Core.List.{List};
 ghost use mathlib.Core.Option.{some};
 ghost use mathlib.Core.Path.{_≡_};

@@ -9,7 +9,7 @@ use lib.Dec.{eqb}
 use Rattle.language.specs.Acting as T
 use Rattle.language.specs.Description as D
 use Rattle.language.specs.Description.{Description, facilityAt, isComputed, wordLength}
-use Rattle.language.specs.Kinds.{delayedSign}
+use Rattle.language.specs.Kinds.{delayedSign, equalSign}
 use Rattle.language.specs.Meaning as M
 use Rattle.language.specs.Meaning.{Stores, Write}
 use Rattle.language.specs.Storing.{isPlain, mayStore, takesDelayed, takesImmediate}
@@ -47,7 +47,7 @@ not-computed false K.computed e = absurd (true≢false (sym e))
 
 pub stored-kind : (sign : ℕ) (k : Kind) → mayStore sign k ≡ true → isComputed k ≡ false
 unfolding mayStore
-stored-kind sign k e = by-sign (eqb sign delayedSign) (eqb sign 16) e
+stored-kind sign k e = by-sign (eqb sign delayedSign) (eqb sign equalSign) e
   where
     by-sign : (a b : Bool) → cond a (takesDelayed k) (cond b (takesImmediate k) false) ≡ true → isComputed k ≡ false
     by-sign true b h = not-computed true k h

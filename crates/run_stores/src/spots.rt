@@ -5,7 +5,7 @@ use run_references::places::Place;
 use store_words::delayed;
 use store_words::parts;
 use store_words::places;
-use value_operations::Value;
+use value_operators::Value;
 ghost use mathlib.Core.Path.{_≡_};
 ghost use Prim.Native.Nat.{_-_, _^_};
 ghost use lib.Dec.{ltb};

@@ -3,19 +3,18 @@ use crate::doing;
 use crate::doing::Did;
 use crate::doing::Doing;
 use crate::spots;
-use image_records::actions;
 use image_sections::facilities::Facility;
 use image_sections::kinds;
 use run_references::places::Place;
 use run_references::worth::Stuck;
-use value_operations::Value;
+use value_operators::Value;
 ghost use mathlib.Core.Bool.{_||_, cond, false};
 ghost use mathlib.Core.List.{List, [], _∷_};
 ghost use mathlib.Core.Path.{_≡_};
 ghost use Prim.Native.Nat.{ℕ, _+_, _/_, _%_, _^_};
 ghost use Rattle.language.specs.Acting as T;
 ghost use Rattle.value_limbs.specs.Limbs.{number};
-ghost use Rattle.value_operations.specs.Meaning.{valued};
+ghost use Rattle.value_operators.specs.Meaning.{valued};
 ghost use Rattle.store_layout.specs.InBytes.{bytes};
 ghost use Rattle.run_references.specs.Places.{placeMeant};
 ghost use Rattle.run_references.specs.Described.{There};
@@ -42,7 +41,7 @@ pub fn store_one(
         return Did::Stuck(Stuck::NotStorable);
     }
     let s = spots::spot_of(f, p);
-    if sign == actions::DELAYED {
+    if sign == text_kinds::DELAYED {
         let hit = spots::marked(mask, s);
         spots::delay(pending, mask, s, v);
         return Did::Went(doing::delaying(g, hit, kinds::is_sequencing(kind)));
@@ -100,7 +99,7 @@ pub fn store_pair(
     }
     let s = spots::spot_of(f, p);
     let t = spots::spot_of(h, q);
-    if sign == actions::DELAYED {
+    if sign == text_kinds::DELAYED {
         let hit = spots::marked(mask, s) | spots::marked(mask, t);
         spots::delay(pending, mask, s, high(v, q.count));
         spots::delay(pending, mask, t, low(v, q.count));

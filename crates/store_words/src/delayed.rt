@@ -1,7 +1,7 @@
 // Delayed stores wait in a slice like the store, beside a mask of the bits that they name.
 use crate::bytes;
 use crate::parts;
-use value_operations::Value;
+use value_operators::Value;
 ghost use mathlib.Core.Path.{_≡_};
 ghost use Prim.Native.Nat.{_-_, _^_};
 ghost use lib.Dec.{ltb};

@@ -2,13 +2,13 @@
 use crate::bits;
 use crate::bytes;
 use crate::places;
-use value_operations::Value;
+use value_operators::Value;
 ghost use mathlib.Core.Path.{_≡_};
 ghost use Prim.Native.Nat.{_+_, _*_, _^_, _≤_, _<_};
 ghost use lib.ListN.{length as size};
 ghost use Rattle.language.specs.Layout.{wordBytes};
 ghost use Rattle.value_limbs.specs.Limbs.{number};
-ghost use Rattle.value_operations.specs.Meaning.{valued};
+ghost use Rattle.value_operators.specs.Meaning.{valued};
 ghost use Rattle.store_words.specs.Runs.{InRuns};
 ghost use Rattle.store_layout.specs.Parts.{inside as Inside, loaded, partIn, saved, withPart};
 
@@ -29,7 +29,7 @@ fn inside(bytes: usize, at: usize, length: u32, from: u32, count: u32) -> bool
     if length - count < from {
         return false;
     }
-    count <= value_operations::lengths::LONGEST
+    count <= value_operators::lengths::LONGEST
 }
 
 // A part in four runs of up to 64 bits, the lowest first: where each but the first begins, and how many bits each has.

@@ -21,10 +21,10 @@ use Rattle.language.specs.Value.{Value, fit, longest, made, none}
 use Rattle.language.specs.Words.{Constant}
 use Rattle.value_constants.specs.Digits.{Held, Written, bare, counting, decimalMore, holding, onLeft, onRight}
 use Rattle.value_constants.proofs.Digits.{bare-made, bare-refused, counted-number, decimal-made, left-made, right-made, start-left}
-use Rattle.value_operations.proofs.Fits.{fit-refused}
-use Rattle.value_operations.specs.declared.Made.{Made}
-use Rattle.value_operations.specs.Meaning as Meaning
-use Rattle.value_operations.specs.Meaning.{allowed}
+use Rattle.value_operators.proofs.Fits.{fit-refused}
+use Rattle.value_operators.specs.declared.Made.{Made}
+use Rattle.value_operators.specs.Meaning as Meaning
+use Rattle.value_operators.specs.Meaning.{allowed}
 use Rattle.text_items.specs.declared.Kind.the-variants as K
 use Rattle.text_items.specs.Digits.{binaryFrom, binaryMore, eachDigit, lengthOf}
 use Rattle.text_items.specs.Meaning.{itemOf, madeItem, meant, plainItem}

@@ -7,8 +7,8 @@ use Rattle.language.specs.Characters.{folded}
 use Rattle.language.specs.Scan as L
 use Rattle.language.specs.Scan.{Found, found, gap, itemAt, written}
 use Rattle.language.specs.Words.{Constant}
-use Rattle.value_operations.specs.declared.Made.{Made}
-use Rattle.value_operations.specs.Meaning.{blank, valued}
+use Rattle.value_operators.specs.declared.Made.{Made}
+use Rattle.value_operators.specs.Meaning.{blank, valued}
 use Rattle.text_items.specs.declared.Item.{Item}
 use Rattle.text_items.specs.declared.Kind.{Kind}
 use Rattle.text_items.specs.declared.Kind.the-variants as K

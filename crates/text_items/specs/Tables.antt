@@ -5,6 +5,7 @@ use Prim.Native.Nat.{ℕ, zero, suc, _+_, _*_}
 use lib.Dec.{eqb, ltb}
 use lib.ListN.{drop, getD, take}
 use Rattle.language.specs.Characters.{folded}
+use Rattle.language.specs.Kinds.{atLeastSign, atMostSign, atSign, callSign, caseWord, closeBracket, closeParen, colon, comma, delayedSign, differenceSign, dollar, equalSign, equalsSign, exclusiveSign, gotoSign, greaterSign, hash, lessSign, minus, openBracket, openParen, period, plus, semicolon, slash, star, sumSign}
 use Rattle.language.specs.Scan.{Reserved, Spelled, bytes, isNamePart, span}
 
 -- ---- Symbols in three columns.
@@ -18,7 +19,8 @@ unfoldable pub symbolSize : ℕ → ℕ
 symbolSize row = cond (ltb row 4) 3 (cond (ltb row 9) 2 1)
 
 unfoldable pub symbolKinds : List ℕ
-symbolKinds = 21 ∷ 22 ∷ 23 ∷ 24 ∷ 25 ∷ 26 ∷ 27 ∷ 28 ∷ 29 ∷ 29 ∷ 3 ∷ 4 ∷ 5 ∷ 6 ∷ 7 ∷ 8 ∷ 9 ∷ 10 ∷ 11 ∷ 12 ∷ 13 ∷ 14 ∷ 15 ∷ 16 ∷ 17 ∷ 18 ∷ 19 ∷ 20 ∷ []
+symbolKinds =
+    exclusiveSign ∷ sumSign ∷ differenceSign ∷ equalsSign ∷ atLeastSign ∷ atMostSign ∷ gotoSign ∷ callSign ∷ delayedSign ∷ delayedSign ∷ hash ∷ dollar ∷ openParen ∷ closeParen ∷ star ∷ plus ∷ comma ∷ minus ∷ period ∷ slash ∷ colon ∷ semicolon ∷ lessSign ∷ equalSign ∷ greaterSign ∷ atSign ∷ openBracket ∷ closeBracket ∷ []
 
 unfoldable pub symbolRow : ℕ → List ℕ
 symbolRow row = take (symbolSize row) (drop (row * 3) spellings)
@@ -45,7 +47,7 @@ unfoldable pub beginsAlike : List ℕ → List ℕ → Bool
 beginsAlike [] t = true
 beginsAlike (b ∷ s) t = eqb (folded b) (folded (getD t 0 0))
 
--- n reserved words from a row on; the kind of the first is 30, and the others' follow it.
+-- n reserved words from a row on; the kind of the first is that of CASE, and the others' follow it.
 unfoldable pub reservedFrom : ℕ → ℕ → List Reserved
 reservedFrom zero row = []
-reservedFrom (suc n) row = record { letters = map folded (reservedRow row); kind = 30 + row } ∷ reservedFrom n (suc row)
+reservedFrom (suc n) row = record { letters = map folded (reservedRow row); kind = caseWord + row } ∷ reservedFrom n (suc row)

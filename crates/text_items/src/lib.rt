@@ -1,7 +1,7 @@
 // The item at the start of a text (the manual, 2.1 to 2.4): blanks, a comment, a name, a constant or a symbol.
-use value_operations::Made;
-use value_operations::Value;
-use value_operations::fitting;
+use value_operators::Made;
+use value_operators::Value;
+use value_operators::fitting;
 ghost use mathlib.Core.Path.{_≡_};
 ghost use Rattle.text_items.specs.Meaning.{madeItem, plainItem};
 

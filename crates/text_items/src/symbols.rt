@@ -22,10 +22,36 @@ const SPELLINGS: [u8; 84] = *b"\
     _  #  $  (  )  *  +  ,  -  .  /  :  ;  <  =  >  @  [  ]  ";
 
 // The kind of each.
-const KINDS: [u8; 28] = *b"\
-    \x15\x16\x17\x18\
-    \x19\x1a\x1b\x1c\x1d\
-    \x1d\x03\x04\x05\x06\x07\x08\x09\x0a\x0b\x0c\x0d\x0e\x0f\x10\x11\x12\x13\x14";
+const KINDS: [u8; 28] = [
+    text_kinds::EXCLUSIVE,
+    text_kinds::SUM,
+    text_kinds::DIFFERENCE,
+    text_kinds::EQUALS,
+    text_kinds::AT_LEAST,
+    text_kinds::AT_MOST,
+    text_kinds::GOTO,
+    text_kinds::CALL,
+    text_kinds::DELAYED,
+    text_kinds::DELAYED,
+    text_kinds::HASH,
+    text_kinds::DOLLAR,
+    text_kinds::OPEN_PAREN,
+    text_kinds::CLOSE_PAREN,
+    text_kinds::STAR,
+    text_kinds::PLUS,
+    text_kinds::COMMA,
+    text_kinds::MINUS,
+    text_kinds::PERIOD,
+    text_kinds::SLASH,
+    text_kinds::COLON,
+    text_kinds::SEMICOLON,
+    text_kinds::LESS,
+    text_kinds::EQUAL,
+    text_kinds::GREATER,
+    text_kinds::AT,
+    text_kinds::OPEN_BRACKET,
+    text_kinds::CLOSE_BRACKET,
+];
 
 // How many bytes the symbol of a row has.
 fn size_of(row: usize) -> usize

@@ -17,7 +17,7 @@ use Rattle.text_items.specs.declared.Item.{Item}
 use Rattle.text_items.specs.declared.Kind as S
 use Rattle.text_items.specs.declared.Kind.the-variants as I
 use Rattle.text_items.specs.Meaning.{itemOf, itemStart, meant, plainItem}
-use Rattle.value_operations.specs.Meaning.{valued}
+use Rattle.value_operators.specs.Meaning.{valued}
 use Rattle.text_words.specs.Meaning.{Next, following, inFront, isEnd, kindFault, wordItem, wordKind}
 use Rattle.text_words.proofs.Least.{From, first-least, from-less}
 use Rattle.text_words.proofs.Sizes.{Sized, item-sized, start-sized}

@@ -16,7 +16,7 @@ use Rattle.text_items.specs.declared.Item.{Item}
 use Rattle.text_items.specs.declared.Kind as S
 use Rattle.text_items.specs.declared.Kind.the-variants as I
 use Rattle.text_items.specs.Meaning.{itemStart}
-use Rattle.value_operations.specs.Meaning.{valued}
+use Rattle.value_operators.specs.Meaning.{valued}
 use Rattle.text_words.specs.declared.Fault.{Fault}
 use Rattle.text_words.specs.declared.Judged.{Judged}
 use Rattle.text_words.specs.declared.Judged.the-variants.{Passed, Refused}

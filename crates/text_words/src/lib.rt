@@ -1,5 +1,5 @@
 // From bytes to words (01, "Words" and "Refusal numbers"): the next word from a place on, and the stage that judges a whole text.
-use value_operations::Value;
+use value_operators::Value;
 
 pub mod faults;
 pub mod lines;

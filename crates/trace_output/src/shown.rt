@@ -7,7 +7,7 @@ use image_sections::kinds;
 use run_references::bounds;
 use store_words::parts;
 use store_words::places;
-use value_operations::numbers;
+use value_operators::numbers;
 ghost use mathlib.Core.Bool.{true};
 ghost use mathlib.Core.List.{List};
 ghost use mathlib.Core.Path.{_≡_};

@@ -13,9 +13,9 @@ use lib.Pow.{pow-mono, pow-pos, pow-add, shl-lt, shr-lt, shr-shr, shl-shr, high}
 use borrow.Author.Tests.{lt-ltb, lt-leb, le-leb}
 use Rattle.language.specs.Value.{fit, made, none, value, longest}
 use Rattle.language.specs.Constants.{digitsAfter, digitsNumber, leftJustified, rightJustified, binaryConstant, decimalConstant, bareConstant, bareLargest, bareLength}
-use Rattle.value_operations.specs.Meaning.{allowed}
+use Rattle.value_operators.specs.Meaning.{allowed}
 use Rattle.value_constants.specs.Digits.{Held, Written, holding, decimalMore, counting, bare, onRight, rightMore, onLeft, leftMore}
-use Rattle.value_operations.proofs.Fits.{joined-cut, fit-wrap, fit-allowed, allowed-le}
+use Rattle.value_operators.proofs.Fits.{joined-cut, fit-wrap, fit-allowed, allowed-le}
 
 pub held-of : {a b : ℕ} {p q : Bool} → a ≡ b → p ≡ q → _≡_ {A = Held} (record { low = a; passed = p }) (record { low = b; passed = q })
 held-of e f = ap₂ (λ (n : ℕ) (b : Bool). record { low = n; passed = b }) e f

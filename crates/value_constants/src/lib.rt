@@ -1,15 +1,15 @@
 // Constants (the manual, 2.3): their digits, one by one, and the value once they end.
 use value_limbs::Limb;
 use value_limbs::Wide;
-use value_operations::Made;
-use value_operations::fitting;
-use value_operations::lengths;
+use value_operators::Made;
+use value_operators::fitting;
+use value_operators::lengths;
 ghost use mathlib.Core.Path.{_≡_};
 ghost use Prim.Native.Nat.{_+_, _-_, _*_, _/_, _%_, _^_, _<_, min};
 ghost use Rattle.language.specs.Value as L;
 ghost use Rattle.language.specs.Constants.{leftJustified};
 ghost use Rattle.value_limbs.specs.Limbs.{number, Carry};
-ghost use Rattle.value_operations.specs.Meaning.{Means};
+ghost use Rattle.value_operators.specs.Meaning.{Means};
 ghost use Rattle.value_constants.specs.Digits.{held, holding, decimalMore, counting, bare, written, onRight, rightMore, leftMore};
 
 // Decimal digits: their number modulo 2 to the 256, and whether it passed that.

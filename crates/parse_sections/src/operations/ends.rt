@@ -12,7 +12,7 @@ fn control(text: &[u8], w: Word, s: State) -> Answer
     ensures { λ r. ⌜ Controls (now (text .entry)) w s r ⌝ }
 {
     let kind = w.kind;
-    if kinds::number(kind) != kinds::CONTROL {
+    if kinds::number(kind) != text_kinds::CONTROL {
         return taking::refuse(w, s, 3);
     }
     taking::take(text, w, s, false, Bearing::Level)
@@ -35,13 +35,13 @@ pub fn ended(text: &[u8], w: Word, s: State) -> Answer
 {
     let kind = w.kind;
     let k = kinds::number(kind);
-    if k == kinds::CONTROL {
+    if k == text_kinds::CONTROL {
         return taking::take(text, w, s, false, Bearing::Level);
     }
-    if k == kinds::PERIOD {
+    if k == text_kinds::PERIOD {
         return closed(text, w, s);
     }
-    if k == kinds::END {
+    if k == text_kinds::END {
         return closed(text, w, s);
     }
     taking::refuse(w, s, 3)

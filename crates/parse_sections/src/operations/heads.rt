@@ -34,7 +34,7 @@ fn name(text: &[u8], w: Word, s: State) -> Answer
     ensures { λ r. ⌜ Names (now (text .entry)) w s r ⌝ }
 {
     let kind = w.kind;
-    if kinds::number(kind) != kinds::NAME {
+    if kinds::number(kind) != text_kinds::NAME {
         return taking::refuse(w, s, 3);
     }
     let more = one_more(s);
@@ -49,7 +49,13 @@ pub fn head(text: &[u8], w: Word, s: State) -> Answer
     if parse_step::unread(named) {
         return named;
     }
-    let equal = taking::expect(text, named.next, named.state, kinds::EQUAL, Bearing::Level);
+    let equal = taking::expect(
+        text,
+        named.next,
+        named.state,
+        text_kinds::EQUAL,
+        Bearing::Level,
+    );
     if parse_step::unread(equal) {
         return equal;
     }
@@ -57,7 +63,7 @@ pub fn head(text: &[u8], w: Word, s: State) -> Answer
         text,
         equal.next,
         equal.state,
-        kinds::OPEN_BRACKET,
+        text_kinds::OPEN_BRACKET,
         Bearing::Opens,
     )
 }

@@ -37,7 +37,7 @@ fn more(text: &[u8], w: Word, work: &mut [u8; 275296], s: State, acts: u16) -> A
     let mut count = acts;
     loop {
         let kind = next.kind;
-        if kinds::number(kind) != kinds::COMMA {
+        if kinds::number(kind) != text_kinds::COMMA {
             let answer = ends::ended(text, next, state);
             return Acted {
                 answer,

@@ -4,7 +4,6 @@ use image_sections::runs::Run;
 use parse_names::Counts;
 use parse_step::Bearing;
 use parse_step::State;
-use parse_step::kinds;
 use parse_step::taking;
 use parse_stores::Acted;
 use parse_tables::operations;
@@ -26,7 +25,7 @@ fn body(s: State, text: &[u8], w: Word, work: &mut [u8; 275296], n: Counts, acts
         text,
         list.answer.next,
         list.answer.state,
-        kinds::CLOSE_BRACKET,
+        text_kinds::CLOSE_BRACKET,
         Bearing::Closes,
     );
     Acted {

@@ -1,5 +1,5 @@
 use mathlib.Core.Path.{ap}
-use Rattle.value_operations.specs.declared.Value.{Value}
+use Rattle.value_operators.specs.declared.Value.{Value}
 use mathlib.Core.Bool.{false}
 use borrow.Author.Needs.{needs}
 use Rattle.text_items.proofs.plain.Statement.{statement}

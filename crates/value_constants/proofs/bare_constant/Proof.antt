@@ -5,7 +5,7 @@ use borrow.Author.Tests.{le-leb, lt-leb}
 use Rattle.language.specs.Value.{fit, none}
 use Rattle.language.specs.Constants.{bareLength, bareLargest}
 use Rattle.value_constants.specs.Digits.{bare, counting, held}
-use Rattle.value_operations.proofs.Fits.{means-of, means-none}
+use Rattle.value_operators.proofs.Fits.{means-of, means-none}
 use borrow.Author.Needs.{needs}
 use Rattle.value_constants.proofs.bare_constant.Statement.{statement}
 use Rattle.value_constants.proofs.bare_constant.Tie as tie

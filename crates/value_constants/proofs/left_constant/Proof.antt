@@ -1,7 +1,7 @@
 use mathlib.Core.Path.{refl, ap, _∙_}
 use Prim.Native.Nat.{ℕ, _/_, _^_}
 use Rattle.value_limbs.specs.Limbs.{number}
-use Rattle.value_operations.proofs.Fits.{means-fit}
+use Rattle.value_operators.proofs.Fits.{means-fit}
 use borrow.Author.Needs.{needs}
 use Rattle.value_constants.proofs.left_constant.Statement.{statement}
 use Rattle.value_constants.proofs.left_constant.Tie as tie

@@ -9,7 +9,7 @@ use Rattle.language.specs.Describe.{constantNodes}
 use Rattle.language.specs.Description.{furtherDigits, nodePlaces}
 use Rattle.language.specs.Words.{Position}
 use Rattle.judge_records.specs.Noted.{plainPlaces}
-use Rattle.value_operations.specs.Meaning.{valued}
+use Rattle.value_operators.specs.Meaning.{valued}
 use Rattle.parse_array.proofs.NodesAdded.{all-digits, all-records, digit-added, digitsFrom, lowest-added}
 use Rattle.parse_array.specs.Held.{fields, held, withNodes}
 use mathlib.Core.Path.{_≡_, sym, ap, _∙_}

@@ -1,6 +1,6 @@
 use mathlib.Core.Path.{sym, _∙_}
 use borrow.Author.Tests.{not-false, not-true}
-use Rattle.value_operations.specs.Meaning.{valued}
+use Rattle.value_operators.specs.Meaning.{valued}
 use Rattle.parse_states.proofs.ValueLaws.{length-taken, no-length, not-bare, too-large}
 use borrow.Author.Needs.{needs}
 use Rattle.parse_states.proofs.values.state_value.Statement.{statement}

@@ -1,5 +1,6 @@
 use borrow.Author.Needs.{needs}
 use Rattle.about_grammar.specs.Following.{among}
+use Rattle.language.specs.Kinds.{delayedSign, equalSign}
 use Prim.Native.Nat.{ℕ}
 use mathlib.Core.List.{[], _∷_}
 use mathlib.Core.Path.{sym, ap, _∙_}
@@ -21,7 +22,7 @@ unread-requires c κs = search needs
 
 returns : tie.Need-returns
 returns c =
-    sign-untaken (c .before .before .before .before .before .before .before .args .left) (ap (λ (j : ℕ). among j (29 ∷ 16 ∷ [])) (sym (c .before .before .before .before .before .number .ensures)) ∙ sym (c .before .before .before .before .signs .ensures) ∙ c .before .before .before .if1 .taken) (c .before .before .take .ensures) (c .before .unread .ensures .1 (c .if2 .taken))
+    sign-untaken (c .before .before .before .before .before .before .before .args .left) (ap (λ (j : ℕ). among j (delayedSign ∷ equalSign ∷ [])) (sym (c .before .before .before .before .before .number .ensures)) ∙ sym (c .before .before .before .before .signs .ensures) ∙ c .before .before .before .if1 .taken) (c .before .before .take .ensures) (c .before .unread .ensures .1 (c .if2 .taken))
 
 start-requires : tie.Need-start-requires
 start-requires c κs = search needs
@@ -31,7 +32,7 @@ unread-requires-2 c κs = search needs
 
 returns-2 : tie.Need-returns-2
 returns-2 c =
-    right-unread (c .before .before .before .before .before .before .before .before .before .before .before .args .left) (ap (λ (j : ℕ). among j (29 ∷ 16 ∷ [])) (sym (c .before .before .before .before .before .before .before .before .before .number .ensures)) ∙ sym (c .before .before .before .before .before .before .before .before .signs .ensures) ∙ c .before .before .before .before .before .before .before .if1 .taken) (c .before .before .before .before .before .before .take .ensures) (c .before .before .before .before .before .unread .ensures .0 (c .before .before .before .before .if2 .left)) (c .before .before .start .ensures .0) (c .before .before .start .ensures .1) (c .before .unread2 .ensures .1 (c .if3 .taken))
+    right-unread (c .before .before .before .before .before .before .before .before .before .before .before .args .left) (ap (λ (j : ℕ). among j (delayedSign ∷ equalSign ∷ [])) (sym (c .before .before .before .before .before .before .before .before .before .number .ensures)) ∙ sym (c .before .before .before .before .before .before .before .before .signs .ensures) ∙ c .before .before .before .before .before .before .before .if1 .taken) (c .before .before .before .before .before .before .take .ensures) (c .before .before .before .before .before .unread .ensures .0 (c .before .before .before .before .if2 .left)) (c .before .before .start .ensures .0) (c .before .before .start .ensures .1) (c .before .unread2 .ensures .1 (c .if3 .taken))
 
 last-requires : tie.Need-last-requires
 last-requires c κs = search needs
@@ -44,14 +45,14 @@ put-requires c κs = search needs
 
 returns-3 : tie.Need-returns-3
 returns-3 c =
-    stores (c .before .before .before .before .before .before .before .before .before .before .before .before .before .before .before .before .args .left) (ap (λ (j : ℕ). among j (29 ∷ 16 ∷ [])) (sym (c .before .before .before .before .before .before .before .before .before .before .before .before .before .before .number .ensures)) ∙ sym (c .before .before .before .before .before .before .before .before .before .before .before .before .before .signs .ensures) ∙ c .before .before .before .before .before .before .before .before .before .before .before .before .if1 .taken) (c .before .before .before .before .before .before .before .before .before .before .before .take .ensures) (c .before .before .before .before .before .before .before .before .before .before .unread .ensures .0 (c .before .before .before .before .before .before .before .before .before .if2 .left)) (c .before .before .before .before .before .before .before .start .ensures .0) (c .before .before .before .before .before .before .before .start .ensures .1) (c .before .before .before .before .before .before .unread2 .ensures .0 (c .before .before .before .before .before .if3 .left)) (c .before .before .before .before .before .before .before .before .before .before .before .before .before .before .number .ensures) (c .before .before .before .last .ensures) (c .before .before .storing .ensures) (c .put .ensures)
+    stores (c .before .before .before .before .before .before .before .before .before .before .before .before .before .before .before .before .args .left) (ap (λ (j : ℕ). among j (delayedSign ∷ equalSign ∷ [])) (sym (c .before .before .before .before .before .before .before .before .before .before .before .before .before .before .number .ensures)) ∙ sym (c .before .before .before .before .before .before .before .before .before .before .before .before .before .signs .ensures) ∙ c .before .before .before .before .before .before .before .before .before .before .before .before .if1 .taken) (c .before .before .before .before .before .before .before .before .before .before .before .take .ensures) (c .before .before .before .before .before .before .before .before .before .before .unread .ensures .0 (c .before .before .before .before .before .before .before .before .before .if2 .left)) (c .before .before .before .before .before .before .before .start .ensures .0) (c .before .before .before .before .before .before .before .start .ensures .1) (c .before .before .before .before .before .before .unread2 .ensures .0 (c .before .before .before .before .before .if3 .left)) (c .before .before .before .before .before .before .before .before .before .before .before .before .before .before .number .ensures) (c .before .before .before .last .ensures) (c .before .before .storing .ensures) (c .put .ensures)
 
 refuse-requires : tie.Need-refuse-requires
 refuse-requires c κs = search needs
 
 returns-4 : tie.Need-returns-4
 returns-4 c =
-    unstored (c .before .before .before .before .before .args .left) (ap (λ (j : ℕ). among j (29 ∷ 16 ∷ [])) (sym (c .before .before .before .number .ensures)) ∙ sym (c .before .before .signs .ensures) ∙ c .before .if1 .left) (c .refuse .ensures)
+    unstored (c .before .before .before .before .before .args .left) (ap (λ (j : ℕ). among j (delayedSign ∷ equalSign ∷ [])) (sym (c .before .before .before .number .ensures)) ∙ sym (c .before .before .signs .ensures) ∙ c .before .if1 .left) (c .refuse .ensures)
 
 pub store-spec : {M : Type 1} → statement M
 store-spec =

@@ -72,7 +72,7 @@ use Rattle.image_sections.proofs.facilities.facility_at.Reads as facility-at-re
 use Rattle.image_sections.proofs.kinds.is_computed.Reads as is-computed-reads
 use Rattle.run_references.proofs.constants.constant_at.Reads as constant-at-reads
 use Rattle.image_records.proofs.nodes.node_at.Reads as node-at-reads
-use Rattle.value_operations.proofs.lengths.minus.Reads as minus-reads
+use Rattle.value_operators.proofs.lengths.minus.Reads as minus-reads
 use Rattle.run_expressions.proofs.eval.+arm+binary+bit_of_word+choice+eval+located+operand+other+part+place_of.{statement}
 use Rattle.run_expressions.proofs.eval.+arm+binary+bit_of_word+choice+eval+located+operand+other+part+place_of.Tie.{close}
 
