@@ -11,7 +11,7 @@ use lib.Seq.{take-append-le}
 use Rattle.language.specs.Calls.{CycleAnswer, CycleCall, Running, afterCycle, cycle, cycleRefusal, cycled, cycles, open′, openRefusal, refusedFor, run, runRefusal, stimulusSize, stoppedFor}
 use Rattle.language.specs.Decode.{decode, offsetOf}
 use Rattle.language.specs.DescribeText.{describe}
-use Rattle.language.specs.Encode.{encode, headerSize}
+use Rattle.language.specs.Encode.{encode, headerSize, namesSection}
 use Rattle.language.specs.Image.{Passes, passes, totalLength}
 use Rattle.language.specs.Judging.{both}
 use Rattle.language.specs.Layout.{storeSize}
@@ -60,7 +60,7 @@ module _ (image rest : List ℕ) (passing-so : passes image ≡ true) where
       go true q b x e = leb-true headerSize (length image) q
       go false q b x e = absurd (let z : _≡_ {A = ℕ} 0 1 = cc in omega arith)
 
-  names-at : offsetOf 5 all ≡ offsetOf 5 image
+  names-at : offsetOf namesSection all ≡ offsetOf namesSection image
   names-at = number-front 4 48 image rest (omega (arith, header-there))
 
   pub tail-facility : (n : ℕ) → facility (image ++ rest) n ≡ facility image n

@@ -7,7 +7,7 @@ use lib.Dec.{leb}
 use lib.ListN.{length, take}
 use Rattle.language.specs.Decode.{decode, described, facilityOf, pick}
 use Rattle.language.specs.Description.{Description, Facility, isComputed}
-use Rattle.language.specs.Encode.{Sections, encode}
+use Rattle.language.specs.Encode.{Sections, encode, facilitySize}
 use Rattle.language.specs.Image.{legalForm, passes}
 use Rattle.language.specs.Tree.{Name}
 use Rattle.image_sections.proofs.DescribedLaws.{facility-described}
@@ -29,7 +29,7 @@ picked false x y p q = q
 
 read-plain : (s : List ℕ) (n : ℕ) (name : Name) → PlainOne (facilityIn s n name)
 unfolding facilityIn facilityOf
-read-plain s n name = picked (leb (13 * n + 13) (length s)) _ _ (λ e. rw e) (λ e. refl)
+read-plain s n name = picked (leb (facilitySize * n + facilitySize) (length s)) _ _ (λ e. rw e) (λ e. refl)
 
 described-plain : (x : Sections) → Plain (described x)
 described-plain x n l = subst PlainOne (sym (facility-described x n)) (read-plain (x .facilities) n (named (facilityPart (x .facilities) n) (x .names)))

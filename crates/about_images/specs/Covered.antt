@@ -19,6 +19,7 @@ use Rattle.about_images.specs.Acts.{Own, SaneAct, acts}
 use Rattle.about_images.specs.Counted.{count, count-add}
 use Rattle.about_images.specs.Depth.{depthAt}
 use Rattle.about_images.specs.Trees.{Sane, counts}
+use Rattle.language.specs.Encode.{nodeSize}
 
 -- ---- Each element of a list.
 
@@ -46,7 +47,7 @@ module _ (d : Description) where
     pub many : ℕ
     pub ends : at + many ≡ end
     pub sane : (m : ℕ) → at ≤ m → m < end → Sane d m (nodeAt d m)
-    pub few : many ≤ 8 * count (counts d) at many
+    pub few : many ≤ nodeSize * count (counts d) at many
     pub each : roots ≤ count (counts d) at many
     -- a record's tree leaves at least one to each other root
     pub deep : (m : ℕ) → at ≤ m → m < end → depthAt d m + 2 * roots ≤ 2 * count (counts d) at many + 1

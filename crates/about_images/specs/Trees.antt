@@ -20,6 +20,7 @@ use Rattle.about_writing.specs.Whole.{both-left, both-right}
 use Rattle.image_records.proofs.NodeBack.{Half}
 use Rattle.about_images.specs.Counted.{count, count-add, count-more, count-one}
 use Rattle.about_images.specs.Depth.{depth-leaf, depthAt}
+use Rattle.language.specs.Encode.{nodeSize}
 use Rattle.language.specs.Kinds.{atLeastSign, atMostSign, conWord, differenceSign, equalsSign, exclusiveSign, extWord, greaterSign, hash, headWord, lessSign, minus, plus, star, sumSign, tailWord}
 
 -- ---- Sane records: what they name stands before them.
@@ -50,8 +51,8 @@ pub record Tree (d : Description) (n s arms : ℕ) : Type 0 where
   pub many : ℕ
   pub ends : s + many ≡ suc n
   pub sane : (m : ℕ) → s ≤ m → m ≤ n → Sane d m (nodeAt d m)
-  pub few : many + 1 ≤ 8 * count (counts d) s many
-  pub fewer : arms ≡ 0 → many + 2 ≤ 8 * count (counts d) s many
+  pub few : many + 1 ≤ nodeSize * count (counts d) s many
+  pub fewer : arms ≡ 0 → many + 2 ≤ nodeSize * count (counts d) s many
   pub under : (m : ℕ) → s ≤ m → m ≤ n → depthAt d m ≤ depthAt d n
   pub deep : depthAt d n ≤ 2 * count (counts d) s many
   pub deeper : arms ≡ 0 → depthAt d n + 1 ≤ 2 * count (counts d) s many

@@ -11,7 +11,7 @@ use Rattle.language.specs.Canonical.{total}
 use Rattle.language.specs.Decode.{actionOf, described, namesLength, nodeOf}
 use Rattle.language.specs.Description as D
 use Rattle.language.specs.Description.{Facility, Operation, State, actionAt, facilityAt, noFacility, noRun, nodeAt, operationAt, stateAt}
-use Rattle.language.specs.Encode.{Sections, actionBytes, concat, facilityRecord, facilityRecords, nameBytes, nodeBytes, operationRecord, sectionsOf, stateRecord}
+use Rattle.language.specs.Encode.{Sections, actionBytes, actionSize, concat, facilityRecord, facilityRecords, facilitySize, nameBytes, nodeBytes, nodeSize, operationRecord, operationSize, sectionsOf, stateRecord, stateSize}
 use Rattle.language.specs.Layout.{placeIn}
 use Rattle.image_records.proofs.ActionLaws.{action-length}
 use Rattle.image_records.proofs.WrittenNodes.{node-length}
@@ -43,12 +43,12 @@ name-long : (l from : ℕ) (names : List ℕ) → from + l ≤ length names → 
 name-long l from names h = length-take-le l (drop from names) (omega (arith, length-drop from names))
 
 -- Records as they are written say no more of names than there is.
-facilities-most : (fs : List Facility) → namesLength (length fs) 2 13 (facilityRecords 0 fs) ≤ length (concat (λ f. f .name) fs)
+facilities-most : (fs : List Facility) → namesLength (length fs) 2 facilitySize (facilityRecords 0 fs) ≤ length (concat (λ f. f .name) fs)
 unfolding facilityRecord
 facilities-most fs =
-    let e : namesLength (length fs) 2 13 (facilityRecords 0 fs) ≡ total (λ f. length (f .name) % 256) (take (length fs) fs) =
-    lengths-say (λ f. length (f .name) % 256) fs (facilityRecords 0 fs) 2 13 (length fs) noFacility (omega arith)
-    (λ i h. let k : 2 + 13 * i ≡ 13 * i + 2 = omega arith in rw k (stands (facilityRecords 0 fs) (13 * i) 13 (facilities-at fs i h) 2 (omega arith))) in
+    let e : namesLength (length fs) 2 facilitySize (facilityRecords 0 fs) ≡ total (λ f. length (f .name) % 256) (take (length fs) fs) =
+    lengths-say (λ f. length (f .name) % 256) fs (facilityRecords 0 fs) 2 facilitySize (length fs) noFacility (omega arith)
+    (λ i h. let k : 2 + facilitySize * i ≡ facilitySize * i + 2 = omega arith in rw k (stands (facilityRecords 0 fs) (facilitySize * i) facilitySize (facilities-at fs i h) 2 (omega arith))) in
     rw (e, take-length fs) (bytes-most (λ f. f .name) fs)
 
 module _ {A : Type 0} (write : A → List ℕ) (name : A → List ℕ) (size : ℕ) (sized : (x : A) → length (write x) ≡ size) (some : 0 < size)
@@ -61,24 +61,24 @@ module _ {A : Type 0} (write : A → List ℕ) (name : A → List ℕ) (size : �
       rw k (stands (concat write xs) (size * i) size (row-at write size sized xs i d h) 0 some ∙ first (getD xs i d))) in
       rw (e, take-length xs) (bytes-most name xs)
 
-operations-most : (os : List Operation) → namesLength (length os) 0 5 (concat operationRecord os) ≤ length (concat (λ o. o .name) os)
+operations-most : (os : List Operation) → namesLength (length os) 0 operationSize (concat operationRecord os) ≤ length (concat (λ o. o .name) os)
 unfolding operationRecord
 operations-most = records-most operationRecord (λ o. o .name) 5 operation-length (omega arith) (λ o. refl) (record { name = []; body = noRun })
 
-states-most : (ss : List State) → namesLength (length ss) 0 7 (concat stateRecord ss) ≤ length (concat (λ s. s .name) ss)
+states-most : (ss : List State) → namesLength (length ss) 0 stateSize (concat stateRecord ss) ≤ length (concat (λ s. s .name) ss)
 unfolding stateRecord
 states-most = records-most stateRecord (λ s. s .name) 7 state-length (omega arith) (λ s. refl) (record { name = []; value = none; actions = noRun })
 
 module _ (x : Sections) where
   -- What the records of each section say of names.
   abbrev pub facilityNames : ℕ
-  facilityNames = namesLength (length (x .facilities) / 13) 2 13 (x .facilities)
+  facilityNames = namesLength (length (x .facilities) / facilitySize) 2 facilitySize (x .facilities)
 
   abbrev pub operationNames : ℕ
-  operationNames = namesLength (length (x .operations) / 5) 0 5 (x .operations)
+  operationNames = namesLength (length (x .operations) / operationSize) 0 operationSize (x .operations)
 
   abbrev pub stateNames : ℕ
-  stateNames = namesLength (length (x .states) / 7) 0 7 (x .states)
+  stateNames = namesLength (length (x .states) / stateSize) 0 stateSize (x .states)
 
   abbrev pub allNames : ℕ
   allNames = facilityNames + (operationNames + stateNames)
@@ -91,9 +91,9 @@ module _ (x : Sections) where
       let s = stateNames in
       let names = x .names in
       rw (
-        facilities-names (length (x .facilities) / 13) 0 (x .facilities) names,
-        operations-names (length (x .operations) / 5) 0 (x .operations) (drop f names),
-        states-names (length (x .states) / 7) 0 (x .states) (drop o (drop f names)),
+        facilities-names (length (x .facilities) / facilitySize) 0 (x .facilities) names,
+        operations-names (length (x .operations) / operationSize) 0 (x .operations) (drop f names),
+        states-names (length (x .states) / stateSize) 0 (x .states) (drop o (drop f names)),
         take-add f (o + s) names,
         take-add o s (drop f names),
       )
@@ -103,84 +103,84 @@ module _ (x : Sections) where
 
   -- ---- The lengths of names are those that the records have.
 
-  pub facility-long : (n : ℕ) → n < length (x .facilities) / 13 → facilityNames ≤ length (x .names)
-      → length (named (facilityPart (x .facilities) n) (x .names)) ≡ nameLengthIn 13 2 (x .facilities) n
+  pub facility-long : (n : ℕ) → n < length (x .facilities) / facilitySize → facilityNames ≤ length (x .names)
+      → length (named (facilityPart (x .facilities) n) (x .names)) ≡ nameLengthIn facilitySize 2 (x .facilities) n
   unfolding facilityPart
   facility-long n h g =
       let s = x .facilities in
-      let e : 13 * n + 2 ≡ 2 + 13 * n = omega arith in
-      let w = names-within (length s / 13) n 2 13 s h in
-      rw (name-whole 13 2 s n (omega arith), e) (name-long (getD s (2 + 13 * n) 0) (namesLength n 2 13 s) (x .names) (omega arith))
+      let e : facilitySize * n + 2 ≡ 2 + facilitySize * n = omega arith in
+      let w = names-within (length s / facilitySize) n 2 facilitySize s h in
+      rw (name-whole facilitySize 2 s n (omega arith), e) (name-long (getD s (2 + facilitySize * n) 0) (namesLength n 2 facilitySize s) (x .names) (omega arith))
 
-  pub operation-long : (n : ℕ) → n < length (x .operations) / 5 → facilityNames + operationNames ≤ length (x .names)
-      → length (named (operationPart (x .facilities) (length (x .facilities) / 13) (x .operations) n) (x .names)) ≡ getD (x .operations) (5 * n) 0
+  pub operation-long : (n : ℕ) → n < length (x .operations) / operationSize → facilityNames + operationNames ≤ length (x .names)
+      → length (named (operationPart (x .facilities) (length (x .facilities) / facilitySize) (x .operations) n) (x .names)) ≡ getD (x .operations) (operationSize * n) 0
   unfolding operationPart
   operation-long n h g =
       let s = x .operations in
-      let e : 5 * n ≡ 0 + 5 * n = omega arith in
-      let w = names-within (length s / 5) n 0 5 s h in
-      rw (name-first 5 s n (omega arith), e) (name-long (getD s (0 + 5 * n) 0) (facilityNames + namesLength n 0 5 s) (x .names) (omega arith))
+      let e : operationSize * n ≡ 0 + operationSize * n = omega arith in
+      let w = names-within (length s / operationSize) n 0 operationSize s h in
+      rw (name-first 5 s n (omega arith), e) (name-long (getD s (0 + operationSize * n) 0) (facilityNames + namesLength n 0 operationSize s) (x .names) (omega arith))
 
-  pub state-long : (n : ℕ) → n < length (x .states) / 7 → allNames ≤ length (x .names)
-      → length (named (statePart (x .facilities) (length (x .facilities) / 13) (x .operations) (length (x .operations) / 5) (x .states) n) (x .names))
-      ≡ getD (x .states) (7 * n) 0
+  pub state-long : (n : ℕ) → n < length (x .states) / stateSize → allNames ≤ length (x .names)
+      → length (named (statePart (x .facilities) (length (x .facilities) / facilitySize) (x .operations) (length (x .operations) / operationSize) (x .states) n) (x .names))
+      ≡ getD (x .states) (stateSize * n) 0
   unfolding statePart
   state-long n h g =
       let s = x .states in
-      let e : 7 * n ≡ 0 + 7 * n = omega arith in
-      let w = names-within (length s / 7) n 0 7 s h in
+      let e : stateSize * n ≡ 0 + stateSize * n = omega arith in
+      let w = names-within (length s / stateSize) n 0 stateSize s h in
       rw (name-first 7 s n (omega arith), e)
-      (name-long (getD s (0 + 7 * n) 0) (facilityNames + operationNames + namesLength n 0 7 s) (x .names) (omega arith))
+      (name-long (getD s (0 + stateSize * n) 0) (facilityNames + operationNames + namesLength n 0 stateSize s) (x .names) (omega arith))
 
   -- ---- Sections whose records are right.
 
-  pub facilities-again : length (x .facilities) ≡ 13 * (length (x .facilities) / 13)
-      → ((n : ℕ) → n < length (x .facilities) / 13
-      → take 13 (drop (13 * n) (x .facilities)) ≡ facilityRecord (placeIn (described x .facilities) n) (facilityAt (described x) n))
+  pub facilities-again : length (x .facilities) ≡ facilitySize * (length (x .facilities) / facilitySize)
+      → ((n : ℕ) → n < length (x .facilities) / facilitySize
+      → take facilitySize (drop (facilitySize * n) (x .facilities)) ≡ facilityRecord (placeIn (described x .facilities) n) (facilityAt (described x) n))
       → x .facilities ≡ facilityRecords 0 (described x .facilities)
   unfolding facilityAt
   facilities-again l f =
       let k = facilities-count x in
       facilities-are (described x .facilities) (x .facilities) (rw k l) (λ n h. f n (omega arith))
 
-  pub operations-again : length (x .operations) ≡ 5 * (length (x .operations) / 5) → Bytes (x .operations) → facilityNames + operationNames ≤ length (x .names)
+  pub operations-again : length (x .operations) ≡ operationSize * (length (x .operations) / operationSize) → Bytes (x .operations) → facilityNames + operationNames ≤ length (x .names)
       → x .operations ≡ concat operationRecord (described x .operations)
   unfolding operationAt
   operations-again l b g =
       let k = operations-count x in
       let s = x .operations in
-      row-is operationRecord 5 operation-length (described x .operations) s (record { name = []; body = noRun }) (rw k l)
-      (λ n h. let q : n < length s / 5 = omega arith in
-      operation-right s b n (named (operationPart (x .facilities) (length (x .facilities) / 13) s n) (x .names)) q (operation-long n q g)
+      row-is operationRecord operationSize operation-length (described x .operations) s (record { name = []; body = noRun }) (rw k l)
+      (λ n h. let q : n < length s / operationSize = omega arith in
+      operation-right s b n (named (operationPart (x .facilities) (length (x .facilities) / facilitySize) s n) (x .names)) q (operation-long n q g)
       ∙ ap operationRecord (sym (operation-described x n)))
 
-  pub expressions-again : length (x .expressions) ≡ 8 * (length (x .expressions) / 8)
-      → ((n : ℕ) → n < length (x .expressions) / 8 → take 8 (drop (8 * n) (x .expressions)) ≡ nodeBytes (nodeOf (x .expressions) n))
+  pub expressions-again : length (x .expressions) ≡ nodeSize * (length (x .expressions) / nodeSize)
+      → ((n : ℕ) → n < length (x .expressions) / nodeSize → take nodeSize (drop (nodeSize * n) (x .expressions)) ≡ nodeBytes (nodeOf (x .expressions) n))
       → x .expressions ≡ concat nodeBytes (described x .expressions)
   unfolding nodeAt
   expressions-again l f =
       let k = expressions-count x in
-      row-is nodeBytes 8 node-length (described x .expressions) (x .expressions) D.Node.broken (rw k l)
+      row-is nodeBytes nodeSize node-length (described x .expressions) (x .expressions) D.Node.broken (rw k l)
       (λ n h. f n (omega arith) ∙ ap nodeBytes (sym (node-described x n)))
 
-  pub actions-again : length (x .actions) ≡ 7 * (length (x .actions) / 7)
-      → ((n : ℕ) → n < length (x .actions) / 7 → take 7 (drop (7 * n) (x .actions)) ≡ actionBytes (actionOf (x .actions) n))
+  pub actions-again : length (x .actions) ≡ actionSize * (length (x .actions) / actionSize)
+      → ((n : ℕ) → n < length (x .actions) / actionSize → take actionSize (drop (actionSize * n) (x .actions)) ≡ actionBytes (actionOf (x .actions) n))
       → x .actions ≡ concat actionBytes (described x .actions)
   unfolding actionAt
   actions-again l f =
       let k = actions-count x in
-      row-is actionBytes 7 action-length (described x .actions) (x .actions) D.Action.broken (rw k l)
+      row-is actionBytes actionSize action-length (described x .actions) (x .actions) D.Action.broken (rw k l)
       (λ n h. f n (omega arith) ∙ ap actionBytes (sym (action-described x n)))
 
-  pub states-again : length (x .states) ≡ 7 * (length (x .states) / 7) → Bytes (x .states) → allNames ≤ length (x .names)
+  pub states-again : length (x .states) ≡ stateSize * (length (x .states) / stateSize) → Bytes (x .states) → allNames ≤ length (x .names)
       → x .states ≡ concat stateRecord (described x .states)
   unfolding stateAt
   states-again l b g =
       let k = states-count x in
       let s = x .states in
-      row-is stateRecord 7 state-length (described x .states) s (record { name = []; value = none; actions = noRun }) (rw k l)
-      (λ n h. let q : n < length s / 7 = omega arith in
-      state-right s b n (named (statePart (x .facilities) (length (x .facilities) / 13) (x .operations) (length (x .operations) / 5) s n) (x .names)) q (state-long n q g)
+      row-is stateRecord stateSize state-length (described x .states) s (record { name = []; value = none; actions = noRun }) (rw k l)
+      (λ n h. let q : n < length s / stateSize = omega arith in
+      state-right s b n (named (statePart (x .facilities) (length (x .facilities) / facilitySize) (x .operations) (length (x .operations) / operationSize) s n) (x .names)) q (state-long n q g)
       ∙ ap stateRecord (sym (state-described x n)))
 
   -- The records then say as much of names as there is.
@@ -190,12 +190,12 @@ module _ (x : Sections) where
       let fs = described x .facilities in
       let os = described x .operations in
       let ss = described x .states in
-      let f : facilityNames ≡ namesLength (length fs) 2 13 (facilityRecords 0 fs) =
-      ap₂ (λ (k : ℕ) (s : List ℕ). namesLength k 2 13 s) (sym (facilities-count x)) (ap (λ (y : Sections). y .facilities) e) in
-      let o : operationNames ≡ namesLength (length os) 0 5 (concat operationRecord os) =
-      ap₂ (λ (k : ℕ) (s : List ℕ). namesLength k 0 5 s) (sym (operations-count x)) (ap (λ (y : Sections). y .operations) e) in
-      let s : stateNames ≡ namesLength (length ss) 0 7 (concat stateRecord ss) =
-      ap₂ (λ (k : ℕ) (t : List ℕ). namesLength k 0 7 t) (sym (states-count x)) (ap (λ (y : Sections). y .states) e) in
+      let f : facilityNames ≡ namesLength (length fs) 2 facilitySize (facilityRecords 0 fs) =
+      ap₂ (λ (k : ℕ) (s : List ℕ). namesLength k 2 facilitySize s) (sym (facilities-count x)) (ap (λ (y : Sections). y .facilities) e) in
+      let o : operationNames ≡ namesLength (length os) 0 operationSize (concat operationRecord os) =
+      ap₂ (λ (k : ℕ) (s : List ℕ). namesLength k 0 operationSize s) (sym (operations-count x)) (ap (λ (y : Sections). y .operations) e) in
+      let s : stateNames ≡ namesLength (length ss) 0 stateSize (concat stateRecord ss) =
+      ap₂ (λ (k : ℕ) (t : List ℕ). namesLength k 0 stateSize t) (sym (states-count x)) (ap (λ (y : Sections). y .states) e) in
       let n : x .names ≡ nameBytes (described x) = ap (λ (y : Sections). y .names) e in
       let l : length (x .names) ≡ length (concat (λ f. f .name) fs) + (length (concat (λ o. o .name) os) + length (concat (λ s. s .name) ss)) =
       ap length n ∙ simp length-append in

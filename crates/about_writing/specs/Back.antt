@@ -12,7 +12,7 @@ use lib.Seq.{drop-at, drop-drop, ext-getD, take-length}
 use Rattle.language.specs.Decode.{described, namesLength, nodeOf, numberAt}
 use Rattle.language.specs.Description as D
 use Rattle.language.specs.Description.{Action, Description, Facility, Node, Operation, State, actionAt, digitLength, facilityAt, furtherDigits, noFacility, noRun, nodeAt, operationAt, stateAt}
-use Rattle.language.specs.Encode.{actionBytes, concat, encode, facilityRecord, facilityRecords, nameBytes, nodeBytes, operationRecord, sectionsOf, stateRecord}
+use Rattle.language.specs.Encode.{actionBytes, actionSize, concat, encode, facilityRecord, facilityRecords, facilitySize, nameBytes, nodeBytes, nodeSize, operationRecord, operationSize, sectionsOf, stateRecord, stateSize}
 use Rattle.language.specs.Judging.{both}
 use Rattle.language.specs.Layout.{placeIn}
 use Rattle.language.specs.Order.{digitsStand, isDigit48}
@@ -108,19 +108,19 @@ module _ (d : Description) where
   abbrev nodesOf : List ℕ
   nodesOf = concat nodeBytes (d .expressions)
 
-  node-stands : (n : ℕ) → n < length (d .expressions) → (i : ℕ) → i < 8 → getD nodesOf (8 * n + i) 0 ≡ getD (nodeBytes (nodeAt d n)) i 0
+  node-stands : (n : ℕ) → n < length (d .expressions) → (i : ℕ) → i < nodeSize → getD nodesOf (nodeSize * n + i) 0 ≡ getD (nodeBytes (nodeAt d n)) i 0
   unfolding nodeAt
-  node-stands n h = stands nodesOf (8 * n) 8 (row-at nodeBytes 8 node-length (d .expressions) n D.Node.broken h)
+  node-stands n h = stands nodesOf (nodeSize * n) nodeSize (row-at nodeBytes nodeSize node-length (d .expressions) n D.Node.broken h)
 
   -- A further digit as it is written.
   digit-written : (n m : ℕ) → n < length (d .expressions) → m < 2 ^ 48 → nodeAt d n ≡ D.more m
-      → (getD nodesOf (8 * n) 0 ≡ 2) × (numberAt 6 (8 * n + 2) nodesOf ≡ m)
+      → (getD nodesOf (nodeSize * n) 0 ≡ 2) × (numberAt 6 (nodeSize * n + 2) nodesOf ≡ m)
   unfolding nodeBytes
   digit-written n m h g e =
-      let f : (i : ℕ) → i < 8 → getD nodesOf (8 * n + i) 0 ≡ getD (nodeBytes (D.more m)) i 0 = λ i l. node-stands n h i l ∙ ap (λ (x : Node). getD (nodeBytes x) i 0) e in
-      let z : 8 * n + 0 ≡ 8 * n = omega arith in (
+      let f : (i : ℕ) → i < 8 → getD nodesOf (nodeSize * n + i) 0 ≡ getD (nodeBytes (D.more m)) i 0 = λ i l. node-stands n h i l ∙ ap (λ (x : Node). getD (nodeBytes x) i 0) e in
+      let z : nodeSize * n + 0 ≡ nodeSize * n = omega arith in (
         rw z at (f 0 (omega arith)),
-        number-back 6 (8 * n + 2) m nodesOf g (λ i l. let y : 8 * n + 2 + i ≡ 8 * n + suc (suc i) = omega arith in rw y (f (suc (suc i)) (omega arith))),
+        number-back 6 (nodeSize * n + 2) m nodesOf g (λ i l. let y : nodeSize * n + 2 + i ≡ nodeSize * n + suc (suc i) = omega arith in rw y (f (suc (suc i)) (omega arith))),
       )
 
   digits-above : (k n x : ℕ) → n ≤ length (d .expressions) → digitsStand d k n x ≡ true → Above k n x nodesOf
@@ -149,8 +149,8 @@ module _ (d : Description) where
   node-fits n h (D.choice a b m) r = r
   node-fits n h D.Node.broken r = tt
 
-  nodes-long : length nodesOf ≡ 8 * length (d .expressions)
-  nodes-long = row-length nodeBytes 8 node-length (d .expressions)
+  nodes-long : length nodesOf ≡ nodeSize * length (d .expressions)
+  nodes-long = row-length nodeBytes nodeSize node-length (d .expressions)
 
   node-again : (n : ℕ) → n < length (d .expressions) → NodeInRange d n (nodeAt d n) → nodeOf nodesOf n ≡ nodeAt d n
   node-again n h r =
@@ -178,37 +178,37 @@ module _ (d : Description) (r : InRange d) where
   unfolding sectionsOf actionAt
   actions-back =
       let s = concat actionBytes (d .actions) in
-      let l : length s ≡ 7 * length (d .actions) = row-length actionBytes 7 action-length (d .actions) in
+      let l : length s ≡ actionSize * length (d .actions) = row-length actionBytes actionSize action-length (d .actions) in
       let k : length (described (sectionsOf d) .actions) ≡ length (d .actions) = actions-count (sectionsOf d) ∙ omega arith in
       ext-getD D.Action.broken _ _ k
       (λ n h. action-described (sectionsOf d) n
-      ∙ action-back s n (omega arith) (actionAt d n) (r .actions n (omega arith)) (stands s (7 * n) 7 (row-at actionBytes 7 action-length (d .actions) n D.Action.broken (omega arith))))
+      ∙ action-back s n (omega arith) (actionAt d n) (r .actions n (omega arith)) (stands s (actionSize * n) actionSize (row-at actionBytes actionSize action-length (d .actions) n D.Action.broken (omega arith))))
 
   -- ---- Facilities.
 
   abbrev facilitiesOf : List ℕ
   facilitiesOf = facilityRecords 0 (d .facilities)
 
-  pub facility-stands : (n : ℕ) → n < length (d .facilities) → (i : ℕ) → i < 13
-      → getD facilitiesOf (13 * n + i) 0 ≡ getD (facilityRecord (placeIn (d .facilities) n) (facilityAt d n)) i 0
+  pub facility-stands : (n : ℕ) → n < length (d .facilities) → (i : ℕ) → i < facilitySize
+      → getD facilitiesOf (facilitySize * n + i) 0 ≡ getD (facilityRecord (placeIn (d .facilities) n) (facilityAt d n)) i 0
   unfolding facilityAt
-  facility-stands n h = stands facilitiesOf (13 * n) 13 (facilities-at (d .facilities) n h)
+  facility-stands n h = stands facilitiesOf (facilitySize * n) facilitySize (facilities-at (d .facilities) n h)
 
-  pub facility-byte : (n : ℕ) → n < length (d .facilities) → getD facilitiesOf (13 * n + 2) 0 ≡ length (facilityAt d n .name)
+  pub facility-byte : (n : ℕ) → n < length (d .facilities) → getD facilitiesOf (facilitySize * n + 2) 0 ≡ length (facilityAt d n .name)
   unfolding facilityRecord
   facility-byte n h = facility-stands n h 2 (omega arith) ∙ mod-eq-of-lt (r .facilities n h .name)
 
-  pub facility-names : (n : ℕ) → n ≤ length (d .facilities) → namesLength n 2 13 facilitiesOf ≡ namesOf (λ f. f .name) (take n (d .facilities))
+  pub facility-names : (n : ℕ) → n ≤ length (d .facilities) → namesLength n 2 facilitySize facilitiesOf ≡ namesOf (λ f. f .name) (take n (d .facilities))
   unfolding facilityAt
   facility-names n h =
-      lengths-say (λ f. length (f .name)) (d .facilities) facilitiesOf 2 13 n noFacility h
-      (λ i g. let e : 2 + 13 * i ≡ 13 * i + 2 = omega arith in rw e (facility-byte i (omega arith)))
+      lengths-say (λ f. length (f .name)) (d .facilities) facilitiesOf 2 facilitySize n noFacility h
+      (λ i g. let e : 2 + facilitySize * i ≡ facilitySize * i + 2 = omega arith in rw e (facility-byte i (omega arith)))
 
   facility-name : (n : ℕ) → n < length (d .facilities) → named (facilityPart facilitiesOf n) (nameBytes d) ≡ facilityAt d n .name
   unfolding facilityPart nameBytes facilityAt
   facility-name n h =
       let l = facilities-length (d .facilities) in
-      rw (name-whole 13 2 facilitiesOf n (omega arith), facility-byte n h, facility-names n (omega arith))
+      rw (name-whole facilitySize 2 facilitiesOf n (omega arith), facility-byte n h, facility-names n (omega arith))
       (name-cut (λ f. f .name) (d .facilities) n noFacility (concat (λ o. o .name) (d .operations) ++ concat (λ s. s .name) (d .states)) h)
 
   facilities-back : described (sectionsOf d) .facilities ≡ d .facilities
@@ -221,10 +221,10 @@ module _ (d : Description) (r : InRange d) where
       ∙ facility-back facilitiesOf n (placeIn (d .facilities) n) (facilityAt d n) (omega arith) (r .facilities n (omega arith) .fits)
       (λ i g. facility-stands n (omega arith) i (omega (arith, facility-length (placeIn (d .facilities) n) (facilityAt d n)))))
 
-  pub all-facilities : namesLength (length facilitiesOf / 13) 2 13 facilitiesOf ≡ length (concat (λ f. f .name) (d .facilities))
+  pub all-facilities : namesLength (length facilitiesOf / facilitySize) 2 facilitySize facilitiesOf ≡ length (concat (λ f. f .name) (d .facilities))
   all-facilities =
       let l = facilities-length (d .facilities) in
-      let e : length facilitiesOf / 13 ≡ length (d .facilities) = omega arith in
+      let e : length facilitiesOf / facilitySize ≡ length (d .facilities) = omega arith in
       rw e (facility-names (length (d .facilities)) (omega arith) ∙ ap (namesOf (λ f. f .name)) (take-length (d .facilities)) ∙ sym (names-length (λ f. f .name) (d .facilities)))
 
   -- ---- Operations.
@@ -235,27 +235,27 @@ module _ (d : Description) (r : InRange d) where
   abbrev operationsOf : List ℕ
   operationsOf = concat operationRecord (d .operations)
 
-  operation-stands : (n : ℕ) → n < length (d .operations) → (i : ℕ) → i < 5 → getD operationsOf (5 * n + i) 0 ≡ getD (operationRecord (operationAt d n)) i 0
+  operation-stands : (n : ℕ) → n < length (d .operations) → (i : ℕ) → i < operationSize → getD operationsOf (operationSize * n + i) 0 ≡ getD (operationRecord (operationAt d n)) i 0
   unfolding operationAt
-  operation-stands n h = stands operationsOf (5 * n) 5 (row-at operationRecord 5 operation-length (d .operations) n noOperation h)
+  operation-stands n h = stands operationsOf (operationSize * n) operationSize (row-at operationRecord operationSize operation-length (d .operations) n noOperation h)
 
-  pub operation-byte : (n : ℕ) → n < length (d .operations) → getD operationsOf (5 * n) 0 ≡ length (operationAt d n .name)
+  pub operation-byte : (n : ℕ) → n < length (d .operations) → getD operationsOf (operationSize * n) 0 ≡ length (operationAt d n .name)
   unfolding operationRecord
   operation-byte n h =
-      let e : 5 * n + 0 ≡ 5 * n = omega arith in
+      let e : operationSize * n + 0 ≡ operationSize * n = omega arith in
       rw e at (operation-stands n h 0 (omega arith)) ∙ mod-eq-of-lt (r .operations n h .name)
 
-  pub operation-names : (n : ℕ) → n ≤ length (d .operations) → namesLength n 0 5 operationsOf ≡ namesOf (λ o. o .name) (take n (d .operations))
+  pub operation-names : (n : ℕ) → n ≤ length (d .operations) → namesLength n 0 operationSize operationsOf ≡ namesOf (λ o. o .name) (take n (d .operations))
   unfolding operationAt
   operation-names n h =
-      lengths-say (λ o. length (o .name)) (d .operations) operationsOf 0 5 n noOperation h
-      (λ i g. let e : 0 + 5 * i ≡ 5 * i = omega arith in rw e (operation-byte i (omega arith)))
+      lengths-say (λ o. length (o .name)) (d .operations) operationsOf 0 operationSize n noOperation h
+      (λ i g. let e : 0 + operationSize * i ≡ operationSize * i = omega arith in rw e (operation-byte i (omega arith)))
 
   operation-name : (n : ℕ) → n < length (d .operations)
-      → named (operationPart facilitiesOf (length facilitiesOf / 13) operationsOf n) (nameBytes d) ≡ operationAt d n .name
+      → named (operationPart facilitiesOf (length facilitiesOf / facilitySize) operationsOf n) (nameBytes d) ≡ operationAt d n .name
   unfolding operationPart nameBytes operationAt
   operation-name n h =
-      let l = row-length operationRecord 5 operation-length (d .operations) in
+      let l = row-length operationRecord operationSize operation-length (d .operations) in
       let fs = concat (λ f. f .name) (d .facilities) in
       let ss = concat (λ s. s .name) (d .states) in
       rw (
@@ -271,7 +271,7 @@ module _ (d : Description) (r : InRange d) where
   operations-back : described (sectionsOf d) .operations ≡ d .operations
   unfolding sectionsOf operationAt
   operations-back =
-      let l = row-length operationRecord 5 operation-length (d .operations) in
+      let l = row-length operationRecord operationSize operation-length (d .operations) in
       let k : length (described (sectionsOf d) .operations) ≡ length (d .operations) = operations-count (sectionsOf d) ∙ omega arith in
       ext-getD noOperation _ _ k
       (λ n h. let g : n < length (d .operations) = omega arith in
@@ -279,10 +279,10 @@ module _ (d : Description) (r : InRange d) where
       ∙ operation-back operationsOf n (operationAt d n) (omega arith) (r .operations n g .first) (r .operations n g .count)
       (λ i q. operation-stands n g i (omega (arith, operation-length (operationAt d n)))))
 
-  pub all-operations : namesLength (length operationsOf / 5) 0 5 operationsOf ≡ length (concat (λ o. o .name) (d .operations))
+  pub all-operations : namesLength (length operationsOf / operationSize) 0 operationSize operationsOf ≡ length (concat (λ o. o .name) (d .operations))
   all-operations =
-      let l = row-length operationRecord 5 operation-length (d .operations) in
-      let e : length operationsOf / 5 ≡ length (d .operations) = omega arith in
+      let l = row-length operationRecord operationSize operation-length (d .operations) in
+      let e : length operationsOf / operationSize ≡ length (d .operations) = omega arith in
       rw e (operation-names (length (d .operations)) (omega arith) ∙ ap (namesOf (λ o. o .name)) (take-length (d .operations)) ∙ sym (names-length (λ o. o .name) (d .operations)))
 
   -- ---- States.
@@ -293,27 +293,27 @@ module _ (d : Description) (r : InRange d) where
   abbrev statesOf : List ℕ
   statesOf = concat stateRecord (d .states)
 
-  state-stands : (n : ℕ) → n < length (d .states) → (i : ℕ) → i < 7 → getD statesOf (7 * n + i) 0 ≡ getD (stateRecord (stateAt d n)) i 0
+  state-stands : (n : ℕ) → n < length (d .states) → (i : ℕ) → i < stateSize → getD statesOf (stateSize * n + i) 0 ≡ getD (stateRecord (stateAt d n)) i 0
   unfolding stateAt
-  state-stands n h = stands statesOf (7 * n) 7 (row-at stateRecord 7 state-length (d .states) n noState h)
+  state-stands n h = stands statesOf (stateSize * n) stateSize (row-at stateRecord stateSize state-length (d .states) n noState h)
 
-  pub state-byte : (n : ℕ) → n < length (d .states) → getD statesOf (7 * n) 0 ≡ length (stateAt d n .name)
+  pub state-byte : (n : ℕ) → n < length (d .states) → getD statesOf (stateSize * n) 0 ≡ length (stateAt d n .name)
   unfolding stateRecord
   state-byte n h =
-      let e : 7 * n + 0 ≡ 7 * n = omega arith in
+      let e : stateSize * n + 0 ≡ stateSize * n = omega arith in
       rw e at (state-stands n h 0 (omega arith)) ∙ mod-eq-of-lt (r .states n h .name)
 
-  pub state-names : (n : ℕ) → n ≤ length (d .states) → namesLength n 0 7 statesOf ≡ namesOf (λ s. s .name) (take n (d .states))
+  pub state-names : (n : ℕ) → n ≤ length (d .states) → namesLength n 0 stateSize statesOf ≡ namesOf (λ s. s .name) (take n (d .states))
   unfolding stateAt
   state-names n h =
-      lengths-say (λ s. length (s .name)) (d .states) statesOf 0 7 n noState h
-      (λ i g. let e : 0 + 7 * i ≡ 7 * i = omega arith in rw e (state-byte i (omega arith)))
+      lengths-say (λ s. length (s .name)) (d .states) statesOf 0 stateSize n noState h
+      (λ i g. let e : 0 + stateSize * i ≡ stateSize * i = omega arith in rw e (state-byte i (omega arith)))
 
   state-name : (n : ℕ) → n < length (d .states)
-      → named (statePart facilitiesOf (length facilitiesOf / 13) operationsOf (length operationsOf / 5) statesOf n) (nameBytes d) ≡ stateAt d n .name
+      → named (statePart facilitiesOf (length facilitiesOf / facilitySize) operationsOf (length operationsOf / operationSize) statesOf n) (nameBytes d) ≡ stateAt d n .name
   unfolding statePart nameBytes stateAt
   state-name n h =
-      let l = row-length stateRecord 7 state-length (d .states) in
+      let l = row-length stateRecord stateSize state-length (d .states) in
       let fs = concat (λ f. f .name) (d .facilities) in
       let os = concat (λ o. o .name) (d .operations) in
       let ss = concat (λ s. s .name) (d .states) in
@@ -334,7 +334,7 @@ module _ (d : Description) (r : InRange d) where
   states-back : described (sectionsOf d) .states ≡ d .states
   unfolding sectionsOf stateAt
   states-back =
-      let l = row-length stateRecord 7 state-length (d .states) in
+      let l = row-length stateRecord stateSize state-length (d .states) in
       let k : length (described (sectionsOf d) .states) ≡ length (d .states) = states-count (sectionsOf d) ∙ omega arith in
       ext-getD noState _ _ k
       (λ n h. let g : n < length (d .states) = omega arith in

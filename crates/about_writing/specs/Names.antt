@@ -8,7 +8,7 @@ use lib.ListN.{drop, getD, length, take, length-append}
 use lib.Seq.{drop-at, drop-drop, take-add, take-at}
 use Rattle.language.specs.Canonical.{total}
 use Rattle.language.specs.Decode.{facilitiesAt, facilityOf, namesLength, operationsAt, statesAt}
-use Rattle.language.specs.Encode.{concat}
+use Rattle.language.specs.Encode.{concat, facilitySize, operationSize, stateSize}
 
 module _ {A : Type 0} (name : A → List ℕ) where
   -- The bytes of all names.
@@ -50,25 +50,25 @@ bytes-most name (x ∷ xs) = omega (arith, bytes-most name xs, length-append (na
 
 -- ---- The names of what is read: as many bytes as the records say, as far as there are any.
 
-pub facilities-names : (k at : ℕ) (s names : List ℕ) → concat (λ f. f .name) (facilitiesAt k at s names) ≡ take (namesLength k (at + 2) 13 s) names
+pub facilities-names : (k at : ℕ) (s names : List ℕ) → concat (λ f. f .name) (facilitiesAt k at s names) ≡ take (namesLength k (at + 2) facilitySize s) names
 unfolding concat facilitiesAt namesLength facilityOf
 facilities-names zero at s names = refl
 facilities-names (suc k) at s names =
     let l = getD s (at + 2) 0 in
-    let e : at + 13 + 2 ≡ at + 2 + 13 = omega arith in
-    ap (λ (t : List ℕ). take l names ++ t) (facilities-names k (at + 13) s (drop l names))
-    ∙ rw e (sym (take-add l (namesLength k (at + 2 + 13) 13 s) names))
+    let e : at + facilitySize + 2 ≡ at + 2 + facilitySize = omega arith in
+    ap (λ (t : List ℕ). take l names ++ t) (facilities-names k (at + facilitySize) s (drop l names))
+    ∙ rw e (sym (take-add l (namesLength k (at + 2 + facilitySize) facilitySize s) names))
 
 pub operations-names : (k at : ℕ) (s names : List ℕ) → concat (λ o. o .name) (operationsAt k at s names) ≡ take (namesLength k at 5 s) names
 unfolding concat operationsAt namesLength
 operations-names zero at s names = refl
 operations-names (suc k) at s names =
     let l = getD s at 0 in
-    ap (λ (t : List ℕ). take l names ++ t) (operations-names k (at + 5) s (drop l names)) ∙ sym (take-add l (namesLength k (at + 5) 5 s) names)
+    ap (λ (t : List ℕ). take l names ++ t) (operations-names k (at + operationSize) s (drop l names)) ∙ sym (take-add l (namesLength k (at + operationSize) operationSize s) names)
 
 pub states-names : (k at : ℕ) (s names : List ℕ) → concat (λ x. x .name) (statesAt k at s names) ≡ take (namesLength k at 7 s) names
 unfolding concat statesAt namesLength
 states-names zero at s names = refl
 states-names (suc k) at s names =
     let l = getD s at 0 in
-    ap (λ (t : List ℕ). take l names ++ t) (states-names k (at + 7) s (drop l names)) ∙ sym (take-add l (namesLength k (at + 7) 7 s) names)
+    ap (λ (t : List ℕ). take l names ++ t) (states-names k (at + stateSize) s (drop l names)) ∙ sym (take-add l (namesLength k (at + stateSize) stateSize s) names)

@@ -5,7 +5,7 @@ use Prim.Native.Nat.{ℕ, zero, suc, _+_, _*_, _<_}
 use native.Mathlib.Omega.{arith}
 use lib.ListN.{drop, getD, length, take}
 use Rattle.language.specs.Description.{Facility, noFacility}
-use Rattle.language.specs.Encode.{concat, facilityRecord, facilityRecords}
+use Rattle.language.specs.Encode.{concat, facilityRecord, facilityRecords, facilitySize}
 use Rattle.language.specs.Layout.{facilityBytes, placeIn}
 use Rattle.image_sections.proofs.WrittenDeclarations.{facility-length}
 use Rattle.about_writing.specs.Running.{placeAt, running, running-at, running-is, running-length}
@@ -43,19 +43,19 @@ place-in p [] n = omega arith
 place-in p (f ∷ fs) zero = omega arith
 place-in p (f ∷ fs) (suc n) = place-in (p + facilityBytes f) fs n ∙ omega arith
 
-pub facilities-length : (fs : List Facility) → length (facilityRecords 0 fs) ≡ 13 * length fs
-facilities-length fs = ap length (facilities-running 0 fs) ∙ running-length facilityRecord facilityBytes 13 facility-length 0 fs
+pub facilities-length : (fs : List Facility) → length (facilityRecords 0 fs) ≡ facilitySize * length fs
+facilities-length fs = ap length (facilities-running 0 fs) ∙ running-length facilityRecord facilityBytes facilitySize facility-length 0 fs
 
 pub facilities-at : (fs : List Facility) (n : ℕ) → n < length fs
-    → take 13 (drop (13 * n) (facilityRecords 0 fs)) ≡ facilityRecord (placeIn fs n) (getD fs n noFacility)
+    → take facilitySize (drop (facilitySize * n) (facilityRecords 0 fs)) ≡ facilityRecord (placeIn fs n) (getD fs n noFacility)
 facilities-at fs n h =
-    ap (λ (s : List ℕ). take 13 (drop (13 * n) s)) (facilities-running 0 fs)
-    ∙ running-at facilityRecord facilityBytes 13 facility-length 0 fs n noFacility h
+    ap (λ (s : List ℕ). take facilitySize (drop (facilitySize * n) s)) (facilities-running 0 fs)
+    ∙ running-at facilityRecord facilityBytes facilitySize facility-length 0 fs n noFacility h
     ∙ ap (λ (p : ℕ). facilityRecord p (getD fs n noFacility)) (place-in 0 fs n ∙ omega arith)
 
-pub facilities-are : (fs : List Facility) (s : List ℕ) → length s ≡ 13 * length fs
-    → ((n : ℕ) → n < length fs → take 13 (drop (13 * n) s) ≡ facilityRecord (placeIn fs n) (getD fs n noFacility)) → s ≡ facilityRecords 0 fs
+pub facilities-are : (fs : List Facility) (s : List ℕ) → length s ≡ facilitySize * length fs
+    → ((n : ℕ) → n < length fs → take facilitySize (drop (facilitySize * n) s) ≡ facilityRecord (placeIn fs n) (getD fs n noFacility)) → s ≡ facilityRecords 0 fs
 facilities-are fs s l f =
-    running-is facilityRecord facilityBytes 13 facility-length 0 fs s noFacility l
+    running-is facilityRecord facilityBytes facilitySize facility-length 0 fs s noFacility l
     (λ n h. f n h ∙ ap (λ (p : ℕ). facilityRecord p (getD fs n noFacility)) (sym (place-in 0 fs n ∙ omega arith)))
     ∙ sym (facilities-running 0 fs)

@@ -10,7 +10,7 @@ use lib.ListN.{drop, length, take, length-append, length-take}
 use lib.Seq.{length-take-le, take-at, take-take}
 use Rattle.language.specs.Decode.{actionOf, decode, described, nodeOf, sectionsIn}
 use Rattle.language.specs.Description.{Description, facilityAt}
-use Rattle.language.specs.Encode.{Sections, actionBytes, encode, facilityRecord, imageOf, nameBytes, nodeBytes, operationRecord, sectionsOf, stateRecord}
+use Rattle.language.specs.Encode.{Sections, actionBytes, actionSize, encode, facilityRecord, facilitySize, headerSize, imageOf, nameBytes, nodeBytes, nodeSize, operationRecord, operationSize, sectionsOf, stateRecord, stateSize}
 use Rattle.language.specs.Image.{legalForm, passes, totalLength}
 use Rattle.language.specs.Judging.{both}
 use Rattle.language.specs.Layout.{placeIn}
@@ -44,10 +44,10 @@ pub sized : (d : Description) → Sized (sectionsOf d) (countsFor d)
 unfolding sectionsOf
 sized d = record {
   facilities = facilities-length (d .facilities);
-  operations = row-length operationRecord 5 operation-length (d .operations);
-  expressions = row-length nodeBytes 8 node-length (d .expressions);
-  actions = row-length actionBytes 7 action-length (d .actions);
-  states = row-length stateRecord 7 state-length (d .states);
+  operations = row-length operationRecord operationSize operation-length (d .operations);
+  expressions = row-length nodeBytes nodeSize node-length (d .expressions);
+  actions = row-length actionBytes actionSize action-length (d .actions);
+  states = row-length stateRecord stateSize state-length (d .states);
   names = refl;
 }
 
@@ -101,7 +101,7 @@ decode-encode d rest r = decode-written d (encode d ++ rest) r (take-at (encode 
 -- No byte is missing, and those up to the total length are the bytes of what they describe.
 unfoldable pub bytesRight : List ℕ → Bool
 bytesRight image =
-    cond (both (leb 52 (length image)) (leb (totalLength image) (length image))) (same (take (totalLength image) image) (encode (decode image))) false
+    cond (both (leb headerSize (length image)) (leb (totalLength image) (length image))) (same (take (totalLength image) image) (encode (decode image))) false
 
 -- Sections are the same as those that are written of what they describe.
 unfoldable pub sectionsSame : Sections → Bool
@@ -146,16 +146,16 @@ same-sections x e0 =
 
 -- Sections in which every record is right, and whose records say as much of names as there is.
 pub record RecordsRight (x : Sections) : Type 0 where
-  pub whole-facilities : length (x .facilities) ≡ 13 * (length (x .facilities) / 13)
-  pub whole-operations : length (x .operations) ≡ 5 * (length (x .operations) / 5)
-  pub whole-expressions : length (x .expressions) ≡ 8 * (length (x .expressions) / 8)
-  pub whole-actions : length (x .actions) ≡ 7 * (length (x .actions) / 7)
-  pub whole-states : length (x .states) ≡ 7 * (length (x .states) / 7)
-  pub facilities : (n : ℕ) → n < length (x .facilities) / 13
-      → take 13 (drop (13 * n) (x .facilities)) ≡ facilityRecord (placeIn (described x .facilities) n) (facilityAt (described x) n)
+  pub whole-facilities : length (x .facilities) ≡ facilitySize * (length (x .facilities) / facilitySize)
+  pub whole-operations : length (x .operations) ≡ operationSize * (length (x .operations) / operationSize)
+  pub whole-expressions : length (x .expressions) ≡ nodeSize * (length (x .expressions) / nodeSize)
+  pub whole-actions : length (x .actions) ≡ actionSize * (length (x .actions) / actionSize)
+  pub whole-states : length (x .states) ≡ stateSize * (length (x .states) / stateSize)
+  pub facilities : (n : ℕ) → n < length (x .facilities) / facilitySize
+      → take facilitySize (drop (facilitySize * n) (x .facilities)) ≡ facilityRecord (placeIn (described x .facilities) n) (facilityAt (described x) n)
   pub operations : Bytes (x .operations)
-  pub expressions : (n : ℕ) → n < length (x .expressions) / 8 → take 8 (drop (8 * n) (x .expressions)) ≡ nodeBytes (nodeOf (x .expressions) n)
-  pub actions : (n : ℕ) → n < length (x .actions) / 7 → take 7 (drop (7 * n) (x .actions)) ≡ actionBytes (actionOf (x .actions) n)
+  pub expressions : (n : ℕ) → n < length (x .expressions) / nodeSize → take nodeSize (drop (nodeSize * n) (x .expressions)) ≡ nodeBytes (nodeOf (x .expressions) n)
+  pub actions : (n : ℕ) → n < length (x .actions) / actionSize → take actionSize (drop (actionSize * n) (x .actions)) ≡ actionBytes (actionOf (x .actions) n)
   pub states : Bytes (x .states)
   pub names : allNames x ≡ length (x .names)
 
@@ -188,13 +188,13 @@ module _ (image : List ℕ) (d : Description) (long : totalLength image ≤ leng
   total-long : length (encode d) ≡ totalLength image
   total-long = sym (ap length e) ∙ length-take-le (totalLength image) image long
 
-  header-stands : take 52 image ≡ fours (headerNumbers (countsFor d))
+  header-stands : take headerSize image ≡ fours (headerNumbers (countsFor d))
   unfolding encode
   header-stands =
       let c = countsFor d in
-      let l : 52 ≤ totalLength image = omega (arith, total-long, encode-long d) in
-      sym (take-take 52 (totalLength image) image l) ∙ ap (take 52) (e ∙ image-header (sectionsOf d) c (sized d))
-      ∙ take-at (fours (headerNumbers c)) (bodyOf (sectionsOf d)) 52 (header-bytes c)
+      let l : headerSize ≤ totalLength image = omega (arith, total-long, encode-long d) in
+      sym (take-take headerSize (totalLength image) image l) ∙ ap (take headerSize) (e ∙ image-header (sectionsOf d) c (sized d))
+      ∙ take-at (fours (headerNumbers c)) (bodyOf (sectionsOf d)) headerSize (header-bytes c)
 
   pub whole-right : Whole image d
   whole-right = record {
@@ -204,17 +204,17 @@ module _ (image : List ℕ) (d : Description) (long : totalLength image ≤ leng
   }
 
 -- What it means that the bytes are right.
-pub bytes-parts : (image : List ℕ) → bytesRight image ≡ true → (52 ≤ length image) × (totalLength image ≤ length image) × (take (totalLength image) image ≡ encode (decode image))
+pub bytes-parts : (image : List ℕ) → bytesRight image ≡ true → (headerSize ≤ length image) × (totalLength image ≤ length image) × (take (totalLength image) image ≡ encode (decode image))
 unfolding bytesRight
-bytes-parts image h = by-test (both (leb 52 (length image)) (leb (totalLength image) (length image))) refl h
+bytes-parts image h = by-test (both (leb headerSize (length image)) (leb (totalLength image) (length image))) refl h
   where
-    by-test : (b : Bool) → both (leb 52 (length image)) (leb (totalLength image) (length image)) ≡ b
+    by-test : (b : Bool) → both (leb headerSize (length image)) (leb (totalLength image) (length image)) ≡ b
         → cond b (same (take (totalLength image) image) (encode (decode image))) false ≡ true
-        → (52 ≤ length image) × (totalLength image ≤ length image) × (take (totalLength image) image ≡ encode (decode image))
-    by-test true t g = (leb-true _ _ (both-left (leb 52 (length image)) _ t), leb-true _ _ (both-right (leb 52 (length image)) _ t), same-true _ _ g)
+        → (headerSize ≤ length image) × (totalLength image ≤ length image) × (take (totalLength image) image ≡ encode (decode image))
+    by-test true t g = (leb-true _ _ (both-left (leb headerSize (length image)) _ t), leb-true _ _ (both-right (leb headerSize (length image)) _ t), same-true _ _ g)
     by-test false t g = absurd (true≢false (sym g))
 
-pub bytes-of : (image : List ℕ) → 52 ≤ length image → totalLength image ≤ length image → take (totalLength image) image ≡ encode (decode image) → bytesRight image ≡ true
+pub bytes-of : (image : List ℕ) → headerSize ≤ length image → totalLength image ≤ length image → take (totalLength image) image ≡ encode (decode image) → bytesRight image ≡ true
 unfolding bytesRight
 bytes-of image h g e = rw (le-leb _ _ h, le-leb _ _ g, same-of e)
 
@@ -257,7 +257,7 @@ bytes-right image = by-bytes (bytesRight image) refl
 -- An image passes where its bytes are right and it describes what is in legal form.
 pub passes-parts : (image : List ℕ) → passes image ≡ both (bytesRight image) (legalForm (decode image))
 unfolding passes bytesRight
-passes-parts image = by-test (both (leb 52 (length image)) (leb (totalLength image) (length image)))
+passes-parts image = by-test (both (leb headerSize (length image)) (leb (totalLength image) (length image)))
   where
     by-test : (b : Bool) → cond b (both (same (take (totalLength image) image) (encode (decode image))) (legalForm (decode image))) false
         ≡ both (cond b (same (take (totalLength image) image) (encode (decode image))) false) (legalForm (decode image))

@@ -17,6 +17,7 @@ use Rattle.image_sections.proofs.DescribedLaws.{operations-count}
 use Rattle.run_actions.proofs.SectionLaws.{sections-act}
 use Rattle.run_actions.specs.Acts.{Acts}
 use Rattle.image_lookups.proofs.PassLaws.{states-many}
+use Rattle.language.specs.Encode.{actionSize, actionsSection, expressionsSection, facilitiesSection, facilitySize, nodeSize, operationSize, operationsSection, stateSize, statesSection}
 use Rattle.run_soundness.proofs.PassedLaws.{passed-described, passed-fits, passed-register, passed-valued}
 use Rattle.run_end.specs.Register.{Enters}
 use Rattle.run_end.specs.Stepped.{counted}
@@ -25,7 +26,7 @@ module _ (image : List ℕ) (passed : passes image ≡ true) where
   abbrev d : Description
   d = decode image
 
-  pub passed-enters : Enters (decode image) (sectionAt 0 13 image) (sectionAt 2 8 image) (sectionAt 4 7 image)
+  pub passed-enters : Enters (decode image) (sectionAt facilitiesSection facilitySize image) (sectionAt expressionsSection nodeSize image) (sectionAt statesSection stateSize image)
   passed-enters = record {
     described = passed-described image passed;
     valued = passed-valued image passed;
@@ -33,11 +34,11 @@ module _ (image : List ℕ) (passed : passes image ≡ true) where
     states = states-many image;
   }
 
-  pub passed-acts : Acts (decode image) (sectionAt 0 13 image) (sectionAt 1 5 image) (sectionAt 2 8 image) (sectionAt 3 7 image) (length (sectionAt 4 7 image) / 7)
+  pub passed-acts : Acts (decode image) (sectionAt facilitiesSection facilitySize image) (sectionAt operationsSection operationSize image) (sectionAt expressionsSection nodeSize image) (sectionAt actionsSection actionSize image) (length (sectionAt statesSection stateSize image) / stateSize)
   unfolding decode sectionsIn
   passed-acts = sections-act (sectionsIn image) (passed-described image passed)
 
-  pub operations-many : length (decode image .operations) ≡ length (sectionAt 1 5 image) / 5
+  pub operations-many : length (decode image .operations) ≡ length (sectionAt operationsSection operationSize image) / operationSize
   unfolding decode sectionsIn
   operations-many = operations-count (sectionsIn image)
 

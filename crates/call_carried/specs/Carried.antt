@@ -5,6 +5,7 @@ use Prim.Native.Nat.{ℕ}
 use lib.ListN.{length}
 use Rattle.language.specs.Calls as L
 use Rattle.language.specs.Decode.{sectionAt}
+use Rattle.language.specs.Encode.{actionSize, actionsSection, expressionsSection, facilitiesSection, facilitySize, nodeSize, operationSize, operationsSection, stateSize, statesSection}
 use Rattle.language.specs.RecordBytes.{recordBytes, recordFrom, recordSize}
 use Rattle.language.specs.Step as S
 use Rattle.run_end.specs.declared.outcome.Verdict.{Verdict}
@@ -12,11 +13,11 @@ use Rattle.run_end.specs.declared.outcome.Verdict.the-variants as Ends
 
 -- The sections of an image, but for its names.
 pub record Sliced (image facilities operations expressions actions states : List ℕ) : Type 0 where
-  pub facilities-are : facilities ≡ sectionAt 0 13 image
-  pub operations-are : operations ≡ sectionAt 1 5 image
-  pub expressions-are : expressions ≡ sectionAt 2 8 image
-  pub actions-are : actions ≡ sectionAt 3 7 image
-  pub states-are : states ≡ sectionAt 4 7 image
+  pub facilities-are : facilities ≡ sectionAt facilitiesSection facilitySize image
+  pub operations-are : operations ≡ sectionAt operationsSection operationSize image
+  pub expressions-are : expressions ≡ sectionAt expressionsSection nodeSize image
+  pub actions-are : actions ≡ sectionAt actionsSection actionSize image
+  pub states-are : states ≡ sectionAt statesSection stateSize image
 
 -- A record that is read back from its bytes, whatever lies behind them.
 pub record ReadBack (r : S.Record) : Type 0 where

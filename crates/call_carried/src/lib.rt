@@ -14,6 +14,7 @@ ghost use Rattle.language.specs.RecordBytes.{recordFrom};
 ghost use Rattle.run_next.specs.Seen.{recordMeant};
 ghost use Rattle.call_left.specs.Kept.{called};
 ghost use Rattle.call_carried.specs.Carried.{Sliced, completedBack};
+ghost use Rattle.language.specs.Encode.{facilitySize, stateSize};
 
 // The cycle on a working copy, with as many bytes as the store has for the copy, for delayed stores that wait, and for their mask.
 pub fn carried(
@@ -29,7 +30,7 @@ pub fn carried(
     pending: &mut [u8],
     mask: &mut [u8],
 ) -> Stepped
-    requires { ⌜ (length (now facilities) / 13 ≤ 65536) × (length (now states) / 7 ≤ 65536) × (r .held ≤ 16) ⌝ }
+    requires { ⌜ (length (now facilities) / facilitySize ≤ 65536) × (length (now states) / stateSize ≤ 65536) × (r .held ≤ 16) ⌝ }
     ensures { λ a. ⌜ ((i K : List ℕ) (n : ℕ) → Sliced i (now (facilities .entry)) (now (operations .entry)) (now (expressions .entry)) (now (actions .entry)) (now (states .entry)) → recordFrom K ≡ recordMeant r → length (now (work .entry)) ≡ storeSize (decode i) → length (now (pending .entry)) ≡ storeSize (decode i) → length (now (mask .entry)) ≡ storeSize (decode i) → cycleRefusal i (now (store .entry)) K (now (stimulus .entry)) n ≡ none → (called a (now (store .exit)) K n ≡ cycle i (now (store .entry)) K (now (stimulus .entry)) n) × completedBack (a .verdict) (recordMeant (a .«record»))) ⌝ }
 {
     slices::copy(work, store);

@@ -12,7 +12,7 @@ use Rattle.language.specs.Canonical.{canonical, countsRight}
 use Rattle.language.specs.Decode.{decode, described, sectionAt, sectionsIn}
 use Rattle.language.specs.Description.{noPlaces}
 use Rattle.language.specs.DescribeText.{Described}
-use Rattle.language.specs.Encode.{Sections}
+use Rattle.language.specs.Encode.{Sections, actionSize, actionsSection, expressionsSection, facilitiesSection, facilitySize, nodeSize, operationSize, operationsSection}
 use Rattle.language.specs.Image.{passes}
 use Rattle.language.specs.Machine.{mostFacilities, mostOperations}
 use Rattle.language.specs.Rules.{faults}
@@ -48,11 +48,11 @@ least-plain x = ap (λ (d : Described). least (faults (d .description) (d .place
 -- ---- Bounds first, then the form.
 
 module _ (image : List ℕ) where
-  pub nodes-in : {s : List ℕ} → s ≡ sectionAt 2 8 image → Nodes (decode image) s
+  pub nodes-in : {s : List ℕ} → s ≡ sectionAt expressionsSection nodeSize image → Nodes (decode image) s
   unfolding decode sectionsIn
   nodes-in e = rw e (nodes-held (sectionsIn image))
 
-  pub actions-in : {s : List ℕ} → s ≡ sectionAt 3 7 image → Actions (decode image) s
+  pub actions-in : {s : List ℕ} → s ≡ sectionAt actionsSection actionSize image → Actions (decode image) s
   unfolding decode sectionsIn
   actions-in e = rw e (actions-held (sectionsIn image))
 
@@ -86,6 +86,6 @@ module _ (image : List ℕ) where
         (both-left (leb (length (decode image .operations)) 128) _ (both-right (leb (length (decode image .facilities)) 256) _ counts-so))
 
     -- Counts within what judging asks for.
-    pub few : (length (sectionAt 0 13 image) / 13 ≤ 65536) × (length (sectionAt 1 5 image) / 5 ≤ 256)
+    pub few : (length (sectionAt facilitiesSection facilitySize image) / facilitySize ≤ 65536) × (length (sectionAt operationsSection operationSize image) / operationSize ≤ 256)
     unfolding decode sectionsIn
     few = (omega (arith, few-facilities, facilities-count (sectionsIn image)), omega (arith, few-operations, operations-count (sectionsIn image)))

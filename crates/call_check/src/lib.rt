@@ -13,10 +13,11 @@ ghost use Rattle.language.specs.Description.{noPlaces};
 ghost use Rattle.language.specs.Image as L;
 ghost use Rattle.language.specs.Rules.{faults};
 ghost use Rattle.image_form.specs.Form.{sectioned};
+ghost use Rattle.language.specs.Encode.{facilitySize, operationSize};
 
 // Whether no rule finds a fault. An image has no places.
 fn faultless(fs: &[u8], os: &[u8], es: &[u8], acts: &[u8], ss: &[u8], ns: &[u8]) -> bool
-    requires { ⌜ (length (now fs) / 13 ≤ 65536) × (length (now os) / 5 ≤ 256) ⌝ }
+    requires { ⌜ (length (now fs) / facilitySize ≤ 65536) × (length (now os) / operationSize ≤ 256) ⌝ }
     ensures { λ r. ⌜ r ≡ eqb (length (faults (described (sectioned (now (fs .entry)) (now (os .entry)) (now (es .entry)) (now (acts .entry)) (now (ss .entry)) (now (ns .entry)))) noPlaces)) 0 ⌝ }
 {
     let none = bytes::part(ns, 0, 0);
@@ -30,17 +31,17 @@ fn faultless(fs: &[u8], os: &[u8], es: &[u8], acts: &[u8], ss: &[u8], ns: &[u8])
 pub fn passes(image: &[u8]) -> bool
     ensures { λ r. ⌜ r ≡ L.passes (now (image .entry)) ⌝ }
 {
-    let exprs = sections::section(image, 2, 8);
-    let acts = sections::section(image, 3, 7);
+    let exprs = sections::section(image, sections::EXPRESSIONS);
+    let acts = sections::section(image, sections::ACTIONS);
     if !image_depth::bounded(exprs, acts) {
         return false;
     }
     if !image_form::form(image) {
         return false;
     }
-    let facilities = sections::section(image, 0, 13);
-    let operations = sections::section(image, 1, 5);
-    let states = sections::section(image, 4, 7);
-    let names = sections::section(image, 5, 1);
+    let facilities = sections::section(image, sections::FACILITIES);
+    let operations = sections::section(image, sections::OPERATIONS);
+    let states = sections::section(image, sections::STATES);
+    let names = sections::section(image, sections::NAMES);
     faultless(facilities, operations, exprs, acts, states, names)
 }

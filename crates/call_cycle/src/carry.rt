@@ -28,11 +28,11 @@ fn carry_in(
     ensures { λ r. ⌜ call r (now (store .exit)) (now («record» .exit)) (now (scratch .exit)) ≡ L.cycle (now (image .entry)) (now (store .entry)) (now («record» .entry)) (now (stimulus .entry)) (length (now (scratch .entry))) ⌝ }
 {
     let a = call_carried::carried(
-        sections::section(image, 0, 13),
-        sections::section(image, 1, 5),
-        sections::section(image, 2, 8),
-        sections::section(image, 3, 7),
-        sections::section(image, 4, 7),
+        sections::section(image, sections::FACILITIES),
+        sections::section(image, sections::OPERATIONS),
+        sections::section(image, sections::EXPRESSIONS),
+        sections::section(image, sections::ACTIONS),
+        sections::section(image, sections::STATES),
         record::record_at(record),
         store,
         stimulus,
@@ -54,7 +54,7 @@ pub fn carry_out(
     requires { ⌜ cycleRefusal (now image) (now store) (now «record») (now stimulus) (length (now scratch)) ≡ none ⌝ }
     ensures { λ r. ⌜ call r (now (store .exit)) (now («record» .exit)) (now (scratch .exit)) ≡ L.cycle (now (image .entry)) (now (store .entry)) (now («record» .entry)) (now (stimulus .entry)) (length (now (scratch .entry))) ⌝ }
 {
-    let n = sizes::store_size(sections::section(image, 0, 13));
+    let n = sizes::store_size(sections::section(image, sections::FACILITIES));
     if n <= 1024 {
         let mut pending = [0u8; 1024];
         let mut mask = [0u8; 1024];

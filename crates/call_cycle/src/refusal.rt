@@ -43,9 +43,9 @@ pub fn first_refusal(
     if !passed {
         return Refusal::At(13);
     }
-    let facilities = sections::section(image, 0, 13);
-    let expressions = sections::section(image, 2, 8);
-    let states = sections::section(image, 4, 7);
+    let facilities = sections::section(image, sections::FACILITIES);
+    let expressions = sections::section(image, sections::EXPRESSIONS);
+    let states = sections::section(image, sections::STATES);
     if !roomy(
         sizes::store_size(facilities),
         store.len(),

@@ -23,6 +23,7 @@ use Rattle.store_layout.proofs.Zeros.{store-zero}
 use Rattle.store_layout.specs.Layout.{Bytes}
 use Rattle.run_references.specs.Described.{Describes}
 use Rattle.image_lookups.proofs.PassLaws.{states-many}
+use Rattle.language.specs.Encode.{expressionsSection, facilitiesSection, facilitySize, nodeSize, stateSize, statesSection}
 use Rattle.run_begin.proofs.BeginLaws.{bytes-zeros, zeros}
 use Rattle.run_soundness.proofs.PassedLaws.{passed-described, passed-facilities, passed-fits, passed-register, passed-size, passed-valued}
 use Rattle.run_end.specs.Register.{Enters, entered}
@@ -48,7 +49,7 @@ module _ (image : List ℕ) (passed : passes image ≡ true) where
   abbrev d : Description
   d = decode image
 
-  passed-enters : Enters (decode image) (sectionAt 0 13 image) (sectionAt 2 8 image) (sectionAt 4 7 image)
+  passed-enters : Enters (decode image) (sectionAt facilitiesSection facilitySize image) (sectionAt expressionsSection nodeSize image) (sectionAt statesSection stateSize image)
   passed-enters = record {
     described = passed-described image passed;
     valued = passed-valued image passed;
@@ -57,16 +58,16 @@ module _ (image : List ℕ) (passed : passes image ≡ true) where
   }
 
   -- The same of sections in hand.
-  pub sections-enter : {F E T : List ℕ} → F ≡ sectionAt 0 13 image → E ≡ sectionAt 2 8 image → T ≡ sectionAt 4 7 image → Enters (decode image) F E T
+  pub sections-enter : {F E T : List ℕ} → F ≡ sectionAt facilitiesSection facilitySize image → E ≡ sectionAt expressionsSection nodeSize image → T ≡ sectionAt statesSection stateSize image → Enters (decode image) F E T
   sections-enter p q r = rw (p, q, r) passed-enters
 
-  pub few-records : {F : List ℕ} → F ≡ sectionAt 0 13 image → length F / 13 ≤ 65536
+  pub few-records : {F : List ℕ} → F ≡ sectionAt facilitiesSection facilitySize image → length F / facilitySize ≤ 65536
   few-records e = rw e (passed-facilities image passed)
 
-  pub size-known : {F : List ℕ} {n : ℕ} → F ≡ sectionAt 0 13 image
+  pub size-known : {F : List ℕ} {n : ℕ} → F ≡ sectionAt facilitiesSection facilitySize image
       → ((x : Description) (E : List ℕ) → Describes x F E → storeSizeOf (x .facilities) ≤ 16384 → n ≡ storeSizeOf (x .facilities)) → n ≡ storeSize (decode image)
   unfolding storeSize
-  size-known e f = f d (sectionAt 2 8 image) (rw e (passed-described image passed)) (passed-size image passed)
+  size-known e f = f d (sectionAt expressionsSection nodeSize image) (rw e (passed-described image passed)) (passed-size image passed)
 
   -- The first state has a value where there is a register.
   has-value : (s : Words) → none ≡ setRegister d (sequencingOf d) (stateNumber d 0) s → ⊥

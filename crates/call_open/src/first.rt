@@ -24,9 +24,9 @@ pub fn first_words(image: &[u8], store: &mut [u8])
     requires { ⌜ (passes (now image) ≡ true) × (storeSize (decode (now image)) ≤ length (now store)) ⌝ }
     ensures { λ _. ⌜ (now (store .entry) ≡ zeroes (length (now (store .entry))) → now (store .exit) ≡ filled (length (now (store .entry))) (toBytes (decode (now (image .entry)) .facilities) (openWords (decode (now (image .entry)))))) ⌝ }
 {
-    let facilities = sections::section(image, 0, 13);
-    let expressions = sections::section(image, 2, 8);
-    let states = sections::section(image, 4, 7);
+    let facilities = sections::section(image, sections::FACILITIES);
+    let expressions = sections::section(image, sections::EXPRESSIONS);
+    let states = sections::section(image, sections::STATES);
     let size = sizes::store_size(facilities);
     register::set_register(facilities, expressions, states, &mut store[0..size], 0);
 }

@@ -28,7 +28,7 @@ fn roomy(image: &[u8], store: usize, kept: usize) -> bool
     requires { ⌜ L.passes (now image) ≡ true ⌝ }
     ensures { λ r. ⌜ r ≡ both (leb (storeSize (decode (now (image .entry)))) store) (leb recordSize kept) ⌝ }
 {
-    let size = sizes::store_size(sections::section(image, 0, 13));
+    let size = sizes::store_size(sections::section(image, sections::FACILITIES));
     if size <= store {
         RECORD_SIZE <= kept
     } else {

@@ -7,7 +7,7 @@ use native.Mathlib.Omega.{arith}
 use lib.ListN.{drop, length, length-drop, take}
 use lib.Seq.{length-take-le, take-at, take-take}
 use Rattle.language.specs.Describe.{Noted}
-use Rattle.language.specs.Encode.{concat}
+use Rattle.language.specs.Encode.{concat, nodeSize}
 use Rattle.parse_stores.specs.Actions.{frontOf}
 use Rattle.parse_tables.specs.declared.Table.{Table}
 use Rattle.parse_tables.specs.Rows.{from, most, rows, size}
@@ -36,7 +36,7 @@ pub front-before : (n m : ℕ) (w w′ : List ℕ) (ns : List Noted) → length 
 unfolding frontOf held withNodes placesFrom
 front-before n m w w′ ns l h k e =
     same-held
-    (sym (take-take (8 * n) (8 * m) w′ (omega arith)) ∙ ap (take (8 * n)) (ap (λ (x : Held). x .nodes) e) ∙ take-at (take (8 * n) w) _ (8 * n) (length-take-le (8 * n) w (omega arith)))
+    (sym (take-take (nodeSize * n) (nodeSize * m) w′ (omega arith)) ∙ ap (take (nodeSize * n)) (ap (λ (x : Held). x .nodes) e) ∙ take-at (take (nodeSize * n) w) _ (nodeSize * n) (length-take-le (nodeSize * n) w (omega arith)))
     (sym (take-take (6 * n) (6 * m) (drop 127104 w′) (omega arith)) ∙ ap (take (6 * n)) (ap (λ (x : Held). x .places) e)
     ∙ take-at (take (6 * n) (drop 127104 w)) _ (6 * n) (length-take-le (6 * n) (drop 127104 w) (omega (arith, length-drop 127104 w)))) refl
 

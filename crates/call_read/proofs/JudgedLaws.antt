@@ -10,12 +10,13 @@ use Rattle.parse_tables.specs.declared.Table.the-variants as T
 use Rattle.parse_tables.specs.Rows.{rows}
 use Rattle.parse_held.proofs.BodyLaws.{row-most}
 use Rattle.image_records.proofs.FilledLaws.{filled-none}
+use Rattle.language.specs.Encode.{facilitySize, operationSize}
 
 -- Few enough facilities and operations.
-pub not-many : (w fs os : List ℕ) {n m : ℕ} → n ≤ 256 → m ≤ 128 → fs ≡ rows T.Facilities n w → os ≡ rows T.Operations m w → (length fs / 13 ≤ 65536) × (length os / 5 ≤ 256)
+pub not-many : (w fs os : List ℕ) {n m : ℕ} → n ≤ 256 → m ≤ 128 → fs ≡ rows T.Facilities n w → os ≡ rows T.Operations m w → (length fs / facilitySize ≤ 65536) × (length os / operationSize ≤ 256)
 not-many w fs os {n} {m} h g e f =
-    let a : length fs ≤ 13 * n = omega (arith, ap length e, row-most T.Facilities n w) in
-    let b : length os ≤ 5 * m = omega (arith, ap length f, row-most T.Operations m w) in
+    let a : length fs ≤ facilitySize * n = omega (arith, ap length e, row-most T.Facilities n w) in
+    let b : length os ≤ operationSize * m = omega (arith, ap length f, row-most T.Operations m w) in
     (omega arith, omega arith)
 
 -- Bytes written to a row of zeros, read again.

@@ -15,7 +15,7 @@ use Rattle.language.specs.Decode.{pick, upTo}
 use Rattle.language.specs.DescribeText.{describe}
 use Rattle.language.specs.Description as D
 use Rattle.language.specs.Description.{Description, actionPlace, facilityPlace, nodePlace, statePlace}
-use Rattle.language.specs.Encode.{Sections, encode}
+use Rattle.language.specs.Encode.{Sections, encode, nodeSize}
 use Rattle.language.specs.Grammar.{Is}
 use Rattle.language.specs.Machine.{Parsed, deepest, refused}
 use Rattle.language.specs.Notions as N
@@ -137,7 +137,7 @@ module _ {text work : List ℕ} {c : Tally} (p : Parses text work c) (short : le
         ap (λ (x : Sections). length (x .names)) e,
         row-most T.Facilities (c .facilities) work,
         row-most T.Operations (c .operations) work,
-        length-take (8 * c .nodes) work,
+        length-take (nodeSize * c .nodes) work,
         row-most T.Actions (c .actions) work,
         row-most T.States (c .states) work,
         names-room text work c t short derived few (p .whole .stands),

@@ -41,9 +41,9 @@ pub fn run_refusal(
     if !passed {
         return Refusal::At(13);
     }
-    let facilities = sections::section(image, 0, 13);
-    let expressions = sections::section(image, 2, 8);
-    let states = sections::section(image, 4, 7);
+    let facilities = sections::section(image, sections::FACILITIES);
+    let expressions = sections::section(image, sections::EXPRESSIONS);
+    let states = sections::section(image, sections::STATES);
     let size = sizes::store_size(facilities);
     if !refusal::roomy(size, store.len(), record.len(), scratch) {
         return Refusal::At(12);

@@ -109,16 +109,16 @@ pub fn carry_out(
     requires { ⌜ (runRefusal (now image) (now store) (now «record») (now stimuli) cycles (length (now scratch)) (length (now trace)) ≡ none) × (now trace ≡ zeroes (length (now trace))) ⌝ }
     ensures { λ r. ⌜ tallied r (now (store .exit)) (now («record» .exit)) (now (scratch .exit)) (now (trace .exit)) ≡ L.run (now (image .entry)) (now (store .entry)) (now («record» .entry)) (now (stimuli .entry)) cycles (length (now (scratch .entry))) (length (now (trace .entry))) ⌝ }
 {
-    let facilities = sections::section(image, 0, 13);
+    let facilities = sections::section(image, sections::FACILITIES);
     let n = sizes::store_size(facilities);
     let mut pending = [0u8; 16384];
     let mut mask = [0u8; 16384];
     let a = carry_on(
         facilities,
-        sections::section(image, 1, 5),
-        sections::section(image, 2, 8),
-        sections::section(image, 3, 7),
-        sections::section(image, 4, 7),
+        sections::section(image, sections::OPERATIONS),
+        sections::section(image, sections::EXPRESSIONS),
+        sections::section(image, sections::ACTIONS),
+        sections::section(image, sections::STATES),
         record::record_at(record),
         store,
         stimuli,

@@ -12,7 +12,7 @@ use lib.Seq.{getD-take}
 use Rattle.language.specs.Canonical.{total}
 use Rattle.language.specs.Decode.{decode, numberAt, offsetOf, sectionAt, sectionsIn}
 use Rattle.language.specs.Description.{Facility, Operation, State, facilityAt, noFacility, noRun, stateAt}
-use Rattle.language.specs.Encode.{little, nameBytes}
+use Rattle.language.specs.Encode.{headerSize, little, nameBytes, nameSize, namesSection}
 use Rattle.language.specs.Image.{passes}
 use Rattle.language.specs.Lookups as L
 use Rattle.language.specs.Lookups.{facilityName, stateName}
@@ -34,11 +34,11 @@ upto name z (x ∷ xs) zero h = omega arith
 upto name z (x ∷ xs) (suc n) h = omega (arith, upto name z xs n (omega arith))
 
 -- The header says where the names begin.
-module _ (s : List ℕ) (c : Counts) (stands : take 52 s ≡ fours (headerNumbers c)) where
-  byte : (i : ℕ) → i < 52 → getD s i 0 ≡ getD (fours (headerNumbers c)) i 0
-  byte i h = sym (getD-take 52 s i 0 h) ∙ ap (λ (l : List ℕ). getD l i 0) stands
+module _ (s : List ℕ) (c : Counts) (stands : take headerSize s ≡ fours (headerNumbers c)) where
+  byte : (i : ℕ) → i < headerSize → getD s i 0 ≡ getD (fours (headerNumbers c)) i 0
+  byte i h = sym (getD-take headerSize s i 0 h) ∙ ap (λ (l : List ℕ). getD l i 0) stands
 
-  names-from : offsetOf 5 s ≤ namesFrom c
+  names-from : offsetOf namesSection s ≤ namesFrom c
   unfolding numberAt fours little headerNumbers
   names-from =
       let b0 : getD s 48 0 ≡ namesFrom c % 256 = byte 48 (omega arith) in
@@ -51,17 +51,17 @@ module _ (image : List ℕ) (h : passes image ≡ true) where
   header-so : headerRight image ≡ true
   header-so = right-header (decode image) image (range-so image h .whole) (passes-begins image h .same)
 
-  names-long : length (sectionAt 5 1 image) ≡ countsIn image .names
+  names-long : length (sectionAt namesSection nameSize image) ≡ countsIn image .names
   unfolding sectionsIn
   names-long = header-sized image header-so .names
 
-  names-all : length (sectionAt 5 1 image) ≡ namesOf (λ (f : Facility). f .name) (decode image .facilities) + (namesOf (λ (o : Operation). o .name) (decode image .operations) + namesOf (λ (s : State). s .name) (decode image .states))
+  names-all : length (sectionAt namesSection nameSize image) ≡ namesOf (λ (f : Facility). f .name) (decode image .facilities) + (namesOf (λ (o : Operation). o .name) (decode image .operations) + namesOf (λ (s : State). s .name) (decode image .states))
   unfolding nameBytes
   names-all =
       ap length (names-are image h)
       ∙ simp (length-append, names-length (λ (f : Facility). f .name) (decode image .facilities), names-length (λ (o : Operation). o .name) (decode image .operations), names-length (λ (s : State). s .name) (decode image .states))
 
-  below : offsetOf 5 image + length (sectionAt 5 1 image) < 2 ^ 32
+  below : offsetOf namesSection image + length (sectionAt namesSection nameSize image) < 2 ^ 32
   below =
       let r : Right image = right-parts image header-so in
       omega (arith, names-long, names-from image (countsIn image) (r .stands), r .total, total-below image (countsIn image) (r .stands))

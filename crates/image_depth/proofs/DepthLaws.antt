@@ -23,6 +23,7 @@ use Rattle.image_order.specs.declared.starts.Shape.{Shape}
 use Rattle.image_order.specs.declared.starts.Shape.the-variants as S
 use Rattle.about_images.specs.Depth.{bounded, deepest, depthAt, depthBelow, depthNode, depthStep, mostActions, mostExpressions, shallow, shallow-so, shallowTo}
 use Rattle.image_depth.specs.Depths.{depthShape, noted}
+use Rattle.language.specs.Encode.{actionSize, nodeSize}
 
 -- ---- Depths by shapes.
 
@@ -106,22 +107,22 @@ module _ (d : Description) where
         by-test f true t = rw (← eqb-true n m t, ← own-depth, lt-leb own 4097 g) (not-both (shallowTo d n))
         by-test f false t = rw (f (omega (arith, eqb-false n m t)))
 
-    pub refused : n < length s / 8 → 4097 < own → false ≡ shallow d
+    pub refused : n < length s / nodeSize → 4097 < own → false ≡ shallow d
     unfolding shallow
     refused l g = sym (too-deep (length (d .expressions)) (omega (arith, h .count)) g)
 
-  pub all-noted : (s : List ℕ) → Nodes d s → (n : ℕ) (depths : List ℕ) → n ≡ length s / 8 → Noted d n depths → true ≡ shallow d
+  pub all-noted : (s : List ℕ) → Nodes d s → (n : ℕ) (depths : List ℕ) → n ≡ length s / nodeSize → Noted d n depths → true ≡ shallow d
   unfolding shallow
   all-noted s h n depths e k = let z : length (d .expressions) ≡ n = h .count ∙ sym e in rw z (sym (k .shallow-so-far))
 
 -- ---- Few records.
 
 module _ (d : Description) where
-  pub many-expressions : (s : List ℕ) → Nodes d s → 34816 < length s / 8 → false ≡ bounded d
+  pub many-expressions : (s : List ℕ) → Nodes d s → 34816 < length s / nodeSize → false ≡ bounded d
   unfolding bounded mostExpressions
   many-expressions s h l = rw (lt-leb (length (d .expressions)) 34816 (omega (arith, h .count)))
 
-  pub many-actions : (s : List ℕ) → Actions d s → 4096 < length s / 7 → false ≡ bounded d
+  pub many-actions : (s : List ℕ) → Actions d s → 4096 < length s / actionSize → false ≡ bounded d
   unfolding bounded mostActions
   many-actions s h l = rw (lt-leb (length (d .actions)) 4096 (omega (arith, h .count))) (by-test (leb (length (d .expressions)) mostExpressions))
     where
@@ -129,7 +130,7 @@ module _ (d : Description) where
       by-test true = refl
       by-test false = refl
 
-  pub few : (s t : List ℕ) → Nodes d s → Actions d t → length s / 8 ≤ 34816 → length t / 7 ≤ 4096 → shallow d ≡ bounded d
+  pub few : (s t : List ℕ) → Nodes d s → Actions d t → length s / nodeSize ≤ 34816 → length t / actionSize ≤ 4096 → shallow d ≡ bounded d
   unfolding bounded mostExpressions mostActions
   few s t h k l m = rw (le-leb (length (d .expressions)) 34816 (omega (arith, h .count)), le-leb (length (d .actions)) 4096 (omega (arith, k .count)))
 
@@ -161,7 +162,7 @@ module _ (d : Description) where
       by-test f true = node-deep (below 0 (depthStep d) n) n f (nodeAt d n)
       by-test f false = omega (arith, f i)
 
-  pub few-shallow : (s : List ℕ) → Nodes d s → length s / 8 ≤ 4097 → true ≡ shallow d
+  pub few-shallow : (s : List ℕ) → Nodes d s → length s / nodeSize ≤ 4097 → true ≡ shallow d
   unfolding shallow depthAt
   few-shallow s h l =
       sym (shallow-so d (length (d .expressions)) (λ n k. let b : depthAt d n ≤ suc n = node-deep (depthBelow d n) n (below-deep n) (nodeAt d n) in omega (arith, h .count)))

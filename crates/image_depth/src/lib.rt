@@ -2,6 +2,7 @@
 use image_order::starts;
 use image_order::starts::Shape;
 use image_records::nodes;
+use image_records::record_sizes;
 ghost use mathlib.Core.Path.{_≡_};
 ghost use Prim.Native.Nat.{ℕ, max, _/_, _≤_};
 ghost use lib.ListN.{length};
@@ -9,6 +10,7 @@ ghost use Rattle.language.specs.Description.{Description};
 ghost use Rattle.about_images.specs.Depth as L;
 ghost use Rattle.image_order.specs.Holds.{Actions, Nodes};
 ghost use Rattle.image_depth.specs.Depths.{depthShape, noted};
+ghost use Rattle.language.specs.Encode.{nodeSize};
 
 const MOST_EXPRESSIONS: usize = 34816;
 
@@ -52,12 +54,12 @@ fn depth(depths: &[u16], shape: Shape) -> u16
 
 // Whether no expression is too deep. Parts stand before their record, so one pass notes the depth of each; of a part elsewhere nothing is noted.
 fn shallow(exprs: &[u8]) -> bool
-    requires { ⌜ length (now exprs) / 8 ≤ 34816 ⌝ }
+    requires { ⌜ length (now exprs) / nodeSize ≤ 34816 ⌝ }
     ensures { λ r. ⌜ ((d : Description) → Nodes d (now (exprs .entry)) → r ≡ L.shallow d) ⌝ }
 {
     let mut depths: [u16; 34816] = [0; 34816];
     let mut n = 0;
-    while n < exprs.len() / 8 {
+    while n < exprs.len() / record_sizes::NODE {
         let own = depth(&depths, starts::shape_of(nodes::node_at(exprs, n)));
         if DEEPEST < own {
             return false;
@@ -72,13 +74,13 @@ fn shallow(exprs: &[u8]) -> bool
 pub fn bounded(exprs: &[u8], acts: &[u8]) -> bool
     ensures { λ r. ⌜ ((d : Description) → Nodes d (now (exprs .entry)) → Actions d (now (acts .entry)) → r ≡ L.bounded d) ⌝ }
 {
-    if MOST_EXPRESSIONS < exprs.len() / 8 {
+    if MOST_EXPRESSIONS < exprs.len() / record_sizes::NODE {
         return false;
     }
-    if MOST_ACTIONS < acts.len() / 7 {
+    if MOST_ACTIONS < acts.len() / record_sizes::ACTION {
         return false;
     }
-    if exprs.len() / 8 <= DEEPEST as usize {
+    if exprs.len() / record_sizes::NODE <= DEEPEST as usize {
         return true;
     }
     shallow(exprs)

@@ -10,7 +10,7 @@ use lib.ListN.{drop, length, take, length-drop}
 use lib.Seq.{take-all}
 use Rattle.language.specs.Canonical.{all, canonical, countsRight, facilitiesRight, labelRight, nameRight}
 use Rattle.language.specs.Decode.{decode, described, namesLength, sectionAt, sectionsIn}
-use Rattle.language.specs.Encode.{Sections, actionBytes, concat, facilityRecords, nodeBytes, sectionsOf}
+use Rattle.language.specs.Encode.{Sections, actionBytes, actionSize, actionsSection, concat, expressionsSection, facilitiesSection, facilityRecords, facilitySize, nameSize, namesSection, nodeBytes, nodeSize, operationSize, operationsSection, sectionsOf, stateSize, statesSection}
 use Rattle.language.specs.Judging.{both}
 use Rattle.language.specs.Order.{runsRight, treesRight}
 use Rattle.language.specs.Scan.{same}
@@ -36,20 +36,20 @@ both-false false = refl
 module _ (x : Sections) (c : Counts) (z : Sized x c) where
   -- ---- As many records as the counts say.
 
-  facilities-many : length (x .facilities) / 13 ≡ c .facilities
+  facilities-many : length (x .facilities) / facilitySize ≡ c .facilities
   facilities-many = omega (arith, z .facilities)
 
-  operations-many : length (x .operations) / 5 ≡ c .operations
+  operations-many : length (x .operations) / operationSize ≡ c .operations
   operations-many = omega (arith, z .operations)
 
-  states-many : length (x .states) / 7 ≡ c .states
+  states-many : length (x .states) / stateSize ≡ c .states
   states-many = omega (arith, z .states)
 
   -- ---- The bytes.
 
   -- What the counted records say of names.
   abbrev saidNames : ℕ
-  saidNames = namesLength (c .facilities) 2 13 (x .facilities) + (namesLength (c .operations) 0 5 (x .operations) + namesLength (c .states) 0 7 (x .states))
+  saidNames = namesLength (c .facilities) 2 facilitySize (x .facilities) + (namesLength (c .operations) 0 operationSize (x .operations) + namesLength (c .states) 0 stateSize (x .states))
 
   said-all : saidNames ≡ allNames x
   said-all = rw (facilities-many, operations-many, states-many)
@@ -97,7 +97,7 @@ module _ (x : Sections) (c : Counts) (z : Sized x c) where
   named-all : namedRight c (x .facilities) (x .operations) (x .states) (x .names) ≡ allNamed
   unfolding namedRight described labelsRight
   named-all =
-      let second = drop (namesLength (c .facilities) 2 13 (x .facilities)) (x .names) in
+      let second = drop (namesLength (c .facilities) 2 facilitySize (x .facilities)) (x .names) in
       rw (
         facilities-many,
         operations-many,
@@ -154,8 +154,8 @@ module _ (image : List ℕ) where
     form-left f = rw (bytes-right image, e, f)
 
   -- The sections, one by one.
-  pub sections-are : {f o x a s n : List ℕ} → f ≡ sectionAt 0 13 image → o ≡ sectionAt 1 5 image → x ≡ sectionAt 2 8 image → a ≡ sectionAt 3 7 image
-      → s ≡ sectionAt 4 7 image → n ≡ sectionAt 5 1 image → sectioned f o x a s n ≡ sectionsIn image
+  pub sections-are : {f o x a s n : List ℕ} → f ≡ sectionAt facilitiesSection facilitySize image → o ≡ sectionAt operationsSection operationSize image → x ≡ sectionAt expressionsSection nodeSize image → a ≡ sectionAt actionsSection actionSize image
+      → s ≡ sectionAt statesSection stateSize image → n ≡ sectionAt namesSection nameSize image → sectioned f o x a s n ≡ sectionsIn image
   unfolding sectionsIn
   sections-are p q r t u v = rw (p, q, r, t, u, v)
 
@@ -169,26 +169,26 @@ module _ (c : Counts) (f o s names : List ℕ) where
   rest-of l k n t h e g = e ∙ take-all l (drop k t) (omega (arith, length-drop k t)) ∙ ap (λ (m : ℕ). drop m t) g
 
   abbrev second : List ℕ
-  second = drop (namesLength (c .facilities) 2 13 f) names
+  second = drop (namesLength (c .facilities) 2 facilitySize f) names
 
-  pub second-is : {p : List ℕ} (k : ℕ) → p ≡ take (length names) (drop k names) → k ≡ namesLength (c .facilities) 2 13 f → p ≡ second
+  pub second-is : {p : List ℕ} (k : ℕ) → p ≡ take (length names) (drop k names) → k ≡ namesLength (c .facilities) 2 facilitySize f → p ≡ second
   second-is k e g = rest-of (length names) k _ names (omega arith) e g
 
-  pub third-is : {p q : List ℕ} (k : ℕ) → p ≡ second → q ≡ take (length names) (drop k p) → k ≡ namesLength (c .operations) 0 5 o
-      → q ≡ drop (namesLength (c .operations) 0 5 o) second
+  pub third-is : {p q : List ℕ} (k : ℕ) → p ≡ second → q ≡ take (length names) (drop k p) → k ≡ namesLength (c .operations) 0 operationSize o
+      → q ≡ drop (namesLength (c .operations) 0 operationSize o) second
   third-is {p} k e g h =
-      rest-of (length names) k _ second (omega (arith, length-drop (namesLength (c .facilities) 2 13 f) names)) (g ∙ ap (λ (t : List ℕ). take (length names) (drop k t)) e) h
+      rest-of (length names) k _ second (omega (arith, length-drop (namesLength (c .facilities) 2 facilitySize f) names)) (g ∙ ap (λ (t : List ℕ). take (length names) (drop k t)) e) h
 
-  pub first-unnamed : namesRight (c .facilities) 2 13 f names ≡ false → namedRight c f o s names ≡ false
+  pub first-unnamed : namesRight (c .facilities) 2 facilitySize f names ≡ false → namedRight c f o s names ≡ false
   unfolding namedRight
   first-unnamed e = rw e
 
-  module _ (e : namesRight (c .facilities) 2 13 f names ≡ true) where
-    pub second-unnamed : {p : List ℕ} → p ≡ second → namesRight (c .operations) 0 5 o p ≡ false → namedRight c f o s names ≡ false
+  module _ (e : namesRight (c .facilities) 2 facilitySize f names ≡ true) where
+    pub second-unnamed : {p : List ℕ} → p ≡ second → namesRight (c .operations) 0 operationSize o p ≡ false → namedRight c f o s names ≡ false
     unfolding namedRight
     second-unnamed q g = rw (e, ← q, g)
 
-    pub third-left : {p q : List ℕ} → p ≡ second → namesRight (c .operations) 0 5 o p ≡ true → q ≡ drop (namesLength (c .operations) 0 5 o) second
+    pub third-left : {p q : List ℕ} → p ≡ second → namesRight (c .operations) 0 operationSize o p ≡ true → q ≡ drop (namesLength (c .operations) 0 operationSize o) second
         → namedRight c f o s names ≡ labelsRight s q
     unfolding namedRight
-    third-left u g v = rw (e, sym (ap (namesRight (c .operations) 0 5 o) u) ∙ g, ← v)
+    third-left u g v = rw (e, sym (ap (namesRight (c .operations) 0 operationSize o) u) ∙ g, ← v)

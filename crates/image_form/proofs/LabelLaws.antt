@@ -20,6 +20,7 @@ use Rattle.image_sections.proofs.DeclarationLaws.{name-first, state-whole}
 use Rattle.image_sections.specs.Declarations.{StateRead, valueMeant}
 use Rattle.image_sections.specs.declared.states.State.{State}
 use Rattle.image_form.specs.Names.{labelsRight, namesRight}
+use Rattle.language.specs.Encode.{facilitySize, operationSize, stateSize}
 
 -- ---- One name.
 
@@ -116,17 +117,17 @@ unfolding namesRight
 names-end n i at size s names h = let e : n - i ≡ 0 = omega arith in rw e
 
 -- They are the names of the facilities and operations.
-pub facilities-named : (k at : ℕ) (s names : List ℕ) → all (λ f. nameRight (f .name)) (facilitiesAt k at s names) ≡ namesRight k (at + 2) 13 s names
+pub facilities-named : (k at : ℕ) (s names : List ℕ) → all (λ f. nameRight (f .name)) (facilitiesAt k at s names) ≡ namesRight k (at + 2) facilitySize s names
 unfolding all facilitiesAt namesRight facilityOf
 facilities-named zero at s names = refl
 facilities-named (suc k) at s names =
-    let e : at + 13 + 2 ≡ at + 2 + 13 = omega arith in
-    ap (both (nameRight (take (getD s (at + 2) 0) names))) (facilities-named k (at + 13) s (drop (getD s (at + 2) 0) names) ∙ rw e)
+    let e : at + facilitySize + 2 ≡ at + 2 + facilitySize = omega arith in
+    ap (both (nameRight (take (getD s (at + 2) 0) names))) (facilities-named k (at + facilitySize) s (drop (getD s (at + 2) 0) names) ∙ rw e)
 
 pub operations-named : (k at : ℕ) (s names : List ℕ) → all (λ o. nameRight (o .name)) (operationsAt k at s names) ≡ namesRight k at 5 s names
 unfolding all operationsAt namesRight
 operations-named zero at s names = refl
-operations-named (suc k) at s names = ap (both (nameRight (take (getD s at 0) names))) (operations-named k (at + 5) s (drop (getD s at 0) names))
+operations-named (suc k) at s names = ap (both (nameRight (take (getD s at 0) names))) (operations-named k (at + operationSize) s (drop (getD s at 0) names))
 
 -- ---- The labels of states, n of which are done.
 
@@ -135,40 +136,40 @@ allLabels k at s names = all (λ x. labelRight (x .name) (x .value)) (statesAt k
 
 labels-more : (k at : ℕ) (s names : List ℕ) → 0 < k
     → allLabels k at s names
-    ≡ both (labelRight (take (getD s at 0) names) (valueOf (numberAt 2 (at + 1) s))) (allLabels (k - 1) (at + 7) s (drop (getD s at 0) names))
+    ≡ both (labelRight (take (getD s at 0) names) (valueOf (numberAt 2 (at + 1) s))) (allLabels (k - 1) (at + stateSize) s (drop (getD s at 0) names))
 unfolding all statesAt
 labels-more zero at s names h = absurd (omega arith)
 labels-more (suc k) at s names h = let e : suc k - 1 ≡ k = omega arith in rw e
 
 module _ (s names : List ℕ) where
-  pub labels-start : allLabels (length s / 7 - 0) (7 * 0) s (drop 0 names) ≡ labelsRight s names
+  pub labels-start : allLabels (length s / stateSize - 0) (stateSize * 0) s (drop 0 names) ≡ labelsRight s names
   unfolding labelsRight
-  labels-start = let e : length s / 7 - 0 ≡ length s / 7 = omega arith in rw e
+  labels-start = let e : length s / stateSize - 0 ≡ length s / stateSize = omega arith in rw e
 
-  module _ (n from : ℕ) (h : n < length s / 7) {x : State} (r : StateRead s n x) where
-    label-length : x .name ≡ getD s (7 * n) 0
+  module _ (n from : ℕ) (h : n < length s / stateSize) {x : State} (r : StateRead s n x) where
+    label-length : x .name ≡ getD s (stateSize * n) 0
     label-length = r .name ∙ name-first 7 s n (omega arith)
 
-    label-value : valueMeant (x .value) ≡ valueOf (numberAt 2 (7 * n + 1) s)
+    label-value : valueMeant (x .value) ≡ valueOf (numberAt 2 (stateSize * n + 1) s)
     label-value = ap (λ (y : D.State). y .value) (r .meaning [] ∙ state-whole s n [] h)
 
-    labels-step : allLabels (length s / 7 - n) (7 * n) s (drop from names)
-        ≡ both (labelRight (take (x .name) (drop from names)) (valueMeant (x .value))) (allLabels (length s / 7 - (n + 1)) (7 * (n + 1)) s (drop (from + x .name) names))
+    labels-step : allLabels (length s / stateSize - n) (stateSize * n) s (drop from names)
+        ≡ both (labelRight (take (x .name) (drop from names)) (valueMeant (x .value))) (allLabels (length s / stateSize - (n + 1)) (stateSize * (n + 1)) s (drop (from + x .name) names))
     labels-step =
-        let e : length s / 7 - (n + 1) ≡ length s / 7 - n - 1 = omega arith in
-        let g : 7 * (n + 1) ≡ 7 * n + 7 = omega arith in
-        labels-more (length s / 7 - n) (7 * n) s (drop from names) (omega arith) ∙ rw (← label-length, ← label-value, e, g, drop-drop (x .name) from names)
+        let e : length s / stateSize - (n + 1) ≡ length s / stateSize - n - 1 = omega arith in
+        let g : stateSize * (n + 1) ≡ stateSize * n + stateSize = omega arith in
+        labels-more (length s / stateSize - n) (stateSize * n) s (drop from names) (omega arith) ∙ rw (← label-length, ← label-value, e, g, drop-drop (x .name) from names)
 
-    pub labels-not : labelRight (take (x .name) (drop from names)) (valueMeant (x .value)) ≡ false → allLabels (length s / 7 - n) (7 * n) s (drop from names) ≡ false
+    pub labels-not : labelRight (take (x .name) (drop from names)) (valueMeant (x .value)) ≡ false → allLabels (length s / stateSize - n) (stateSize * n) s (drop from names) ≡ false
     labels-not e = labels-step ∙ rw e
 
     pub labels-next : labelRight (take (x .name) (drop from names)) (valueMeant (x .value)) ≡ true
-        → allLabels (length s / 7 - n) (7 * n) s (drop from names) ≡ allLabels (length s / 7 - (n + 1)) (7 * (n + 1)) s (drop (from + x .name) names)
+        → allLabels (length s / stateSize - n) (stateSize * n) s (drop from names) ≡ allLabels (length s / stateSize - (n + 1)) (stateSize * (n + 1)) s (drop (from + x .name) names)
     labels-next e = labels-step ∙ rw e
 
-  pub labels-end : (n at : ℕ) (rest : List ℕ) → length s / 7 ≤ n → allLabels (length s / 7 - n) at s rest ≡ true
+  pub labels-end : (n at : ℕ) (rest : List ℕ) → length s / stateSize ≤ n → allLabels (length s / stateSize - n) at s rest ≡ true
   unfolding all statesAt
-  labels-end n at rest h = let e : length s / 7 - n ≡ 0 = omega arith in rw e
+  labels-end n at rest h = let e : length s / stateSize - n ≡ 0 = omega arith in rw e
 
 pub label-none : (s : List ℕ) → length s ≡ 0 → labelRight s none ≡ true
 label-none [] h = refl

@@ -9,7 +9,7 @@ use lib.ListN.{drop, getD, length, take}
 use Rattle.language.specs.Decode.{actionOf, nodeOf}
 use Rattle.language.specs.Description as D
 use Rattle.language.specs.Description.{Description, Facility, actionAt, bounds, facilityAt, isComputed, noFacility, nodeAt, wordCount, wordLength}
-use Rattle.language.specs.Encode.{actionBytes, concat, facilityRecord, facilityRecords, little, nodeBytes}
+use Rattle.language.specs.Encode.{actionBytes, actionSize, concat, facilityRecord, facilityRecords, facilitySize, little, nodeBytes, nodeSize}
 use Rattle.language.specs.Layout.{facilityBytes, placeIn, wordBytes}
 use Rattle.language.specs.Scan.{same}
 use Rattle.language.specs.Tree as T
@@ -39,32 +39,32 @@ unlike f e = true≢false (sym (same-of e) ∙ f)
 -- ---- Expressions and actions.
 
 module _ (d : Description) (s : List ℕ) (h : Nodes d s) where
-  pub nodes-same : length s ≡ 8 * (length s / 8) → ((n : ℕ) → n < length s / 8 → take 8 (drop (8 * n) s) ≡ nodeBytes (nodeOf s n))
+  pub nodes-same : length s ≡ nodeSize * (length s / nodeSize) → ((n : ℕ) → n < length s / nodeSize → take nodeSize (drop (nodeSize * n) s) ≡ nodeBytes (nodeOf s n))
       → same s (concat nodeBytes (d .expressions)) ≡ true
   unfolding nodeAt
   nodes-same l f =
-      same-of (row-is nodeBytes 8 node-length (d .expressions) s D.Node.broken (rw (h .count) l) (λ n g. f n (omega (arith, h .count)) ∙ ap nodeBytes (sym (h .at n))))
+      same-of (row-is nodeBytes nodeSize node-length (d .expressions) s D.Node.broken (rw (h .count) l) (λ n g. f n (omega (arith, h .count)) ∙ ap nodeBytes (sym (h .at n))))
 
-  pub nodes-differ : (n : ℕ) → n < length s / 8 → same (take 8 (drop (8 * n) s)) (nodeBytes (nodeOf s n)) ≡ false
+  pub nodes-differ : (n : ℕ) → n < length s / nodeSize → same (take nodeSize (drop (nodeSize * n) s)) (nodeBytes (nodeOf s n)) ≡ false
       → same s (concat nodeBytes (d .expressions)) ≡ false
   unfolding nodeAt
   nodes-differ n g f =
       differs s (concat nodeBytes (d .expressions))
-      (λ e. unlike f (ap (λ (t : List ℕ). take 8 (drop (8 * n) t)) e ∙ row-at nodeBytes 8 node-length (d .expressions) n D.Node.broken (omega (arith, h .count)) ∙ ap nodeBytes (h .at n)))
+      (λ e. unlike f (ap (λ (t : List ℕ). take nodeSize (drop (nodeSize * n) t)) e ∙ row-at nodeBytes nodeSize node-length (d .expressions) n D.Node.broken (omega (arith, h .count)) ∙ ap nodeBytes (h .at n)))
 
 module _ (d : Description) (s : List ℕ) (h : Actions d s) where
-  pub actions-same : length s ≡ 7 * (length s / 7) → ((n : ℕ) → n < length s / 7 → take 7 (drop (7 * n) s) ≡ actionBytes (actionOf s n))
+  pub actions-same : length s ≡ actionSize * (length s / actionSize) → ((n : ℕ) → n < length s / actionSize → take actionSize (drop (actionSize * n) s) ≡ actionBytes (actionOf s n))
       → same s (concat actionBytes (d .actions)) ≡ true
   unfolding actionAt
   actions-same l f =
-      same-of (row-is actionBytes 7 action-length (d .actions) s D.Action.broken (rw (h .count) l) (λ n g. f n (omega (arith, h .count)) ∙ ap actionBytes (sym (h .at n))))
+      same-of (row-is actionBytes actionSize action-length (d .actions) s D.Action.broken (rw (h .count) l) (λ n g. f n (omega (arith, h .count)) ∙ ap actionBytes (sym (h .at n))))
 
-  pub actions-differ : (n : ℕ) → n < length s / 7 → same (take 7 (drop (7 * n) s)) (actionBytes (actionOf s n)) ≡ false
+  pub actions-differ : (n : ℕ) → n < length s / actionSize → same (take actionSize (drop (actionSize * n) s)) (actionBytes (actionOf s n)) ≡ false
       → same s (concat actionBytes (d .actions)) ≡ false
   unfolding actionAt
   actions-differ n g f =
       differs s (concat actionBytes (d .actions))
-      (λ e. unlike f (ap (λ (t : List ℕ). take 7 (drop (7 * n) t)) e ∙ row-at actionBytes 7 action-length (d .actions) n D.Action.broken (omega (arith, h .count)) ∙ ap actionBytes (h .at n)))
+      (λ e. unlike f (ap (λ (t : List ℕ). take actionSize (drop (actionSize * n) t)) e ∙ row-at actionBytes actionSize action-length (d .actions) n D.Action.broken (omega (arith, h .count)) ∙ ap actionBytes (h .at n)))
 
 -- ---- Facilities.
 
@@ -118,29 +118,29 @@ module _ (d : Description) (s : List ℕ) (h : Facilities d s) (g : NamesLong d 
       by-list (f ∷ fs) = refl
 
   -- The place of the next one.
-  pub place-next : (n : ℕ) {p q b : ℕ} → n < length s / 13 → p ≡ placeIn (d .facilities) n % 65536 → b ≡ facilityBytes (facilityAt d n) → q ≡ (p + b) % 65536
+  pub place-next : (n : ℕ) {p q b : ℕ} → n < length s / facilitySize → p ≡ placeIn (d .facilities) n % 65536 → b ≡ facilityBytes (facilityAt d n) → q ≡ (p + b) % 65536
       → q ≡ placeIn (d .facilities) (n + 1) % 65536
   unfolding facilityAt
   place-next n l e f k = rw (add-one n) (omega (arith, place-more (d .facilities) n (omega (arith, h .count))))
 
   -- The test of record n, where its place is right.
-  pub record-test : (n : ℕ) {p : ℕ} {r : Bool} → n < length s / 13 → p ≡ placeIn (d .facilities) n % 65536
-      → ((name : Name) → length name ≡ nameLengthIn 13 2 s n → r ≡ same (take 13 (drop (13 * n) s)) (facilityRecord p (facilityIn s n name)))
-      → r ≡ same (take 13 (drop (13 * n) s)) (facilityRecord (placeIn (d .facilities) n) (facilityAt d n))
+  pub record-test : (n : ℕ) {p : ℕ} {r : Bool} → n < length s / facilitySize → p ≡ placeIn (d .facilities) n % 65536
+      → ((name : Name) → length name ≡ nameLengthIn facilitySize 2 s n → r ≡ same (take facilitySize (drop (facilitySize * n) s)) (facilityRecord p (facilityIn s n name)))
+      → r ≡ same (take facilitySize (drop (facilitySize * n) s)) (facilityRecord (placeIn (d .facilities) n) (facilityAt d n))
   record-test n {p} l e f =
-      f (facilityAt d n .name) (g n l) ∙ ap (λ (x : Facility). same (take 13 (drop (13 * n) s)) (facilityRecord p x)) (sym (h .at n))
-      ∙ ap (λ (x : List ℕ). same (take 13 (drop (13 * n) s)) x) (ap (λ (q : ℕ). facilityRecord q (facilityAt d n)) e ∙ record-mod (placeIn (d .facilities) n) (facilityAt d n))
+      f (facilityAt d n .name) (g n l) ∙ ap (λ (x : Facility). same (take facilitySize (drop (facilitySize * n) s)) (facilityRecord p x)) (sym (h .at n))
+      ∙ ap (λ (x : List ℕ). same (take facilitySize (drop (facilitySize * n) s)) x) (ap (λ (q : ℕ). facilityRecord q (facilityAt d n)) e ∙ record-mod (placeIn (d .facilities) n) (facilityAt d n))
 
-  pub facilities-same : length s ≡ 13 * (length s / 13)
-      → ((n : ℕ) → n < length s / 13 → take 13 (drop (13 * n) s) ≡ facilityRecord (placeIn (d .facilities) n) (facilityAt d n))
+  pub facilities-same : length s ≡ facilitySize * (length s / facilitySize)
+      → ((n : ℕ) → n < length s / facilitySize → take facilitySize (drop (facilitySize * n) s) ≡ facilityRecord (placeIn (d .facilities) n) (facilityAt d n))
       → same s (facilityRecords 0 (d .facilities)) ≡ true
   unfolding facilityAt
   facilities-same l f = same-of (facilities-are (d .facilities) s (rw (h .count) l) (λ n k. f n (omega (arith, h .count))))
 
-  pub facilities-differ : (n : ℕ) → n < length s / 13
-      → same (take 13 (drop (13 * n) s)) (facilityRecord (placeIn (d .facilities) n) (facilityAt d n)) ≡ false
+  pub facilities-differ : (n : ℕ) → n < length s / facilitySize
+      → same (take facilitySize (drop (facilitySize * n) s)) (facilityRecord (placeIn (d .facilities) n) (facilityAt d n)) ≡ false
       → same s (facilityRecords 0 (d .facilities)) ≡ false
   unfolding facilityAt
   facilities-differ n l f =
       differs s (facilityRecords 0 (d .facilities))
-      (λ e. unlike f (ap (λ (t : List ℕ). take 13 (drop (13 * n) t)) e ∙ facilities-at (d .facilities) n (omega (arith, h .count))))
+      (λ e. unlike f (ap (λ (t : List ℕ). take facilitySize (drop (facilitySize * n) t)) e ∙ facilities-at (d .facilities) n (omega (arith, h .count))))

@@ -8,7 +8,7 @@ use lib.ListN.{length}
 use Rattle.language.specs.Canonical.{canonical}
 use Rattle.language.specs.Decode.{decode}
 use Rattle.language.specs.Description.{Description, facilityAt, noPlaces}
-use Rattle.language.specs.Encode.{Sections}
+use Rattle.language.specs.Encode.{Sections, facilitySize}
 use Rattle.language.specs.Image.{legalForm, passes}
 use Rattle.language.specs.Judging.{both}
 use Rattle.language.specs.Rules.{faults}
@@ -35,4 +35,4 @@ sectioned f o e a s n = record { facilities = f; operations = o; expressions = e
 
 -- The names of facilities are as long as their records say.
 abbrev pub NamesLong : Description → List ℕ → Type 0
-NamesLong d s = (n : ℕ) → n < length s / 13 → length (facilityAt d n .name) ≡ nameLengthIn 13 2 s n
+NamesLong d s = (n : ℕ) → n < length s / facilitySize → length (facilityAt d n .name) ≡ nameLengthIn facilitySize 2 s n

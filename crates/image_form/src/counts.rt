@@ -3,6 +3,7 @@ use image_records::actions;
 use image_records::actions::Action;
 use image_records::nodes;
 use image_records::nodes::Node;
+use image_records::record_sizes;
 use image_sections::states;
 use image_sections::states::StateValue;
 ghost use mathlib.Core.Path.{_≡_};
@@ -17,6 +18,7 @@ ghost use Rattle.image_order.specs.Holds.{Actions, Facilities, Nodes, Operation
 ghost use Rattle.image_records.specs.Actions as Acts;
 ghost use Rattle.image_records.specs.Nodes.{meant};
 ghost use Rattle.image_form.specs.Values.{valuesIn};
+ghost use Rattle.language.specs.Encode.{actionSize, nodeSize, stateSize};
 
 // The ceilings.
 const MOST_FACILITIES: usize = 256;
@@ -50,11 +52,11 @@ fn node_count(node: Node) -> usize
 }
 
 fn nodes_count(exprs: &[u8]) -> usize
-    ensures { λ r. ⌜ (r ≤ length (now (exprs .entry)) / 8) × ((d : Description) → Nodes d (now (exprs .entry)) → r ≡ total nodeCount (d .expressions)) ⌝ }
+    ensures { λ r. ⌜ (r ≤ length (now (exprs .entry)) / nodeSize) × ((d : Description) → Nodes d (now (exprs .entry)) → r ≡ total nodeCount (d .expressions)) ⌝ }
 {
     let mut sum: usize = 0;
     let mut n = 0;
-    while n < exprs.len() / 8 {
+    while n < exprs.len() / record_sizes::NODE {
         sum += node_count(nodes::node_at(exprs, n));
         n += 1;
     }
@@ -80,11 +82,11 @@ fn action_count(action: Action) -> usize
 }
 
 fn actions_count(acts: &[u8]) -> usize
-    ensures { λ r. ⌜ (r ≤ length (now (acts .entry)) / 7) × ((d : Description) → Actions d (now (acts .entry)) → r ≡ total actionCount (d .actions)) ⌝ }
+    ensures { λ r. ⌜ (r ≤ length (now (acts .entry)) / actionSize) × ((d : Description) → Actions d (now (acts .entry)) → r ≡ total actionCount (d .actions)) ⌝ }
 {
     let mut sum: usize = 0;
     let mut n = 0;
-    while n < acts.len() / 7 {
+    while n < acts.len() / record_sizes::ACTION {
         sum += action_count(actions::action_at(acts, n));
         n += 1;
     }
@@ -111,11 +113,11 @@ fn left_count(action: Action) -> usize
 }
 
 fn lefts_count(acts: &[u8]) -> usize
-    ensures { λ r. ⌜ (r ≤ 2 * (length (now (acts .entry)) / 7)) × ((d : Description) → Actions d (now (acts .entry)) → r ≡ total leftCount (d .actions)) ⌝ }
+    ensures { λ r. ⌜ (r ≤ 2 * (length (now (acts .entry)) / actionSize)) × ((d : Description) → Actions d (now (acts .entry)) → r ≡ total leftCount (d .actions)) ⌝ }
 {
     let mut sum: usize = 0;
     let mut n = 0;
-    while n < acts.len() / 7 {
+    while n < acts.len() / record_sizes::ACTION {
         sum += left_count(actions::action_at(acts, n));
         n += 1;
     }
@@ -132,11 +134,11 @@ fn value_count(value: StateValue) -> usize
 }
 
 fn values_count(states: &[u8]) -> usize
-    ensures { λ r. ⌜ (r ≤ length (now (states .entry)) / 7) × ((d : Description) → States d (now (states .entry)) → r ≡ total valueCount (d .states)) ⌝ }
+    ensures { λ r. ⌜ (r ≤ length (now (states .entry)) / stateSize) × ((d : Description) → States d (now (states .entry)) → r ≡ total valueCount (d .states)) ⌝ }
 {
     let mut sum: usize = 0;
     let mut n = 0;
-    while n < states.len() / 7 {
+    while n < states.len() / record_sizes::STATE {
         let s = states::state_at(states, n);
         let value = s.value;
         sum += value_count(value);
@@ -163,9 +165,9 @@ pub fn counts_right(
 ) -> bool
     ensures { λ r. ⌜ ((d : Description) → Facilities d (now (facilities .entry)) → Operations d (now (operations .entry)) → Nodes d (now (exprs .entry)) → Actions d (now (acts .entry)) → States d (now (states .entry)) → r ≡ countsRight d) ⌝ }
 {
-    let f = facilities.len() / 13;
-    let o = operations.len() / 5;
-    let s = states.len() / 7;
+    let f = facilities.len() / record_sizes::FACILITY;
+    let o = operations.len() / record_sizes::OPERATION;
+    let s = states.len() / record_sizes::STATE;
     if MOST_FACILITIES < f {
         return false;
     }

@@ -1,6 +1,7 @@
 // Names: a letter, then letters and digits, in capitals, and no reserved word; a state may have none.
 use image_records::bytes;
 use image_records::numbers;
+use image_records::record_sizes;
 use image_sections::header::Counts;
 use image_sections::names;
 use image_sections::states;
@@ -17,6 +18,7 @@ ghost use Rattle.language.specs.Characters.{isDigit};
 ghost use Rattle.language.specs.Decode.{namesLength};
 ghost use Rattle.image_sections.specs.Declarations.{valueMeant};
 ghost use Rattle.image_form.specs.Names.{labelsRight, namesRight};
+ghost use Rattle.language.specs.Encode.{facilitySize, operationSize, stateSize};
 
 // The longest name.
 const LONGEST: usize = 132;
@@ -112,7 +114,7 @@ pub fn labels_right(states: &[u8], names: &[u8]) -> bool
 {
     let mut from: usize = 0;
     let mut n = 0;
-    while n < states.len() / 7 {
+    while n < states.len() / record_sizes::STATE {
         let s = states::state_at(states, n);
         let length = s.name as usize;
         let value = s.value;
@@ -133,10 +135,15 @@ pub fn names_fit(
     states: &[u8],
     names: &[u8],
 ) -> bool
-    ensures { λ r. ⌜ r ≡ eqb (namesLength (c .facilities) 2 13 (now (facilities .entry)) + (namesLength (c .operations) 0 5 (now (operations .entry)) + namesLength (c .states) 0 7 (now (states .entry)))) (length (now (names .entry))) ⌝ }
+    ensures { λ r. ⌜ r ≡ eqb (namesLength (c .facilities) 2 facilitySize (now (facilities .entry)) + (namesLength (c .operations) 0 operationSize (now (operations .entry)) + namesLength (c .states) 0 stateSize (now (states .entry)))) (length (now (names .entry))) ⌝ }
 {
-    let f = names::names_length(facilities, c.facilities, 2, 13);
-    let o = names::names_length(operations, c.operations, 0, 5);
-    let s = names::names_length(states, c.states, 0, 7);
+    let f = names::names_length(
+        facilities,
+        c.facilities,
+        names::FACILITY_NAME,
+        names::FACILITY,
+    );
+    let o = names::names_length(operations, c.operations, 0, names::OPERATION);
+    let s = names::names_length(states, c.states, 0, names::STATE);
     f + (o + s) == names.len()
 }

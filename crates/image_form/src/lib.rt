@@ -51,15 +51,26 @@ fn named(c: Counts, facilities: &[u8], operations: &[u8], states: &[u8], names: 
     requires { ⌜ length (now states) < 2 ^ 36 ⌝ }
     ensures { λ r. ⌜ r ≡ namedRight c (now (facilities .entry)) (now (operations .entry)) (now (states .entry)) (now (names .entry)) ⌝ }
 {
-    if !labels::names_right(facilities, c.facilities, 2, 13, names) {
+    if !labels::names_right(
+        facilities,
+        c.facilities,
+        names::FACILITY_NAME,
+        names::FACILITY,
+        names,
+    ) {
         return false;
     }
-    let first = names::names_length(facilities, c.facilities, 2, 13);
+    let first = names::names_length(
+        facilities,
+        c.facilities,
+        names::FACILITY_NAME,
+        names::FACILITY,
+    );
     let second = bytes::part(names, first, names.len());
-    if !labels::names_right(operations, c.operations, 0, 5, second) {
+    if !labels::names_right(operations, c.operations, 0, names::OPERATION, second) {
         return false;
     }
-    let next = names::names_length(operations, c.operations, 0, 5);
+    let next = names::names_length(operations, c.operations, 0, names::OPERATION);
     let third = bytes::part(second, next, names.len());
     labels::labels_right(states, third)
 }
@@ -100,12 +111,12 @@ pub fn form(image: &[u8]) -> bool
         return false;
     }
     let c = header::counts_at(image);
-    let facilities = sections::section(image, 0, 13);
-    let operations = sections::section(image, 1, 5);
-    let exprs = sections::section(image, 2, 8);
-    let acts = sections::section(image, 3, 7);
-    let states = sections::section(image, 4, 7);
-    let names = sections::section(image, 5, 1);
+    let facilities = sections::section(image, sections::FACILITIES);
+    let operations = sections::section(image, sections::OPERATIONS);
+    let exprs = sections::section(image, sections::EXPRESSIONS);
+    let acts = sections::section(image, sections::ACTIONS);
+    let states = sections::section(image, sections::STATES);
+    let names = sections::section(image, sections::NAMES);
     if !written(c, facilities, operations, exprs, acts, states, names) {
         return false;
     }

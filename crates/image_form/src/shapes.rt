@@ -1,4 +1,5 @@
 // Facilities: registers, memories, terminals in this order, and bounds only where there are dimensions.
+use image_records::record_sizes;
 use image_sections::facilities;
 use image_sections::facilities::Bounds;
 use image_sections::facilities::Facility;
@@ -71,7 +72,7 @@ pub fn facilities_shaped(facilities: &[u8]) -> bool
 {
     let mut rank = 0;
     let mut n = 0;
-    while n < facilities.len() / 13 {
+    while n < facilities.len() / record_sizes::FACILITY {
         let f = facilities::facility_at(facilities, n);
         let kind = f.kind;
         let own = rank_of(kind);

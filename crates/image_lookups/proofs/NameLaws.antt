@@ -10,7 +10,7 @@ use lib.ListN.{getD, length, take, length-append}
 use Rattle.language.specs.Canonical.{total}
 use Rattle.language.specs.Decode.{decode, namesLength, offsetOf, sectionAt}
 use Rattle.language.specs.Description.{Facility, Operation, State, facilityAt, noFacility, noRun, stateAt}
-use Rattle.language.specs.Encode.{concat, nameBytes}
+use Rattle.language.specs.Encode.{concat, facilitiesSection, facilitySize, nameBytes, nameSize, namesSection, operationSize, operationsSection, stateSize, statesSection}
 use Rattle.language.specs.Image.{passes}
 use Rattle.language.specs.Lookups as L
 use Rattle.language.specs.Lookups.{facilityName, stateName}
@@ -33,7 +33,7 @@ names-upto name z (x ∷ xs) (suc n) h = omega (arith, names-upto name z xs n (o
 
 -- A part of the names as a part of the image.
 abbrev pub inImage : List ℕ → L.Part → L.NameAnswer
-inImage image p = L.named (record { offset = offsetOf 5 image + p .offset; length = p .length })
+inImage image p = L.named (record { offset = offsetOf namesSection image + p .offset; length = p .length })
 
 -- ---- Refusals.
 
@@ -42,7 +42,7 @@ module _ (image : List ℕ) (n : ℕ) where
   unfolding facilityName
   facility-refused e = rw e
 
-  pub facility-none : passes image ≡ true → length (sectionAt 0 13 image) / 13 ≤ n → L.refused 6 ≡ facilityName image n
+  pub facility-none : passes image ≡ true → length (sectionAt facilitiesSection facilitySize image) / facilitySize ≤ n → L.refused 6 ≡ facilityName image n
   unfolding facilityName
   facility-none e h = rw (e, le-ltb n (length (decode image .facilities)) (omega (arith, facilities-many image)))
 
@@ -50,13 +50,13 @@ module _ (image : List ℕ) (n : ℕ) where
   unfolding stateName
   state-refused e = rw e
 
-  pub state-none : passes image ≡ true → length (sectionAt 4 7 image) / 7 ≤ n → L.refused 6 ≡ stateName image n
+  pub state-none : passes image ≡ true → length (sectionAt statesSection stateSize image) / stateSize ≤ n → L.refused 6 ≡ stateName image n
   unfolding stateName
   state-none e h = rw (e, le-ltb n (length (decode image .states)) (omega (arith, states-many image)))
 
 module _ (image : List ℕ) (h : passes image ≡ true) (n : ℕ) where
   abbrev names : List ℕ
-  names = sectionAt 5 1 image
+  names = sectionAt namesSection nameSize image
 
   long : length names ≡ length (concat (λ (f : Facility). f .name) (decode image .facilities)) + (length (concat (λ (o : Operation). o .name) (decode image .operations)) + length (concat (λ (s : State). s .name) (decode image .states)))
   unfolding nameBytes
@@ -64,59 +64,59 @@ module _ (image : List ℕ) (h : passes image ≡ true) (n : ℕ) where
 
   -- ---- Facilities.
 
-  module _ (l : n < length (sectionAt 0 13 image) / 13) where
+  module _ (l : n < length (sectionAt facilitiesSection facilitySize image) / facilitySize) where
     inside : n < length (decode image .facilities)
     inside = omega (arith, facilities-many image)
 
-    offset-is : namesLength n 2 13 (sectionAt 0 13 image) ≡ L.nameLengths (take n (decode image .facilities))
-    offset-is = ap (namesLength n 2 13) (facilities-are image h) ∙ facility-names (decode image) (range-so image h) n (omega (arith, inside))
+    offset-is : namesLength n 2 facilitySize (sectionAt facilitiesSection facilitySize image) ≡ L.nameLengths (take n (decode image .facilities))
+    offset-is = ap (namesLength n 2 facilitySize) (facilities-are image h) ∙ facility-names (decode image) (range-so image h) n (omega (arith, inside))
 
-    pub length-is : nameLengthIn 13 2 (sectionAt 0 13 image) n ≡ length (facilityAt (decode image) n .name)
+    pub length-is : nameLengthIn facilitySize 2 (sectionAt facilitiesSection facilitySize image) n ≡ length (facilityAt (decode image) n .name)
     length-is =
-        name-whole 13 2 (sectionAt 0 13 image) n (omega arith)
-        ∙ ap (λ (s : List ℕ). getD s (13 * n + 2) 0) (facilities-are image h) ∙ facility-byte (decode image) (range-so image h) n inside
+        name-whole facilitySize 2 (sectionAt facilitiesSection facilitySize image) n (omega arith)
+        ∙ ap (λ (s : List ℕ). getD s (facilitySize * n + 2) 0) (facilities-are image h) ∙ facility-byte (decode image) (range-so image h) n inside
 
     facility-fits : L.nameLengths (take n (decode image .facilities)) + length (facilityAt (decode image) n .name) ≤ length names
     unfolding facilityAt
     facility-fits = omega (arith, long, names-upto (λ (f : Facility). f .name) noFacility (decode image .facilities) n inside)
 
-    pub facility-within : I.facilityPart (sectionAt 0 13 image) n .offset + I.facilityPart (sectionAt 0 13 image) n .length ≤ length names
+    pub facility-within : I.facilityPart (sectionAt facilitiesSection facilitySize image) n .offset + I.facilityPart (sectionAt facilitiesSection facilitySize image) n .length ≤ length names
     unfolding I.facilityPart
     facility-within = omega (arith, offset-is, length-is, facility-fits)
 
-    pub facility-short : I.facilityPart (sectionAt 0 13 image) n .offset < 2 ^ 32
+    pub facility-short : I.facilityPart (sectionAt facilitiesSection facilitySize image) n .offset < 2 ^ 32
     unfolding I.facilityPart
     facility-short = omega (arith, offset-is, facility-fits, names-short image h)
 
-    pub facility-named : inImage image (I.facilityPart (sectionAt 0 13 image) n) ≡ facilityName image n
+    pub facility-named : inImage image (I.facilityPart (sectionAt facilitiesSection facilitySize image) n) ≡ facilityName image n
     unfolding facilityName L.facilityPart I.facilityPart
     facility-named = rw (h, lt-ltb n (length (decode image .facilities)) inside, offset-is, length-is)
 
   -- ---- States.
 
-  module _ (l : n < length (sectionAt 4 7 image) / 7) where
+  module _ (l : n < length (sectionAt statesSection stateSize image) / stateSize) where
     state-inside : n < length (decode image .states)
     state-inside = omega (arith, states-many image)
 
-    first-is : namesLength (countsIn image .facilities) 2 13 (sectionAt 0 13 image) ≡ L.nameLengths (decode image .facilities)
+    first-is : namesLength (countsIn image .facilities) 2 facilitySize (sectionAt facilitiesSection facilitySize image) ≡ L.nameLengths (decode image .facilities)
     first-is =
         rw (facilities-counted image h)
-        (ap (λ (s : List ℕ). namesLength (length s / 13) 2 13 s) (facilities-are image h) ∙ all-facilities (decode image) (range-so image h)
+        (ap (λ (s : List ℕ). namesLength (length s / facilitySize) 2 facilitySize s) (facilities-are image h) ∙ all-facilities (decode image) (range-so image h)
         ∙ names-length (λ (f : Facility). f .name) (decode image .facilities))
 
-    second-is : namesLength (countsIn image .operations) 0 5 (sectionAt 1 5 image) ≡ total (λ (o : Operation). length (o .name)) (decode image .operations)
+    second-is : namesLength (countsIn image .operations) 0 operationSize (sectionAt operationsSection operationSize image) ≡ total (λ (o : Operation). length (o .name)) (decode image .operations)
     second-is =
         rw (operations-counted image h)
-        (ap (λ (s : List ℕ). namesLength (length s / 5) 0 5 s) (operations-are image h) ∙ all-operations (decode image) (range-so image h)
+        (ap (λ (s : List ℕ). namesLength (length s / operationSize) 0 operationSize s) (operations-are image h) ∙ all-operations (decode image) (range-so image h)
         ∙ names-length (λ (o : Operation). o .name) (decode image .operations))
 
-    third-is : namesLength n 0 7 (sectionAt 4 7 image) ≡ total (λ (s : State). length (s .name)) (take n (decode image .states))
-    third-is = ap (namesLength n 0 7) (states-are image h) ∙ state-names (decode image) (range-so image h) n (omega (arith, state-inside))
+    third-is : namesLength n 0 stateSize (sectionAt statesSection stateSize image) ≡ total (λ (s : State). length (s .name)) (take n (decode image .states))
+    third-is = ap (namesLength n 0 stateSize) (states-are image h) ∙ state-names (decode image) (range-so image h) n (omega (arith, state-inside))
 
-    label-is : nameLengthIn 7 0 (sectionAt 4 7 image) n ≡ length (stateAt (decode image) n .name)
+    label-is : nameLengthIn stateSize 0 (sectionAt statesSection stateSize image) n ≡ length (stateAt (decode image) n .name)
     label-is =
-        name-first 7 (sectionAt 4 7 image) n (omega arith)
-        ∙ ap (λ (s : List ℕ). getD s (7 * n) 0) (states-are image h) ∙ state-byte (decode image) (range-so image h) n state-inside
+        name-first 7 (sectionAt statesSection stateSize image) n (omega arith)
+        ∙ ap (λ (s : List ℕ). getD s (stateSize * n) 0) (states-are image h) ∙ state-byte (decode image) (range-so image h) n state-inside
 
     -- Where the label begins among the names.
     abbrev from : ℕ
@@ -135,7 +135,7 @@ module _ (image : List ℕ) (h : passes image ≡ true) (n : ℕ) where
         )
 
     abbrev part : L.Part
-    part = I.statePart (sectionAt 0 13 image) (countsIn image .facilities) (sectionAt 1 5 image) (countsIn image .operations) (sectionAt 4 7 image) n
+    part = I.statePart (sectionAt facilitiesSection facilitySize image) (countsIn image .facilities) (sectionAt operationsSection operationSize image) (countsIn image .operations) (sectionAt statesSection stateSize image) n
 
     pub state-within : part .offset + part .length ≤ length names
     unfolding I.statePart
@@ -148,21 +148,21 @@ module _ (image : List ℕ) (h : passes image ≡ true) (n : ℕ) where
     pub state-named : inImage image part ≡ stateName image n
     unfolding stateName L.statePart I.statePart
     state-named =
-        let e : offsetOf 5 image + from
-        ≡ offsetOf 5 image + L.nameLengths (decode image .facilities) + total (λ (o : Operation). length (o .name)) (decode image .operations)
+        let e : offsetOf namesSection image + from
+        ≡ offsetOf namesSection image + L.nameLengths (decode image .facilities) + total (λ (o : Operation). length (o .name)) (decode image .operations)
         + total (λ (s : State). length (s .name)) (take n (decode image .states)) = omega arith in
         rw (h, lt-ltb n (length (decode image .states)) state-inside, first-is, second-is, third-is, label-is, ← e)
 
 -- ---- The same of sections in hand.
 
-module _ (image : List ℕ) (h : passes image ≡ true) (n : ℕ) {f : List ℕ} {p : Part} (e : f ≡ sectionAt 0 13 image) (l : n < length f / 13) (q : partMeant p ≡ I.facilityPart f n) where
+module _ (image : List ℕ) (h : passes image ≡ true) (n : ℕ) {f : List ℕ} {p : Part} (e : f ≡ sectionAt facilitiesSection facilitySize image) (l : n < length f / facilitySize) (q : partMeant p ≡ I.facilityPart f n) where
   pub facility-below : p .offset < 2 ^ 32
   facility-below = rw (ap (λ (x : L.Part). x .offset) q, e) (facility-short image h n (rw e at l))
 
   pub facility-found : inImage image (partMeant p) ≡ facilityName image n
   facility-found = rw (q, e) (facility-named image h n (rw e at l))
 
-module _ (image : List ℕ) (h : passes image ≡ true) (n : ℕ) {f o s : List ℕ} {c : Counts} {p : Part} (e : f ≡ sectionAt 0 13 image) (g : o ≡ sectionAt 1 5 image) (k : s ≡ sectionAt 4 7 image) (m : c ≡ countsIn image) (l : n < length s / 7)
+module _ (image : List ℕ) (h : passes image ≡ true) (n : ℕ) {f o s : List ℕ} {c : Counts} {p : Part} (e : f ≡ sectionAt facilitiesSection facilitySize image) (g : o ≡ sectionAt operationsSection operationSize image) (k : s ≡ sectionAt statesSection stateSize image) (m : c ≡ countsIn image) (l : n < length s / stateSize)
     (q : partMeant p ≡ I.statePart f (c .facilities) o (c .operations) s n) where
   pub state-below : p .offset < 2 ^ 32
   state-below = rw (ap (λ (x : L.Part). x .offset) q, m, e, g, k) (state-short image h n (rw k at l))

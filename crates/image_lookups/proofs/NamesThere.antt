@@ -20,6 +20,7 @@ use Rattle.image_sections.specs.Header.{countsIn}
 use Rattle.image_sections.specs.Names.{facilityPart, named, statePart}
 use Rattle.image_lookups.proofs.NameLaws.{facility-named, facility-none, facility-within, state-named, state-none, state-within}
 use Rattle.image_lookups.proofs.PassLaws.{facilities-counted, facilities-many, operations-counted, states-many}
+use Rattle.language.specs.Encode.{facilitiesSection, facilitySize, nameSize, namesSection, operationSize, operationsSection, stateSize, statesSection}
 
 -- A part of a part.
 within : (x : List ℕ) (a m o l : ℕ) → o + l ≤ length (take m (drop a x)) → take l (drop o (take m (drop a x))) ≡ take l (drop (a + o) x)
@@ -32,66 +33,66 @@ within x a m o l h =
 
 facility-name : (s : List ℕ) (n : ℕ) (name : Name) → facilityIn s n name .name ≡ name
 unfolding facilityIn facilityOf
-facility-name s n name = go (leb (13 * n + 13) (length s))
+facility-name s n name = go (leb (facilitySize * n + facilitySize) (length s))
   where
-    go : (b : Bool) → pick {A = Facility} b (facilityOf (13 * n) s name) (noneNamed name) .name ≡ name
+    go : (b : Bool) → pick {A = Facility} b (facilityOf (facilitySize * n) s name) (noneNamed name) .name ≡ name
     go true = refl
     go false = refl
 
 state-name : (s : List ℕ) (n : ℕ) (name : Name) → stateIn s n name .name ≡ name
 unfolding stateIn
-state-name s n name = go (leb (7 * n + 7) (length s))
+state-name s n name = go (leb (stateSize * n + stateSize) (length s))
   where
-    go : (b : Bool) → pick {A = State} b (record { name = name; value = valueOf (halfAt (7 * n + 1) s); actions = runAt (7 * n + 3) s }) (record { name = name; value = none; actions = noRun }) .name ≡ name
+    go : (b : Bool) → pick {A = State} b (record { name = name; value = valueOf (halfAt (stateSize * n + 1) s); actions = runAt (stateSize * n + 3) s }) (record { name = name; value = none; actions = noRun }) .name ≡ name
     go true = refl
     go false = refl
 
 module _ (image : List ℕ) (h : passes image ≡ true) (n : ℕ) where
   -- ---- Facilities.
 
-  facility-is : facilityAt (decode image) n .name ≡ named (facilityPart (sectionAt 0 13 image) n) (sectionAt 5 1 image)
+  facility-is : facilityAt (decode image) n .name ≡ named (facilityPart (sectionAt facilitiesSection facilitySize image) n) (sectionAt namesSection nameSize image)
   unfolding decode sectionsIn
-  facility-is = ap (λ (f : Facility). f .name) (facility-described (sectionsIn image) n) ∙ facility-name (sectionAt 0 13 image) n _
+  facility-is = ap (λ (f : Facility). f .name) (facility-described (sectionsIn image) n) ∙ facility-name (sectionAt facilitiesSection facilitySize image) n _
 
   pub facility-name-there : partOf image (facilityName image n) ≡ facilityAt (decode image) n .name
   unfolding facilityAt
-  facility-name-there = by-test (leb (length (sectionAt 0 13 image) / 13) n) refl
+  facility-name-there = by-test (leb (length (sectionAt facilitiesSection facilitySize image) / facilitySize) n) refl
     where
-      by-test : (b : Bool) → leb (length (sectionAt 0 13 image) / 13) n ≡ b → partOf image (facilityName image n) ≡ facilityAt (decode image) n .name
+      by-test : (b : Bool) → leb (length (sectionAt facilitiesSection facilitySize image) / facilitySize) n ≡ b → partOf image (facilityName image n) ≡ facilityAt (decode image) n .name
       by-test true t =
-          let past = leb-true (length (sectionAt 0 13 image) / 13) n t in
+          let past = leb-true (length (sectionAt facilitiesSection facilitySize image) / facilitySize) n t in
           ap (partOf image) (sym (facility-none image n h past))
           ∙ sym (ap (λ (f : Facility). f .name) (List·getD-eq-default (decode image .facilities) noFacility (omega (arith, facilities-many image, past))))
       by-test false t =
-          let l = leb-false (length (sectionAt 0 13 image) / 13) n t in
-          let p = facilityPart (sectionAt 0 13 image) n in
+          let l = leb-false (length (sectionAt facilitiesSection facilitySize image) / facilitySize) n t in
+          let p = facilityPart (sectionAt facilitiesSection facilitySize image) n in
           ap (partOf image) (sym (facility-named image h n l))
-          ∙ (sym (within image (offsetOf 5 image) (1 * countOf 5 image) (p .offset) (p .length) (facility-within image h n l)) ∙ sym facility-is)
+          ∙ (sym (within image (offsetOf namesSection image) (1 * countOf namesSection image) (p .offset) (p .length) (facility-within image h n l)) ∙ sym facility-is)
 
   -- ---- States.
 
   abbrev part : Part
-  part = statePart (sectionAt 0 13 image) (countsIn image .facilities) (sectionAt 1 5 image) (countsIn image .operations) (sectionAt 4 7 image) n
+  part = statePart (sectionAt facilitiesSection facilitySize image) (countsIn image .facilities) (sectionAt operationsSection operationSize image) (countsIn image .operations) (sectionAt statesSection stateSize image) n
 
   -- The counts that the header gives are those of the sections.
-  state-is : stateAt (decode image) n .name ≡ named part (sectionAt 5 1 image)
+  state-is : stateAt (decode image) n .name ≡ named part (sectionAt namesSection nameSize image)
   unfolding decode sectionsIn
   state-is =
       ap (λ (s : State). s .name) (state-described (sectionsIn image) n)
-      ∙ (state-name (sectionAt 4 7 image) n _
-      ∙ ap₂ (λ (i k : ℕ). named (statePart (sectionAt 0 13 image) i (sectionAt 1 5 image) k (sectionAt 4 7 image) n) (sectionAt 5 1 image))
+      ∙ (state-name (sectionAt statesSection stateSize image) n _
+      ∙ ap₂ (λ (i k : ℕ). named (statePart (sectionAt facilitiesSection facilitySize image) i (sectionAt operationsSection operationSize image) k (sectionAt statesSection stateSize image) n) (sectionAt namesSection nameSize image))
       (sym (facilities-counted image h)) (sym (operations-counted image h)))
 
   pub state-name-there : partOf image (stateName image n) ≡ stateAt (decode image) n .name
   unfolding stateAt
-  state-name-there = by-test (leb (length (sectionAt 4 7 image) / 7) n) refl
+  state-name-there = by-test (leb (length (sectionAt statesSection stateSize image) / stateSize) n) refl
     where
-      by-test : (b : Bool) → leb (length (sectionAt 4 7 image) / 7) n ≡ b → partOf image (stateName image n) ≡ stateAt (decode image) n .name
+      by-test : (b : Bool) → leb (length (sectionAt statesSection stateSize image) / stateSize) n ≡ b → partOf image (stateName image n) ≡ stateAt (decode image) n .name
       by-test true t =
-          let past = leb-true (length (sectionAt 4 7 image) / 7) n t in
+          let past = leb-true (length (sectionAt statesSection stateSize image) / stateSize) n t in
           ap (partOf image) (sym (state-none image n h past))
           ∙ sym (ap (λ (s : State). s .name) (List·getD-eq-default (decode image .states) _ (omega (arith, states-many image, past))))
       by-test false t =
-          let l = leb-false (length (sectionAt 4 7 image) / 7) n t in
+          let l = leb-false (length (sectionAt statesSection stateSize image) / stateSize) n t in
           ap (partOf image) (sym (state-named image h n l))
-          ∙ (sym (within image (offsetOf 5 image) (1 * countOf 5 image) (part .offset) (part .length) (state-within image h n l)) ∙ sym state-is)
+          ∙ (sym (within image (offsetOf namesSection image) (1 * countOf namesSection image) (part .offset) (part .length) (state-within image h n l)) ∙ sym state-is)

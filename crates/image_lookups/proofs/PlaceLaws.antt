@@ -10,7 +10,7 @@ use lib.Dec.{leb}
 use lib.ListN.{length}
 use Rattle.language.specs.Decode.{decode, numberAt, sectionAt}
 use Rattle.language.specs.Description.{Description, Facility, facilityAt, facilityPlace, isComputed, isSequencing, noPlaces}
-use Rattle.language.specs.Encode.{facilityRecord, little}
+use Rattle.language.specs.Encode.{facilitiesSection, facilityRecord, facilitySize, little}
 use Rattle.language.specs.Image.{passes}
 use Rattle.language.specs.Judging.{unless}
 use Rattle.language.specs.Layout.{facilityBytes, placeIn}
@@ -59,35 +59,35 @@ module _ (image : List ℕ) (n : ℕ) where
   unfolding L.facility
   lookup-refused e = refused-so 13 (rw e)
 
-  pub lookup-none : passes image ≡ true → length (sectionAt 0 13 image) / 13 ≤ n → Looks image n (A.Refused 6)
+  pub lookup-none : passes image ≡ true → length (sectionAt facilitiesSection facilitySize image) / facilitySize ≤ n → Looks image n (A.Refused 6)
   unfolding L.facility
   lookup-none e h = refused-so 6 (rw (e, le-ltb n (length (decode image .facilities)) (omega (arith, facilities-many image))))
 
-  module _ (h : passes image ≡ true) (l : n < length (sectionAt 0 13 image) / 13) where
+  module _ (h : passes image ≡ true) (l : n < length (sectionAt facilitiesSection facilitySize image) / facilitySize) where
     inside : n < length (decode image .facilities)
     inside = omega (arith, facilities-many image)
 
     place-half : placeIn (decode image .facilities) n ≤ 16384
     place-half = omega (arith, place-low (decode image) 0 false 0 (decode image .facilities) (append-none-left _ _ (after-names (decode image) (no-faults (decode image) (legal-so image h)))) (omega arith) n inside)
 
-    place-is : isComputed (facilityAt (decode image) n .kind) ≡ false → numberAt 2 (13 * n + 11) (sectionAt 0 13 image) ≡ placeIn (decode image .facilities) n
+    place-is : isComputed (facilityAt (decode image) n .kind) ≡ false → numberAt 2 (facilitySize * n + 11) (sectionAt facilitiesSection facilitySize image) ≡ placeIn (decode image .facilities) n
     unfolding facilityRecord little
     place-is c =
         let d = decode image in
         let s = facility-stands d (range-so image h) n inside in
-        let z : 13 * n + 11 + 1 ≡ 13 * n + 12 = omega arith in
-        rw (facilities-are image h) (half-back _ (13 * n + 11) (placeIn (d .facilities) n) (omega (arith, place-half)) (s 11 (omega arith) ∙ rw c) (rw z (s 12 (omega arith) ∙ rw c)))
+        let z : facilitySize * n + 11 + 1 ≡ facilitySize * n + 12 = omega arith in
+        rw (facilities-are image h) (half-back _ (facilitySize * n + 11) (placeIn (d .facilities) n) (omega (arith, place-half)) (s 11 (omega arith) ∙ rw c) (rw z (s 12 (omega arith) ∙ rw c)))
 
-    module _ {f : F.Facility} (r : FacilityRead (sectionAt 0 13 image) n f) where
+    module _ {f : F.Facility} (r : FacilityRead (sectionAt facilitiesSection facilitySize image) n f) where
       is : facilityAt (decode image) n ≡ facilityMeant (facilityAt (decode image) n .name) f
-      is = facility-is (decode image) (sectionAt 0 13 image) n (held image) r
+      is = facility-is (decode image) (sectionAt facilitiesSection facilitySize image) n (held image) r
 
       kind-is : facilityAt (decode image) n .kind ≡ kindMeant (f .kind)
       kind-is = ap (λ (g : Facility). g .kind) is
 
       places : (b : Bool) → isComputed (kindMeant (f .kind)) ≡ b → cond b none (some (f .place)) ≡ cond b none (some (placeIn (decode image .facilities) n))
       places true e = refl
-      places false e = ap some (r .place ∙ place-whole (sectionAt 0 13 image) n (omega arith) ∙ place-is (ap isComputed kind-is ∙ e))
+      places false e = ap some (r .place ∙ place-whole (sectionAt facilitiesSection facilitySize image) n (omega arith) ∙ place-is (ap isComputed kind-is ∙ e))
 
       pub lookup-declared : answered (facilityAt (decode image) n .name) (A.Declared f) ≡ L.facility image n
       unfolding L.facility facilityAt
@@ -96,10 +96,10 @@ module _ (image : List ℕ) (n : ℕ) where
           (ap (λ (g : Facility). L.declared g (cond (isComputed (kindMeant (f .kind))) none (some (placeIn (decode image .facilities) n)))) (sym is))
 
 -- The same of a section in hand.
-pub lookup-found : (image : List ℕ) (n : ℕ) {s : List ℕ} {f : F.Facility} → passes image ≡ true → s ≡ sectionAt 0 13 image → n < length s / 13 → FacilityRead s n f → Looks image n (A.Declared f)
+pub lookup-found : (image : List ℕ) (n : ℕ) {s : List ℕ} {f : F.Facility} → passes image ≡ true → s ≡ sectionAt facilitiesSection facilitySize image → n < length s / facilitySize → FacilityRead s n f → Looks image n (A.Declared f)
 lookup-found image n {s} {f} h e l r =
-    let i : n < length (sectionAt 0 13 image) / 13 = rw e at l in
-    let q : FacilityRead (sectionAt 0 13 image) n f = subst (λ (t : List ℕ). FacilityRead t n f) e r in
+    let i : n < length (sectionAt facilitiesSection facilitySize image) / facilitySize = rw e at l in
+    let q : FacilityRead (sectionAt facilitiesSection facilitySize image) n f = subst (λ (t : List ℕ). FacilityRead t n f) e r in
     record {
       facility = lookup-declared image n h i q;
       name = λ g z. let same : f ≡ g = cc in ap (λ (x : F.Facility). x .name) (sym same) ∙ q .name ∙ length-is image h n i;

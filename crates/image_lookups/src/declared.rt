@@ -2,6 +2,7 @@
 use crate::NO_IMAGE;
 use crate::NO_SUCH;
 use call_answers::looked::Looked;
+use image_records::record_sizes;
 use image_sections::facilities;
 use image_sections::sections;
 ghost use mathlib.Core.Path.{_≡_};
@@ -15,8 +16,8 @@ pub fn facility(image: &[u8], passed: bool, n: u32) -> Looked
     if !passed {
         return Looked::Refused(NO_IMAGE);
     }
-    let facilities = sections::section(image, 0, 13);
-    if facilities.len() / 13 <= n as usize {
+    let facilities = sections::section(image, sections::FACILITIES);
+    if facilities.len() / record_sizes::FACILITY <= n as usize {
         return Looked::Refused(NO_SUCH);
     }
     Looked::Declared(facilities::facility_at(facilities, n as usize))

@@ -4,6 +4,7 @@ use crate::NO_SUCH;
 use call_answers::named::Answer;
 use image_records::bytes;
 use image_records::numbers;
+use image_records::record_sizes;
 use image_sections::header;
 use image_sections::names;
 use image_sections::names::Part;
@@ -15,11 +16,12 @@ ghost use Rattle.language.specs.Image.{passes};
 ghost use Rattle.language.specs.Lookups as L;
 ghost use Rattle.language.specs.Lookups.{facilityName, partOf, stateName};
 ghost use Rattle.call_answers.specs.Lookups.{nameMeant};
+ghost use Rattle.language.specs.Encode.{namesSection};
 
 // A part of the names as a part of the image.
 fn found(image: &[u8], part: Part) -> Answer
     requires { ⌜ part .offset < 2 ^ 32 ⌝ }
-    ensures { λ r. ⌜ nameMeant r ≡ L.named (record { offset = offsetOf 5 (now (image .entry)) + part .offset; length = part .length }) ⌝ }
+    ensures { λ r. ⌜ nameMeant r ≡ L.named (record { offset = offsetOf namesSection (now (image .entry)) + part .offset; length = part .length }) ⌝ }
 {
     let names = numbers::four(image, 48) as usize;
     Answer::Named(Part {
@@ -36,8 +38,8 @@ pub fn facility_part(image: &[u8], passed: bool, n: u32) -> Answer
     if !passed {
         return Answer::Refused(NO_IMAGE);
     }
-    let facilities = sections::section(image, 0, 13);
-    if facilities.len() / 13 <= n as usize {
+    let facilities = sections::section(image, sections::FACILITIES);
+    if facilities.len() / record_sizes::FACILITY <= n as usize {
         return Answer::Refused(NO_SUCH);
     }
     found(image, names::facility_part(facilities, n))
@@ -51,13 +53,13 @@ pub fn state_part(image: &[u8], passed: bool, n: u32) -> Answer
     if !passed {
         return Answer::Refused(NO_IMAGE);
     }
-    let states = sections::section(image, 4, 7);
-    if states.len() / 7 <= n as usize {
+    let states = sections::section(image, sections::STATES);
+    if states.len() / record_sizes::STATE <= n as usize {
         return Answer::Refused(NO_SUCH);
     }
     let c = header::counts_at(image);
-    let facilities = sections::section(image, 0, 13);
-    let operations = sections::section(image, 1, 5);
+    let facilities = sections::section(image, sections::FACILITIES);
+    let operations = sections::section(image, sections::OPERATIONS);
     let part = names::state_part(
         facilities,
         c.facilities,

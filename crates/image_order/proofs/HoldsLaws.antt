@@ -7,7 +7,7 @@ use lib.Dec.{leb}
 use lib.ListN.{length}
 use Rattle.language.specs.Decode.{described, facilityOf, pick}
 use Rattle.language.specs.Description.{Facility, Operation, State, facilityAt}
-use Rattle.language.specs.Encode.{Sections}
+use Rattle.language.specs.Encode.{Sections, facilitySize, stateSize}
 use Rattle.language.specs.Tree.{Name}
 use Rattle.image_sections.proofs.DescribedLaws.{action-described, actions-count, expressions-count, facilities-count, facility-described, node-described, operation-described, operations-count, state-described, states-count}
 use Rattle.image_sections.specs.Declarations.{facilityIn, operationIn, stateIn}
@@ -23,7 +23,7 @@ picked name false x y n p q = q
 module _ (s : List ℕ) (n : ℕ) (name : Name) where
   facility-name : facilityIn s n name .name ≡ name
   unfolding facilityIn facilityOf
-  facility-name = picked (λ (f : Facility). f .name) (leb (13 * n + 13) (length s)) _ _ name refl refl
+  facility-name = picked (λ (f : Facility). f .name) (leb (facilitySize * n + facilitySize) (length s)) _ _ name refl refl
 
   operation-name : operationIn s n name .name ≡ name
   unfolding operationIn
@@ -31,7 +31,7 @@ module _ (s : List ℕ) (n : ℕ) (name : Name) where
 
   state-name : stateIn s n name .name ≡ name
   unfolding stateIn
-  state-name = picked (λ (x : State). x .name) (leb (7 * n + 7) (length s)) _ _ name refl refl
+  state-name = picked (λ (x : State). x .name) (leb (stateSize * n + stateSize) (length s)) _ _ name refl refl
 
 -- ---- Section by section.
 

@@ -12,7 +12,7 @@ use lib.Pow.{high, low}
 use Rattle.language.specs.Decode.{described, digitsMarked, nodeOf, numberAt}
 use Rattle.language.specs.Description as D
 use Rattle.language.specs.Description.{Description, digitLength, furtherDigits, nodeAt}
-use Rattle.language.specs.Encode.{Sections}
+use Rattle.language.specs.Encode.{Sections, nodeSize}
 use Rattle.language.specs.Judging.{both}
 use Rattle.language.specs.Order.{constantStart, digitsStand, ending, isDigit48, justBefore, startAt, startBelow, startNode, twoBefore}
 use Rattle.language.specs.Value.{Value}
@@ -119,22 +119,22 @@ module _ (d : Description) where
     -- ---- Constants.
 
     module _ (bytes : (i : ℕ) → getD s i 0 < 256) where
-      digits-here : (k n : ℕ) → n ≤ length s / 8 → digitsMarked k n s ≡ true → digitsStand d k n (digits k n s) ≡ true
+      digits-here : (k n : ℕ) → n ≤ length s / nodeSize → digitsMarked k n s ≡ true → digitsStand d k n (digits k n s) ≡ true
       unfolding digitsStand digitsMarked digits digitLength
       digits-here zero n g e = refl
       digits-here (suc k) zero g e = absurd (let z : _≡_ {A = ℕ} 0 1 = cc in omega arith)
-      digits-here (suc k) (suc n) g e = by-test (eqb (getD s (8 * n) 0) 2) refl (digits-here k n (omega arith)) e
+      digits-here (suc k) (suc n) g e = by-test (eqb (getD s (nodeSize * n) 0) 2) refl (digits-here k n (omega arith)) e
         where
           x : ℕ
-          x = numberAt 6 (8 * n + 2) s
+          x = numberAt 6 (nodeSize * n + 2) s
 
           low-x : (digits k n s * 2 ^ 48 + x) % 2 ^ 48 ≡ x
-          low-x = low (digits k n s) 48 (six-below s bytes (8 * n + 2))
+          low-x = low (digits k n s) 48 (six-below s bytes (nodeSize * n + 2))
 
           high-x : (digits k n s * 2 ^ 48 + x) / 2 ^ 48 ≡ digits k n s
-          high-x = high (digits k n s) 48 (six-below s bytes (8 * n + 2))
+          high-x = high (digits k n s) 48 (six-below s bytes (nodeSize * n + 2))
 
-          by-test : (b : Bool) → eqb (getD s (8 * n) 0) 2 ≡ b → (digitsMarked k n s ≡ true → digitsStand d k n (digits k n s) ≡ true) → cond b (digitsMarked k n s) false ≡ true
+          by-test : (b : Bool) → eqb (getD s (nodeSize * n) 0) 2 ≡ b → (digitsMarked k n s ≡ true → digitsStand d k n (digits k n s) ≡ true) → cond b (digitsMarked k n s) false ≡ true
               → both (isDigit48 d (nodeAt d n) ((digits k n s * 2 ^ 48 + x) % 2 ^ 48)) (digitsStand d k n ((digits k n s * 2 ^ 48 + x) / 2 ^ 48)) ≡ true
           by-test true t f m =
               let y : nodeAt d n ≡ D.more x = h .at n ∙ node-more s n (omega arith) (eqb-true _ _ t) in
@@ -146,11 +146,11 @@ module _ (d : Description) where
       unfolding startNode constantStart digitLength constantNumber
       constant-starts n v e =
           let r = constant-ends s n v e in
-          let k = getD s (8 * n + 1) 0 / 48 in
-          let f : furtherDigits (v .length) ≡ k = ap (λ (w : Value). furtherDigits (w .length)) (r .is) ∙ further-of (getD s (8 * n + 1) 0) in
-          let x : v .number ≡ digits k n s * 2 ^ 48 + numberAt 6 (8 * n + 2) s =
-          ap (λ (w : Value). w .number) (r .is) ∙ rw (further-of (getD s (8 * n + 1) 0), before-digits k n s) (omega arith) in
-          let q : v .number / 2 ^ 48 ≡ digits k n s = ap (λ (m : ℕ). m / 2 ^ 48) x ∙ high (digits k n s) 48 (six-below s bytes (8 * n + 2)) in
+          let k = getD s (nodeSize * n + 1) 0 / 48 in
+          let f : furtherDigits (v .length) ≡ k = ap (λ (w : Value). furtherDigits (w .length)) (r .is) ∙ further-of (getD s (nodeSize * n + 1) 0) in
+          let x : v .number ≡ digits k n s * 2 ^ 48 + numberAt 6 (nodeSize * n + 2) s =
+          ap (λ (w : Value). w .number) (r .is) ∙ rw (further-of (getD s (nodeSize * n + 1) 0), before-digits k n s) (omega arith) in
+          let q : v .number / 2 ^ 48 ≡ digits k n s = ap (λ (m : ℕ). m / 2 ^ 48) x ∙ high (digits k n s) 48 (six-below s bytes (nodeSize * n + 2)) in
           let t : digitsStand d (furtherDigits (v .length)) n (v .number / 2 ^ 48) ≡ true = rw (f, q) (digits-here k n (omega (arith, r .whole)) (r .marked)) in
           start-here n ∙ rw (e, t) (by-test (ltb (v .number) (2 ^ v .length)))
         where
@@ -161,8 +161,8 @@ module _ (d : Description) where
 pub further-within : (s : List ℕ) (n l : ℕ) → ConstantAt s n l → furtherDigits l ≤ n
 further-within s n l c =
     let r = constant-ends s n (c .is) (c .here) in
-    let f : furtherDigits l ≡ getD s (8 * n + 1) 0 / 48 = ap furtherDigits (sym (c .long) ∙ ap (λ (w : Value). w .length) (r .is)) ∙ further-of (getD s (8 * n + 1) 0) in
-    omega (arith, marked-within (getD s (8 * n + 1) 0 / 48) n s (r .marked))
+    let f : furtherDigits l ≡ getD s (nodeSize * n + 1) 0 / 48 = ap furtherDigits (sym (c .long) ∙ ap (λ (w : Value). w .length) (r .is)) ∙ further-of (getD s (nodeSize * n + 1) 0) in
+    omega (arith, marked-within (getD s (nodeSize * n + 1) 0 / 48) n s (r .marked))
 
 -- ---- A description with these expressions and nothing else.
 

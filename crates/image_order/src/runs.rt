@@ -1,6 +1,7 @@
 // Runs of actions one after the other: those of operations, then those of states.
 use crate::edges;
 use crate::edges::Edge;
+use image_records::record_sizes;
 use image_sections::operations;
 use image_sections::runs::Run;
 use image_sections::states;
@@ -30,7 +31,7 @@ fn operations_end(operations: &[u8]) -> Edge
 {
     let mut end = Edge::At(0);
     let mut n = 0;
-    while n < operations.len() / 5 {
+    while n < operations.len() / record_sizes::OPERATION {
         let o = operations::operation_at(operations, n);
         let body = o.body;
         end = run_end(end, body);
@@ -44,7 +45,7 @@ fn states_end(states: &[u8], at: Edge) -> Edge
 {
     let mut end = at;
     let mut n = 0;
-    while n < states.len() / 7 {
+    while n < states.len() / record_sizes::STATE {
         let s = states::state_at(states, n);
         let actions = s.actions;
         end = run_end(end, actions);
@@ -59,5 +60,5 @@ pub fn runs_right(operations: &[u8], acts: &[u8], states: &[u8]) -> bool
 {
     let middle = operations_end(operations);
     let last = states_end(states, middle);
-    edges::ends_at(last, acts.len() / 7)
+    edges::ends_at(last, acts.len() / record_sizes::ACTION)
 }

@@ -4,6 +4,7 @@ use crate::edges::Edge;
 use crate::starts;
 use image_records::actions;
 use image_records::actions::Action;
+use image_records::record_sizes;
 use image_sections::facilities;
 use image_sections::kinds;
 use image_sections::operations;
@@ -33,7 +34,7 @@ fn tree(exprs: &[u8], at: Edge, root: u16) -> Edge
     if s != n {
         return Edge::None;
     }
-    if exprs.len() / 8 <= last {
+    if exprs.len() / record_sizes::NODE <= last {
         return Edge::None;
     }
     Edge::At(last + 1)
@@ -88,7 +89,7 @@ fn facility_trees(exprs: &[u8], facilities: &[u8]) -> Edge
 {
     let mut end = Edge::At(0);
     let mut n = 0;
-    while n < facilities.len() / 13 {
+    while n < facilities.len() / record_sizes::FACILITY {
         end = facility_tree(exprs, facilities, end, n);
         n += 1;
     }
@@ -100,7 +101,7 @@ fn operation_trees(exprs: &[u8], acts: &[u8], operations: &[u8], at: Edge) -> Ed
 {
     let mut end = at;
     let mut n = 0;
-    while n < operations.len() / 5 {
+    while n < operations.len() / record_sizes::OPERATION {
         let o = operations::operation_at(operations, n);
         let body = o.body;
         end = run_trees(exprs, acts, end, body.first, body.count);
@@ -124,7 +125,7 @@ fn state_trees(exprs: &[u8], acts: &[u8], states: &[u8], at: Edge) -> Edge
 {
     let mut end = at;
     let mut n = 0;
-    while n < states.len() / 7 {
+    while n < states.len() / record_sizes::STATE {
         let s = states::state_at(states, n);
         let value = s.value;
         let actions = s.actions;
@@ -148,5 +149,5 @@ pub fn trees_right(
     let first = facility_trees(exprs, facilities);
     let second = operation_trees(exprs, acts, operations, first);
     let last = state_trees(exprs, acts, states, second);
-    edges::ends_at(last, exprs.len() / 8)
+    edges::ends_at(last, exprs.len() / record_sizes::NODE)
 }

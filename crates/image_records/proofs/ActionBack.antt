@@ -8,7 +8,7 @@ use lib.ListN.{length, getD}
 use Rattle.language.specs.Decode.{actionOf, actionWith, numberAt}
 use Rattle.language.specs.Description as D
 use Rattle.language.specs.Description.{Action}
-use Rattle.language.specs.Encode.{actionBytes, actionRecord, little}
+use Rattle.language.specs.Encode.{actionBytes, actionRecord, actionSize, little}
 use Rattle.language.specs.Kinds.{delayedSign, equalSign}
 use Rattle.image_records.proofs.ActionLaws.{action-length, action-whole}
 use Rattle.image_records.proofs.ByteLaws.{placed-in, placed-length}
@@ -34,22 +34,22 @@ Fits (D.choose c n x) = Half c × Half n × Half x
 Fits (D.arm x) = Half x
 Fits D.Action.broken = Unit {0}
 
-module _ (t : List ℕ) (n : ℕ) (h : n < length t / 7) where
+module _ (t : List ℕ) (n : ℕ) (h : n < length t / actionSize) where
   -- These seven bytes stand at record n.
   abbrev Stand : List ℕ → Type 0
-  Stand bs = (i : ℕ) → i < 7 → getD t (7 * n + i) 0 ≡ getD bs i 0
+  Stand bs = (i : ℕ) → i < actionSize → getD t (actionSize * n + i) 0 ≡ getD bs i 0
 
   fields-back : (mark a b c : ℕ) → Half a → Half b → Half c → Stand (actionRecord mark a b c) → actionOf t n ≡ actionWith mark a b c
   unfolding little
   fields-back mark a b c ha hb hc f =
-      let e0 : 7 * n + 0 ≡ 7 * n = omega arith in
-      let m : getD t (7 * n) 0 ≡ mark = rw e0 at (f 0 (omega arith)) in
-      let e2 : 7 * n + 1 + 1 ≡ 7 * n + 2 = omega arith in
-      let e4 : 7 * n + 3 + 1 ≡ 7 * n + 4 = omega arith in
-      let e6 : 7 * n + 5 + 1 ≡ 7 * n + 6 = omega arith in
-      let u : numberAt 2 (7 * n + 1) t ≡ a = half-back t (7 * n + 1) a ha (f 1 (omega arith)) (rw e2 (f 2 (omega arith))) in
-      let v : numberAt 2 (7 * n + 3) t ≡ b = half-back t (7 * n + 3) b hb (f 3 (omega arith)) (rw e4 (f 4 (omega arith))) in
-      let w : numberAt 2 (7 * n + 5) t ≡ c = half-back t (7 * n + 5) c hc (f 5 (omega arith)) (rw e6 (f 6 (omega arith))) in
+      let e0 : actionSize * n + 0 ≡ actionSize * n = omega arith in
+      let m : getD t (actionSize * n) 0 ≡ mark = rw e0 at (f 0 (omega arith)) in
+      let e2 : actionSize * n + 1 + 1 ≡ actionSize * n + 2 = omega arith in
+      let e4 : actionSize * n + 3 + 1 ≡ actionSize * n + 4 = omega arith in
+      let e6 : actionSize * n + 5 + 1 ≡ actionSize * n + 6 = omega arith in
+      let u : numberAt 2 (actionSize * n + 1) t ≡ a = half-back t (actionSize * n + 1) a ha (f 1 (omega arith)) (rw e2 (f 2 (omega arith))) in
+      let v : numberAt 2 (actionSize * n + 3) t ≡ b = half-back t (actionSize * n + 3) b hb (f 3 (omega arith)) (rw e4 (f 4 (omega arith))) in
+      let w : numberAt 2 (actionSize * n + 5) t ≡ c = half-back t (actionSize * n + 5) c hc (f 5 (omega arith)) (rw e6 (f 6 (omega arith))) in
       action-whole t n h ∙ rw (m, u, v, w)
 
   store-back : (k l r : ℕ) → Sign k → Half l → Half r → Stand (actionBytes (D.store k l r)) → actionOf t n ≡ D.store k l r
@@ -81,11 +81,11 @@ module _ (t : List ℕ) (n : ℕ) (h : n < length t / 7) where
 
 module _ (s : List ℕ) (n : ℕ) (x : Action) where
   abbrev pub written : List ℕ
-  written = placed s (7 * n) (actionBytes x)
+  written = placed s (actionSize * n) (actionBytes x)
 
-  pub action-written : n < length s / 7 → Fits x → actionOf written n ≡ x
+  pub action-written : n < length s / actionSize → Fits x → actionOf written n ≡ x
   action-written h g =
       let l = action-length x in
-      let p : length written ≡ length s = placed-length s (actionBytes x) (7 * n) in
-      let r : 7 * n + length (actionBytes x) ≤ length s = omega arith in
-      action-back written n (rw p h) x g (λ i j. placed-in s (actionBytes x) (7 * n) r i (omega arith))
+      let p : length written ≡ length s = placed-length s (actionBytes x) (actionSize * n) in
+      let r : actionSize * n + length (actionBytes x) ≤ length s = omega arith in
+      action-back written n (rw p h) x g (λ i j. placed-in s (actionBytes x) (actionSize * n) r i (omega arith))

@@ -7,17 +7,17 @@ use borrow.Author.Tests.{le-leb, lt-leb}
 use lib.ListN.{length, getD}
 use Rattle.language.specs.Decode.{actionOf, actionWith, numberAt}
 use Rattle.language.specs.Description as D
-use Rattle.language.specs.Encode.{actionBytes, little}
+use Rattle.language.specs.Encode.{actionBytes, actionSize, little}
 
 module _ (s : List ℕ) (n : ℕ) where
-  pub action-past : length s / 7 ≤ n → actionOf s n ≡ D.Action.broken
+  pub action-past : length s / actionSize ≤ n → actionOf s n ≡ D.Action.broken
   unfolding actionOf
-  action-past h = let g : length s < 7 * n + 7 = omega arith in rw (lt-leb _ _ g)
+  action-past h = let g : length s < actionSize * n + actionSize = omega arith in rw (lt-leb _ _ g)
 
-  pub action-whole : n < length s / 7
-      → actionOf s n ≡ actionWith (getD s (7 * n) 0) (numberAt 2 (7 * n + 1) s) (numberAt 2 (7 * n + 3) s) (numberAt 2 (7 * n + 5) s)
+  pub action-whole : n < length s / actionSize
+      → actionOf s n ≡ actionWith (getD s (actionSize * n) 0) (numberAt 2 (actionSize * n + 1) s) (numberAt 2 (actionSize * n + 3) s) (numberAt 2 (actionSize * n + 5) s)
   unfolding actionOf
-  action-whole h = let g : 7 * n + 7 ≤ length s = omega arith in rw (le-leb _ _ g)
+  action-whole h = let g : actionSize * n + actionSize ≤ length s = omega arith in rw (le-leb _ _ g)
 
 pub action-length : (x : D.Action) → length (actionBytes x) ≡ 7
 unfolding actionBytes little

@@ -16,6 +16,7 @@ use Rattle.language.specs.Value.{Value, value}
 use Rattle.image_records.proofs.DigitLaws.{constant-digits, further-of}
 use Rattle.image_records.proofs.NodeLaws.{node-constant, node-more, node-past, node-plain, node-unmarked}
 use Rattle.image_records.specs.Nodes.{constantNumber, digits}
+use Rattle.language.specs.Encode.{nodeSize}
 
 -- ---- Only mark 1 is a constant.
 
@@ -48,9 +49,9 @@ plain-not m x a b c =
 
 -- What is known where record n is the constant v.
 pub record Ends (s : List ℕ) (n : ℕ) (v : Value) : Type 0 where
-  pub whole : n < length s / 8
-  pub marked : digitsMarked (getD s (8 * n + 1) 0 / 48) n s ≡ true
-  pub is : v ≡ value (getD s (8 * n + 1) 0 + 1) (constantNumber n s)
+  pub whole : n < length s / nodeSize
+  pub marked : digitsMarked (getD s (nodeSize * n + 1) 0 / 48) n s ≡ true
+  pub is : v ≡ value (getD s (nodeSize * n + 1) 0 + 1) (constantNumber n s)
 
 module _ (s : List ℕ) (n : ℕ) (v : Value) (e : nodeOf s n ≡ D.constant v) where
   other : {x : Node} → nodeOf s n ≡ x → isConstant x ≡ false → Ends s n v
@@ -60,29 +61,29 @@ module _ (s : List ℕ) (n : ℕ) (v : Value) (e : nodeOf s n ≡ D.constant v) 
   same-value p = let q : D.constant v ≡ D.constant _ = sym e ∙ p in cc
 
   pub constant-ends : Ends s n v
-  constant-ends = by-length (ltb n (length s / 8)) refl
+  constant-ends = by-length (ltb n (length s / nodeSize)) refl
     where
-      by-digits : n < length s / 8 → getD s (8 * n) 0 ≡ 1 → (b : Bool) → digitsMarked (getD s (8 * n + 1) 0 / 48) n s ≡ b → Ends s n v
+      by-digits : n < length s / nodeSize → getD s (nodeSize * n) 0 ≡ 1 → (b : Bool) → digitsMarked (getD s (nodeSize * n + 1) 0 / 48) n s ≡ b → Ends s n v
       by-digits h m true d = record { whole = h; marked = d; is = same-value (node-constant s n h m d) }
       by-digits h m false d = other (node-unmarked s n h m d) refl
 
-      by-two : n < length s / 8 → (getD s (8 * n) 0 ≡ 1 → ⊥) → (b : Bool) → eqb (getD s (8 * n) 0) 2 ≡ b → Ends s n v
+      by-two : n < length s / nodeSize → (getD s (nodeSize * n) 0 ≡ 1 → ⊥) → (b : Bool) → eqb (getD s (nodeSize * n) 0) 2 ≡ b → Ends s n v
       by-two h m true t = other (node-more s n h (eqb-true _ _ t)) refl
       by-two h m false t = other (node-plain s n h m (eqb-false _ _ t)) (plain-not _ _ _ _ _)
 
-      by-one : n < length s / 8 → (b : Bool) → eqb (getD s (8 * n) 0) 1 ≡ b → Ends s n v
-      by-one h true t = by-digits h (eqb-true _ _ t) (digitsMarked (getD s (8 * n + 1) 0 / 48) n s) refl
-      by-one h false t = by-two h (eqb-false _ _ t) (eqb (getD s (8 * n) 0) 2) refl
+      by-one : n < length s / nodeSize → (b : Bool) → eqb (getD s (nodeSize * n) 0) 1 ≡ b → Ends s n v
+      by-one h true t = by-digits h (eqb-true _ _ t) (digitsMarked (getD s (nodeSize * n + 1) 0 / 48) n s) refl
+      by-one h false t = by-two h (eqb-false _ _ t) (eqb (getD s (nodeSize * n) 0) 2) refl
 
-      by-length : (b : Bool) → ltb n (length s / 8) ≡ b → Ends s n v
-      by-length true t = by-one (ltb-true _ _ t) (eqb (getD s (8 * n) 0) 1) refl
+      by-length : (b : Bool) → ltb n (length s / nodeSize) ≡ b → Ends s n v
+      by-length true t = by-one (ltb-true _ _ t) (eqb (getD s (nodeSize * n) 0) 1) refl
       by-length false t = other (node-past s n (ltb-false _ _ t)) refl
 
 pub marked-within : (k n : ℕ) (s : List ℕ) → digitsMarked k n s ≡ true → k ≤ n
 unfolding digitsMarked
 marked-within zero n s e = omega arith
 marked-within (suc k) zero s e = absurd (true≢false (sym e))
-marked-within (suc k) (suc n) s e = by-test (eqb (getD s (8 * n) 0) 2) (marked-within k n s) e
+marked-within (suc k) (suc n) s e = by-test (eqb (getD s (nodeSize * n) 0) 2) (marked-within k n s) e
   where
     by-test : (b : Bool) → (digitsMarked k n s ≡ true → k ≤ n) → cond b (digitsMarked k n s) false ≡ true → suc k ≤ suc n
     by-test true f g = let h : k ≤ n = f g in omega arith
@@ -114,24 +115,24 @@ six-below s f at =
     omega (arith, f at, f (suc at), f (suc (suc at)), f (suc (suc (suc at))), f (suc (suc (suc (suc at)))), f (suc (suc (suc (suc (suc at))))))
 
 pub digits-fit : (s : List ℕ) → ((i : ℕ) → getD s i 0 < 256) → (k n e : ℕ) → k ≤ n
-    → ltb (digits (suc k) (suc n) s) (2 ^ (48 * k + e)) ≡ ltb (numberAt 6 (8 * (n - k) + 2) s) (2 ^ e)
+    → ltb (digits (suc k) (suc n) s) (2 ^ (48 * k + e)) ≡ ltb (numberAt 6 (nodeSize * (n - k) + 2) s) (2 ^ e)
 unfolding digits digitLength
 digits-fit s f zero n e h =
     let a : 48 * 0 + e ≡ e = omega arith in
     let b : n - 0 ≡ n = omega arith in
-    let c : 0 * 2 ^ 48 + numberAt 6 (8 * n + 2) s ≡ numberAt 6 (8 * n + 2) s = omega arith in
+    let c : 0 * 2 ^ 48 + numberAt 6 (nodeSize * n + 2) s ≡ numberAt 6 (nodeSize * n + 2) s = omega arith in
     rw (a, b, c)
 digits-fit s f (suc k) zero e h = absurd (omega arith)
 digits-fit s f (suc k) (suc n) e h =
     let a : 48 * suc k + e ≡ 48 * k + e + 48 = omega arith in
     let b : suc n - suc k ≡ n - k = omega arith in
     rw (a, b, pow-add 2 (48 * k + e) 48)
-    (behind (digits (suc k) (suc n) s) (numberAt 6 (8 * suc n + 2) s) (2 ^ (48 * k + e)) (2 ^ 48) (six-below s f (8 * suc n + 2))
+    (behind (digits (suc k) (suc n) s) (numberAt 6 (nodeSize * suc n + 2) s) (2 ^ (48 * k + e)) (2 ^ 48) (six-below s f (nodeSize * suc n + 2))
     ∙ digits-fit s f k n e (omega arith))
 
 pub constant-fit : (s : List ℕ) (n : ℕ) (v : Value) → ((i : ℕ) → getD s i 0 < 256) → Ends s n v
-    → ltb (numberAt 6 (8 * (n - getD s (8 * n + 1) 0 / 48) + 2) s) (2 ^ (getD s (8 * n + 1) 0 % 48 + 1)) ≡ ltb (v .number) (2 ^ v .length)
+    → ltb (numberAt 6 (nodeSize * (n - getD s (nodeSize * n + 1) 0 / 48) + 2) s) (2 ^ (getD s (nodeSize * n + 1) 0 % 48 + 1)) ≡ ltb (v .number) (2 ^ v .length)
 constant-fit s n v f r =
-    let x = getD s (8 * n + 1) 0 in
+    let x = getD s (nodeSize * n + 1) 0 in
     let l : x + 1 ≡ 48 * (x / 48) + (x % 48 + 1) = omega arith in
     rw (r .is, constant-digits n s, further-of x, l) (sym (digits-fit s f (x / 48) n (x % 48 + 1) (marked-within (x / 48) n s (r .marked))))

@@ -49,9 +49,9 @@ before-digits (suc k) zero s = refl
 before-digits (suc k) (suc n) s = rw (before-digits k n s) (omega arith)
 
 -- A constant's number is that of its record and the further digits before it.
-pub constant-digits : (n : ℕ) (s : List ℕ) → constantNumber n s ≡ digits (suc (furtherDigits (getD s (8 * n + 1) 0 + 1))) (suc n) s
+pub constant-digits : (n : ℕ) (s : List ℕ) → constantNumber n s ≡ digits (suc (furtherDigits (getD s (nodeSize * n + 1) 0 + 1))) (suc n) s
 unfolding constantNumber digits digitLength
-constant-digits n s = rw (before-digits (furtherDigits (getD s (8 * n + 1) 0 + 1)) n s) (omega arith)
+constant-digits n s = rw (before-digits (furtherDigits (getD s (nodeSize * n + 1) 0 + 1)) n s) (omega arith)
 
 pub further-of : (x : ℕ) → furtherDigits (x + 1) ≡ x / 48
 unfolding furtherDigits digitLength

@@ -13,12 +13,13 @@ use Rattle.language.specs.Description as D
 use Rattle.language.specs.Description.{digitLength, furtherDigits}
 use Rattle.language.specs.Value.{Value}
 use Rattle.image_records.proofs.NodeBack.{Fits}
+use Rattle.language.specs.Encode.{nodeSize}
 
 -- The k records before record n are marked as further digits and hold those of x, the lower ones later.
 abbrev pub Above : ℕ → ℕ → ℕ → List ℕ → Type 0
 Above zero n x s = Unit {0}
 Above (suc k) zero x s = ⊥
-Above (suc k) (suc n) x s = (getD s (8 * n) 0 ≡ 2) × (numberAt 6 (8 * n + 2) s ≡ x % 2 ^ 48) × Above k n (x / 2 ^ 48) s
+Above (suc k) (suc n) x s = (getD s (nodeSize * n) 0 ≡ 2) × (numberAt 6 (nodeSize * n + 2) s ≡ x % 2 ^ 48) × Above k n (x / 2 ^ 48) s
 
 above-marked : (k n x : ℕ) (s : List ℕ) → Above k n x s → digitsMarked k n s ≡ true
 unfolding digitsMarked

@@ -10,7 +10,7 @@ use lib.ListN.{length, getD}
 use Rattle.language.specs.Decode.{constantAt, digitsBefore, digitsMarked, nodeOf, numberAt, operatorOf, plainNode}
 use Rattle.language.specs.Description as D
 use Rattle.language.specs.Description.{Node, digitLength, furtherDigits}
-use Rattle.language.specs.Encode.{digitRecord, little, nodeBytes, nodeRecord}
+use Rattle.language.specs.Encode.{digitRecord, little, nodeBytes, nodeRecord, nodeSize}
 use Rattle.language.specs.Value.{Value}
 use Rattle.image_records.proofs.ByteLaws.{placed-in, placed-length}
 use Rattle.image_records.proofs.NodeLaws.{node-whole}
@@ -72,52 +72,52 @@ operator-cut : (k a b : ℕ) → k < 64 → operatorOf (192 + k) a b ≡ D.cut k
 unfolding operatorOf
 operator-cut k a b h = let p : (192 + k) / 64 ≡ 3 = omega arith in let q : (192 + k) % 64 ≡ k = omega arith in rw (p, q)
 
-module _ (t : List ℕ) (n : ℕ) (h : n < length t / 8) where
+module _ (t : List ℕ) (n : ℕ) (h : n < length t / nodeSize) where
   -- These eight bytes stand at record n.
   abbrev Stand : List ℕ → Type 0
-  Stand bs = (i : ℕ) → i < 8 → getD t (8 * n + i) 0 ≡ getD bs i 0
+  Stand bs = (i : ℕ) → i < nodeSize → getD t (nodeSize * n + i) 0 ≡ getD bs i 0
 
-  first-back : (bs : List ℕ) → Stand bs → getD t (8 * n) 0 ≡ getD bs 0 0
-  first-back bs f = let e : 8 * n + 0 ≡ 8 * n = omega arith in rw e at (f 0 (omega arith))
+  first-back : (bs : List ℕ) → Stand bs → getD t (nodeSize * n) 0 ≡ getD bs 0 0
+  first-back bs f = let e : nodeSize * n + 0 ≡ nodeSize * n = omega arith in rw e at (f 0 (omega arith))
 
-  six-back : (mark x d : ℕ) → d < 2 ^ 48 → Stand (digitRecord mark x d) → numberAt 6 (8 * n + 2) t ≡ d
+  six-back : (mark x d : ℕ) → d < 2 ^ 48 → Stand (digitRecord mark x d) → numberAt 6 (nodeSize * n + 2) t ≡ d
   six-back mark x d g f =
-      number-back 6 (8 * n + 2) d t g (λ i l. let e : 8 * n + 2 + i ≡ 8 * n + suc (suc i) = omega arith in rw e (f (suc (suc i)) (omega arith)))
+      number-back 6 (nodeSize * n + 2) d t g (λ i l. let e : nodeSize * n + 2 + i ≡ nodeSize * n + suc (suc i) = omega arith in rw e (f (suc (suc i)) (omega arith)))
 
   plain-back : (mark x a b c : ℕ) → 2 < mark → mark < 256 → x < 256 → Half a → Half b → Half c → Stand (nodeRecord mark x a b c)
       → nodeOf t n ≡ plainNode mark x a b c
   unfolding little
   plain-back mark x a b c p q r ha hb hc f =
-      let m : getD t (8 * n) 0 ≡ mark = first-back (nodeRecord mark x a b c) f ∙ mod-eq-of-lt q in
-      let y : getD t (8 * n + 1) 0 ≡ x = f 1 (omega arith) ∙ mod-eq-of-lt r in
-      let e3 : 8 * n + 2 + 1 ≡ 8 * n + 3 = omega arith in
-      let e5 : 8 * n + 4 + 1 ≡ 8 * n + 5 = omega arith in
-      let e7 : 8 * n + 6 + 1 ≡ 8 * n + 7 = omega arith in
-      let u : numberAt 2 (8 * n + 2) t ≡ a = half-back t (8 * n + 2) a ha (f 2 (omega arith)) (rw e3 (f 3 (omega arith))) in
-      let v : numberAt 2 (8 * n + 4) t ≡ b = half-back t (8 * n + 4) b hb (f 4 (omega arith)) (rw e5 (f 5 (omega arith))) in
-      let w : numberAt 2 (8 * n + 6) t ≡ c = half-back t (8 * n + 6) c hc (f 6 (omega arith)) (rw e7 (f 7 (omega arith))) in
+      let m : getD t (nodeSize * n) 0 ≡ mark = first-back (nodeRecord mark x a b c) f ∙ mod-eq-of-lt q in
+      let y : getD t (nodeSize * n + 1) 0 ≡ x = f 1 (omega arith) ∙ mod-eq-of-lt r in
+      let e3 : nodeSize * n + 2 + 1 ≡ nodeSize * n + 3 = omega arith in
+      let e5 : nodeSize * n + 4 + 1 ≡ nodeSize * n + 5 = omega arith in
+      let e7 : nodeSize * n + 6 + 1 ≡ nodeSize * n + 7 = omega arith in
+      let u : numberAt 2 (nodeSize * n + 2) t ≡ a = half-back t (nodeSize * n + 2) a ha (f 2 (omega arith)) (rw e3 (f 3 (omega arith))) in
+      let v : numberAt 2 (nodeSize * n + 4) t ≡ b = half-back t (nodeSize * n + 4) b hb (f 4 (omega arith)) (rw e5 (f 5 (omega arith))) in
+      let w : numberAt 2 (nodeSize * n + 6) t ≡ c = half-back t (nodeSize * n + 6) c hc (f 6 (omega arith)) (rw e7 (f 7 (omega arith))) in
       node-whole t n h ∙ rw (m, y, u, v, w, ne-eqb mark 1 (λ e. omega arith), ne-eqb mark 2 (λ e. omega arith))
 
   constant-back : (v : Value) → Fits t n (D.constant v) → Stand (nodeBytes (D.constant v)) → nodeOf t n ≡ D.constant v
   unfolding nodeBytes constantAt digitLength
   constant-back v g f =
       let l : v .length - 1 < 256 = omega (arith, g .0, g .1) in
-      let m : getD t (8 * n) 0 ≡ 1 = first-back (nodeBytes (D.constant v)) f in
-      let y : getD t (8 * n + 1) 0 ≡ v .length - 1 = f 1 (omega arith) ∙ mod-eq-of-lt l in
+      let m : getD t (nodeSize * n) 0 ≡ 1 = first-back (nodeBytes (D.constant v)) f in
+      let y : getD t (nodeSize * n + 1) 0 ≡ v .length - 1 = f 1 (omega arith) ∙ mod-eq-of-lt l in
       let e : v .length - 1 + 1 ≡ v .length = omega (arith, g .0) in
-      let d : numberAt 6 (8 * n + 2) t ≡ v .number % 2 ^ 48 = six-back 1 (v .length - 1) (v .number % 2 ^ 48) (mod-lt (v .number) (omega arith)) f in
+      let d : numberAt 6 (nodeSize * n + 2) t ≡ v .number % 2 ^ 48 = six-back 1 (v .length - 1) (v .number % 2 ^ 48) (mod-lt (v .number) (omega arith)) f in
       node-whole t n h ∙ rw (m, y, e, d, g .2, g .3)
 
   more-back : (d : ℕ) → d < 2 ^ 48 → Stand (nodeBytes (D.more d)) → nodeOf t n ≡ D.more d
   unfolding nodeBytes
   more-back d g f =
-      let m : getD t (8 * n) 0 ≡ 2 = first-back (nodeBytes (D.more d)) f in
+      let m : getD t (nodeSize * n) 0 ≡ 2 = first-back (nodeBytes (D.more d)) f in
       node-whole t n h ∙ rw (m, six-back 2 0 d g f)
 
   broken-back : Stand (nodeBytes D.Node.broken) → nodeOf t n ≡ D.Node.broken
   unfolding nodeBytes plainNode operatorOf
   broken-back f =
-      let m : getD t (8 * n) 0 ≡ 0 = first-back (nodeBytes D.Node.broken) f in
+      let m : getD t (nodeSize * n) 0 ≡ 0 = first-back (nodeBytes D.Node.broken) f in
       node-whole t n h ∙ rw m
 
   -- What stands at record n with the bytes of x is x.
@@ -148,12 +148,12 @@ module _ (t : List ℕ) (n : ℕ) (h : n < length t / 8) where
 
 module _ (s : List ℕ) (n : ℕ) (x : Node) where
   abbrev pub written : List ℕ
-  written = placed s (8 * n) (nodeBytes x)
+  written = placed s (nodeSize * n) (nodeBytes x)
 
-  pub node-written : n < length s / 8 → Fits written n x → nodeOf written n ≡ x
+  pub node-written : n < length s / nodeSize → Fits written n x → nodeOf written n ≡ x
   node-written h g =
       let l = node-length x in
-      let p : length written ≡ length s = placed-length s (nodeBytes x) (8 * n) in
-      let q : n < length written / 8 = rw p h in
-      let r : 8 * n + length (nodeBytes x) ≤ length s = omega arith in
-      node-back written n q x g (λ i j. placed-in s (nodeBytes x) (8 * n) r i (omega arith))
+      let p : length written ≡ length s = placed-length s (nodeBytes x) (nodeSize * n) in
+      let q : n < length written / nodeSize = rw p h in
+      let r : nodeSize * n + length (nodeBytes x) ≤ length s = omega arith in
+      node-back written n q x g (λ i j. placed-in s (nodeBytes x) (nodeSize * n) r i (omega arith))

@@ -18,35 +18,36 @@ use Rattle.image_records.proofs.nodes.Node.{the-type}
 use Rattle.image_records.specs.Nodes.{constantNumber, meant}
 use Rattle.image_records.specs.declared.nodes.Node.{Node}
 use Rattle.image_records.specs.declared.nodes.Node.the-variants as N
+use Rattle.language.specs.Encode.{nodeSize}
 
 module _ (s : List ℕ) (n : ℕ) where
-  pub node-past : length s / 8 ≤ n → nodeOf s n ≡ D.Node.broken
+  pub node-past : length s / nodeSize ≤ n → nodeOf s n ≡ D.Node.broken
   unfolding nodeOf
-  node-past h = let g : length s < 8 * n + 8 = omega arith in rw (lt-leb _ _ g)
+  node-past h = let g : length s < nodeSize * n + nodeSize = omega arith in rw (lt-leb _ _ g)
 
-  module _ (h : n < length s / 8) where
+  module _ (h : n < length s / nodeSize) where
     pub node-whole : nodeOf s n
-        ≡ pick (eqb (getD s (8 * n) 0) 1) (constantAt n s)
-        (pick (eqb (getD s (8 * n) 0) 2) (D.more (numberAt 6 (8 * n + 2) s))
-        (plainNode (getD s (8 * n) 0) (getD s (8 * n + 1) 0) (numberAt 2 (8 * n + 2) s) (numberAt 2 (8 * n + 4) s) (numberAt 2 (8 * n + 6) s)))
+        ≡ pick (eqb (getD s (nodeSize * n) 0) 1) (constantAt n s)
+        (pick (eqb (getD s (nodeSize * n) 0) 2) (D.more (numberAt 6 (nodeSize * n + 2) s))
+        (plainNode (getD s (nodeSize * n) 0) (getD s (nodeSize * n + 1) 0) (numberAt 2 (nodeSize * n + 2) s) (numberAt 2 (nodeSize * n + 4) s) (numberAt 2 (nodeSize * n + 6) s)))
     unfolding nodeOf
-    node-whole = let g : 8 * n + 8 ≤ length s = omega arith in rw (le-leb _ _ g)
+    node-whole = let g : nodeSize * n + nodeSize ≤ length s = omega arith in rw (le-leb _ _ g)
 
-    pub node-constant : getD s (8 * n) 0 ≡ 1 → digitsMarked (getD s (8 * n + 1) 0 / 48) n s ≡ true
-        → nodeOf s n ≡ D.constant (value (getD s (8 * n + 1) 0 + 1) (constantNumber n s))
+    pub node-constant : getD s (nodeSize * n) 0 ≡ 1 → digitsMarked (getD s (nodeSize * n + 1) 0 / 48) n s ≡ true
+        → nodeOf s n ≡ D.constant (value (getD s (nodeSize * n + 1) 0 + 1) (constantNumber n s))
     unfolding constantAt constantNumber
-    node-constant m e = node-whole ∙ rw (m, further-of (getD s (8 * n + 1) 0), e)
+    node-constant m e = node-whole ∙ rw (m, further-of (getD s (nodeSize * n + 1) 0), e)
 
-    pub node-unmarked : getD s (8 * n) 0 ≡ 1 → digitsMarked (getD s (8 * n + 1) 0 / 48) n s ≡ false → nodeOf s n ≡ D.Node.broken
+    pub node-unmarked : getD s (nodeSize * n) 0 ≡ 1 → digitsMarked (getD s (nodeSize * n + 1) 0 / 48) n s ≡ false → nodeOf s n ≡ D.Node.broken
     unfolding constantAt
-    node-unmarked m e = node-whole ∙ rw (m, further-of (getD s (8 * n + 1) 0), e)
+    node-unmarked m e = node-whole ∙ rw (m, further-of (getD s (nodeSize * n + 1) 0), e)
 
-    pub node-more : getD s (8 * n) 0 ≡ 2 → nodeOf s n ≡ D.more (numberAt 6 (8 * n + 2) s)
+    pub node-more : getD s (nodeSize * n) 0 ≡ 2 → nodeOf s n ≡ D.more (numberAt 6 (nodeSize * n + 2) s)
     node-more m = node-whole ∙ rw m
 
-    pub node-plain : (getD s (8 * n) 0 ≡ 1 → ⊥) → (getD s (8 * n) 0 ≡ 2 → ⊥)
+    pub node-plain : (getD s (nodeSize * n) 0 ≡ 1 → ⊥) → (getD s (nodeSize * n) 0 ≡ 2 → ⊥)
         → nodeOf s n
-        ≡ plainNode (getD s (8 * n) 0) (getD s (8 * n + 1) 0) (numberAt 2 (8 * n + 2) s) (numberAt 2 (8 * n + 4) s) (numberAt 2 (8 * n + 6) s)
+        ≡ plainNode (getD s (nodeSize * n) 0) (getD s (nodeSize * n + 1) 0) (numberAt 2 (nodeSize * n + 2) s) (numberAt 2 (nodeSize * n + 4) s) (numberAt 2 (nodeSize * n + 6) s)
     node-plain p q = node-whole ∙ rw (ne-eqb _ _ p, ne-eqb _ _ q)
 
 -- ---- Values.

@@ -7,7 +7,7 @@ use lib.ListN.{getD, length}
 use Rattle.language.specs.Decode.{numberAt}
 use Rattle.language.specs.Description as D
 use Rattle.language.specs.Description.{digitLength, furtherDigits}
-use Rattle.language.specs.Encode.{digitRecord, little, nodeBytes}
+use Rattle.language.specs.Encode.{digitRecord, little, nodeBytes, nodeSize}
 use Rattle.language.specs.Value.{value}
 use Rattle.image_records.proofs.DigitLaws.{before-digits}
 use Rattle.image_records.specs.Nodes.{constantNumber, meant}
@@ -36,10 +36,10 @@ node-low u v (N.NextArm a b) e = refl
 node-low u v (N.Choice a b n) e = refl
 node-low u v N.Broken e = refl
 
-pub constant-low : (n : ℕ) (s : List ℕ) → numberAt 6 (8 * n + 2) s % 2 ^ 48 ≡ constantNumber n s % 2 ^ 48
+pub constant-low : (n : ℕ) (s : List ℕ) → numberAt 6 (nodeSize * n + 2) s % 2 ^ 48 ≡ constantNumber n s % 2 ^ 48
 unfolding constantNumber
 constant-low n s =
-    rw (before-digits (furtherDigits (getD s (8 * n + 1) 0 + 1)) n s) (sym (add-mul-mod-self-right _ _ (2 ^ 48)))
+    rw (before-digits (furtherDigits (getD s (nodeSize * n + 1) 0 + 1)) n s) (sym (add-mul-mod-self-right _ _ (2 ^ 48)))
 
 pub node-length : (x : D.Node) → length (nodeBytes x) ≡ 8
 unfolding nodeBytes little digitLength

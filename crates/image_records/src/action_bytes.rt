@@ -2,17 +2,19 @@
 use crate::actions;
 use crate::actions::Action;
 use crate::bytes;
+use crate::marks;
 use crate::numbers;
+use crate::record_sizes;
 ghost use mathlib.Core.Path.{_≡_};
 ghost use Prim.Native.Nat.{_*_, _<_};
 ghost use lib.ListN.{take, drop};
 ghost use Rattle.language.specs.Decode.{actionOf};
-ghost use Rattle.language.specs.Encode.{actionBytes, actionRecord, storeMark};
+ghost use Rattle.language.specs.Encode.{actionBytes, actionRecord, actionSize, storeMark};
 ghost use Rattle.language.specs.Scan.{same};
 ghost use Rattle.image_records.specs.Actions.{meant};
 
 // A mark and three numbers.
-fn fields(mark: u8, a: u16, b: u16, c: u16) -> [u8; 7]
+fn fields(mark: u8, a: u16, b: u16, c: u16) -> [u8; record_sizes::ACTION]
     ensures { λ r. ⌜ r ≡ actionRecord mark a b c ⌝ }
 {
     let a0 = numbers::low(a);
@@ -37,31 +39,31 @@ fn store_mark(sign: u8, mark: u8) -> u8
 }
 
 // The bytes of a record.
-pub fn action_bytes(action: Action) -> [u8; 7]
+pub fn action_bytes(action: Action) -> [u8; record_sizes::ACTION]
     ensures { λ r. ⌜ r ≡ actionBytes (meant action) ⌝ }
 {
     match action {
-        Action::Store(k, l, r) => fields(store_mark(k, 1), l, r, 0),
-        Action::StorePair(k, l, m, r) => fields(store_mark(k, 3), l, m, r),
-        Action::Set(l) => fields(5, l, 0, 0),
-        Action::Perform(o) => fields(6, o, 0, 0),
-        Action::Goto(s) => fields(7, s, 0, 0),
-        Action::Call(s) => fields(8, s, 0, 0),
-        Action::Return => fields(9, 0, 0, 0),
-        Action::When(c, x) => fields(10, c, x, 0),
-        Action::Choose(c, n, x) => fields(11, c, n, x),
-        Action::Arm(x) => fields(12, x, 0, 0),
+        Action::Store(k, l, r) => fields(store_mark(k, marks::STORE), l, r, 0),
+        Action::StorePair(k, l, m, r) => fields(store_mark(k, marks::PAIR), l, m, r),
+        Action::Set(l) => fields(marks::SET, l, 0, 0),
+        Action::Perform(o) => fields(marks::PERFORM, o, 0, 0),
+        Action::Goto(s) => fields(marks::GOTO, s, 0, 0),
+        Action::Call(s) => fields(marks::CALL, s, 0, 0),
+        Action::Return => fields(marks::RETURN, 0, 0, 0),
+        Action::When(c, x) => fields(marks::WHEN, c, x, 0),
+        Action::Choose(c, n, x) => fields(marks::CHOOSE, c, n, x),
+        Action::Arm(x) => fields(marks::ARM, x, 0, 0),
         Action::Broken => fields(0, 0, 0, 0),
     }
 }
 
 // Whether record n has the bytes that writing gives it.
 pub fn action_right(acts: &[u8], n: usize) -> bool
-    ensures { λ r. ⌜ r ≡ same (take 7 (drop (7 * n) (now (acts .entry)))) (actionBytes (actionOf (now (acts .entry)) n)) ⌝ }
+    ensures { λ r. ⌜ r ≡ same (take actionSize (drop (actionSize * n) (now (acts .entry)))) (actionBytes (actionOf (now (acts .entry)) n)) ⌝ }
 {
-    if acts.len() / 7 <= n {
+    if acts.len() / record_sizes::ACTION <= n {
         return false;
     }
     let written = action_bytes(actions::action_at(acts, n));
-    bytes::stand(acts, 7 * n, &written)
+    bytes::stand(acts, record_sizes::ACTION * n, &written)
 }

@@ -1,5 +1,7 @@
 // A record of the actions, read from its bytes.
+use crate::marks;
 use crate::numbers;
+use crate::record_sizes;
 ghost use mathlib.Core.Path.{_≡_};
 ghost use Rattle.language.specs.Decode.{actionOf, actionWith};
 ghost use Rattle.image_records.specs.Actions.{meant};
@@ -25,18 +27,18 @@ fn action_with(mark: u8, a: u16, b: u16, c: u16) -> Action
     ensures { λ r. ⌜ meant r ≡ actionWith mark a b c ⌝ }
 {
     match mark {
-        1 => Action::Store(text_kinds::DELAYED, a, b),
-        2 => Action::Store(text_kinds::EQUAL, a, b),
-        3 => Action::StorePair(text_kinds::DELAYED, a, b, c),
-        4 => Action::StorePair(text_kinds::EQUAL, a, b, c),
-        5 => Action::Set(a),
-        6 => Action::Perform(a),
-        7 => Action::Goto(a),
-        8 => Action::Call(a),
-        9 => Action::Return,
-        10 => Action::When(a, b),
-        11 => Action::Choose(a, b, c),
-        12 => Action::Arm(a),
+        marks::STORE => Action::Store(text_kinds::DELAYED, a, b),
+        marks::IMMEDIATE_STORE => Action::Store(text_kinds::EQUAL, a, b),
+        marks::PAIR => Action::StorePair(text_kinds::DELAYED, a, b, c),
+        marks::IMMEDIATE_PAIR => Action::StorePair(text_kinds::EQUAL, a, b, c),
+        marks::SET => Action::Set(a),
+        marks::PERFORM => Action::Perform(a),
+        marks::GOTO => Action::Goto(a),
+        marks::CALL => Action::Call(a),
+        marks::RETURN => Action::Return,
+        marks::WHEN => Action::When(a, b),
+        marks::CHOOSE => Action::Choose(a, b, c),
+        marks::ARM => Action::Arm(a),
         _ => Action::Broken,
     }
 }
@@ -45,10 +47,10 @@ fn action_with(mark: u8, a: u16, b: u16, c: u16) -> Action
 pub fn action_at(acts: &[u8], n: usize) -> Action
     ensures { λ r. ⌜ meant r ≡ actionOf (now (acts .entry)) n ⌝ }
 {
-    if acts.len() / 7 <= n {
+    if acts.len() / record_sizes::ACTION <= n {
         return Action::Broken;
     }
-    let at = 7 * n;
+    let at = record_sizes::ACTION * n;
     let a = numbers::two_there(acts, at + 1);
     let b = numbers::two_there(acts, at + 3);
     let c = numbers::two_there(acts, at + 5);

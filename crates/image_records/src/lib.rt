@@ -3,6 +3,8 @@ pub mod action_bytes;
 pub mod actions;
 pub mod bytes;
 pub mod constants;
+pub mod marks;
 pub mod node_bytes;
 pub mod nodes;
 pub mod numbers;
+pub mod record_sizes;

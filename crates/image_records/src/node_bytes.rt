@@ -1,18 +1,37 @@
 // The bytes of an expression's record: as they are written, and whether they stand there.
 use crate::bytes;
+use crate::marks;
 use crate::nodes;
 use crate::nodes::Node;
 use crate::numbers;
+use crate::record_sizes;
 ghost use mathlib.Core.Path.{_≡_};
 ghost use Prim.Native.Nat.{_-_, _*_, _%_};
 ghost use lib.ListN.{take, drop};
 ghost use Rattle.language.specs.Decode.{nodeOf};
-ghost use Rattle.language.specs.Encode.{digitRecord, nodeBytes, nodeRecord};
+ghost use Rattle.language.specs.Encode.{digitRecord, nodeBytes, nodeRecord, nodeSize};
 ghost use Rattle.language.specs.Scan.{same};
 ghost use Rattle.image_records.specs.Nodes.{meant};
 
+// The marks beside which operators' find room.
+const WHOLE: u16 = marks::WHOLE as u16;
+
+const ONE: u16 = marks::ONE as u16;
+
+const PART: u16 = marks::PART as u16;
+
+const TWO: u16 = marks::TWO as u16;
+
+const WORD_PART: u16 = marks::WORD_PART as u16;
+
+const FIRST_ARM: u16 = marks::FIRST_ARM as u16;
+
+const NEXT_ARM: u16 = marks::NEXT_ARM as u16;
+
+const CHOICE: u16 = marks::CHOICE as u16;
+
 // A mark, a byte, and three numbers.
-fn fields(mark: u16, x: u8, a: u16, b: u16, c: u16) -> [u8; 8]
+fn fields(mark: u16, x: u8, a: u16, b: u16, c: u16) -> [u8; record_sizes::NODE]
     ensures { λ r. ⌜ r ≡ nodeRecord mark x a b c ⌝ }
 {
     let m = numbers::low(mark);
@@ -26,7 +45,7 @@ fn fields(mark: u16, x: u8, a: u16, b: u16, c: u16) -> [u8; 8]
 }
 
 // A mark, a byte, and a number in six bytes.
-fn digit_record(mark: u8, x: u8, n: u64) -> [u8; 8]
+fn digit_record(mark: u8, x: u8, n: u64) -> [u8; record_sizes::NODE]
     ensures { λ r. ⌜ r ≡ digitRecord mark x n ⌝ }
 {
     let n1 = n / 256;
@@ -51,35 +70,35 @@ fn length_field(l: u16) -> u8
 }
 
 // The bytes of a record; v is a constant's number, or its low 64 bits.
-pub fn node_bytes(node: Node, v: u64) -> [u8; 8]
+pub fn node_bytes(node: Node, v: u64) -> [u8; record_sizes::NODE]
     ensures { λ r. ⌜ r ≡ nodeBytes (meant v node) ⌝ }
 {
     match node {
-        Node::Constant(l) => digit_record(1, length_field(l), v % 0x1000000000000),
-        Node::More(d) => digit_record(2, 0, d),
-        Node::Whole(f) => fields(3, f, 0, 0, 0),
-        Node::One(f, e) => fields(4, f, e, 0, 0),
-        Node::Part(f, a, b) => fields(5, f, a, b, 0),
-        Node::Two(f, e, g) => fields(6, f, e, g, 0),
-        Node::WordPart(f, e, a, b) => fields(7, f, e, a, b),
-        Node::FirstArm(e) => fields(8, 0, e, 0, 0),
-        Node::NextArm(a, e) => fields(9, 0, a, e, 0),
-        Node::Choice(e, a, n) => fields(10, 0, e, a, n),
-        Node::Binary(k, a, b) => fields(64 + k as u16, 0, a, b, 0),
-        Node::Prefix(k, a) => fields(128 + k as u16, 0, a, 0, 0),
-        Node::Cut(k, a, c) => fields(192 + k as u16, 0, a, c, 0),
+        Node::Constant(l) => digit_record(marks::CONSTANT, length_field(l), v % 0x1000000000000),
+        Node::More(d) => digit_record(marks::MORE, 0, d),
+        Node::Whole(f) => fields(WHOLE, f, 0, 0, 0),
+        Node::One(f, e) => fields(ONE, f, e, 0, 0),
+        Node::Part(f, a, b) => fields(PART, f, a, b, 0),
+        Node::Two(f, e, g) => fields(TWO, f, e, g, 0),
+        Node::WordPart(f, e, a, b) => fields(WORD_PART, f, e, a, b),
+        Node::FirstArm(e) => fields(FIRST_ARM, 0, e, 0, 0),
+        Node::NextArm(a, e) => fields(NEXT_ARM, 0, a, e, 0),
+        Node::Choice(e, a, n) => fields(CHOICE, 0, e, a, n),
+        Node::Binary(k, a, b) => fields(marks::BINARY + k as u16, 0, a, b, 0),
+        Node::Prefix(k, a) => fields(marks::PREFIX + k as u16, 0, a, 0, 0),
+        Node::Cut(k, a, c) => fields(marks::CUT + k as u16, 0, a, c, 0),
         Node::Broken => fields(0, 0, 0, 0, 0),
     }
 }
 
 // Whether record n has the bytes that writing gives it.
 pub fn node_right(exprs: &[u8], n: usize) -> bool
-    ensures { λ r. ⌜ r ≡ same (take 8 (drop (8 * n) (now (exprs .entry)))) (nodeBytes (nodeOf (now (exprs .entry)) n)) ⌝ }
+    ensures { λ r. ⌜ r ≡ same (take nodeSize (drop (nodeSize * n) (now (exprs .entry)))) (nodeBytes (nodeOf (now (exprs .entry)) n)) ⌝ }
 {
-    if exprs.len() / 8 <= n {
+    if exprs.len() / record_sizes::NODE <= n {
         return false;
     }
-    let at = 8 * n;
+    let at = record_sizes::NODE * n;
     let written = node_bytes(nodes::node_at(exprs, n), numbers::six(exprs, at + 2));
     bytes::stand(exprs, at, &written)
 }

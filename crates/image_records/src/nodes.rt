@@ -1,6 +1,8 @@
 // A record of the expressions, read from its bytes.
 use crate::constants;
+use crate::marks;
 use crate::numbers;
+use crate::record_sizes;
 ghost use mathlib.Core.Path.{_≡_};
 ghost use Prim.Native.Nat.{ℕ};
 ghost use Rattle.language.specs.Decode.{nodeOf, operatorOf, plainNode};
@@ -34,7 +36,7 @@ fn operator_of(mark: u8, a: u16, b: u16) -> Node
     match mark / 64 {
         1 => Node::Binary(kind, a, b),
         2 => Node::Prefix(kind, a),
-        3 => Node::Cut(kind, a, b),
+        marks::WHOLE => Node::Cut(kind, a, b),
         _ => Node::Broken,
     }
 }
@@ -44,14 +46,14 @@ fn plain_node(mark: u8, x: u8, a: u16, b: u16, c: u16) -> Node
     ensures { λ r. ⌜ ((v : ℕ) → meant v r ≡ plainNode mark x a b c) ⌝ }
 {
     match mark {
-        3 => Node::Whole(x),
-        4 => Node::One(x, a),
-        5 => Node::Part(x, a, b),
-        6 => Node::Two(x, a, b),
-        7 => Node::WordPart(x, a, b, c),
-        8 => Node::FirstArm(a),
-        9 => Node::NextArm(a, b),
-        10 => Node::Choice(a, b, c),
+        marks::WHOLE => Node::Whole(x),
+        marks::ONE => Node::One(x, a),
+        marks::PART => Node::Part(x, a, b),
+        marks::TWO => Node::Two(x, a, b),
+        marks::WORD_PART => Node::WordPart(x, a, b, c),
+        marks::FIRST_ARM => Node::FirstArm(a),
+        marks::NEXT_ARM => Node::NextArm(a, b),
+        marks::CHOICE => Node::Choice(a, b, c),
         _ => operator_of(mark, a, b),
     }
 }
@@ -60,20 +62,20 @@ fn plain_node(mark: u8, x: u8, a: u16, b: u16, c: u16) -> Node
 pub fn node_at(exprs: &[u8], n: usize) -> Node
     ensures { λ r. ⌜ meant (constantNumber n (now (exprs .entry))) r ≡ nodeOf (now (exprs .entry)) n ⌝ }
 {
-    if exprs.len() / 8 <= n {
+    if exprs.len() / record_sizes::NODE <= n {
         return Node::Broken;
     }
-    let at = 8 * n;
+    let at = record_sizes::NODE * n;
     let mark = exprs[at];
     let x = exprs[at + 1];
     match mark {
-        1 => {
+        marks::CONSTANT => {
             if constants::digits_marked(exprs, n, x / 48) {
                 return Node::Constant(x as u16 + 1);
             }
             Node::Broken
         }
-        2 => Node::More(numbers::six_there(exprs, at + 2)),
+        marks::MORE => Node::More(numbers::six_there(exprs, at + 2)),
         _ => {
             let a = numbers::two_there(exprs, at + 2);
             let b = numbers::two_there(exprs, at + 4);

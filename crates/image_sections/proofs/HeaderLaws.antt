@@ -13,7 +13,7 @@ use lib.ListN.{drop, drop-of-length-le, getD, length, take}
 use lib.Pow.{pow-pos}
 use lib.Seq.{length-take-le, take-suc}
 use Rattle.language.specs.Decode.{numberAt}
-use Rattle.language.specs.Encode.{four, little}
+use Rattle.language.specs.Encode.{four, headerSize, lengthField, little}
 use Rattle.language.specs.RecordBytes.{fours}
 use Rattle.language.specs.Scan.{same}
 use Rattle.image_records.proofs.ByteLaws.{placed-more, placed-whole}
@@ -57,7 +57,7 @@ pub header-length : (c : Counts) → length (headerNumbers c) ≡ 13
 unfolding headerNumbers
 header-length c = refl
 
-pub header-bytes : (c : Counts) → length (fours (headerNumbers c)) ≡ 52
+pub header-bytes : (c : Counts) → length (fours (headerNumbers c)) ≡ headerSize
 header-bytes c = fours-length (headerNumbers c) ∙ rw (header-length c)
 
 pub total-first : (c : Counts) → getD (headerNumbers c) 0 0 ≡ totalOf c
@@ -76,11 +76,11 @@ module _ (s : List ℕ) where
   unfolding headerRight
   right-short h = rw (lt-leb _ _ h)
 
-  pub right-other : totalOf (countsIn s) ≤ length s → (numberAt 4 0 s ≡ totalOf (countsIn s) → ⊥) → headerRight s ≡ false
+  pub right-other : totalOf (countsIn s) ≤ length s → (numberAt 4 lengthField s ≡ totalOf (countsIn s) → ⊥) → headerRight s ≡ false
   unfolding headerRight
   right-other h d = rw (le-leb _ _ h, ne-eqb _ _ d)
 
-  pub right-same : totalOf (countsIn s) ≤ length s → numberAt 4 0 s ≡ totalOf (countsIn s)
-      → headerRight s ≡ same (take 52 (drop 0 s)) (fours (headerNumbers (countsIn s)))
+  pub right-same : totalOf (countsIn s) ≤ length s → numberAt 4 lengthField s ≡ totalOf (countsIn s)
+      → headerRight s ≡ same (take headerSize (drop 0 s)) (fours (headerNumbers (countsIn s)))
   unfolding headerRight
   right-same h e = rw (le-leb _ _ h, eq-eqb _ _ e)

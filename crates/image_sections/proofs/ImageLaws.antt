@@ -9,7 +9,7 @@ use lib.Dec.{eqb, leb}
 use lib.ListN.{drop, getD, length, take, length-append, length-drop, length-take}
 use lib.Seq.{drop-at, getD-take, length-take-le, take-add, take-at, take-take}
 use Rattle.language.specs.Decode.{numberAt, sectionsIn}
-use Rattle.language.specs.Encode.{Sections, four, imageOf, little}
+use Rattle.language.specs.Encode.{Sections, actionSize, facilitySize, four, headerSize, imageOf, lengthField, little, nodeSize, operationSize, stateSize}
 use Rattle.language.specs.RecordBytes.{fours}
 use Rattle.language.specs.Scan.{same}
 use Rattle.image_records.proofs.ByteLaws.{same-of, same-true}
@@ -20,11 +20,11 @@ use Rattle.image_sections.specs.declared.header.Counts.{Counts}
 
 -- The sections have as many whole records as the counts say.
 pub record Sized (x : Sections) (c : Counts) : Type 0 where
-  pub facilities : length (x .facilities) ≡ 13 * c .facilities
-  pub operations : length (x .operations) ≡ 5 * c .operations
-  pub expressions : length (x .expressions) ≡ 8 * c .expressions
-  pub actions : length (x .actions) ≡ 7 * c .actions
-  pub states : length (x .states) ≡ 7 * c .states
+  pub facilities : length (x .facilities) ≡ facilitySize * c .facilities
+  pub operations : length (x .operations) ≡ operationSize * c .operations
+  pub expressions : length (x .expressions) ≡ nodeSize * c .expressions
+  pub actions : length (x .actions) ≡ actionSize * c .actions
+  pub states : length (x .states) ≡ stateSize * c .states
   pub names : length (x .names) ≡ c .names
 
 abbrev pub bodyOf : Sections → List ℕ
@@ -34,11 +34,11 @@ bodyOf x = x .facilities ++ (x .operations ++ (x .expressions ++ (x .actions ++ 
 pub image-header : (x : Sections) (c : Counts) → Sized x c → imageOf x ≡ fours (headerNumbers c) ++ bodyOf x
 unfolding imageOf headerNumbers fours little
 image-header x c z =
-    let f : 13 * c .facilities / 13 ≡ c .facilities = omega arith in
-    let o : 5 * c .operations / 5 ≡ c .operations = omega arith in
-    let e : 8 * c .expressions / 8 ≡ c .expressions = omega arith in
-    let a : 7 * c .actions / 7 ≡ c .actions = omega arith in
-    let s : 7 * c .states / 7 ≡ c .states = omega arith in
+    let f : facilitySize * c .facilities / facilitySize ≡ c .facilities = omega arith in
+    let o : operationSize * c .operations / operationSize ≡ c .operations = omega arith in
+    let e : nodeSize * c .expressions / nodeSize ≡ c .expressions = omega arith in
+    let a : actionSize * c .actions / actionSize ≡ c .actions = omega arith in
+    let s : stateSize * c .states / stateSize ≡ c .states = omega arith in
     let n : c .names / 1 ≡ c .names = omega arith in
     rw (z .facilities, z .operations, z .expressions, z .actions, z .states, z .names, f, o, e, a, s, n)
 
@@ -64,12 +64,12 @@ fours-back (x ∷ ns) s at (suc j) h f g =
 
 -- ---- From a header that stands to the sections.
 
-module _ (s : List ℕ) (c : Counts) (stands : take 52 s ≡ fours (headerNumbers c)) where
-  byte : (i : ℕ) → i < 52 → getD s (0 + i) 0 ≡ getD (fours (headerNumbers c)) i 0
-  byte i h = let e : 0 + i ≡ i = omega arith in rw e (sym (getD-take 52 s i 0 h) ∙ ap (λ (l : List ℕ). getD l i 0) stands)
+module _ (s : List ℕ) (c : Counts) (stands : take headerSize s ≡ fours (headerNumbers c)) where
+  byte : (i : ℕ) → i < headerSize → getD s (0 + i) 0 ≡ getD (fours (headerNumbers c)) i 0
+  byte i h = let e : 0 + i ≡ i = omega arith in rw e (sym (getD-take headerSize s i 0 h) ∙ ap (λ (l : List ℕ). getD l i 0) stands)
 
   -- The total is what fits four bytes.
-  pub total-below : numberAt 4 0 s < 2 ^ 32
+  pub total-below : numberAt 4 lengthField s < 2 ^ 32
   unfolding numberAt fours little headerNumbers
   total-below =
       let b0 : getD s 0 0 ≡ totalOf c % 256 = byte 0 (omega arith) in
@@ -83,7 +83,7 @@ module _ (s : List ℕ) (c : Counts) (stands : take 52 s ≡ fours (headerNumber
     unfolding headerNumbers
     number-of j h g = fours-back (headerNumbers c) s 0 j h byte g
 
-    pub total-is : numberAt 4 0 s ≡ totalOf c
+    pub total-is : numberAt 4 lengthField s ≡ totalOf c
     unfolding headerNumbers
     total-is = number-of 0 (omega arith) below
 
@@ -101,11 +101,11 @@ module _ (s : List ℕ) (c : Counts) (stands : take 52 s ≡ fours (headerNumber
     -- The sections stand one after the other.
     abbrev cut : Sections
     cut = record {
-      facilities = take (13 * c .facilities) (drop 52 s);
-      operations = take (5 * c .operations) (drop (operationsFrom c) s);
-      expressions = take (8 * c .expressions) (drop (expressionsFrom c) s);
-      actions = take (7 * c .actions) (drop (actionsFrom c) s);
-      states = take (7 * c .states) (drop (statesFrom c) s);
+      facilities = take (facilitySize * c .facilities) (drop headerSize s);
+      operations = take (operationSize * c .operations) (drop (operationsFrom c) s);
+      expressions = take (nodeSize * c .expressions) (drop (expressionsFrom c) s);
+      actions = take (actionSize * c .actions) (drop (actionsFrom c) s);
+      states = take (stateSize * c .states) (drop (statesFrom c) s);
       names = take (1 * c .names) (drop (namesFrom c) s);
     }
 
@@ -118,7 +118,7 @@ module _ (s : List ℕ) (c : Counts) (stands : take 52 s ≡ fours (headerNumber
         let a : numberAt 4 28 s ≡ c .actions = number-of 7 (omega arith) (omega arith) in
         let t : numberAt 4 36 s ≡ c .states = number-of 9 (omega arith) (omega arith) in
         let n : numberAt 4 44 s ≡ c .names = number-of 11 (omega arith) (omega arith) in
-        let f2 : numberAt 4 8 s ≡ 52 = number-of 2 (omega arith) (omega arith) in
+        let f2 : numberAt 4 8 s ≡ headerSize = number-of 2 (omega arith) (omega arith) in
         let o2 : numberAt 4 16 s ≡ operationsFrom c = number-of 4 (omega arith) (omega arith) in
         let e2 : numberAt 4 24 s ≡ expressionsFrom c = number-of 6 (omega arith) (omega arith) in
         let a2 : numberAt 4 32 s ≡ actionsFrom c = number-of 8 (omega arith) (omega arith) in
@@ -132,11 +132,11 @@ module _ (s : List ℕ) (c : Counts) (stands : take 52 s ≡ fours (headerNumber
 
       cut-sized : Sized cut c
       cut-sized = record {
-        facilities = run (13 * c .facilities) 52 (omega arith);
-        operations = run (5 * c .operations) (operationsFrom c) (omega arith);
-        expressions = run (8 * c .expressions) (expressionsFrom c) (omega arith);
-        actions = run (7 * c .actions) (actionsFrom c) (omega arith);
-        states = run (7 * c .states) (statesFrom c) (omega arith);
+        facilities = run (facilitySize * c .facilities) headerSize (omega arith);
+        operations = run (operationSize * c .operations) (operationsFrom c) (omega arith);
+        expressions = run (nodeSize * c .expressions) (expressionsFrom c) (omega arith);
+        actions = run (actionSize * c .actions) (actionsFrom c) (omega arith);
+        states = run (stateSize * c .states) (statesFrom c) (omega arith);
         names = run (1 * c .names) (namesFrom c) (omega arith) ∙ omega arith;
       }
 
@@ -145,11 +145,11 @@ module _ (s : List ℕ) (c : Counts) (stands : take 52 s ≡ fours (headerNumber
           let e : c .names ≡ 1 * c .names = omega arith in
           take-add (namesFrom c) (c .names) s
           ∙ rw (
-            take-add (statesFrom c) (7 * c .states) s,
-            take-add (actionsFrom c) (7 * c .actions) s,
-            take-add (expressionsFrom c) (8 * c .expressions) s,
-            take-add (operationsFrom c) (5 * c .operations) s,
-            take-add 52 (13 * c .facilities) s,
+            take-add (statesFrom c) (stateSize * c .states) s,
+            take-add (actionsFrom c) (actionSize * c .actions) s,
+            take-add (expressionsFrom c) (nodeSize * c .expressions) s,
+            take-add (operationsFrom c) (operationSize * c .operations) s,
+            take-add 52 (facilitySize * c .facilities) s,
             stands,
             ← e,
           )
@@ -169,24 +169,24 @@ refused s p q = true≢false (sym p ∙ q)
 -- What the test says of an image.
 pub record Right (s : List ℕ) : Type 0 where
   pub long : totalOf (countsIn s) ≤ length s
-  pub total : numberAt 4 0 s ≡ totalOf (countsIn s)
-  pub stands : take 52 s ≡ fours (headerNumbers (countsIn s))
+  pub total : numberAt 4 lengthField s ≡ totalOf (countsIn s)
+  pub stands : take headerSize s ≡ fours (headerNumbers (countsIn s))
 
 pub right-parts : (s : List ℕ) → headerRight s ≡ true → Right s
 right-parts s p = by-length (leb (totalOf (countsIn s)) (length s)) refl
   where
-    by-total : totalOf (countsIn s) ≤ length s → (b : Bool) → eqb (numberAt 4 0 s) (totalOf (countsIn s)) ≡ b → Right s
+    by-total : totalOf (countsIn s) ≤ length s → (b : Bool) → eqb (numberAt 4 lengthField s) (totalOf (countsIn s)) ≡ b → Right s
     by-total h true t =
-        let e = eqb-true (numberAt 4 0 s) (totalOf (countsIn s)) t in
-        record { long = h; total = e; stands = same-true (take 52 s) (fours (headerNumbers (countsIn s))) (sym (right-same s h e) ∙ p) }
-    by-total h false t = absurd (refused s p (right-other s h (eqb-false (numberAt 4 0 s) (totalOf (countsIn s)) t)))
+        let e = eqb-true (numberAt 4 lengthField s) (totalOf (countsIn s)) t in
+        record { long = h; total = e; stands = same-true (take headerSize s) (fours (headerNumbers (countsIn s))) (sym (right-same s h e) ∙ p) }
+    by-total h false t = absurd (refused s p (right-other s h (eqb-false (numberAt 4 lengthField s) (totalOf (countsIn s)) t)))
 
     by-length : (b : Bool) → leb (totalOf (countsIn s)) (length s) ≡ b → Right s
-    by-length true t = by-total (leb-true _ _ t) (eqb (numberAt 4 0 s) (totalOf (countsIn s))) refl
+    by-length true t = by-total (leb-true _ _ t) (eqb (numberAt 4 lengthField s) (totalOf (countsIn s))) refl
     by-length false t = absurd (refused s p (right-short s (leb-false _ _ t)))
 
 -- The bytes up to the total length are the image of the sections.
-pub header-sound : (s : List ℕ) → headerRight s ≡ true → take (numberAt 4 0 s) s ≡ imageOf (sectionsIn s)
+pub header-sound : (s : List ℕ) → headerRight s ≡ true → take (numberAt 4 lengthField s) s ≡ imageOf (sectionsIn s)
 header-sound s p =
     let r = right-parts s p in
     let b : totalOf (countsIn s) < 2 ^ 32 = rw (r .total) at (total-below s (countsIn s) (r .stands)) in
@@ -248,14 +248,14 @@ module _ (s : List ℕ) (x : Sections) (c : Counts) (z : Sized x c) (below : tot
 
   whole-long : totalOf c ≤ length s
   whole-long =
-      let l : length (bodyOf x) ≡ totalOf c - 52 =
+      let l : length (bodyOf x) ≡ totalOf c - headerSize =
       simp (length-append, z .facilities, z .operations, z .expressions, z .actions, z .states, z .names) (omega arith) in
-      let k : length (fours (headerNumbers c) ++ bodyOf x) ≡ 52 + length (bodyOf x) = length-append (fours (headerNumbers c)) (bodyOf x) ∙ rw (header-bytes c) in
+      let k : length (fours (headerNumbers c) ++ bodyOf x) ≡ headerSize + length (bodyOf x) = length-append (fours (headerNumbers c)) (bodyOf x) ∙ rw (header-bytes c) in
       omega (arith, length-take (totalOf c) s, ap length whole)
 
-  whole-stands : take 52 s ≡ fours (headerNumbers c)
+  whole-stands : take headerSize s ≡ fours (headerNumbers c)
   whole-stands =
-      sym (take-take 52 (totalOf c) s (omega arith)) ∙ ap (take 52) whole ∙ take-at (fours (headerNumbers c)) (bodyOf x) 52 (header-bytes c)
+      sym (take-take headerSize (totalOf c) s (omega arith)) ∙ ap (take headerSize) whole ∙ take-at (fours (headerNumbers c)) (bodyOf x) headerSize (header-bytes c)
 
   -- The image of sections has the right header.
   pub header-complete : headerRight s ≡ true

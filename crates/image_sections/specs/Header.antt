@@ -4,20 +4,29 @@ use mathlib.Core.List.{List, [], _∷_}
 use Prim.Native.Nat.{ℕ, _+_, _*_}
 use lib.Dec.{eqb, leb}
 use lib.ListN.{drop, length, take}
-use Rattle.language.specs.Decode.{countOf, numberAt}
-use Rattle.language.specs.Encode.{actionSize, facilitySize, headerSize, nodeSize, operationSize, stateSize}
+use Rattle.language.specs.Decode.{countOf, numberAt, pick}
+use Rattle.language.specs.Encode.{actionSize, actionsSection, expressionsSection, facilitiesSection, facilitySize, headerSize, lengthField, nameSize, namesSection, nodeSize, operationSize, operationsSection, stateSize, statesSection}
 use Rattle.language.specs.RecordBytes.{fours}
 use Rattle.language.specs.Scan.{same}
 use Rattle.image_sections.specs.declared.header.Counts.{Counts}
 
+-- How many bytes a record of section k has.
+abbrev pub sizeIn : ℕ → ℕ
+sizeIn k =
+    pick (eqb k facilitiesSection) facilitySize
+    (pick (eqb k operationsSection) operationSize
+    (pick (eqb k expressionsSection) nodeSize
+    (pick (eqb k actionsSection) actionSize
+    (pick (eqb k statesSection) stateSize nameSize))))
+
 unfoldable pub countsIn : List ℕ → Counts
 countsIn s = record {
-  facilities = countOf 0 s;
-  operations = countOf 1 s;
-  expressions = countOf 2 s;
-  actions = countOf 3 s;
-  states = countOf 4 s;
-  names = countOf 5 s;
+  facilities = countOf facilitiesSection s;
+  operations = countOf operationsSection s;
+  expressions = countOf expressionsSection s;
+  actions = countOf actionsSection s;
+  states = countOf statesSection s;
+  names = countOf namesSection s;
 }
 
 -- ---- Where the sections begin, one after the other behind the header.
@@ -56,4 +65,4 @@ headerNumbers c =
 unfoldable pub headerRight : List ℕ → Bool
 headerRight s =
     let c = countsIn s in
-    cond (leb (totalOf c) (length s)) (cond (eqb (numberAt 4 0 s) (totalOf c)) (same (take headerSize (drop 0 s)) (fours (headerNumbers c))) false) false
+    cond (leb (totalOf c) (length s)) (cond (eqb (numberAt 4 lengthField s) (totalOf c)) (same (take headerSize (drop 0 s)) (fours (headerNumbers c))) false) false

@@ -1,5 +1,6 @@
 // A facility's record; its name stands elsewhere.
 use image_records::numbers;
+use image_records::record_sizes;
 ghost use mathlib.Core.Path.{_≡_};
 ghost use Prim.Native.Nat.{_+_, _≤_};
 ghost use lib.ListN.{length};
@@ -91,10 +92,10 @@ fn no_facility() -> Facility
 pub fn facility_at(facilities: &[u8], n: usize) -> Facility
     ensures { λ r. ⌜ FacilityRead (now (facilities .entry)) n r ⌝ }
 {
-    if facilities.len() / 13 <= n {
+    if facilities.len() / record_sizes::FACILITY <= n {
         return no_facility();
     }
-    let at = 13 * n;
+    let at = record_sizes::FACILITY * n;
     let kind = kind_of(facilities[at]);
     let words = bounds_at(facilities, at + 3);
     let bits = bounds_at(facilities, at + 7);
@@ -102,7 +103,7 @@ pub fn facility_at(facilities: &[u8], n: usize) -> Facility
     Facility {
         kind,
         dimensions: facilities[at + 1],
-        name: facilities[at + 2],
+        name: facilities[at + record_sizes::FACILITY_NAME],
         words,
         bits,
         place,

@@ -4,12 +4,13 @@ use crate::facilities::Facility;
 use crate::kinds;
 use image_records::bytes;
 use image_records::numbers;
+use image_records::record_sizes;
 ghost use mathlib.Core.Bool.{cond};
 ghost use mathlib.Core.Path.{_≡_};
 ghost use Prim.Native.Nat.{_*_};
 ghost use lib.ListN.{drop, length, take};
 ghost use Rattle.language.specs.Description.{isComputed};
-ghost use Rattle.language.specs.Encode.{facilityRecord};
+ghost use Rattle.language.specs.Encode.{facilityRecord, facilitySize};
 ghost use Rattle.language.specs.Scan.{same};
 ghost use Rattle.language.specs.Tree.{Name};
 ghost use Rattle.image_sections.specs.Declarations.{facilityIn, facilityMeant, kindMeant, nameLengthIn};
@@ -27,7 +28,7 @@ fn located(f: Facility, place: u32) -> u32
 }
 
 // The bytes of a record, for the place in the store that the layout gives.
-pub fn facility_bytes(f: Facility, place: u32) -> [u8; 13]
+pub fn facility_bytes(f: Facility, place: u32) -> [u8; record_sizes::FACILITY]
     ensures { λ r. ⌜ ((name : Name) → length name ≡ f .name → r ≡ facilityRecord place (facilityMeant name f)) ⌝ }
 {
     let kind = f.kind;
@@ -64,11 +65,11 @@ pub fn facility_bytes(f: Facility, place: u32) -> [u8; 13]
 
 // Whether record n has the bytes that writing gives it at that place in the store.
 pub fn facility_right(facilities: &[u8], n: usize, place: u32) -> bool
-    ensures { λ r. ⌜ ((name : Name) → length name ≡ nameLengthIn 13 2 (now (facilities .entry)) n → r ≡ same (take 13 (drop (13 * n) (now (facilities .entry)))) (facilityRecord place (facilityIn (now (facilities .entry)) n name))) ⌝ }
+    ensures { λ r. ⌜ ((name : Name) → length name ≡ nameLengthIn facilitySize 2 (now (facilities .entry)) n → r ≡ same (take facilitySize (drop (facilitySize * n) (now (facilities .entry)))) (facilityRecord place (facilityIn (now (facilities .entry)) n name))) ⌝ }
 {
-    if facilities.len() / 13 <= n {
+    if facilities.len() / record_sizes::FACILITY <= n {
         return false;
     }
     let written = facility_bytes(facilities::facility_at(facilities, n), place);
-    bytes::stand(facilities, 13 * n, &written)
+    bytes::stand(facilities, record_sizes::FACILITY * n, &written)
 }

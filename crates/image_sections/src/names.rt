@@ -4,10 +4,20 @@ use crate::operations;
 use crate::states;
 use image_records::bytes;
 use image_records::numbers;
+use image_records::record_sizes;
 ghost use mathlib.Core.Path.{_≡_};
 ghost use Prim.Native.Nat.{_*_, _≤_};
 ghost use Rattle.language.specs.Decode.{namesLength};
 ghost use Rattle.image_sections.specs.Names.{facilityPart, named, partMeant, statePart};
+
+// The sizes of records with names, and where a facility's has the length of its name.
+pub const FACILITY: u8 = record_sizes::FACILITY as u8;
+
+pub const OPERATION: u8 = record_sizes::OPERATION as u8;
+
+pub const STATE: u8 = record_sizes::STATE as u8;
+
+pub const FACILITY_NAME: u8 = record_sizes::FACILITY_NAME as u8;
 
 // Where a name stands among the names.
 pub struct Part {
@@ -36,7 +46,7 @@ pub fn facility_part(facilities: &[u8], n: u32) -> Part
 {
     let f = facilities::facility_at(facilities, n as usize);
     Part {
-        offset: names_length(facilities, n, 2, 13),
+        offset: names_length(facilities, n, FACILITY_NAME, FACILITY),
         length: f.name as usize,
     }
 }
@@ -52,11 +62,11 @@ pub fn state_part(
 ) -> Part
     ensures { λ r. ⌜ partMeant r ≡ statePart (now (facilities .entry)) count (now (operations .entry)) more (now (states .entry)) n ⌝ }
 {
-    let before = names_length(facilities, count, 2, 13);
-    let between = names_length(operations, more, 0, 5);
+    let before = names_length(facilities, count, FACILITY_NAME, FACILITY);
+    let between = names_length(operations, more, 0, OPERATION);
     let s = states::state_at(states, n as usize);
     Part {
-        offset: before + between + names_length(states, n, 0, 7),
+        offset: before + between + names_length(states, n, 0, STATE),
         length: s.name as usize,
     }
 }

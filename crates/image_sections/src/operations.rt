@@ -2,8 +2,8 @@
 use crate::runs;
 use crate::runs::Run;
 use image_records::numbers;
+use image_records::record_sizes;
 ghost use mathlib.Core.Path.{_≡_};
-ghost use Prim.Native.Nat.{_*_};
 ghost use lib.ListN.{length};
 ghost use Rattle.language.specs.Encode.{operationRecord};
 ghost use Rattle.language.specs.Tree.{Name};
@@ -19,14 +19,14 @@ pub struct Operation {
 pub fn operation_at(operations: &[u8], n: usize) -> Operation
     ensures { λ r. ⌜ OperationRead (now (operations .entry)) n r ⌝ }
 {
-    if operations.len() / 5 <= n {
+    if operations.len() / record_sizes::OPERATION <= n {
         let none = Run { first: 0, count: 0 };
         return Operation {
             name: 0,
             body: none,
         };
     }
-    let at = 5 * n;
+    let at = record_sizes::OPERATION * n;
     let body = runs::run_at(operations, at + 1);
     Operation {
         name: operations[at],
@@ -35,7 +35,7 @@ pub fn operation_at(operations: &[u8], n: usize) -> Operation
 }
 
 // The bytes of a record.
-pub fn operation_bytes(o: Operation) -> [u8; 5]
+pub fn operation_bytes(o: Operation) -> [u8; record_sizes::OPERATION]
     ensures { λ r. ⌜ ((name : Name) → length name ≡ o .name → r ≡ operationRecord (operationMeant name o)) ⌝ }
 {
     let body = o.body;

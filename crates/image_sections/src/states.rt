@@ -2,8 +2,8 @@
 use crate::runs;
 use crate::runs::Run;
 use image_records::numbers;
+use image_records::record_sizes;
 ghost use mathlib.Core.Path.{_≡_};
-ghost use Prim.Native.Nat.{_*_};
 ghost use lib.ListN.{length};
 ghost use Rattle.language.specs.Decode.{valueOf};
 ghost use Rattle.language.specs.Encode.{stateRecord, valueField};
@@ -38,7 +38,7 @@ fn value_of(n: u16) -> StateValue
 pub fn state_at(states: &[u8], n: usize) -> State
     ensures { λ r. ⌜ StateRead (now (states .entry)) n r ⌝ }
 {
-    if states.len() / 7 <= n {
+    if states.len() / record_sizes::STATE <= n {
         let none = Run { first: 0, count: 0 };
         return State {
             name: 0,
@@ -46,7 +46,7 @@ pub fn state_at(states: &[u8], n: usize) -> State
             actions: none,
         };
     }
-    let at = 7 * n;
+    let at = record_sizes::STATE * n;
     let value = value_of(numbers::two_there(states, at + 1));
     let actions = runs::run_at(states, at + 3);
     State {
@@ -67,7 +67,7 @@ fn value_field(value: StateValue) -> u16
 }
 
 // The bytes of a record.
-pub fn state_bytes(s: State) -> [u8; 7]
+pub fn state_bytes(s: State) -> [u8; record_sizes::STATE]
     ensures { λ r. ⌜ ((name : Name) → length name ≡ s .name → r ≡ stateRecord (stateMeant name s)) ⌝ }
 {
     let value = s.value;

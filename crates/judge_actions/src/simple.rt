@@ -3,6 +3,8 @@ use crate::Owner;
 use crate::stores;
 use image_records::actions;
 use image_records::actions::Action;
+use image_records::record_sizes;
+use image_sections::names;
 use judge_records::places;
 use judge_verdicts::Verdict;
 use judge_verdicts::Worth;
@@ -26,6 +28,7 @@ ghost use Rattle.judge_verdicts.specs.Meaning.{recalled, seen};
 ghost use Rattle.text_words.specs.Meaning.{positioned};
 ghost use Rattle.judge_terms.specs.Shown.{worked};
 ghost use Rattle.judge_actions.specs.Listed.{Lists, inRight};
+ghost use Rattle.language.specs.Encode.{stateSize};
 
 // The work of an operation that is named: only the first `ops` may be.
 fn operation(kept: &[usize], ops: usize, o: u16) -> Verdict
@@ -53,13 +56,13 @@ fn perform(kept: &[usize], ops: usize, o: u16) -> Verdict
 
 // Whether state s has a name; `labels` are the states' names.
 fn labelled(states: &[u8], labels: &[u8], s: u16) -> bool
-    ensures { λ r. ⌜ r ≡ ltb 0 (length (take (nameLengthIn 7 0 (now (states .entry)) s) (drop (namesLength s 0 7 (now (states .entry))) (now (labels .entry))))) ⌝ }
+    ensures { λ r. ⌜ r ≡ ltb 0 (length (take (nameLengthIn stateSize 0 (now (states .entry)) s) (drop (namesLength s 0 stateSize (now (states .entry))) (now (labels .entry))))) ⌝ }
 {
     let state = image_sections::states::state_at(states, s as usize);
     if state.name == 0 {
         return false;
     }
-    image_sections::names::names_length(states, s as u32, 0, 7) < labels.len()
+    names::names_length(states, s as u32, 0, names::STATE) < labels.len()
 }
 
 // An action without parts.
@@ -75,7 +78,7 @@ fn alone() -> Verdict
 
 // A state is gone to by its name.
 fn to_state(states: &[u8], labels: &[u8], at: Position, s: u16) -> Verdict
-    ensures { λ r. ⌜ ((q : W.Position) → positioned at ≡ q → r ≡ seen (cond (ltb 0 (length (take (nameLengthIn 7 0 (now (states .entry)) s) (drop (namesLength s 0 7 (now (states .entry))) (now (labels .entry)))))) (L.worth 1 0 ownWork) (L.refuse q 4))) ⌝ }
+    ensures { λ r. ⌜ ((q : W.Position) → positioned at ≡ q → r ≡ seen (cond (ltb 0 (length (take (nameLengthIn stateSize 0 (now (states .entry)) s) (drop (namesLength s 0 stateSize (now (states .entry))) (now (labels .entry)))))) (L.worth 1 0 ownWork) (L.refuse q 4))) ⌝ }
 {
     if labelled(states, labels, s) {
         return alone();
@@ -111,7 +114,7 @@ pub fn simple(
     ensures { λ r. ⌜ Lists (now (fs .entry)) (now (es .entry)) (now (fp .entry)) (now (ep .entry)) (now (memo .entry)) (now (acts .entry)) (now (ap .entry)) (now (ss .entry)) (now (labels .entry)) (now (kept .entry)) (own .ops) (λ d p w. simpleJudged d p (own .state) w (actionPlace p i) (actionAt d i)) r ⌝ }
 {
     let at = places::of_record(ap, i);
-    let known = fs.len() / 13;
+    let known = fs.len() / record_sizes::FACILITY;
     match actions::action_at(acts, i) {
         Action::Store(k, l, r) => {
             let v = stores::store(fs, es, fp, ep, memo, known, at, k, l, r);

@@ -6,6 +6,7 @@ use crate::conditionals::Choices;
 use crate::simple;
 use image_records::actions;
 use image_records::actions::Action;
+use image_records::record_sizes;
 use judge_records::places;
 use judge_terms::operators;
 use judge_verdicts::Verdict;
@@ -79,7 +80,7 @@ fn held(
     }
     let i = b.number;
     let at = places::of_record(ap, i);
-    let known = fs.len() / 13;
+    let known = fs.len() / record_sizes::FACILITY;
     let a = judge_expressions::walk::expression(fs, es, fp, ep, memo, known, b.condition);
     let j = i + 1;
     let choices = b.choices;

@@ -1,5 +1,6 @@
 // All the rules over sections, with or without places: the least of all faults.
 use image_records::bytes;
+use image_records::record_sizes;
 use image_sections::names as parts;
 use judge_names::judged;
 use judge_sections::facilities;
@@ -11,7 +12,7 @@ ghost use mathlib.Core.Path.{_≡_};
 ghost use Prim.Native.Nat.{_+_, _/_, _≤_};
 ghost use lib.ListN.{drop, length};
 ghost use Rattle.language.specs.Decode.{namesLength};
-ghost use Rattle.language.specs.Encode.{Sections};
+ghost use Rattle.language.specs.Encode.{Sections, facilitySize, operationSize};
 ghost use Rattle.language.specs.Rules as L;
 ghost use Rattle.language.specs.WordStage.{least};
 ghost use Rattle.judge_records.specs.Noted.{Beside, notedDescription, placesIn};
@@ -19,11 +20,21 @@ ghost use Rattle.text_words.specs.Meaning.{judged};
 
 // The names of states, after those of facilities and operations.
 fn labels_of<'a>(fs: &[u8], os: &[u8], ns: &'a [u8]) -> &'a [u8]
-    requires { ⌜ (length (now fs) / 13 ≤ 65536) × (length (now os) / 5 ≤ 256) ⌝ }
-    ensures { λ r. ⌜ now r ≡ drop (namesLength (length (now (fs .entry)) / 13) 2 13 (now (fs .entry)) + namesLength (length (now (os .entry)) / 5) 0 5 (now (os .entry))) (now (ns .entry)) ⌝ }
+    requires { ⌜ (length (now fs) / facilitySize ≤ 65536) × (length (now os) / operationSize ≤ 256) ⌝ }
+    ensures { λ r. ⌜ now r ≡ drop (namesLength (length (now (fs .entry)) / facilitySize) 2 facilitySize (now (fs .entry)) + namesLength (length (now (os .entry)) / operationSize) 0 operationSize (now (os .entry))) (now (ns .entry)) ⌝ }
 {
-    let before = parts::names_length(fs, (fs.len() / 13) as u32, 2, 13);
-    let between = parts::names_length(os, (os.len() / 5) as u32, 0, 5);
+    let before = parts::names_length(
+        fs,
+        (fs.len() / record_sizes::FACILITY) as u32,
+        parts::FACILITY_NAME,
+        parts::FACILITY,
+    );
+    let between = parts::names_length(
+        os,
+        (os.len() / record_sizes::OPERATION) as u32,
+        0,
+        parts::OPERATION,
+    );
     bytes::part(ns, before + between, ns.len())
 }
 
@@ -41,7 +52,7 @@ pub fn least_fault(
     ap: &[u8],
     sp: &[u8],
 ) -> Judged
-    requires { ⌜ (length (now fs) / 13 ≤ 65536) × (length (now os) / 5 ≤ 256) ⌝ }
+    requires { ⌜ (length (now fs) / facilitySize ≤ 65536) × (length (now os) / operationSize ≤ 256) ⌝ }
     ensures { λ r. ⌜ ((x : Sections) (q : Beside) → now (fs .entry) ≡ x .facilities → now (os .entry) ≡ x .operations → now (es .entry) ≡ x .expressions → now (acts .entry) ≡ x .actions → now (ss .entry) ≡ x .states → now (ns .entry) ≡ x .names → now (fp .entry) ≡ q .facilities → now (op .entry) ≡ q .operations → now (ep .entry) ≡ q .expressions → now (ap .entry) ≡ q .actions → now (sp .entry) ≡ q .states → judged r ≡ least (L.faults (notedDescription x q) (placesIn q))) ⌝ }
 {
     let mut memo: [usize; 512] = [0; 512];

@@ -7,7 +7,7 @@ use lib.ListN.{drop, getD, length, take}
 use lib.Seq.{drop-drop}
 use Rattle.language.specs.Decode.{described, facilitiesAt, facilityOf, namesLength, operationsAt, statesAt, upTo}
 use Rattle.language.specs.Description.{Facility, FacilityPlaces, Operation, State, StatePlaces}
-use Rattle.language.specs.Encode.{Sections}
+use Rattle.language.specs.Encode.{Sections, facilitySize, operationSize, stateSize}
 use Rattle.language.specs.Rules.{nameFaults, namePlaces, namesOf}
 use Rattle.language.specs.Tree.{Name}
 use Rattle.language.specs.WordStage.{least}
@@ -21,24 +21,24 @@ unfoldable cut : List ℕ → List ℕ → List Name
 cut [] names = []
 cut (l ∷ ls) names = take l names ∷ cut ls (drop l names)
 
-cut-facilities : (k at : ℕ) (s names : List ℕ) → map (λ (f : Facility). f .name) (facilitiesAt k at s names) ≡ cut (lengthsAt k (at + 2) 13 s) names
+cut-facilities : (k at : ℕ) (s names : List ℕ) → map (λ (f : Facility). f .name) (facilitiesAt k at s names) ≡ cut (lengthsAt k (at + 2) facilitySize s) names
 unfolding facilitiesAt facilityOf cut lengthsAt
 cut-facilities zero at s names = refl
 cut-facilities (suc k) at s names =
-    let e : at + 13 + 2 ≡ at + 2 + 13 = omega arith in
-    ap (λ (ns : List Name). take (getD s (at + 2) 0) names ∷ ns) (cut-facilities k (at + 13) s (drop (getD s (at + 2) 0) names) ∙ rw e)
+    let e : at + facilitySize + 2 ≡ at + 2 + facilitySize = omega arith in
+    ap (λ (ns : List Name). take (getD s (at + 2) 0) names ∷ ns) (cut-facilities k (at + facilitySize) s (drop (getD s (at + 2) 0) names) ∙ rw e)
 
 cut-operations : (k at : ℕ) (s names : List ℕ) → map (λ (o : Operation). o .name) (operationsAt k at s names) ≡ cut (lengthsAt k at 5 s) names
 unfolding operationsAt cut lengthsAt
 cut-operations zero at s names = refl
 cut-operations (suc k) at s names =
-    ap (λ (ns : List Name). take (getD s at 0) names ∷ ns) (cut-operations k (at + 5) s (drop (getD s at 0) names))
+    ap (λ (ns : List Name). take (getD s at 0) names ∷ ns) (cut-operations k (at + operationSize) s (drop (getD s at 0) names))
 
 cut-states : (k at : ℕ) (s names : List ℕ) → map (λ (x : State). x .name) (statesAt k at s names) ≡ cut (lengthsAt k at 7 s) names
 unfolding statesAt cut lengthsAt
 cut-states zero at s names = refl
 cut-states (suc k) at s names =
-    ap (λ (ns : List Name). take (getD s at 0) names ∷ ns) (cut-states k (at + 7) s (drop (getD s at 0) names))
+    ap (λ (ns : List Name). take (getD s at 0) names ∷ ns) (cut-states k (at + stateSize) s (drop (getD s at 0) names))
 
 -- Names of a section, and those after them.
 cut-both : (k at size : ℕ) (s more names : List ℕ)
@@ -57,18 +57,18 @@ widened-names s n (f ∷ fs) = ap (λ (ns : List Name). f .name ∷ ns) (widened
 cut-described : (x : Sections) (q : Beside) → namesOf (notedDescription x q) ≡ cut (lengthsOf (x .facilities) (x .operations) (x .states)) (x .names)
 unfolding notedDescription described lengthsOf
 cut-described x q =
-    let f : ℕ = length (x .facilities) / 13 in
-    let o : ℕ = length (x .operations) / 5 in
-    let s : ℕ = length (x .states) / 7 in
-    let second : List ℕ = drop (namesLength f 2 13 (x .facilities)) (x .names) in
-    let third : List ℕ = drop (namesLength o 0 5 (x .operations)) second in
+    let f : ℕ = length (x .facilities) / facilitySize in
+    let o : ℕ = length (x .operations) / operationSize in
+    let s : ℕ = length (x .states) / stateSize in
+    let second : List ℕ = drop (namesLength f 2 facilitySize (x .facilities)) (x .names) in
+    let third : List ℕ = drop (namesLength o 0 operationSize (x .operations)) second in
     rw (
       widened-names (q .facilities) 0 (facilitiesAt f 0 (x .facilities) (x .names)),
       cut-facilities f 0 (x .facilities) (x .names),
       cut-operations o 0 (x .operations) second,
       cut-states s 0 (x .states) third,
-      cut-both f 2 13 (x .facilities) (lengthsAt o 0 5 (x .operations) ++ lengthsAt s 0 7 (x .states)) (x .names),
-      cut-both o 0 5 (x .operations) (lengthsAt s 0 7 (x .states)) second,
+      cut-both f 2 facilitySize (x .facilities) (lengthsAt o 0 operationSize (x .operations) ++ lengthsAt s 0 stateSize (x .states)) (x .names),
+      cut-both o 0 5 (x .operations) (lengthsAt s 0 stateSize (x .states)) second,
     )
 
 -- ---- The same by number.

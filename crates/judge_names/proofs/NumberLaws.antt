@@ -14,6 +14,7 @@ use Rattle.judge_records.proofs.NotedLaws.{up-to-pick}
 use Rattle.judge_records.specs.Noted.{placeNo}
 use Rattle.judge_records.specs.Read.{placeOf}
 use Rattle.judge_names.specs.Numbered.{lengthsAt, lengthsOf, placesOf}
+use Rattle.language.specs.Encode.{facilitySize, operationSize, stateSize}
 
 -- ---- An entry of the first list, and one after it.
 
@@ -41,22 +42,22 @@ lengths-at (suc k) at size s (suc n) h =
 
 module _ (fs os ss : List ℕ) where
   abbrev F : ℕ
-  F = length fs / 13
+  F = length fs / facilitySize
 
   abbrev O : ℕ
-  O = length os / 5
+  O = length os / operationSize
 
   abbrev S : ℕ
-  S = length ss / 7
+  S = length ss / stateSize
 
   abbrev first : List ℕ
-  first = lengthsAt F 2 13 fs
+  first = lengthsAt F 2 facilitySize fs
 
   abbrev second : List ℕ
-  second = lengthsAt O 0 5 os
+  second = lengthsAt O 0 operationSize os
 
   abbrev third : List ℕ
-  third = lengthsAt S 0 7 ss
+  third = lengthsAt S 0 stateSize ss
 
   pub count-of : F + O + S ≡ length (lengthsOf fs os ss)
   unfolding lengthsOf
@@ -65,39 +66,39 @@ module _ (fs os ss : List ℕ) where
         arith,
         length-append first (second ++ third),
         length-append second third,
-        lengths-count F 2 13 fs,
-        lengths-count O 0 5 os,
-        lengths-count S 0 7 ss,
+        lengths-count F 2 facilitySize fs,
+        lengths-count O 0 operationSize os,
+        lengths-count S 0 stateSize ss,
       )
 
   module _ (k : ℕ) where
-    pub facility-length : k < F → getD fs (13 * k + 2) 0 ≡ getD (lengthsOf fs os ss) k 0
+    pub facility-length : k < F → getD fs (facilitySize * k + 2) 0 ≡ getD (lengthsOf fs os ss) k 0
     unfolding lengthsOf
     facility-length h =
-        let z : 13 * k + 2 ≡ 2 + 13 * k = omega arith in
-        rw z (sym (first-at first (second ++ third) F k 0 (lengths-count F 2 13 fs) h ∙ lengths-at F 2 13 fs k h))
+        let z : facilitySize * k + 2 ≡ 2 + facilitySize * k = omega arith in
+        rw z (sym (first-at first (second ++ third) F k 0 (lengths-count F 2 facilitySize fs) h ∙ lengths-at F 2 facilitySize fs k h))
 
     module _ (h : F ≤ k) where
       past-facilities : getD (lengthsOf fs os ss) k 0 ≡ getD (second ++ third) (k - F) 0
       unfolding lengthsOf
-      past-facilities = later-at first (second ++ third) F k 0 (lengths-count F 2 13 fs) h
+      past-facilities = later-at first (second ++ third) F k 0 (lengths-count F 2 facilitySize fs) h
 
-      pub operation-length : k - F < O → getD os (5 * (k - F)) 0 ≡ getD (lengthsOf fs os ss) k 0
+      pub operation-length : k - F < O → getD os (operationSize * (k - F)) 0 ≡ getD (lengthsOf fs os ss) k 0
       operation-length g =
-          let z : 5 * (k - F) ≡ 0 + 5 * (k - F) = omega arith in
-          rw z (sym (past-facilities ∙ first-at second third O (k - F) 0 (lengths-count O 0 5 os) g ∙ lengths-at O 0 5 os (k - F) g))
+          let z : operationSize * (k - F) ≡ 0 + operationSize * (k - F) = omega arith in
+          rw z (sym (past-facilities ∙ first-at second third O (k - F) 0 (lengths-count O 0 operationSize os) g ∙ lengths-at O 0 operationSize os (k - F) g))
 
       module _ (g : O ≤ k - F) where
         past-operations : getD (lengthsOf fs os ss) k 0 ≡ getD third (k - F - O) 0
-        past-operations = past-facilities ∙ later-at second third O (k - F) 0 (lengths-count O 0 5 os) g
+        past-operations = past-facilities ∙ later-at second third O (k - F) 0 (lengths-count O 0 operationSize os) g
 
-        pub state-length : k - F - O < S → getD ss (7 * (k - F - O)) 0 ≡ getD (lengthsOf fs os ss) k 0
+        pub state-length : k - F - O < S → getD ss (stateSize * (k - F - O)) 0 ≡ getD (lengthsOf fs os ss) k 0
         state-length l =
-            let z : 7 * (k - F - O) ≡ 0 + 7 * (k - F - O) = omega arith in
-            rw z (sym (past-operations ∙ lengths-at S 0 7 ss (k - F - O) l))
+            let z : stateSize * (k - F - O) ≡ 0 + stateSize * (k - F - O) = omega arith in
+            rw z (sym (past-operations ∙ lengths-at S 0 stateSize ss (k - F - O) l))
 
         pub no-length : S ≤ k - F - O → 0 ≡ getD (lengthsOf fs os ss) k 0
-        no-length l = sym (past-operations ∙ List·getD-eq-default third 0 (omega (arith, lengths-count S 0 7 ss)))
+        no-length l = sym (past-operations ∙ List·getD-eq-default third 0 (omega (arith, lengths-count S 0 stateSize ss)))
 
 -- ---- Places.
 

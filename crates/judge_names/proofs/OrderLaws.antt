@@ -22,6 +22,7 @@ use Rattle.language.specs.Words.{Position}
 use Rattle.text_words.proofs.Least.{least-both, lesser-all, lesser-none}
 use Rattle.text_words.specs.Meaning.{lesser}
 use Rattle.judge_names.specs.Numbered.{earlier, nameNo, offsetOf}
+use Rattle.language.specs.Encode.{facilitiesSection}
 
 -- ---- Name k, at a running offset.
 
@@ -37,7 +38,7 @@ module _ (ls names : List ℕ) (k offset : ℕ) {n : ℕ} (o : drop offset names
       (h ∙ sym (drop-drop n offset names) ∙ ap (drop n) o ∙ drop-drop n (offsetOf k ls) names
       ∙ ap (λ (m : ℕ). drop (offsetOf k ls + m) names) e)
 
-pub offset-start : (ls names : List ℕ) → drop 0 names ≡ drop (offsetOf 0 ls) names
+pub offset-start : (ls names : List ℕ) → drop 0 names ≡ drop (offsetOf facilitiesSection ls) names
 unfolding offsetOf
 offset-start ls names = refl
 

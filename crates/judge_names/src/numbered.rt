@@ -1,5 +1,6 @@
 // Names numbered over the three sections: their lengths and places.
 use image_records::numbers;
+use image_records::record_sizes;
 use judge_records::places;
 use text_words::Position;
 ghost use mathlib.Core.Path.{_≡_};
@@ -13,23 +14,25 @@ ghost use Rattle.judge_names.specs.Numbered.{lengthsOf, placesOf};
 pub fn count(fs: &[u8], os: &[u8], ss: &[u8]) -> usize
     ensures { λ r. ⌜ r ≡ length (lengthsOf (now (fs .entry)) (now (os .entry)) (now (ss .entry))) ⌝ }
 {
-    fs.len() / 13 + os.len() / 5 + ss.len() / 7
+    fs.len() / record_sizes::FACILITY
+        + os.len() / record_sizes::OPERATION
+        + ss.len() / record_sizes::STATE
 }
 
 // The length of name k; 0 where there is none.
 pub fn length_of(fs: &[u8], os: &[u8], ss: &[u8], k: usize) -> u8
     ensures { λ r. ⌜ r ≡ getD (lengthsOf (now (fs .entry)) (now (os .entry)) (now (ss .entry))) k 0 ⌝ }
 {
-    let f = fs.len() / 13;
+    let f = fs.len() / record_sizes::FACILITY;
     if k < f {
-        return numbers::byte(fs, 13 * k + 2);
+        return numbers::byte(fs, record_sizes::FACILITY * k + record_sizes::FACILITY_NAME);
     }
-    let o = os.len() / 5;
+    let o = os.len() / record_sizes::OPERATION;
     if k - f < o {
-        return numbers::byte(os, 5 * (k - f));
+        return numbers::byte(os, record_sizes::OPERATION * (k - f));
     }
-    if k - f - o < ss.len() / 7 {
-        return numbers::byte(ss, 7 * (k - f - o));
+    if k - f - o < ss.len() / record_sizes::STATE {
+        return numbers::byte(ss, record_sizes::STATE * (k - f - o));
     }
     0
 }

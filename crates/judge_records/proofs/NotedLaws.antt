@@ -15,7 +15,7 @@ use Rattle.image_sections.specs.declared.facilities.Facility as F
 use Rattle.language.specs.Decode.{actionOf, described, facilityOf, nodeOf, numberAt, pick, upTo}
 use Rattle.language.specs.Description as D
 use Rattle.language.specs.Description.{Facility, FacilityPlaces, Node, actionAt, actionPlace, facilityAt, facilityPlace, noFacility, nodeAt, nodePlace, nodePlaces, noPlaces, nowhere, operationAt, stateAt, statePlace}
-use Rattle.language.specs.Encode.{Sections}
+use Rattle.language.specs.Encode.{Sections, facilitySize}
 use Rattle.language.specs.Tree.{Name}
 use Rattle.image_records.proofs.NumberLaws.{number-past}
 use Rattle.judge_records.specs.Noted.{Beside, facilityPlacesNo, largeNo, nodePlacesNo, noted, notedDescription, nothingBeside, placeNo, placesIn, statePlacesNo, widened, widenedFacilities, widenedFacility, widenedNode, widenedNodes}
@@ -86,18 +86,18 @@ widened-kind s k (suc n) (f ∷ fs) = widened-kind s (suc k) n fs
 
 kind-nameless : (s : List ℕ) (n : ℕ) (name : Name) → facilityIn s n name .kind ≡ facilityIn s n [] .kind
 unfolding facilityIn facilityOf
-kind-nameless s n name = by-test (leb (13 * n + 13) (length s))
+kind-nameless s n name = by-test (leb (facilitySize * n + facilitySize) (length s))
   where
-    by-test : (b : Bool) → pick b (facilityOf (13 * n) s name) (I.noneNamed name) .kind ≡ pick b (facilityOf (13 * n) s []) (I.noneNamed []) .kind
+    by-test : (b : Bool) → pick b (facilityOf (facilitySize * n) s name) (I.noneNamed name) .kind ≡ pick b (facilityOf (facilitySize * n) s []) (I.noneNamed []) .kind
     by-test true = refl
     by-test false = refl
 
 module _ (x : Sections) (q : Beside) where
-  pub count-noted : length (notedDescription x q .facilities) ≡ length (x .facilities) / 13
+  pub count-noted : length (notedDescription x q .facilities) ≡ length (x .facilities) / facilitySize
   unfolding notedDescription
   count-noted = widened-length (q .facilities) 0 (described x .facilities) ∙ facilities-count x
 
-  pub facility-noted : (n : ℕ) → n < length (x .facilities) / 13
+  pub facility-noted : (n : ℕ) → n < length (x .facilities) / facilitySize
       → facilityAt (notedDescription x q) n
       ≡ widenedFacility (q .facilities) n (facilityIn (x .facilities) n (named (facilityPart (x .facilities) n) (x .names)))
   unfolding notedDescription facilityAt

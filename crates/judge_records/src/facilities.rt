@@ -1,5 +1,6 @@
 // A facility's record with the marks beside it, and the ends of a part with theirs.
 use crate::places;
+use image_records::record_sizes;
 use image_sections::facilities::Kind;
 ghost use mathlib.Core.Path.{_≡_};
 ghost use Prim.Native.Nat.{_+_, _*_, _<_};
@@ -50,7 +51,7 @@ pub fn facility_at(facilities: &[u8], places: &[u8], n: usize) -> Facility
     let kind = f.kind;
     let w = f.words;
     let b = f.bits;
-    if facilities.len() / 13 <= n {
+    if facilities.len() / record_sizes::FACILITY <= n {
         let none = Bounds { first: 0, last: 0 };
         return Facility {
             kind,

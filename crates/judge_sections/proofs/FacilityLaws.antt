@@ -37,6 +37,7 @@ use Rattle.judge_verdicts.specs.Meaning.{recalled, seen, workOf}
 use Rattle.judge_terms.specs.Shown.{Shown, worked}
 use Rattle.judge_sections.proofs.MemoryLaws.{capped-add, capped-store, worked-seen}
 use Rattle.judge_sections.specs.Declared.{Declared, Remembered}
+use Rattle.language.specs.Encode.{facilitySize}
 
 -- ---- Computed terminals.
 
@@ -45,7 +46,7 @@ unfolding terminalBelow terminalJudged
 terminal-lt d p k n h = below-lt (refuse D.nowhere 4) (terminalStep d p) k n h
 
 pub shown-of : {facs exprs marks places memo : List ℕ} {d : Description} {p : Places} (k : ℕ) → Declared facs exprs marks places d p
-    → Remembered facs memo k d p → k ≤ length facs / 13 → Shown facs exprs marks places memo k d p (terminalBelow d p k)
+    → Remembered facs memo k d p → k ≤ length facs / facilitySize → Shown facs exprs marks places memo k d p (terminalBelow d p k)
 shown-of {d = d} {p = p} k s r h = record {
   records = s .records;
   facility = λ n l f q. s .facility n (omega arith) f q;
@@ -139,13 +140,13 @@ module _ (d : Description) (p : Places) where
   start = refl
 
   module _ {facs exprs marks places : List ℕ} (s : Declared facs exprs marks places d p) (n : ℕ) where
-    pub stop : (all : Option W.Fault) (another : Bool) (before : ℕ) {whole : Option W.Fault} → length facs / 13 ≤ n
+    pub stop : (all : Option W.Fault) (another : Bool) (before : ℕ) {whole : Option W.Fault} → length facs / facilitySize ≤ n
         → lesser all (least (facilitiesFaults d p n another before (drop n (d .facilities)))) ≡ whole → all ≡ whole
     stop all another before h e =
         sym (lesser-none all) ∙ ap (lesser all) (no-more d p n another before (omega (arith, s .count))) ∙ e
 
     pub step : (f : N.Facility) (all one : Option W.Fault) (another next now : Bool) (before after : ℕ) {more whole : Option W.Fault}
-        → facilityMeant (facilityAt d n .name) f ≡ facilityAt d n → n < length facs / 13
+        → facilityMeant (facilityAt d n .name) f ≡ facilityAt d n → n < length facs / facilitySize
         → more ≡ lesser all one
         → one ≡ least (oneOf d p n another before)
         → after ≡ capped (before + facilityBytes (facilityMeant (facilityAt d n .name) f))
@@ -163,7 +164,7 @@ pub remember-first : (facs memo : List ℕ) (d : Description) (p : Places) → R
 remember-first facs memo d p = record { terminal = λ n l m c. absurd (omega arith) }
 
 module _ {facs exprs marks places : List ℕ} {d : Description} {p : Places} (s : Declared facs exprs marks places d p) {n : ℕ} where
-  pub remember-all : {memo : List ℕ} → n ≤ length facs / 13 → length facs / 13 ≤ n → Remembered facs memo n d p → Remembered facs memo (length facs / 13) d p
+  pub remember-all : {memo : List ℕ} → n ≤ length facs / facilitySize → length facs / facilitySize ≤ n → Remembered facs memo n d p → Remembered facs memo (length facs / facilitySize) d p
   remember-all g h r = record { terminal = λ i l m c. r .terminal i l (omega arith) c }
 
   pub remember-next : {memo after : List ℕ} {v : Verdict} → Remembered facs memo n d p

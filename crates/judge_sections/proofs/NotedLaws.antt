@@ -14,7 +14,7 @@ use Rattle.image_sections.specs.declared.operations.Operation as O
 use Rattle.image_sections.specs.declared.states.State as S
 use Rattle.language.specs.Decode.{halfAt, namesLength, pick, runAt, valueOf}
 use Rattle.language.specs.Description.{Facility, Operation, State, facilityAt, noRun, operationAt, stateAt}
-use Rattle.language.specs.Encode.{Sections}
+use Rattle.language.specs.Encode.{Sections, facilitySize, operationSize, stateSize}
 use Rattle.judge_records.proofs.NotedLaws.{action-noted, action-place, count-noted, facility-noted, facility-places, kind-noted, node-noted, node-places, operation-noted, state-noted, state-places}
 use Rattle.judge_records.specs.Noted.{Beside, notedDescription, placesIn, widenedFacility}
 use Rattle.judge_records.specs.Read.{FacilityRead, facilityMeant}
@@ -28,7 +28,7 @@ module _ (x : Sections) (q : Beside) where
   unfolding nodeNoted
   records-noted = record { nodes = node-noted x q; places-of = node-places q }
 
-  facility-read : (n : ℕ) → n < length (x .facilities) / 13 → (f : N.Facility) → FacilityRead (x .facilities) (q .facilities) n f
+  facility-read : (n : ℕ) → n < length (x .facilities) / facilitySize → (f : N.Facility) → FacilityRead (x .facilities) (q .facilities) n f
       → facilityMeant (facilityAt (notedDescription x q) n .name) f ≡ facilityAt (notedDescription x q) n
   unfolding widenedFacility
   facility-read n h f r =
@@ -49,10 +49,10 @@ module _ (x : Sections) (q : Beside) where
   -- ---- Actions, operations and states; the names of states come after those of facilities and operations.
 
   abbrev pub stateNames : List ℕ
-  stateNames = drop (namesLength (length (x .facilities) / 13) 2 13 (x .facilities) + namesLength (length (x .operations) / 5) 0 5 (x .operations)) (x .names)
+  stateNames = drop (namesLength (length (x .facilities) / facilitySize) 2 facilitySize (x .facilities) + namesLength (length (x .operations) / operationSize) 0 operationSize (x .operations)) (x .names)
 
   abbrev nameNo : ℕ → List ℕ
-  nameNo n = named (statePart (x .facilities) (length (x .facilities) / 13) (x .operations) (length (x .operations) / 5) (x .states) n) (x .names)
+  nameNo n = named (statePart (x .facilities) (length (x .facilities) / facilitySize) (x .operations) (length (x .operations) / operationSize) (x .states) n) (x .names)
 
   state-is : (n : ℕ) → stateAt (notedDescription x q) n ≡ stateIn (x .states) n (nameNo n)
   state-is n = state-noted x q n ∙ state-described x n
@@ -64,15 +64,15 @@ module _ (x : Sections) (q : Beside) where
   name-in : (s : List ℕ) (n : ℕ) (name : List ℕ) → stateIn s n name .name ≡ name
   unfolding stateIn
   name-in s n name =
-      either-name (leb (7 * n + 7) (length s)) (record { name = name; value = valueOf (halfAt (7 * n + 1) s); actions = runAt (7 * n + 3) s })
+      either-name (leb (stateSize * n + stateSize) (length s)) (record { name = name; value = valueOf (halfAt (stateSize * n + 1) s); actions = runAt (stateSize * n + 3) s })
       (record { name = name; value = none; actions = noRun }) name refl refl
 
-  state-label : (n : ℕ) → stateAt (notedDescription x q) n .name ≡ take (nameLengthIn 7 0 (x .states) n) (drop (namesLength n 0 7 (x .states)) stateNames)
+  state-label : (n : ℕ) → stateAt (notedDescription x q) n .name ≡ take (nameLengthIn stateSize 0 (x .states) n) (drop (namesLength n 0 stateSize (x .states)) stateNames)
   unfolding statePart
   state-label n =
       ap (λ (y : State). y .name) (state-is n) ∙ name-in (x .states) n (nameNo n)
-      ∙ ap (take (nameLengthIn 7 0 (x .states) n))
-      (sym (drop-drop (namesLength n 0 7 (x .states)) (namesLength (length (x .facilities) / 13) 2 13 (x .facilities) + namesLength (length (x .operations) / 5) 0 5 (x .operations)) (x .names)))
+      ∙ ap (take (nameLengthIn stateSize 0 (x .states) n))
+      (sym (drop-drop (namesLength n 0 stateSize (x .states)) (namesLength (length (x .facilities) / facilitySize) 2 facilitySize (x .facilities) + namesLength (length (x .operations) / operationSize) 0 operationSize (x .operations)) (x .names)))
 
   state-read : (n : ℕ) (y : S.State) → StateRead (x .states) n y → stateMeant (stateAt (notedDescription x q) n .name) y ≡ stateAt (notedDescription x q) n
   state-read n y r =
@@ -83,17 +83,17 @@ module _ (x : Sections) (q : Beside) where
   body-read : (n : ℕ) (o : O.Operation) → OperationRead (x .operations) n o → runMeant (o .body) ≡ operationAt (notedDescription x q) n .body
   body-read n o r =
       ap (λ (z : Operation). z .body)
-      (r .meaning (named (operationPart (x .facilities) (length (x .facilities) / 13) (x .operations) n) (x .names)) ∙ sym (operation-noted x q n ∙ operation-described x n))
+      (r .meaning (named (operationPart (x .facilities) (length (x .facilities) / facilitySize) (x .operations) n) (x .names)) ∙ sym (operation-noted x q n ∙ operation-described x n))
 
-  operations-noted : length (notedDescription x q .operations) ≡ length (x .operations) / 5
+  operations-noted : length (notedDescription x q .operations) ≡ length (x .operations) / operationSize
   unfolding notedDescription
   operations-noted = operations-count x
 
-  states-noted : length (notedDescription x q .states) ≡ length (x .states) / 7
+  states-noted : length (notedDescription x q .states) ≡ length (x .states) / stateSize
   unfolding notedDescription
   states-noted = states-count x
 
-  module _ (memo : List ℕ) (r : Remembered (x .facilities) memo (length (x .facilities) / 13) (notedDescription x q) (placesIn q)) where
+  module _ (memo : List ℕ) (r : Remembered (x .facilities) memo (length (x .facilities) / facilitySize) (notedDescription x q) (placesIn q)) where
     pub acting-noted : Acting (x .facilities) (x .expressions) (q .facilities) (q .expressions) memo (x .actions) (q .actions) (x .states) stateNames (x .operations) (notedDescription x q) (placesIn q)
     acting-noted = record {
       declared = declared-noted;

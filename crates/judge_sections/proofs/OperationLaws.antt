@@ -26,6 +26,7 @@ use Rattle.judge_actions.specs.Listed.{Listed, listAt}
 use Rattle.judge_sections.proofs.FacilityLaws.{shown-of}
 use Rattle.judge_sections.proofs.MemoryLaws.{worked-seen}
 use Rattle.judge_sections.specs.Declared.{Acting, Performed}
+use Rattle.language.specs.Encode.{facilitySize}
 
 module _ (d : Description) (p : Places) where
   operation-lt : (k o : ℕ) → o < k → operationBelow d p k o ≡ operationJudged d p o
@@ -78,7 +79,7 @@ pub listed-of : {facs exprs marks places memo acts beside states labels ops kept
     → Listed facs exprs marks places memo acts beside states labels kept k d p (operationBelow d p k)
 listed-of {facs = facs} {d = d} {p = p} k s r h = record {
   count = s .declared .count;
-  shown = shown-of (length facs / 13) (s .declared) (s .remembered) (omega arith);
+  shown = shown-of (length facs / facilitySize) (s .declared) (s .remembered) (omega arith);
   action = s .action;
   place = s .place;
   label = s .label;

@@ -21,12 +21,13 @@ use Rattle.image_records.proofs.ConstantLaws.{constant-ends}
 use Rattle.image_records.proofs.DigitLaws.{further-of}
 use Rattle.image_records.specs.Nodes.{constantNumber}
 use Rattle.judge_sections.specs.Stated.{rightValue, valuesBefore, wantedLength}
+use Rattle.language.specs.Encode.{nodeSize}
 
 -- ---- The number of a record: that of its own and those before it, or 0.
 
 module _ (s : List ℕ) (n : ℕ) where
   abbrev Either : Node → Type 0
-  Either x = (constantValue x ≡ value 0 0) ⊎ (constantValue x ≡ value (getD s (8 * n + 1) 0 + 1) (constantNumber n s))
+  Either x = (constantValue x ≡ value 0 0) ⊎ (constantValue x ≡ value (getD s (nodeSize * n + 1) 0 + 1) (constantNumber n s))
 
   either : (x : Node) → nodeOf s n ≡ x → Either x
   either (D.constant v) e = inr (constant-ends s n v e .is)
@@ -53,14 +54,14 @@ module _ (s : List ℕ) (n : ℕ) where
   pub number-none : constantValue (nodeOf s n) .length ≡ 0 → constantValue (nodeOf s n) .number ≡ 0
   number-none h =
       ⊎-elim (λ e. ap numberHere e)
-      (λ e. absurd (let z : constantValue (nodeOf s n) .length ≡ getD s (8 * n + 1) 0 + 1 = ap lengthHere e in omega arith)) (either (nodeOf s n) refl)
+      (λ e. absurd (let z : constantValue (nodeOf s n) .length ≡ getD s (nodeSize * n + 1) 0 + 1 = ap lengthHere e in omega arith)) (either (nodeOf s n) refl)
 
-  pub number-some : (k : ℕ) → (constantValue (nodeOf s n) .length ≡ 0 → ⊥) → k ≡ getD s (8 * n + 1) 0 / 48
-      → numberAt 6 (8 * n + 2) s + digitsBefore k n s ≡ constantValue (nodeOf s n) .number
+  pub number-some : (k : ℕ) → (constantValue (nodeOf s n) .length ≡ 0 → ⊥) → k ≡ getD s (nodeSize * n + 1) 0 / 48
+      → numberAt 6 (nodeSize * n + 2) s + digitsBefore k n s ≡ constantValue (nodeOf s n) .number
   unfolding constantNumber
   number-some k h q =
       ⊎-elim (λ e. absurd (h (ap lengthHere e)))
-      (λ e. sym (ap numberHere e ∙ ap (λ (j : ℕ). numberAt 6 (8 * n + 2) s + digitsBefore j n s) (further-of (getD s (8 * n + 1) 0) ∙ sym q)))
+      (λ e. sym (ap numberHere e ∙ ap (λ (j : ℕ). numberAt 6 (nodeSize * n + 2) s + digitsBefore j n s) (further-of (getD s (nodeSize * n + 1) 0) ∙ sym q)))
       (either (nodeOf s n) refl)
 
 pub zero-first : (a b : ℕ) → a ≡ 0 → eqb b 0 ≡ eqb a b

@@ -18,6 +18,7 @@ use Rattle.judge_records.specs.declared.facilities.Facility as N
 use Rattle.judge_sections.proofs.ValueLaws.{wanted-none, wanted-some}
 use Rattle.judge_sections.specs.Declared.{Declared}
 use Rattle.judge_sections.specs.Stated.{wantedLength}
+use Rattle.language.specs.Encode.{facilitySize}
 
 some-length : (x : Facility) → wordLength x ≡ 0 → ⊥
 unfolding wordLength spanOf
@@ -49,7 +50,7 @@ module _ (d : Description) where
   none-from n h = rw (drop-of-length-le (d .facilities) h)
 
 module _ {facs exprs marks places : List ℕ} {d : Description} {p : Places} (s : Declared facs exprs marks places d p) (n : ℕ) where
-  module _ (f : N.Facility) (g : FacilityRead facs marks n f) {b : Bool} (q : b ≡ isSequencing (kindMeant (f .kind))) (h : n < length facs / 13) where
+  module _ (f : N.Facility) (g : FacilityRead facs marks n f) {b : Bool} (q : b ≡ isSequencing (kindMeant (f .kind))) (h : n < length facs / facilitySize) where
     kind-here : isSequencing (facilityAt d n .kind) ≡ b
     kind-here = sym (q ∙ ap (λ (x : Facility). isSequencing (x .kind)) (s .facility n h f g))
 
@@ -62,6 +63,6 @@ module _ {facs exprs marks places : List ℕ} {d : Description} {p : Places} (s 
         let k : l ≡ wordLength (facilityAt d n) = m (facilityAt d n .name) ∙ ap wordLength (s .facility n h f g) in
         wanted-some l (λ z. some-length (facilityAt d n) (sym k ∙ z)) ∙ ap some k ∙ ap (lengthAt d p) (sym (here-from d n (omega (arith, s .count)) (kind-here ∙ e)) ∙ w)
 
-  pub found-nowhere : length facs / 13 ≤ n → from d n ≡ sequencingOf d → wantedLength 0 ≡ sequencingLength d p
+  pub found-nowhere : length facs / facilitySize ≤ n → from d n ≡ sequencingOf d → wantedLength 0 ≡ sequencingLength d p
   unfolding sequencingLength
   found-nowhere h w = wanted-none 0 refl ∙ ap (lengthAt d p) (sym (none-from d n (omega (arith, s .count))) ∙ w)

@@ -1,6 +1,7 @@
 // Facilities, in order of declaration: each computed terminal names only those before it.
 use crate::bounds;
 use crate::memory;
+use image_records::record_sizes;
 use image_sections::kinds;
 use judge_expressions::walk;
 use judge_records::facilities;
@@ -22,6 +23,7 @@ ghost use Rattle.judge_records.specs.Read.{FacilityRead, facilityMeant};
 ghost use Rattle.judge_verdicts.specs.Meaning.{seen};
 ghost use Rattle.text_words.specs.Meaning.{judged};
 ghost use Rattle.judge_sections.specs.Declared.{Declared, Remembered, facilityPlacesOf};
+ghost use Rattle.language.specs.Encode.{facilitySize};
 
 // The expression of facility n, if it is a computed terminal.
 fn terminal(
@@ -33,7 +35,7 @@ fn terminal(
     n: usize,
     f: Facility,
 ) -> Verdict
-    requires { ⌜ (n < length (now fs) / 13) × FacilityRead (now fs) (now fp) n f ⌝ }
+    requires { ⌜ (n < length (now fs) / facilitySize) × FacilityRead (now fs) (now fp) n f ⌝ }
     ensures { λ r. ⌜ ((d : Description) (p : Places) → Declared (now (fs .entry)) (now (es .entry)) (now (fp .entry)) (now (ep .entry)) d p → Remembered (now (fs .entry)) (now (memo .entry)) n d p → r ≡ seen (cond (isComputed (facilityAt d n .kind)) (terminalJudged d p n) (L.worth 1 0 0))) ⌝ }
 {
     let kind = f.kind;
@@ -64,13 +66,13 @@ fn one(fp: &[u8], n: usize, another: bool, before: u32, f: Facility, v: Verdict)
 // All facilities; the verdicts on computed terminals are kept.
 pub fn facilities(fs: &[u8], es: &[u8], fp: &[u8], ep: &[u8], memo: &mut [usize]) -> Judged
     requires { ⌜ length (now memo) ≡ 512 ⌝ }
-    ensures { λ r. ⌜ (length (now (memo .exit)) ≡ 512) × ((d : Description) (p : Places) → Declared (now (fs .entry)) (now (es .entry)) (now (fp .entry)) (now (ep .entry)) d p → (judged r ≡ least (facilitiesFaults d p 0 false 0 (d .facilities))) × Remembered (now (fs .entry)) (now (memo .exit)) (length (now (fs .entry)) / 13) d p) ⌝ }
+    ensures { λ r. ⌜ (length (now (memo .exit)) ≡ 512) × ((d : Description) (p : Places) → Declared (now (fs .entry)) (now (es .entry)) (now (fp .entry)) (now (ep .entry)) d p → (judged r ≡ least (facilitiesFaults d p 0 false 0 (d .facilities))) × Remembered (now (fs .entry)) (now (memo .exit)) (length (now (fs .entry)) / facilitySize) d p) ⌝ }
 {
     let mut n = 0;
     let mut another = false;
     let mut before: u32 = 0;
     let mut all = Judged::Passed;
-    while n < fs.len() / 13 {
+    while n < fs.len() / record_sizes::FACILITY {
         let k = n;
         n += 1;
         let f = facilities::facility_at(fs, fp, k);

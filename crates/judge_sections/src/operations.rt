@@ -1,5 +1,6 @@
 // Operations, in order of declaration: each names only those before it.
 use crate::memory;
+use image_records::record_sizes;
 use image_sections::runs::Run;
 use judge_actions::Owner;
 use judge_actions::walk;
@@ -19,6 +20,7 @@ ghost use Rattle.language.specs.WordStage.{least};
 ghost use Rattle.judge_verdicts.specs.Meaning.{seen};
 ghost use Rattle.text_words.specs.Meaning.{judged};
 ghost use Rattle.judge_sections.specs.Declared.{Acting, Performed};
+ghost use Rattle.language.specs.Encode.{operationSize};
 
 // Operation k, which has this body.
 fn operation(
@@ -64,12 +66,12 @@ pub fn operations(
     os: &[u8],
     kept: &mut [usize],
 ) -> Judged
-    requires { ⌜ (length (now kept) ≡ 512) × (length (now os) / 5 ≤ 256) ⌝ }
-    ensures { λ r. ⌜ (length (now (kept .exit)) ≡ 512) × ((d : Description) (p : Places) → Acting (now (fs .entry)) (now (es .entry)) (now (fp .entry)) (now (ep .entry)) (now (memo .entry)) (now (acts .entry)) (now (ap .entry)) (now (ss .entry)) (now (labels .entry)) (now (os .entry)) d p → (judged r ≡ least (operationsFaults d p (length (now (os .entry)) / 5) 0)) × Performed (now (kept .exit)) (length (now (os .entry)) / 5) d p) ⌝ }
+    requires { ⌜ (length (now kept) ≡ 512) × (length (now os) / operationSize ≤ 256) ⌝ }
+    ensures { λ r. ⌜ (length (now (kept .exit)) ≡ 512) × ((d : Description) (p : Places) → Acting (now (fs .entry)) (now (es .entry)) (now (fp .entry)) (now (ep .entry)) (now (memo .entry)) (now (acts .entry)) (now (ap .entry)) (now (ss .entry)) (now (labels .entry)) (now (os .entry)) d p → (judged r ≡ least (operationsFaults d p (length (now (os .entry)) / operationSize) 0)) × Performed (now (kept .exit)) (length (now (os .entry)) / operationSize) d p) ⌝ }
 {
     let mut n = 0;
     let mut all = Judged::Passed;
-    while n < os.len() / 5 {
+    while n < os.len() / record_sizes::OPERATION {
         let k = n;
         n += 1;
         let x = image_sections::operations::operation_at(os, k);

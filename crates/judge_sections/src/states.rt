@@ -1,6 +1,7 @@
 // States, in order: their values, their work, and the faults of their actions.
 use crate::values;
 use crate::wanted;
+use image_records::record_sizes;
 use image_sections::runs::Run;
 use image_sections::states::State;
 use image_sections::states::StateValue;
@@ -29,6 +30,7 @@ ghost use Rattle.judge_verdicts.specs.Meaning.{seen};
 ghost use Rattle.text_words.specs.Meaning.{judged, positioned};
 ghost use Rattle.judge_sections.specs.Declared.{Acting, Performed};
 ghost use Rattle.judge_sections.specs.Stated.{Stated, Valued, stateJudged, statePlacesOf, valuesBefore, wantedLength};
+ghost use Rattle.language.specs.Encode.{operationSize};
 
 // Whether a value is there or not wanted.
 fn value_there(wanted: u64, value: StateValue) -> bool
@@ -117,14 +119,14 @@ pub fn states(
     kept: &[usize],
     sp: &[u8],
 ) -> Judged
-    requires { ⌜ length (now os) / 5 ≤ 256 ⌝ }
-    ensures { λ r. ⌜ ((d : Description) (p : Places) → Stated (now (fs .entry)) (now (es .entry)) (now (fp .entry)) (now (ep .entry)) (now (memo .entry)) (now (acts .entry)) (now (ap .entry)) (now (ss .entry)) (now (labels .entry)) (now (os .entry)) (now (sp .entry)) d p → Performed (now (kept .entry)) (length (now (os .entry)) / 5) d p → judged r ≡ least (statesFaults d p (sequencingLength d p) [] 0 (d .states))) ⌝ }
+    requires { ⌜ length (now os) / operationSize ≤ 256 ⌝ }
+    ensures { λ r. ⌜ ((d : Description) (p : Places) → Stated (now (fs .entry)) (now (es .entry)) (now (fp .entry)) (now (ep .entry)) (now (memo .entry)) (now (acts .entry)) (now (ap .entry)) (now (ss .entry)) (now (labels .entry)) (now (os .entry)) (now (sp .entry)) d p → Performed (now (kept .entry)) (length (now (os .entry)) / operationSize) d p → judged r ≡ least (statesFaults d p (sequencingLength d p) [] 0 (d .states))) ⌝ }
 {
     let wanted = wanted::sequencing_length(fs, fp);
-    let ops = os.len() / 5;
+    let ops = os.len() / record_sizes::OPERATION;
     let mut n = 0;
     let mut all = Judged::Passed;
-    while n < ss.len() / 7 {
+    while n < ss.len() / record_sizes::STATE {
         let k = n;
         n += 1;
         let s = image_sections::states::state_at(ss, k);

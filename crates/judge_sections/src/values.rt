@@ -2,6 +2,7 @@
 use image_records::nodes;
 use image_records::nodes::Node;
 use image_records::numbers;
+use image_records::record_sizes;
 use image_sections::states::StateValue;
 use judge_terms::constants;
 use judge_verdicts::faults;
@@ -20,6 +21,7 @@ ghost use Rattle.language.specs.WordStage.{least};
 ghost use Rattle.language.specs.Words as W;
 ghost use Rattle.text_words.specs.Meaning.{judged, positioned};
 ghost use Rattle.judge_sections.specs.Stated.{Valued, rightValue, valuesBefore, wantedLength};
+ghost use Rattle.language.specs.Encode.{nodeSize};
 
 // The length of a constant; any other record has no bits.
 fn value_length(es: &[u8], a: u16) -> u16
@@ -33,9 +35,9 @@ fn value_length(es: &[u8], a: u16) -> u16
 
 // How many records before its own belong to a constant.
 fn further(es: &[u8], a: u16) -> u8
-    ensures { λ r. ⌜ r ≡ getD (now (es .entry)) (8 * a + 1) 0 / 48 ⌝ }
+    ensures { λ r. ⌜ r ≡ getD (now (es .entry)) (nodeSize * a + 1) 0 / 48 ⌝ }
 {
-    numbers::byte(es, 8 * a as usize + 1) / 48
+    numbers::byte(es, record_sizes::NODE * a as usize + 1) / 48
 }
 
 // Whether a value is 0; what is no constant counts 0.

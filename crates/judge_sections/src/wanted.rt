@@ -1,4 +1,5 @@
 // The length that the values of states must have.
+use image_records::record_sizes;
 use image_sections::kinds;
 use judge_records::facilities;
 use judge_rules::bounds;
@@ -15,7 +16,7 @@ pub fn sequencing_length(fs: &[u8], fp: &[u8]) -> u64
     ensures { λ r. ⌜ ((es ep : List ℕ) (d : Description) (p : Places) → Declared (now (fs .entry)) es (now (fp .entry)) ep d p → wantedLength r ≡ sequencingLength d p) ⌝ }
 {
     let mut n = 0;
-    while n < fs.len() / 13 {
+    while n < fs.len() / record_sizes::FACILITY {
         let k = n;
         n += 1;
         let f = facilities::facility_at(fs, fp, k);

@@ -14,9 +14,10 @@ use Rattle.language.specs.Value.{Value}
 use Rattle.image_records.proofs.ConstantLaws.{constant-ends}
 use Rattle.image_records.proofs.DigitLaws.{before-digits, further-of}
 use Rattle.image_records.specs.Nodes.{constantNumber, digits}
+use Rattle.language.specs.Encode.{nodeSize}
 
 module _ (s : List ℕ) where
-  more-digits : (k n : ℕ) → 0 < k → 0 < n → digitsBefore k n s ≡ (numberAt 6 (8 * (n - 1) + 2) s + digitsBefore (k - 1) (n - 1) s) * 2 ^ 48
+  more-digits : (k n : ℕ) → 0 < k → 0 < n → digitsBefore k n s ≡ (numberAt 6 (nodeSize * (n - 1) + 2) s + digitsBefore (k - 1) (n - 1) s) * 2 ^ 48
   unfolding digitsBefore digitLength
   more-digits zero n h g = absurd (omega arith)
   more-digits (suc k) zero h g = absurd (omega arith)
@@ -25,7 +26,7 @@ module _ (s : List ℕ) where
       let f : suc n - 1 ≡ n = omega arith in
       rw (e, f)
 
-  pub zero-here : (k n : ℕ) → 0 < k → 0 < n → numberAt 6 (8 * (n - 1) + 2) s ≡ 0
+  pub zero-here : (k n : ℕ) → 0 < k → 0 < n → numberAt 6 (nodeSize * (n - 1) + 2) s ≡ 0
       → eqb (digitsBefore (k - 1) (n - 1) s) 0 ≡ eqb (digitsBefore k n s) 0
   zero-here k n h g z = by-test (eqb (digitsBefore (k - 1) (n - 1) s) 0) refl
     where
@@ -35,7 +36,7 @@ module _ (s : List ℕ) where
           t ∙ sym (eq-eqb (digitsBefore k n s) 0 (omega (arith, more-digits k n h g)))
       by-test false t = t ∙ sym (ne-eqb _ 0 (λ (e : digitsBefore k n s ≡ 0). eqb-false (digitsBefore (k - 1) (n - 1) s) 0 t (omega (arith, more-digits k n h g))))
 
-  pub zero-not : (k n : ℕ) → 0 < k → 0 < n → (numberAt 6 (8 * (n - 1) + 2) s ≡ 0 → ⊥) → false ≡ eqb (digitsBefore k n s) 0
+  pub zero-not : (k n : ℕ) → 0 < k → 0 < n → (numberAt 6 (nodeSize * (n - 1) + 2) s ≡ 0 → ⊥) → false ≡ eqb (digitsBefore k n s) 0
   zero-not k n h g z = sym (ne-eqb _ 0 (λ (e : digitsBefore k n s ≡ 0). z (omega (arith, more-digits k n h g))))
 
   pub zero-none : (k n : ℕ) → n ≡ 0 → true ≡ eqb (digitsBefore k n s) 0
@@ -49,28 +50,28 @@ module _ (s : List ℕ) where
   zero-all (suc k) n h = absurd (omega arith)
 
   -- The number is that of its own record and what stands before it.
-  number-is : (n : ℕ) (v : Value) → nodeOf s n ≡ D.constant v → v .number ≡ numberAt 6 (8 * n + 2) s + digitsBefore (getD s (8 * n + 1) 0 / 48) n s
+  number-is : (n : ℕ) (v : Value) → nodeOf s n ≡ D.constant v → v .number ≡ numberAt 6 (nodeSize * n + 2) s + digitsBefore (getD s (nodeSize * n + 1) 0 / 48) n s
   unfolding constantNumber
-  number-is n v e = ap (λ (x : Value). x .number) (constant-ends s n v e .is) ∙ rw (further-of (getD s (8 * n + 1) 0))
+  number-is n v e = ap (λ (x : Value). x .number) (constant-ends s n v e .is) ∙ rw (further-of (getD s (nodeSize * n + 1) 0))
 
-  pub number-own : (n k : ℕ) (v : Value) → nodeOf s n ≡ D.constant v → k ≡ getD s (8 * n + 1) 0 / 48 → eqb (digitsBefore k n s) 0 ≡ true
-      → numberAt 6 (8 * n + 2) s ≡ v .number
+  pub number-own : (n k : ℕ) (v : Value) → nodeOf s n ≡ D.constant v → k ≡ getD s (nodeSize * n + 1) 0 / 48 → eqb (digitsBefore k n s) 0 ≡ true
+      → numberAt 6 (nodeSize * n + 2) s ≡ v .number
   number-own n k v e q t =
       let z : digitsBefore k n s ≡ 0 = eqb-true _ 0 t in
-      let x : v .number ≡ numberAt 6 (8 * n + 2) s + digitsBefore (getD s (8 * n + 1) 0 / 48) n s = number-is n v e in
-      let y : digitsBefore k n s ≡ digitsBefore (getD s (8 * n + 1) 0 / 48) n s = ap (λ (m : ℕ). digitsBefore m n s) q in
+      let x : v .number ≡ numberAt 6 (nodeSize * n + 2) s + digitsBefore (getD s (nodeSize * n + 1) 0 / 48) n s = number-is n v e in
+      let y : digitsBefore k n s ≡ digitsBefore (getD s (nodeSize * n + 1) 0 / 48) n s = ap (λ (m : ℕ). digitsBefore m n s) q in
       omega arith
 
-  number-large : (n k : ℕ) (v : Value) → nodeOf s n ≡ D.constant v → k ≡ getD s (8 * n + 1) 0 / 48 → eqb (digitsBefore k n s) 0 ≡ false
+  number-large : (n k : ℕ) (v : Value) → nodeOf s n ≡ D.constant v → k ≡ getD s (nodeSize * n + 1) 0 / 48 → eqb (digitsBefore k n s) 0 ≡ false
       → 2 ^ 48 ≤ v .number
   number-large n k v e q t =
       let z : digitsBefore k n s ≡ 0 → ⊥ = eqb-false _ 0 t in
-      let x : v .number ≡ numberAt 6 (8 * n + 2) s + digitsBefore (getD s (8 * n + 1) 0 / 48) n s = number-is n v e in
-      let y : digitsBefore k n s ≡ digitsBefore (getD s (8 * n + 1) 0 / 48) n s = ap (λ (m : ℕ). digitsBefore m n s) q in
+      let x : v .number ≡ numberAt 6 (nodeSize * n + 2) s + digitsBefore (getD s (nodeSize * n + 1) 0 / 48) n s = number-is n v e in
+      let y : digitsBefore k n s ≡ digitsBefore (getD s (nodeSize * n + 1) 0 / 48) n s = ap (λ (m : ℕ). digitsBefore m n s) q in
       let w : digitsBefore k n s ≡ digits k n s * 2 ^ 48 = before-digits k n s in
       omega arith
 
-  pub out-of-bounds : (n k : ℕ) (v : Value) (b : Bounds) → nodeOf s n ≡ D.constant v → k ≡ getD s (8 * n + 1) 0 / 48
+  pub out-of-bounds : (n k : ℕ) (v : Value) (b : Bounds) → nodeOf s n ≡ D.constant v → k ≡ getD s (nodeSize * n + 1) 0 / 48
       → eqb (digitsBefore k n s) 0 ≡ false → b .first < 2 ^ 32 → b .last < 2 ^ 32 → false ≡ inBounds b (v .number)
   unfolding inBounds
   out-of-bounds n k v b e q t f l =
@@ -102,12 +103,12 @@ module _ (s : List ℕ) where
   some-place k n t = some-before k n t .1
 
   abbrev whole : ℕ → ℕ → ℕ
-  whole k n = numberAt 6 (8 * n + 2) s + digitsBefore k n s
+  whole k n = numberAt 6 (nodeSize * n + 2) s + digitsBefore k n s
 
-  pub whole-some : (k n : ℕ) → (numberAt 6 (8 * n + 2) s ≡ 0 → ⊥) → false ≡ eqb (whole k n) 0
+  pub whole-some : (k n : ℕ) → (numberAt 6 (nodeSize * n + 2) s ≡ 0 → ⊥) → false ≡ eqb (whole k n) 0
   whole-some k n h = sym (ne-eqb (whole k n) 0 (λ (e : whole k n ≡ 0). h (omega arith)))
 
-  pub whole-none : (k n : ℕ) → numberAt 6 (8 * n + 2) s ≡ 0 → eqb (digitsBefore k n s) 0 ≡ eqb (whole k n) 0
+  pub whole-none : (k n : ℕ) → numberAt 6 (nodeSize * n + 2) s ≡ 0 → eqb (digitsBefore k n s) 0 ≡ eqb (whole k n) 0
   whole-none k n e = let z : digitsBefore k n s ≡ whole k n = omega arith in ap (λ (x : ℕ). eqb x 0) z
 
   same-test : {a b c e : ℕ} → (a ≡ b → c ≡ e) → (c ≡ e → a ≡ b) → eqb a b ≡ eqb c e
@@ -118,14 +119,14 @@ module _ (s : List ℕ) where
       by-test false t = t ∙ sym (ne-eqb c e (λ h. eqb-false a b t (g h)))
 
   module _ (k n j m : ℕ) where
-    pub same-differ : (numberAt 6 (8 * n + 2) s ≡ numberAt 6 (8 * m + 2) s → ⊥) → numberAt 6 (8 * n + 2) s < 2 ^ 48 → numberAt 6 (8 * m + 2) s < 2 ^ 48
+    pub same-differ : (numberAt 6 (nodeSize * n + 2) s ≡ numberAt 6 (nodeSize * m + 2) s → ⊥) → numberAt 6 (nodeSize * n + 2) s < 2 ^ 48 → numberAt 6 (nodeSize * m + 2) s < 2 ^ 48
         → false ≡ eqb (whole k n) (whole j m)
     same-differ h f g =
         let x : digitsBefore k n s ≡ digits k n s * 2 ^ 48 = before-digits k n s in
         let y : digitsBefore j m s ≡ digits j m s * 2 ^ 48 = before-digits j m s in
         sym (ne-eqb (whole k n) (whole j m) (λ (e : whole k n ≡ whole j m). h (omega arith)))
 
-    module _ (e : numberAt 6 (8 * n + 2) s ≡ numberAt 6 (8 * m + 2) s) where
+    module _ (e : numberAt 6 (nodeSize * n + 2) s ≡ numberAt 6 (nodeSize * m + 2) s) where
       pub same-last : eqb (digitsBefore k n s) 0 ≡ true → eqb (digitsBefore j m s) 0 ≡ eqb (whole k n) (whole j m)
       same-last t =
           let z : digitsBefore k n s ≡ 0 = eqb-true _ 0 t in

@@ -7,7 +7,7 @@ use lib.Dec.{eqb, leb}
 use lib.ListN.{drop, getD, length, take}
 use Rattle.language.specs.Description as D
 use Rattle.language.specs.Description.{Action, Bounds, Description, Facility, Node, Operation, Run, State, bounds, digitLength, furtherDigits, isComputed}
-use Rattle.language.specs.Encode.{Sections, actionSize, facilitySize, noValue, nodeSize, operationSize, stateSize}
+use Rattle.language.specs.Encode.{Sections, actionSize, actionsSection, armMark, callMark, chooseMark, choiceMark, constantMark, countField, expressionsSection, facilitiesSection, facilitySize, firstArmMark, gotoMark, moreMark, nameSize, namesSection, nextArmMark, noValue, nodeSize, offsetField, oneMark, oneStoreMark, operationSize, operationsSection, pairStoreMark, partMark, performMark, returnMark, setMark, stateSize, statesSection, twoMark, whenMark, wholeMark, wordPartMark}
 use Rattle.language.specs.Kinds.{delayedSign, equalSign}
 use Rattle.language.specs.Tree.{Kind, Name, computed, input, memory, plain, register, sequencing}
 use Rattle.language.specs.Value.{value}
@@ -56,7 +56,7 @@ digitsMarked zero n s = true
 digitsMarked (suc k) zero s = false
 digitsMarked (suc k) (suc n) s =
     let more = digitsMarked k n s in
-    cond (eqb (getD s (nodeSize * n) 0) 2) more false
+    cond (eqb (getD s (nodeSize * n) 0) moreMark) more false
 
 unfoldable pub digitsBefore : ℕ → ℕ → List ℕ → ℕ
 unfolding digitLength
@@ -80,14 +80,14 @@ operatorOf mark a b =
 
 unfoldable pub plainNode : ℕ → ℕ → ℕ → ℕ → ℕ → Node
 plainNode mark x a b c =
-    pick (eqb mark 3) (D.whole x)
-    (pick (eqb mark 4) (D.one x a)
-    (pick (eqb mark 5) (D.part x (bounds a b))
-    (pick (eqb mark 6) (D.two x a b)
-    (pick (eqb mark 7) (D.wordPart x a (bounds b c))
-    (pick (eqb mark 8) (D.firstArm a)
-    (pick (eqb mark 9) (D.nextArm a b)
-    (pick (eqb mark 10) (D.choice a b c) (operatorOf mark a b))))))))
+    pick (eqb mark wholeMark) (D.whole x)
+    (pick (eqb mark oneMark) (D.one x a)
+    (pick (eqb mark partMark) (D.part x (bounds a b))
+    (pick (eqb mark twoMark) (D.two x a b)
+    (pick (eqb mark wordPartMark) (D.wordPart x a (bounds b c))
+    (pick (eqb mark firstArmMark) (D.firstArm a)
+    (pick (eqb mark nextArmMark) (D.nextArm a b)
+    (pick (eqb mark choiceMark) (D.choice a b c) (operatorOf mark a b))))))))
 
 -- Record n of a section of expressions; a record that is not whole is broken.
 unfoldable pub nodeOf : List ℕ → ℕ → Node
@@ -95,25 +95,25 @@ nodeOf s n =
     let at = nodeSize * n in
     let mark = getD s at 0 in
     let node =
-    pick (eqb mark 1) (constantAt n s)
-    (pick (eqb mark 2) (D.more (numberAt 6 (at + 2) s))
+    pick (eqb mark constantMark) (constantAt n s)
+    (pick (eqb mark moreMark) (D.more (numberAt 6 (at + 2) s))
     (plainNode mark (getD s (at + 1) 0) (halfAt (at + 2) s) (halfAt (at + 4) s) (halfAt (at + 6) s))) in
     pick (leb (at + nodeSize) (length s)) node D.Node.broken
 
 unfoldable pub actionWith : ℕ → ℕ → ℕ → ℕ → Action
 actionWith mark a b c =
-    pick (eqb mark 1) (D.store delayedSign a b)
-    (pick (eqb mark 2) (D.store equalSign a b)
-    (pick (eqb mark 3) (D.storePair delayedSign a b c)
-    (pick (eqb mark 4) (D.storePair equalSign a b c)
-    (pick (eqb mark 5) (D.set a)
-    (pick (eqb mark 6) (D.perform a)
-    (pick (eqb mark 7) (D.goto a)
-    (pick (eqb mark 8) (D.call a)
-    (pick (eqb mark 9) D.return
-    (pick (eqb mark 10) (D.when a b)
-    (pick (eqb mark 11) (D.choose a b c)
-    (pick (eqb mark 12) (D.arm a) D.Action.broken)))))))))))
+    pick (eqb mark oneStoreMark) (D.store delayedSign a b)
+    (pick (eqb mark (oneStoreMark + 1)) (D.store equalSign a b)
+    (pick (eqb mark pairStoreMark) (D.storePair delayedSign a b c)
+    (pick (eqb mark (pairStoreMark + 1)) (D.storePair equalSign a b c)
+    (pick (eqb mark setMark) (D.set a)
+    (pick (eqb mark performMark) (D.perform a)
+    (pick (eqb mark gotoMark) (D.goto a)
+    (pick (eqb mark callMark) (D.call a)
+    (pick (eqb mark returnMark) D.return
+    (pick (eqb mark whenMark) (D.when a b)
+    (pick (eqb mark chooseMark) (D.choose a b c)
+    (pick (eqb mark armMark) (D.arm a) D.Action.broken)))))))))))
 
 unfoldable pub actionOf : List ℕ → ℕ → Action
 actionOf s n =
@@ -174,22 +174,22 @@ described x =
 
 -- The count and offset of section number k in the header, and its bytes.
 abbrev pub countOf : ℕ → List ℕ → ℕ
-countOf k s = numberAt 4 (4 + 8 * k) s
+countOf k s = numberAt 4 (countField k) s
 
 abbrev pub offsetOf : ℕ → List ℕ → ℕ
-offsetOf k s = numberAt 4 (8 + 8 * k) s
+offsetOf k s = numberAt 4 (offsetField k) s
 
 abbrev pub sectionAt : ℕ → ℕ → List ℕ → List ℕ
 sectionAt k size s = take (size * countOf k s) (drop (offsetOf k s) s)
 
 unfoldable pub sectionsIn : List ℕ → Sections
 sectionsIn s = record {
-  facilities = sectionAt 0 facilitySize s;
-  operations = sectionAt 1 operationSize s;
-  expressions = sectionAt 2 nodeSize s;
-  actions = sectionAt 3 actionSize s;
-  states = sectionAt 4 stateSize s;
-  names = sectionAt 5 1 s;
+  facilities = sectionAt facilitiesSection facilitySize s;
+  operations = sectionAt operationsSection operationSize s;
+  expressions = sectionAt expressionsSection nodeSize s;
+  actions = sectionAt actionsSection actionSize s;
+  states = sectionAt statesSection stateSize s;
+  names = sectionAt namesSection nameSize s;
 }
 
 unfoldable pub decode : List ℕ → Description

@@ -2,7 +2,7 @@
 use mathlib.Core.Bool.{cond}
 use mathlib.Core.List.{List, [], _∷_, _++_}
 use mathlib.Core.Option.{Option, none, some}
-use Prim.Native.Nat.{ℕ, zero, suc, _+_, _-_, _/_, _%_, _^_}
+use Prim.Native.Nat.{ℕ, zero, suc, _+_, _-_, _*_, _/_, _%_, _^_}
 use lib.Dec.{eqb}
 use lib.ListN.{length}
 use Rattle.language.specs.Description as D
@@ -42,6 +42,111 @@ actionSize = 7
 abbrev pub stateSize : ℕ
 stateSize = 7
 
+-- Names are counted in bytes.
+abbrev pub nameSize : ℕ
+nameSize = 1
+
+-- ---- The sections by number, and the header's fields: the total length, then of each section how many records it has and where it begins.
+
+abbrev pub facilitiesSection : ℕ
+facilitiesSection = 0
+
+abbrev pub operationsSection : ℕ
+operationsSection = 1
+
+abbrev pub expressionsSection : ℕ
+expressionsSection = 2
+
+abbrev pub actionsSection : ℕ
+actionsSection = 3
+
+abbrev pub statesSection : ℕ
+statesSection = 4
+
+abbrev pub namesSection : ℕ
+namesSection = 5
+
+abbrev pub lengthField : ℕ
+lengthField = 0
+
+abbrev pub countField : ℕ → ℕ
+countField k = 4 + 8 * k
+
+abbrev pub offsetField : ℕ → ℕ
+offsetField k = 8 + 8 * k
+
+-- ---- The marks of records. An operator's has the kind of its word in its low six bits.
+
+abbrev pub constantMark : ℕ
+constantMark = 1
+
+abbrev pub moreMark : ℕ
+moreMark = 2
+
+abbrev pub wholeMark : ℕ
+wholeMark = 3
+
+abbrev pub oneMark : ℕ
+oneMark = 4
+
+abbrev pub partMark : ℕ
+partMark = 5
+
+abbrev pub twoMark : ℕ
+twoMark = 6
+
+abbrev pub wordPartMark : ℕ
+wordPartMark = 7
+
+abbrev pub firstArmMark : ℕ
+firstArmMark = 8
+
+abbrev pub nextArmMark : ℕ
+nextArmMark = 9
+
+abbrev pub choiceMark : ℕ
+choiceMark = 10
+
+abbrev pub binaryMark : ℕ
+binaryMark = 64
+
+abbrev pub prefixMark : ℕ
+prefixMark = 128
+
+abbrev pub cutMark : ℕ
+cutMark = 192
+
+-- Those of actions; an immediate store has the mark after that of the delayed one.
+abbrev pub oneStoreMark : ℕ
+oneStoreMark = 1
+
+abbrev pub pairStoreMark : ℕ
+pairStoreMark = 3
+
+abbrev pub setMark : ℕ
+setMark = 5
+
+abbrev pub performMark : ℕ
+performMark = 6
+
+abbrev pub gotoMark : ℕ
+gotoMark = 7
+
+abbrev pub callMark : ℕ
+callMark = 8
+
+abbrev pub returnMark : ℕ
+returnMark = 9
+
+abbrev pub whenMark : ℕ
+whenMark = 10
+
+abbrev pub chooseMark : ℕ
+chooseMark = 11
+
+abbrev pub armMark : ℕ
+armMark = 12
+
 -- ---- Records.
 
 abbrev pub kindNumber : Kind → ℕ
@@ -71,7 +176,7 @@ runBytes r = two (r .first) ++ two (r .count)
 unfoldable pub operationRecord : Operation → List ℕ
 operationRecord o = length (o .name) % 256 ∷ runBytes (o .body)
 
--- An expression's record: a mark, a byte, and three numbers. An operator's mark has the kind of its word in its low six bits.
+-- An expression's record: a mark, a byte, and three numbers.
 abbrev pub nodeRecord : ℕ → ℕ → ℕ → ℕ → ℕ → List ℕ
 nodeRecord mark x a b c = mark % 256 ∷ x % 256 ∷ (two a ++ (two b ++ two c))
 
@@ -80,19 +185,19 @@ digitRecord mark x n = mark ∷ x % 256 ∷ little 6 n
 
 unfoldable pub nodeBytes : Node → List ℕ
 unfolding digitLength
-nodeBytes (D.constant v) = digitRecord 1 (v .length - 1) (v .number % 2 ^ digitLength)
-nodeBytes (D.more n) = digitRecord 2 0 n
-nodeBytes (D.whole f) = nodeRecord 3 f 0 0 0
-nodeBytes (D.one f e) = nodeRecord 4 f e 0 0
-nodeBytes (D.part f b) = nodeRecord 5 f (b .first) (b .last) 0
-nodeBytes (D.two f e g) = nodeRecord 6 f e g 0
-nodeBytes (D.wordPart f e b) = nodeRecord 7 f e (b .first) (b .last)
-nodeBytes (D.firstArm e) = nodeRecord 8 0 e 0 0
-nodeBytes (D.nextArm a e) = nodeRecord 9 0 a e 0
-nodeBytes (D.choice e a n) = nodeRecord 10 0 e a n
-nodeBytes (D.binary k a b) = nodeRecord (64 + k) 0 a b 0
-nodeBytes (D.prefix k a) = nodeRecord (128 + k) 0 a 0 0
-nodeBytes (D.cut k a c) = nodeRecord (192 + k) 0 a c 0
+nodeBytes (D.constant v) = digitRecord constantMark (v .length - 1) (v .number % 2 ^ digitLength)
+nodeBytes (D.more n) = digitRecord moreMark 0 n
+nodeBytes (D.whole f) = nodeRecord wholeMark f 0 0 0
+nodeBytes (D.one f e) = nodeRecord oneMark f e 0 0
+nodeBytes (D.part f b) = nodeRecord partMark f (b .first) (b .last) 0
+nodeBytes (D.two f e g) = nodeRecord twoMark f e g 0
+nodeBytes (D.wordPart f e b) = nodeRecord wordPartMark f e (b .first) (b .last)
+nodeBytes (D.firstArm e) = nodeRecord firstArmMark 0 e 0 0
+nodeBytes (D.nextArm a e) = nodeRecord nextArmMark 0 a e 0
+nodeBytes (D.choice e a n) = nodeRecord choiceMark 0 e a n
+nodeBytes (D.binary k a b) = nodeRecord (binaryMark + k) 0 a b 0
+nodeBytes (D.prefix k a) = nodeRecord (prefixMark + k) 0 a 0 0
+nodeBytes (D.cut k a c) = nodeRecord (cutMark + k) 0 a c 0
 nodeBytes D.Node.broken = nodeRecord 0 0 0 0 0
 
 abbrev pub actionRecord : ℕ → ℕ → ℕ → ℕ → List ℕ
@@ -103,16 +208,16 @@ abbrev pub storeMark : ℕ → ℕ → ℕ
 storeMark k mark = cond (eqb k delayedSign) mark (mark + 1)
 
 unfoldable pub actionBytes : Action → List ℕ
-actionBytes (D.store k l r) = actionRecord (storeMark k 1) l r 0
-actionBytes (D.storePair k l m r) = actionRecord (storeMark k 3) l m r
-actionBytes (D.set l) = actionRecord 5 l 0 0
-actionBytes (D.perform o) = actionRecord 6 o 0 0
-actionBytes (D.goto s) = actionRecord 7 s 0 0
-actionBytes (D.call s) = actionRecord 8 s 0 0
-actionBytes D.return = actionRecord 9 0 0 0
-actionBytes (D.when c x) = actionRecord 10 c x 0
-actionBytes (D.choose c n x) = actionRecord 11 c n x
-actionBytes (D.arm x) = actionRecord 12 x 0 0
+actionBytes (D.store k l r) = actionRecord (storeMark k oneStoreMark) l r 0
+actionBytes (D.storePair k l m r) = actionRecord (storeMark k pairStoreMark) l m r
+actionBytes (D.set l) = actionRecord setMark l 0 0
+actionBytes (D.perform o) = actionRecord performMark o 0 0
+actionBytes (D.goto s) = actionRecord gotoMark s 0 0
+actionBytes (D.call s) = actionRecord callMark s 0 0
+actionBytes D.return = actionRecord returnMark 0 0 0
+actionBytes (D.when c x) = actionRecord whenMark c x 0
+actionBytes (D.choose c n x) = actionRecord chooseMark c n x
+actionBytes (D.arm x) = actionRecord armMark x 0 0
 actionBytes D.Action.broken = actionRecord 0 0 0 0
 
 -- No value is 65,535.
@@ -174,7 +279,7 @@ imageOf x =
     ++ (entry e nodeSize (x .expressions)
     ++ (entry a actionSize (x .actions)
     ++ (entry s stateSize (x .states)
-    ++ (entry n 1 (x .names)
+    ++ (entry n nameSize (x .names)
     ++ (x .facilities ++ (x .operations ++ (x .expressions ++ (x .actions ++ (x .states ++ x .names)))))))))))
 
 unfoldable pub encode : Description → List ℕ

@@ -11,7 +11,7 @@ use Rattle.language.specs.Constants.{bareLength}
 use Rattle.language.specs.Decode.{decode, numberAt}
 use Rattle.language.specs.DescribeText.{describe}
 use Rattle.language.specs.Description.{Description, noPlaces}
-use Rattle.language.specs.Encode.{encode, headerSize}
+use Rattle.language.specs.Encode.{encode, headerSize, lengthField}
 use Rattle.language.specs.Grammar.{Is}
 use Rattle.language.specs.Judging.{both}
 use Rattle.language.specs.Notions.{text, wholeText}
@@ -61,7 +61,7 @@ unfoldable pub legalForm : Description → Bool
 legalForm d = both (canonical d) (eqb (length (faults d noPlaces)) 0)
 
 abbrev pub totalLength : List ℕ → ℕ
-totalLength image = numberAt 4 0 image
+totalLength image = numberAt 4 lengthField image
 
 -- The bytes up to the total length are those of what they describe.
 unfoldable pub passes : List ℕ → Bool

@@ -10,7 +10,7 @@ use Rattle.parse_step.specs.declared.State.{State}
 use Rattle.parse_step.specs.Says.{Pending}
 use Rattle.language.specs.Describe.{Noted, NotedAction, act, actionsIn, actionsOf, expressionSize, expressionsIn, nodesIn, nodesOf}
 use Rattle.language.specs.Description as D
-use Rattle.language.specs.Encode.{actionBytes, concat}
+use Rattle.language.specs.Encode.{actionBytes, actionSize, concat}
 use Rattle.language.specs.Naming.{Scope}
 use Rattle.language.specs.Tree.{Actions, Expression}
 use Rattle.language.specs.Words as L
@@ -126,9 +126,9 @@ row-again : (t : Table) (n m : ℕ) {bs w w′ : List ℕ} (front old rest : Lis
     → Wrote t n bs w w′ → rows t m w′ ≡ front ++ (bs ++ rest)
 row-again t n m {bs} front old rest e p l h k x = x .instead m h k ∙ ap (λ (v : List ℕ). placed v (size t * n) bs) e ∙ middle front old rest bs (size t * n) p l
 
-action-rows : (n : ℕ) (w : List ℕ) → length w ≡ 275296 → n ≤ 4352 → 7 * n ≡ length (rows T.Actions n w)
+action-rows : (n : ℕ) (w : List ℕ) → length w ≡ 275296 → n ≤ 4352 → actionSize * n ≡ length (rows T.Actions n w)
 unfolding rows
-action-rows n w l h = sym (length-take-le (7 * n) (drop 222432 w) (omega (arith, length-drop 222432 w)))
+action-rows n w l h = sym (length-take-le (actionSize * n) (drop 222432 w) (omega (arith, length-drop 222432 w)))
 
 place-rows : (n : ℕ) (w : List ℕ) → length w ≡ 275296 → n ≤ 4352 → 2 * n ≡ length (rows T.ActionPlaces n w)
 unfolding rows

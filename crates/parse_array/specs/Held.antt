@@ -5,7 +5,7 @@ use mathlib.Core.Path.{_≡_}
 use Prim.Native.Nat.{ℕ, _+_, _*_, _<_, _≤_}
 use lib.ListN.{drop, take}
 use Rattle.language.specs.Describe.{Noted}
-use Rattle.language.specs.Encode.{concat, nodeBytes, two}
+use Rattle.language.specs.Encode.{concat, nodeBytes, nodeSize, two}
 use Rattle.judge_records.specs.Noted.{nodeBesideBytes}
 use Rattle.parse_array.specs.declared.constants.Room.{Room}
 use Rattle.parse_array.specs.declared.nodes.Beside.{Beside}
@@ -30,7 +30,7 @@ otherIn w = drop otherFrom w
 
 -- With n expression records.
 unfoldable pub held : ℕ → List ℕ → Held
-held n w = record { nodes = take (8 * n) w; places = take (6 * n) (drop placesFrom w); other = otherIn w }
+held n w = record { nodes = take (nodeSize * n) w; places = take (6 * n) (drop placesFrom w); other = otherIn w }
 
 -- More bytes behind those of the records, and of the places.
 abbrev pub withBytes : Held → List ℕ → List ℕ → Held

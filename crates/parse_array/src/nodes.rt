@@ -5,6 +5,7 @@ use image_records::bytes;
 use image_records::node_bytes;
 use image_records::nodes::Node;
 use image_records::numbers;
+use image_records::record_sizes;
 ghost use Rattle.language.specs.Encode.{nodeBytes};
 ghost use Rattle.image_records.specs.Nodes.{meant};
 ghost use Rattle.parse_array.specs.Held.{Added, fields};
@@ -26,7 +27,7 @@ pub fn add_node(work: &mut [u8; 275296], n: u16, node: Node, v: u64, beside: Bes
     }
     let k = n as usize;
     let written = node_bytes::node_bytes(node, v);
-    bytes::put(s, 8 * k, &written);
+    bytes::put(s, record_sizes::NODE * k, &written);
     let a0 = numbers::low(beside.at);
     let a1 = numbers::high(beside.at);
     let b0 = numbers::low(beside.first);

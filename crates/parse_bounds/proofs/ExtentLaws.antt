@@ -73,12 +73,12 @@ module _ {text : List ℕ} {w : Word} {s : State} where
   neither n m r o z x b = refuses 3 r (λ K c. extent-stuck text w K (withRange x c) s o z n m)
 
   module _ (k : kindNo (w .kind) ≡ comma) {a : Answer} (t : Took text w (countsOf s) s a) where
-    comma : (o : Whose) (x y : T.Ends) (K : Stack) (c : Built) → runs text (ask (restOf o) ∷ K) w (withRange x c) s
+    by-comma : (o : Whose) (x y : T.Ends) (K : Stack) (c : Built) → runs text (ask (restOf o) ∷ K) w (withRange x c) s
         ≡ onTaken text w (keep aConstant ∷ ask rangeRest ∷ closing closeBracket ∷ make makeTable ∷ (toCome o (T.table x y) ++ K)) (withRange x c) (countsOf s)
-    comma o x y K c = extent-comma text w K (withRange x c) s o x y k
+    by-comma o x y K c = extent-comma text w K (withRange x c) s o x y k
 
     pub comma-not : {f : Ends} {e : Extent} → (a .verdict ≡ Done → ⊥) → Follows text w s f (record { answer = a; extent = e })
-    comma-not n o z x b = word-taken t (λ d. absurd (n d)) (λ K. keep aConstant ∷ ask rangeRest ∷ closing closeBracket ∷ make makeTable ∷ (toCome o (T.table x x) ++ K)) (withRange x) (comma o x x)
+    comma-not n o z x b = word-taken t (λ d. absurd (n d)) (λ K. keep aConstant ∷ ask rangeRest ∷ closing closeBracket ∷ make makeTable ∷ (toCome o (T.table x x) ++ K)) (withRange x) (by-comma o x x)
 
     module _ (done : a .verdict ≡ Done) {r : Ranged} (q : Ranges text (a .next) (a .state) r) where
       p : Passed text w (countsOf s) s a
@@ -86,7 +86,7 @@ module _ {text : List ℕ} {w : Word} {s : State} where
 
       to-range : (o : Whose) → Seen text w → (x y : T.Ends) (K : Stack) (c : Built) → runs text (ask (restOf o) ∷ K) w (withRange x c) s
           ≡ runs text (keep aConstant ∷ ask rangeRest ∷ closing closeBracket ∷ make makeTable ∷ (toCome o (T.table x y) ++ K)) (a .next) (withRange x c) (a .state)
-      to-range o z x y K c = comma o x y K c ∙ took-done p z (keep aConstant ∷ ask rangeRest ∷ closing closeBracket ∷ make makeTable ∷ (toCome o (T.table x y) ++ K)) (withRange x c)
+      to-range o z x y K c = by-comma o x y K c ∙ took-done p z (keep aConstant ∷ ask rangeRest ∷ closing closeBracket ∷ make makeTable ∷ (toCome o (T.table x y) ++ K)) (withRange x c)
 
       pub second-not : {f : Ends} {e : Extent} → (r .answer .verdict ≡ Done → ⊥) → Follows text w s f (record { answer = r .answer; extent = e })
       second-not n o z x b = record {

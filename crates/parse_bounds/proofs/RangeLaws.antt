@@ -45,9 +45,9 @@ module _ {text : List ℕ} {w : Word} {s : State} {a : Answer} (k : Keeps text w
           seen = y .seen;
         }
 
-    module _ (colon : kindNo (a .next .kind) ≡ colon) {t : Answer} (x : Took text (a .next) (countsOf (a .state)) (a .state) t) where
+    module _ (comes : kindNo (a .next .kind) ≡ colon) {t : Answer} (x : Took text (a .next) (countsOf (a .state)) (a .state) t) where
       to-colon : Seen text w → (K : Stack) (b : Built) → runs text (keep aConstant ∷ ask rangeRest ∷ K) w b s ≡ onTaken text (a .next) (keep aConstant ∷ make makeBoth ∷ K) (keepWord (constantWord w) b) (countsOf (a .state))
-      to-colon z K b = k .done done z .course (ask rangeRest ∷ K) b ∙ range-colon text (a .next) K (keepWord (constantWord w) b) (a .state) colon
+      to-colon z K b = k .done done z .course (ask rangeRest ∷ K) b ∙ range-colon text (a .next) K (keepWord (constantWord w) b) (a .state) comes
 
       -- A colon that is not taken.
       pub range-no-colon : (t .verdict ≡ Done → ⊥) → {e : Ends} → Ranges text w s (record { answer = t; ends = e })

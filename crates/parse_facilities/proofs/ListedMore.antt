@@ -10,7 +10,7 @@ use Rattle.parse_step.specs.declared.State.{State}
 use Rattle.parse_step.specs.declared.Verdict.the-variants.{Done}
 use Rattle.language.specs.Describe.{Noted}
 use Rattle.language.specs.DescribeText.{facilitiesOf, facilityNodes, facilityOf, facilitySize}
-use Rattle.language.specs.Encode.{facilityRecords}
+use Rattle.language.specs.Encode.{facilityRecords, nodeSize}
 use Rattle.language.specs.Layout.{facilityBytes, storeSizeOf}
 use Rattle.language.specs.Tree.{Declaration, Name}
 use Rattle.parse_tables.proofs.NamesGrown.{facility-names, names-behind}
@@ -34,8 +34,8 @@ front-held : (n : ℕ) (w w′ : List ℕ) → length w ≡ 275296 → n ≤ mos
 unfolding held withNodes expressions mostNodes placesFrom otherFrom
 front-held n w w′ l h e ns g = same-held (first ∙ ap (λ (x : Held). x .nodes) g) (second ∙ ap (λ (x : Held). x .places) g) refl
   where
-    first : take (8 * n) w′ ≡ take (8 * n) w
-    first = sym (take-take (8 * n) 222432 w′ (omega arith)) ∙ ap (take (8 * n)) e ∙ take-take (8 * n) 222432 w (omega arith)
+    first : take (nodeSize * n) w′ ≡ take (nodeSize * n) w
+    first = sym (take-take (nodeSize * n) 222432 w′ (omega arith)) ∙ ap (take (nodeSize * n)) e ∙ take-take (nodeSize * n) 222432 w (omega arith)
 
     front : (v : List ℕ) → 222432 ≤ length v → take (6 * n) (drop 127104 v) ≡ drop 127104 (take (127104 + 6 * n) (take 222432 v))
     front v m = part-of 127104 (6 * n) v (omega arith) ∙ ap (drop 127104) (sym (take-take (127104 + 6 * n) 222432 v (omega arith)))

@@ -142,9 +142,9 @@ module _ {text : List ℕ} {w : Word} {s : State} {place : ℕ} {work work′ : 
   pub register-plain : (kindNo (w .kind) ≡ hash → ⊥) → {r : Progress} → Stores text w s place F.Register work work′ r → Registers text w s place work work′ r
   register-plain n f ds st = f tt n ds st
 
-  module _ (hash : kindNo (w .kind) ≡ hash) {a : Answer} (t : Took text w (countsOf s) s a) where
+  module _ (comes : kindNo (w .kind) ≡ hash) {a : Answer} (t : Took text w (countsOf s) s a) where
     pub hash-not : {p : ℕ} → (a .verdict ≡ Done → ⊥) → Registers text w s place work work′ (record { answer = a; place = p })
-    hash-not n ds st = word-taken t (λ d. absurd (n d)) (λ K. ask sequencingSpec ∷ K) same (hash-taken text w s hash)
+    hash-not n ds st = word-taken t (λ d. absurd (n d)) (λ K. ask sequencingSpec ∷ K) same (hash-taken text w s comes)
 
     pub register-sequencing : a .verdict ≡ Done → {r : Progress} → Stores text (a .next) (a .state) place F.Sequencing work work′ r → Registers text w s place work work′ r
     register-sequencing done {r} f ds st = through (f tt tt ds (standing-passed st p)) (λ K. K) same to-name read
@@ -153,7 +153,7 @@ module _ {text : List ℕ} {w : Word} {s : State} {place : ℕ} {work work′ : 
         p = t .done done
 
         to-name : (K : Stack) (b : Built) → runs text (ask registerSpec ∷ K) w b s ≡ runs text (ask sequencingSpec ∷ K) (a .next) b (a .state)
-        to-name K b = hash-taken text w s hash K b ∙ took-done p (st .seen) (ask sequencingSpec ∷ K) b
+        to-name K b = hash-taken text w s comes K b ∙ took-done p (st .seen) (ask sequencingSpec ∷ K) b
 
         read : OneRead text ds (ask sequencingSpec ∷ []) F.Sequencing (a .next) (a .state) work′ r → OneRead text ds (ask registerSpec ∷ []) F.Register w s work′ r
         read y = record { tree = y .tree; course = λ K b. to-name K b ∙ y .course K b; standing = y .standing; others = others-then (others-same (state-of (p .counts) (p .kept))) (y .others) }

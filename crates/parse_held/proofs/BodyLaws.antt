@@ -15,6 +15,7 @@ use Rattle.parse_tables.specs.declared.Table.the-variants as T
 use Rattle.parse_tables.specs.Rows.{from, most, rows, size}
 use Rattle.parse_array.specs.Held.{held}
 use Rattle.image_records.proofs.FilledLaws.{filled-more}
+use Rattle.language.specs.Encode.{actionSize, facilitySize, headerSize, nodeSize, operationSize, stateSize}
 use Rattle.parse_held.specs.declared.Tally.{Tally}
 use Rattle.parse_held.specs.Sections.{Few, countsHeld, recordsHeld, within}
 
@@ -34,14 +35,14 @@ row-length t n w l h =
     let e = mul-le-mul-left (size t) h in
     length-take-le (size t * n) (drop (from t) w) (omega (arith, e, ends-within t, length-drop (from t) w))
 
-pub node-length : (n : ℕ) (w : List ℕ) → length w ≡ 275296 → n ≤ 15888 → length (held n w .nodes) ≡ 8 * n
+pub node-length : (n : ℕ) (w : List ℕ) → length w ≡ 275296 → n ≤ 15888 → length (held n w .nodes) ≡ nodeSize * n
 unfolding held
-node-length n w l h = length-take-le (8 * n) w (omega arith)
+node-length n w l h = length-take-le (nodeSize * n) w (omega arith)
 
 -- ---- In an image.
 
 module _ (w : List ℕ) (c : Tally) (l : length w ≡ 275296) (few : Few c) where
-  pub records-length : 52 + length (recordsHeld w c) ≡ namesFrom (countsHeld c 0)
+  pub records-length : headerSize + length (recordsHeld w c) ≡ namesFrom (countsHeld c 0)
   unfolding recordsHeld
   records-length =
       let f = row-length T.Facilities (c .facilities) w l (few .facilities) in
@@ -53,10 +54,10 @@ module _ (w : List ℕ) (c : Tally) (l : length w ≡ 275296) (few : Few c) wher
 
   pub records-put : (n : ℕ) (p : List ℕ) {i₀ i₁ i₂ i₃ i₄ i₅ fs os es acts ss : List ℕ} → length p ≡ 52 → i₀ ≡ filled n p → namesFrom (countsHeld c 0) ≤ n
       → fs ≡ rows T.Facilities (c .facilities) w → i₁ ≡ placed i₀ 52 fs
-      → os ≡ rows T.Operations (c .operations) w → i₂ ≡ placed i₁ (52 + 13 * c .facilities) os
-      → es ≡ held (c .nodes) w .nodes → i₃ ≡ placed i₂ (52 + 13 * c .facilities + 5 * c .operations) es
-      → acts ≡ rows T.Actions (c .actions) w → i₄ ≡ placed i₃ (52 + 13 * c .facilities + 5 * c .operations + 8 * c .nodes) acts
-      → ss ≡ rows T.States (c .states) w → i₅ ≡ placed i₄ (52 + 13 * c .facilities + 5 * c .operations + 8 * c .nodes + 7 * c .actions) ss
+      → os ≡ rows T.Operations (c .operations) w → i₂ ≡ placed i₁ (headerSize + facilitySize * c .facilities) os
+      → es ≡ held (c .nodes) w .nodes → i₃ ≡ placed i₂ (headerSize + facilitySize * c .facilities + operationSize * c .operations) es
+      → acts ≡ rows T.Actions (c .actions) w → i₄ ≡ placed i₃ (headerSize + facilitySize * c .facilities + operationSize * c .operations + nodeSize * c .nodes) acts
+      → ss ≡ rows T.States (c .states) w → i₅ ≡ placed i₄ (headerSize + facilitySize * c .facilities + operationSize * c .operations + nodeSize * c .nodes + actionSize * c .actions) ss
       → i₅ ≡ filled n (p ++ recordsHeld w c)
   unfolding recordsHeld
   records-put n p k z h e₁ p₁ e₂ p₂ e₃ p₃ e₄ p₄ e₅ p₅ =
@@ -65,17 +66,17 @@ module _ (w : List ℕ) (c : Tally) (l : length w ≡ 275296) (few : Few c) wher
       let es = held (c .nodes) w .nodes in
       let acts = rows T.Actions (c .actions) w in
       let ss = rows T.States (c .states) w in
-      let f : length fs ≡ 13 * c .facilities = row-length T.Facilities (c .facilities) w l (few .facilities) in
-      let o : length os ≡ 5 * c .operations = row-length T.Operations (c .operations) w l (few .operations) in
-      let e : length es ≡ 8 * c .nodes = node-length (c .nodes) w l (few .nodes) in
-      let a : length acts ≡ 7 * c .actions = row-length T.Actions (c .actions) w l (few .actions) in
-      let s : length ss ≡ 7 * c .states = row-length T.States (c .states) w l (few .states) in
+      let f : length fs ≡ facilitySize * c .facilities = row-length T.Facilities (c .facilities) w l (few .facilities) in
+      let o : length os ≡ operationSize * c .operations = row-length T.Operations (c .operations) w l (few .operations) in
+      let e : length es ≡ nodeSize * c .nodes = node-length (c .nodes) w l (few .nodes) in
+      let a : length acts ≡ actionSize * c .actions = row-length T.Actions (c .actions) w l (few .actions) in
+      let s : length ss ≡ stateSize * c .states = row-length T.States (c .states) w l (few .states) in
       let q₁ = filled-more n p fs k z (omega arith) e₁ p₁ in
-      let k₁ : length (p ++ fs) ≡ 52 + 13 * c .facilities = length-append p fs ∙ omega arith in
+      let k₁ : length (p ++ fs) ≡ headerSize + facilitySize * c .facilities = length-append p fs ∙ omega arith in
       let q₂ = filled-more n (p ++ fs) os k₁ q₁ (omega arith) e₂ p₂ in
-      let k₂ : length (p ++ fs ++ os) ≡ 52 + 13 * c .facilities + 5 * c .operations = length-append (p ++ fs) os ∙ omega arith in
+      let k₂ : length (p ++ fs ++ os) ≡ headerSize + facilitySize * c .facilities + operationSize * c .operations = length-append (p ++ fs) os ∙ omega arith in
       let q₃ = filled-more n (p ++ fs ++ os) es k₂ q₂ (omega arith) e₃ p₃ in
-      let k₃ : length (p ++ fs ++ os ++ es) ≡ 52 + 13 * c .facilities + 5 * c .operations + 8 * c .nodes = length-append (p ++ fs ++ os) es ∙ omega arith in
+      let k₃ : length (p ++ fs ++ os ++ es) ≡ headerSize + facilitySize * c .facilities + operationSize * c .operations + nodeSize * c .nodes = length-append (p ++ fs ++ os) es ∙ omega arith in
       let q₄ = filled-more n (p ++ fs ++ os ++ es) acts k₃ q₃ (omega arith) e₄ p₄ in
-      let k₄ : length (p ++ fs ++ os ++ es ++ acts) ≡ 52 + 13 * c .facilities + 5 * c .operations + 8 * c .nodes + 7 * c .actions = length-append (p ++ fs ++ os ++ es) acts ∙ omega arith in
+      let k₄ : length (p ++ fs ++ os ++ es ++ acts) ≡ headerSize + facilitySize * c .facilities + operationSize * c .operations + nodeSize * c .nodes + actionSize * c .actions = length-append (p ++ fs ++ os ++ es) acts ∙ omega arith in
       filled-more n (p ++ fs ++ os ++ es ++ acts) ss k₄ q₄ (omega arith) e₅ p₅ ∙ ap (filled n) (simp append-assoc)

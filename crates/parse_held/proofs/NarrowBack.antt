@@ -15,7 +15,7 @@ use Rattle.image_sections.specs.Names.{facilityPart, named}
 use Rattle.language.specs.Decode.{described, namesLength, nodeOf, operationsAt, statesAt, upTo}
 use Rattle.language.specs.Description as D
 use Rattle.language.specs.Description.{Description, Facility, Node, facilityAt, noFacility}
-use Rattle.language.specs.Encode.{concat, facilityRecord, facilityRecords, nameBytes, nodeBytes, operationRecord, sectionsOf, stateRecord}
+use Rattle.language.specs.Encode.{concat, facilityRecord, facilityRecords, facilitySize, nameBytes, nodeBytes, nodeSize, operationRecord, operationSize, sectionsOf, stateRecord, stateSize}
 use Rattle.language.specs.Layout.{placeIn}
 use Rattle.parse_tables.proofs.TwoBytes.{two-low}
 use Rattle.about_writing.specs.Back as B
@@ -72,25 +72,25 @@ module _ (d : Description) (r : InRange (narrowed d)) where
   unfolding narrowed
   in-range n h = subst FacilityInRange (narrow-at n) (r .facilities n (omega (arith, length-map (d .facilities) narrowFacility)))
 
-  facility-stands : (n : ℕ) → n < length (d .facilities) → (i : ℕ) → i < 13 → getD facilitiesOf (13 * n + i) 0 ≡ getD (facilityRecord (placeIn (d .facilities) n) (facilityAt d n)) i 0
+  facility-stands : (n : ℕ) → n < length (d .facilities) → (i : ℕ) → i < 13 → getD facilitiesOf (facilitySize * n + i) 0 ≡ getD (facilityRecord (placeIn (d .facilities) n) (facilityAt d n)) i 0
   unfolding facilityAt
-  facility-stands n h = stands facilitiesOf (13 * n) 13 (facilities-at (d .facilities) n h)
+  facility-stands n h = stands facilitiesOf (facilitySize * n) facilitySize (facilities-at (d .facilities) n h)
 
-  facility-byte : (n : ℕ) → n < length (d .facilities) → getD facilitiesOf (13 * n + 2) 0 ≡ length (facilityAt d n .name)
+  facility-byte : (n : ℕ) → n < length (d .facilities) → getD facilitiesOf (facilitySize * n + 2) 0 ≡ length (facilityAt d n .name)
   unfolding facilityRecord
   facility-byte n h = facility-stands n h 2 (omega arith) ∙ mod-eq-of-lt (in-range n h .name)
 
-  facility-names : (n : ℕ) → n ≤ length (d .facilities) → namesLength n 2 13 facilitiesOf ≡ namesOf (λ f. f .name) (take n (d .facilities))
+  facility-names : (n : ℕ) → n ≤ length (d .facilities) → namesLength n 2 facilitySize facilitiesOf ≡ namesOf (λ f. f .name) (take n (d .facilities))
   unfolding facilityAt
   facility-names n h =
-      lengths-say (λ f. length (f .name)) (d .facilities) facilitiesOf 2 13 n noFacility h
-      (λ i g. let e : 2 + 13 * i ≡ 13 * i + 2 = omega arith in rw e (facility-byte i (omega arith)))
+      lengths-say (λ f. length (f .name)) (d .facilities) facilitiesOf 2 facilitySize n noFacility h
+      (λ i g. let e : 2 + facilitySize * i ≡ facilitySize * i + 2 = omega arith in rw e (facility-byte i (omega arith)))
 
   facility-name : (n : ℕ) → n < length (d .facilities) → named (facilityPart facilitiesOf n) (nameBytes d) ≡ facilityAt d n .name
   unfolding facilityPart nameBytes facilityAt
   facility-name n h =
       let l = facilities-length (d .facilities) in
-      rw (name-whole 13 2 facilitiesOf n (omega arith), facility-byte n h, facility-names n (omega arith))
+      rw (name-whole facilitySize 2 facilitiesOf n (omega arith), facility-byte n h, facility-names n (omega arith))
       (name-cut (λ f. f .name) (d .facilities) n noFacility (concat (λ o. o .name) (d .operations) ++ concat (λ s. s .name) (d .states)) h)
 
   pub facilities-narrow : described (sectionsOf d) .facilities ≡ map narrowFacility (d .facilities)
@@ -109,38 +109,38 @@ module _ (d : Description) (r : InRange (narrowed d)) where
 
   -- ---- The other sections, whose names stand behind those of facilities.
 
-  all-facilities : namesLength (length facilitiesOf / 13) 2 13 facilitiesOf ≡ length (concat (λ f. f .name) (d .facilities))
+  all-facilities : namesLength (length facilitiesOf / facilitySize) 2 facilitySize facilitiesOf ≡ length (concat (λ f. f .name) (d .facilities))
   all-facilities =
       let l = facilities-length (d .facilities) in
-      let e : length facilitiesOf / 13 ≡ length (d .facilities) = omega arith in
+      let e : length facilitiesOf / facilitySize ≡ length (d .facilities) = omega arith in
       rw e (facility-names (length (d .facilities)) (omega arith) ∙ ap (namesOf (λ f. f .name)) (take-length (d .facilities)) ∙ sym (names-length (λ f. f .name) (d .facilities)))
 
   abbrev narrowOf : List ℕ
   narrowOf = facilityRecords 0 (map narrowFacility (d .facilities))
 
-  second-same : drop (namesLength (length facilitiesOf / 13) 2 13 facilitiesOf) (nameBytes d) ≡ drop (namesLength (length narrowOf / 13) 2 13 narrowOf) (nameBytes (narrowed d))
+  second-same : drop (namesLength (length facilitiesOf / facilitySize) 2 facilitySize facilitiesOf) (nameBytes d) ≡ drop (namesLength (length narrowOf / facilitySize) 2 facilitySize narrowOf) (nameBytes (narrowed d))
   unfolding narrowed nameBytes
   second-same =
-      let e : namesLength (length narrowOf / 13) 2 13 narrowOf ≡ length (concat (λ f. f .name) (map narrowFacility (d .facilities))) = B.all-facilities (narrowed d) r in
+      let e : namesLength (length narrowOf / facilitySize) 2 facilitySize narrowOf ≡ length (concat (λ f. f .name) (map narrowFacility (d .facilities))) = B.all-facilities (narrowed d) r in
       rw (e, all-facilities, names-narrow (d .facilities))
 
   pub operations-narrow : described (sectionsOf d) .operations ≡ d .operations
   unfolding described sectionsOf narrowed
   operations-narrow =
       let os = concat operationRecord (d .operations) in
-      ap (λ (s : List ℕ). operationsAt (length os / 5) 0 os s) second-same ∙ ap (λ (x : Description). x .operations) (sections-back (narrowed d) r)
+      ap (λ (s : List ℕ). operationsAt (length os / operationSize) 0 os s) second-same ∙ ap (λ (x : Description). x .operations) (sections-back (narrowed d) r)
 
   pub states-narrow : described (sectionsOf d) .states ≡ d .states
   unfolding described sectionsOf narrowed
   states-narrow =
       let os = concat operationRecord (d .operations) in
       let ss = concat stateRecord (d .states) in
-      ap (λ (s : List ℕ). statesAt (length ss / 7) 0 ss (drop (namesLength (length os / 5) 0 5 os) s)) second-same ∙ ap (λ (x : Description). x .states) (sections-back (narrowed d) r)
+      ap (λ (s : List ℕ). statesAt (length ss / stateSize) 0 ss (drop (namesLength (length os / operationSize) 0 operationSize os) s)) second-same ∙ ap (λ (x : Description). x .states) (sections-back (narrowed d) r)
 
   pub expressions-narrow : described (sectionsOf d) .expressions ≡ map narrowNode (d .expressions)
   unfolding described sectionsOf narrowed
   expressions-narrow =
-      ap (λ (s : List ℕ). upTo (nodeOf s) 0 (length s / 8)) (sym (nodes-narrow (d .expressions))) ∙ ap (λ (x : Description). x .expressions) (sections-back (narrowed d) r)
+      ap (λ (s : List ℕ). upTo (nodeOf s) 0 (length s / nodeSize)) (sym (nodes-narrow (d .expressions))) ∙ ap (λ (x : Description). x .expressions) (sections-back (narrowed d) r)
 
   pub actions-narrow : described (sectionsOf d) .actions ≡ d .actions
   unfolding described sectionsOf narrowed

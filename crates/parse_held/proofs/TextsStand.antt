@@ -7,7 +7,7 @@ use lib.ListN.{length, length-take}
 use Rattle.image_sections.proofs.WrittenDeclarations.{operation-length, state-length}
 use Rattle.language.specs.DescribeText.{describe}
 use Rattle.language.specs.Description.{Description}
-use Rattle.language.specs.Encode.{actionBytes, nodeBytes, operationRecord, stateRecord}
+use Rattle.language.specs.Encode.{actionBytes, actionSize, nodeBytes, nodeSize, operationRecord, operationSize, stateRecord, stateSize}
 use Rattle.language.specs.Grammar.{Is}
 use Rattle.language.specs.Notions as N
 use Rattle.language.specs.Notions.{wholeText}
@@ -32,18 +32,18 @@ use Rattle.parse_held.specs.declared.Tally.{Tally}
 use Rattle.parse_held.specs.Sections.{Few, besideHeld, namesHeld, sectionsHeld}
 use Rattle.parse_held.specs.Standing.{Stands, StandsBeside}
 
-nodes-most : (n : ℕ) (w : List ℕ) → length (held n w .nodes) ≤ 8 * n
+nodes-most : (n : ℕ) (w : List ℕ) → length (held n w .nodes) ≤ nodeSize * n
 unfolding held
-nodes-most n w = omega (arith, length-take (8 * n) w)
+nodes-most n w = omega (arith, length-take (nodeSize * n) w)
 
 -- A description that stands in the tables has as many records as they have room for.
 counted : {text w : List ℕ} {c : Tally} (d : Description) → Few c → Stands text w c d → Counted d
 counted {w = w} {c} d few h = record {
   facilities = omega (arith, few .facilities, row-most T.Facilities (c .facilities) w, ap length (h .facilities), facilities-length (d .facilities));
-  operations = omega (arith, few .operations, row-most T.Operations (c .operations) w, ap length (h .operations), row-length operationRecord 5 operation-length (d .operations));
-  expressions = omega (arith, few .nodes, nodes-most (c .nodes) w, ap length (h .expressions), row-length nodeBytes 8 node-length (d .expressions));
-  actions = omega (arith, few .actions, row-most T.Actions (c .actions) w, ap length (h .actions), row-length actionBytes 7 action-length (d .actions));
-  states = omega (arith, few .states, row-most T.States (c .states) w, ap length (h .states), row-length stateRecord 7 state-length (d .states));
+  operations = omega (arith, few .operations, row-most T.Operations (c .operations) w, ap length (h .operations), row-length operationRecord operationSize operation-length (d .operations));
+  expressions = omega (arith, few .nodes, nodes-most (c .nodes) w, ap length (h .expressions), row-length nodeBytes nodeSize node-length (d .expressions));
+  actions = omega (arith, few .actions, row-most T.Actions (c .actions) w, ap length (h .actions), row-length actionBytes actionSize action-length (d .actions));
+  states = omega (arith, few .states, row-most T.States (c .states) w, ap length (h .states), row-length stateRecord stateSize state-length (d .states));
 }
 
 -- The text is at most 32,768 bytes long, and the grammar derives the tree from its words.

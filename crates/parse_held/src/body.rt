@@ -1,6 +1,7 @@
 // The sections of records: parts of the array, and as they stand in an image.
 use crate::Tally;
 use image_records::bytes;
+use image_records::record_sizes;
 use parse_tables::Table;
 use parse_tables::rows;
 ghost use mathlib.Core.List.{List, _++_};
@@ -25,7 +26,7 @@ pub fn rows_of(work: &[u8], table: Table, n: u16) -> &[u8]
 pub fn nodes_of(work: &[u8], n: u16) -> &[u8]
     ensures { λ r. ⌜ now r ≡ held n (now (work .entry)) .nodes ⌝ }
 {
-    bytes::part(work, 0, 8 * n as usize)
+    bytes::part(work, 0, record_sizes::NODE * n as usize)
 }
 
 // The places beside them.
@@ -39,11 +40,15 @@ pub fn node_places_of(work: &[u8], n: u16) -> &[u8]
 pub fn put(image: &mut [u8], work: &[u8], c: Tally)
     ensures { λ _. ⌜ ((p : List ℕ) → length (now (work .entry)) ≡ 275296 → Few c → length p ≡ 52 → now (image .entry) ≡ filled (length (now (image .entry))) p → namesFrom (countsHeld c 0) ≤ length (now (image .entry)) → now (image .exit) ≡ filled (length (now (image .entry))) (p ++ recordsHeld (now (work .entry)) c)) ⌝ }
 {
-    let operations = 52 + 13 * c.facilities as usize;
-    let expressions = operations + 5 * c.operations as usize;
-    let actions = expressions + 8 * c.nodes as usize;
-    let states = actions + 7 * c.actions as usize;
-    bytes::put(image, 52, rows_of(work, Table::Facilities, c.facilities));
+    let operations = record_sizes::HEADER + record_sizes::FACILITY * c.facilities as usize;
+    let expressions = operations + record_sizes::OPERATION * c.operations as usize;
+    let actions = expressions + record_sizes::NODE * c.nodes as usize;
+    let states = actions + record_sizes::ACTION * c.actions as usize;
+    bytes::put(
+        image,
+        record_sizes::HEADER,
+        rows_of(work, Table::Facilities, c.facilities),
+    );
     bytes::put(
         image,
         operations,

@@ -1,5 +1,6 @@
 // How many records of each section there are.
 use crate::Tally;
+use image_records::record_sizes;
 use image_sections::header::Counts;
 ghost use mathlib.Core.Path.{_≡_};
 ghost use Prim.Native.Nat.{_≤_, min};
@@ -30,11 +31,11 @@ pub fn within(c: Tally) -> Tally
 pub fn names_from(c: Tally) -> usize
     ensures { λ r. ⌜ (r ≡ namesFrom (countsHeld c 0)) × (r ≤ 3000000) ⌝ }
 {
-    let operations = 52 + 13 * c.facilities as usize;
-    let expressions = operations + 5 * c.operations as usize;
-    let actions = expressions + 8 * c.nodes as usize;
-    let states = actions + 7 * c.actions as usize;
-    states + 7 * c.states as usize
+    let operations = record_sizes::HEADER + record_sizes::FACILITY * c.facilities as usize;
+    let expressions = operations + record_sizes::OPERATION * c.operations as usize;
+    let actions = expressions + record_sizes::NODE * c.nodes as usize;
+    let states = actions + record_sizes::ACTION * c.actions as usize;
+    states + record_sizes::STATE * c.states as usize
 }
 
 // What a header counts.

@@ -5,6 +5,7 @@ use Prim.Native.Nat.{ℕ, _+_, _-_, _*_, _≤_, min}
 use native.Mathlib.Omega.{arith}
 use lib.ListN.{drop, length, length-drop, take}
 use lib.Seq.{drop-at, drop-drop, length-take-le, take-add, take-take}
+use Rattle.language.specs.Encode.{nodeSize}
 use Rattle.language.specs.Naming.{Scope}
 use Rattle.parse_names.specs.declared.Counts.{Counts}
 use Rattle.parse_names.specs.Known.{Known}
@@ -61,7 +62,7 @@ module _ (w w′ : List ℕ) where
 
   pub front-kept : length w ≡ 275296 → length w′ ≡ 275296 → expressions w′ ≡ expressions w → (n : ℕ) → n ≤ 15888 → frontOf n w′ ≡ frontOf n w
   unfolding frontOf held placesFrom
-  front-kept l l′ e n h = same-held (front-part l l′ e 0 (8 * n) (omega arith)) (front-part l l′ e 127104 (6 * n) (omega arith)) refl
+  front-kept l l′ e n h = same-held (front-part l l′ e 0 (nodeSize * n) (omega arith)) (front-part l l′ e 127104 (6 * n) (omega arith)) refl
 
 -- ---- The names known.
 

@@ -4,6 +4,7 @@ use crate::extents::Extent;
 use crate::names;
 use crate::rows;
 use image_records::numbers;
+use image_records::record_sizes;
 use image_sections::facilities::Bounds;
 use image_sections::facilities::Facility;
 use image_sections::facilities::Kind;
@@ -39,7 +40,7 @@ fn low_bounds(first: u32, last: u32) -> Bounds
 }
 
 // The bytes of a record, for a place in the store of which the low 16 bits are given.
-pub fn facility_record(x: Declared, place: u16) -> [u8; 13]
+pub fn facility_record(x: Declared, place: u16) -> [u8; record_sizes::FACILITY]
     ensures { λ r. ⌜ ((name : Name) (at : ℕ) → length name ≡ x .size → place ≡ at % 65536 → r ≡ facilityRecord at (facilitySaid name x)) ⌝ }
 {
     let extent = x.extent;

@@ -3,6 +3,7 @@ use crate::Table;
 use crate::names;
 use crate::places;
 use crate::rows;
+use image_records::record_sizes;
 use image_sections::operations;
 use image_sections::operations::Operation;
 use image_sections::runs::Run;
@@ -16,7 +17,7 @@ ghost use Rattle.language.specs.Tree.{Name};
 ghost use Rattle.parse_tables.specs.Operations.{OperationAdded};
 
 // The bytes of a record.
-fn operation_row(size: usize, body: Run) -> [u8; 5]
+fn operation_row(size: usize, body: Run) -> [u8; record_sizes::OPERATION]
     ensures { λ r. ⌜ ((name : Name) → length name ≡ size → r ≡ operationRecord (record { name = name; body = runMeant body })) ⌝ }
 {
     let name = (size % 256) as u8;

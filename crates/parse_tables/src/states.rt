@@ -2,6 +2,7 @@
 use crate::Table;
 use crate::places;
 use crate::rows;
+use image_records::record_sizes;
 use image_sections::runs::Run;
 use image_sections::states;
 use image_sections::states::State;
@@ -18,7 +19,7 @@ ghost use Rattle.text_words.specs.Meaning.{positioned};
 ghost use Rattle.parse_tables.specs.States.{StateAdded};
 
 // The bytes of a record.
-fn state_row(size: usize, value: StateValue, actions: Run) -> [u8; 7]
+fn state_row(size: usize, value: StateValue, actions: Run) -> [u8; record_sizes::STATE]
     ensures { λ r. ⌜ ((name : Name) → length name ≡ size → r ≡ stateRecord (record { name = name; value = valueMeant value; actions = runMeant actions })) ⌝ }
 {
     let name = (size % 256) as u8;

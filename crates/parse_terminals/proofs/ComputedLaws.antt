@@ -24,6 +24,7 @@ use Rattle.language.specs.Building.{expressionNo, wordNo}
 use Rattle.language.specs.Declaring.{makeComputed}
 use Rattle.language.specs.Describe.{Noted, expressionSize, nodesOf}
 use Rattle.language.specs.DescribeText.{facilityNodes, facilitySize}
+use Rattle.language.specs.Encode as Encode
 use Rattle.language.specs.Machine.{ask, both, deepest, expression, functionOf, make, mostCounted, mostFacilities, mostOperations, mostStates, withinCeilings}
 use Rattle.language.specs.Naming.{Scope}
 use Rattle.language.specs.Tree as T
@@ -50,7 +51,7 @@ tabled-kept : {text : List ℕ} {ds : List Declaration} {place n : ℕ} {w w′ 
 unfolding rows
 tabled-kept {text} {n = n} {w} {w′} t e = record {
   known = t .known;
-  records = ap (take (13 * n)) (behind-expressions 39168 w w′ e) ∙ t .records;
+  records = ap (take (Encode.facilitySize * n)) (behind-expressions 39168 w w′ e) ∙ t .records;
   places = ap (take (12 * n)) (behind-expressions 42496 w w′ e) ∙ t .places;
   names = ap (λ (v : List ℕ). namesIn text v n) e ∙ t .names;
   store = t .store;

@@ -17,6 +17,7 @@ use Rattle.language.specs.Value.{Value}
 use Rattle.image_records.specs.declared.actions.Action.{Action}
 use Rattle.image_records.specs.declared.actions.Action.the-variants as A
 use Rattle.image_sections.specs.Declarations.{operationIn}
+use Rattle.language.specs.Encode.{actionSize}
 use Rattle.run_references.specs.Described.{Describes}
 use Rattle.run_references.specs.declared.arms.Found.{Found}
 use Rattle.run_references.specs.declared.arms.Found.the-variants as F
@@ -51,7 +52,7 @@ ForActs F O E S states v claim = (d : Description) (c : T.Doing InBytes) → Act
 
 -- An arm that is found is a record of the section, of n bytes.
 abbrev pub Within : ℕ → ℕ → Found → Type 0
-Within i n (F.At x) = i < n / 7
+Within i n (F.At x) = i < n / actionSize
 Within i n F.Nowhere = Unit {0}
 
 abbrev pub runOf : ℕ → ℕ → D.Run

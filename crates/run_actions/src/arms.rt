@@ -1,6 +1,7 @@
 // The arms of a conditional action, which stand one after another behind it.
 use image_records::actions;
 use image_records::actions::Action;
+use image_records::record_sizes;
 use run_references::arms::Found;
 ghost use mathlib.Core.Path.{_≡_};
 ghost use Prim.Native.Nat.{_-_};
@@ -20,7 +21,7 @@ pub enum Arm {
 fn arm_size(section: &[u8], i: usize) -> Found
     ensures { λ r. ⌜ Within i (length (now (section .entry))) r × ((d : Description) → Actions d (now (section .entry)) → foundMeant r ≡ T.armSize (actionAt d i)) ⌝ }
 {
-    if section.len() / 7 <= i {
+    if section.len() / record_sizes::ACTION <= i {
         return Found::Nowhere;
     }
     let Action::Arm(x) = actions::action_at(section, i) else {

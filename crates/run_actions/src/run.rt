@@ -3,6 +3,7 @@ use crate::arms;
 use crate::arms::Arm;
 use crate::simple;
 use image_records::actions::Action;
+use image_records::record_sizes;
 use run_expressions::eval;
 use run_references::arms::Found;
 use run_references::bounds;
@@ -16,6 +17,7 @@ ghost use lib.ListN.{length};
 ghost use Rattle.language.specs.Acting as T;
 ghost use Rattle.language.specs.Meaning as M;
 ghost use Rattle.image_records.specs.Actions.{meant};
+ghost use Rattle.language.specs.Encode.{actionSize, operationSize};
 ghost use Rattle.store_layout.specs.InBytes.{bytes};
 ghost use Rattle.run_stores.specs.Seen.{did, ranSeen, viewed};
 ghost use Rattle.run_actions.specs.Acts.{ForActs, armDone, armMeant, chosenDone, oneDone, runOf, whenDone};
@@ -79,7 +81,7 @@ fn when(
     x: u16,
     g: Doing,
 ) -> Did
-    requires { ⌜ i < length (now actions) / 7 ⌝ }
+    requires { ⌜ i < length (now actions) / actionSize ⌝ }
     ensures { λ r. ⌜ ForActs (now (facilities .entry)) (now (operations .entry)) (now (expressions .entry)) (now (actions .entry)) states (viewed g (now (store .entry)) (now (pending .entry)) (now (mask .entry))) (λ d c. did r (now (store .exit)) (now (pending .exit)) (now (mask .exit)) ≡ ranSeen (T.onValue (M.evalAt (bytes d) d (c .store) e) (λ v. whenDone (bytes d) d (T.operationBelow (bytes d) d limit) (T.listBelow (bytes d) d (T.operationBelow (bytes d) d limit) (suc m)) i x v c))) ⌝ }
 {
     let w = eval::eval(facilities, expressions, store, e as usize);
@@ -132,7 +134,7 @@ fn choose(
     x: u16,
     g: Doing,
 ) -> Did
-    requires { ⌜ i < length (now actions) / 7 ⌝ }
+    requires { ⌜ i < length (now actions) / actionSize ⌝ }
     ensures { λ r. ⌜ ForActs (now (facilities .entry)) (now (operations .entry)) (now (expressions .entry)) (now (actions .entry)) states (viewed g (now (store .entry)) (now (pending .entry)) (now (mask .entry))) (λ d c. did r (now (store .exit)) (now (pending .exit)) (now (mask .exit)) ≡ ranSeen (T.onValue (M.evalAt (bytes d) d (c .store) e) (λ v. chosenDone (bytes d) d (T.operationBelow (bytes d) d limit) (T.listBelow (bytes d) d (T.operationBelow (bytes d) d limit) (suc m)) i x (M.armNumber n (v .number)) c))) ⌝ }
 {
     let w = eval::eval(facilities, expressions, store, e as usize);
@@ -218,7 +220,7 @@ fn one(
     a: Action,
     g: Doing,
 ) -> Did
-    requires { ⌜ i < length (now actions) / 7 ⌝ }
+    requires { ⌜ i < length (now actions) / actionSize ⌝ }
     ensures { λ r. ⌜ ForActs (now (facilities .entry)) (now (operations .entry)) (now (expressions .entry)) (now (actions .entry)) states (viewed g (now (store .entry)) (now (pending .entry)) (now (mask .entry))) (λ d c. did r (now (store .exit)) (now (pending .exit)) (now (mask .exit)) ≡ ranSeen (oneDone (bytes d) d (T.operationBelow (bytes d) d limit) (T.listBelow (bytes d) d (T.operationBelow (bytes d) d limit) (suc m)) i (meant a) c)) ⌝ }
 {
     match a {
@@ -289,7 +291,7 @@ pub fn run_list(
 ) -> Did
     ensures { λ r. ⌜ ForActs (now (facilities .entry)) (now (operations .entry)) (now (expressions .entry)) (now (actions .entry)) states (viewed g (now (store .entry)) (now (pending .entry)) (now (mask .entry))) (λ d c. did r (now (store .exit)) (now (pending .exit)) (now (mask .exit)) ≡ ranSeen (T.runList (bytes d) d (T.operationBelow (bytes d) d limit) (runOf first count) c)) ⌝ }
 {
-    let all = actions.len() / 7;
+    let all = actions.len() / record_sizes::ACTION;
     let mut i = first;
     let mut left = count;
     let mut h = g;
@@ -342,9 +344,9 @@ pub fn run_actions(
     count: u16,
     g: Doing,
 ) -> Did
-    ensures { λ r. ⌜ ForActs (now (facilities .entry)) (now (operations .entry)) (now (expressions .entry)) (now (actions .entry)) states (viewed g (now (store .entry)) (now (pending .entry)) (now (mask .entry))) (λ d c. (length (d .operations) ≡ length (now (operations .entry)) / 5 → did r (now (store .exit)) (now (pending .exit)) (now (mask .exit)) ≡ ranSeen (T.runActions (bytes d) d (runOf first count) c))) ⌝ }
+    ensures { λ r. ⌜ ForActs (now (facilities .entry)) (now (operations .entry)) (now (expressions .entry)) (now (actions .entry)) states (viewed g (now (store .entry)) (now (pending .entry)) (now (mask .entry))) (λ d c. (length (d .operations) ≡ length (now (operations .entry)) / operationSize → did r (now (store .exit)) (now (pending .exit)) (now (mask .exit)) ≡ ranSeen (T.runActions (bytes d) d (runOf first count) c))) ⌝ }
 {
-    let limit = operations.len() / 5;
+    let limit = operations.len() / record_sizes::OPERATION;
     run_list(
         facilities,
         operations,

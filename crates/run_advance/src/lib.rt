@@ -14,6 +14,7 @@ ghost use Rattle.run_next.specs.Seen.{recordMeant};
 ghost use Rattle.run_end.specs.Register.{Enters};
 ghost use Rattle.run_end.specs.Stepped.{Clear, counted, stepped};
 ghost use Rattle.call_left.specs.Kept.{kept};
+ghost use Rattle.language.specs.Encode.{facilitySize, operationSize, stateSize};
 
 // A cycle by value: where it does not complete, the answer has the record before it.
 fn settle(
@@ -28,8 +29,8 @@ fn settle(
     pending: &mut [u8],
     mask: &mut [u8],
 ) -> Stepped
-    requires { ⌜ (length (now facilities) / 13 ≤ 65536) × (length (now states) / 7 ≤ 65536) × (r .held ≤ 16) ⌝ }
-    ensures { λ a. ⌜ ((d : Description) → Enters d (now (facilities .entry)) (now (expressions .entry)) (now (states .entry)) → Acts d (now (facilities .entry)) (now (operations .entry)) (now (expressions .entry)) (now (actions .entry)) (length (now (states .entry)) / 7) → length (d .operations) ≡ length (now (operations .entry)) / 5 → storeSizeOf (d .facilities) ≤ length (now (store .entry)) → stimulusSize d ≤ length (now (stimulus .entry)) → Clear (now (store .entry)) (now (pending .entry)) (now (mask .entry)) → stepped (d .facilities) a (now (store .exit)) ≡ counted (S.step d (fromBytes (d .facilities) (now (store .entry))) (recordMeant r) (fromBytes (inputsOf (d .facilities)) (now (stimulus .entry))))) × (a .record ≡ kept (a .verdict) r (a .record)) ⌝ }
+    requires { ⌜ (length (now facilities) / facilitySize ≤ 65536) × (length (now states) / stateSize ≤ 65536) × (r .held ≤ 16) ⌝ }
+    ensures { λ a. ⌜ ((d : Description) → Enters d (now (facilities .entry)) (now (expressions .entry)) (now (states .entry)) → Acts d (now (facilities .entry)) (now (operations .entry)) (now (expressions .entry)) (now (actions .entry)) (length (now (states .entry)) / 7) → length (d .operations) ≡ length (now (operations .entry)) / operationSize → storeSizeOf (d .facilities) ≤ length (now (store .entry)) → stimulusSize d ≤ length (now (stimulus .entry)) → Clear (now (store .entry)) (now (pending .entry)) (now (mask .entry)) → stepped (d .facilities) a (now (store .exit)) ≡ counted (S.step d (fromBytes (d .facilities) (now (store .entry))) (recordMeant r) (fromBytes (inputsOf (d .facilities)) (now (stimulus .entry))))) × (a .record ≡ kept (a .verdict) r (a .record)) ⌝ }
 {
     let s = run_step::step::step(
         facilities,
@@ -59,8 +60,8 @@ pub fn advance(
     pending: &mut [u8],
     mask: &mut [u8],
 ) -> Stepped
-    requires { ⌜ (length (now facilities) / 13 ≤ 65536) × (length (now states) / 7 ≤ 65536) × (now r .held ≤ 16) ⌝ }
-    ensures { λ a. ⌜ ((d : Description) → Enters d (now (facilities .entry)) (now (expressions .entry)) (now (states .entry)) → Acts d (now (facilities .entry)) (now (operations .entry)) (now (expressions .entry)) (now (actions .entry)) (length (now (states .entry)) / 7) → length (d .operations) ≡ length (now (operations .entry)) / 5 → storeSizeOf (d .facilities) ≤ length (now (store .entry)) → stimulusSize d ≤ length (now (stimulus .entry)) → Clear (now (store .entry)) (now (pending .entry)) (now (mask .entry)) → stepped (d .facilities) a (now (store .exit)) ≡ counted (S.step d (fromBytes (d .facilities) (now (store .entry))) (recordMeant (now (r .entry))) (fromBytes (inputsOf (d .facilities)) (now (stimulus .entry))))) × (a .record ≡ kept (a .verdict) (now (r .entry)) (a .record)) × (now (r .exit) ≡ a .record) ⌝ }
+    requires { ⌜ (length (now facilities) / facilitySize ≤ 65536) × (length (now states) / stateSize ≤ 65536) × (now r .held ≤ 16) ⌝ }
+    ensures { λ a. ⌜ ((d : Description) → Enters d (now (facilities .entry)) (now (expressions .entry)) (now (states .entry)) → Acts d (now (facilities .entry)) (now (operations .entry)) (now (expressions .entry)) (now (actions .entry)) (length (now (states .entry)) / 7) → length (d .operations) ≡ length (now (operations .entry)) / operationSize → storeSizeOf (d .facilities) ≤ length (now (store .entry)) → stimulusSize d ≤ length (now (stimulus .entry)) → Clear (now (store .entry)) (now (pending .entry)) (now (mask .entry)) → stepped (d .facilities) a (now (store .exit)) ≡ counted (S.step d (fromBytes (d .facilities) (now (store .entry))) (recordMeant (now (r .entry))) (fromBytes (inputsOf (d .facilities)) (now (stimulus .entry))))) × (a .record ≡ kept (a .verdict) (now (r .entry)) (a .record)) × (now (r .exit) ≡ a .record) ⌝ }
 {
     let s = settle(
         facilities,

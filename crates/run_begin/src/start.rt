@@ -2,6 +2,7 @@
 use crate::ranges;
 use crate::sizes;
 use image_records::bytes;
+use image_records::record_sizes;
 use image_sections::facilities;
 use image_sections::facilities::Facility;
 use image_sections::facilities::Kind;
@@ -15,6 +16,7 @@ ghost use Rattle.language.specs.Layout.{storeSizeOf};
 ghost use Rattle.language.specs.Store as L;
 ghost use Rattle.language.specs.Tree.{Name};
 ghost use Rattle.image_sections.specs.Declarations.{facilityMeant};
+ghost use Rattle.language.specs.Encode.{facilitySize};
 ghost use Rattle.run_references.specs.Described.{Describes};
 ghost use Rattle.run_begin.specs.InBytes.{begunAt};
 
@@ -40,10 +42,10 @@ fn begin_one(store: &mut [u8], f: Facility, stimulus: &[u8], at: usize)
 
 // Every facility: the bytes of the words that the cycle begins with, in front of what lies beyond the store.
 pub fn begin(section: &[u8], store: &mut [u8], stimulus: &[u8])
-    requires { ⌜ length (now section) / 13 ≤ 65536 ⌝ }
+    requires { ⌜ length (now section) / facilitySize ≤ 65536 ⌝ }
     ensures { λ _. ⌜ ((d : Description) (E : List ℕ) → Describes d (now (section .entry)) E → storeSizeOf (d .facilities) ≤ length (now (store .entry)) → stimulusSize d ≤ length (now (stimulus .entry)) → now (store .exit) ≡ over (L.toBytes (d .facilities) (L.begin (d .facilities) (L.fromBytes (d .facilities) (now (store .entry))) (L.fromBytes (L.inputsOf (d .facilities)) (now (stimulus .entry))))) (now (store .entry))) ⌝ }
 {
-    let count = section.len() / 13;
+    let count = section.len() / record_sizes::FACILITY;
     let mut n: usize = 0;
     let mut at: usize = 0;
     while n < count {

@@ -1,5 +1,6 @@
 // The stimulus: the input terminals' words one after the other, of the right length and without spare bits.
 use crate::sizes;
+use image_records::record_sizes;
 use image_sections::facilities;
 use image_sections::facilities::Facility;
 use image_sections::kinds;
@@ -30,7 +31,7 @@ fn fits(stimulus: &[u8], at: usize, f: Facility) -> bool
 pub fn well_formed(section: &[u8], stimulus: &[u8]) -> bool
     ensures { λ r. ⌜ ((d : Description) (E : List ℕ) → Describes d (now (section .entry)) E → r ≡ wellFormed d (now (stimulus .entry))) ⌝ }
 {
-    let count = section.len() / 13;
+    let count = section.len() / record_sizes::FACILITY;
     let mut n: usize = 0;
     let mut at: usize = 0;
     while n < count {

@@ -6,6 +6,7 @@ use mathlib.Core.Path.{_≡_}
 use Prim.Native.Nat.{ℕ, _/_, _^_, _≤_, _<_}
 use lib.ListN.{length}
 use Rattle.language.specs.Description.{Description, facilityAt, sequencingOf, wordLength}
+use Rattle.language.specs.Encode.{stateSize}
 use Rattle.language.specs.Step.{stateNumber}
 use Rattle.language.specs.Store.{Words}
 use Rattle.run_references.specs.Described.{Describes}
@@ -21,7 +22,7 @@ pub record Enters (d : Description) (F E T : List ℕ) : Type 0 where
   pub described : Describes d F E
   pub valued : Valued d E T
   pub register : Holds d
-  pub states : length (d .states) ≡ length T / 7
+  pub states : length (d .states) ≡ length T / stateSize
 
 -- The words left, unless the state entered has no value.
 abbrev pub entered : Bool → Words → Option Words

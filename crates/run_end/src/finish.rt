@@ -3,6 +3,7 @@ use crate::outcome;
 use crate::outcome::Stepped;
 use crate::outcome::Verdict;
 use crate::register;
+use image_records::record_sizes;
 use run_next::bearer;
 use run_next::record;
 use run_next::record::Record;
@@ -19,6 +20,7 @@ ghost use Prim.Native.Nat.{_/_, _≤_, _<_};
 ghost use lib.ListN.{length};
 ghost use Rattle.language.specs.Acting as T;
 ghost use Rattle.language.specs.Description.{Description};
+ghost use Rattle.language.specs.Encode.{facilitySize, stateSize};
 ghost use Rattle.language.specs.Layout.{storeSizeOf};
 ghost use Rattle.language.specs.Step as S;
 ghost use Rattle.language.specs.Store.{Held, fromBytes};
@@ -36,7 +38,7 @@ fn borne(
     store: &[u8],
     sequenced: bool,
 ) -> Found
-    requires { ⌜ (length (now facilities) / 13 ≤ 65536) × (length (now states) / 7 ≤ 65536) ⌝ }
+    requires { ⌜ (length (now facilities) / facilitySize ≤ 65536) × (length (now states) / stateSize ≤ 65536) ⌝ }
     ensures { λ r. ⌜ ((d : Description) → Enters d (now (facilities .entry)) (now (expressions .entry)) (now (states .entry)) → storeSizeOf (d .facilities) ≤ length (now (store .entry)) → sequenced ≡ true → foundMeant r ≡ S.sequencedState d (fromBytes (d .facilities) (now (store .entry)))) ⌝ }
 {
     if !sequenced {
@@ -56,7 +58,7 @@ fn enter(
     borne: Found,
     store: &mut [u8],
 ) -> Stepped
-    requires { ⌜ (length (now facilities) / 13 ≤ 65536) × (r .state < 4294967295) × (r .cycle < 4294967295) × (r .held ≤ 16) ⌝ }
+    requires { ⌜ (length (now facilities) / facilitySize ≤ 65536) × (r .state < 4294967295) × (r .cycle < 4294967295) × (r .held ≤ 16) ⌝ }
     ensures { λ a. ⌜ ((d : Description) (c : T.Doing Held) → Enters d (now (facilities .entry)) (now (expressions .entry)) (now (states .entry)) → storeSizeOf (d .facilities) ≤ length (now (store .entry)) → Landed d g (now (store .entry)) c → (c .sequenced ≡ true → foundMeant borne ≡ S.sequencedState d (fromBytes (d .facilities) (now (store .entry)))) → stepped (d .facilities) a (now (store .exit)) ≡ counted (S.orStopped d (recordMeant r) c none)) ⌝ }
 {
     let next = record::plain_next(r, g, borne);
@@ -82,12 +84,12 @@ pub fn finish(
     pending: &[u8],
     mask: &[u8],
 ) -> Stepped
-    requires { ⌜ (length (now facilities) / 13 ≤ 65536) × (length (now states) / 7 ≤ 65536) × (r .state < 4294967295) × (r .cycle < 4294967295) × (r .held ≤ 16) ⌝ }
+    requires { ⌜ (length (now facilities) / facilitySize ≤ 65536) × (length (now states) / stateSize ≤ 65536) × (r .state < 4294967295) × (r .cycle < 4294967295) × (r .held ≤ 16) ⌝ }
     ensures { λ a. ⌜ ((d : Description) (c : T.Doing Held) → Enters d (now (facilities .entry)) (now (expressions .entry)) (now (states .entry)) → storeSizeOf (d .facilities) ≤ length (now (store .entry)) → Landed d g (landed (now (store .entry)) (now (pending .entry)) (now (mask .entry))) c → stepped (d .facilities) a (now (store .exit)) ≡ counted (S.finished d (recordMeant r) c)) ⌝ }
 {
     delayed::land(store, pending, mask);
     let found = borne(facilities, expressions, states, store, g.sequenced);
-    let count = (states.len() / 7) as u32;
+    let count = (states.len() / record_sizes::STATE) as u32;
     match stops::stop_after(count, r, g, found) {
         Stop::At(n) => outcome::without(Verdict::Stopped(n), r),
         Stop::None => enter(facilities, expressions, states, r, g, found, store),

@@ -20,6 +20,7 @@ ghost use Rattle.language.specs.Store.{fromBytes};
 ghost use Rattle.language.specs.Tree.{Name};
 ghost use Rattle.value_limbs.specs.Limbs.{number};
 ghost use Rattle.image_sections.specs.Declarations.{facilityMeant};
+ghost use Rattle.language.specs.Encode.{facilitySize};
 ghost use Rattle.store_layout.specs.Parts.{saved};
 ghost use Rattle.run_references.specs.Described.{Describes};
 ghost use Rattle.run_end.specs.Register.{Enters, Holds, entered};
@@ -44,7 +45,7 @@ pub fn set_register(
     store: &mut [u8],
     s: u32,
 ) -> bool
-    requires { ⌜ length (now facilities) / 13 ≤ 65536 ⌝ }
+    requires { ⌜ length (now facilities) / facilitySize ≤ 65536 ⌝ }
     ensures { λ r. ⌜ ((d : Description) → Enters d (now (facilities .entry)) (now (expressions .entry)) (now (states .entry)) → storeSizeOf (d .facilities) ≤ length (now (store .entry)) → entered r (fromBytes (d .facilities) (now (store .exit))) ≡ setRegister d (sequencingOf d) (stateNumber d s) (fromBytes (d .facilities) (now (store .entry)))) ⌝ }
 {
     let Found::At(f) = register::sequencing(facilities) else {
@@ -63,7 +64,7 @@ pub fn set_register(
 
 // The register's value, or 0 where there is no register.
 pub fn register_value(facilities: &[u8], store: &[u8]) -> Value
-    requires { ⌜ length (now facilities) / 13 ≤ 65536 ⌝ }
+    requires { ⌜ length (now facilities) / facilitySize ≤ 65536 ⌝ }
     ensures { λ r. ⌜ ((d : Description) (E : List ℕ) → Describes d (now (facilities .entry)) E → Holds d → storeSizeOf (d .facilities) ≤ length (now (store .entry)) → number (r .limbs) ≡ registerValue d (sequencingOf d) (fromBytes (d .facilities) (now (store .entry)))) ⌝ }
 {
     let Found::At(f) = register::sequencing(facilities) else {

@@ -1,6 +1,7 @@
 // What a record of the expressions is worth, from its parts, which stand before it. Only what is needed is worked out.
 use image_records::nodes;
 use image_records::nodes::Node;
+use image_records::record_sizes;
 use image_sections::facilities;
 use image_sections::facilities::Bounds;
 use image_sections::facilities::Facility;
@@ -118,7 +119,7 @@ pub fn place_of(
     ensures { λ r. ⌜ SideRead (now (section .entry)) number r × ForEach (now (section .entry)) (now (expressions .entry)) (now (store .entry)) (λ d x. sideMeant r ≡ placeOf d (evalBelow (bytes d) d x n) (refersTo number s)) ⌝ }
 {
     let f = facilities::facility_at(section, number as usize);
-    if section.len() / 13 <= number as usize {
+    if section.len() / record_sizes::FACILITY <= number as usize {
         return Side::Stuck(Stuck::NoFacility);
     }
     if !places::right_count(f.dimensions, s) {

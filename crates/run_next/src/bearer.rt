@@ -1,4 +1,5 @@
 // The state whose value the sequencing register has.
+use image_records::record_sizes;
 use image_sections::states;
 use image_sections::states::StateValue;
 use run_references::arms::Found;
@@ -13,6 +14,7 @@ ghost use Rattle.language.specs.Description.{Description};
 ghost use Rattle.language.specs.Step as S;
 ghost use Rattle.value_limbs.specs.Limbs.{number};
 ghost use Rattle.image_sections.specs.Declarations.{valueMeant};
+ghost use Rattle.language.specs.Encode.{stateSize};
 ghost use Rattle.run_references.specs.Places.{foundMeant};
 ghost use Rattle.run_next.specs.Values.{Valued};
 
@@ -31,10 +33,10 @@ fn bears(expressions: &[u8], value: StateValue, x: Value) -> bool
 
 // The first state that bears x.
 pub fn bearer(expressions: &[u8], section: &[u8], x: Value) -> Found
-    requires { ⌜ length (now section) / 7 ≤ 65536 ⌝ }
+    requires { ⌜ length (now section) / stateSize ≤ 65536 ⌝ }
     ensures { λ r. ⌜ ((d : Description) → Valued d (now (expressions .entry)) (now (section .entry)) → foundMeant r ≡ S.bearer d (length (now (section .entry)) / 7) 0 (number (x .limbs))) ⌝ }
 {
-    let count = section.len() / 7;
+    let count = section.len() / record_sizes::STATE;
     let mut n: usize = 0;
     while n < count {
         let s = states::state_at(section, n);

@@ -1,4 +1,5 @@
 // The sequencing register: which facility it is, and its value.
+use image_records::record_sizes;
 use image_sections::facilities;
 use image_sections::facilities::Facility;
 use image_sections::kinds;
@@ -15,16 +16,17 @@ ghost use Rattle.language.specs.Layout.{wordBytes};
 ghost use Rattle.language.specs.Tree.{Name};
 ghost use Rattle.value_operators.specs.Meaning.{valued};
 ghost use Rattle.image_sections.specs.Declarations.{facilityMeant};
+ghost use Rattle.language.specs.Encode.{facilitySize};
 ghost use Rattle.store_layout.specs.Parts.{loaded};
 ghost use Rattle.run_references.specs.Described.{Describes};
 ghost use Rattle.run_references.specs.Places.{foundMeant};
 
 // The first sequencing register, if any.
 pub fn sequencing(section: &[u8]) -> Found
-    requires { ⌜ length (now section) / 13 ≤ 65536 ⌝ }
+    requires { ⌜ length (now section) / facilitySize ≤ 65536 ⌝ }
     ensures { λ r. ⌜ ((d : Description) (E : List ℕ) → Describes d (now (section .entry)) E → foundMeant r ≡ sequencingOf d) ⌝ }
 {
-    let count = section.len() / 13;
+    let count = section.len() / record_sizes::FACILITY;
     let mut n: usize = 0;
     while n < count {
         let f = facilities::facility_at(section, n);

@@ -14,9 +14,10 @@ use Rattle.language.specs.Description.{constantValue, digitLength}
 use Rattle.language.specs.Value.{Value, value}
 use Rattle.image_records.proofs.DigitLaws.{constant-digits, further-of}
 use Rattle.image_records.specs.Nodes.{constantNumber, digits, held}
+use Rattle.language.specs.Encode.{nodeSize}
 use Rattle.value_operators.proofs.Fits.{joined-cut}
 
-digits-more : (k n : ℕ) (s : List ℕ) → digits (k + 1) (n + 1) s ≡ digits k n s * 2 ^ 48 + numberAt 6 (8 * n + 2) s
+digits-more : (k n : ℕ) (s : List ℕ) → digits (k + 1) (n + 1) s ≡ digits k n s * 2 ^ 48 + numberAt 6 (nodeSize * n + 2) s
 unfolding digits digitLength
 digits-more k n s = rw (add-one k, add-one n)
 
@@ -33,12 +34,12 @@ pub digits-start : (i f : ℕ) (s : List ℕ) → i ≡ f → 0 ≡ digits (i - 
 unfolding digits
 digits-start i f s h = let e : i - f ≡ 0 = omega arith in rw e
 
-pub digits-next : (i f : ℕ) (s : List ℕ) {x y : ℕ} → f ≤ i → x ≡ digits (i - f) i s % 2 ^ 256 → y ≡ numberAt 6 (8 * i + 2) s
+pub digits-next : (i f : ℕ) (s : List ℕ) {x y : ℕ} → f ≤ i → x ≡ digits (i - f) i s % 2 ^ 256 → y ≡ numberAt 6 (nodeSize * i + 2) s
     → (x * 2 ^ 48 + y) % 2 ^ 256 ≡ digits (i + 1 - f) (i + 1) s % 2 ^ 256
 digits-next i f s h p q =
     let e : i + 1 - f ≡ i - f + 1 = omega arith in
     ap₂ (λ (a b : ℕ). (a * 2 ^ 48 + b) % 2 ^ 256) p q
-    ∙ joined-cut (digits (i - f) i s) (2 ^ 48) (numberAt 6 (8 * i + 2) s) (2 ^ 256)
+    ∙ joined-cut (digits (i - f) i s) (2 ^ 48) (numberAt 6 (nodeSize * i + 2) s) (2 ^ 256)
     ∙ rw e (ap (λ (a : ℕ). a % 2 ^ 256) (sym (digits-more (i - f) i s)))
 
 pub digits-end : (i k n : ℕ) (s : List ℕ) → i ≡ n + 1 → digits (i - (n - k)) i s ≡ digits (suc k) (suc n) s
@@ -58,7 +59,7 @@ unfolding held
 none-held e = rw e
 
 pub value-held : (s : List ℕ) (n l : ℕ) {x : ℕ} → D.constant (value l (constantNumber n s)) ≡ nodeOf s n
-    → x ≡ digits (suc (getD s (8 * n + 1) 0 / 48)) (suc n) s % 2 ^ 256 → value l x ≡ held (constantValue (nodeOf s n))
+    → x ≡ digits (suc (getD s (nodeSize * n + 1) 0 / 48)) (suc n) s % 2 ^ 256 → value l x ≡ held (constantValue (nodeOf s n))
 unfolding held
 value-held s n l e p =
-    rw (← e, constant-digits n s, further-of (getD s (8 * n + 1) 0)) (ap (value l) p)
+    rw (← e, constant-digits n s, further-of (getD s (nodeSize * n + 1) 0)) (ap (value l) p)

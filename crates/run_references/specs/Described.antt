@@ -12,6 +12,7 @@ use Rattle.language.specs.Tree.{Name}
 use Rattle.language.specs.Value.{Value}
 use Rattle.image_sections.specs.Declarations.{FacilityRead, facilityIn, placeFieldIn}
 use Rattle.image_sections.specs.declared.facilities.Facility.{Facility}
+use Rattle.language.specs.Encode.{facilitySize}
 use Rattle.store_layout.specs.InBytes.{InBytes}
 
 -- The expressions of d are those of the section E.
@@ -27,7 +28,7 @@ pub record FacilityOf (d : Description) (F : List ℕ) (n : ℕ) : Type 0 where
 pub record Describes (d : Description) (F E : List ℕ) : Type 0 where
   pub nodes : Nodes d E
   pub facilities : (n : ℕ) → FacilityOf d F n
-  pub count : length (d .facilities) ≡ length F / 13
+  pub count : length (d .facilities) ≡ length F / facilitySize
   pub places : (n : ℕ) → n < length (d .facilities) → isComputed (facilityAt d n .kind) ≡ false → placeFieldIn F n ≡ placeIn (d .facilities) n
   pub fit : (n : ℕ) (v : Value) → nodeAt d n ≡ D.constant v → v .number < 2 ^ 256
 

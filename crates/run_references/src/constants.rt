@@ -2,6 +2,7 @@
 use image_records::nodes;
 use image_records::nodes::Node;
 use image_records::numbers;
+use image_records::record_sizes;
 use value_operators::Value;
 ghost use mathlib.Core.Path.{_≡_};
 ghost use Prim.Native.Nat.{suc, _+_, _-_, _*_, _%_, _^_, _≤_};
@@ -11,6 +12,7 @@ ghost use Rattle.language.specs.Description.{constantValue};
 ghost use Rattle.value_limbs.specs.Limbs.{number};
 ghost use Rattle.value_operators.specs.Meaning.{valued};
 ghost use Rattle.image_records.specs.Nodes.{digits, held};
+ghost use Rattle.language.specs.Encode.{nodeSize};
 
 // The record k before record n, or the first.
 fn before(n: usize, k: u8) -> usize
@@ -22,13 +24,13 @@ fn before(n: usize, k: u8) -> usize
 
 // The number of record n and of the k records before it, as far as there are any, modulo 2 to the 256.
 fn number_at(exprs: &[u8], n: usize, k: u8) -> [u64; 4]
-    requires { ⌜ 8 * n + 8 ≤ length (now exprs) ⌝ }
+    requires { ⌜ nodeSize * n + nodeSize ≤ length (now exprs) ⌝ }
     ensures { λ r. ⌜ number r ≡ digits (suc k) (suc n) (now (exprs .entry)) % 2 ^ 256 ⌝ }
 {
     let mut x = [0u64; 4];
     let mut i = before(n, k);
     while i <= n {
-        let digit = numbers::six_there(exprs, 8 * i + 2);
+        let digit = numbers::six_there(exprs, record_sizes::NODE * i + 2);
         let longer = value_limbs::shifts::joined(x, 48, value_limbs::small(digit));
         x = longer;
         i += 1;
@@ -44,13 +46,13 @@ pub fn constant_at(exprs: &[u8], n: usize) -> Value
         limbs: [0u64; 4],
         length: 0,
     };
-    if exprs.len() / 8 <= n {
+    if exprs.len() / record_sizes::NODE <= n {
         return none;
     }
     let Node::Constant(length) = nodes::node_at(exprs, n) else {
         return none;
     };
-    let more = exprs[8 * n + 1] / 48;
+    let more = exprs[record_sizes::NODE * n + 1] / 48;
     Value {
         limbs: number_at(exprs, n, more),
         length,

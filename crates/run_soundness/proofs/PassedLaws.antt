@@ -13,7 +13,7 @@ use lib.Pow.{pow-mono, pow-pos}
 use Rattle.language.specs.Decode.{decode, sectionAt, sectionsIn}
 use Rattle.language.specs.Description as D
 use Rattle.language.specs.Description.{Description, Facility, Node, constantValue, facilityAt, facilityPlace, isComputed, isSequencing, noPlaces, nodeAt, sequencingOf, stateAt, wordLength}
-use Rattle.language.specs.Encode.{facilityRecord, little}
+use Rattle.language.specs.Encode.{expressionsSection, facilitiesSection, facilityRecord, facilitySize, little, nodeSize, stateSize, statesSection}
 use Rattle.language.specs.Image.{passes}
 use Rattle.language.specs.Layout.{facilityBytes, placeIn, storeSizeOf}
 use Rattle.language.specs.Rules.{boundsFaults, facilitiesFaults, facilityFaults, orElse, sequencingRight}
@@ -101,21 +101,21 @@ module _ (image : List ℕ) (passed : passes image ≡ true) where
       by-test true t = value-small d n (nodeAt d n) (range-so image passed .expressions n (ltb-true n (length (d .expressions)) t))
       by-test false t = rw (List·getD-eq-default (d .expressions) D.Node.broken (ltb-false n (length (d .expressions)) t)) (pow-pos 256)
 
-  passed-place : (n : ℕ) → n < length (d .facilities) → isComputed (facilityAt d n .kind) ≡ false → placeFieldIn (sectionAt 0 13 image) n ≡ placeIn (d .facilities) n
+  passed-place : (n : ℕ) → n < length (d .facilities) → isComputed (facilityAt d n .kind) ≡ false → placeFieldIn (sectionAt facilitiesSection facilitySize image) n ≡ placeIn (d .facilities) n
   unfolding facilityAt facilityRecord little
   passed-place n l k =
       let s = facility-stands d (range-so image passed) n l in
-      let z : 13 * n + 11 + 1 ≡ 13 * n + 12 = omega arith in
+      let z : facilitySize * n + 11 + 1 ≡ facilitySize * n + 12 = omega arith in
       let p = in-room (d .facilities) n (facilityAt d n) refl l k in
       let m : placeIn (d .facilities) n < 65536 = omega (arith, p, passed-size) in
-      place-whole (sectionAt 0 13 image) n (omega (arith, facilities-many image))
-      ∙ rw (facilities-are image passed) (half-back _ (13 * n + 11) (placeIn (d .facilities) n) m (s 11 (omega arith) ∙ rw k) (rw z (s 12 (omega arith) ∙ rw k)))
+      place-whole (sectionAt facilitiesSection facilitySize image) n (omega (arith, facilities-many image))
+      ∙ rw (facilities-are image passed) (half-back _ (facilitySize * n + 11) (placeIn (d .facilities) n) m (s 11 (omega arith) ∙ rw k) (rw z (s 12 (omega arith) ∙ rw k)))
 
-  pub passed-described : Describes d (sectionAt 0 13 image) (sectionAt 2 8 image)
+  pub passed-described : Describes d (sectionAt facilitiesSection facilitySize image) (sectionAt expressionsSection nodeSize image)
   unfolding decode sectionsIn
   passed-described = sections-describe (sectionsIn image) passed-place (λ n v e. subst (λ (x : Node). constantValue x .number < 2 ^ 256) e (passed-value n))
 
-  pub passed-valued : Valued d (sectionAt 2 8 image) (sectionAt 4 7 image)
+  pub passed-valued : Valued d (sectionAt expressionsSection nodeSize image) (sectionAt statesSection stateSize image)
   unfolding decode sectionsIn
   passed-valued = record { nodes = passed-described .nodes; states = λ n. record { name = _; is = state-described (sectionsIn image) n }; fit = passed-value }
 
@@ -134,11 +134,11 @@ module _ (image : List ℕ) (passed : passes image ≡ true) where
           absurd (let z : _≡_ {A = ℕ} 0 1 = cc in omega arith)
 
   -- Few enough records.
-  pub passed-facilities : length (sectionAt 0 13 image) / 13 ≤ 65536
+  pub passed-facilities : length (sectionAt facilitiesSection facilitySize image) / facilitySize ≤ 65536
   passed-facilities = omega (arith, facilities-many image, few-facilities d (legal-so image passed))
 
-  pub passed-states : length (sectionAt 4 7 image) / 7 ≤ 65536
+  pub passed-states : length (sectionAt statesSection stateSize image) / stateSize ≤ 65536
   passed-states = omega (arith, states-many image, few-states d (legal-so image passed))
 
-  pub passed-testable : Testable d (sectionAt 0 13 image) (sectionAt 2 8 image) (sectionAt 4 7 image)
+  pub passed-testable : Testable d (sectionAt facilitiesSection facilitySize image) (sectionAt expressionsSection nodeSize image) (sectionAt statesSection stateSize image)
   passed-testable = record { described = passed-described; valued = passed-valued; states = states-many image; register = passed-register }

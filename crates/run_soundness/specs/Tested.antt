@@ -7,6 +7,7 @@ use Prim.Native.Nat.{ℕ, _/_, _≤_}
 use lib.Dec.{leb, ltb}
 use lib.ListN.{length}
 use Rattle.language.specs.Description.{Description, Facility, facilityAt, isComputed, sequencingOf, wordCount, wordLength}
+use Rattle.language.specs.Encode.{stateSize}
 use Rattle.language.specs.Judging.{both}
 use Rattle.language.specs.RecordBytes.{returnsSound}
 use Rattle.language.specs.Step.{Record, mostReturns}
@@ -18,7 +19,7 @@ use Rattle.run_next.specs.Values.{Valued}
 pub record Testable (d : Description) (F E T : List ℕ) : Type 0 where
   pub described : Describes d F E
   pub valued : Valued d E T
-  pub states : length (d .states) ≡ length T / 7
+  pub states : length (d .states) ≡ length T / stateSize
   pub register : (f : ℕ) → sequencingOf d ≡ some f → wordLength (facilityAt d f) ≤ 256
 
 -- The words of a facility whose first byte is at `at` have no spare bits; a computed terminal has none.

@@ -17,6 +17,7 @@ ghost use Rattle.language.specs.RecordBytes as L;
 ghost use Rattle.language.specs.Step as S;
 ghost use Rattle.language.specs.Store.{fromBytes, wordOf};
 ghost use Rattle.image_sections.specs.Declarations.{valueMeant};
+ghost use Rattle.language.specs.Encode.{facilitySize};
 ghost use Rattle.run_soundness.specs.Tested.{Testable};
 
 // Whether facility n, the sequencing register, has this value.
@@ -41,7 +42,7 @@ pub fn agrees(
     store: &[u8],
     state: u32,
 ) -> bool
-    requires { ⌜ length (now facilities) / 13 ≤ 65536 ⌝ }
+    requires { ⌜ length (now facilities) / facilitySize ≤ 65536 ⌝ }
     ensures { λ r. ⌜ ((d : Description) → Testable d (now (facilities .entry)) (now (expressions .entry)) (now (states .entry)) → storeSizeOf (d .facilities) ≤ length (now (store .entry)) → r ≡ L.agrees (sequencingOf d) (S.stateNumber d state) (S.registerValue d (sequencingOf d) (fromBytes (d .facilities) (now (store .entry))))) ⌝ }
 {
     match register::sequencing(facilities) {

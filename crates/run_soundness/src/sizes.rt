@@ -1,4 +1,5 @@
 // How many bytes a facility's words take in the store, and how large the store is.
+use image_records::record_sizes;
 use image_sections::facilities;
 use image_sections::facilities::Facility;
 use image_sections::kinds;
@@ -32,7 +33,7 @@ fn facility_bytes(f: Facility) -> usize
 pub fn store_size(section: &[u8]) -> usize
     ensures { λ r. ⌜ ((d : Description) (E : List ℕ) → Describes d (now (section .entry)) E → storeSizeOf (d .facilities) ≤ 16384 → r ≡ storeSizeOf (d .facilities)) ⌝ }
 {
-    let count = section.len() / 13;
+    let count = section.len() / record_sizes::FACILITY;
     let mut n: usize = 0;
     let mut size: usize = 0;
     while n < count {

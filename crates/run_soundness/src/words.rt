@@ -1,4 +1,5 @@
 // The words of a store: none has a spare bit.
+use image_records::record_sizes;
 use image_sections::facilities;
 use image_sections::facilities::Facility;
 use image_sections::kinds;
@@ -32,7 +33,7 @@ fn narrow_in(store: &[u8], f: Facility) -> bool
 pub fn narrow(section: &[u8], store: &[u8]) -> bool
     ensures { λ r. ⌜ ((d : Description) (E : List ℕ) → Describes d (now (section .entry)) E → storeSizeOf (d .facilities) ≤ length (now (store .entry)) → r ≡ L.narrow (d .facilities) (L.fromBytes (d .facilities) (now (store .entry)))) ⌝ }
 {
-    let count = section.len() / 13;
+    let count = section.len() / record_sizes::FACILITY;
     let mut n: usize = 0;
     while n < count {
         let f = facilities::facility_at(section, n);

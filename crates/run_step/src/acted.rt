@@ -1,4 +1,5 @@
 // The first half of a cycle: inputs set, plain terminals cleared, and the actions of the state.
+use image_records::record_sizes;
 use image_sections::states;
 use run_actions::run;
 use run_begin::start;
@@ -11,6 +12,7 @@ ghost use lib.ListN.{length};
 ghost use Rattle.language.specs.Acting as T;
 ghost use Rattle.language.specs.Calls.{over, stimulusSize};
 ghost use Rattle.language.specs.Description.{Description, stateAt};
+ghost use Rattle.language.specs.Encode.{facilitySize, operationSize, stateSize};
 ghost use Rattle.language.specs.Layout.{storeSizeOf};
 ghost use Rattle.language.specs.Store as L;
 ghost use Rattle.store_layout.specs.InBytes.{bytes};
@@ -46,13 +48,13 @@ pub fn acted(
     pending: &mut [u8],
     mask: &mut [u8],
 ) -> Did
-    requires { ⌜ length (now facilities) / 13 ≤ 65536 ⌝ }
-    ensures { λ r. ⌜ ((d : Description) → Acts d (now (facilities .entry)) (now (operations .entry)) (now (expressions .entry)) (now (actions .entry)) (length (now (states .entry)) / 7) → length (d .operations) ≡ length (now (operations .entry)) / 5 → Valued d (now (expressions .entry)) (now (states .entry)) → storeSizeOf (d .facilities) ≤ length (now (store .entry)) → stimulusSize d ≤ length (now (stimulus .entry)) → did r (now (store .exit)) (now (pending .exit)) (now (mask .exit)) ≡ ranSeen (T.runActions (bytes d) d (stateAt d number .actions) (nothingIn (over (L.toBytes (d .facilities) (L.begin (d .facilities) (L.fromBytes (d .facilities) (now (store .entry))) (L.fromBytes (L.inputsOf (d .facilities)) (now (stimulus .entry))))) (now (store .entry))) (now (pending .entry)) (now (mask .entry))))) ⌝ }
+    requires { ⌜ length (now facilities) / facilitySize ≤ 65536 ⌝ }
+    ensures { λ r. ⌜ ((d : Description) → Acts d (now (facilities .entry)) (now (operations .entry)) (now (expressions .entry)) (now (actions .entry)) (length (now (states .entry)) / stateSize) → length (d .operations) ≡ length (now (operations .entry)) / operationSize → Valued d (now (expressions .entry)) (now (states .entry)) → storeSizeOf (d .facilities) ≤ length (now (store .entry)) → stimulusSize d ≤ length (now (stimulus .entry)) → did r (now (store .exit)) (now (pending .exit)) (now (mask .exit)) ≡ ranSeen (T.runActions (bytes d) d (stateAt d number .actions) (nothingIn (over (L.toBytes (d .facilities) (L.begin (d .facilities) (L.fromBytes (d .facilities) (now (store .entry))) (L.fromBytes (L.inputsOf (d .facilities)) (now (stimulus .entry))))) (now (store .entry))) (now (pending .entry)) (now (mask .entry))))) ⌝ }
 {
     start::begin(facilities, store, stimulus);
     let state = states::state_at(states, number);
     let list = state.actions;
-    let count = states.len() / 7;
+    let count = states.len() / record_sizes::STATE;
     let g = nothing();
     run::run_actions(
         facilities,

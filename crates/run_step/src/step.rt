@@ -1,5 +1,6 @@
 // A cycle: the actions of its state, and what follows them.
 use crate::acted;
+use image_records::record_sizes;
 use run_end::finish;
 use run_end::outcome;
 use run_end::outcome::Stepped;
@@ -12,6 +13,7 @@ ghost use Prim.Native.Nat.{_/_, _≤_};
 ghost use lib.ListN.{length};
 ghost use Rattle.language.specs.Calls.{stimulusSize};
 ghost use Rattle.language.specs.Description.{Description};
+ghost use Rattle.language.specs.Encode.{facilitySize, operationSize, stateSize};
 ghost use Rattle.language.specs.Layout.{storeSizeOf};
 ghost use Rattle.language.specs.Step as S;
 ghost use Rattle.language.specs.Store.{fromBytes, inputsOf};
@@ -38,14 +40,14 @@ pub fn step(
     pending: &mut [u8],
     mask: &mut [u8],
 ) -> Stepped
-    requires { ⌜ (length (now facilities) / 13 ≤ 65536) × (length (now states) / 7 ≤ 65536) × (r .held ≤ 16) ⌝ }
-    ensures { λ a. ⌜ ((d : Description) → Enters d (now (facilities .entry)) (now (expressions .entry)) (now (states .entry)) → Acts d (now (facilities .entry)) (now (operations .entry)) (now (expressions .entry)) (now (actions .entry)) (length (now (states .entry)) / 7) → length (d .operations) ≡ length (now (operations .entry)) / 5 → storeSizeOf (d .facilities) ≤ length (now (store .entry)) → stimulusSize d ≤ length (now (stimulus .entry)) → Clear (now (store .entry)) (now (pending .entry)) (now (mask .entry)) → stepped (d .facilities) a (now (store .exit)) ≡ counted (S.step d (fromBytes (d .facilities) (now (store .entry))) (recordMeant r) (fromBytes (inputsOf (d .facilities)) (now (stimulus .entry))))) ⌝ }
+    requires { ⌜ (length (now facilities) / facilitySize ≤ 65536) × (length (now states) / stateSize ≤ 65536) × (r .held ≤ 16) ⌝ }
+    ensures { λ a. ⌜ ((d : Description) → Enters d (now (facilities .entry)) (now (expressions .entry)) (now (states .entry)) → Acts d (now (facilities .entry)) (now (operations .entry)) (now (expressions .entry)) (now (actions .entry)) (length (now (states .entry)) / 7) → length (d .operations) ≡ length (now (operations .entry)) / operationSize → storeSizeOf (d .facilities) ≤ length (now (store .entry)) → stimulusSize d ≤ length (now (stimulus .entry)) → Clear (now (store .entry)) (now (pending .entry)) (now (mask .entry)) → stepped (d .facilities) a (now (store .exit)) ≡ counted (S.step d (fromBytes (d .facilities) (now (store .entry))) (recordMeant r) (fromBytes (inputsOf (d .facilities)) (now (stimulus .entry))))) ⌝ }
 {
     if LAST_CYCLE <= r.cycle {
         return outcome::without(Verdict::Stopped(LAST_REACHED), r);
     }
     let number = r.state as usize;
-    if states.len() / 7 <= number {
+    if states.len() / record_sizes::STATE <= number {
         return outcome::without(Verdict::Stuck(Stuck::NoState), r);
     }
     let did = acted::acted(

@@ -29,8 +29,8 @@ fn shown(image: &[u8], state: u32, number: u64, store: &[u8], out: &mut [u8], at
     ensures { λ r. ⌜ Adds (cycleLine (decode (now (image .entry))) number state (now (store .entry))) (now (out .entry)) at (now (out .exit)) r ⌝ }
 {
     let name = named::state_name(image, true, state);
-    let facilities = sections::section(image, 0, 13);
-    let names = sections::section(image, 5, 1);
+    let facilities = sections::section(image, sections::FACILITIES);
+    let names = sections::section(image, sections::NAMES);
     line::cycle_line(out, at, number, name, facilities, names, store)
 }
 

@@ -6,6 +6,7 @@ ghost use mathlib.Core.Path.{_≡_};
 ghost use Prim.Native.Nat.{ℕ, _/_, _≤_};
 ghost use lib.ListN.{length as size};
 ghost use Rattle.language.specs.Description.{Description, stateAt};
+ghost use Rattle.language.specs.Encode.{facilitySize};
 ghost use Rattle.language.specs.Layout.{storeSizeOf};
 ghost use Rattle.language.specs.Trace as T;
 ghost use Rattle.run_references.specs.Described.{Describes};
@@ -50,7 +51,7 @@ pub fn cycle_line(
     names: &[u8],
     store: &[u8],
 ) -> usize
-    requires { ⌜ size (now section) / 13 ≤ 65536 ⌝ }
+    requires { ⌜ size (now section) / facilitySize ≤ 65536 ⌝ }
     ensures { λ r. ⌜ (size (now (out .exit)) ≡ size (now (out .entry))) × ((d : Description) (E : List ℕ) (state : ℕ) → Describes d (now (section .entry)) E → Named d (now (section .entry)) (now (names .entry)) → storeSizeOf (d .facilities) ≤ size (now (store .entry)) → now (label .entry) ≡ stateAt d state .name → Adds (T.cycleLine d number state (now (store .entry))) (now (out .entry)) at (now (out .exit)) r) ⌝ }
 {
     let mut end = out::decimal(out, at, number);

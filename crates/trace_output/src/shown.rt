@@ -19,6 +19,7 @@ ghost use Rattle.language.specs.Store.{fromBytes};
 ghost use Rattle.language.specs.Trace as T;
 ghost use Rattle.language.specs.Tree.{Name};
 ghost use Rattle.image_sections.specs.Declarations.{facilityMeant};
+ghost use Rattle.language.specs.Encode.{facilitySize};
 ghost use Rattle.store_layout.specs.Layout.{wordIn};
 ghost use Rattle.run_references.specs.Described.{Describes};
 ghost use Rattle.trace_output.specs.Adds.{Adds};
@@ -84,7 +85,7 @@ pub fn facilities_line(
     names: &[u8],
     store: &[u8],
 ) -> usize
-    requires { ⌜ size (now section) / 13 ≤ 65536 ⌝ }
+    requires { ⌜ size (now section) / facilitySize ≤ 65536 ⌝ }
     ensures { λ r. ⌜ (size (now (out .exit)) ≡ size (now (out .entry))) × ((d : Description) (E : List ℕ) → Describes d (now (section .entry)) E → Named d (now (section .entry)) (now (names .entry)) → storeSizeOf (d .facilities) ≤ size (now (store .entry)) → Adds (T.facilitiesLine (d .facilities) (fromBytes (d .facilities) (now (store .entry)))) (now (out .entry)) at (now (out .exit)) r) ⌝ }
 {
     let count = section.len() / 13;

@@ -23,7 +23,7 @@ fn opened(image: &[u8], store: &mut [u8], record: &mut [u8]) -> usize
     requires { ⌜ (passes (now image) ≡ true) × (16384 ≤ length (now store)) ⌝ }
     ensures { λ r. ⌜ Opened (now (image .entry)) (length (now («record» .entry))) r (length (now (store .entry))) (now (store .exit)) (now («record» .exit)) ⌝ }
 {
-    let size = sizes::store_size(sections::section(image, 0, 13));
+    let size = sizes::store_size(sections::section(image, sections::FACILITIES));
     call_open::open::open(image, true, &mut store[0..size], record);
     size
 }

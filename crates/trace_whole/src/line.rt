@@ -51,7 +51,7 @@ pub fn line_done(
     requires { ⌜ (passes (now image) ≡ true) × (storeSize (decode (now image)) ≤ length (now store)) × (length (now scratch) ≡ 4 * storeSize (decode (now image))) × (stimulusSize (decode (now image)) ≤ length (now stimulus)) ⌝ }
     ensures { λ r. ⌜ Turned (now (image .entry)) (now (line .entry)) number (now (store .entry)) (now («record» .entry)) (r .on) (now (store .exit)) (now («record» .exit)) (now (out .entry)) at (now (out .exit)) (r .end) ⌝ }
 {
-    let facilities = sections::section(image, 0, 13);
+    let facilities = sections::section(image, sections::FACILITIES);
     match stimulus::stimulus_of(facilities, line, stimulus) {
         Taken::None => told::not_taken(out, at),
         Taken::Bytes(n) => {

@@ -9,10 +9,11 @@ use Rattle.image_depth.specs.Depths.{depthShape, noted}
 use Rattle.image_depth.proofs.DepthLaws.{Noted, all-noted, none-noted, nothing, one-more, refused, small-next}
 use Rattle.image_depth.proofs.shallow.Statement.{statement}
 use Rattle.image_depth.proofs.shallow.Tie as tie
+use Rattle.language.specs.Encode.{nodeSize}
 
 abbrev Inv-loop : tie.InvT-loop
 Inv-loop exprs depths₀ n₀ depths n =
-    (n ≤ length exprs / 8) × (length depths ≡ 34816) × ((i : ℕ) → noted depths i ≤ 4097) × ((d : Description) → Nodes d exprs → Noted d n depths)
+    (n ≤ length exprs / nodeSize) × (length depths ≡ 34816) × ((i : ℕ) → noted depths i ≤ 4097) × ((d : Description) → Nodes d exprs → Noted d n depths)
 
 abbrev μ-loop : tie.MeasureT-loop
 μ-loop exprs depths₀ n₀ depths n = length exprs / 8 - n

@@ -9,6 +9,7 @@ use lib.ListN.{length}
 use borrow.Author.Needs.{needs}
 use Rattle.judge_all.proofs.least_fault.Statement.{statement}
 use Rattle.judge_all.proofs.least_fault.Tie as tie
+use Rattle.language.specs.Encode.{operationSize}
 
 labels-of-requires : tie.Need-labels-of-requires
 labels-of-requires c κs = search needs
@@ -61,7 +62,7 @@ returns c =
     let o = c .before .before .before .before .before .before .before .operations .ensures .1 d p (rw (l, e1, e2, e3, e4, e5, e6, e7, e9, e10) (acting-noted x q _ m)) in
     let t = c .before .before .before .states .ensures d p (rw (l, e1, e2, e3, e4, e5, e6, e7, e9, e10, e11) (stated-noted x q _ m)) (o .1) in
     let r = c .also3 .ensures _ _ n (c .before .also2 .ensures _ _ (f .0) (c .before .before .also .ensures _ _ (o .0) t)) in
-    r ∙ ap least (all-faults d p _ (stated-noted x q _ m .operations ∙ ap (λ (s : List ℕ). length s / 5) (sym e2)))
+    r ∙ ap least (all-faults d p _ (stated-noted x q _ m .operations ∙ ap (λ (s : List ℕ). length s / operationSize) (sym e2)))
 
 pub least-fault-spec : {M : Type 1} → statement M
 least-fault-spec =

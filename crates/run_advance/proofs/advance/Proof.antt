@@ -55,6 +55,7 @@ use Rattle.run_end.specs.declared.outcome.Stepped.{Stepped}
 use Rattle.run_end.proofs.outcome.Stepped as O
 use Rattle.run_end.proofs.outcome.Stepped.Laws as O′
 use Rattle.call_left.specs.Kept.{kept}
+use Rattle.language.specs.Encode.{facilitySize, operationSize, stateSize}
 use Rattle.run_advance.proofs.settle as settle
 use Rattle.run_advance.proofs.settle.Symbol as settle-def
 use Rattle.run_advance.proofs.settle.Symbol.{name as #settle}
@@ -77,7 +78,7 @@ stayed = (stay-dropped (shrSliceOf (0 ∷ []) tt (plain (λ _. u8))) yes, (stay-
 
 -- What the call ensures of its answer a and the store C that it leaves.
 abbrev Ensured : (F O E A T : List ℕ) (h : Record) (G B P M : List ℕ) (a : Stepped) (C : List ℕ) → Type 0
-Ensured F O E A T h G B P M a C = ((d : Description) → Enters d F E T → Acts d F O E A (length T / 7) → length (d .operations) ≡ length O / 5 → storeSizeOf (d .facilities) ≤ length B → stimulusSize d ≤ length G → Clear B P M → stepped (d .facilities) a C ≡ counted (S.step d (fromBytes (d .facilities) B) (recordMeant h) (fromBytes (inputsOf (d .facilities)) G))) × (a .record ≡ kept (a .verdict) h (a .record))
+Ensured F O E A T h G B P M a C = ((d : Description) → Enters d F E T → Acts d F O E A (length T / 7) → length (d .operations) ≡ length O / operationSize → storeSizeOf (d .facilities) ≤ length B → stimulusSize d ≤ length G → Clear B P M → stepped (d .facilities) a C ≡ counted (S.step d (fromBytes (d .facilities) B) (recordMeant h) (fromBytes (inputsOf (d .facilities)) G))) × (a .record ≡ kept (a .verdict) h (a .record))
 
 module _ {M : Type 1} (𝓤 : URA M) (H : Heap 𝓤) (A : Atoms 𝓤) (mem : Memory → SProp 𝓤) (run : Routine → Fun 𝓤) where
   -- The contract that the proof cites.
@@ -159,11 +160,11 @@ module _ {M : Type 1} (𝓤 : URA M) (H : Heap 𝓤) (A : Atoms 𝓤) (W : Given
   abbrev Owned : Fml
   Owned = owns (ShrSlice (named 0) κ0 u8 ∷ ShrSlice (named 1) κ1 u8 ∷ ShrSlice (named 2) κ2 u8 ∷ ShrSlice (named 3) κ3 u8 ∷ ShrSlice (named 4) κ4 u8 ∷ T.the-row ∷ ShrSlice (named 5) κ6 u8 ∷ MutSlice (named 6) κ7 u8 ∷ MutSlice (named 7) κ8 u8 ∷ MutSlice (named 8) κ9 u8 ∷ []) x′ at′
 
-  goes-settle : (length (s0 .now) / 13 ≤ 65536) × (length (s4 .now) / 7 ≤ 65536) × (h .held ≤ 16) → ent 𝓤 (⋆ 𝓤 H A ((Tokens ⊛ ‵ Owned) ∷ [])) (Settle 𝓤 H A at-mem run .pre to-settle)
+  goes-settle : (length (s0 .now) / facilitySize ≤ 65536) × (length (s4 .now) / stateSize ≤ 65536) × (h .held ≤ 16) → ent 𝓤 (⋆ 𝓤 H A ((Tokens ⊛ ‵ Owned) ∷ [])) (Settle 𝓤 H A at-mem run .pre to-settle)
   goes-settle need = qed W ((Tokens ⊛ ‵ Owned) ∷ []) ∵ says ! need $ split ! $ done !
 
   module _ (C : Calls 𝓤 H) (Λ : Loops 𝓤 H) (fm : FmC 𝓤 H (W .laws) C) (known : Triple 𝓤 (C #settle) (Settle 𝓤 H A at-mem run)) where
-    walk : (p0 : Is (ShrSlice (named 0) κ0 u8) s0 (v s0 ∷ [])) → (p1 : Is (ShrSlice (named 1) κ1 u8) s1 (v s1 ∷ [])) → (p2 : Is (ShrSlice (named 2) κ2 u8) s2 (v s2 ∷ [])) → (p3 : Is (ShrSlice (named 3) κ3 u8) s3 (v s3 ∷ [])) → (p4 : Is (ShrSlice (named 4) κ4 u8) s4 (v s4 ∷ [])) → (p6 : Is (ShrSlice (named 6) κ6 u8) s6 (v s6 ∷ [])) → (p7 : Is (MutSlice (named 7) κ7 u8) s7 (v s7 ∷ [])) → (p8 : Is (MutSlice (named 8) κ8 u8) s8 (v s8 ∷ [])) → (p9 : Is (MutSlice (named 9) κ9 u8) s9 (v s9 ∷ [])) → (length (s0 .now) / 13 ≤ 65536) × (length (s4 .now) / 7 ≤ 65536) × (h .held ≤ 16)
+    walk : (p0 : Is (ShrSlice (named 0) κ0 u8) s0 (v s0 ∷ [])) → (p1 : Is (ShrSlice (named 1) κ1 u8) s1 (v s1 ∷ [])) → (p2 : Is (ShrSlice (named 2) κ2 u8) s2 (v s2 ∷ [])) → (p3 : Is (ShrSlice (named 3) κ3 u8) s3 (v s3 ∷ [])) → (p4 : Is (ShrSlice (named 4) κ4 u8) s4 (v s4 ∷ [])) → (p6 : Is (ShrSlice (named 6) κ6 u8) s6 (v s6 ∷ [])) → (p7 : Is (MutSlice (named 7) κ7 u8) s7 (v s7 ∷ [])) → (p8 : Is (MutSlice (named 8) κ8 u8) s8 (v s8 ∷ [])) → (p9 : Is (MutSlice (named 9) κ9 u8) s9 (v s9 ∷ [])) → (length (s0 .now) / facilitySize ≤ 65536) × (length (s4 .now) / stateSize ≤ 65536) × (h .held ≤ 16)
         → ent 𝓤 (onEntry 𝓤 H A f.signature κs qs x at) (WpFn 𝓤 H C Λ code.function (v s0 ∷ v s1 ∷ v s2 ∷ v s3 ∷ v s4 ∷ vptr b o ∷ v s6 ∷ v s7 ∷ v s8 ∷ v s9 ∷ []) Post)
     walk p0 p1 p2 p3 p4 p6 p7 p8 p9 need =
         qed W ((‵ (flft κ0 q0) ⊛ ‵ (flft κ1 q1) ⊛ ‵ (flft κ2 q2) ⊛ ‵ (flft κ3 q3) ⊛ ‵ (flft κ4 q4) ⊛ ‵ (flft κ5 q5) ⊛ ‵ (flft κ6 q6) ⊛ ‵ (flft κ7 q7) ⊛ ‵ (flft κ8 q8) ⊛ ‵ (flft κ9 q9) ⊛ ‵ ftrue) ∷ ‵ (owns (ShrSlice (named 0) κ0 u8 ∷ ShrSlice (named 1) κ1 u8 ∷ ShrSlice (named 2) κ2 u8 ∷ ShrSlice (named 3) κ3 u8 ∷ ShrSlice (named 4) κ4 u8 ∷ MutRef (named 5) κ5 T.the-row ∷ ShrSlice (named 6) κ6 u8 ∷ MutSlice (named 7) κ7 u8 ∷ MutSlice (named 8) κ8 u8 ∷ MutSlice (named 9) κ9 u8 ∷ []) x at) ∷ []) ∵
@@ -237,7 +238,7 @@ module _ {M : Type 1} (𝓤 : URA M) (H : Heap 𝓤) (A : Atoms 𝓤) (W : Given
 module _ {M : Type 1} (𝓤 : URA M) (H : Heap 𝓤) (A : Atoms 𝓤) (W : Given 𝓤 H A) (at-mem : Memory → SProp 𝓤) (run : Routine → Fun 𝓤) where
   advance-walks : (C : Calls 𝓤 H) (Λ : Loops 𝓤 H) → FmC 𝓤 H (W .laws) C → Triple 𝓤 (C #settle) (Settle 𝓤 H A at-mem run) → Walks 𝓤 H A f.ended stayed (WpFn 𝓤 H C Λ code.function) (f.clauses 𝓤 H A at-mem run)
   advance-walks C Λ fm known = walked 𝓤 H A f.ended stayed (f.clauses 𝓤 H A at-mem run) (WpFn 𝓤 H C Λ code.function) (λ κs. (slice-vals, (slice-vals, (slice-vals, (slice-vals, (slice-vals, (ptr-vals, (slice-vals, (slice-vals, (slice-vals, (slice-vals, tt))))))))))) (λ κs. (shr-slice-tells (named 0) (κs .0) u8, (shr-slice-tells (named 1) (κs .1 .0) u8, (shr-slice-tells (named 2) (κs .1 .1 .0) u8, (shr-slice-tells (named 3) (κs .1 .1 .1 .0) u8, (shr-slice-tells (named 4) (κs .1 .1 .1 .1 .0) u8, (mut-tells (named 5) (κs .1 .1 .1 .1 .1 .0) T.the-row, (shr-slice-tells (named 6) (κs .1 .1 .1 .1 .1 .1 .0) u8, (mut-slice-tells (named 7) (κs .1 .1 .1 .1 .1 .1 .1 .0) u8, (mut-slice-tells (named 8) (κs .1 .1 .1 .1 .1 .1 .1 .1 .0) u8, (mut-slice-tells (named 9) (κs .1 .1 .1 .1 .1 .1 .1 .1 .1 .0) u8, tt)))))))))))
-      (λ κs qs bounds a _ are. needs 𝓤 ((length (a .0 .now) / 13 ≤ 65536) × (length (a .1 .1 .1 .1 .0 .now) / 7 ≤ 65536) × (a .1 .1 .1 .1 .1 .0 .now .held ≤ 16)) _
+      (λ κs qs bounds a _ are. needs 𝓤 ((length (a .0 .now) / facilitySize ≤ 65536) × (length (a .1 .1 .1 .1 .0 .now) / stateSize ≤ 65536) × (a .1 .1 .1 .1 .1 .0 .now .held ≤ 16)) _
       (walk 𝓤 H A W at-mem run (κs .0) (κs .1 .0) (κs .1 .1 .0) (κs .1 .1 .1 .0) (κs .1 .1 .1 .1 .0) (κs .1 .1 .1 .1 .1 .0) (κs .1 .1 .1 .1 .1 .1 .0) (κs .1 .1 .1 .1 .1 .1 .1 .0) (κs .1 .1 .1 .1 .1 .1 .1 .1 .0) (κs .1 .1 .1 .1 .1 .1 .1 .1 .1 .0) (qs .0) (qs .1 .0) (qs .1 .1 .0) (qs .1 .1 .1 .0) (qs .1 .1 .1 .1 .0) (qs .1 .1 .1 .1 .1 .0) (qs .1 .1 .1 .1 .1 .1 .0) (qs .1 .1 .1 .1 .1 .1 .1 .0) (qs .1 .1 .1 .1 .1 .1 .1 .1 .0) (qs .1 .1 .1 .1 .1 .1 .1 .1 .1 .0) (a .0) (a .1 .0) (a .1 .1 .0) (a .1 .1 .1 .0) (a .1 .1 .1 .1 .0) (a .1 .1 .1 .1 .1 .1 .0) (a .1 .1 .1 .1 .1 .1 .1 .0) (a .1 .1 .1 .1 .1 .1 .1 .1 .0) (a .1 .1 .1 .1 .1 .1 .1 .1 .1 .0) (a .1 .1 .1 .1 .1 .0 .ptr .0) (a .1 .1 .1 .1 .1 .0 .ptr .1) (a .1 .1 .1 .1 .1 .0 .name) (a .1 .1 .1 .1 .1 .0 .now) C Λ fm known (are .0) (are .1 .0) (are .1 .1 .0) (are .1 .1 .1 .0) (are .1 .1 .1 .1 .0) (are .1 .1 .1 .1 .1 .1 .0) (are .1 .1 .1 .1 .1 .1 .1 .0) (are .1 .1 .1 .1 .1 .1 .1 .1 .0) (are .1 .1 .1 .1 .1 .1 .1 .1 .1 .0)))
 
   goes : AllGo 𝓤 H A W 10 (f.signature .params) (f.ended .kept) stayed

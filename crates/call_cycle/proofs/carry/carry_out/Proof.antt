@@ -8,6 +8,7 @@ use Rattle.call_carried.proofs.CarryLaws.{free-passes}
 use borrow.Author.Needs.{needs}
 use Rattle.call_cycle.proofs.carry.carry_out.Statement.{statement}
 use Rattle.call_cycle.proofs.carry.carry_out.Tie as tie
+use Rattle.language.specs.Encode.{expressionsSection, nodeSize}
 
 section-requires : tie.Need-section-requires
 section-requires c κs = search needs
@@ -32,7 +33,7 @@ carry-in-requires c κs =
     let m = length (a .scratch .now) in
     let pre = c .before .before .before .before .before .before .before .before .before .before .before .before .before .pre in
     let p = free-passes i s k t m pre in
-    let size = c .before .before .before .before .before .before .store-size .ensures (decode i) (sectionAt 2 8 i) (rw (c .before .before .before .before .before .before .before .section .ensures) (passed-described i p)) (passed-size i p) in
+    let size = c .before .before .before .before .before .before .store-size .ensures (decode i) (sectionAt expressionsSection nodeSize i) (rw (c .before .before .before .before .before .before .before .section .ensures) (passed-described i p)) (passed-size i p) in
     let room = length-replicate {A = ℕ} 1024 0 in
     (pre, size, omega (arith, room, c .before .before .before .before .before .if1 .taken), omega (arith, room, c .before .before .before .before .before .if1 .taken))
 
@@ -65,7 +66,7 @@ carry-in-requires-2 c κs =
     let m = length (a .scratch .now) in
     let pre = c .before .before .before .before .before .before .before .before .before .before .before .before .before .pre in
     let p = free-passes i s k t m pre in
-    let size = c .before .before .before .before .before .before .store-size .ensures (decode i) (sectionAt 2 8 i) (rw (c .before .before .before .before .before .before .before .section .ensures) (passed-described i p)) (passed-size i p) in
+    let size = c .before .before .before .before .before .before .store-size .ensures (decode i) (sectionAt expressionsSection nodeSize i) (rw (c .before .before .before .before .before .before .before .section .ensures) (passed-described i p)) (passed-size i p) in
     let room = length-replicate {A = ℕ} 16384 0 in
     (pre, size, omega (arith, room, size, passed-size i p), omega (arith, room, size, passed-size i p))
 

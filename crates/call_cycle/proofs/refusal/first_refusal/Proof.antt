@@ -8,6 +8,7 @@ use Rattle.call_cycle.proofs.RefusalLaws.{ill-formed, no-image, no-refu
 use borrow.Author.Needs.{needs}
 use Rattle.call_cycle.proofs.refusal.first_refusal.Statement.{statement}
 use Rattle.call_cycle.proofs.refusal.first_refusal.Tie as tie
+use Rattle.language.specs.Encode.{expressionsSection, nodeSize}
 
 returns : tie.Need-returns
 returns c =
@@ -42,7 +43,7 @@ returns-2 c =
     let k = a .«record» .now in
     let t = a .stimulus .now in
     let p = sym (c .before .before .before .before .before .before .before .before .before .before .before .pre) ∙ not-false (c .before .before .before .before .before .before .before .before .before .before .before .args .passed) (c .before .before .before .before .before .before .if1 .left) in
-    let size = c .before .before .store-size .ensures (decode i) (sectionAt 2 8 i) (rw (c .before .before .before .before .before .section .ensures) (passed-described i p)) (passed-size i p) in
+    let size = c .before .before .store-size .ensures (decode i) (sectionAt expressionsSection nodeSize i) (rw (c .before .before .before .before .before .section .ensures) (passed-described i p)) (passed-size i p) in
     let r = sym (c .before .roomy .ensures (decode i) size) ∙ not-true (c .before .roomy .result) (c .if2 .taken) in
     no-room i B k t (a .scratch) p r
 
@@ -61,7 +62,7 @@ returns-3 c =
     let k = a .«record» .now in
     let t = a .stimulus .now in
     let p = sym (c .before .before .before .before .before .before .before .before .before .before .before .before .before .pre) ∙ not-false (c .before .before .before .before .before .before .before .before .before .before .before .before .before .args .passed) (c .before .before .before .before .before .before .before .before .if1 .left) in
-    let size = c .before .before .before .before .store-size .ensures (decode i) (sectionAt 2 8 i) (rw (c .before .before .before .before .before .before .before .section .ensures) (passed-described i p)) (passed-size i p) in
+    let size = c .before .before .before .before .store-size .ensures (decode i) (sectionAt expressionsSection nodeSize i) (rw (c .before .before .before .before .before .before .before .section .ensures) (passed-described i p)) (passed-size i p) in
     let r = sym (c .before .before .before .roomy .ensures (decode i) size) ∙ not-false (c .before .before .before .roomy .result) (c .before .before .if2 .left) in
     let s = sym (c .before .sound .ensures (decode i) (rw (c .before .before .before .before .before .before .before .section .ensures, c .before .before .before .before .before .before .section2 .ensures, c .before .before .before .before .before .section3 .ensures) (passed-testable i p)) (room-store (decode i) (length B) (length k) (a .scratch) r)) ∙ not-true (c .before .sound .result) (c .if3 .taken) in
     not-sound i B k t (a .scratch) p r s
@@ -78,10 +79,10 @@ returns-4 c =
     let k = a .«record» .now in
     let t = a .stimulus .now in
     let p = sym (c .before .before .before .before .before .before .before .before .before .before .before .before .before .before .before .pre) ∙ not-false (c .before .before .before .before .before .before .before .before .before .before .before .before .before .before .before .args .passed) (c .before .before .before .before .before .before .before .before .before .before .if1 .left) in
-    let size = c .before .before .before .before .before .before .store-size .ensures (decode i) (sectionAt 2 8 i) (rw (c .before .before .before .before .before .before .before .before .before .section .ensures) (passed-described i p)) (passed-size i p) in
+    let size = c .before .before .before .before .before .before .store-size .ensures (decode i) (sectionAt expressionsSection nodeSize i) (rw (c .before .before .before .before .before .before .before .before .before .section .ensures) (passed-described i p)) (passed-size i p) in
     let r = sym (c .before .before .before .before .before .roomy .ensures (decode i) size) ∙ not-false (c .before .before .before .before .before .roomy .result) (c .before .before .before .before .if2 .left) in
     let s = sym (c .before .before .before .sound .ensures (decode i) (rw (c .before .before .before .before .before .before .before .before .before .section .ensures, c .before .before .before .before .before .before .before .before .section2 .ensures, c .before .before .before .before .before .before .before .section3 .ensures) (passed-testable i p)) (room-store (decode i) (length B) (length k) (a .scratch) r)) ∙ not-false (c .before .before .before .sound .result) (c .before .before .if3 .left) in
-    let w = sym (c .before .well-formed .ensures (decode i) (sectionAt 2 8 i) (rw (c .before .before .before .before .before .before .before .before .before .section .ensures) (passed-described i p))) ∙ not-true (c .before .well-formed .result) (c .if4 .taken) in
+    let w = sym (c .before .well-formed .ensures (decode i) (sectionAt expressionsSection nodeSize i) (rw (c .before .before .before .before .before .before .before .before .before .section .ensures) (passed-described i p))) ∙ not-true (c .before .well-formed .result) (c .if4 .taken) in
     ill-formed i B k t (a .scratch) p r s w
 
 returns-5 : tie.Need-returns-5
@@ -93,10 +94,10 @@ returns-5 c =
     let k = a .«record» .now in
     let t = a .stimulus .now in
     let p = sym (c .before .before .before .before .before .before .before .before .before .before .before .before .before .before .before .pre) ∙ not-false (c .before .before .before .before .before .before .before .before .before .before .before .before .before .before .before .args .passed) (c .before .before .before .before .before .before .before .before .before .before .if1 .left) in
-    let size = c .before .before .before .before .before .before .store-size .ensures (decode i) (sectionAt 2 8 i) (rw (c .before .before .before .before .before .before .before .before .before .section .ensures) (passed-described i p)) (passed-size i p) in
+    let size = c .before .before .before .before .before .before .store-size .ensures (decode i) (sectionAt expressionsSection nodeSize i) (rw (c .before .before .before .before .before .before .before .before .before .section .ensures) (passed-described i p)) (passed-size i p) in
     let r = sym (c .before .before .before .before .before .roomy .ensures (decode i) size) ∙ not-false (c .before .before .before .before .before .roomy .result) (c .before .before .before .before .if2 .left) in
     let s = sym (c .before .before .before .sound .ensures (decode i) (rw (c .before .before .before .before .before .before .before .before .before .section .ensures, c .before .before .before .before .before .before .before .before .section2 .ensures, c .before .before .before .before .before .before .before .section3 .ensures) (passed-testable i p)) (room-store (decode i) (length B) (length k) (a .scratch) r)) ∙ not-false (c .before .before .before .sound .result) (c .before .before .if3 .left) in
-    let w = sym (c .before .well-formed .ensures (decode i) (sectionAt 2 8 i) (rw (c .before .before .before .before .before .before .before .before .before .section .ensures) (passed-described i p))) ∙ not-false (c .before .well-formed .result) (c .if4 .left) in
+    let w = sym (c .before .well-formed .ensures (decode i) (sectionAt expressionsSection nodeSize i) (rw (c .before .before .before .before .before .before .before .before .before .section .ensures) (passed-described i p))) ∙ not-false (c .before .well-formed .result) (c .if4 .left) in
     no-refusal i B k t (a .scratch) p r s w
 
 pub first-refusal-spec : {M : Type 1} → statement M

@@ -10,6 +10,7 @@ use Rattle.call_cycle.proofs.RefusalLaws.{room-store}
 use Rattle.call_run.proofs.RefusalLaws.{no-image, no-refusal, no-room, no-trace-room, not-formed, not-sound}
 use Rattle.call_run.proofs.refusal.run_refusal.Statement.{statement}
 use Rattle.call_run.proofs.refusal.run_refusal.Tie as tie
+use Rattle.language.specs.Encode.{expressionsSection, nodeSize}
 
 returns : tie.Need-returns
 returns c =
@@ -45,7 +46,7 @@ returns-2 c =
     let k = a .«record» .now in
     let t = a .stimuli .now in
     let p = sym (c .before .before .before .before .before .before .before .before .before .before .before .pre) ∙ not-false (c .before .before .before .before .before .before .before .before .before .before .before .args .passed) (c .before .before .before .before .before .before .if1 .left) in
-    let size = c .before .before .store-size .ensures (decode i) (sectionAt 2 8 i) (rw (c .before .before .before .before .before .section .ensures) (passed-described i p)) (passed-size i p) in
+    let size = c .before .before .store-size .ensures (decode i) (sectionAt expressionsSection nodeSize i) (rw (c .before .before .before .before .before .section .ensures) (passed-described i p)) (passed-size i p) in
     let r = sym (c .before .roomy .ensures (decode i) size) ∙ not-true (c .before .roomy .result) (c .if2 .taken) in
     no-room i B k t (a .cycles) (a .scratch) (a .trace) p r
 
@@ -53,7 +54,7 @@ trace-roomy-requires : tie.Need-trace-roomy-requires
 trace-roomy-requires c κs =
     let i = c .before .before .before .before .before .before .before .before .before .before .before .args .image .now in
     let p = sym (c .before .before .before .before .before .before .before .before .before .before .before .pre) ∙ not-false (c .before .before .before .before .before .before .before .before .before .before .before .args .passed) (c .before .before .before .before .before .before .if1 .left) in
-    let size = c .before .before .store-size .ensures (decode i) (sectionAt 2 8 i) (rw (c .before .before .before .before .before .section .ensures) (passed-described i p)) (passed-size i p) in
+    let size = c .before .before .store-size .ensures (decode i) (sectionAt expressionsSection nodeSize i) (rw (c .before .before .before .before .before .section .ensures) (passed-described i p)) (passed-size i p) in
     omega (arith, size, passed-size i p)
 
 returns-3 : tie.Need-returns-3
@@ -65,7 +66,7 @@ returns-3 c =
     let k = a .«record» .now in
     let t = a .stimuli .now in
     let p = sym (c .before .before .before .before .before .before .before .before .before .before .before .before .before .pre) ∙ not-false (c .before .before .before .before .before .before .before .before .before .before .before .before .before .args .passed) (c .before .before .before .before .before .before .before .before .if1 .left) in
-    let size = c .before .before .before .before .store-size .ensures (decode i) (sectionAt 2 8 i) (rw (c .before .before .before .before .before .before .before .section .ensures) (passed-described i p)) (passed-size i p) in
+    let size = c .before .before .before .before .store-size .ensures (decode i) (sectionAt expressionsSection nodeSize i) (rw (c .before .before .before .before .before .before .before .section .ensures) (passed-described i p)) (passed-size i p) in
     let r = sym (c .before .before .before .roomy .ensures (decode i) size) ∙ not-false (c .before .before .before .roomy .result) (c .before .before .if2 .left) in
     let q = sym (c .before .trace-roomy .ensures (decode i) size) ∙ not-true (c .before .trace-roomy .result) (c .if3 .taken) in
     no-trace-room i B k t (a .cycles) (a .scratch) (a .trace) p r q
@@ -85,7 +86,7 @@ returns-4 c =
     let k = a .«record» .now in
     let t = a .stimuli .now in
     let p = sym (c .before .before .before .before .before .before .before .before .before .before .before .before .before .before .before .pre) ∙ not-false (c .before .before .before .before .before .before .before .before .before .before .before .before .before .before .before .args .passed) (c .before .before .before .before .before .before .before .before .before .before .if1 .left) in
-    let size = c .before .before .before .before .before .before .store-size .ensures (decode i) (sectionAt 2 8 i) (rw (c .before .before .before .before .before .before .before .before .before .section .ensures) (passed-described i p)) (passed-size i p) in
+    let size = c .before .before .before .before .before .before .store-size .ensures (decode i) (sectionAt expressionsSection nodeSize i) (rw (c .before .before .before .before .before .before .before .before .before .section .ensures) (passed-described i p)) (passed-size i p) in
     let r = sym (c .before .before .before .before .before .roomy .ensures (decode i) size) ∙ not-false (c .before .before .before .before .before .roomy .result) (c .before .before .before .before .if2 .left) in
     let q = sym (c .before .before .before .trace-roomy .ensures (decode i) size) ∙ not-false (c .before .before .before .trace-roomy .result) (c .before .before .if3 .left) in
     let s = sym (c .before .sound .ensures (decode i) (rw (c .before .before .before .before .before .before .before .before .before .section .ensures, c .before .before .before .before .before .before .before .before .section2 .ensures, c .before .before .before .before .before .before .before .section3 .ensures) (passed-testable i p)) (room-store (decode i) (length B) (length k) (a .scratch) r)) ∙ not-true (c .before .sound .result) (c .if4 .taken) in
@@ -103,11 +104,11 @@ returns-5 c =
     let k = a .«record» .now in
     let t = a .stimuli .now in
     let p = sym (c .before .before .before .before .before .before .before .before .before .before .before .before .before .before .before .before .before .pre) ∙ not-false (c .before .before .before .before .before .before .before .before .before .before .before .before .before .before .before .before .before .args .passed) (c .before .before .before .before .before .before .before .before .before .before .before .before .if1 .left) in
-    let size = c .before .before .before .before .before .before .before .before .store-size .ensures (decode i) (sectionAt 2 8 i) (rw (c .before .before .before .before .before .before .before .before .before .before .before .section .ensures) (passed-described i p)) (passed-size i p) in
+    let size = c .before .before .before .before .before .before .before .before .store-size .ensures (decode i) (sectionAt expressionsSection nodeSize i) (rw (c .before .before .before .before .before .before .before .before .before .before .before .section .ensures) (passed-described i p)) (passed-size i p) in
     let r = sym (c .before .before .before .before .before .before .before .roomy .ensures (decode i) size) ∙ not-false (c .before .before .before .before .before .before .before .roomy .result) (c .before .before .before .before .before .before .if2 .left) in
     let q = sym (c .before .before .before .before .before .trace-roomy .ensures (decode i) size) ∙ not-false (c .before .before .before .before .before .trace-roomy .result) (c .before .before .before .before .if3 .left) in
     let s = sym (c .before .before .before .sound .ensures (decode i) (rw (c .before .before .before .before .before .before .before .before .before .before .before .section .ensures, c .before .before .before .before .before .before .before .before .before .before .section2 .ensures, c .before .before .before .before .before .before .before .before .before .section3 .ensures) (passed-testable i p)) (room-store (decode i) (length B) (length k) (a .scratch) r)) ∙ not-false (c .before .before .before .sound .result) (c .before .before .if4 .left) in
-    let w = sym (c .before .all-well-formed .ensures (decode i) (sectionAt 2 8 i) (rw (c .before .before .before .before .before .before .before .before .before .before .before .section .ensures) (passed-described i p))) ∙ not-true (c .before .all-well-formed .result) (c .if5 .taken) in
+    let w = sym (c .before .all-well-formed .ensures (decode i) (sectionAt expressionsSection nodeSize i) (rw (c .before .before .before .before .before .before .before .before .before .before .before .section .ensures) (passed-described i p))) ∙ not-true (c .before .all-well-formed .result) (c .if5 .taken) in
     not-formed i B k t (a .cycles) (a .scratch) (a .trace) p r q s w
 
 returns-6 : tie.Need-returns-6
@@ -119,11 +120,11 @@ returns-6 c =
     let k = a .«record» .now in
     let t = a .stimuli .now in
     let p = sym (c .before .before .before .before .before .before .before .before .before .before .before .before .before .before .before .before .before .pre) ∙ not-false (c .before .before .before .before .before .before .before .before .before .before .before .before .before .before .before .before .before .args .passed) (c .before .before .before .before .before .before .before .before .before .before .before .before .if1 .left) in
-    let size = c .before .before .before .before .before .before .before .before .store-size .ensures (decode i) (sectionAt 2 8 i) (rw (c .before .before .before .before .before .before .before .before .before .before .before .section .ensures) (passed-described i p)) (passed-size i p) in
+    let size = c .before .before .before .before .before .before .before .before .store-size .ensures (decode i) (sectionAt expressionsSection nodeSize i) (rw (c .before .before .before .before .before .before .before .before .before .before .before .section .ensures) (passed-described i p)) (passed-size i p) in
     let r = sym (c .before .before .before .before .before .before .before .roomy .ensures (decode i) size) ∙ not-false (c .before .before .before .before .before .before .before .roomy .result) (c .before .before .before .before .before .before .if2 .left) in
     let q = sym (c .before .before .before .before .before .trace-roomy .ensures (decode i) size) ∙ not-false (c .before .before .before .before .before .trace-roomy .result) (c .before .before .before .before .if3 .left) in
     let s = sym (c .before .before .before .sound .ensures (decode i) (rw (c .before .before .before .before .before .before .before .before .before .before .before .section .ensures, c .before .before .before .before .before .before .before .before .before .before .section2 .ensures, c .before .before .before .before .before .before .before .before .before .section3 .ensures) (passed-testable i p)) (room-store (decode i) (length B) (length k) (a .scratch) r)) ∙ not-false (c .before .before .before .sound .result) (c .before .before .if4 .left) in
-    let w = sym (c .before .all-well-formed .ensures (decode i) (sectionAt 2 8 i) (rw (c .before .before .before .before .before .before .before .before .before .before .before .section .ensures) (passed-described i p))) ∙ not-false (c .before .all-well-formed .result) (c .if5 .left) in
+    let w = sym (c .before .all-well-formed .ensures (decode i) (sectionAt expressionsSection nodeSize i) (rw (c .before .before .before .before .before .before .before .before .before .before .before .section .ensures) (passed-described i p))) ∙ not-false (c .before .all-well-formed .result) (c .if5 .left) in
     no-refusal i B k t (a .cycles) (a .scratch) (a .trace) p r q s w
 
 pub run-refusal-spec : {M : Type 1} → statement M

@@ -12,6 +12,7 @@ use Rattle.call_stimuli.proofs.RunLaws.{run-record, run-scratch}
 use borrow.Author.Needs.{needs}
 use Rattle.call_stimuli.proofs.carry.carry_out.Statement.{statement}
 use Rattle.call_stimuli.proofs.carry.carry_out.Tie as tie
+use Rattle.language.specs.Encode.{expressionsSection, nodeSize}
 
 section-requires : tie.Need-section-requires
 section-requires c κs = search needs
@@ -51,7 +52,7 @@ part-carry-on-end c =
     let m = length (a .scratch .now) in
     let t = length (a .trace .now) in
     let p = run-free i s k S (a .cycles) m t (c .before .before .before .before .before .before .before .before .before .before .before .before .before .before .before .pre .0) .passing in
-    let size = c .before .before .before .before .before .before .before .store-size .ensures (decode i) (sectionAt 2 8 i) (rw (c .before .before .before .before .before .before .before .before .section .ensures) (passed-described i p)) (passed-size i p) in
+    let size = c .before .before .before .before .before .before .before .store-size .ensures (decode i) (sectionAt expressionsSection nodeSize i) (rw (c .before .before .before .before .before .before .before .before .section .ensures) (passed-described i p)) (passed-size i p) in
     omega (arith, size, run-scratch i S (a .cycles) m s k t (c .before .before .before .before .before .before .before .before .before .before .before .before .before .before .before .pre .0))
 
 sub-carry-on-2 : tie.Need-sub-carry-on-2
@@ -71,7 +72,7 @@ part-pending-end c =
     let m = length (a .scratch .now) in
     let t = length (a .trace .now) in
     let p = run-free i s k S (a .cycles) m t (c .before .before .before .before .before .before .before .before .before .before .before .before .before .before .before .before .pre .0) .passing in
-    let size = c .before .before .before .before .before .before .before .before .store-size .ensures (decode i) (sectionAt 2 8 i) (rw (c .before .before .before .before .before .before .before .before .before .section .ensures) (passed-described i p)) (passed-size i p) in
+    let size = c .before .before .before .before .before .before .before .before .store-size .ensures (decode i) (sectionAt expressionsSection nodeSize i) (rw (c .before .before .before .before .before .before .before .before .before .section .ensures) (passed-described i p)) (passed-size i p) in
     omega (arith, size, passed-size i p)
 
 sub-carry-on-3 : tie.Need-sub-carry-on-3
@@ -91,7 +92,7 @@ part-mask-end c =
     let m = length (a .scratch .now) in
     let t = length (a .trace .now) in
     let p = run-free i s k S (a .cycles) m t (c .before .before .before .before .before .before .before .before .before .before .before .before .before .before .before .before .before .pre .0) .passing in
-    let size = c .before .before .before .before .before .before .before .before .before .store-size .ensures (decode i) (sectionAt 2 8 i) (rw (c .before .before .before .before .before .before .before .before .before .before .section .ensures) (passed-described i p)) (passed-size i p) in
+    let size = c .before .before .before .before .before .before .before .before .before .store-size .ensures (decode i) (sectionAt expressionsSection nodeSize i) (rw (c .before .before .before .before .before .before .before .before .before .before .section .ensures) (passed-described i p)) (passed-size i p) in
     omega (arith, size, passed-size i p)
 
 carry-on-requires : tie.Need-carry-on-requires
@@ -105,7 +106,7 @@ carry-on-requires c κs =
     let m = length (a .scratch .now) in
     let t = length (a .trace .now) in
     let p = run-free i s k S (a .cycles) m t (c .before .before .before .before .before .before .before .before .before .before .before .before .before .before .before .before .before .before .before .pre .0) .passing in
-    let size = c .before .before .before .before .before .before .before .before .before .before .before .store-size .ensures (decode i) (sectionAt 2 8 i) (rw (c .before .before .before .before .before .before .before .before .before .before .before .before .section .ensures) (passed-described i p)) (passed-size i p) in
+    let size = c .before .before .before .before .before .before .before .before .before .before .before .store-size .ensures (decode i) (sectionAt expressionsSection nodeSize i) (rw (c .before .before .before .before .before .before .before .before .before .before .before .before .section .ensures) (passed-described i p)) (passed-size i p) in
     let n = c .before .before .before .before .before .before .before .before .before .before .before .store-size .result in
     let first = length-take-le (n - 0) (a .scratch .now) (omega (arith, size, run-scratch i S (a .cycles) m s k t (c .before .before .before .before .before .before .before .before .before .before .before .before .before .before .before .before .before .before .before .pre .0))) in
     let zeroed = first-zeroes 16384 n (omega (arith, size, passed-size i p)) ∙ size in
@@ -141,7 +142,7 @@ returns c =
     let m = length (a .scratch .now) in
     let t = length (a .trace .now) in
     let p = run-free i s k S (a .cycles) m t (c .before .before .before .before .before .before .before .before .before .before .before .before .before .before .before .before .before .before .before .before .before .before .before .before .before .before .before .before .before .before .before .before .before .before .before .before .before .pre .0) .passing in
-    let size = c .before .before .before .before .before .before .before .before .before .before .before .before .before .before .before .before .before .before .before .before .before .before .before .before .before .before .before .before .before .store-size .ensures (decode i) (sectionAt 2 8 i) (rw (c .before .before .before .before .before .before .before .before .before .before .before .before .before .before .before .before .before .before .before .before .before .before .before .before .before .before .before .before .before .before .section .ensures) (passed-described i p)) (passed-size i p) in
+    let size = c .before .before .before .before .before .before .before .before .before .before .before .before .before .before .before .before .before .before .before .before .before .before .before .before .before .before .before .before .before .store-size .ensures (decode i) (sectionAt expressionsSection nodeSize i) (rw (c .before .before .before .before .before .before .before .before .before .before .before .before .before .before .before .before .before .before .before .before .before .before .before .before .before .before .before .before .before .before .section .ensures) (passed-described i p)) (passed-size i p) in
     let n = c .before .before .before .before .before .before .before .before .before .before .before .before .before .before .before .before .before .before .before .before .before .before .before .before .before .before .before .before .before .store-size .result in
     let first = length-take-le (n - 0) (a .scratch .now) (omega (arith, size, run-scratch i S (a .cycles) m s k t (c .before .before .before .before .before .before .before .before .before .before .before .before .before .before .before .before .before .before .before .before .before .before .before .before .before .before .before .before .before .before .before .before .before .before .before .before .before .pre .0))) in
     let zeroed = first-zeroes 16384 n (omega (arith, size, passed-size i p)) ∙ size in

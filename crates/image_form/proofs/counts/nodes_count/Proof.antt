@@ -9,14 +9,15 @@ use Rattle.image_order.specs.Holds.{Nodes}
 use Rattle.image_form.proofs.CountLaws.{nodes-next, sum-done}
 use Rattle.image_form.proofs.counts.nodes_count.Statement.{statement}
 use Rattle.image_form.proofs.counts.nodes_count.Tie as tie
+use Rattle.language.specs.Encode.{nodeSize}
 
 abbrev Inv-loop : tie.InvT-loop
 Inv-loop exprs sum₀ n₀ sum n =
-    (n ≤ length exprs / 8) × (sum ≤ n) × ((d : Description) → Nodes d exprs → sum + total nodeCount (drop n (d .expressions)) ≡ total nodeCount (d .expressions))
+    (n ≤ length exprs / nodeSize) × (sum ≤ n) × ((d : Description) → Nodes d exprs → sum + total nodeCount (drop n (d .expressions)) ≡ total nodeCount (d .expressions))
 
 abbrev μ-loop : tie.MeasureT-loop
 μ-loop exprs sum₀ n₀ sum n =
-    length exprs / 8 - n
+    length exprs / nodeSize - n
 
 loop-holds : tie.Need-loop-holds Inv-loop μ-loop
 loop-holds c =

@@ -10,14 +10,15 @@ use Rattle.image_order.specs.Holds.{States}
 use Rattle.image_form.proofs.CountLaws.{states-next, sum-done, value-counted}
 use Rattle.image_form.proofs.counts.values_count.Statement.{statement}
 use Rattle.image_form.proofs.counts.values_count.Tie as tie
+use Rattle.language.specs.Encode.{stateSize}
 
 abbrev Inv-loop : tie.InvT-loop
 Inv-loop states sum₀ n₀ sum n =
-    (n ≤ length states / 7) × (sum ≤ n) × ((d : Description) → States d states → sum + total valueCount (drop n (d .states)) ≡ total valueCount (d .states))
+    (n ≤ length states / stateSize) × (sum ≤ n) × ((d : Description) → States d states → sum + total valueCount (drop n (d .states)) ≡ total valueCount (d .states))
 
 abbrev μ-loop : tie.MeasureT-loop
 μ-loop states sum₀ n₀ sum n =
-    length states / 7 - n
+    length states / stateSize - n
 
 loop-holds : tie.Need-loop-holds Inv-loop μ-loop
 loop-holds c =

@@ -12,14 +12,15 @@ use Rattle.image_form.proofs.LabelLaws.{allLabels, labels-end, labels-n
 use Rattle.image_form.specs.Names.{labelsRight}
 use Rattle.image_form.proofs.labels.labels_right.Statement.{statement}
 use Rattle.image_form.proofs.labels.labels_right.Tie as tie
+use Rattle.language.specs.Encode.{stateSize}
 
 abbrev Inv-loop : tie.InvT-loop
 Inv-loop states names from₀ n₀ from n =
-    (n ≤ length states / 7) × (from ≤ 255 * n) × (allLabels (length states / 7 - n) (7 * n) states (drop from names) ≡ labelsRight states names)
+    (n ≤ length states / stateSize) × (from ≤ 255 * n) × (allLabels (length states / stateSize - n) (stateSize * n) states (drop from names) ≡ labelsRight states names)
 
 abbrev μ-loop : tie.MeasureT-loop
 μ-loop states names from₀ n₀ from n =
-    length states / 7 - n
+    length states / stateSize - n
 
 loop-holds : tie.Need-loop-holds Inv-loop μ-loop
 loop-holds c =
@@ -56,7 +57,7 @@ loop-again c =
 
 returns-2 : tie.Need-returns-2 Inv-loop μ-loop
 returns-2 c =
-    sym (labels-end (c .before .before .before .before .args .states .now) (c .before .before .before .before .args .names .now) (c .before .loop .n) (7 * c .before .loop .n) _ (omega (arith, c .loop-test .left))) ∙ c .before .loop .inv .2
+    sym (labels-end (c .before .before .before .before .args .states .now) (c .before .before .before .before .args .names .now) (c .before .loop .n) (stateSize * c .before .loop .n) _ (omega (arith, c .loop-test .left))) ∙ c .before .loop .inv .2
 
 pub labels-right-spec : {M : Type 1} → statement M
 labels-right-spec =

@@ -6,7 +6,7 @@ use borrow.Author.Count.{below-more}
 use borrow.Author.Tests.{not-false, not-true}
 use lib.ListN.{drop, length, take}
 use Rattle.language.specs.Decode.{actionOf}
-use Rattle.language.specs.Encode.{actionBytes}
+use Rattle.language.specs.Encode.{actionBytes, actionSize}
 use Rattle.image_records.proofs.ByteLaws.{same-true}
 use Rattle.image_form.proofs.RowLaws.{actions-differ, actions-same}
 use Rattle.image_form.proofs.rows.actions_right.Statement.{statement}
@@ -14,11 +14,11 @@ use Rattle.image_form.proofs.rows.actions_right.Tie as tie
 
 abbrev Inv-loop : tie.InvT-loop
 Inv-loop acts n₀ n =
-    (n ≤ length acts / 7) × ((k : ℕ) → k < n → take 7 (drop (7 * k) acts) ≡ actionBytes (actionOf acts k))
+    (n ≤ length acts / actionSize) × ((k : ℕ) → k < n → take actionSize (drop (actionSize * k) acts) ≡ actionBytes (actionOf acts k))
 
 abbrev μ-loop : tie.MeasureT-loop
 μ-loop acts n₀ n =
-    length acts / 7 - n
+    length acts / actionSize - n
 
 loop-holds : tie.Need-loop-holds Inv-loop μ-loop
 loop-holds c =

@@ -6,7 +6,7 @@ use borrow.Author.Count.{below-more}
 use borrow.Author.Tests.{not-false, not-true}
 use lib.ListN.{drop, length, take}
 use Rattle.language.specs.Description.{Description, facilityAt}
-use Rattle.language.specs.Encode.{facilityRecord}
+use Rattle.language.specs.Encode.{facilityRecord, facilitySize}
 use Rattle.language.specs.Layout.{facilityBytes, placeIn}
 use Rattle.image_records.proofs.ByteLaws.{same-true}
 use Rattle.image_order.proofs.DeclaredLaws.{facility-is}
@@ -18,11 +18,11 @@ use Rattle.image_form.proofs.rows.facilities_right.Tie as tie
 
 abbrev Inv-loop : tie.InvT-loop
 Inv-loop facilities place₀ n₀ place n =
-    (n ≤ length facilities / 13) × ((d : Description) → Facilities d facilities → NamesLong d facilities → (place ≡ placeIn (d .facilities) n % 65536) × ((k : ℕ) → k < n → take 13 (drop (13 * k) facilities) ≡ facilityRecord (placeIn (d .facilities) k) (facilityAt d k)))
+    (n ≤ length facilities / facilitySize) × ((d : Description) → Facilities d facilities → NamesLong d facilities → (place ≡ placeIn (d .facilities) n % 65536) × ((k : ℕ) → k < n → take facilitySize (drop (facilitySize * k) facilities) ≡ facilityRecord (placeIn (d .facilities) k) (facilityAt d k)))
 
 abbrev μ-loop : tie.MeasureT-loop
 μ-loop facilities place₀ n₀ place n =
-    length facilities / 13 - n
+    length facilities / facilitySize - n
 
 loop-holds : tie.Need-loop-holds Inv-loop μ-loop
 loop-holds c =

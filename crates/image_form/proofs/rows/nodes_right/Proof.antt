@@ -6,7 +6,7 @@ use borrow.Author.Count.{below-more}
 use borrow.Author.Tests.{not-false, not-true}
 use lib.ListN.{drop, length, take}
 use Rattle.language.specs.Decode.{nodeOf}
-use Rattle.language.specs.Encode.{nodeBytes}
+use Rattle.language.specs.Encode.{nodeBytes, nodeSize}
 use Rattle.image_records.proofs.ByteLaws.{same-true}
 use Rattle.image_form.proofs.RowLaws.{nodes-differ, nodes-same}
 use Rattle.image_form.proofs.rows.nodes_right.Statement.{statement}
@@ -14,11 +14,11 @@ use Rattle.image_form.proofs.rows.nodes_right.Tie as tie
 
 abbrev Inv-loop : tie.InvT-loop
 Inv-loop exprs n₀ n =
-    (n ≤ length exprs / 8) × ((k : ℕ) → k < n → take 8 (drop (8 * k) exprs) ≡ nodeBytes (nodeOf exprs k))
+    (n ≤ length exprs / nodeSize) × ((k : ℕ) → k < n → take nodeSize (drop (nodeSize * k) exprs) ≡ nodeBytes (nodeOf exprs k))
 
 abbrev μ-loop : tie.MeasureT-loop
 μ-loop exprs n₀ n =
-    length exprs / 8 - n
+    length exprs / nodeSize - n
 
 loop-holds : tie.Need-loop-holds Inv-loop μ-loop
 loop-holds c =

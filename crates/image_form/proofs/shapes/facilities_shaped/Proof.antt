@@ -12,14 +12,15 @@ use Rattle.image_order.specs.Holds.{Facilities}
 use Rattle.image_form.proofs.ShapeLaws.{facilities-end, facilities-next, facilities-rank, facilities-shape}
 use Rattle.image_form.proofs.shapes.facilities_shaped.Statement.{statement}
 use Rattle.image_form.proofs.shapes.facilities_shaped.Tie as tie
+use Rattle.language.specs.Encode.{facilitySize}
 
 abbrev Inv-loop : tie.InvT-loop
 Inv-loop facilities rank₀ n₀ rank n =
-    (n ≤ length facilities / 13) × ((d : Description) → Facilities d facilities → facilitiesRight rank (drop n (d .facilities)) ≡ facilitiesRight 0 (d .facilities))
+    (n ≤ length facilities / facilitySize) × ((d : Description) → Facilities d facilities → facilitiesRight rank (drop n (d .facilities)) ≡ facilitiesRight 0 (d .facilities))
 
 abbrev μ-loop : tie.MeasureT-loop
 μ-loop facilities rank₀ n₀ rank n =
-    length facilities / 13 - n
+    length facilities / facilitySize - n
 
 loop-holds : tie.Need-loop-holds Inv-loop μ-loop
 loop-holds c =

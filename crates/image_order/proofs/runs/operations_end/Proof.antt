@@ -11,14 +11,15 @@ use Rattle.image_order.specs.Edges.{edge, runEnd}
 use Rattle.image_order.specs.Holds.{Operations}
 use Rattle.image_order.proofs.runs.operations_end.Statement.{statement}
 use Rattle.image_order.proofs.runs.operations_end.Tie as tie
+use Rattle.language.specs.Encode.{operationSize}
 
 abbrev Inv-loop : tie.InvT-loop
 Inv-loop operations end₀ n₀ end n =
-    (n ≤ length operations / 5) × ((d : Description) → Operations d operations → ending (edge end) (λ m. operationsEnd d m (drop n (d .operations))) ≡ ending (edge end₀) (λ m. operationsEnd d m (d .operations)))
+    (n ≤ length operations / operationSize) × ((d : Description) → Operations d operations → ending (edge end) (λ m. operationsEnd d m (drop n (d .operations))) ≡ ending (edge end₀) (λ m. operationsEnd d m (d .operations)))
 
 abbrev μ-loop : tie.MeasureT-loop
 μ-loop operations end₀ n₀ end n =
-    length operations / 5 - n
+    length operations / operationSize - n
 
 loop-holds : tie.Need-loop-holds Inv-loop μ-loop
 loop-holds c =

@@ -11,14 +11,15 @@ use Rattle.image_order.specs.Edges.{edge, runEnd}
 use Rattle.image_order.specs.Holds.{States}
 use Rattle.image_order.proofs.runs.states_end.Statement.{statement}
 use Rattle.image_order.proofs.runs.states_end.Tie as tie
+use Rattle.language.specs.Encode.{stateSize}
 
 abbrev Inv-loop : tie.InvT-loop
 Inv-loop states end₀ n₀ end n =
-    (n ≤ length states / 7) × ((d : Description) → States d states → ending (edge end) (λ m. statesEnd d m (drop n (d .states))) ≡ ending (edge end₀) (λ m. statesEnd d m (d .states)))
+    (n ≤ length states / stateSize) × ((d : Description) → States d states → ending (edge end) (λ m. statesEnd d m (drop n (d .states))) ≡ ending (edge end₀) (λ m. statesEnd d m (d .states)))
 
 abbrev μ-loop : tie.MeasureT-loop
 μ-loop states end₀ n₀ end n =
-    length states / 7 - n
+    length states / stateSize - n
 
 loop-holds : tie.Need-loop-holds Inv-loop μ-loop
 loop-holds c =

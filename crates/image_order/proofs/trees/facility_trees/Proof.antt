@@ -10,14 +10,15 @@ use Rattle.image_order.specs.Edges.{after, edge}
 use Rattle.image_order.specs.Holds.{Facilities, Nodes}
 use Rattle.image_order.proofs.trees.facility_trees.Statement.{statement}
 use Rattle.image_order.proofs.trees.facility_trees.Tie as tie
+use Rattle.language.specs.Encode.{facilitySize}
 
 abbrev Inv-loop : tie.InvT-loop
 Inv-loop exprs facilities end₀ n₀ end n =
-    (n ≤ length facilities / 13) × ((d : Description) → Nodes d exprs → Facilities d facilities → after d (edge end) (facilityRoots d (drop n (d .facilities))) ≡ after d (edge end₀) (facilityRoots d (d .facilities)))
+    (n ≤ length facilities / facilitySize) × ((d : Description) → Nodes d exprs → Facilities d facilities → after d (edge end) (facilityRoots d (drop n (d .facilities))) ≡ after d (edge end₀) (facilityRoots d (d .facilities)))
 
 abbrev μ-loop : tie.MeasureT-loop
 μ-loop exprs facilities end₀ n₀ end n =
-    length facilities / 13 - n
+    length facilities / facilitySize - n
 
 loop-holds : tie.Need-loop-holds Inv-loop μ-loop
 loop-holds c =

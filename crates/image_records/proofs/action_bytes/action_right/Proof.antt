@@ -5,7 +5,7 @@ use native.Mathlib.Omega.{arith}
 use borrow.Author.Needs.{needs}
 use lib.ListN.{length, take, drop}
 use Rattle.language.specs.Decode.{actionOf}
-use Rattle.language.specs.Encode.{actionBytes}
+use Rattle.language.specs.Encode.{actionBytes, actionSize}
 use Rattle.language.specs.Scan.{same}
 use Rattle.image_records.proofs.ActionLaws.{action-length}
 use Rattle.image_records.proofs.ByteLaws.{stand-past}
@@ -15,7 +15,7 @@ use Rattle.image_records.proofs.action_bytes.action_right.Tie as tie
 returns : tie.Need-returns
 returns c =
     let s = c .before .before .args .acts .now in
-    sym (stand-past s _ (7 * c .before .before .args .n) 7 (action-length (actionOf s (c .before .before .args .n))) (omega arith) (omega (arith, c .if1 .taken)))
+    sym (stand-past s _ (actionSize * c .before .before .args .n) 7 (action-length (actionOf s (c .before .before .args .n))) (omega arith) (omega (arith, c .if1 .taken)))
 
 action-at-requires : tie.Need-action-at-requires
 action-at-requires c κs = search needs
@@ -37,8 +37,8 @@ returns-2 c =
     let s = c .before .before .before .before .before .before .args .acts .now in
     let n = c .before .before .before .before .before .before .args .n in
     let e : c .before .before .action-bytes .result ≡ actionBytes (actionOf s n) = c .before .before .action-bytes .ensures ∙ ap actionBytes (c .before .before .before .action-at .ensures) in
-    c .stand .ensures ∙ ap (λ (w : List ℕ). same (take (length w) (drop (7 * n) s)) w) e
-    ∙ ap (λ (k : ℕ). same (take k (drop (7 * n) s)) (actionBytes (actionOf s n))) (action-length (actionOf s n))
+    c .stand .ensures ∙ ap (λ (w : List ℕ). same (take (length w) (drop (actionSize * n) s)) w) e
+    ∙ ap (λ (k : ℕ). same (take k (drop (actionSize * n) s)) (actionBytes (actionOf s n))) (action-length (actionOf s n))
 
 pub action-right-spec : {M : Type 1} → statement M
 action-right-spec =

@@ -9,6 +9,7 @@ use lib.Pow.{shl-exact}
 use Rattle.image_records.proofs.ConstantLaws.{constant-ends, constant-fit, marked-within}
 use Rattle.image_records.proofs.constants.constant_fits.Statement.{statement}
 use Rattle.image_records.proofs.constants.constant_fits.Tie as tie
+use Rattle.language.specs.Encode.{nodeSize}
 
 returns : tie.Need-returns
 returns c =
@@ -25,13 +26,13 @@ shared-slice-read-x c = search needs
 
 cast-more : tie.Need-cast-more
 cast-more c =
-    omega (arith, c .shared-slice-known2 .given (8 * c .before .before .before .args .n + 1))
+    omega (arith, c .shared-slice-known2 .given (nodeSize * c .before .before .before .args .n + 1))
 
 returns-2 : tie.Need-returns-2
 returns-2 c =
     let s = c .before .before .before .before .args .exprs .now in
     let n = c .before .before .before .before .args .n in
-    λ v e. absurd (omega (arith, marked-within (getD s (8 * n + 1) 0 / 48) n s (constant-ends s n v e .marked), c .if2 .taken))
+    λ v e. absurd (omega (arith, marked-within (getD s (nodeSize * n + 1) 0 / 48) n s (constant-ends s n v e .marked), c .if2 .taken))
 
 mul-six-there : tie.Need-mul-six-there
 mul-six-there c = search needs
@@ -56,7 +57,7 @@ returns-3 c =
     let s = c .before .before .before .before .before .args .exprs .now in
     let n = c .before .before .before .before .before .args .n in
     λ v e.
-    ap₂ ltb (c .six-there .ensures .0) (shl-exact 1 (getD s (8 * n + 1) 0 % 48 + 1) 64 (omega arith) (omega arith) ∙ one-mul (2 ^ (getD s (8 * n + 1) 0 % 48 + 1)))
+    ap₂ ltb (c .six-there .ensures .0) (shl-exact 1 (getD s (nodeSize * n + 1) 0 % 48 + 1) 64 (omega arith) (omega arith) ∙ one-mul (2 ^ (getD s (nodeSize * n + 1) 0 % 48 + 1)))
     ∙ constant-fit s n v (λ i. c .before .before .shared-slice-known2 .given i .fits) (constant-ends s n v e)
 
 pub constant-fits-spec : {M : Type 1} → statement M

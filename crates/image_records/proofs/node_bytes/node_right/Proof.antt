@@ -5,7 +5,7 @@ use native.Mathlib.Omega.{arith}
 use borrow.Author.Needs.{needs}
 use lib.ListN.{length, take, drop}
 use Rattle.language.specs.Decode.{nodeOf}
-use Rattle.language.specs.Encode.{nodeBytes}
+use Rattle.language.specs.Encode.{nodeBytes, nodeSize}
 use Rattle.language.specs.Scan.{same}
 use Rattle.image_records.proofs.ByteLaws.{stand-past}
 use Rattle.image_records.proofs.WrittenNodes.{constant-low, node-length, node-low}
@@ -16,7 +16,7 @@ use Rattle.image_records.proofs.node_bytes.node_right.Tie as tie
 returns : tie.Need-returns
 returns c =
     let s = c .before .before .args .exprs .now in
-    sym (stand-past s _ (8 * c .before .before .args .n) 8 (node-length (nodeOf s (c .before .before .args .n))) (omega arith) (omega (arith, c .if1 .taken)))
+    sym (stand-past s _ (nodeSize * c .before .before .args .n) 8 (node-length (nodeOf s (c .before .before .args .n))) (omega arith) (omega (arith, c .if1 .taken)))
 
 mul-at : tie.Need-mul-at
 mul-at c = search needs
@@ -46,8 +46,8 @@ returns-2 c =
     let e : c .before .before .node-bytes .result ≡ nodeBytes (nodeOf s n) =
     c .before .before .node-bytes .ensures ∙ node-low _ (constantNumber n s) (c .before .before .before .before .node-at .result) (ap (λ (x : ℕ). x % 2 ^ 48) (c .before .before .before .six .ensures .0) ∙ constant-low n s)
     ∙ ap nodeBytes (c .before .before .before .before .node-at .ensures) in
-    c .stand .ensures ∙ ap (λ (w : List ℕ). same (take (length w) (drop (8 * n) s)) w) e
-    ∙ ap (λ (k : ℕ). same (take k (drop (8 * n) s)) (nodeBytes (nodeOf s n))) (node-length (nodeOf s n))
+    c .stand .ensures ∙ ap (λ (w : List ℕ). same (take (length w) (drop (nodeSize * n) s)) w) e
+    ∙ ap (λ (k : ℕ). same (take k (drop (nodeSize * n) s)) (nodeBytes (nodeOf s n))) (node-length (nodeOf s n))
 
 pub node-right-spec : {M : Type 1} → statement M
 node-right-spec =

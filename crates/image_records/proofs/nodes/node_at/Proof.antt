@@ -7,6 +7,7 @@ use Rattle.image_records.proofs.NodeLaws.{node-past, node-constant, nod
 use Rattle.image_records.specs.Nodes.{constantNumber}
 use Rattle.image_records.proofs.nodes.node_at.Statement.{statement}
 use Rattle.image_records.proofs.nodes.node_at.Tie as tie
+use Rattle.language.specs.Encode.{nodeSize}
 
 returns : tie.Need-returns
 returns c =
@@ -29,11 +30,11 @@ digits-marked-requires c κs = search needs
 
 cast-t18 : tie.Need-cast-t18
 cast-t18 c =
-    omega (arith, c .before .before .before .shared-slice-known3 .given (8 * c .before .before .before .before .before .before .before .args .n + 1))
+    omega (arith, c .before .before .before .shared-slice-known3 .given (nodeSize * c .before .before .before .before .before .before .before .args .n + 1))
 
 add-t19 : tie.Need-add-t19
 add-t19 c =
-    omega (arith, c .before .before .before .shared-slice-known3 .given (8 * c .before .before .before .before .before .before .before .args .n + 1))
+    omega (arith, c .before .before .before .shared-slice-known3 .given (nodeSize * c .before .before .before .before .before .before .before .args .n + 1))
 
 returns-2 : tie.Need-returns-2
 returns-2 c =

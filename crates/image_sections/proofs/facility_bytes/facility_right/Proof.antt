@@ -4,7 +4,7 @@ use Prim.Native.Nat.{ℕ, _*_}
 use native.Mathlib.Omega.{arith}
 use borrow.Author.Needs.{needs}
 use lib.ListN.{length, take, drop}
-use Rattle.language.specs.Encode.{facilityRecord}
+use Rattle.language.specs.Encode.{facilityRecord, facilitySize}
 use Rattle.language.specs.Scan.{same}
 use Rattle.image_records.proofs.ByteLaws.{stand-past}
 use Rattle.image_sections.proofs.WrittenDeclarations.{facility-length}
@@ -16,7 +16,7 @@ returns : tie.Need-returns
 returns c =
     let s = c .before .before .args .facilities .now in
     λ name e.
-    sym (stand-past s _ (13 * c .before .before .args .n) 13 (facility-length (c .before .before .args .place) (facilityIn s (c .before .before .args .n) name)) (omega arith) (omega (arith, c .if1 .taken)))
+    sym (stand-past s _ (facilitySize * c .before .before .args .n) facilitySize (facility-length (c .before .before .args .place) (facilityIn s (c .before .before .args .n) name)) (omega arith) (omega (arith, c .if1 .taken)))
 
 facility-at-requires : tie.Need-facility-at-requires
 facility-at-requires c κs = search needs
@@ -41,8 +41,8 @@ returns-2 c =
     let x = facilityRecord (c .before .before .before .before .before .before .args .place) (facilityIn s n name) in
     let g : c .before .before .facility-bytes .result ≡ x =
     c .before .before .facility-bytes .ensures name (e ∙ sym (c .before .before .before .facility-at .ensures .name)) ∙ ap (facilityRecord (c .before .before .before .before .before .before .args .place)) (c .before .before .before .facility-at .ensures .meaning name) in
-    c .stand .ensures ∙ ap (λ (w : List ℕ). same (take (length w) (drop (13 * n) s)) w) g
-    ∙ ap (λ (k : ℕ). same (take k (drop (13 * n) s)) x) (facility-length (c .before .before .before .before .before .before .args .place) (facilityIn s n name))
+    c .stand .ensures ∙ ap (λ (w : List ℕ). same (take (length w) (drop (facilitySize * n) s)) w) g
+    ∙ ap (λ (k : ℕ). same (take k (drop (facilitySize * n) s)) x) (facility-length (c .before .before .before .before .before .before .args .place) (facilityIn s n name))
 
 pub facility-right-spec : {M : Type 1} → statement M
 facility-right-spec =

@@ -11,6 +11,7 @@ use Rattle.image_records.specs.Placed.{placed}
 use Rattle.image_sections.proofs.HeaderLaws.{header-length, fours-length, fours-next, placed-all}
 use Rattle.image_sections.proofs.header.header_bytes.Statement.{statement}
 use Rattle.image_sections.proofs.header.header_bytes.Tie as tie
+use Rattle.language.specs.Encode.{headerSize}
 
 abbrev Inv-loop : tie.InvT-loop
 Inv-loop all header₀ i₀ header i = (i ≤ 13) × (header ≡ placed header₀ 0 (fours (take i all)))
@@ -41,7 +42,7 @@ four-bytes-requires c κs =
 
 slice-aggregate-put : tie.Need-slice-aggregate-put Inv-loop μ-loop
 slice-aggregate-put c =
-    sym (ap length (c .before .before .before .loop .inv .1) ∙ placed-length (replicate 52 0) (fours (take (c .before .before .before .loop .i) (c .before .before .before .before .header-numbers .result))) 0)
+    sym (ap length (c .before .before .before .loop .inv .1) ∙ placed-length (replicate headerSize 0) (fours (take (c .before .before .before .loop .i) (c .before .before .before .before .header-numbers .result))) 0)
 
 mul-put : tie.Need-mul-put Inv-loop μ-loop
 mul-put c =
@@ -69,16 +70,16 @@ loop-again c =
     let l : length all ≡ 13 = ap length (c .before .before .before .before .before .before .before .header-numbers .ensures) ∙ header-length (c .before .before .before .before .before .before .before .before .args .c) in (
       omega (arith, c .before .before .before .before .before .loop-test .taken),
       c .before .put .ensures ∙ ap₂ (λ (h w : List ℕ). placed h (4 * c .before .before .before .before .before .before .loop .i) w) (c .before .before .before .before .before .before .loop .inv .1) (c .before .before .before .before .four-bytes .ensures)
-          ∙ fours-next (replicate 52 0) all (c .before .before .before .before .before .before .loop .i) (omega (arith, c .before .before .before .before .before .loop-test .taken)) (omega arith),
+          ∙ fours-next (replicate headerSize 0) all (c .before .before .before .before .before .before .loop .i) (omega (arith, c .before .before .before .before .before .loop-test .taken)) (omega arith),
     )
 
 returns : tie.Need-returns Inv-loop μ-loop
 returns c =
     let all = c .before .before .header-numbers .result in
     let l : length all ≡ 13 = ap length (c .before .before .header-numbers .ensures) ∙ header-length (c .before .before .before .args .c) in
-    let e : length (fours all) ≡ 52 = fours-length all ∙ omega arith in
-    c .before .loop .inv .1 ∙ ap (λ (x : List ℕ). placed (replicate 52 0) 0 (fours x)) (take-all (c .before .loop .i) all (omega (arith, c .loop-test .left)))
-    ∙ placed-all (replicate 52 0) (fours all) e ∙ ap fours (c .before .before .header-numbers .ensures)
+    let e : length (fours all) ≡ headerSize = fours-length all ∙ omega arith in
+    c .before .loop .inv .1 ∙ ap (λ (x : List ℕ). placed (replicate headerSize 0) 0 (fours x)) (take-all (c .before .loop .i) all (omega (arith, c .loop-test .left)))
+    ∙ placed-all (replicate headerSize 0) (fours all) e ∙ ap fours (c .before .before .header-numbers .ensures)
 
 pub header-bytes-spec : {M : Type 1} → statement M
 header-bytes-spec =

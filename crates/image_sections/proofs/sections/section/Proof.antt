@@ -1,58 +1,43 @@
-use mathlib.Core.Path.{ap₂, _∙_}
-use Prim.Native.Nat.{ℕ, _*_}
+use mathlib.Core.Path.{_∙_}
 use borrow.Author.Needs.{needs}
-use lib.ListN.{drop, take}
 use Rattle.image_sections.proofs.HeaderLaws.{section-fits}
 use Rattle.image_sections.proofs.sections.section.Statement.{statement}
 use Rattle.image_sections.proofs.sections.section.Tie as tie
 
-mul-four : tie.Need-mul-four
-mul-four c = search needs
-
-add-four : tie.Need-add-four
-add-four c = search needs
-
-four-requires : tie.Need-four-requires
-four-requires c κs = search needs
+count-of-requires : tie.Need-count-of-requires
+count-of-requires c κs = search needs
 
 cast-count : tie.Need-cast-count
 cast-count c = search needs
 
-mul-four-2 : tie.Need-mul-four-2
-mul-four-2 c = search needs
-
-add-four-2 : tie.Need-add-four-2
-add-four-2 c = search needs
-
-four-requires-2 : tie.Need-four-requires-2
-four-requires-2 c κs = search needs
+offset-of-requires : tie.Need-offset-of-requires
+offset-of-requires c κs = search needs
 
 cast-offset : tie.Need-cast-offset
 cast-offset c = search needs
 
+size-in-requires : tie.Need-size-in-requires
+size-in-requires c κs = search needs
+
 mul-part : tie.Need-mul-part
-mul-part c =
-    section-fits (search needs) (search needs)
+mul-part c = section-fits (c .size-in .ensures .1) (search needs)
 
 part-requires : tie.Need-part-requires
 part-requires c κs = search needs
 
 returns : tie.Need-returns
 returns c =
-    c .part .ensures ∙ ap₂ (λ (n o : ℕ). take (c .before .before .before .before .args .size * n) (drop o (c .before .before .before .before .args .image .now))) (c .before .before .four .ensures) (c .before .four2 .ensures)
+    c .part .ensures ∙ rw (c .before .size-in .ensures .0, c .before .before .before .count-of .ensures, c .before .before .offset-of .ensures)
 
 pub section-spec : {M : Type 1} → statement M
 section-spec =
     tie.close
     (tie.spec
-    mul-four
-    add-four
-    four-requires
+    count-of-requires
     cast-count
-    mul-four-2
-    add-four-2
-    four-requires-2
+    offset-of-requires
     cast-offset
+    size-in-requires
     mul-part
     part-requires
     returns)

@@ -12,12 +12,13 @@ use mathlib.Core.Path.{_≡_, refl}
 use mathlib.Core.Bool.{false, _||_}
 use Rattle.judge_sections.proofs.facilities.facilities.Statement.{statement}
 use Rattle.judge_sections.proofs.facilities.facilities.Tie as tie
+use Rattle.language.specs.Encode.{facilitySize}
 
 abbrev Inv-loop : tie.InvT-loop
-Inv-loop fs es fp ep memo₀ n₀ another₀ before₀ all₀ memo n another before all = (n ≤ length fs / 13) × (length memo ≡ 512) × ((d : Description) (p : Places) → Declared fs es fp ep d p → (lesser (judged all) (least (facilitiesFaults d p n another before (drop n (d .facilities)))) ≡ least (facilitiesFaults d p 0 false 0 (d .facilities))) × Remembered fs memo n d p)
+Inv-loop fs es fp ep memo₀ n₀ another₀ before₀ all₀ memo n another before all = (n ≤ length fs / facilitySize) × (length memo ≡ 512) × ((d : Description) (p : Places) → Declared fs es fp ep d p → (lesser (judged all) (least (facilitiesFaults d p n another before (drop n (d .facilities)))) ≡ least (facilitiesFaults d p 0 false 0 (d .facilities))) × Remembered fs memo n d p)
 
 abbrev μ-loop : tie.MeasureT-loop
-μ-loop fs es fp ep memo₀ n₀ another₀ before₀ all₀ memo n another before all = length fs / 13 - n
+μ-loop fs es fp ep memo₀ n₀ another₀ before₀ all₀ memo n another before all = length fs / facilitySize - n
 
 loop-holds : tie.Need-loop-holds Inv-loop μ-loop
 loop-holds c =

@@ -11,12 +11,13 @@ use Prim.Native.Nat.{_-_, _/_, _≤_}
 use mathlib.Core.Path.{_≡_, ap}
 use Rattle.judge_sections.proofs.operations.operations.Statement.{statement}
 use Rattle.judge_sections.proofs.operations.operations.Tie as tie
+use Rattle.language.specs.Encode.{operationSize}
 
 abbrev Inv-loop : tie.InvT-loop
-Inv-loop fs es fp ep memo acts ap ss labels os kept₀ n₀ all₀ kept n all = (n ≤ length os / 5) × (length kept ≡ 512) × ((d : Description) (p : Places) → Acting fs es fp ep memo acts ap ss labels os d p → (lesser (judged all) (least (operationsFaults d p (length os / 5 - n) n)) ≡ least (operationsFaults d p (length os / 5) 0)) × Performed kept n d p)
+Inv-loop fs es fp ep memo acts ap ss labels os kept₀ n₀ all₀ kept n all = (n ≤ length os / operationSize) × (length kept ≡ 512) × ((d : Description) (p : Places) → Acting fs es fp ep memo acts ap ss labels os d p → (lesser (judged all) (least (operationsFaults d p (length os / operationSize - n) n)) ≡ least (operationsFaults d p (length os / operationSize) 0)) × Performed kept n d p)
 
 abbrev μ-loop : tie.MeasureT-loop
-μ-loop fs es fp ep memo acts ap ss labels os kept₀ n₀ all₀ kept n all = length os / 5 - n
+μ-loop fs es fp ep memo acts ap ss labels os kept₀ n₀ all₀ kept n all = length os / operationSize - n
 
 loop-holds : tie.Need-loop-holds Inv-loop μ-loop
 loop-holds c =

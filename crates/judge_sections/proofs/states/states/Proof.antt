@@ -15,9 +15,10 @@ use Prim.Native.Nat.{ℕ, _-_, _/_, _≤_}
 use mathlib.Core.Path.{_≡_, ap, _∙_}
 use Rattle.judge_sections.proofs.states.states.Statement.{statement}
 use Rattle.judge_sections.proofs.states.states.Tie as tie
+use Rattle.language.specs.Encode.{operationSize, stateSize}
 
 abbrev Inv-loop : tie.InvT-loop
-Inv-loop fs es fp ep memo acts ap ss labels os kept sp wanted ops n₀ all₀ n all = (n ≤ length ss / 7) × ((d : Description) (p : Places) → Stated fs es fp ep memo acts ap ss labels os sp d p → Performed kept (length os / 5) d p → lesser (judged all) (statesFrom d p (sequencingLength d p) n) ≡ least (statesFaults d p (sequencingLength d p) [] 0 (d .states)))
+Inv-loop fs es fp ep memo acts ap ss labels os kept sp wanted ops n₀ all₀ n all = (n ≤ length ss / stateSize) × ((d : Description) (p : Places) → Stated fs es fp ep memo acts ap ss labels os sp d p → Performed kept (length os / operationSize) d p → lesser (judged all) (statesFrom d p (sequencingLength d p) n) ≡ least (statesFaults d p (sequencingLength d p) [] 0 (d .states)))
 
 abbrev μ-loop : tie.MeasureT-loop
 μ-loop fs es fp ep memo acts ap ss labels os kept sp wanted ops n₀ all₀ n all = length ss / 7 - n

@@ -9,12 +9,13 @@ use Prim.Native.Nat.{ℕ, _-_, _/_, _≤_}
 use mathlib.Core.Path.{_≡_}
 use Rattle.judge_sections.proofs.wanted.sequencing_length.Statement.{statement}
 use Rattle.judge_sections.proofs.wanted.sequencing_length.Tie as tie
+use Rattle.language.specs.Encode.{facilitySize}
 
 abbrev Inv-loop : tie.InvT-loop
-Inv-loop fs fp n₀ n = (n ≤ length fs / 13) × ((es ep : List ℕ) (d : Description) (p : Places) → Declared fs es fp ep d p → from d n ≡ sequencingOf d)
+Inv-loop fs fp n₀ n = (n ≤ length fs / facilitySize) × ((es ep : List ℕ) (d : Description) (p : Places) → Declared fs es fp ep d p → from d n ≡ sequencingOf d)
 
 abbrev μ-loop : tie.MeasureT-loop
-μ-loop fs fp n₀ n = length fs / 13 - n
+μ-loop fs fp n₀ n = length fs / facilitySize - n
 
 loop-holds : tie.Need-loop-holds Inv-loop μ-loop
 loop-holds c =

@@ -7,9 +7,10 @@ use Prim.Native.Nat.{_+_, _*_, _<_, _≤_}
 use mathlib.Core.Path.{_≡_, refl, sym, _∙_}
 use Rattle.judge_terms.proofs.constants.same_number.Statement.{statement}
 use Rattle.judge_terms.proofs.constants.same_number.Tie as tie
+use Rattle.language.specs.Encode.{nodeSize}
 
 abbrev Inv-loop : tie.InvT-loop
-Inv-loop exprs n k m j a₀ left₀ b₀ right₀ a left b right = (a ≤ n) × (b ≤ m) × (eqb (numberAt 6 (8 * a + 2) exprs + digitsBefore left a exprs) (numberAt 6 (8 * b + 2) exprs + digitsBefore right b exprs) ≡ eqb (numberAt 6 (8 * n + 2) exprs + digitsBefore k n exprs) (numberAt 6 (8 * m + 2) exprs + digitsBefore j m exprs))
+Inv-loop exprs n k m j a₀ left₀ b₀ right₀ a left b right = (a ≤ n) × (b ≤ m) × (eqb (numberAt 6 (nodeSize * a + 2) exprs + digitsBefore left a exprs) (numberAt 6 (nodeSize * b + 2) exprs + digitsBefore right b exprs) ≡ eqb (numberAt 6 (nodeSize * n + 2) exprs + digitsBefore k n exprs) (numberAt 6 (nodeSize * m + 2) exprs + digitsBefore j m exprs))
 
 abbrev μ-loop : tie.MeasureT-loop
 μ-loop exprs n k m j a₀ left₀ b₀ right₀ a left b right = left

@@ -5,6 +5,7 @@ use borrow.Author.Needs.{needs}
 use lib.ListN.{length}
 use Rattle.language.specs.Acting as T
 use Rattle.language.specs.Description.{Description}
+use Rattle.language.specs.Encode.{actionSize}
 use Rattle.run_references.specs.Places.{foundMeant}
 use Rattle.run_actions.specs.Acts.{Actions}
 use Rattle.run_actions.proofs.ActionLaws.{arm-here, arm-long, arm-next, arm-none}
@@ -46,7 +47,7 @@ returns-2 c =
 
 add-i : tie.Need-add-i Inv-loop μ-loop
 add-i c =
-    let w : c .before .before .before .before .before .before .loop .i < length (c .before .before .before .before .before .before .before .before .args .section .now) / 7 = rw (c .before .before .x .given .1) at (c .before .before .before .before .arm-size .ensures .0) in omega arith
+    let w : c .before .before .before .before .before .before .loop .i < length (c .before .before .before .before .before .before .before .before .args .section .now) / actionSize = rw (c .before .before .x .given .1) at (c .before .before .before .before .arm-size .ensures .0) in omega arith
 
 cast-i : tie.Need-cast-i Inv-loop μ-loop
 cast-i c =
@@ -54,7 +55,7 @@ cast-i c =
 
 add-i-2 : tie.Need-add-i-2 Inv-loop μ-loop
 add-i-2 c =
-    let w : c .before .before .before .before .before .before .loop .i < length (c .before .before .before .before .before .before .before .before .args .section .now) / 7 = rw (c .before .before .x .given .1) at (c .before .before .before .before .arm-size .ensures .0) in omega arith
+    let w : c .before .before .before .before .before .before .loop .i < length (c .before .before .before .before .before .before .before .before .args .section .now) / actionSize = rw (c .before .before .x .given .1) at (c .before .before .before .before .arm-size .ensures .0) in omega arith
 
 add-left : tie.Need-add-left Inv-loop μ-loop
 add-left c =
@@ -102,7 +103,7 @@ returns-4 c =
 
 add-t17 : tie.Need-add-t17 Inv-loop μ-loop
 add-t17 c =
-    let w : c .before .before .before .before .before .before .loop .i < length (c .before .before .before .before .before .before .before .before .args .section .now) / 7 = rw (c .before .before .x2 .given .1) at (c .before .before .before .before .arm-size2 .ensures .0) in omega arith
+    let w : c .before .before .before .before .before .before .loop .i < length (c .before .before .before .before .before .before .before .before .args .section .now) / actionSize = rw (c .before .before .x2 .given .1) at (c .before .before .before .before .arm-size2 .ensures .0) in omega arith
 
 returns-5 : tie.Need-returns-5 Inv-loop μ-loop
 returns-5 c =

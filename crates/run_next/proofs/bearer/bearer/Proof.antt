@@ -5,6 +5,7 @@ use borrow.Author.Needs.{needs}
 use lib.ListN.{length}
 use Rattle.language.specs.Description as D
 use Rattle.language.specs.Description.{Description}
+use Rattle.language.specs.Encode.{stateSize}
 use Rattle.language.specs.Step as S
 use Rattle.value_limbs.specs.Limbs.{number}
 use Rattle.run_next.specs.Values.{Valued}
@@ -21,7 +22,7 @@ abbrev μ-loop : tie.MeasureT-loop
 
 loop-holds : tie.Need-loop-holds Inv-loop μ-loop
 loop-holds c =
-    (omega arith, λ d h. let k : ℕ = length (c .before .before .args .section .now) / 7 in let e : k - 0 ≡ k = omega arith in rw e)
+    (omega arith, λ d h. let k : ℕ = length (c .before .before .args .section .now) / stateSize in let e : k - 0 ≡ k = omega arith in rw e)
 
 state-at-requires : tie.Need-state-at-requires Inv-loop μ-loop
 state-at-requires c κs =
@@ -41,7 +42,7 @@ returns c =
     λ d h.
     let a = c .before .before .before .before .before .before .before .args in
     let l = c .before .before .before .before .loop in
-    let k : ℕ = length (a .section .now) / 7 in
+    let k : ℕ = length (a .section .now) / stateSize in
     let e : k - l .n ≡ suc (k - l .n - 1) = omega arith in
     let s = h .states (l .n) in
     let b = ap (λ (y : D.State). S.bears d (S.numberAt d (y .value)) (number (a .x .limbs))) (s .is ∙ sym (c .before .before .state-at .ensures .meaning (s .name))) ∙ (sym (c .before .bears .ensures d (a .section .now) h) ∙ c .if1 .taken) in
@@ -62,7 +63,7 @@ loop-again c = (
   λ d h.
       let a = c .before .before .before .before .before .before .before .args in
       let l = c .before .before .before .before .loop in
-      let k : ℕ = length (a .section .now) / 7 in
+      let k : ℕ = length (a .section .now) / stateSize in
       let e : k - l .n ≡ suc (k - l .n - 1) = omega arith in
       let m : k - (l .n + 1) ≡ k - l .n - 1 = omega arith in
       let p : l .n + 1 ≡ suc (l .n) = omega arith in
@@ -77,7 +78,7 @@ returns-2 c =
     λ d h.
     let a = c .before .before .before .before .args in
     let l = c .before .loop in
-    let k : ℕ = length (a .section .now) / 7 in
+    let k : ℕ = length (a .section .now) / stateSize in
     let e : 0 ≡ k - l .n = omega arith in
     ap (λ (i : ℕ). S.bearer d i (l .n) (number (a .x .limbs))) e ∙ l .inv .1 d h
 

@@ -2,6 +2,7 @@ use mathlib.Core.Path.{sym, _∙_}
 use Rattle.language.specs.Decode.{decode, sectionAt}
 use Rattle.language.specs.Layout.{storeSize}
 use Rattle.image_lookups.proofs.NamesThere.{state-name-there}
+use Rattle.language.specs.Encode.{expressionsSection, nodeSize}
 use Rattle.run_soundness.proofs.PassedLaws.{passed-facilities}
 use Rattle.trace_line.proofs.SectionLaws.{image-described, image-named}
 use borrow.Author.Needs.{needs}
@@ -28,7 +29,7 @@ returns : tie.Need-returns
 unfolding storeSize
 returns c =
     let i = c .before .before .before .before .before .before .before .before .before .before .args .image .now in
-    c .before .before .cycle-line .ensures .1 (decode i) (sectionAt 2 8 i) (c .before .before .before .before .before .before .before .before .before .before .args .state) (image-described i (c .before .before .before .before .before .before .before .before .before .before .pre .0) (c .before .before .before .before .before .section .ensures)) (image-named i (c .before .before .before .before .before .section .ensures) (c .before .before .before .before .section2 .ensures)) (c .before .before .before .before .before .before .before .before .before .before .pre .1) (c .before .before .before .before .before .before .state-name .ensures ∙ state-name-there i (c .before .before .before .before .before .before .before .before .before .before .pre .0) (c .before .before .before .before .before .before .before .before .before .before .args .state))
+    c .before .before .cycle-line .ensures .1 (decode i) (sectionAt expressionsSection nodeSize i) (c .before .before .before .before .before .before .before .before .before .before .args .state) (image-described i (c .before .before .before .before .before .before .before .before .before .before .pre .0) (c .before .before .before .before .before .section .ensures)) (image-named i (c .before .before .before .before .before .section .ensures) (c .before .before .before .before .section2 .ensures)) (c .before .before .before .before .before .before .before .before .before .before .pre .1) (c .before .before .before .before .before .before .state-name .ensures ∙ state-name-there i (c .before .before .before .before .before .before .before .before .before .before .pre .0) (c .before .before .before .before .before .before .before .before .before .before .args .state))
 
 pub shown-spec : {M : Type 1} → statement M
 shown-spec =

@@ -9,6 +9,7 @@ use Rattle.language.specs.Decode.{namesLength}
 use Rattle.language.specs.Description.{Description, Facility, facilityAt, isComputed}
 use Rattle.language.specs.Layout.{placeIn, storeSizeOf}
 use Rattle.image_sections.specs.Declarations.{facilityMeant}
+use Rattle.language.specs.Encode.{facilitySize}
 use Rattle.run_references.specs.Described.{Describes}
 use Rattle.trace_output.specs.Texts.{Named}
 use Rattle.trace_output.proofs.LineLoop.{Printed, has-word, printed-all, printed-first, printed-more}
@@ -18,7 +19,7 @@ use Rattle.trace_output.proofs.shown.facilities_line.Tie as tie
 
 abbrev Inv-loop : tie.InvT-loop
 Inv-loop out₀ at section names store count end₀ offset₀ n₀ out end offset n =
-    (n ≤ count) × (offset ≤ 255 * n) × (offset ≡ namesLength n 2 13 section) × (length out ≡ length out₀)
+    (n ≤ count) × (offset ≤ 255 * n) × (offset ≡ namesLength n 2 facilitySize section) × (length out ≡ length out₀)
     × ((d : Description) (E : List ℕ) → Describes d section E → Named d section names → storeSizeOf (d .facilities) ≤ length store → Printed d store out₀ at out end n)
 
 abbrev μ-loop : tie.MeasureT-loop

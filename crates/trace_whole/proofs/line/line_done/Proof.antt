@@ -1,4 +1,5 @@
 use Rattle.language.specs.Decode.{decode, sectionAt}
+use Rattle.language.specs.Encode.{expressionsSection, nodeSize}
 use Rattle.trace_line.proofs.SectionLaws.{image-described}
 use Rattle.trace_whole.proofs.LineLaws.{turned-none, turned-taken}
 use borrow.Author.Needs.{needs}
@@ -35,7 +36,7 @@ same-length-2 c = search needs
 returns : tie.Need-returns
 returns c =
     let i = c .before .before .before .before .before .before .before .before .before .before .before .before .before .before .before .before .before .before .args .image .now in
-    turned-none (c .before .before .before .before .before .before .before .before .before .before .before .before .before .before .before .before .before .before .args .stimulus .now) (c .before .before .before .before .before .before .before .before .stimulus-of .last .1 .1 .0) (c .before .before .before .before .before .before .before .before .stimulus-of .result) (c .before .before .before .before .enum-told .given .1) (c .before .before .before .before .before .before .before .before .stimulus-of .ensures (decode i) (sectionAt 2 8 i) (image-described i (c .before .before .before .before .before .before .before .before .before .before .before .before .before .before .before .before .before .before .pre .0) (c .before .before .before .before .before .before .before .before .before .before .section .ensures)) (c .before .before .before .before .before .before .before .before .before .before .before .before .before .before .before .before .before .before .pre .3)) (c .before .before .not-taken .ensures .0) (c .before .before .not-taken .ensures .1)
+    turned-none (c .before .before .before .before .before .before .before .before .before .before .before .before .before .before .before .before .before .before .args .stimulus .now) (c .before .before .before .before .before .before .before .before .stimulus-of .last .1 .1 .0) (c .before .before .before .before .before .before .before .before .stimulus-of .result) (c .before .before .before .before .enum-told .given .1) (c .before .before .before .before .before .before .before .before .stimulus-of .ensures (decode i) (sectionAt expressionsSection nodeSize i) (image-described i (c .before .before .before .before .before .before .before .before .before .before .before .before .before .before .before .before .before .before .pre .0) (c .before .before .before .before .before .before .before .before .before .before .section .ensures)) (c .before .before .before .before .before .before .before .before .before .before .before .before .before .before .before .before .before .before .pre .3)) (c .before .before .not-taken .ensures .0) (c .before .before .not-taken .ensures .1)
 
 same-length-3 : tie.Need-same-length-3
 same-length-3 c = search needs
@@ -55,7 +56,7 @@ same-length-7 c = search needs
 returns-2 : tie.Need-returns-2
 returns-2 c =
     let i = c .before .before .before .before .before .before .before .before .before .before .before .before .before .before .before .before .before .before .before .before .before .before .before .before .before .before .before .before .before .before .args .image .now in
-    turned-taken (c .before .before .before .before .before .before .before .before .before .before .before .before .before .before .before .before .before .before .before .before .before .before .before .before .before .before .before .before .before .before .args .stimulus .now) (c .before .before .before .before .before .before .before .before .before .before .before .before .before .before .before .before .before .before .before .before .stimulus-of .last .1 .1 .0) (c .before .before .before .before .before .before .before .before .before .before .before .before .before .before .before .before .before .before .before .before .stimulus-of .result) _ (c .before .before .before .before .before .before .before .before .before .before .before .before .before .before .before .before .n .given .1) (c .before .before .before .before .before .before .before .before .before .before .before .before .before .before .before .before .before .before .before .before .stimulus-of .ensures (decode i) (sectionAt 2 8 i) (image-described i (c .before .before .before .before .before .before .before .before .before .before .before .before .before .before .before .before .before .before .before .before .before .before .before .before .before .before .before .before .before .before .pre .0) (c .before .before .before .before .before .before .before .before .before .before .before .before .before .before .before .before .before .before .before .before .before .before .section .ensures)) (c .before .before .before .before .before .before .before .before .before .before .before .before .before .before .before .before .before .before .before .before .before .before .before .before .before .before .before .before .before .before .pre .3)) _ (c .before .before .before .before .before .before .before .before .before .before .before .before .before .before .before .before .before .before .before .before .before .before .before .before .before .before .before .before .before .before .pre .2) _ (c .before .before .before .before .before .before .before .before .before .before .before .before .before .part .ensures) (c .before .before .before .before .before .before .before .before .carried .ensures)
+    turned-taken (c .before .before .before .before .before .before .before .before .before .before .before .before .before .before .before .before .before .before .before .before .before .before .before .before .before .before .before .before .before .before .args .stimulus .now) (c .before .before .before .before .before .before .before .before .before .before .before .before .before .before .before .before .before .before .before .before .stimulus-of .last .1 .1 .0) (c .before .before .before .before .before .before .before .before .before .before .before .before .before .before .before .before .before .before .before .before .stimulus-of .result) _ (c .before .before .before .before .before .before .before .before .before .before .before .before .before .before .before .before .n .given .1) (c .before .before .before .before .before .before .before .before .before .before .before .before .before .before .before .before .before .before .before .before .stimulus-of .ensures (decode i) (sectionAt expressionsSection nodeSize i) (image-described i (c .before .before .before .before .before .before .before .before .before .before .before .before .before .before .before .before .before .before .before .before .before .before .before .before .before .before .before .before .before .before .pre .0) (c .before .before .before .before .before .before .before .before .before .before .before .before .before .before .before .before .before .before .before .before .before .before .section .ensures)) (c .before .before .before .before .before .before .before .before .before .before .before .before .before .before .before .before .before .before .before .before .before .before .before .before .before .before .before .before .before .before .pre .3)) _ (c .before .before .before .before .before .before .before .before .before .before .before .before .before .before .before .before .before .before .before .before .before .before .before .before .before .before .before .before .before .before .pre .2) _ (c .before .before .before .before .before .before .before .before .before .before .before .before .before .part .ensures) (c .before .before .before .before .before .before .before .before .carried .ensures)
 
 pub line-done-spec : {M : Type 1} → statement M
 line-done-spec =
