@@ -15,12 +15,12 @@ use Rattle.language.specs.Lookups as Lk
 use Rattle.language.specs.Reading as R
 use Rattle.language.specs.Tree as T
 use Rattle.language.specs.Tree.{Name}
-use Rattle.image_sections.specs.Declarations.{boundsMeant, facilityMeant, kindMeant}
+use Rattle.image_sections.specs.Declarations.{facilityMeant, kindMeant, shortMeant}
 use Rattle.image_sections.specs.Names.{partMeant}
-use Rattle.image_sections.specs.declared.facilities.Bounds.{Bounds}
 use Rattle.image_sections.specs.declared.facilities.Facility.{Facility}
 use Rattle.image_sections.specs.declared.facilities.Kind.{Kind}
 use Rattle.image_sections.specs.declared.facilities.Kind.the-variants as K
+use Rattle.image_sections.specs.declared.facilities.ShortBounds.{ShortBounds}
 use Rattle.image_sections.specs.declared.names.Part.{Part}
 use Rattle.call_answers.specs.Lookups.{Looks, answered, nameMeant}
 use Rattle.call_answers.specs.declared.looked.Looked.{Looked}
@@ -101,7 +101,7 @@ kind-back K.Computed = refl
 kind-one : (k l : Kind) → kindMeant k ≡ kindMeant l → k ≡ l
 kind-one k l e = sym (kind-back k) ∙ ap kindBack e ∙ kind-back l
 
-bounds-one : (a b : Bounds) → boundsMeant a ≡ boundsMeant b → a ≡ b
+bounds-one : (a b : ShortBounds) → shortMeant a ≡ shortMeant b → a ≡ b
 bounds-one a b e = ap₂ (λ (m n : ℕ). record { first = m; last = n }) (ap (λ (x : D.Bounds). x .first) e) (ap (λ (x : D.Bounds). x .last) e)
 
 -- A place is told by the expression or by the place in the store.

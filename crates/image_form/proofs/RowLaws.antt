@@ -8,19 +8,15 @@ use native.Mathlib.Omega.{arith}
 use lib.ListN.{drop, getD, length, take}
 use Rattle.language.specs.Decode.{actionOf, nodeOf}
 use Rattle.language.specs.Description as D
-use Rattle.language.specs.Description.{Description, Facility, actionAt, bounds, facilityAt, isComputed, noFacility, nodeAt, wordCount, wordLength}
+use Rattle.language.specs.Description.{Description, Facility, actionAt, facilityAt, isComputed, noFacility, nodeAt}
 use Rattle.language.specs.Encode.{actionBytes, actionSize, concat, facilityRecord, facilityRecords, facilitySize, little, nodeBytes, nodeSize}
-use Rattle.language.specs.Layout.{facilityBytes, placeIn, wordBytes}
+use Rattle.language.specs.Layout.{facilityBytes, placeIn}
 use Rattle.language.specs.Scan.{same}
-use Rattle.language.specs.Tree as T
 use Rattle.language.specs.Tree.{Name}
 use Rattle.image_records.proofs.ActionLaws.{action-length}
 use Rattle.image_records.proofs.ByteLaws.{same-of, same-true}
 use Rattle.image_records.proofs.WrittenNodes.{node-length}
-use Rattle.image_sections.specs.Declarations.{boundsMeant, facilityIn, facilityMeant, kindMeant, nameLengthIn}
-use Rattle.image_sections.specs.declared.facilities.Facility as F
-use Rattle.store_words.specs.Shape.{facility}
-use Rattle.store_words.specs.declared.places.Shape.{Shape}
+use Rattle.image_sections.specs.Declarations.{facilityIn, nameLengthIn}
 use Rattle.about_writing.specs.Rows.{facilities-are, facilities-at, row-at, row-is}
 use Rattle.image_order.specs.Holds.{Actions, Facilities, Nodes}
 use Rattle.image_form.specs.Form.{NamesLong}
@@ -93,20 +89,6 @@ place-more (f ∷ fs) zero h = by-rest fs
     by-rest [] = omega arith
     by-rest (g ∷ gs) = omega arith
 place-more (f ∷ fs) (suc n) h = omega (arith, place-more fs n (omega arith))
-
--- The bytes of a facility are those of its shape.
-pub bytes-of : (name : Name) (f : F.Facility) (s : Shape) → s .computed ≡ isComputed (kindMeant (f .kind)) → s .dimensions ≡ f .dimensions
-    → bounds (s .words .first) (s .words .last) ≡ boundsMeant (f .words) → bounds (s .bits .first) (s .bits .last) ≡ boundsMeant (f .bits)
-    → facilityBytes (facility s) ≡ facilityBytes (facilityMeant name f)
-unfolding facility facilityBytes wordCount wordLength
-bytes-of name f s c d w b = rw (← c, d, w, b) (by-test (s .computed))
-  where
-    size : ℕ
-    size = wordCount (facilityMeant name f) * wordBytes (wordLength (facilityMeant name f))
-
-    by-test : (t : Bool) → cond (isComputed (cond t T.computed T.plain)) 0 size ≡ cond t 0 size
-    by-test true = refl
-    by-test false = refl
 
 module _ (d : Description) (s : List ℕ) (h : Facilities d s) (g : NamesLong d s) where
   pub place-first : 0 ≡ placeIn (d .facilities) 0 % 65536

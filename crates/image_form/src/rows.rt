@@ -5,9 +5,8 @@ use image_records::record_sizes;
 use image_sections::facilities;
 use image_sections::facilities::Facility;
 use image_sections::facility_bytes;
-use image_sections::kinds;
-use store_words::places;
-use store_words::places::Shape;
+use image_sections::shapes;
+use store_geometry::places;
 ghost use mathlib.Core.Path.{_≡_};
 ghost use Prim.Native.Nat.{_+_, _*_, _/_, _%_, _<_};
 ghost use lib.ListN.{length};
@@ -52,25 +51,7 @@ pub fn actions_right(acts: &[u8]) -> bool
 fn place_after(place: u32, f: Facility) -> u32
     ensures { λ r. ⌜ (r < 65536) × ((name : Name) → r ≡ (place + facilityBytes (facilityMeant name f)) % 65536) ⌝ }
 {
-    let kind = f.kind;
-    let words = f.words;
-    let bits = f.bits;
-    let w = places::Bounds {
-        first: words.first,
-        last: words.last,
-    };
-    let b = places::Bounds {
-        first: bits.first,
-        last: bits.last,
-    };
-    let shape = Shape {
-        computed: kinds::is_computed(kind),
-        dimensions: f.dimensions as u16,
-        words: w,
-        bits: b,
-    };
-    let bytes = places::facility_bytes(shape) % 65536;
-    ((place as usize + bytes) % 65536) as u32
+    (places::place_after(place, shapes::shape_of(f)) % 65536) as u32
 }
 
 // Each facility stands where the layout of the store puts it.

@@ -1,14 +1,14 @@
 // Facilities: registers, memories, terminals in this order, and bounds only where there are dimensions.
 use image_records::record_sizes;
 use image_sections::facilities;
-use image_sections::facilities::Bounds;
 use image_sections::facilities::Facility;
 use image_sections::facilities::Kind;
+use image_sections::facilities::ShortBounds;
 ghost use mathlib.Core.Path.{_≡_};
 ghost use Rattle.language.specs.Canonical.{facilitiesRight, facilityRight, mostDimensions, noBounds, rankOf};
 ghost use Rattle.language.specs.Description.{Description};
 ghost use Rattle.language.specs.Tree.{Name};
-ghost use Rattle.image_sections.specs.Declarations.{boundsMeant, facilityMeant, kindMeant};
+ghost use Rattle.image_sections.specs.Declarations.{facilityMeant, kindMeant, shortMeant};
 ghost use Rattle.image_order.specs.Holds.{Facilities};
 
 fn rank_of(kind: Kind) -> u8
@@ -37,8 +37,8 @@ fn most_dimensions(kind: Kind) -> u8
     }
 }
 
-fn no_bounds(b: Bounds) -> bool
-    ensures { λ r. ⌜ r ≡ noBounds (boundsMeant b) ⌝ }
+fn no_bounds(b: ShortBounds) -> bool
+    ensures { λ r. ⌜ r ≡ noBounds (shortMeant b) ⌝ }
 {
     if b.first != 0 {
         return false;

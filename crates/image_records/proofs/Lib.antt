@@ -8,4 +8,5 @@ pub mod FilledLaws
 pub mod NodeBack
 pub mod NodeLaws
 pub mod NumberLaws
+pub mod ReferenceLaws
 pub mod WrittenNodes

@@ -1,3 +1,4 @@
 pub mod Actions
 pub mod Nodes
 pub mod Placed
+pub mod References

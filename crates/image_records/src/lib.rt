@@ -8,3 +8,4 @@ pub mod node_bytes;
 pub mod nodes;
 pub mod numbers;
 pub mod record_sizes;
+pub mod references;

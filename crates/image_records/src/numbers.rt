@@ -1,7 +1,7 @@
 // Numbers in bytes, the lowest first. Bytes past the end count 0.
 use crate::bytes;
 ghost use mathlib.Core.Path.{_≡_};
-ghost use Prim.Native.Nat.{_+_, _<_, _≤_, _/_, _%_, _^_};
+ghost use Prim.Native.Nat.{_+_, _*_, _<_, _≤_, _/_, _%_, _^_};
 ghost use lib.ListN.{getD, length};
 ghost use Rattle.language.specs.Decode.{numberAt};
 ghost use Rattle.language.specs.Encode as L;
@@ -11,6 +11,13 @@ fn wide(x: u8) -> u16
     ensures { λ r. ⌜ (r ≡ x) × (r < 256) ⌝ }
 {
     x as u16
+}
+
+// A number by its low and its high half.
+pub fn joined(low: u16, high: u16) -> u32
+    ensures { λ r. ⌜ r ≡ low + 65536 * high ⌝ }
+{
+    low as u32 + 65536 * high as u32
 }
 
 // The byte at a place.
@@ -46,7 +53,7 @@ pub fn four_there(s: &[u8], at: usize) -> u32
     requires { ⌜ at + 4 ≤ length (now s) ⌝ }
     ensures { λ r. ⌜ r ≡ numberAt 4 at (now (s .entry)) ⌝ }
 {
-    two_there(s, at) as u32 + two_there(s, at + 2) as u32 * 0x10000
+    joined(two_there(s, at), two_there(s, at + 2))
 }
 
 // The number in four bytes.

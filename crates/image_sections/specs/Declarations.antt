@@ -12,7 +12,7 @@ use Rattle.language.specs.Description.{bounds, isComputed, noRun}
 use Rattle.language.specs.Encode.{facilitySize, operationSize, stateSize}
 use Rattle.language.specs.Tree as T
 use Rattle.language.specs.Tree.{Name}
-use Rattle.image_sections.specs.declared.facilities.Bounds.{Bounds}
+use Rattle.image_sections.specs.declared.facilities.ShortBounds.{ShortBounds}
 use Rattle.image_sections.specs.declared.facilities.Facility.{Facility}
 use Rattle.image_sections.specs.declared.facilities.Kind.{Kind}
 use Rattle.image_sections.specs.declared.facilities.Kind.the-variants as K
@@ -36,8 +36,8 @@ kindMeant K.Plain = T.plain
 kindMeant K.Input = T.input
 kindMeant K.Computed = T.computed
 
-abbrev pub boundsMeant : Bounds → D.Bounds
-boundsMeant b = bounds (b .first) (b .last)
+abbrev pub shortMeant : ShortBounds → D.Bounds
+shortMeant b = bounds (b .first) (b .last)
 
 -- A facility with its name; only a computed terminal has an expression.
 abbrev pub facilityMeant : Name → Facility → D.Facility
@@ -45,8 +45,8 @@ facilityMeant name f = record {
   name = name;
   kind = kindMeant (f .kind);
   dimensions = f .dimensions;
-  words = boundsMeant (f .words);
-  bits = boundsMeant (f .bits);
+  words = shortMeant (f .words);
+  bits = shortMeant (f .bits);
   expression = cond (isComputed (kindMeant (f .kind))) (f .place) 0;
 }
 

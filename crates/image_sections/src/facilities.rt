@@ -7,7 +7,7 @@ ghost use lib.ListN.{length};
 ghost use Rattle.language.specs.Decode.{boundsAt, kindOf};
 ghost use Rattle.language.specs.Encode.{kindNumber};
 ghost use Rattle.language.specs.Tree.{Name};
-ghost use Rattle.image_sections.specs.Declarations.{FacilityRead, boundsMeant, facilityMeant, kindMeant, noneNamed};
+ghost use Rattle.image_sections.specs.Declarations.{FacilityRead, facilityMeant, kindMeant, noneNamed, shortMeant};
 
 pub enum Kind {
     Register,
@@ -18,7 +18,8 @@ pub enum Kind {
     Computed,
 }
 
-pub struct Bounds {
+// The bounds of a dimension, as far as a record has room for them.
+pub struct ShortBounds {
     pub first: u16,
     pub last: u16,
 }
@@ -28,8 +29,8 @@ pub struct Facility {
     pub dimensions: u8,
     // the length of its name
     pub name: u8,
-    pub words: Bounds,
-    pub bits: Bounds,
+    pub words: ShortBounds,
+    pub bits: ShortBounds,
     // the place of its first byte in the store, or the number of a computed terminal's expression
     pub place: u16,
 }
@@ -63,11 +64,11 @@ pub fn kind_number(kind: Kind) -> u8
 }
 
 // First and last bound.
-fn bounds_at(s: &[u8], at: usize) -> Bounds
+fn bounds_at(s: &[u8], at: usize) -> ShortBounds
     requires { ⌜ at + 4 ≤ length (now s) ⌝ }
-    ensures { λ r. ⌜ boundsMeant r ≡ boundsAt at (now (s .entry)) ⌝ }
+    ensures { λ r. ⌜ shortMeant r ≡ boundsAt at (now (s .entry)) ⌝ }
 {
-    Bounds {
+    ShortBounds {
         first: numbers::two_there(s, at),
         last: numbers::two_there(s, at + 2),
     }
@@ -77,7 +78,7 @@ fn bounds_at(s: &[u8], at: usize) -> Bounds
 fn no_facility() -> Facility
     ensures { λ r. ⌜ (r .name ≡ 0) × (r .place ≡ 0) × ((name : Name) → facilityMeant name r ≡ noneNamed name) ⌝ }
 {
-    let none = Bounds { first: 0, last: 0 };
+    let none = ShortBounds { first: 0, last: 0 };
     Facility {
         kind: Kind::Plain,
         dimensions: 0,

@@ -7,4 +7,5 @@ pub mod names;
 pub mod operations;
 pub mod runs;
 pub mod sections;
+pub mod shapes;
 pub mod states;

@@ -1,11 +1,11 @@
 // Stores and `@`: the two sides, and what may be stored to.
 use crate::conditionals;
+use image_records::references::Reference;
 use image_sections::facilities::Kind;
 use image_sections::kinds;
 use judge_expressions::walk;
 use judge_terms::operators;
 use judge_terms::references;
-use judge_terms::references::Reference;
 use judge_verdicts::Pair;
 use judge_verdicts::Verdict;
 use judge_verdicts::Worth;

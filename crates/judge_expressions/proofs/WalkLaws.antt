@@ -17,7 +17,7 @@ use Rattle.language.specs.Recursion.{below-ge, below-lt}
 use Rattle.language.specs.ReferenceRules.{boundFaults, directionFaults, referenceJudged, subscriptsJudged}
 use Rattle.language.specs.References as R
 use Rattle.language.specs.References.{Reference, Subscripts, referenceOf, rightCount, takenLength}
-use Rattle.judge_records.specs.Noted.{widenedNode}
+use Rattle.image_records.specs.References.{widenedNode}
 use Rattle.image_records.proofs.nodes.Node.{the-type}
 use Rattle.image_records.specs.Nodes.{meant}
 use Rattle.image_records.specs.declared.nodes.Node.{Node}

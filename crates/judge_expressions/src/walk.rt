@@ -1,17 +1,18 @@
 // Expressions, record by record: an owner is judged by the verdicts on its parts, which stand before it. Every function takes the facilities (`fs`) and the expressions (`es`), the places beside each (`fp`, `ep`), what is kept of computed terminals, and how many facilities may be named.
 use image_records::nodes;
 use image_records::nodes::Node;
+use image_records::references::Reference;
 use judge_records::facilities;
 use judge_records::places;
-use judge_rules::subscripts;
-use judge_rules::subscripts::Subscripts;
+use judge_rules::bounds;
 use judge_terms::operators;
 use judge_terms::references;
-use judge_terms::references::Reference;
 use judge_verdicts::Verdict;
 use judge_verdicts::faults;
 use judge_verdicts::tests;
 use judge_verdicts::work;
+use store_geometry::subscripts;
+use store_geometry::subscripts::Subscripts;
 ghost use mathlib.Core.Option.{none};
 ghost use mathlib.Core.Path.{_≡_};
 ghost use Prim.Native.Nat.{ℕ};
@@ -20,7 +21,7 @@ ghost use Rattle.language.specs.Expressions.{expressionAt, judgeAt, judgeBelow,
 ghost use Rattle.language.specs.Judging as L;
 ghost use Rattle.language.specs.ReferenceRules.{referenceJudged, subscriptsJudged};
 ghost use Rattle.language.specs.References.{referenceOf};
-ghost use Rattle.judge_rules.specs.Meaning.{subscribed};
+ghost use Rattle.store_geometry.specs.Subscripts.{subscriptsMeant};
 ghost use Rattle.judge_verdicts.specs.Meaning.{capped, seen};
 ghost use Rattle.judge_terms.specs.Shown.{Judges, Shown};
 
@@ -71,7 +72,7 @@ fn subscripts(
     n: u16,
     s: Subscripts,
 ) -> Verdict
-    ensures { λ r. ⌜ Judges (now (fs .entry)) (now (es .entry)) (now (fp .entry)) (now (ep .entry)) (now (memo .entry)) known (λ d p t. subscriptsJudged d p t (judgeBelow d p t known n) (subscribed s)) r ⌝ }
+    ensures { λ r. ⌜ Judges (now (fs .entry)) (now (es .entry)) (now (fp .entry)) (now (ep .entry)) (now (memo .entry)) known (λ d p t. subscriptsJudged d p t (judgeBelow d p t known n) (subscriptsMeant s)) r ⌝ }
 {
     match s {
         Subscripts::Whole => operators::nothing(),
@@ -98,7 +99,7 @@ fn referred(
     f: u8,
     s: Subscripts,
 ) -> Verdict
-    ensures { λ r. ⌜ ((o : ℕ) → own ≡ capped o → Judges (now (fs .entry)) (now (es .entry)) (now (fp .entry)) (now (ep .entry)) (now (memo .entry)) known (λ d p t. referenceJudged d p t (judgeBelow d p t known n) o known (record { facility = f; subscripts = subscribed s }) (nodePlace p n)) r) ⌝ }
+    ensures { λ r. ⌜ ((o : ℕ) → own ≡ capped o → Judges (now (fs .entry)) (now (es .entry)) (now (fp .entry)) (now (ep .entry)) (now (memo .entry)) known (λ d p t. referenceJudged d p t (judgeBelow d p t known n) o known (record { facility = f; subscripts = subscriptsMeant s }) (nodePlace p n)) r) ⌝ }
 {
     let at = places::of_node(ep, n as usize, 0);
     if known <= f as usize {
@@ -108,11 +109,11 @@ fn referred(
     let subs = subscripts(fs, es, fp, ep, memo, known, n, s);
     if subscripts::right_count(x.dimensions, s) {
         let kind = x.kind;
-        let length = subscripts::taken_length(x, s);
-        let bounds = references::bound_faults(es, ep, n, x, s);
+        let length = bounds::taken_length(x, s);
+        let ends = references::bound_faults(es, ep, n, x, s);
         let direction = references::direction_faults(ep, n, x, s);
         let computed = references::computed_work(memo, f, kind);
-        return references::counted_right(at, own, length, subs, bounds, direction, computed);
+        return references::counted_right(at, own, length, subs, ends, direction, computed);
     }
     references::counted_wrong(at, subs)
 }

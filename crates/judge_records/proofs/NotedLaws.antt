@@ -18,14 +18,16 @@ use Rattle.language.specs.Description.{Facility, FacilityPlaces, Node, actionAt
 use Rattle.language.specs.Encode.{Sections, facilitySize}
 use Rattle.language.specs.Tree.{Name}
 use Rattle.image_records.proofs.NumberLaws.{number-past}
-use Rattle.judge_records.specs.Noted.{Beside, facilityPlacesNo, largeNo, nodePlacesNo, noted, notedDescription, nothingBeside, placeNo, placesIn, statePlacesNo, widened, widenedFacilities, widenedFacility, widenedNode, widenedNodes}
-use Rattle.judge_records.specs.Read.{boundsMeant, facilityMeant, placeOf}
-use Rattle.judge_records.specs.declared.facilities.Bounds.{Bounds}
+use Rattle.image_records.specs.References.{widened, widenedNode}
+use Rattle.store_geometry.specs.Shapes.{boundsMeant}
+use Rattle.store_geometry.specs.declared.bounds.Bounds.{Bounds}
+use Rattle.judge_records.specs.Noted.{Beside, facilityPlacesNo, largeNo, nodePlacesNo, noted, notedDescription, nothingBeside, placeNo, placesIn, statePlacesNo, widenedFacilities, widenedFacility, widenedNodes}
+use Rattle.judge_records.specs.Read.{facilityMeant, placeOf}
 
 -- A facility that was read and its widened bounds.
 pub widened-fields : (s : List ℕ) (n : ℕ) (f : F.Facility) {g : Facility} {name : Name} (w b : Bounds) → I.facilityMeant name f ≡ g
-    → boundsMeant w ≡ widened (I.boundsMeant (f .words)) (largeNo s (6 * n + 1)) (largeNo s (6 * n + 1 + 1))
-    → boundsMeant b ≡ widened (I.boundsMeant (f .bits)) (largeNo s (6 * n + 3)) (largeNo s (6 * n + 3 + 1))
+    → boundsMeant w ≡ widened (I.shortMeant (f .words)) (largeNo s (6 * n + 1)) (largeNo s (6 * n + 1 + 1))
+    → boundsMeant b ≡ widened (I.shortMeant (f .bits)) (largeNo s (6 * n + 3)) (largeNo s (6 * n + 3 + 1))
     → facilityMeant name (record { kind = f .kind; dimensions = f .dimensions; words = w; bits = b; expression = f .place }) ≡ widenedFacility s n g
 unfolding widenedFacility
 widened-fields s n f w b e p q =

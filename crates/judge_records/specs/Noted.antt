@@ -5,9 +5,10 @@ use lib.ListN.{length}
 use Rattle.language.specs.Decode.{described, halfAt, upTo}
 use Rattle.language.specs.DescribeText.{Described}
 use Rattle.language.specs.Description as D
-use Rattle.language.specs.Description.{Bounds, Description, Facility, FacilityPlaces, Node, NodePlaces, Places, StatePlaces, bounds}
+use Rattle.language.specs.Description.{Bounds, Description, Facility, FacilityPlaces, Node, NodePlaces, Places, StatePlaces}
 use Rattle.language.specs.Encode.{Sections, two}
 use Rattle.language.specs.Words.{Position, position}
+use Rattle.image_records.specs.References.{widened, widenedNode}
 
 -- The bytes of the places, a section each.
 pub record Beside : Type 0 where
@@ -46,26 +47,6 @@ placeNo s k = position (halfAt (2 * k) s % largeMark)
 
 unfoldable pub largeNo : List ℕ → ℕ → ℕ
 largeNo s k = halfAt (2 * k) s / largeMark
-
--- A bound whose record has no room for it.
-abbrev pub widened : Bounds → ℕ → ℕ → Bounds
-widened b first last = bounds (b .first + 65536 * first) (b .last + 65536 * last)
-
-abbrev pub widenedNode : ℕ → ℕ → Node → Node
-widenedNode p q (D.constant v) = D.constant v
-widenedNode p q (D.more n) = D.more n
-widenedNode p q (D.whole f) = D.whole f
-widenedNode p q (D.one f e) = D.one f e
-widenedNode p q (D.part f b) = D.part f (widened b p q)
-widenedNode p q (D.two f e g) = D.two f e g
-widenedNode p q (D.wordPart f e b) = D.wordPart f e (widened b p q)
-widenedNode p q (D.binary k a b) = D.binary k a b
-widenedNode p q (D.prefix k a) = D.prefix k a
-widenedNode p q (D.cut k a c) = D.cut k a c
-widenedNode p q (D.firstArm e) = D.firstArm e
-widenedNode p q (D.nextArm a e) = D.nextArm a e
-widenedNode p q (D.choice e a n) = D.choice e a n
-widenedNode p q D.Node.broken = D.Node.broken
 
 unfoldable pub widenedNodes : List ℕ → ℕ → List Node → List Node
 widenedNodes s n [] = []

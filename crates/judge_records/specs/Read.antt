@@ -8,20 +8,17 @@ use lib.ListN.{length}
 use Rattle.image_sections.specs.Declarations.{facilityIn, kindMeant}
 use Rattle.language.specs.Decode.{pick}
 use Rattle.language.specs.Description as D
-use Rattle.language.specs.Description.{bounds, isComputed, nowhere}
+use Rattle.language.specs.Description.{isComputed, nowhere}
 use Rattle.language.specs.Encode.{facilitySize}
 use Rattle.language.specs.Tree.{Name}
 use Rattle.language.specs.Words.{Position}
+use Rattle.store_geometry.specs.Shapes.{boundsMeant}
 use Rattle.judge_records.specs.Noted.{placeNo, widenedFacility}
-use Rattle.judge_records.specs.declared.facilities.Bounds.{Bounds}
 use Rattle.judge_records.specs.declared.facilities.Facility.{Facility}
 
 -- The k-th place of record n, in a section where each record has `size` of them.
 unfoldable pub placeOf : ℕ → List ℕ → ℕ → ℕ → Position
 placeOf size s n k = pick (ltb n (length s / (2 * size))) (placeNo s (size * n + k)) nowhere
-
-abbrev pub boundsMeant : Bounds → D.Bounds
-boundsMeant b = bounds (b .first) (b .last)
 
 -- A facility with its name; only a computed terminal has an expression.
 abbrev pub facilityMeant : Name → Facility → D.Facility

@@ -1,18 +1,19 @@
-// A facility's record with the marks beside it, and the ends of a part with theirs.
+// A facility's record with the marks beside it: its bounds may be above 65,535.
 use crate::places;
 use image_records::record_sizes;
+use image_records::numbers;
 use image_sections::facilities::Kind;
+use image_sections::kinds;
+use store_geometry::bounds::Bounds;
+use store_geometry::shapes::Shape;
 ghost use mathlib.Core.Path.{_≡_};
-ghost use Prim.Native.Nat.{_+_, _*_, _<_};
+ghost use Prim.Native.Nat.{_+_, _<_};
 ghost use Rattle.language.specs.Description as D;
-ghost use Rattle.judge_records.specs.Noted.{largeNo, widened};
-ghost use Rattle.judge_records.specs.Read.{FacilityRead, boundsMeant};
-
-// Bounds that may be above 65,535.
-pub struct Bounds {
-    pub first: u32,
-    pub last: u32,
-}
+ghost use Rattle.language.specs.Tree.{Name};
+ghost use Rattle.store_geometry.specs.Shapes.{Shaped, boundsMeant};
+ghost use Rattle.image_records.specs.References.{widened};
+ghost use Rattle.judge_records.specs.Noted.{largeNo};
+ghost use Rattle.judge_records.specs.Read.{FacilityRead, facilityMeant};
 
 pub struct Facility {
     pub kind: Kind,
@@ -31,16 +32,9 @@ fn widened_at(places: &[u8], k: usize, first: u16, last: u16) -> Bounds
     let f = places::large_no(places, k);
     let l = places::large_no(places, k + 1);
     Bounds {
-        first: first as u32 + 65536 * f,
-        last: last as u32 + 65536 * l,
+        first: numbers::joined(first, f),
+        last: numbers::joined(last, l),
     }
-}
-
-// The ends of a part, in record n.
-pub fn ends(places: &[u8], n: u16, first: u16, last: u16) -> Bounds
-    ensures { λ r. ⌜ boundsMeant r ≡ widened (D.bounds first last) (largeNo (now (places .entry)) (3 * n + 1)) (largeNo (now (places .entry)) (3 * n + 2)) ⌝ }
-{
-    widened_at(places, 3 * n as usize + 1, first, last)
 }
 
 // Record n of a section of facilities; past its end, only the kind is told.
@@ -69,5 +63,20 @@ pub fn facility_at(facilities: &[u8], places: &[u8], n: usize) -> Facility
         words,
         bits,
         expression: f.place,
+    }
+}
+
+// What the words of a facility depend on.
+pub fn shape_of(f: Facility) -> Shape
+    ensures { λ r. ⌜ ((name : Name) → Shaped r (facilityMeant name f)) ⌝ }
+{
+    let kind = f.kind;
+    let words = f.words;
+    let bits = f.bits;
+    Shape {
+        computed: kinds::is_computed(kind),
+        dimensions: f.dimensions,
+        words,
+        bits,
     }
 }

@@ -28,10 +28,10 @@ fn place_no(places: &[u8], k: usize) -> Position
 }
 
 // Whether the number at the k-th place is too large for its record: 1, or else 0.
-pub fn large_no(places: &[u8], k: usize) -> u32
+pub fn large_no(places: &[u8], k: usize) -> u16
     ensures { λ r. ⌜ (r ≡ largeNo (now (places .entry)) k) × (r < 2) ⌝ }
 {
-    (half(places, k) / 32768) as u32
+    half(places, k) / 32768
 }
 
 // No place.

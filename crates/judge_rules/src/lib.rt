@@ -1,4 +1,3 @@
 // The rules that go by lengths, bounds and kinds alone, one function each.
 pub mod bounds;
 pub mod lengths;
-pub mod subscripts;

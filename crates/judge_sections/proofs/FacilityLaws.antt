@@ -21,7 +21,7 @@ use Rattle.language.specs.Rules.{boundsFaults, facilitiesFaults, facilityFaults
 use Rattle.language.specs.Tree.{Name}
 use Rattle.language.specs.WordStage.{least}
 use Rattle.language.specs.Words as W
-use Rattle.store_words.specs.Shape.{capped}
+use Rattle.store_geometry.specs.Places.{capped, capped-add, capped-within}
 use Rattle.text_words.proofs.Least.{least-both, lesser-all, lesser-none}
 use Rattle.image_sections.specs.Declarations.{facilityIn, kindMeant}
 use Rattle.judge_records.specs.Read.{facilityMeant}
@@ -35,7 +35,7 @@ use Rattle.judge_verdicts.specs.declared.Verdict.{Verdict}
 use Rattle.judge_verdicts.specs.declared.Verdict.the-variants.{Faulty}
 use Rattle.judge_verdicts.specs.Meaning.{recalled, seen, workOf}
 use Rattle.judge_terms.specs.Shown.{Shown, worked}
-use Rattle.judge_sections.proofs.MemoryLaws.{capped-add, capped-store, worked-seen}
+use Rattle.judge_sections.proofs.MemoryLaws.{worked-seen}
 use Rattle.judge_sections.specs.Declared.{Declared, Remembered}
 use Rattle.language.specs.Encode.{facilitySize}
 
@@ -69,12 +69,12 @@ module _ (d : Description) (p : Places) (n : ℕ) where
         → unless Sequencing (at .name) 9 ++ (unless (leb after largestStore) (at .name) 10 ++ sameLength d p (wordLength x) (at .equals) (terminalJudged d p n))
         ≡ facilityFaults d p n another before x at
     unfolding facilityFaults largestStore
-    computed-faults c = rw (c, e, capped-store (before + facilityBytes x))
+    computed-faults c = rw (c, e, capped-within (before + facilityBytes x))
 
     pub other-faults : isComputed (x .kind) ≡ false
         → unless Sequencing (at .name) 9 ++ (unless (leb after largestStore) (at .name) 10 ++ []) ≡ facilityFaults d p n another before x at
     unfolding facilityFaults largestStore
-    other-faults c = rw (c, e, capped-store (before + facilityBytes x))
+    other-faults c = rw (c, e, capped-within (before + facilityBytes x))
 
 -- ---- The rest of them.
 
@@ -83,7 +83,7 @@ module _ (d : Description) (p : Places) where
       → facilityFaults d p n another (capped a) f at ≡ facilityFaults d p n another a f at
   unfolding facilityFaults largestStore
   same-place n another a f at =
-      rw (← capped-store (capped a + facilityBytes f), capped-add a (facilityBytes f), capped-store (a + facilityBytes f))
+      rw (← capped-within (capped a + facilityBytes f), capped-add a (facilityBytes f), capped-within (a + facilityBytes f))
 
   same-places : (n : ℕ) (another : Bool) (a : ℕ) (fs : List Facility) → facilitiesFaults d p n another (capped a) fs ≡ facilitiesFaults d p n another a fs
   unfolding facilitiesFaults

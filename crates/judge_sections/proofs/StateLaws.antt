@@ -23,7 +23,8 @@ use Rattle.text_words.specs.declared.Fault.{Fault}
 use Rattle.text_words.specs.declared.Judged as J
 use Rattle.text_words.specs.declared.Judged.the-variants.{Refused}
 use Rattle.text_words.specs.Meaning.{faulted, judged, lesser}
-use Rattle.judge_records.specs.Noted.{largeNo, widenedNode}
+use Rattle.image_records.specs.References.{widenedNode}
+use Rattle.judge_records.specs.Noted.{largeNo}
 use Rattle.judge_verdicts.proofs.VerdictLaws.{is-faulty}
 use Rattle.judge_verdicts.specs.declared.Verdict.the-variants.{Faulty}
 use Rattle.judge_verdicts.specs.Meaning.{seen}

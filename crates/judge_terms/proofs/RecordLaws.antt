@@ -1,17 +1,16 @@
 -- What a record that was read says of the description.
 use mathlib.Core.List.{List, [], _∷_}
-use mathlib.Core.Option.{Option, none}
+use mathlib.Core.Option.{none}
 use mathlib.Core.Path.{_≡_, refl, sym, ap, _∙_}
 use denote.Enum.Declared.{tagOf}
 use types.Run.{OneOf, miss}
 use Prim.Native.Nat.{ℕ, _+_, _*_}
 use Rattle.language.specs.Decode.{nodeOf}
-use Rattle.language.specs.Description as D
 use Rattle.language.specs.Description.{Description, NodePlaces, Places, nodeAt, nodePlace}
-use Rattle.language.specs.References as R
-use Rattle.language.specs.References.{constantOf, referenceOf}
+use Rattle.language.specs.References.{constantOf}
 use Rattle.language.specs.Words as W
-use Rattle.judge_records.specs.Noted.{largeNo, widenedNode}
+use Rattle.image_records.specs.References.{widenedNode}
+use Rattle.judge_records.specs.Noted.{largeNo}
 use Rattle.judge_records.specs.Read.{placeOf}
 use Rattle.image_records.proofs.nodes.Node.{the-type}
 use Rattle.image_records.specs.Nodes.{constantNumber, meant}
@@ -35,7 +34,7 @@ module _ {exprs places : List ℕ} {d : Description} {p : Places} (s : Records e
   pub last-is : {a : W.Position} → a ≡ placeOf 3 places n 2 → a ≡ nodePlace p n .last
   last-is e = e ∙ sym (ap (λ (x : NodePlaces). x .last) (s .places-of n))
 
--- ---- What is no constant, and what is no reference.
+-- ---- What is no constant.
 
 not-zero : OneOf (1 ∷ 2 ∷ 3 ∷ 4 ∷ 5 ∷ 6 ∷ 7 ∷ 8 ∷ 9 ∷ 10 ∷ 11 ∷ 12 ∷ 13 ∷ []) 0 → ⊥
 not-zero = miss (1 ∷ 2 ∷ 3 ∷ 4 ∷ 5 ∷ 6 ∷ 7 ∷ 8 ∷ 9 ∷ 10 ∷ 11 ∷ 12 ∷ 13 ∷ []) 0 tt
@@ -56,28 +55,3 @@ no-constant a b v (N.FirstArm e) k = refl
 no-constant a b v (N.NextArm x e) k = refl
 no-constant a b v (N.Choice e x n) k = refl
 no-constant a b v N.Broken k = refl
-
-abbrev Others : ℕ → Type 0
-Others n = OneOf (0 ∷ 1 ∷ 7 ∷ 8 ∷ 9 ∷ 10 ∷ 11 ∷ 12 ∷ 13 ∷ []) n
-
-pub no-reference : (a b v : ℕ) (r : Node) → Others (tagOf the-type r) → none ≡ referenceOf (widenedNode a b (meant v r))
-no-reference a b v (N.Constant l) k = refl
-no-reference a b v (N.More d) k = refl
-no-reference a b v (N.Whole f) k = absurd (miss (0 ∷ 1 ∷ 7 ∷ 8 ∷ 9 ∷ 10 ∷ 11 ∷ 12 ∷ 13 ∷ []) 2 tt k)
-no-reference a b v (N.One f e) k = absurd (miss (0 ∷ 1 ∷ 7 ∷ 8 ∷ 9 ∷ 10 ∷ 11 ∷ 12 ∷ 13 ∷ []) 3 tt k)
-no-reference a b v (N.Part f x y) k = absurd (miss (0 ∷ 1 ∷ 7 ∷ 8 ∷ 9 ∷ 10 ∷ 11 ∷ 12 ∷ 13 ∷ []) 4 tt k)
-no-reference a b v (N.Two f e g) k = absurd (miss (0 ∷ 1 ∷ 7 ∷ 8 ∷ 9 ∷ 10 ∷ 11 ∷ 12 ∷ 13 ∷ []) 5 tt k)
-no-reference a b v (N.WordPart f e x y) k = absurd (miss (0 ∷ 1 ∷ 7 ∷ 8 ∷ 9 ∷ 10 ∷ 11 ∷ 12 ∷ 13 ∷ []) 6 tt k)
-no-reference a b v (N.Binary o x y) k = refl
-no-reference a b v (N.Prefix o x) k = refl
-no-reference a b v (N.Cut o x c) k = refl
-no-reference a b v (N.FirstArm e) k = refl
-no-reference a b v (N.NextArm x e) k = refl
-no-reference a b v (N.Choice e x n) k = refl
-no-reference a b v N.Broken k = refl
-
-pub part-same : {f : ℕ} {b x : D.Bounds} {o : Option R.Reference} → b ≡ x → o ≡ R.referTo f (R.part x) → R.referTo f (R.part b) ≡ o
-part-same e q = rw e (sym q)
-
-pub word-part-same : {f a : ℕ} {b x : D.Bounds} {o : Option R.Reference} → b ≡ x → o ≡ R.referTo f (R.wordPart a x) → R.referTo f (R.wordPart a b) ≡ o
-word-part-same e q = rw e (sym q)

@@ -1,7 +1,6 @@
 -- What slices show of a description and its places, as far as expressions need it.
 use mathlib.Core.Bool.{true}
 use mathlib.Core.List.{List, []}
-use mathlib.Core.Option.{Option, none}
 use mathlib.Core.Path.{_≡_}
 use Prim.Native.Nat.{ℕ, _+_, _*_, _<_}
 use Rattle.image_sections.specs.Declarations.{facilityIn}
@@ -9,15 +8,12 @@ use Rattle.language.specs.Decode.{nodeOf}
 use Rattle.language.specs.Description as D
 use Rattle.language.specs.Description.{Description, NodePlaces, Places, facilityAt, isComputed, nodeAt, nodePlace}
 use Rattle.language.specs.Judging.{Judged, faulty, fine, worth}
-use Rattle.language.specs.References as R
-use Rattle.judge_records.specs.Noted.{largeNo, widenedNode}
+use Rattle.image_records.specs.References.{widenedNode}
+use Rattle.judge_records.specs.Noted.{largeNo}
 use Rattle.judge_records.specs.Read.{FacilityRead, facilityMeant, placeOf}
 use Rattle.judge_records.specs.declared.facilities.Facility.{Facility}
-use Rattle.judge_rules.specs.Meaning.{subscribed}
 use Rattle.judge_verdicts.specs.declared.Verdict.{Verdict}
 use Rattle.judge_verdicts.specs.Meaning.{recalled, seen}
-use Rattle.judge_terms.specs.declared.references.Reference.{Reference}
-use Rattle.judge_terms.specs.declared.references.Reference.the-variants.{To, None}
 
 -- Record n with the marks beside it.
 unfoldable pub nodeNoted : List ℕ → List ℕ → ℕ → D.Node
@@ -42,11 +38,6 @@ pub record Shown (facs exprs marks places memo : List ℕ) (known : ℕ) (d : De
   pub facility : (n : ℕ) → n < known → (f : Facility) → FacilityRead facs marks n f → facilityMeant (facilityAt d n .name) f ≡ facilityAt d n
   pub kind : (n : ℕ) → facilityAt d n .kind ≡ facilityIn facs n [] .kind
   pub terminal : (n : ℕ) → n < 256 → n < known → isComputed (facilityIn facs n [] .kind) ≡ true → recalled memo n ≡ seen (worked (terminals n))
-
--- A reference, if a record is one.
-abbrev pub referred : Reference → Option R.Reference
-referred (To f s) = R.referTo f (subscribed s)
-referred None = none
 
 -- The verdict that every description with these slices calls for.
 abbrev pub Judges : List ℕ → List ℕ → List ℕ → List ℕ → List ℕ → ℕ → (Description → Places → (ℕ → Judged) → Judged) → Verdict → Type 0

@@ -1,8 +1,8 @@
 // Numbers of constants, compared whole, however many records they take.
 use image_records::numbers;
 use image_records::record_sizes;
-use judge_records::facilities::Bounds;
-use judge_rules::bounds;
+use store_geometry::bounds;
+use store_geometry::bounds::Bounds;
 ghost use mathlib.Core.Path.{_≡_};
 ghost use Prim.Native.Nat.{_+_, _*_};
 ghost use lib.Dec.{eqb};
@@ -10,8 +10,8 @@ ghost use Rattle.language.specs.Decode.{digitsBefore, nodeOf, numberAt};
 ghost use Rattle.language.specs.Description as D;
 ghost use Rattle.language.specs.Description.{inBounds};
 ghost use Rattle.language.specs.Value.{Value};
-ghost use Rattle.judge_records.specs.Read.{boundsMeant};
 ghost use Rattle.language.specs.Encode.{nodeSize};
+ghost use Rattle.store_geometry.specs.Shapes.{boundsMeant};
 
 // Whether the k records before record n hold nothing but zeros.
 fn digits_zero(exprs: &[u8], n: u16, k: u8) -> bool

@@ -3,20 +3,21 @@ use crate::constants;
 use crate::operators;
 use image_records::nodes;
 use image_records::nodes::Node;
+use image_records::references;
+use image_records::references::Reference;
 use image_sections::facilities::Kind;
 use image_sections::kinds;
-use judge_records::facilities;
-use judge_records::facilities::Bounds;
 use judge_records::facilities::Facility;
 use judge_records::places;
-use judge_rules::bounds;
-use judge_rules::subscripts::Subscripts;
 use judge_verdicts::Pair;
 use judge_verdicts::Verdict;
 use judge_verdicts::faults;
 use judge_verdicts::kept;
 use judge_verdicts::tests;
 use judge_verdicts::work;
+use store_geometry::bounds;
+use store_geometry::bounds::Bounds;
+use store_geometry::subscripts::Subscripts;
 use text_words::Judged;
 use text_words::Position;
 ghost use mathlib.Core.Bool.{cond, true};
@@ -31,37 +32,21 @@ ghost use Rattle.language.specs.References.{referenceOf};
 ghost use Rattle.language.specs.Tree.{Name};
 ghost use Rattle.language.specs.WordStage.{least};
 ghost use Rattle.language.specs.Words as W;
-ghost use Rattle.judge_records.specs.Read.{boundsMeant, facilityMeant};
-ghost use Rattle.judge_rules.specs.Meaning.{subscribed};
+ghost use Rattle.store_geometry.specs.Shapes.{boundsMeant};
+ghost use Rattle.store_geometry.specs.Subscripts.{subscriptsMeant};
+ghost use Rattle.image_records.specs.References.{referenceMeant};
+ghost use Rattle.judge_records.specs.Read.{facilityMeant};
 ghost use Rattle.judge_verdicts.specs.Meaning.{capped, recalled, seen};
 ghost use Rattle.text_words.specs.Meaning.{judged, positioned};
-ghost use Rattle.judge_terms.specs.Shown.{Records, referred};
-
-pub enum Reference {
-    // a facility, and what it is subscripted with
-    To(u8, Subscripts),
-    None,
-}
+ghost use Rattle.judge_terms.specs.Shown.{Records};
 
 // What record n refers to, if it is a reference.
 pub fn reference_at(exprs: &[u8], places: &[u8], n: u16) -> Reference
-    ensures { λ r. ⌜ ((d : Description) (p : Places) → Records (now (exprs .entry)) (now (places .entry)) d p → referred r ≡ referenceOf (nodeAt d n)) ⌝ }
+    ensures { λ r. ⌜ ((d : Description) (p : Places) → Records (now (exprs .entry)) (now (places .entry)) d p → referenceMeant r ≡ referenceOf (nodeAt d n)) ⌝ }
 {
-    match nodes::node_at(exprs, n as usize) {
-        Node::Whole(f) => Reference::To(f, Subscripts::Whole),
-        Node::One(f, e) => Reference::To(f, Subscripts::One(e)),
-        Node::Part(f, a, b) => {
-            Reference::To(f, Subscripts::Part(facilities::ends(places, n, a, b)))
-        }
-        Node::Two(f, e, g) => Reference::To(f, Subscripts::Two(e, g)),
-        Node::WordPart(f, e, a, b) => {
-            Reference::To(
-                f,
-                Subscripts::WordPart(e, facilities::ends(places, n, a, b)),
-            )
-        }
-        _ => Reference::None,
-    }
+    let first = places::large_no(places, 3 * n as usize + 1);
+    let last = places::large_no(places, 3 * n as usize + 2);
+    references::reference_of(nodes::node_at(exprs, n as usize), first, last)
 }
 
 // A subscript that is one constant lies within the bounds.
@@ -88,7 +73,7 @@ fn end_faults(places: &[u8], n: u16, b: Bounds, x: Bounds) -> Judged
 
 // The constants of a reference with the right number of subscripts.
 pub fn bound_faults(exprs: &[u8], places: &[u8], n: u16, f: Facility, s: Subscripts) -> Judged
-    ensures { λ r. ⌜ ((d : Description) (p : Places) (t : ℕ → L.Judged) (name : Name) → Records (now (exprs .entry)) (now (places .entry)) d p → judged r ≡ least (boundFaults d p t (facilityMeant name f) (subscribed s) (nodePlace p n))) ⌝ }
+    ensures { λ r. ⌜ ((d : Description) (p : Places) (t : ℕ → L.Judged) (name : Name) → Records (now (exprs .entry)) (now (places .entry)) d p → judged r ≡ least (boundFaults d p t (facilityMeant name f) (subscriptsMeant s) (nodePlace p n))) ⌝ }
 {
     let w = f.words;
     let b = f.bits;
@@ -114,7 +99,7 @@ pub fn bound_faults(exprs: &[u8], places: &[u8], n: u16, f: Facility, s: Subscri
 
 // A part lies in the declared direction.
 pub fn direction_faults(places: &[u8], n: u16, f: Facility, s: Subscripts) -> Judged
-    ensures { λ r. ⌜ ((d : Description) (p : Places) (t : ℕ → L.Judged) (exprs : List ℕ) (name : Name) → Records exprs (now (places .entry)) d p → judged r ≡ least (directionFaults d p t (facilityMeant name f) (subscribed s) (nodePlace p n))) ⌝ }
+    ensures { λ r. ⌜ ((d : Description) (p : Places) (t : ℕ → L.Judged) (exprs : List ℕ) (name : Name) → Records exprs (now (places .entry)) d p → judged r ≡ least (directionFaults d p t (facilityMeant name f) (subscriptsMeant s) (nodePlace p n))) ⌝ }
 {
     let last = places::of_node(places, n as usize, 2);
     let b = f.bits;

@@ -11,7 +11,8 @@ use Rattle.language.specs.Description.{Action, Description, Facility, FacilityP
 use Rattle.language.specs.Encode.{sectionsOf}
 use Rattle.language.specs.Rules.{faults}
 use Rattle.language.specs.WordStage.{least}
-use Rattle.judge_records.specs.Noted.{largeNo, notedDescription, placesIn, widenedFacilities, widenedFacility, widenedNode, widenedNodes}
+use Rattle.judge_records.specs.Noted.{largeNo, notedDescription, placesIn, widenedFacilities, widenedFacility, widenedNodes}
+use Rattle.image_records.specs.References.{widenedNode}
 use Rattle.parse_held.proofs.NarrowBack.{actions-narrow, expressions-narrow, facilities-narrow, operations-narrow, states-narrow}
 use Rattle.parse_held.proofs.PlacesBack.{FacilityAt, facilities-back, facility-places-at, mark-back, node-places-at, nodes-back, plain-back, states-back}
 use Rattle.parse_held.proofs.StandingLaws.{beside-stands, sections-stand}

@@ -5,7 +5,7 @@ use mathlib.Core.Path.{_≡_, refl, ap, _∙_}
 use Prim.Native.Nat.{ℕ, _+_, _/_, _%_, _<_, _≤_}
 use native.Mathlib.Omega.{arith}
 use lib.ListN.{length, length-replicate, replicate}
-use Rattle.image_sections.specs.declared.facilities.Bounds.{Bounds}
+use Rattle.image_sections.specs.declared.facilities.ShortBounds.{ShortBounds}
 use Rattle.image_sections.specs.Declarations.{facilityMeant, kindMeant}
 use Rattle.image_sections.proofs.WrittenDeclarations.{facility-length}
 use Rattle.language.specs.Description as D
@@ -36,7 +36,7 @@ same-record : (f g : D.Facility) (p q : ℕ) → f .kind ≡ g .kind → f .dime
 unfolding facilityRecord
 same-record f g p q a b c d e h i j = rw (b, c, d, e, h, i, j, a)
 
-pub record-said : (name : Name) (at : ℕ) (x : Declared) {place : ℕ} {ws bs : Bounds} {r : List ℕ} → length name ≡ x .size → place ≡ at % 65536
+pub record-said : (name : Name) (at : ℕ) (x : Declared) {place : ℕ} {ws bs : ShortBounds} {r : List ℕ} → length name ≡ x .size → place ≡ at % 65536
     → ws .first ≡ x .extent .words .first % 65536 → ws .last ≡ x .extent .words .last % 65536 → bs .first ≡ x .extent .bits .first % 65536 → bs .last ≡ x .extent .bits .last % 65536
     → ((n : Name) → length n ≡ x .size % 256 → r ≡ facilityRecord place (facilityMeant n (record { kind = x .kind; dimensions = x .extent .dimensions; name = x .size % 256; words = ws; bits = bs; place = x .expression })))
     → r ≡ facilityRecord at (facilitySaid name x)

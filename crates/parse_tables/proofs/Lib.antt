@@ -4,5 +4,4 @@ pub mod NameLaws
 pub mod NamesGrown
 pub mod OtherRecords
 pub mod RowLaws
-pub mod StoreLaws
 pub mod TwoBytes

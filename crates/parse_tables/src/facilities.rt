@@ -5,9 +5,9 @@ use crate::names;
 use crate::rows;
 use image_records::numbers;
 use image_records::record_sizes;
-use image_sections::facilities::Bounds;
 use image_sections::facilities::Facility;
 use image_sections::facilities::Kind;
+use image_sections::facilities::ShortBounds;
 use image_sections::facility_bytes;
 use parse_array::places;
 use text_words::Position;
@@ -30,10 +30,10 @@ pub struct Declared {
 }
 
 // The low 16 bits of two bounds; the mark of a larger one stands with its place.
-fn low_bounds(first: u32, last: u32) -> Bounds
+fn low_bounds(first: u32, last: u32) -> ShortBounds
     ensures { λ r. ⌜ (r .first ≡ first % 65536) × (r .last ≡ last % 65536) ⌝ }
 {
-    Bounds {
+    ShortBounds {
         first: (first % 65536) as u16,
         last: (last % 65536) as u16,
     }

@@ -1,8 +1,7 @@
 // How many bytes a facility's words take, in the store and in the stimulus.
 use image_sections::facilities::Facility;
 use image_sections::kinds;
-use run_references::bounds;
-use store_words::places;
+use image_sections::shapes;
 ghost use mathlib.Core.Path.{_≡_};
 ghost use Prim.Native.Nat.{_*_, _≤_};
 ghost use Rattle.language.specs.Description.{wordCount, wordLength};
@@ -15,8 +14,7 @@ ghost use Rattle.run_begin.specs.InBytes.{inputBytes};
 pub fn words_bytes(f: Facility) -> usize
     ensures { λ r. ⌜ (r ≤ 536870912) × ((name : Name) → r ≡ wordCount (facilityMeant name f) * wordBytes (wordLength (facilityMeant name f))) ⌝ }
 {
-    let n = bounds::word_count(f) as usize;
-    n * places::word_bytes(bounds::word_length(f))
+    store_geometry::shapes::words_bytes(shapes::shape_of(f))
 }
 
 // Bytes that a facility has in the stimulus.

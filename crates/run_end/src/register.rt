@@ -7,6 +7,7 @@ use run_next::register;
 use run_references::arms::Found;
 use run_references::bounds;
 use run_references::constants;
+use store_geometry::shapes;
 use store_words::parts;
 use value_operators::Value;
 ghost use mathlib.Core.List.{List};
@@ -33,7 +34,7 @@ fn put_first_word(store: &mut [u8], f: Facility, x: Value)
     if value_operators::lengths::LONGEST < length {
         return;
     }
-    let all = 8 * ((length + 7) / 8);
+    let all = (8 * shapes::word_bytes(length as u64)) as u32;
     parts::save(store, f.place as usize, all, 0, all, x);
 }
 

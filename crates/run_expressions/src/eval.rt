@@ -2,9 +2,10 @@
 use image_records::nodes;
 use image_records::nodes::Node;
 use image_records::record_sizes;
+use image_records::references::Reference;
 use image_sections::facilities;
-use image_sections::facilities::Bounds;
 use image_sections::facilities::Facility;
+use image_sections::facilities::ShortBounds;
 use image_sections::kinds;
 use run_references::arms;
 use run_references::arms::Found;
@@ -14,15 +15,15 @@ use run_references::places;
 use run_references::places::Distance;
 use run_references::places::Located;
 use run_references::places::Place;
-use run_references::places::Subscripts;
 use run_references::reading;
 use run_references::references;
-use run_references::references::Reference;
 use run_references::worth;
 use run_references::worth::Outcome;
 use run_references::worth::Stuck;
 use run_references::worth::Worth;
 use value_operators::lengths;
+use store_geometry::subscripts;
+use store_geometry::subscripts::Subscripts;
 ghost use mathlib.Core.Path.{_≡_};
 ghost use Rattle.language.specs.Acting.{side};
 ghost use Rattle.language.specs.Meaning as M;
@@ -30,11 +31,12 @@ ghost use Rattle.language.specs.Meaning.{evalAt, evalBelow, placeOf};
 ghost use Rattle.language.specs.Operators.{binaryOf};
 ghost use Rattle.language.specs.References.{referenceOf};
 ghost use Rattle.language.specs.Tree.{Name};
-ghost use Rattle.image_sections.specs.Declarations.{boundsMeant, facilityMeant};
+ghost use Rattle.image_sections.specs.Declarations.{facilityMeant, shortMeant};
 ghost use Rattle.image_records.specs.Nodes.{meant};
+ghost use Rattle.store_geometry.specs.Subscripts.{subscriptsMeant};
 ghost use Rattle.store_layout.specs.InBytes.{bytes};
 ghost use Rattle.run_references.specs.Described.{ForEach};
-ghost use Rattle.run_references.specs.Places.{foundMeant, locatedMeant, onDistance, referred, refersTo, subscriptsMeant};
+ghost use Rattle.run_references.specs.Places.{foundMeant, locatedMeant, onDistance, referred, refersTo};
 ghost use Rattle.run_expressions.specs.Sides.{SideRead, SideThere, sideMeant};
 ghost use Rattle.run_references.specs.Worth.{answered};
 
@@ -63,14 +65,14 @@ fn located(
     let words = f.words;
     let bits = f.bits;
     match s {
-        Subscripts::Whole => places::narrow(number, 0, 0, bounds::word_length(f)),
+        Subscripts::Whole => places::narrow(number, 0, 0, bounds::word_length(f) as u64),
         Subscripts::One(e) => {
             let w = part(section, expressions, store, n, e);
             if f.dimensions == 1 {
                 return places::bit(number, 0, places::subscript(w, bits));
             }
             let at = places::subscript(w, words);
-            places::word(number, at, bounds::word_length(f))
+            places::word(number, at, bounds::word_length(f) as u64)
         }
         Subscripts::Part(x) => places::constant_part(number, 0, bits, x),
         Subscripts::Two(e, g) => {
@@ -93,9 +95,9 @@ fn bit_of_word(
     number: u8,
     at: Distance,
     e: u16,
-    bits: Bounds,
+    bits: ShortBounds,
 ) -> Located
-    ensures { λ r. ⌜ ForEach (now (section .entry)) (now (expressions .entry)) (now (store .entry)) (λ d x. locatedMeant r ≡ onDistance at (λ w. M.subscript (evalBelow (bytes d) d x n e) (boundsMeant bits) (λ b. M.narrow (M.place number w b 1)))) ⌝ }
+    ensures { λ r. ⌜ ForEach (now (section .entry)) (now (expressions .entry)) (now (store .entry)) (λ d x. locatedMeant r ≡ onDistance at (λ w. M.subscript (evalBelow (bytes d) d x n e) (shortMeant bits) (λ b. M.narrow (M.place number w b 1)))) ⌝ }
 {
     match at {
         Distance::At(w) => {
@@ -122,7 +124,7 @@ pub fn place_of(
     if section.len() / record_sizes::FACILITY <= number as usize {
         return Side::Stuck(Stuck::NoFacility);
     }
-    if !places::right_count(f.dimensions, s) {
+    if !subscripts::right_count(f.dimensions, s) {
         return Side::Stuck(Stuck::WrongSubscripts);
     }
     match located(section, expressions, store, n, number, f, s) {

@@ -5,6 +5,7 @@ use image_sections::facilities::Facility;
 use image_sections::kinds;
 use run_references::arms::Found;
 use run_references::bounds;
+use store_geometry::shapes;
 use store_words::parts;
 use value_operators::Value;
 ghost use mathlib.Core.List.{List};
@@ -50,6 +51,6 @@ pub fn first_word(store: &[u8], f: Facility) -> Value
             length: 0,
         };
     }
-    let all = 8 * ((length + 7) / 8);
+    let all = (8 * shapes::word_bytes(length as u64)) as u32;
     parts::load(store, f.place as usize, all, 0, all)
 }

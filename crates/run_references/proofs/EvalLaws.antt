@@ -1,6 +1,5 @@
 -- What a record is worth, by the kind of record, over any store.
 use mathlib.Core.List.{List, [], _∷_}
-use mathlib.Core.Option.{none}
 use mathlib.Core.Path.{_≡_, refl, sym, ap, _∙_}
 use Prim.Native.Nat.{ℕ, _^_, _<_, _≤_}
 use native.Mathlib.Nat.{mod-eq-of-lt}
@@ -64,22 +63,3 @@ module _ {X : Type 0} (S : Stores X) (d : Description) (x : X) where
   other-worth v ev (N.NextArm a e) k = refl
   other-worth v ev (N.Choice e a n) k = absurd (miss others 12 tt k)
   other-worth v ev N.Broken k = refl
-
-abbrev no-references : List ℕ
-no-references = 0 ∷ 1 ∷ 7 ∷ 8 ∷ 9 ∷ 10 ∷ 11 ∷ 12 ∷ 13 ∷ []
-
-pub no-reference : (v : ℕ) (r : Node) → OneOf no-references (tagOf the-type r) → none ≡ referenceOf (meant v r)
-no-reference v (N.Constant l) k = refl
-no-reference v (N.More m) k = refl
-no-reference v (N.Whole f) k = absurd (miss no-references 2 tt k)
-no-reference v (N.One f e) k = absurd (miss no-references 3 tt k)
-no-reference v (N.Part f a b) k = absurd (miss no-references 4 tt k)
-no-reference v (N.Two f e g) k = absurd (miss no-references 5 tt k)
-no-reference v (N.WordPart f e a b) k = absurd (miss no-references 6 tt k)
-no-reference v (N.Binary o a b) k = refl
-no-reference v (N.Prefix o a) k = refl
-no-reference v (N.Cut o a c) k = refl
-no-reference v (N.FirstArm e) k = refl
-no-reference v (N.NextArm a e) k = refl
-no-reference v (N.Choice e a n) k = refl
-no-reference v N.Broken k = refl

@@ -7,7 +7,6 @@ use Rattle.language.specs.Meaning.{Answer, Stores}
 use Rattle.language.specs.References as R
 use Rattle.image_records.specs.declared.nodes.Node.{Node}
 use Rattle.image_records.specs.declared.nodes.Node.the-variants as N
-use Rattle.image_sections.specs.Declarations.{boundsMeant}
 use Rattle.run_references.specs.Worth.{stuckMeant}
 use Rattle.run_references.specs.declared.arms.Found.{Found}
 use Rattle.run_references.specs.declared.arms.Found.the-variants as F
@@ -16,10 +15,8 @@ use Rattle.run_references.specs.declared.places.Distance.the-variants as
 use Rattle.run_references.specs.declared.places.Located.{Located}
 use Rattle.run_references.specs.declared.places.Located.the-variants as L
 use Rattle.run_references.specs.declared.places.Place.{Place}
-use Rattle.run_references.specs.declared.places.Subscripts.{Subscripts}
-use Rattle.run_references.specs.declared.places.Subscripts.the-variants as S
-use Rattle.run_references.specs.declared.references.Reference.{Reference}
-use Rattle.run_references.specs.declared.references.Reference.the-variants as T
+use Rattle.store_geometry.specs.Subscripts.{subscriptsMeant}
+use Rattle.store_geometry.specs.declared.subscripts.Subscripts.{Subscripts}
 
 abbrev pub placeMeant : Place → M.Place
 placeMeant p = M.place (p .facility) (p .word) (p .from) (p .count)
@@ -34,13 +31,6 @@ abbrev pub onDistance : Distance → (ℕ → M.Located) → M.Located
 onDistance (D.At n) on = on n
 onDistance (D.Stops n) on = M.Located.stops n
 onDistance (D.Stuck s) on = M.Located.stuck (stuckMeant s)
-
-abbrev pub subscriptsMeant : Subscripts → R.Subscripts
-subscriptsMeant S.Whole = R.whole
-subscriptsMeant (S.One e) = R.one e
-subscriptsMeant (S.Part b) = R.part (boundsMeant b)
-subscriptsMeant (S.Two e g) = R.two e g
-subscriptsMeant (S.WordPart e b) = R.wordPart e (boundsMeant b)
 
 abbrev pub foundMeant : Found → Option ℕ
 foundMeant (F.At n) = some n
@@ -65,10 +55,6 @@ armExpression N.Broken = none
 
 abbrev pub refersTo : ℕ → Subscripts → R.Reference
 refersTo f s = record { facility = f; subscripts = subscriptsMeant s }
-
-abbrev pub referenceMeant : Reference → Option R.Reference
-referenceMeant (T.To f s) = some (refersTo f s)
-referenceMeant T.None = none
 
 -- What a reference is worth, and what is no reference.
 abbrev pub referred : {X : Type 0} → Stores X → Description → X → (ℕ → Answer) → Option R.Reference → Answer

@@ -3,18 +3,21 @@ use crate::bounds;
 use crate::worth::Outcome;
 use crate::worth::Stuck;
 use crate::worth::Worth;
-use image_sections::facilities::Bounds;
 use value_operators::Value;
+use image_sections::facilities::ShortBounds;
+use image_sections::shapes;
+use store_geometry::bounds as geometry;
+use store_geometry::bounds::Bounds;
 ghost use mathlib.Core.Bool.{cond};
 ghost use mathlib.Core.Path.{_≡_};
 ghost use Prim.Native.Nat.{ℕ};
 ghost use Rattle.language.specs.Description.{fromFirst, inBounds};
 ghost use Rattle.language.specs.Meaning as M;
-ghost use Rattle.language.specs.References.{rightCount};
 ghost use Rattle.language.specs.Stops.{outsideBounds};
 ghost use Rattle.value_limbs.specs.Limbs.{number};
-ghost use Rattle.image_sections.specs.Declarations.{boundsMeant};
-ghost use Rattle.run_references.specs.Places.{locatedMeant, onDistance, subscriptsMeant};
+ghost use Rattle.image_sections.specs.Declarations.{shortMeant};
+ghost use Rattle.store_geometry.specs.Shapes.{boundsMeant};
+ghost use Rattle.run_references.specs.Places.{locatedMeant, onDistance};
 ghost use Rattle.run_references.specs.Worth.{answered};
 
 // A computed subscript outside its bounds.
@@ -34,15 +37,6 @@ pub enum Located {
     Stuck(Stuck),
 }
 
-// X, X[e], X[c:d], X[e,e], X[e,c:d].
-pub enum Subscripts {
-    Whole,
-    One(u16),
-    Part(Bounds),
-    Two(u16, u16),
-    WordPart(u16, Bounds),
-}
-
 // How far a subscript is from the first bound, or why it is nowhere.
 pub enum Distance {
     At(u16),
@@ -51,19 +45,20 @@ pub enum Distance {
 }
 
 // The distance of a number that a subscript has.
-fn distance_of(v: Value, b: Bounds) -> Distance
-    ensures { λ r. ⌜ ((on : ℕ → M.Located) → onDistance r on ≡ cond (inBounds (boundsMeant b) (number (v .limbs))) (on (fromFirst (boundsMeant b) (number (v .limbs)))) (M.Located.stops outsideBounds)) ⌝ }
+fn distance_of(v: Value, b: ShortBounds) -> Distance
+    ensures { λ r. ⌜ ((on : ℕ → M.Located) → onDistance r on ≡ cond (inBounds (shortMeant b) (number (v .limbs))) (on (fromFirst (shortMeant b) (number (v .limbs)))) (M.Located.stops outsideBounds)) ⌝ }
 {
-    let n = bounds::small(v);
-    if bounds::in_bounds(b, n) {
-        return Distance::At(bounds::from_first(b, n) as u16);
+    let n = bounds::small(v) as u64;
+    let x = shapes::bounds_of(b);
+    if geometry::in_bounds(x, n) {
+        return Distance::At(geometry::from_first(x, n) as u16);
     }
     Distance::Stops(OUTSIDE_BOUNDS)
 }
 
 // A subscript by what it is worth.
-pub fn subscript(w: Worth, b: Bounds) -> Distance
-    ensures { λ r. ⌜ ((on : ℕ → M.Located) → onDistance r on ≡ M.subscript (answered w) (boundsMeant b) on) ⌝ }
+pub fn subscript(w: Worth, b: ShortBounds) -> Distance
+    ensures { λ r. ⌜ ((on : ℕ → M.Located) → onDistance r on ≡ M.subscript (answered w) (shortMeant b) on) ⌝ }
 {
     let outcome = w.outcome;
     match outcome {
@@ -77,10 +72,10 @@ pub fn subscript(w: Worth, b: Bounds) -> Distance
 }
 
 // A part of at most 256 bits.
-pub fn narrow(facility: u8, word: u16, from: u16, count: u32) -> Located
+pub fn narrow(facility: u8, word: u16, from: u16, count: u64) -> Located
     ensures { λ r. ⌜ locatedMeant r ≡ M.narrow (M.place facility word from count) ⌝ }
 {
-    if value_operators::lengths::LONGEST < count {
+    if (value_operators::lengths::LONGEST as u64) < count {
         return Located::Stuck(Stuck::WrongLength);
     }
     let place = Place {
@@ -93,20 +88,21 @@ pub fn narrow(facility: u8, word: u16, from: u16, count: u32) -> Located
 }
 
 // A constant part of a word, in the declared direction.
-pub fn constant_part(facility: u8, word: u16, b: Bounds, x: Bounds) -> Located
-    ensures { λ r. ⌜ locatedMeant r ≡ M.partOf (boundsMeant b) (boundsMeant x) (λ from count. M.narrow (M.place facility word from count)) ⌝ }
+pub fn constant_part(facility: u8, word: u16, b: ShortBounds, x: Bounds) -> Located
+    ensures { λ r. ⌜ locatedMeant r ≡ M.partOf (shortMeant b) (boundsMeant x) (λ from count. M.narrow (M.place facility word from count)) ⌝ }
 {
-    if !bounds::in_bounds(b, x.first as u32) {
+    let d = shapes::bounds_of(b);
+    if !geometry::in_bounds(d, x.first as u64) {
         return Located::Stuck(Stuck::Outside);
     }
-    if !bounds::in_bounds(b, x.last as u32) {
+    if !geometry::in_bounds(d, x.last as u64) {
         return Located::Stuck(Stuck::Outside);
     }
-    if !bounds::same_direction(b, x) {
+    if !geometry::same_direction(d, x) {
         return Located::Stuck(Stuck::Outside);
     }
-    let from = bounds::from_first(b, x.first as u32);
-    narrow(facility, word, from as u16, bounds::span(x))
+    let from = geometry::from_first(d, x.first as u64);
+    narrow(facility, word, from as u16, geometry::span(x))
 }
 
 // One bit of a word.
@@ -121,7 +117,7 @@ pub fn bit(facility: u8, word: u16, d: Distance) -> Located
 }
 
 // A whole word.
-pub fn word(facility: u8, d: Distance, count: u32) -> Located
+pub fn word(facility: u8, d: Distance, count: u64) -> Located
     ensures { λ r. ⌜ locatedMeant r ≡ onDistance d (λ w. M.narrow (M.place facility w 0 count)) ⌝ }
 {
     match d {
@@ -132,30 +128,12 @@ pub fn word(facility: u8, d: Distance, count: u32) -> Located
 }
 
 // A constant part of a computed word.
-pub fn part_of_word(facility: u8, d: Distance, b: Bounds, x: Bounds) -> Located
-    ensures { λ r. ⌜ locatedMeant r ≡ onDistance d (λ w. M.partOf (boundsMeant b) (boundsMeant x) (λ from count. M.narrow (M.place facility w from count))) ⌝ }
+pub fn part_of_word(facility: u8, d: Distance, b: ShortBounds, x: Bounds) -> Located
+    ensures { λ r. ⌜ locatedMeant r ≡ onDistance d (λ w. M.partOf (shortMeant b) (boundsMeant x) (λ from count. M.narrow (M.place facility w from count))) ⌝ }
 {
     match d {
         Distance::At(w) => constant_part(facility, w, b, x),
         Distance::Stops(n) => Located::Stops(n),
         Distance::Stuck(s) => Located::Stuck(s),
-    }
-}
-
-// Whether the number of subscripts is right for the dimensions.
-pub fn right_count(dimensions: u8, s: Subscripts) -> bool
-    ensures { λ r. ⌜ r ≡ rightCount dimensions (subscriptsMeant s) ⌝ }
-{
-    match s {
-        Subscripts::Whole => dimensions <= 1,
-        Subscripts::One(_) => {
-            if dimensions < 1 {
-                return false;
-            }
-            dimensions <= 2
-        }
-        Subscripts::Part(_) => dimensions == 1,
-        Subscripts::Two(_, _) => dimensions == 2,
-        Subscripts::WordPart(_, _) => dimensions == 2,
     }
 }

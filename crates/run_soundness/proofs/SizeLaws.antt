@@ -1,16 +1,11 @@
--- The bytes of a facility, and the size of a store facility by facility. Assumes nothing.
-use mathlib.Core.Bool.{true}
+-- The size of a store facility by facility. Assumes nothing.
 use mathlib.Core.List.{List}
 use mathlib.Core.Path.{_≡_, ap, _∙_}
 use Prim.Native.Nat.{ℕ, suc, _+_, _<_}
 use lib.ListN.{drop, getD, length}
 use lib.Seq.{drop-cons}
-use Rattle.language.specs.Description.{Facility, isComputed, noFacility}
+use Rattle.language.specs.Description.{Facility, noFacility}
 use Rattle.language.specs.Layout.{facilityBytes, storeSizeOf}
-
-pub computed-bytes : (f : Facility) → isComputed (f .kind) ≡ true → 0 ≡ facilityBytes f
-unfolding facilityBytes
-computed-bytes f e = rw e
 
 -- Facility n and those after it.
 pub size-here : (fs : List Facility) (n : ℕ) (f : Facility) → n < length fs → getD fs n noFacility ≡ f → storeSizeOf (drop n fs) ≡ facilityBytes f + storeSizeOf (drop (suc n) fs)

@@ -2,9 +2,9 @@
 use image_sections::facilities::Facility;
 use run_references::bounds;
 use run_references::places::Place;
+use store_geometry::places;
 use store_words::delayed;
 use store_words::parts;
-use store_words::places;
 use value_operators::Value;
 ghost use mathlib.Core.Path.{_≡_};
 ghost use Prim.Native.Nat.{_-_, _^_};

@@ -1,6 +1,6 @@
 // Up to 64 bits of a word, byte by byte from the most significant one.
 use crate::bytes;
-use crate::places;
+use store_geometry::shapes;
 ghost use mathlib.Core.Path.{_≡_};
 ghost use Prim.Native.Nat.{_+_, _*_, _/_, _^_, _≤_, _<_};
 ghost use lib.ListN.{length as size};
@@ -37,7 +37,7 @@ fn position_of(length: u32, j: usize) -> usize
     requires { ⌜ j < wordBytes length ⌝ }
     ensures { λ r. ⌜ r ≡ position length j ⌝ }
 {
-    places::word_bytes(length) - 1 - j
+    shapes::word_bytes(length as u64) - 1 - j
 }
 
 // `count` bits of a word above its lowest `low` ones.

@@ -1,8 +1,7 @@
-// Where a facility's words lie in the store, and how a part of a word is read and written.
+// How a part of a word in the store is read and written.
 mod bits;
 mod bytes;
 pub mod delayed;
 pub mod parts;
-pub mod places;
 pub mod slices;
 pub mod spare;

@@ -1,8 +1,8 @@
 // A part of a word, loaded as a value and saved from one. What lies outside its word or the slice is the value of no bits, and is not written.
 use crate::bits;
 use crate::bytes;
-use crate::places;
 use value_operators::Value;
+use store_geometry::shapes;
 ghost use mathlib.Core.Path.{_≡_};
 ghost use Prim.Native.Nat.{_+_, _*_, _^_, _≤_, _<_};
 ghost use lib.ListN.{length as size};
@@ -16,7 +16,7 @@ ghost use Rattle.store_layout.specs.Parts.{inside as Inside, loaded, partIn, sa
 fn inside(bytes: usize, at: usize, length: u32, from: u32, count: u32) -> bool
     ensures { λ r. ⌜ r ≡ Inside bytes at length from count ⌝ }
 {
-    let n = places::word_bytes(length);
+    let n = shapes::word_bytes(length as u64);
     if bytes < n {
         return false;
     }

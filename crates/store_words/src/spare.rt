@@ -1,6 +1,6 @@
 // Spare bits, above a word's own, are zero.
 use crate::bits;
-use crate::places;
+use store_geometry::shapes;
 ghost use mathlib.Core.Path.{_≡_};
 ghost use Prim.Native.Nat.{_+_, _-_, _*_, _≤_};
 ghost use lib.ListN.{length as size};
@@ -14,14 +14,20 @@ fn spare_bits(s: &[u8], at: usize, length: u32) -> u64
     ensures { λ r. ⌜ r ≡ partIn (now (s .entry)) at length length (8 * wordBytes length - length) ⌝ }
 {
     let own = length as usize;
-    bits::bits(s, at, length, own, 8 * places::word_bytes(length) - own)
+    bits::bits(
+        s,
+        at,
+        length,
+        own,
+        8 * shapes::word_bytes(length as u64) - own,
+    )
 }
 
 // Whether `words` words of `length` bits lie in the slice from `at` on, and none has a spare bit.
 pub fn no_spare_bits(s: &[u8], at: usize, words: u32, length: u32) -> bool
     ensures { λ r. ⌜ r ≡ narrowAt (now (s .entry)) at words length ⌝ }
 {
-    let n = places::word_bytes(length);
+    let n = shapes::word_bytes(length as u64);
     let all = words as usize * n;
     if s.len() < all {
         return false;

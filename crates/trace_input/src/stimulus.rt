@@ -3,7 +3,7 @@ use image_sections::facilities;
 use image_sections::facilities::Facility;
 use image_sections::kinds;
 use run_references::bounds;
-use store_words::places;
+use store_geometry::shapes;
 use store_words::slices;
 ghost use mathlib.Core.List.{List};
 ghost use mathlib.Core.Path.{_≡_};
@@ -60,7 +60,7 @@ fn word(line: &[u8], at: usize, length: u32, stimulus: &mut [u8], place: usize) 
     requires { ⌜ (at ≤ size (now line)) × (place ≤ size (now stimulus)) ⌝ }
     ensures { λ r. ⌜ Worded length (now (line .entry)) at (now (stimulus .entry)) place r (now (stimulus .exit)) ⌝ }
 {
-    let mut rest = places::word_bytes(length);
+    let mut rest = shapes::word_bytes(length as u64);
     if stimulus.len() - place < rest {
         return false;
     }
@@ -107,7 +107,7 @@ pub fn stimulus_of(section: &[u8], line: &[u8], stimulus: &mut [u8]) -> Taken
             return Taken::None;
         }
         at += length as usize;
-        place += places::word_bytes(length);
+        place += shapes::word_bytes(length as u64);
         n += 1;
     }
     if at == line.len() {

@@ -1,30 +1,22 @@
-use mathlib.Core.Path.{refl, _∙_}
+use Prim.Native.Nat.{ℕ, _%_}
 use native.Mathlib.Omega.{arith}
-use Rattle.image_form.proofs.RowLaws.{bytes-of}
+use mathlib.Core.Path.{ap}
 use borrow.Author.Needs.{needs}
 use Rattle.image_form.proofs.rows.place_after.Statement.{statement}
 use Rattle.image_form.proofs.rows.place_after.Tie as tie
 
-is-computed-requires : tie.Need-is-computed-requires
-is-computed-requires c κs = search needs
+shape-of-requires : tie.Need-shape-of-requires
+shape-of-requires c κs = search needs
 
-cast-t11 : tie.Need-cast-t11
-cast-t11 c = search needs
-
-facility-bytes-requires : tie.Need-facility-bytes-requires
-facility-bytes-requires c κs = search needs
-
-add-result : tie.Need-add-result
-add-result c = search needs
+place-after-requires : tie.Need-place-after-requires
+place-after-requires c κs = search needs
 
 cast-result : tie.Need-cast-result
 cast-result c = search needs
 
 returns : tie.Need-returns
 returns c =
-    (search needs, λ name. let e = c .facility-bytes .ensures ∙ bytes-of name (c .before .before .before .before .before .args .f) _ (c .before .before .is-computed .ensures) refl refl refl in omega arith)
+    (omega arith, λ name. ap (λ (n : ℕ). n % 65536) (c .place-after .ensures _ (c .before .shape-of .ensures name)))
 
 pub place-after-spec : {M : Type 1} → statement M
-place-after-spec =
-    tie.close
-    (tie.spec is-computed-requires cast-t11 facility-bytes-requires add-result cast-result returns)
+place-after-spec = tie.close (tie.spec shape-of-requires place-after-requires cast-result returns)

@@ -1,4 +1,4 @@
-use Rattle.judge_terms.specs.Shown.{referred}
+use Rattle.image_records.specs.References.{referenceMeant}
 use Rattle.language.specs.Description as D
 use Rattle.language.specs.ActionRules.{kindAt}
 use mathlib.Core.Path.{sym, ap, _∙_}
@@ -26,14 +26,14 @@ returns : tie.Need-returns
 unfolding kindAt
 returns c =
     record {
-      kind = λ d p t marks memo known sh. rw (sym (ap referred (sym (c .before .before .f .given .1)) ∙ c .before .before .before .before .reference-at .ensures d p (sh .records)))
+      kind = λ d p t marks memo known sh. rw (sym (ap referenceMeant (sym (c .before .before .f .given .1)) ∙ c .before .before .before .before .reference-at .ensures d p (sh .records)))
           (ap (λ (x : D.Facility). x .kind) (c .facility-at .ensures .meaning []) ∙ sym (sh .kind _));
     }
 
 returns-2 : tie.Need-returns-2
 unfolding kindAt
 returns-2 c =
-    record { kind = λ d p t marks memo known sh. rw (sym (ap referred (sym (c .enum-told .given .1)) ∙ c .before .before .reference-at .ensures d p (sh .records))) }
+    record { kind = λ d p t marks memo known sh. rw (sym (ap referenceMeant (sym (c .enum-told .given .1)) ∙ c .before .before .reference-at .ensures d p (sh .records))) }
 
 pub kind-at-spec : {M : Type 1} → statement M
 kind-at-spec =

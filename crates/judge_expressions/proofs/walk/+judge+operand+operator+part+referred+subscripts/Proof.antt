@@ -1,4 +1,5 @@
 use Rattle.language.specs.Description.{facilityAt, isComputed}
+use Rattle.image_records.specs.References.{referenceMeant}
 use Rattle.judge_terms.specs.Shown as Shown
 use Rattle.judge_expressions.proofs.WalkLaws.{broken-is, judge-is, part-ge, part-lt, reference-is, right-reference, unknown-reference, wrong-reference}
 use Rattle.judge_terms.proofs.RecordLaws.{at-is, node-is}
@@ -50,8 +51,8 @@ use Rattle.judge_records.proofs.facilities.facility_at.Reads as facility-at-rea
 use Rattle.judge_records.proofs.places.nowhere.Reads as nowhere-reads
 use Rattle.judge_records.proofs.places.of_node.Reads as of-node-reads
 use Rattle.image_records.proofs.nodes.node_at.Reads as node-at-reads
-use Rattle.judge_rules.proofs.subscripts.right_count.Reads as right-count-reads
-use Rattle.judge_rules.proofs.subscripts.taken_length.Reads as taken-length-reads
+use Rattle.store_geometry.proofs.subscripts.right_count.Reads as right-count-reads
+use Rattle.judge_rules.proofs.bounds.taken_length.Reads as taken-length-reads
 use Rattle.judge_verdicts.proofs.faults.refused.Reads as refused-reads
 use Rattle.judge_verdicts.proofs.tests.arm_list.Reads as arm-list-reads
 use Rattle.judge_verdicts.proofs.tests.proper.Reads as proper-reads
@@ -159,11 +160,11 @@ judge-operator-requires t c κs = search needs
 
 judge-returns : (t : ℕ) → judge-lts.Need-returns (judge-calls t) (judge-at t) judge.Post
 judge-returns t c =
-    λ d p w sh. c .referred .ensures ownWork (c .before .own .ensures) d p w sh ∙ ap seen (reference-is d p w _ _ _ (ap Shown.referred (sym (c .before .before .before .f .given .1)) ∙ c .before .before .before .before .before .reference-at .ensures d p (sh .records)))
+    λ d p w sh. c .referred .ensures ownWork (c .before .own .ensures) d p w sh ∙ ap seen (reference-is d p w _ _ _ (ap referenceMeant (sym (c .before .before .before .f .given .1)) ∙ c .before .before .before .before .before .reference-at .ensures d p (sh .records)))
 
 judge-returns-2 : (t : ℕ) → judge-lts.Need-returns-2 (judge-calls t) (judge-at t) judge.Post
 judge-returns-2 t c =
-    λ d p w sh. c .operator .ensures d p w (sym (ap Shown.referred (sym (c .before .enum-told .given .1)) ∙ c .before .before .before .reference-at .ensures d p (sh .records))) sh
+    λ d p w sh. c .operator .ensures d p w (sym (ap referenceMeant (sym (c .before .enum-told .given .1)) ∙ c .before .before .before .reference-at .ensures d p (sh .records))) sh
 
 operand-of-node-requires : (t : ℕ) → operand-lts.Need-of-node-requires (operand-calls t) (operand-at t) operand.Post
 operand-of-node-requires t c κs = search needs

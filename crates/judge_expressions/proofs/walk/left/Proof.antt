@@ -1,4 +1,4 @@
-use Rattle.judge_terms.specs.Shown as Shown
+use Rattle.image_records.specs.References.{referenceMeant}
 use Rattle.judge_terms.proofs.RecordLaws.{at-is}
 use Rattle.judge_verdicts.proofs.VerdictLaws.{refuse-same}
 use Rattle.judge_verdicts.proofs.CappedLaws.{capped-small}
@@ -30,12 +30,12 @@ refused-requires c κs = search needs
 returns : tie.Need-returns
 unfolding leftAt
 returns c =
-    λ d p w sh. rw (sym (ap Shown.referred (sym (c .before .before .f .given .1)) ∙ c .before .before .before .before .reference-at .ensures d p (sh .records))) (c .referred .ensures 0 (sym (capped-small 0 (omega arith))) d p w sh)
+    λ d p w sh. rw (sym (ap referenceMeant (sym (c .before .before .f .given .1)) ∙ c .before .before .before .before .reference-at .ensures d p (sh .records))) (c .referred .ensures 0 (sym (capped-small 0 (omega arith))) d p w sh)
 
 returns-2 : tie.Need-returns-2
 unfolding leftAt
 returns-2 c =
-    λ d p w sh. rw (sym (ap Shown.referred (sym (c .before .before .enum-told .given .1)) ∙ c .before .before .before .before .reference-at .ensures d p (sh .records))) (c .refused .ensures ∙ refuse-same 4 (at-is (sh .records) _ (c .before .of-node .ensures)))
+    λ d p w sh. rw (sym (ap referenceMeant (sym (c .before .before .enum-told .given .1)) ∙ c .before .before .before .before .reference-at .ensures d p (sh .records))) (c .refused .ensures ∙ refuse-same 4 (at-is (sh .records) _ (c .before .of-node .ensures)))
 
 pub left-spec : {M : Type 1} → statement M
 left-spec =

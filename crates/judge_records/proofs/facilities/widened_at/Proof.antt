@@ -1,6 +1,6 @@
 use Rattle.language.specs.Description.{bounds}
 use Prim.Native.Nat.{ℕ, _+_, _*_}
-use mathlib.Core.Path.{ap₂}
+use mathlib.Core.Path.{ap, ap₂, _∙_}
 use borrow.Author.Needs.{needs}
 use Rattle.judge_records.proofs.facilities.widened_at.Statement.{statement}
 use Rattle.judge_records.proofs.facilities.widened_at.Tie as tie
@@ -14,21 +14,16 @@ add-large-no c = search needs
 large-no-requires-2 : tie.Need-large-no-requires-2
 large-no-requires-2 c κs = search needs
 
-mul-t9 : tie.Need-mul-t9
-mul-t9 c = search needs
+joined-requires : tie.Need-joined-requires
+joined-requires c κs = search needs
 
-add-t10 : tie.Need-add-t10
-add-t10 c = search needs
-
-mul-t12 : tie.Need-mul-t12
-mul-t12 c = search needs
-
-add-t13 : tie.Need-add-t13
-add-t13 c = search needs
+joined-requires-2 : tie.Need-joined-requires-2
+joined-requires-2 c κs = search needs
 
 returns : tie.Need-returns
 returns c =
-    ap₂ (λ (m n : ℕ). bounds (c .before .before .before .args .first + 65536 * m) (c .before .before .before .args .last + 65536 * n)) (c .before .large-no .ensures .0) (c .large-no2 .ensures .0)
+    let a = c .before .before .before .before .before .args in
+    ap₂ (λ (m n : ℕ). bounds m n) (c .before .joined .ensures ∙ ap (λ (m : ℕ). a .first + 65536 * m) (c .before .before .before .large-no .ensures .0)) (c .joined2 .ensures ∙ ap (λ (m : ℕ). a .last + 65536 * m) (c .before .before .large-no2 .ensures .0))
 
 pub widened-at-spec : {M : Type 1} → statement M
 widened-at-spec =
@@ -37,8 +32,6 @@ widened-at-spec =
     large-no-requires
     add-large-no
     large-no-requires-2
-    mul-t9
-    add-t10
-    mul-t12
-    add-t13
+    joined-requires
+    joined-requires-2
     returns)

@@ -9,13 +9,10 @@ use Rattle.judge_records.proofs.places.large_no.Tie as tie
 half-requires : tie.Need-half-requires
 half-requires c κs = search needs
 
-cast-result : tie.Need-cast-result
-cast-result c = search needs
-
 returns : tie.Need-returns
 unfolding largeNo
 returns c =
     (ap (λ (h : ℕ). h / 32768) (c .half .ensures), omega arith)
 
 pub large-no-spec : {M : Type 1} → statement M
-large-no-spec = tie.close (tie.spec half-requires cast-result returns)
+large-no-spec = tie.close (tie.spec half-requires returns)

@@ -1,22 +1,16 @@
-use Rattle.language.specs.Description.{wordLength}
-use borrow.Author.Tests.{eq-eqb, ne-eqb}
-use native.Mathlib.Omega.{arith}
 use borrow.Author.Needs.{needs}
 use Rattle.judge_rules.proofs.bounds.word_length.Statement.{statement}
 use Rattle.judge_rules.proofs.bounds.word_length.Tie as tie
 
+shape-of-requires : tie.Need-shape-of-requires
+shape-of-requires c κs = search needs
+
+word-length-requires : tie.Need-word-length-requires
+word-length-requires c κs = search needs
+
 returns : tie.Need-returns
-unfolding wordLength
 returns c =
-    (λ name. rw (eq-eqb _ _ (c .if1 .taken)), omega arith)
-
-span-requires : tie.Need-span-requires
-span-requires c κs = search needs
-
-returns-2 : tie.Need-returns-2
-unfolding wordLength
-returns-2 c =
-    (λ name. rw (ne-eqb _ _ (c .before .before .if1 .left)) (c .span .ensures .0), c .span .ensures .1)
+    (λ name. c .word-length .ensures .1 _ (c .before .shape-of .ensures name), c .word-length .ensures .0)
 
 pub word-length-spec : {M : Type 1} → statement M
-word-length-spec = tie.close (tie.spec returns span-requires returns-2)
+word-length-spec = tie.close (tie.spec shape-of-requires word-length-requires returns)

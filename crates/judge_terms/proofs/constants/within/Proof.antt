@@ -1,5 +1,5 @@
 use Rattle.judge_terms.proofs.ConstantLaws.{number-own, out-of-bounds}
-use Rattle.judge_records.specs.Read.{boundsMeant}
+use Rattle.store_geometry.specs.Shapes.{boundsMeant}
 use Rattle.language.specs.Description.{inBounds}
 use Prim.Native.Nat.{ℕ, _/_}
 use mathlib.Core.Path.{ap, sym, _∙_}

@@ -10,11 +10,19 @@ word-length-requires c κs = search needs
 returns : tie.Need-returns
 returns c = λ name h. absurd (omega (arith, c .if1 .taken, c .before .word-length .ensures .1 name))
 
-add-all : tie.Need-add-all
-add-all c = search needs
+cast-word-bytes : tie.Need-cast-word-bytes
+cast-word-bytes c = search needs
+
+word-bytes-requires : tie.Need-word-bytes-requires
+word-bytes-requires c κs = search needs
 
 mul-all : tie.Need-mul-all
-mul-all c = search needs
+unfolding wordBytes
+mul-all c = omega (arith, c .word-bytes .ensures)
+
+cast-all : tie.Need-cast-all
+unfolding wordBytes
+cast-all c = omega (arith, c .word-bytes .ensures)
 
 cast-save : tie.Need-cast-save
 cast-save c = search needs
@@ -26,9 +34,8 @@ same-length : tie.Need-same-length
 same-length c = search needs
 
 returns-2 : tie.Need-returns-2
-unfolding wordBytes
 returns-2 c =
-    λ name h. rw (← (c .before .before .before .before .before .before .word-length .ensures .1 name)) (c .before .before .save .ensures)
+    λ name h. rw (← (c .before .before .before .before .before .before .before .word-length .ensures .1 name), ← (c .before .before .before .before .before .word-bytes .ensures)) (c .before .before .save .ensures)
 
 pub put-first-word-spec : {M : Type 1} → statement M
 put-first-word-spec =
@@ -36,8 +43,10 @@ put-first-word-spec =
     (tie.spec
     word-length-requires
     returns
-    add-all
+    cast-word-bytes
+    word-bytes-requires
     mul-all
+    cast-all
     cast-save
     save-requires
     same-length

@@ -11,7 +11,8 @@ use Rattle.language.specs.Value as L
 use Rattle.image_records.specs.Nodes.{constantNumber, held}
 use Rattle.image_sections.specs.Declarations.{FacilityRead, facilityMeant}
 use Rattle.store_layout.specs.InBytes.{bytes, loadBytes}
-use Rattle.run_references.specs.Places.{foundMeant, locatedMeant, placeMeant, referenceMeant, refersTo}
+use Rattle.run_references.specs.Places.{foundMeant, locatedMeant, placeMeant, refersTo}
+use Rattle.image_records.specs.References.{referenceMeant}
 use Rattle.run_expressions.specs.Sides.{sideMeant}
 use Rattle.run_references.proofs.EvalLaws.{eval-before, eval-node, eval-not-before, held-whole, node-read, other-worth}
 use Rattle.run_references.proofs.PlaceLaws.{computed-read, facility-known, nameOf, no-facility, place-of-facility, place-there, right-subscripts, stored-load, stored-read, wrong-subscripts}
@@ -56,7 +57,7 @@ use Rattle.run_references.proofs.places.bit.Reads as bit-reads
 use Rattle.run_references.proofs.places.constant_part.Reads as constant-part-reads
 use Rattle.run_references.proofs.places.narrow.Reads as narrow-reads
 use Rattle.run_references.proofs.places.part_of_word.Reads as part-of-word-reads
-use Rattle.run_references.proofs.places.right_count.Reads as right-count-reads
+use Rattle.store_geometry.proofs.subscripts.right_count.Reads as right-count-reads
 use Rattle.run_references.proofs.places.subscript.Reads as subscript-reads
 use Rattle.run_references.proofs.places.word.Reads as word-reads
 use Rattle.run_references.proofs.reading.of_computed.Reads as of-computed-reads
@@ -430,6 +431,9 @@ located-enum-told t c = search needs
 located-word-length-requires : (t : ℕ) → located-lts.Need-word-length-requires (located-calls t) (located-at t) located.Post
 located-word-length-requires t c κs = search needs
 
+located-cast-narrow : (t : ℕ) → located-lts.Need-cast-narrow (located-calls t) (located-at t) located.Post
+located-cast-narrow t c = search needs
+
 located-narrow-requires : (t : ℕ) → located-lts.Need-narrow-requires (located-calls t) (located-at t) located.Post
 located-narrow-requires t c κs = search needs
 
@@ -455,6 +459,9 @@ located-subscript-requires-2 t c κs = search needs
 
 located-word-length-requires-2 : (t : ℕ) → located-lts.Need-word-length-requires-2 (located-calls t) (located-at t) located.Post
 located-word-length-requires-2 t c κs = search needs
+
+located-cast-word : (t : ℕ) → located-lts.Need-cast-word (located-calls t) (located-at t) located.Post
+located-cast-word t c = search needs
 
 located-word-requires : (t : ℕ) → located-lts.Need-word-requires (located-calls t) (located-at t) located.Post
 located-word-requires t c κs = search needs
@@ -778,6 +785,7 @@ pub +arm+binary+bit-of-word+choice+eval+located+operand+other+part+place-of-spec
     located.Post
     (located-enum-told t)
     (located-word-length-requires t)
+    (located-cast-narrow t)
     (located-narrow-requires t)
     (located-enum-known-s t)
     (located-part-requires t)
@@ -786,6 +794,7 @@ pub +arm+binary+bit-of-word+choice+eval+located+operand+other+part+place-of-spec
     (located-returns t)
     (located-subscript-requires-2 t)
     (located-word-length-requires-2 t)
+    (located-cast-word t)
     (located-word-requires t)
     (located-enum-known-s-2 t)
     (located-constant-part-requires t)

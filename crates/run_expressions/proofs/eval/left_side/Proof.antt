@@ -2,7 +2,7 @@ use mathlib.Core.Path.{sym, ap, _∙_}
 use Rattle.language.specs.Meaning.{evalBelow}
 use Rattle.image_records.specs.Nodes.{constantNumber}
 use Rattle.store_layout.specs.InBytes.{bytes}
-use Rattle.run_references.specs.Places.{referenceMeant}
+use Rattle.image_records.specs.References.{referenceMeant}
 use Rattle.run_expressions.proofs.SideLaws.{left-place, left-none, left-there}
 use borrow.Author.Needs.{needs}
 use Rattle.run_expressions.proofs.eval.left_side.Statement.{statement}

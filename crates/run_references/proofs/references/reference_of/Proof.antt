@@ -1,59 +1,17 @@
-use Rattle.run_references.proofs.EvalLaws.{no-reference}
+use Rattle.image_records.proofs.ReferenceLaws.{unwidened}
+use Rattle.image_records.specs.Nodes.{meant}
+use Rattle.language.specs.References.{referenceOf}
+use mathlib.Core.Path.{ap, _∙_}
 use borrow.Author.Needs.{needs}
 use Rattle.run_references.proofs.references.reference_of.Statement.{statement}
 use Rattle.run_references.proofs.references.reference_of.Tie as tie
 
-enum-known-node : tie.Need-enum-known-node
-enum-known-node c = search needs
-
-enum-known-node-2 : tie.Need-enum-known-node-2
-enum-known-node-2 c = search needs
-
-enum-known-node-3 : tie.Need-enum-known-node-3
-enum-known-node-3 c = search needs
-
-enum-known-node-4 : tie.Need-enum-known-node-4
-enum-known-node-4 c = search needs
-
-enum-known-node-5 : tie.Need-enum-known-node-5
-enum-known-node-5 c = search needs
+reference-of-requires : tie.Need-reference-of-requires
+reference-of-requires c κs = search needs
 
 returns : tie.Need-returns
 returns c =
-    λ v. rw (c .before .node .given .1)
-
-returns-2 : tie.Need-returns-2
-returns-2 c =
-    λ v. rw (c .before .node2 .given .1)
-
-returns-3 : tie.Need-returns-3
-returns-3 c =
-    λ v. rw (c .before .node3 .given .1)
-
-returns-4 : tie.Need-returns-4
-returns-4 c =
-    λ v. rw (c .before .node4 .given .1)
-
-returns-5 : tie.Need-returns-5
-returns-5 c =
-    λ v. rw (c .before .node5 .given .1)
-
-returns-6 : tie.Need-returns-6
-returns-6 c =
-    λ v. no-reference v (c .before .args .node) (c .match .keys6)
+    λ v. c .reference-of .ensures v ∙ ap referenceOf (unwidened (meant v (c .before .args .node)))
 
 pub reference-of-spec : {M : Type 1} → statement M
-reference-of-spec =
-    tie.close
-    (tie.spec
-    enum-known-node
-    enum-known-node-2
-    enum-known-node-3
-    enum-known-node-4
-    enum-known-node-5
-    returns
-    returns-2
-    returns-3
-    returns-4
-    returns-5
-    returns-6)
+reference-of-spec = tie.close (tie.spec reference-of-requires returns)

@@ -1,11 +1,12 @@
 use mathlib.Core.List.{List}
-use mathlib.Core.Path.{_≡_, ap}
+use mathlib.Core.Path.{_≡_, ap, _∙_}
 use Prim.Native.Nat.{ℕ, suc, _+_, _-_, _≤_, _<_}
 use native.Mathlib.Omega.{arith}
 use borrow.Author.Needs.{needs}
 use lib.ListN.{drop, drop-of-length-le, length}
 use Rattle.language.specs.Description.{Description, facilityAt}
-use Rattle.language.specs.Layout.{storeSizeOf}
+use Rattle.language.specs.Layout.{facilityBytes, storeSizeOf}
+use Rattle.store_geometry.specs.Places.{capped, capped-below, capped-most}
 use Rattle.image_sections.specs.Declarations.{facilityMeant}
 use Rattle.run_references.proofs.PlaceLaws.{facility-known, nameOf}
 use Rattle.run_references.specs.Described.{Describes}
@@ -15,7 +16,7 @@ use Rattle.run_soundness.proofs.sizes.store_size.Tie as tie
 
 abbrev Inv-loop : tie.InvT-loop
 Inv-loop section count n₀ size₀ n size =
-    (n ≤ count) × (size ≤ 16384) × ((d : Description) (E : List ℕ) → Describes d section E → size + storeSizeOf (drop n (d .facilities)) ≡ storeSizeOf (d .facilities))
+    (n ≤ count) × (size ≤ 16385) × ((d : Description) (E : List ℕ) → Describes d section E → storeSizeOf (d .facilities) ≤ 16384 → size + storeSizeOf (drop n (d .facilities)) ≡ storeSizeOf (d .facilities))
 
 abbrev μ-loop : tie.MeasureT-loop
 μ-loop section count n₀ size₀ n size =
@@ -23,30 +24,19 @@ abbrev μ-loop : tie.MeasureT-loop
 
 loop-holds : tie.Need-loop-holds Inv-loop μ-loop
 loop-holds c =
-    (omega arith, omega arith, λ d E h. omega arith)
+    (omega arith, omega arith, λ d E h small. omega arith)
 
 facility-at-requires : tie.Need-facility-at-requires Inv-loop μ-loop
 facility-at-requires c κs = search needs
 
-facility-bytes-requires : tie.Need-facility-bytes-requires Inv-loop μ-loop
-facility-bytes-requires c κs = search needs
+shape-of-requires : tie.Need-shape-of-requires Inv-loop μ-loop
+shape-of-requires c κs = search needs
 
-sub-if1 : tie.Need-sub-if1 Inv-loop μ-loop
-sub-if1 c = search needs
+place-after-requires : tie.Need-place-after-requires Inv-loop μ-loop
+place-after-requires c κs = search needs
 
-returns : tie.Need-returns Inv-loop μ-loop
-unfolding facilityAt
-returns c =
-    λ d E h small.
-    let l = c .before .before .before .before .loop in
-    let f = c .before .before .facility-at .result in
-    let g = c .before .before .facility-at .ensures in
-    let n : l .n < length (d .facilities) = rw (h .count) (c .before .before .before .loop-test .taken) in
-    let s = size-here (d .facilities) (l .n) (facilityMeant (nameOf h (l .n) f g) f) n (facility-known h (l .n) f g) in
-    absurd (omega (arith, s, l .inv .2 d E h, c .before .facility-bytes .ensures (nameOf h (l .n) f g)))
-
-add-size : tie.Need-add-size Inv-loop μ-loop
-add-size c = search needs
+cap-requires : tie.Need-cap-requires Inv-loop μ-loop
+cap-requires c κs = search needs
 
 add-n : tie.Need-add-n Inv-loop μ-loop
 add-n c = search needs
@@ -58,24 +48,31 @@ loop-again : tie.Need-loop-again Inv-loop μ-loop
 unfolding facilityAt
 loop-again c = (
   omega arith,
-  omega arith,
-  λ d E h.
-      let l = c .before .before .before .before .loop in
-      let f = c .before .before .facility-at .result in
-      let g = c .before .before .facility-at .ensures in
-      let n : l .n < length (d .facilities) = rw (h .count) (c .before .before .before .loop-test .taken) in
+  rw (c .cap .ensures) (capped-most (c .before .place-after .result)),
+  λ d E h small.
+      let l = c .before .before .before .before .before .loop in
+      let f = c .before .before .before .facility-at .result in
+      let g = c .before .before .before .facility-at .ensures in
+      let x = facilityMeant (nameOf h (l .n) f g) f in
+      let n : l .n < length (d .facilities) = rw (h .count) (c .before .before .before .before .loop-test .taken) in
       let p : l .n + 1 ≡ suc (l .n) = omega arith in
-      let s = size-here (d .facilities) (l .n) (facilityMeant (nameOf h (l .n) f g) f) n (facility-known h (l .n) f g) in
-      rw p (omega (arith, s, l .inv .2 d E h, c .before .facility-bytes .ensures (nameOf h (l .n) f g))),
+      let s = size-here (d .facilities) (l .n) x n (facility-known h (l .n) f g) in
+      let i = l .inv .2 d E h small in
+      let z : c .cap .result ≡ l .size + facilityBytes x =
+      c .cap .ensures ∙ ap capped (c .before .place-after .ensures x (c .before .before .shape-of .ensures (nameOf h (l .n) f g))) ∙ capped-below (l .size + facilityBytes x) (omega (arith, s, i)) in
+      rw p (omega (arith, s, i, z)),
 )
 
-returns-2 : tie.Need-returns-2 Inv-loop μ-loop
+cast-result : tie.Need-cast-result Inv-loop μ-loop
+cast-result c = search needs
+
+returns : tie.Need-returns Inv-loop μ-loop
 unfolding storeSizeOf
-returns-2 c =
+returns c =
     λ d E h small.
     let l = c .before .loop in
     let n : length (d .facilities) ≤ l .n = rw (h .count) (c .loop-test .left) in
-    omega (arith, ap storeSizeOf (drop-of-length-le (d .facilities) n), l .inv .2 d E h)
+    omega (arith, ap storeSizeOf (drop-of-length-le (d .facilities) n), l .inv .2 d E h small)
 
 pub store-size-spec : {M : Type 1} → statement M
 store-size-spec =
@@ -85,11 +82,11 @@ store-size-spec =
     μ-loop
     loop-holds
     facility-at-requires
-    facility-bytes-requires
-    sub-if1
-    returns
-    add-size
+    shape-of-requires
+    place-after-requires
+    cap-requires
     add-n
     loop-less
     loop-again
-    returns-2)
+    cast-result
+    returns)

@@ -70,6 +70,9 @@ add-at : tie.Need-add-at Inv-loop μ-loop
 add-at c =
     let w : Worded (c .before .before .before .before .before .input-bits .result) _ (c .before .before .before .before .before .before .before .before .loop .at) (c .before .before .before .before .before .before .before .before .loop .stimulus) (c .before .before .before .before .before .before .before .before .loop .place) true _ = rw (not-false (c .before .before .before .word .result) (c .if1 .left)) at (c .before .before .before .word .ensures) in omega (arith, w .in-line)
 
+cast-word-bytes : tie.Need-cast-word-bytes Inv-loop μ-loop
+cast-word-bytes c = search needs
+
 word-bytes-requires : tie.Need-word-bytes-requires Inv-loop μ-loop
 word-bytes-requires c κs =
     search needs
@@ -144,6 +147,7 @@ stimulus-of-spec =
     returns
     cast-at
     add-at
+    cast-word-bytes
     word-bytes-requires
     add-place
     add-n
