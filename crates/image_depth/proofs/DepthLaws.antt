@@ -18,37 +18,37 @@ use Rattle.image_records.specs.Nodes.{constantNumber, meant}
 use Rattle.image_records.specs.declared.nodes.Node.{Node}
 use Rattle.image_records.specs.declared.nodes.Node.the-variants as N
 use Rattle.image_order.specs.Holds.{Actions, Nodes}
-use Rattle.image_order.specs.Shapes.{shapeOf}
-use Rattle.image_order.specs.declared.starts.Shape.{Shape}
-use Rattle.image_order.specs.declared.starts.Shape.the-variants as S
+use Rattle.image_order.specs.Parts.{partsOf}
+use Rattle.image_order.specs.declared.starts.Parts.{Parts}
+use Rattle.image_order.specs.declared.starts.Parts.the-variants as S
 use Rattle.about_images.specs.Depth.{bounded, deepest, depthAt, depthBelow, depthNode, depthStep, mostActions, mostExpressions, shallow, shallow-so, shallowTo}
-use Rattle.image_depth.specs.Depths.{depthShape, noted}
+use Rattle.image_depth.specs.Depths.{depthParts, noted}
 use Rattle.language.specs.Encode.{actionSize, nodeSize}
 
--- ---- Depths by shapes.
+-- ---- Depths by parts.
 
-depth-shape : (f : ℕ → ℕ) (v : ℕ) (x : Node) → depthNode f (meant v x) ≡ depthShape f (shapeOf x)
-depth-shape f v (N.Constant l) = refl
-depth-shape f v (N.More m) = refl
-depth-shape f v (N.Whole g) = refl
-depth-shape f v (N.One g e) = refl
-depth-shape f v (N.Part g a b) = refl
-depth-shape f v (N.Two g e h) = refl
-depth-shape f v (N.WordPart g e a b) = refl
-depth-shape f v (N.Binary k a b) = refl
-depth-shape f v (N.Prefix k a) = refl
-depth-shape f v (N.Cut k a c) = refl
-depth-shape f v (N.FirstArm e) = refl
-depth-shape f v (N.NextArm a e) = refl
-depth-shape f v (N.Choice e a m) = refl
-depth-shape f v N.Broken = refl
+depth-parts : (f : ℕ → ℕ) (v : ℕ) (x : Node) → depthNode f (meant v x) ≡ depthParts f (partsOf x)
+depth-parts f v (N.Constant l) = refl
+depth-parts f v (N.More m) = refl
+depth-parts f v (N.Whole g) = refl
+depth-parts f v (N.One g e) = refl
+depth-parts f v (N.Part g a b) = refl
+depth-parts f v (N.Two g e h) = refl
+depth-parts f v (N.WordPart g e a b) = refl
+depth-parts f v (N.Binary k a b) = refl
+depth-parts f v (N.Prefix k a) = refl
+depth-parts f v (N.Cut k a c) = refl
+depth-parts f v (N.FirstArm e) = refl
+depth-parts f v (N.NextArm a e) = refl
+depth-parts f v (N.Choice e a m) = refl
+depth-parts f v N.Broken = refl
 
-shape-same : (f g : ℕ → ℕ) → ((n : ℕ) → f n ≡ g n) → (x : Shape) → depthShape f x ≡ depthShape g x
-shape-same f g h S.No = refl
-shape-same f g h S.Leaf = refl
-shape-same f g h (S.Digits l) = refl
-shape-same f g h (S.One a) = ap suc (h a)
-shape-same f g h (S.Two a b) = rw (h a, h b)
+parts-same : (f g : ℕ → ℕ) → ((n : ℕ) → f n ≡ g n) → (x : Parts) → depthParts f x ≡ depthParts g x
+parts-same f g h S.No = refl
+parts-same f g h S.Leaf = refl
+parts-same f g h (S.Digits l) = refl
+parts-same f g h (S.One a) = ap suc (h a)
+parts-same f g h (S.Two a b) = rw (h a, h b)
 
 -- ---- What is noted after n records.
 
@@ -74,11 +74,11 @@ module _ (d : Description) where
   unfolding depthBelow shallowTo below
   none-noted k = record { at = nothing k; shallow-so-far = refl }
 
-  module _ (s : List ℕ) (h : Nodes d s) (n : ℕ) (depths : List ℕ) (k : Noted d n depths) (x : Node) (e : meant (constantNumber n s) x ≡ nodeOf s n) {own : ℕ} (o : own ≡ depthShape (noted depths) (shapeOf x)) where
+  module _ (s : List ℕ) (h : Nodes d s) (n : ℕ) (depths : List ℕ) (k : Noted d n depths) (x : Node) (e : meant (constantNumber n s) x ≡ nodeOf s n) {own : ℕ} (o : own ≡ depthParts (noted depths) (partsOf x)) where
     own-depth : own ≡ depthAt d n
     unfolding depthAt
     own-depth =
-        o ∙ shape-same (noted depths) (depthBelow d n) (k .at) (shapeOf x) ∙ sym (depth-shape (depthBelow d n) (constantNumber n s) x)
+        o ∙ parts-same (noted depths) (depthBelow d n) (k .at) (partsOf x) ∙ sym (depth-parts (depthBelow d n) (constantNumber n s) x)
         ∙ ap (depthNode (depthBelow d n)) (e ∙ sym (h .at n))
 
     noted-next : n < length depths → (i : ℕ) → noted (set depths n own) i ≡ depthBelow d (suc n) i

@@ -1,6 +1,6 @@
 // What bounds the walks over an image, whose depth is that of its expressions and of its lists of actions: few records, and no expression too deep.
 use image_order::starts;
-use image_order::starts::Shape;
+use image_order::starts::Parts;
 use image_records::nodes;
 use image_records::record_sizes;
 ghost use mathlib.Core.Path.{_≡_};
@@ -9,7 +9,7 @@ ghost use lib.ListN.{length};
 ghost use Rattle.language.specs.Description.{Description};
 ghost use Rattle.about_images.specs.Depth as L;
 ghost use Rattle.image_order.specs.Holds.{Actions, Nodes};
-ghost use Rattle.image_depth.specs.Depths.{depthShape, noted};
+ghost use Rattle.image_depth.specs.Depths.{noted, depthParts};
 ghost use Rattle.language.specs.Encode.{nodeSize};
 
 const MOST_EXPRESSIONS: usize = 34816;
@@ -39,16 +39,16 @@ fn noted_at(depths: &[u16], a: u16) -> u16
 }
 
 // One more than the deepest part.
-fn depth(depths: &[u16], shape: Shape) -> u16
+fn depth(depths: &[u16], parts: Parts) -> u16
     requires { ⌜ ((n : ℕ) → noted (now depths) n ≤ 4097) ⌝ }
-    ensures { λ r. ⌜ r ≡ depthShape (noted (now (depths .entry))) shape ⌝ }
+    ensures { λ r. ⌜ r ≡ depthParts (noted (now (depths .entry))) parts ⌝ }
 {
-    match shape {
-        Shape::No => 1,
-        Shape::Leaf => 1,
-        Shape::Digits(_) => 1,
-        Shape::One(a) => noted_at(depths, a) + 1,
-        Shape::Two(a, b) => greater(noted_at(depths, a), noted_at(depths, b)) + 1,
+    match parts {
+        Parts::No => 1,
+        Parts::Leaf => 1,
+        Parts::Digits(_) => 1,
+        Parts::One(a) => noted_at(depths, a) + 1,
+        Parts::Two(a, b) => greater(noted_at(depths, a), noted_at(depths, b)) + 1,
     }
 }
 
@@ -60,7 +60,7 @@ fn shallow(exprs: &[u8]) -> bool
     let mut depths: [u16; 34816] = [0; 34816];
     let mut n = 0;
     while n < exprs.len() / record_sizes::NODE {
-        let own = depth(&depths, starts::shape_of(nodes::node_at(exprs, n)));
+        let own = depth(&depths, starts::parts_of(nodes::node_at(exprs, n)));
         if DEEPEST < own {
             return false;
         }

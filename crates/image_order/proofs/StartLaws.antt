@@ -1,4 +1,4 @@
--- Where the tree of a record begins, by its shape; the digits of a constant that is read always stand before it.
+-- Where the tree of a record begins, by its parts; the digits of a constant that is read always stand before it.
 use mathlib.Core.Bool.{Bool, true, false, cond}
 use mathlib.Core.List.{List, []}
 use mathlib.Core.Option.{Option, none, some}
@@ -25,31 +25,31 @@ use Rattle.image_records.specs.declared.nodes.Node.{Node}
 use Rattle.image_records.specs.declared.nodes.Node.the-variants as N
 use Rattle.image_sections.proofs.DescribedLaws.{expressions-count, node-described}
 use Rattle.image_order.specs.Holds.{ConstantAt, Nodes}
-use Rattle.image_order.specs.Shapes.{shapeOf, startShape}
-use Rattle.image_order.specs.declared.starts.Shape.{Shape}
-use Rattle.image_order.specs.declared.starts.Shape.the-variants as S
+use Rattle.image_order.specs.Parts.{partsOf, startParts}
+use Rattle.image_order.specs.declared.starts.Parts.{Parts}
+use Rattle.image_order.specs.declared.starts.Parts.the-variants as S
 
--- ---- Shapes.
+-- ---- Parts.
 
-start-shape : (d : Description) (start : ℕ → Option ℕ) (n v : ℕ) (x : Node) → startNode d start n (meant v x) ≡ startShape d start n v (shapeOf x)
+start-parts : (d : Description) (start : ℕ → Option ℕ) (n v : ℕ) (x : Node) → startNode d start n (meant v x) ≡ startParts d start n v (partsOf x)
 unfolding startNode
-start-shape d start n v (N.Constant l) = refl
-start-shape d start n v (N.More m) = refl
-start-shape d start n v (N.Whole f) = refl
-start-shape d start n v (N.One f e) = refl
-start-shape d start n v (N.Part f a b) = refl
-start-shape d start n v (N.Two f e g) = refl
-start-shape d start n v (N.WordPart f e a b) = refl
-start-shape d start n v (N.Binary k a b) = refl
-start-shape d start n v (N.Prefix k a) = refl
-start-shape d start n v (N.Cut k a c) = refl
-start-shape d start n v (N.FirstArm e) = refl
-start-shape d start n v (N.NextArm a e) = refl
-start-shape d start n v (N.Choice e a m) = refl
-start-shape d start n v N.Broken = refl
+start-parts d start n v (N.Constant l) = refl
+start-parts d start n v (N.More m) = refl
+start-parts d start n v (N.Whole f) = refl
+start-parts d start n v (N.One f e) = refl
+start-parts d start n v (N.Part f a b) = refl
+start-parts d start n v (N.Two f e g) = refl
+start-parts d start n v (N.WordPart f e a b) = refl
+start-parts d start n v (N.Binary k a b) = refl
+start-parts d start n v (N.Prefix k a) = refl
+start-parts d start n v (N.Cut k a c) = refl
+start-parts d start n v (N.FirstArm e) = refl
+start-parts d start n v (N.NextArm a e) = refl
+start-parts d start n v (N.Choice e a m) = refl
+start-parts d start n v N.Broken = refl
 
 -- Only a constant has digits.
-digits-only : (x : Node) {l : ℕ} → shapeOf x ≡ S.Digits l → x ≡ N.Constant l
+digits-only : (x : Node) {l : ℕ} → partsOf x ≡ S.Digits l → x ≡ N.Constant l
 digits-only (N.Constant m) {l} e = let z : m ≡ l = cc in ap N.Constant z
 digits-only (N.More m) e = absurd (let z : _≡_ {A = ℕ} 0 1 = cc in omega arith)
 digits-only (N.Whole f) e = absurd (let z : _≡_ {A = ℕ} 0 1 = cc in omega arith)
@@ -65,7 +65,7 @@ digits-only (N.NextArm a b) e = absurd (let z : _≡_ {A = ℕ} 0 1 = cc in omeg
 digits-only (N.Choice a b n) e = absurd (let z : _≡_ {A = ℕ} 0 1 = cc in omega arith)
 digits-only N.Broken e = absurd (let z : _≡_ {A = ℕ} 0 1 = cc in omega arith)
 
-pub constant-at : (s : List ℕ) (n l : ℕ) (x : Node) → meant (constantNumber n s) x ≡ nodeOf s n → shapeOf x ≡ S.Digits l → ConstantAt s n l
+pub constant-at : (s : List ℕ) (n l : ℕ) (x : Node) → meant (constantNumber n s) x ≡ nodeOf s n → partsOf x ≡ S.Digits l → ConstantAt s n l
 constant-at s n l x p q =
     record { is = record { length = l; number = constantNumber n s }; here = sym p ∙ ap (meant (constantNumber n s)) (digits-only x q); long = refl }
 
@@ -98,23 +98,23 @@ module _ (d : Description) where
       by-second none e = refl
       by-second (some m) e = by-first m (just-within b n e) (eqb (a + 1) m) refl
 
-  shape-same : (n v : ℕ) (x : Shape) → startShape d (startBelow d n) n v x ≡ startShape d (startAt d) n v x
-  shape-same n v S.No = refl
-  shape-same n v S.Leaf = refl
-  shape-same n v (S.Digits l) = refl
-  shape-same n v (S.One a) = just-same a n
-  shape-same n v (S.Two a b) = two-same a b n
+  parts-same : (n v : ℕ) (x : Parts) → startParts d (startBelow d n) n v x ≡ startParts d (startAt d) n v x
+  parts-same n v S.No = refl
+  parts-same n v S.Leaf = refl
+  parts-same n v (S.Digits l) = refl
+  parts-same n v (S.One a) = just-same a n
+  parts-same n v (S.Two a b) = two-same a b n
 
   module _ (s : List ℕ) (h : Nodes d s) where
     start-here : (n : ℕ) → startAt d n ≡ startNode d (startBelow d n) n (nodeOf s n)
     unfolding startAt
     start-here n = ap (startNode d (startBelow d n) n) (h .at n)
 
-    pub starts : (n : ℕ) (x : Node) {y : Shape} → meant (constantNumber n s) x ≡ nodeOf s n → shapeOf x ≡ y
-        → startAt d n ≡ startShape d (startAt d) n (constantNumber n s) y
+    pub starts : (n : ℕ) (x : Node) {y : Parts} → meant (constantNumber n s) x ≡ nodeOf s n → partsOf x ≡ y
+        → startAt d n ≡ startParts d (startAt d) n (constantNumber n s) y
     starts n x p q =
-        start-here n ∙ ap (startNode d (startBelow d n) n) (sym p) ∙ start-shape d (startBelow d n) n (constantNumber n s) x
-        ∙ shape-same n (constantNumber n s) (shapeOf x) ∙ ap (startShape d (startAt d) n (constantNumber n s)) q
+        start-here n ∙ ap (startNode d (startBelow d n) n) (sym p) ∙ start-parts d (startBelow d n) n (constantNumber n s) x
+        ∙ parts-same n (constantNumber n s) (partsOf x) ∙ ap (startParts d (startAt d) n (constantNumber n s)) q
 
     -- ---- Constants.
 

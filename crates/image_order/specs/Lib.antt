@@ -1,3 +1,3 @@
 pub mod Edges
 pub mod Holds
-pub mod Shapes
+pub mod Parts

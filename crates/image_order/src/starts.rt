@@ -8,10 +8,10 @@ ghost use Rattle.language.specs.Description.{Description};
 ghost use Rattle.language.specs.Order.{justBefore, startAt, twoBefore};
 ghost use Rattle.image_order.specs.Edges.{edge};
 ghost use Rattle.image_order.specs.Holds.{ConstantAt, Nodes};
-ghost use Rattle.image_order.specs.Shapes.{shapeOf};
+ghost use Rattle.image_order.specs.Parts.{partsOf};
 
 // What stands before a record and belongs to it.
-pub enum Shape {
+pub enum Parts {
     // no tree ends here
     No,
     Leaf,
@@ -21,24 +21,24 @@ pub enum Shape {
     Two(u16, u16),
 }
 
-pub fn shape_of(node: Node) -> Shape
-    ensures { λ r. ⌜ r ≡ shapeOf node ⌝ }
+pub fn parts_of(node: Node) -> Parts
+    ensures { λ r. ⌜ r ≡ partsOf node ⌝ }
 {
     match node {
-        Node::Constant(l) => Shape::Digits(l),
-        Node::More(_) => Shape::No,
-        Node::Whole(_) => Shape::Leaf,
-        Node::One(_, e) => Shape::One(e),
-        Node::Part(_, _, _) => Shape::Leaf,
-        Node::Two(_, e, g) => Shape::Two(e, g),
-        Node::WordPart(_, e, _, _) => Shape::One(e),
-        Node::Binary(_, a, b) => Shape::Two(a, b),
-        Node::Prefix(_, a) => Shape::One(a),
-        Node::Cut(_, a, _) => Shape::One(a),
-        Node::FirstArm(e) => Shape::One(e),
-        Node::NextArm(a, e) => Shape::Two(a, e),
-        Node::Choice(e, a, _) => Shape::Two(e, a),
-        Node::Broken => Shape::No,
+        Node::Constant(l) => Parts::Digits(l),
+        Node::More(_) => Parts::No,
+        Node::Whole(_) => Parts::Leaf,
+        Node::One(_, e) => Parts::One(e),
+        Node::Part(_, _, _) => Parts::Leaf,
+        Node::Two(_, e, g) => Parts::Two(e, g),
+        Node::WordPart(_, e, _, _) => Parts::One(e),
+        Node::Binary(_, a, b) => Parts::Two(a, b),
+        Node::Prefix(_, a) => Parts::One(a),
+        Node::Cut(_, a, _) => Parts::One(a),
+        Node::FirstArm(e) => Parts::One(e),
+        Node::NextArm(a, e) => Parts::Two(a, e),
+        Node::Choice(e, a, _) => Parts::Two(e, a),
+        Node::Broken => Parts::No,
     }
 }
 
@@ -79,12 +79,12 @@ fn two_before(exprs: &[u8], a: u16, b: u16, n: usize) -> Edge
 pub fn start(exprs: &[u8], n: usize) -> Edge
     ensures { λ r. ⌜ ((d : Description) → Nodes d (now (exprs .entry)) → edge r ≡ startAt d n) ⌝ }
 {
-    let shape = shape_of(nodes::node_at(exprs, n));
-    match shape {
-        Shape::No => Edge::None,
-        Shape::Leaf => Edge::At(n),
-        Shape::Digits(l) => constant_start(exprs, n, l),
-        Shape::One(a) => before(exprs, a, n),
-        Shape::Two(a, b) => two_before(exprs, a, b, n),
+    let parts = parts_of(nodes::node_at(exprs, n));
+    match parts {
+        Parts::No => Edge::None,
+        Parts::Leaf => Edge::At(n),
+        Parts::Digits(l) => constant_start(exprs, n, l),
+        Parts::One(a) => before(exprs, a, n),
+        Parts::Two(a, b) => two_before(exprs, a, b, n),
     }
 }

@@ -13,8 +13,8 @@ enum-told-2 c = search needs
 enum-told-3 : tie.Need-enum-told-3
 enum-told-3 c = search needs
 
-enum-known-shape : tie.Need-enum-known-shape
-enum-known-shape c = search needs
+enum-known-parts : tie.Need-enum-known-parts
+enum-known-parts c = search needs
 
 noted-at-requires : tie.Need-noted-at-requires
 noted-at-requires c κs = search needs
@@ -24,8 +24,8 @@ add-result c =
     let h : c .noted-at .result ≤ 4097 = rw (c .noted-at .ensures) (c .before .before .before .before .before .pre _) in
     omega arith
 
-enum-known-shape-2 : tie.Need-enum-known-shape-2
-enum-known-shape-2 c = search needs
+enum-known-parts-2 : tie.Need-enum-known-parts-2
+enum-known-parts-2 c = search needs
 
 noted-at-requires-2 : tie.Need-noted-at-requires-2
 noted-at-requires-2 c κs = search needs
@@ -52,10 +52,10 @@ returns-3 : tie.Need-returns-3
 returns-3 c = search needs
 
 returns-4 : tie.Need-returns-4
-returns-4 c = rw (c .before .before .shape .given .1) (omega (arith, c .noted-at .ensures))
+returns-4 c = rw (c .before .before .parts .given .1) (omega (arith, c .noted-at .ensures))
 
 returns-5 : tie.Need-returns-5
-returns-5 c = rw (c .before .before .before .before .shape2 .given .1) (omega (arith, c .greater .ensures, c .before .noted-at3 .ensures, c .before .before .noted-at2 .ensures))
+returns-5 c = rw (c .before .before .before .before .parts2 .given .1) (omega (arith, c .greater .ensures, c .before .noted-at3 .ensures, c .before .before .noted-at2 .ensures))
 
 pub depth-spec : {M : Type 1} → statement M
 depth-spec =
@@ -64,10 +64,10 @@ depth-spec =
     enum-told
     enum-told-2
     enum-told-3
-    enum-known-shape
+    enum-known-parts
     noted-at-requires
     add-result
-    enum-known-shape-2
+    enum-known-parts-2
     noted-at-requires-2
     noted-at-requires-3
     greater-requires

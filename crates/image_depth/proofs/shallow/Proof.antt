@@ -5,7 +5,7 @@ use mathlib.Core.Path.{_≡_, sym, ap, _∙_}
 use lib.ListN.{length, length-replicate, length-set}
 use Rattle.language.specs.Description.{Description}
 use Rattle.image_order.specs.Holds.{Nodes}
-use Rattle.image_depth.specs.Depths.{depthShape, noted}
+use Rattle.image_depth.specs.Depths.{depthParts, noted}
 use Rattle.image_depth.proofs.DepthLaws.{Noted, all-noted, none-noted, nothing, one-more, refused, small-next}
 use Rattle.image_depth.proofs.shallow.Statement.{statement}
 use Rattle.image_depth.proofs.shallow.Tie as tie
@@ -27,8 +27,8 @@ slice-aggregate-depth c = sym (c .before .before .loop .inv .1)
 node-at-requires : tie.Need-node-at-requires Inv-loop μ-loop
 node-at-requires c κs = search needs
 
-shape-of-requires : tie.Need-shape-of-requires Inv-loop μ-loop
-shape-of-requires c κs = search needs
+parts-of-requires : tie.Need-parts-of-requires Inv-loop μ-loop
+parts-of-requires c κs = search needs
 
 depth-requires : tie.Need-depth-requires Inv-loop μ-loop
 depth-requires c κs = c .before .before .before .before .loop .inv .2
@@ -36,7 +36,7 @@ depth-requires c κs = c .before .before .before .before .loop .inv .2
 returns : tie.Need-returns Inv-loop μ-loop
 returns c d h =
     refused d (c .before .before .before .before .before .before .before .before .args .exprs .now) h (c .before .before .before .before .before .before .loop .n) (c .before .before .before .before .before .before .loop .depths) (c .before .before .before .before .before .before .loop .inv .3 d h) (c .before .before .before .node-at .result) (c .before .before .before .node-at .ensures)
-    (c .before .depth .ensures ∙ ap (depthShape (noted (c .before .before .before .before .before .before .loop .depths))) (c .before .before .shape-of .ensures)) (c .before .before .before .before .before .loop-test .taken) (c .if1 .taken)
+    (c .before .depth .ensures ∙ ap (depthParts (noted (c .before .before .before .before .before .before .loop .depths))) (c .before .before .parts-of .ensures)) (c .before .before .before .before .before .loop-test .taken) (c .if1 .taken)
 
 mul-depths : tie.Need-mul-depths Inv-loop μ-loop
 mul-depths c = search needs
@@ -60,7 +60,7 @@ loop-again c =
       length-set depths n own ∙ c .before .before .before .before .before .before .loop .inv .1,
       small-next depths n own (c .if1 .left) (c .before .before .before .before .before .before .loop .inv .2) inside,
       λ d h. one-more d (c .before .before .before .before .before .before .before .before .args .exprs .now) h n depths (c .before .before .before .before .before .before .loop .inv .3 d h) (c .before .before .before .node-at .result) (c .before .before .before .node-at .ensures)
-          (c .before .depth .ensures ∙ ap (depthShape (noted depths)) (c .before .before .shape-of .ensures)) inside (c .if1 .left),
+          (c .before .depth .ensures ∙ ap (depthParts (noted depths)) (c .before .before .parts-of .ensures)) inside (c .if1 .left),
     )
 
 returns-2 : tie.Need-returns-2 Inv-loop μ-loop
@@ -75,7 +75,7 @@ shallow-spec =
     loop-holds
     slice-aggregate-depth
     node-at-requires
-    shape-of-requires
+    parts-of-requires
     depth-requires
     returns
     mul-depths

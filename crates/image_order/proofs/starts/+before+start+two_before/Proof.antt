@@ -17,7 +17,7 @@ use Rattle.image_order.proofs.starts.two_before.Reads as two-before
 use Rattle.image_order.proofs.starts.two_before.Kinds as two-before-kinds
 use Rattle.image_order.proofs.starts.+before+start+two_before.Lts-two_before as two-before-lts
 use Rattle.image_order.proofs.starts.constant_start.Reads as constant-start-reads
-use Rattle.image_order.proofs.starts.shape_of.Reads as shape-of-reads
+use Rattle.image_order.proofs.starts.parts_of.Reads as parts-of-reads
 use Rattle.image_records.proofs.nodes.node_at.Reads as node-at-reads
 use Rattle.image_order.proofs.starts.+before+start+two_before.{statement}
 use Rattle.image_order.proofs.starts.+before+start+two_before.Tie.{close}
@@ -55,7 +55,7 @@ abbrev before-calls : ℕ → before-lts.Claims
 before-calls t = (start-below t, start.Post)
 
 abbrev start-calls : ℕ → start-lts.Claims
-start-calls t = (node-at-reads.Asked, node-at-reads.Learnt, shape-of-reads.Asked, shape-of-reads.Learnt, constant-start-reads.Asked, constant-start-reads.Learnt, before-below t, before.Post, two-before-below t, two-before.Post)
+start-calls t = (node-at-reads.Asked, node-at-reads.Learnt, parts-of-reads.Asked, parts-of-reads.Learnt, constant-start-reads.Asked, constant-start-reads.Learnt, before-below t, before.Post, two-before-below t, two-before.Post)
 
 abbrev two-before-calls : ℕ → two-before-lts.Claims
 two-before-calls t = (before-below t, before.Post)
@@ -81,8 +81,8 @@ before-returns-2 t c =
 start-node-at-requires : (t : ℕ) → start-lts.Need-node-at-requires (start-calls t) (start-at t) start.Post
 start-node-at-requires t c κs = search needs
 
-start-shape-of-requires : (t : ℕ) → start-lts.Need-shape-of-requires (start-calls t) (start-at t) start.Post
-start-shape-of-requires t c κs = search needs
+start-parts-of-requires : (t : ℕ) → start-lts.Need-parts-of-requires (start-calls t) (start-at t) start.Post
+start-parts-of-requires t c κs = search needs
 
 start-enum-told : (t : ℕ) → start-lts.Need-enum-told (start-calls t) (start-at t) start.Post
 start-enum-told t c = search needs
@@ -90,32 +90,32 @@ start-enum-told t c = search needs
 start-enum-told-2 : (t : ℕ) → start-lts.Need-enum-told-2 (start-calls t) (start-at t) start.Post
 start-enum-told-2 t c = search needs
 
-start-enum-known-shape : (t : ℕ) → start-lts.Need-enum-known-shape (start-calls t) (start-at t) start.Post
-start-enum-known-shape t c = search needs
+start-enum-known-parts : (t : ℕ) → start-lts.Need-enum-known-parts (start-calls t) (start-at t) start.Post
+start-enum-known-parts t c = search needs
 
 start-constant-start-requires : (t : ℕ) → start-lts.Need-constant-start-requires (start-calls t) (start-at t) start.Post
 start-constant-start-requires t c κs =
-    constant-at (c .before .before .before .before .before .before .args .exprs .now) (c .before .before .before .before .before .before .args .n) _ (c .before .before .before .before .node-at .result) (c .before .before .before .before .node-at .ensures) (sym (c .before .before .before .shape-of .ensures) ∙ c .before .shape .given .1)
+    constant-at (c .before .before .before .before .before .before .args .exprs .now) (c .before .before .before .before .before .before .args .n) _ (c .before .before .before .before .node-at .result) (c .before .before .before .before .node-at .ensures) (sym (c .before .before .before .parts-of .ensures) ∙ c .before .parts .given .1)
 
-start-enum-known-shape-2 : (t : ℕ) → start-lts.Need-enum-known-shape-2 (start-calls t) (start-at t) start.Post
-start-enum-known-shape-2 t c = search needs
+start-enum-known-parts-2 : (t : ℕ) → start-lts.Need-enum-known-parts-2 (start-calls t) (start-at t) start.Post
+start-enum-known-parts-2 t c = search needs
 
 start-before-requires : (t : ℕ) → start-lts.Need-before-requires (start-calls t) (start-at t) start.Post
 start-before-requires t c κs = search needs
 
-start-enum-known-shape-3 : (t : ℕ) → start-lts.Need-enum-known-shape-3 (start-calls t) (start-at t) start.Post
-start-enum-known-shape-3 t c = search needs
+start-enum-known-parts-3 : (t : ℕ) → start-lts.Need-enum-known-parts-3 (start-calls t) (start-at t) start.Post
+start-enum-known-parts-3 t c = search needs
 
 start-two-before-requires : (t : ℕ) → start-lts.Need-two-before-requires (start-calls t) (start-at t) start.Post
 start-two-before-requires t c κs = search needs
 
 start-returns : (t : ℕ) → start-lts.Need-returns (start-calls t) (start-at t) start.Post
 start-returns t c =
-    λ d h. sym (starts d (c .before .before .before .before .before .args .exprs .now) h (c .before .before .before .before .before .args .n) (c .before .before .before .node-at .result) (c .before .before .before .node-at .ensures) (sym (c .before .before .shape-of .ensures) ∙ c .enum-told .given .1))
+    λ d h. sym (starts d (c .before .before .before .before .before .args .exprs .now) h (c .before .before .before .before .before .args .n) (c .before .before .before .node-at .result) (c .before .before .before .node-at .ensures) (sym (c .before .before .parts-of .ensures) ∙ c .enum-told .given .1))
 
 start-returns-2 : (t : ℕ) → start-lts.Need-returns-2 (start-calls t) (start-at t) start.Post
 start-returns-2 t c =
-    λ d h. sym (starts d (c .before .before .before .before .before .args .exprs .now) h (c .before .before .before .before .before .args .n) (c .before .before .before .node-at .result) (c .before .before .before .node-at .ensures) (sym (c .before .before .shape-of .ensures) ∙ c .enum-told2 .given .1))
+    λ d h. sym (starts d (c .before .before .before .before .before .args .exprs .now) h (c .before .before .before .before .before .args .n) (c .before .before .before .node-at .result) (c .before .before .before .node-at .ensures) (sym (c .before .before .parts-of .ensures) ∙ c .enum-told2 .given .1))
 
 start-returns-3 : (t : ℕ) → start-lts.Need-returns-3 (start-calls t) (start-at t) start.Post
 start-returns-3 t c =
@@ -123,11 +123,11 @@ start-returns-3 t c =
 
 start-returns-4 : (t : ℕ) → start-lts.Need-returns-4 (start-calls t) (start-at t) start.Post
 start-returns-4 t c =
-    λ d h. c .before2 .ensures d h ∙ sym (starts d (c .before .before .before .before .before .before .before .args .exprs .now) h (c .before .before .before .before .before .before .before .args .n) (c .before .before .before .before .before .node-at .result) (c .before .before .before .before .before .node-at .ensures) (sym (c .before .before .before .before .shape-of .ensures) ∙ c .before .before .shape2 .given .1))
+    λ d h. c .before2 .ensures d h ∙ sym (starts d (c .before .before .before .before .before .before .before .args .exprs .now) h (c .before .before .before .before .before .before .before .args .n) (c .before .before .before .before .before .node-at .result) (c .before .before .before .before .before .node-at .ensures) (sym (c .before .before .before .before .parts-of .ensures) ∙ c .before .before .parts2 .given .1))
 
 start-returns-5 : (t : ℕ) → start-lts.Need-returns-5 (start-calls t) (start-at t) start.Post
 start-returns-5 t c =
-    λ d h. c .two-before .ensures d h ∙ sym (starts d (c .before .before .before .before .before .before .before .args .exprs .now) h (c .before .before .before .before .before .before .before .args .n) (c .before .before .before .before .before .node-at .result) (c .before .before .before .before .before .node-at .ensures) (sym (c .before .before .before .before .shape-of .ensures) ∙ c .before .before .shape3 .given .1))
+    λ d h. c .two-before .ensures d h ∙ sym (starts d (c .before .before .before .before .before .before .before .args .exprs .now) h (c .before .before .before .before .before .before .before .args .n) (c .before .before .before .before .before .node-at .result) (c .before .before .before .before .before .node-at .ensures) (sym (c .before .before .before .before .parts-of .ensures) ∙ c .before .before .parts3 .given .1))
 
 two-before-before-requires : (t : ℕ) → two-before-lts.Need-before-requires (two-before-calls t) (two-before-at t) two-before.Post
 two-before-before-requires t c κs = search needs
@@ -169,14 +169,14 @@ pub +before+start+two-before-spec : {M : Type 1} → statement M
     (start-at t)
     start.Post
     (start-node-at-requires t)
-    (start-shape-of-requires t)
+    (start-parts-of-requires t)
     (start-enum-told t)
     (start-enum-told-2 t)
-    (start-enum-known-shape t)
+    (start-enum-known-parts t)
     (start-constant-start-requires t)
-    (start-enum-known-shape-2 t)
+    (start-enum-known-parts-2 t)
     (start-before-requires t)
-    (start-enum-known-shape-3 t)
+    (start-enum-known-parts-3 t)
     (start-two-before-requires t)
     (start-returns t)
     (start-returns-2 t)
