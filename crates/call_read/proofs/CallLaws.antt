@@ -30,13 +30,13 @@ use Rattle.text_words.specs.Meaning.{firstFault, judged}
 use Rattle.parse_held.proofs.StandingLaws.{image-stands}
 use Rattle.parse_held.proofs.TextsStand.{names-room, text-judged}
 use Rattle.parse_held.specs.declared.Tally.{Tally}
-use Rattle.parse_held.specs.Sections.{Few, besideHeld, namesHeld, sectionsHeld}
+use Rattle.parse_held.specs.Sections.{Few, besideHeld, mostLetters, namesHeld, sectionsHeld}
 
 -- ---- The rest of the rules.
 
 -- What judging says of the array.
 abbrev Judges : List ℕ → List ℕ → Tally → Judged → Type 0
-Judges text work c j = Few c → length (namesHeld text work c) ≤ 84480 → judged j ≡ least (faults (notedDescription (sectionsHeld text work c) (besideHeld work c)) (placesIn (besideHeld work c)))
+Judges text work c j = Few c → length (namesHeld text work c) ≤ mostLetters → judged j ≡ least (faults (notedDescription (sectionsHeld text work c) (besideHeld work c)) (placesIn (besideHeld work c)))
 
 module _ {text work : List ℕ} {c : Tally} (p : Parses text work c) (short : length text ≤ 32768) where
   abbrev t : Text

@@ -7,6 +7,7 @@ use lib.ListN.{drop, getD, length, take}
 use lib.Seq.{drop-cons, drop-drop, take-add}
 use Rattle.parse_tables.specs.declared.Table.the-variants as T
 use Rattle.parse_tables.specs.Rows.{Wrote, rows}
+use Rattle.parse_array.specs.Layout.{labelsFrom}
 use Rattle.call_read.specs.Labels.{Copied}
 
 one-more : (n : ℕ) (s : List ℕ) (p q : ℕ) → p < length s → q ≡ p + 1 → take (suc n) (drop p s) ≡ getD s p 0 ∷ take n (drop q s)
@@ -20,13 +21,13 @@ four s p h =
     ∙ ap (λ (l : List ℕ). getD s (p + 2) 0 ∷ l) (one-more 0 s (p + 3) (p + 4) (omega arith) (omega arith))))
 
 -- The row of label k stands behind those before it.
-pub label-row : (w : List ℕ) (k p : ℕ) → p ≡ 274272 + 4 * k → p + 3 < length w
+pub label-row : (w : List ℕ) (k p : ℕ) → p ≡ labelsFrom + 4 * k → p + 3 < length w
     → rows T.Labels (k + 1) w ≡ rows T.Labels k w ++ getD w p 0 ∷ getD w (p + 1) 0 ∷ getD w (p + 2) 0 ∷ getD w (p + 3) 0 ∷ []
 unfolding rows
 label-row w k p e h =
     let f : 4 * (k + 1) ≡ 4 * k + 4 = omega arith in
-    let d : drop (4 * k) (drop 274272 w) ≡ drop p w = drop-drop (4 * k) 274272 w ∙ ap (λ (i : ℕ). drop i w) (sym e) in
-    rw f (take-add (4 * k) 4 (drop 274272 w) ∙ ap (λ (l : List ℕ). take (4 * k) (drop 274272 w) ++ l) (ap (take 4) d ∙ four w p h))
+    let d : drop (4 * k) (drop labelsFrom w) ≡ drop p w = drop-drop (4 * k) labelsFrom w ∙ ap (λ (i : ℕ). drop i w) (sym e) in
+    rw f (take-add (4 * k) 4 (drop labelsFrom w) ∙ ap (λ (l : List ℕ). take (4 * k) (drop labelsFrom w) ++ l) (ap (take 4) d ∙ four w p h))
 
 pub none-copied : (w : List ℕ) → Copied 0 w w
 unfolding rows

@@ -30,6 +30,7 @@ use Rattle.parse_tables.specs.Names.{namesOf}
 use Rattle.parse_tables.specs.Rows.{apartFrom, most, rows}
 use Rattle.text_words.specs.declared.Word.{Word}
 use Rattle.parse_array.specs.Held.{otherIn}
+use Rattle.parse_array.specs.Layout.{mostActions, mostNodes, workSize}
 use Rattle.parse_array.specs.Names.{namesIn}
 use Rattle.call_read.proofs.Fronts.{front-before, rows-before}
 use Rattle.call_read.proofs.WholeLaws.{named, whole-at}
@@ -98,7 +99,7 @@ module _ {text : List ℕ} {ds : List Declaration} {os : List Operation} {w : Wo
         few = few-states (countsOf (r .answer .state)) (first .standing .within)
 
         module _ {w₂ : List ℕ} (c : Copied (r .answer .state .states) w′ w₂) where
-          long : length w₂ ≡ 275296
+          long : length w₂ ≡ workSize
           long = c .whole (first .standing .whole)
 
           kept : (u : Table) → apartFrom u (Tb.Actions ∷ Tb.ActionPlaces ∷ Tb.States ∷ Tb.StatePlaces ∷ Tb.Labels ∷ []) ≡ true → apartFrom u (Tb.StateNames ∷ []) ≡ true
@@ -111,10 +112,10 @@ module _ {text : List ℕ} {ds : List Declaration} {os : List Operation} {w : Wo
           few-named : s .operations ≤ 128
           few-named = few-operations (countsOf s) (a .standing .within)
 
-          few-nodes : s .nodes ≤ 15888
+          few-nodes : s .nodes ≤ mostNodes
           few-nodes = omega (arith, a .standing .nodes, few-counted (countsOf s) (a .standing .within))
 
-          few-actions : acts ≤ 4352
+          few-actions : acts ≤ mostActions
           few-actions = omega (arith, a .standing .actions, few-counted (countsOf s) (a .standing .within))
 
           front : frontOf (s .nodes) w₂ ≡ frontOf (s .nodes) w₁

@@ -1,6 +1,10 @@
 // What the working array holds, judged by all the rules.
 use image_records::bytes;
 use judge_all::least_fault;
+use parse_array::Work;
+use parse_array::layout::MOST_FACILITIES;
+use parse_array::layout::MOST_OPERATIONS;
+use parse_array::layout::MOST_STATES;
 use parse_held::Tally;
 use parse_held::body;
 use parse_held::counts;
@@ -14,15 +18,18 @@ ghost use Rattle.language.specs.Rules as L;
 ghost use Rattle.language.specs.WordStage.{least};
 ghost use Rattle.judge_records.specs.Noted.{notedDescription, placesIn};
 ghost use Rattle.text_words.specs.Meaning.{judged};
-ghost use Rattle.parse_held.specs.Sections.{Few, besideHeld, namesHeld, sectionsHeld};
+ghost use Rattle.parse_held.specs.Sections.{Few, besideHeld, mostLetters, namesHeld, sectionsHeld};
 
-// The least of all faults. 640 names of at most 132 letters have 84,480.
-pub fn judge(text: &[u8], work: &[u8; 275296], c: Tally) -> Judged
-    ensures { λ r. ⌜ (Few c → length (namesHeld (now (text .entry)) (now (work .entry)) c) ≤ 84480 → judged r ≡ least (L.faults (notedDescription (sectionsHeld (now (text .entry)) (now (work .entry)) c) (besideHeld (now (work .entry)) c)) (placesIn (besideHeld (now (work .entry)) c)))) ⌝ }
+// Letters of all names: at most a line's for each.
+const MOST_LETTERS: usize = 132 * (MOST_FACILITIES + MOST_OPERATIONS + MOST_STATES) as usize;
+
+// The least of all faults.
+pub fn judge(text: &[u8], work: &Work, c: Tally) -> Judged
+    ensures { λ r. ⌜ (Few c → length (namesHeld (now (text .entry)) (now (work .entry)) c) ≤ mostLetters → judged r ≡ least (L.faults (notedDescription (sectionsHeld (now (text .entry)) (now (work .entry)) c) (besideHeld (now (work .entry)) c)) (placesIn (besideHeld (now (work .entry)) c)))) ⌝ }
 {
     let s: &[u8] = work;
     let few = counts::within(c);
-    let mut letters = [0u8; 84480];
+    let mut letters = [0u8; MOST_LETTERS];
     names::put(&mut letters, 0, text, work, few);
     let n = names::count(text, work, few);
     let ns = bytes::part(&letters, 0, n);

@@ -3,6 +3,8 @@ use crate::described::Outcome;
 use crate::described::whole;
 use crate::judging::judge;
 use call_answers::read::Answer;
+use parse_array::Work;
+use parse_array::layout::WORK_SIZE;
 use parse_held::Tally;
 use parse_image::whole::write_image;
 use store_words::slices;
@@ -31,7 +33,7 @@ fn refuse(image: &mut [u8], f: Fault) -> Answer
 }
 
 // The text that the array holds, judged and written.
-fn written(text: &[u8], work: &[u8; 275296], c: Tally, image: &mut [u8]) -> Answer
+fn written(text: &[u8], work: &Work, c: Tally, image: &mut [u8]) -> Answer
     ensures { λ r. ⌜ Writes (now (text .entry)) (now (work .entry)) c (length (now (image .entry))) (called r (now (image .exit))) ⌝ }
 {
     let fault = judge(text, work, c);
@@ -47,7 +49,7 @@ fn parsed(text: &[u8], image: &mut [u8]) -> Answer
     ensures { λ r. ⌜ called r (now (image .exit)) ≡ L.readCall (length (now (image .entry))) (L.afterGrammar (parse (scan (now (text .entry)) .words) (length (now (text .entry))))) ⌝ }
     ensures { λ _. ⌜ Short (L.readCall (length (now (image .entry))) (L.afterGrammar (parse (scan (now (text .entry)) .words) (length (now (text .entry))))) .answer) ⌝ }
 {
-    let mut work = [0u8; 275296];
+    let mut work = [0u8; WORK_SIZE];
     let outcome = whole::described(text, &mut work);
     match outcome {
         Outcome::Refused(f) => refuse(image, f),

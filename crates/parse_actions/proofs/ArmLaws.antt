@@ -39,6 +39,7 @@ use Rattle.parse_tables.specs.Rows.{Wrote}
 use Rattle.text_words.specs.declared.Position.{Position}
 use Rattle.text_words.specs.declared.Word.{Word}
 use Rattle.text_words.specs.Meaning.{positioned}
+use Rattle.parse_array.specs.Layout.{mostActions}
 use Rattle.parse_actions.proofs.Laying.{first-kept, headed, laid-added, laid-written}
 use Rattle.parse_actions.proofs.ListLaws.{at-level, level-same}
 use Rattle.parse_actions.proofs.ListWords.{do-comes, else-comes, no-do}
@@ -65,7 +66,7 @@ module _ (q : Bool) {text : List ℕ} {n : Counts} {w : Word} {s : State} {acts 
     pub arm-not : (r .answer .verdict ≡ Done → ⊥) → Arm q text n w s acts work work₂ r
     arm-not m sc st = record { done = λ d. absurd (m d); refused = λ g d K b. begins K b ∙ list-in sc st .refused g d K (withLists b (T.done ∷ b .lists)); full = list-in sc st .full }
 
-    pub arm-says : positioned at ≡ D.nowhere → r .answer .verdict ≡ Done → {work₃ : List ℕ} → (acts < 4352 → Wrote Tb.Actions acts (actionBytes (D.arm (r .actions - acts - 1))) work₂ work₃) → Arm q text n w s acts work work₃ r
+    pub arm-says : positioned at ≡ D.nowhere → r .answer .verdict ≡ Done → {work₃ : List ℕ} → (acts < mostActions → Wrote Tb.Actions acts (actionBytes (D.arm (r .actions - acts - 1))) work₂ work₃) → Arm q text n w s acts work work₃ r
     unfolding joined listNo expressionsIn nodesIn actionsIn actionsOf
     arm-says p d {work₃} v₀ sc st =
         let y = list-in sc st .done d in

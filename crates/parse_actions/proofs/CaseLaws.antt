@@ -28,6 +28,7 @@ use Rattle.parse_tables.specs.declared.Table.the-variants as Tb
 use Rattle.parse_tables.specs.Rows.{Wrote}
 use Rattle.text_words.specs.declared.Word.{Word}
 use Rattle.text_words.specs.Meaning.{positioned}
+use Rattle.parse_array.specs.Layout.{mostActions}
 use Rattle.parse_actions.proofs.EndLaws.{choose-written, concluded}
 use Rattle.parse_actions.proofs.Laying.{headed}
 use Rattle.parse_actions.proofs.Room.{few-actions, few-nodes}
@@ -59,7 +60,7 @@ module _ (q : Bool) {text : List ℕ} {n : Counts} {w : Word} {s : State} {acts 
     }
 
     pub case-says : a .acted .answer .verdict ≡ Done → {t : Answer} → Expected text endCaseWord Closes (a .acted .answer .next) (a .acted .answer .state) t → {work₃ : List ℕ}
-        → (acts < 4352 → Wrote Tb.Actions acts (actionBytes (D.choose (c .answer .state .nodes - 1) (a .count) (a .acted .actions - acts - 1))) work₂ work₃) → Conditional q true text n w s acts work work₃ (record { answer = t; actions = a .acted .actions })
+        → (acts < mostActions → Wrote Tb.Actions acts (actionBytes (D.choose (c .answer .state .nodes - 1) (a .count) (a .acted .actions - acts - 1))) work₂ work₃) → Conditional q true text n w s acts work work₃ (record { answer = t; actions = a .acted .actions })
     unfolding wordNo expressionNo listNo joined ending armsIn
     case-says d {t} u {work₃} v₀ e sc st =
         concluded q st (h .entered) (h .laid .count) (o .paid) (o .standing) (v .still) (T.choose (positioned (w .at)) (h .tree) (o .tree) T.done) written u (omega arith) (treeSteps .makeChoose)

@@ -25,6 +25,7 @@ use Rattle.parse_expressions.specs.Phrases.{same}
 use Rattle.parse_stores.proofs.Standings.{standing-after}
 use Rattle.parse_stores.specs.Actions.{Paid, Reads, Standing, Written, frontOf, grown}
 use Rattle.text_words.specs.declared.Word.{Word}
+use Rattle.parse_array.specs.Layout.{workSize}
 use Rattle.parse_actions.proofs.Laying.{laid-written}
 use Rattle.parse_actions.specs.Laid.{Laid}
 use Rattle.parse_actions.specs.Lists.{Entered, actionAsk}
@@ -71,7 +72,7 @@ paid-whole {s} {s₁} {s₂} {s₃} {acts} a f p c n k =
     }
 
 pub concluded : (q : Bool) {text : List ℕ} {sc : Scope} {n : M.Counts} {w : Word} {s : State} {acts : ℕ} {work : List ℕ} → Standing text sc n w s acts work → {s₁ : State} {acts₁ : ℕ} → Entered s s₁ → acts₁ ≡ acts + 1
-    → {w₂ : Word} {s₂ : State} {acts₂ : ℕ} {work₂ work₃ : List ℕ} → Paid s₁ (acts₁ + 1) s₂ acts₂ → Standing text sc n w₂ s₂ acts₂ work₂ → length work₃ ≡ 275296
+    → {w₂ : Word} {s₂ : State} {acts₂ : ℕ} {work₂ work₃ : List ℕ} → Paid s₁ (acts₁ + 1) s₂ acts₂ → Standing text sc n w₂ s₂ acts₂ work₂ → length work₃ ≡ workSize
     → (whole : Actions) → Written sc whole s acts work s₂ acts₂ work₃ → {k : ℕ} {t : Answer} → Expected text k Closes w₂ s₂ t → 3 ≤ k → (f : Step Built) (mid : Built → Built)
     → ((K : Stack) (b : Built) → runs text (ask (actionAsk q) ∷ K) w b s ≡ runs text (word k closes ∷ make f ∷ K) w₂ (mid b) s₂) → ((b : Built) (p : L.Position) → f p (mid b) ≡ grown whole b)
     → Reads text sc n (ask (actionAsk q) ∷ []) [] (same text) w s acts work work₃ (record { answer = t; actions = acts₂ })

@@ -33,6 +33,7 @@ use Rattle.parse_tables.specs.declared.Table.the-variants as Tb
 use Rattle.parse_tables.specs.Rows.{Wrote}
 use Rattle.text_words.specs.declared.Word.{Word}
 use Rattle.text_words.specs.Meaning.{positioned}
+use Rattle.parse_array.specs.Layout.{mostActions}
 use Rattle.parse_actions.proofs.ArmLaws.{paid-arms}
 use Rattle.parse_actions.proofs.EndLaws.{choose-written, concluded, when-written}
 use Rattle.parse_actions.proofs.Laying.{headed, place-again}
@@ -74,7 +75,7 @@ module _ (q : Bool) {text : List ℕ} {n : Counts} {w : Word} {s : State} {acts 
       -- ---- One arm.
 
       pub if-says : {z : Bool} → z ≡ eqb (kindNo (a .answer .next .kind)) endIfWord → z ≡ true → {t : Answer} → Expected text endIfWord Closes (a .answer .next) (a .answer .state) t → {work₃ : List ℕ}
-          → (acts < 4352 → c .actions < 4352 → OneBranch acts (c .actions) (c .answer .state .nodes - 1) (a .actions) (w .at) work₂ work₃) → Conditional q false text n w s acts work work₃ (record { answer = t; actions = a .actions })
+          → (acts < mostActions → c .actions < mostActions → OneBranch acts (c .actions) (c .answer .state .nodes - 1) (a .actions) (w .at) work₂ work₃) → Conditional q false text n w s acts work work₃ (record { answer = t; actions = a .actions })
       unfolding wordNo expressionNo listNo actionsOf actionsIn
       if-says f₁ f₂ {t} u {work₃} v₀ e sc st =
           concluded q st (h .entered) (h .laid .count) (o .paid) (o .standing) (v .place .still) (T.when (positioned (w .at)) (h .tree) (o .tree) T.done) written u (omega arith) (treeSteps .makeWhen) (held (h .tree) (o .tree))
@@ -121,7 +122,7 @@ module _ (q : Bool) {text : List ℕ} {n : Counts} {w : Word} {s : State} {acts 
         }
 
         pub if-else-says : o .answer .verdict ≡ Done → {t : Answer} → Expected text endIfWord Closes (o .answer .next) (o .answer .state) t → {work₄ : List ℕ}
-            → (acts < 4352 → Wrote Tb.Actions acts (actionBytes (D.choose (c .answer .state .nodes - 1) 2 (o .actions - acts - 1))) work₃ work₄) → Conditional q false text n w s acts work work₄ (record { answer = t; actions = o .actions })
+            → (acts < mostActions → Wrote Tb.Actions acts (actionBytes (D.choose (c .answer .state .nodes - 1) 2 (o .actions - acts - 1))) work₃ work₄) → Conditional q false text n w s acts work work₄ (record { answer = t; actions = o .actions })
         unfolding wordNo expressionNo listNo joined armsIn
         if-else-says d {t} u {work₄} v₀ e sc st =
             concluded q st (h .entered) (h .laid .count) (paid-arms (c .actions) (p .paid) (r .paid)) (r .standing) (v .still) (T.choose (positioned (w .at)) (h .tree) arms T.done) written u (omega arith) (treeSteps .makeIf)

@@ -19,11 +19,11 @@ use Rattle.image_records.proofs.ActionLaws.{action-length}
 use Rattle.image_records.proofs.ByteLaws.{placed-whole}
 use Rattle.image_records.specs.Placed.{placed}
 use Rattle.parse_stores.proofs.Joining.{bytes-append}
-use Rattle.parse_stores.proofs.Keeping.{front-kept, others-other, rows-other}
+use Rattle.parse_stores.proofs.Keeping.{front-kept, others-other}
 use Rattle.parse_stores.proofs.ReachedLaws.{front-held, nodes-none, other-held}
 use Rattle.parse_stores.specs.Actions.{OthersKept, Written, actionBesides, actionRecords, frontOf}
 use Rattle.parse_tables.proofs.OtherRecords.{place-length}
-use Rattle.parse_tables.proofs.RowLaws.{kept-more}
+use Rattle.parse_tables.proofs.RowLaws.{kept-more, rows-other}
 use Rattle.parse_tables.specs.Actions.{ActionAdded}
 use Rattle.parse_tables.specs.declared.Table.{Table}
 use Rattle.parse_tables.specs.declared.Table.the-variants as T
@@ -32,6 +32,7 @@ use Rattle.text_words.specs.declared.Position.{Position}
 use Rattle.text_words.specs.Meaning.{positioned}
 use Rattle.parse_array.proofs.NodesAdded.{nodes-append}
 use Rattle.parse_array.specs.Held.{Held, held, otherIn, withNodes}
+use Rattle.parse_array.specs.Layout.{actionPlacesFrom, mostActions, mostNodes, otherFrom, workSize}
 use Rattle.parse_actions.specs.Laid.{Laid}
 
 -- ---- Lists of actions.
@@ -81,7 +82,7 @@ bytes-one : (f : NotedAction → List ℕ) (x : NotedAction) → f x ≡ concat 
 unfolding concat
 bytes-one f x = sym (append-nil (f x))
 
-pub laid-added : {acts : ℕ} {a : D.Action} {at : Position} {work work′ : List ℕ} (s : State) → ActionAdded acts a at work work′ true → length work ≡ 275296 → s .nodes ≤ 15888
+pub laid-added : {acts : ℕ} {a : D.Action} {at : Position} {work work′ : List ℕ} (s : State) → ActionAdded acts a at work work′ true → length work ≡ workSize → s .nodes ≤ mostNodes
     → Laid 0 [] 1 (act a (positioned at) ∷ []) s acts work s (acts + 1) work′
 laid-added {acts} {a} {at} {work} {work′} s x l h = record {
   nodes = omega arith;
@@ -126,13 +127,13 @@ row-again : (t : Table) (n m : ℕ) {bs w w′ : List ℕ} (front old rest : Lis
     → Wrote t n bs w w′ → rows t m w′ ≡ front ++ (bs ++ rest)
 row-again t n m {bs} front old rest e p l h k x = x .instead m h k ∙ ap (λ (v : List ℕ). placed v (size t * n) bs) e ∙ middle front old rest bs (size t * n) p l
 
-action-rows : (n : ℕ) (w : List ℕ) → length w ≡ 275296 → n ≤ 4352 → actionSize * n ≡ length (rows T.Actions n w)
+action-rows : (n : ℕ) (w : List ℕ) → length w ≡ workSize → n ≤ mostActions → actionSize * n ≡ length (rows T.Actions n w)
 unfolding rows
-action-rows n w l h = sym (length-take-le (actionSize * n) (drop 222432 w) (omega (arith, length-drop 222432 w)))
+action-rows n w l h = sym (length-take-le (actionSize * n) (drop otherFrom w) (omega (arith, length-drop otherFrom w)))
 
-place-rows : (n : ℕ) (w : List ℕ) → length w ≡ 275296 → n ≤ 4352 → 2 * n ≡ length (rows T.ActionPlaces n w)
+place-rows : (n : ℕ) (w : List ℕ) → length w ≡ workSize → n ≤ mostActions → 2 * n ≡ length (rows T.ActionPlaces n w)
 unfolding rows
-place-rows n w l h = sym (length-take-le (2 * n) (drop 252896 w) (omega (arith, length-drop 252896 w)))
+place-rows n w l h = sym (length-take-le (2 * n) (drop actionPlacesFrom w) (omega (arith, length-drop actionPlacesFrom w)))
 
 still : (ts : List Table) (w : List ℕ) → Kept ts w w
 still ts w = record { tables = λ u e m h. refl; front = refl }
@@ -143,7 +144,7 @@ first-kept {w′ = w′} k = kept-more k (still (T.ActionPlaces ∷ []) w′) .t
 pub place-kept : {w w′ : List ℕ} → Kept (T.ActionPlaces ∷ []) w w′ → OthersKept w w′
 place-kept {w} k = kept-more (still (T.Actions ∷ []) w) k .tables
 
-module _ {k : ℕ} {ns : List Noted} {m : ℕ} {s : State} {acts : ℕ} {work : List ℕ} {s′ : State} {acts′ : ℕ} {work′ work″ : List ℕ} (l : length work ≡ 275296) (few : acts′ ≤ 4352) (room : s′ .nodes ≤ 15888) where
+module _ {k : ℕ} {ns : List Noted} {m : ℕ} {s : State} {acts : ℕ} {work : List ℕ} {s′ : State} {acts′ : ℕ} {work′ work″ : List ℕ} (l : length work ≡ workSize) (few : acts′ ≤ mostActions) (room : s′ .nodes ≤ mostNodes) where
   -- The first record.
   pub first-again : (x : NotedAction) (ys : List NotedAction) (z : D.Action) → 0 < m → Laid k ns m (x ∷ ys) s acts work s′ acts′ work′ → Wrote T.Actions acts (actionBytes z) work′ work″
       → Laid k ns m (act z (x .at) ∷ ys) s acts work s′ acts′ work″
@@ -180,6 +181,6 @@ module _ {k : ℕ} {ns : List Noted} {m : ℕ} {s : State} {acts : ℕ} {work : 
 
 -- A record, then those of a list that belong to it, and the record written again.
 pub headed : {sc : Scope} {k : ℕ} {ns : List Noted} {x : NotedAction} {s : State} {acts : ℕ} {work : List ℕ} {s₁ : State} {acts₁ : ℕ} {work₁ : List ℕ} (t : Actions) {s₂ : State} {acts₂ : ℕ} {work₂ work₃ : List ℕ} (z : D.Action)
-    → length work ≡ 275296 → acts₂ ≤ 4352 → s₂ .nodes ≤ 15888 → Laid k ns 1 (x ∷ []) s acts work s₁ acts₁ work₁ → Written sc t s₁ acts₁ work₁ s₂ acts₂ work₂ → Wrote T.Actions acts (actionBytes z) work₂ work₃
+    → length work ≡ workSize → acts₂ ≤ mostActions → s₂ .nodes ≤ mostNodes → Laid k ns 1 (x ∷ []) s acts work s₁ acts₁ work₁ → Written sc t s₁ acts₁ work₁ s₂ acts₂ work₂ → Wrote T.Actions acts (actionBytes z) work₂ work₃
     → Laid (k + expressionsIn t) (ns ++ nodesIn sc (s₁ .nodes) t) (1 + actionsIn t) (act z (x .at) ∷ actionsOf sc (s₁ .nodes) t) s acts work s₂ acts₂ work₃
 headed {sc} {x = x} {s₁ = s₁} t z l few room a b w = first-again l few room x (actionsOf sc (s₁ .nodes) t) z (omega arith) (laid-then a (written-laid b)) w

@@ -13,9 +13,10 @@ use Rattle.parse_stores.proofs.Keeping.{known-kept}
 use Rattle.parse_stores.proofs.Standings.{few-states}
 use Rattle.parse_stores.specs.Actions.{OthersKept, Standing}
 use Rattle.text_words.specs.declared.Word.{Word}
+use Rattle.parse_array.specs.Layout.{mostNodes, workSize}
 
 module _ {text : List ℕ} {sc : Scope} {n : Counts} {w : Word} {s : State} {acts : ℕ} {work : List ℕ} where
-  pub standing-kept : {work′ : List ℕ} → Standing text sc n w s acts work → OthersKept work work′ → length work′ ≡ 275296 → Standing text sc n w s acts work′
+  pub standing-kept : {work′ : List ℕ} → Standing text sc n w s acts work → OthersKept work work′ → length work′ ≡ workSize → Standing text sc n w s acts work′
   standing-kept {work′} st o l = record {
     seen = st .seen;
     short = st .short;
@@ -35,5 +36,5 @@ module _ {text : List ℕ} {sc : Scope} {n : Counts} {w : Word} {s : State} {act
   pub few-actions : Standing text sc n w s acts work → acts ≤ 4096
   few-actions st = omega (arith, st .actions, few-counted (countsOf s) (st .within))
 
-  pub few-nodes : Standing text sc n w s acts work → s .nodes ≤ 15888
+  pub few-nodes : Standing text sc n w s acts work → s .nodes ≤ mostNodes
   few-nodes st = omega (arith, st .nodes, few-counted (countsOf s) (st .within), few-states (countsOf s) (st .within))

@@ -1,5 +1,6 @@
 // What lists and conditionals are made of besides themselves: words looked for, and the records that are written again.
 use image_records::actions::Action;
+use parse_array::Work;
 use parse_step::Answer;
 use parse_step::Bearing;
 use parse_step::adding;
@@ -24,6 +25,7 @@ ghost use Rattle.language.specs.Encode.{actionBytes};
 ghost use Rattle.language.specs.Kinds.{callSign, endIfWord, gotoSign, returnWord};
 ghost use Rattle.parse_tables.specs.declared.Table.the-variants as T;
 ghost use Rattle.parse_tables.specs.Rows.{Wrote};
+ghost use Rattle.parse_array.specs.Layout.{mostActions};
 ghost use Rattle.parse_actions.specs.Lists.{OneBranch};
 
 // Whether a word is of a kind.
@@ -62,23 +64,23 @@ pub fn answered(answer: Answer, actions: u16) -> Acted
 }
 
 // Writes the record of an arm again: those behind it belong to it.
-pub fn arm_again(work: &mut [u8; 275296], acts: u16, count: u16)
-    ensures { λ _. ⌜ (acts < 4352 → Wrote T.Actions acts (actionBytes (D.arm (count - acts - 1))) (now (work .entry)) (now (work .exit))) ⌝ }
+pub fn arm_again(work: &mut Work, acts: u16, count: u16)
+    ensures { λ _. ⌜ (acts < mostActions → Wrote T.Actions acts (actionBytes (D.arm (count - acts - 1))) (now (work .entry)) (now (work .exit))) ⌝ }
 {
     actions::rewrite_action(work, acts, Action::Arm(behind(acts, count)));
 }
 
 // Writes the record of a conditional with arms again; the last of `nodes` records is its condition's.
-pub fn choose_again(work: &mut [u8; 275296], acts: u16, nodes: u16, arms: u16, count: u16)
-    ensures { λ _. ⌜ (acts < 4352 → Wrote T.Actions acts (actionBytes (D.choose (nodes - 1) arms (count - acts - 1))) (now (work .entry)) (now (work .exit))) ⌝ }
+pub fn choose_again(work: &mut Work, acts: u16, nodes: u16, arms: u16, count: u16)
+    ensures { λ _. ⌜ (acts < mostActions → Wrote T.Actions acts (actionBytes (D.choose (nodes - 1) arms (count - acts - 1))) (now (work .entry)) (now (work .exit))) ⌝ }
 {
     let action = Action::Choose(adding::last(nodes), arms, behind(acts, count));
     actions::rewrite_action(work, acts, action);
 }
 
 // Writes the record of IF without ELSE again, whose word is w; its one arm has its place.
-pub fn when_again(work: &mut [u8; 275296], acts: u16, arm: u16, nodes: u16, count: u16, w: Word)
-    ensures { λ _. ⌜ (acts < 4352 → arm < 4352 → OneBranch acts arm (nodes - 1) count (w .at) (now (work .entry)) (now (work .exit))) ⌝ }
+pub fn when_again(work: &mut Work, acts: u16, arm: u16, nodes: u16, count: u16, w: Word)
+    ensures { λ _. ⌜ (acts < mostActions → arm < mostActions → OneBranch acts arm (nodes - 1) count (w .at) (now (work .entry)) (now (work .exit))) ⌝ }
 {
     let action = Action::When(adding::last(nodes), behind(acts, count));
     actions::rewrite_action(work, acts, action);

@@ -1,5 +1,6 @@
 // Lists of actions and conditionals (the manual, 7.1 and 8.2), read as the machine of the grammar reads them.
 use image_records::actions::Action;
+use parse_array::Work;
 use parse_levels::Level;
 use parse_names::Counts;
 use parse_step::Bearing;
@@ -30,7 +31,7 @@ pub fn list(
     in_state: bool,
     text: &[u8],
     w: Word,
-    work: &mut [u8; 275296],
+    work: &mut Work,
     n: Counts,
     acts: u16,
 ) -> Acted
@@ -67,7 +68,7 @@ fn another(
     in_state: bool,
     text: &[u8],
     w: Word,
-    work: &mut [u8; 275296],
+    work: &mut Work,
     n: Counts,
     acts: u16,
 ) -> Acted
@@ -87,7 +88,7 @@ pub fn action(
     in_state: bool,
     text: &[u8],
     w: Word,
-    work: &mut [u8; 275296],
+    work: &mut Work,
     n: Counts,
     acts: u16,
 ) -> Acted
@@ -105,14 +106,7 @@ pub fn action(
 }
 
 // A conditional up to its first arm. Its record is written again when those that belong to it are counted.
-fn condition(
-    s: State,
-    case: bool,
-    text: &[u8],
-    w: Word,
-    work: &mut [u8; 275296],
-    acts: u16,
-) -> Acted
+fn condition(s: State, case: bool, text: &[u8], w: Word, work: &mut Work, acts: u16) -> Acted
     ensures { λ r. ⌜ ((m : M.Counts) → Condition case (now (text .entry)) m w s acts (now (work .entry)) (now (work .exit)) r) × Deeper s (r .answer) ⌝ }
 {
     let opened = taking::take(text, w, s, true, Bearing::Opens);
@@ -139,7 +133,7 @@ fn when(
     in_state: bool,
     text: &[u8],
     w: Word,
-    work: &mut [u8; 275296],
+    work: &mut Work,
     n: Counts,
     acts: u16,
 ) -> Acted
@@ -197,7 +191,7 @@ fn otherwise(
     in_state: bool,
     text: &[u8],
     w: Word,
-    work: &mut [u8; 275296],
+    work: &mut Work,
     n: Counts,
     acts: u16,
 ) -> Acted
@@ -217,7 +211,7 @@ fn cases(
     in_state: bool,
     text: &[u8],
     w: Word,
-    work: &mut [u8; 275296],
+    work: &mut Work,
     n: Counts,
     acts: u16,
 ) -> Acted
@@ -263,7 +257,7 @@ fn arms(
     in_state: bool,
     text: &[u8],
     w: Word,
-    work: &mut [u8; 275296],
+    work: &mut Work,
     n: Counts,
     acts: u16,
 ) -> Armed
@@ -300,7 +294,7 @@ fn next_arm(
     in_state: bool,
     text: &[u8],
     w: Word,
-    work: &mut [u8; 275296],
+    work: &mut Work,
     n: Counts,
     acts: u16,
 ) -> Acted
@@ -320,7 +314,7 @@ fn arm(
     in_state: bool,
     text: &[u8],
     w: Word,
-    work: &mut [u8; 275296],
+    work: &mut Work,
     n: Counts,
     acts: u16,
 ) -> Acted
@@ -345,7 +339,7 @@ fn plain(
     in_state: bool,
     text: &[u8],
     w: Word,
-    work: &mut [u8; 275296],
+    work: &mut Work,
     n: Counts,
     acts: u16,
 ) -> Acted
@@ -367,7 +361,7 @@ fn named(
     in_state: bool,
     text: &[u8],
     w: Word,
-    work: &mut [u8; 275296],
+    work: &mut Work,
     n: Counts,
     acts: u16,
 ) -> Acted
@@ -384,7 +378,7 @@ fn named(
 }
 
 // An action of a state that begins with a sign.
-fn signed(s: State, text: &[u8], w: Word, work: &mut [u8; 275296], n: Counts, acts: u16) -> Acted
+fn signed(s: State, text: &[u8], w: Word, work: &mut Work, n: Counts, acts: u16) -> Acted
     ensures { λ r. ⌜ Signed (now (text .entry)) n w s acts (now (work .entry)) (now (work .exit)) r ⌝ }
 {
     let found = w.kind;

@@ -13,7 +13,8 @@ use Rattle.language.specs.Naming.{numberOf}
 use Rattle.language.specs.Scan.{same}
 use Rattle.language.specs.Tree.{Name}
 use Rattle.image_records.proofs.NumberLaws.{number-two}
-use Rattle.parse_array.specs.Held.{otherFrom, otherIn}
+use Rattle.parse_array.specs.Held.{otherIn}
+use Rattle.parse_array.specs.Layout.{facilityNamesFrom, otherFrom}
 use Rattle.parse_array.specs.Names.{letters, nameNo, namesFrom, namesIn}
 
 -- The names from number k on.
@@ -25,16 +26,16 @@ number-behind n w at =
     let e : n + at + 1 ≡ n + (at + 1) = omega arith in
     number-two at (drop n w) ∙ rw (getD-drop n w at 0, getD-drop n w (at + 1) 0, number-two (n + at) w, e)
 
-in-other : (w : List ℕ) (at : ℕ) → numberAt 2 at (otherIn w) ≡ numberAt 2 (222432 + at) w
-unfolding otherIn otherFrom
-in-other w at = number-behind 222432 w at
+in-other : (w : List ℕ) (at : ℕ) → numberAt 2 at (otherIn w) ≡ numberAt 2 (otherFrom + at) w
+unfolding otherIn
+in-other w at = number-behind otherFrom w at
 
 -- The name that stands in the table.
-pub name-at : (text w : List ℕ) (k : ℕ) → nameNo text (otherIn w) k ≡ map folded (take (numberAt 2 (271712 + 4 * k + 2) w) (drop (numberAt 2 (271712 + 4 * k) w) text))
+pub name-at : (text w : List ℕ) (k : ℕ) → nameNo text (otherIn w) k ≡ map folded (take (numberAt 2 (facilityNamesFrom + 4 * k + 2) w) (drop (numberAt 2 (facilityNamesFrom + 4 * k) w) text))
 unfolding nameNo namesFrom letters
 name-at text w k =
-    let e : 222432 + (49280 + 4 * k) ≡ 271712 + 4 * k = omega arith in
-    let f : 222432 + (49280 + 4 * k + 2) ≡ 271712 + 4 * k + 2 = omega arith in
+    let e : otherFrom + (49280 + 4 * k) ≡ facilityNamesFrom + 4 * k = omega arith in
+    let f : otherFrom + (49280 + 4 * k + 2) ≡ facilityNamesFrom + 4 * k + 2 = omega arith in
     rw (in-other w (49280 + 4 * k), in-other w (49280 + 4 * k + 2), e, f)
 
 module _ (text other : List ℕ) (n : ℕ) (name : Name) (k : ℕ) where
@@ -60,7 +61,7 @@ module _ (text other : List ℕ) (n : ℕ) (name : Name) (k : ℕ) where
 
 -- A word and a name of the table, compared in the text.
 pub compared : (text w : List ℕ) {name other : List ℕ} (place size k : ℕ) {p l : ℕ} {b : Bool} → name ≡ take size (drop place text)
-    → p ≡ numberAt 2 (271712 + 4 * k) w → l ≡ numberAt 2 (271712 + 4 * k + 2) w → other ≡ take l (drop p text)
+    → p ≡ numberAt 2 (facilityNamesFrom + 4 * k) w → l ≡ numberAt 2 (facilityNamesFrom + 4 * k + 2) w → other ≡ take l (drop p text)
     → b ≡ same (map folded name) (map folded other) → same (letters text place size) (nameNo text (otherIn w) k) ≡ b
 unfolding letters
 compared text w place size k e f g h i = rw (name-at text w k, ← f, ← g, ← h, ← e) (sym i)

@@ -8,7 +8,8 @@ use lib.Seq.{drop-at, drop-drop, length-take-le, take-add, take-append-le, take-
 use Rattle.image_records.proofs.ByteLaws.{placed-length, placed-whole}
 use Rattle.image_records.specs.Placed.{placed}
 use Rattle.language.specs.Encode.{nodeSize}
-use Rattle.parse_array.specs.Held.{Held, held, mostNodes, otherFrom, otherIn, placesFrom, withBytes}
+use Rattle.parse_array.specs.Held.{Held, held, otherIn, withBytes}
+use Rattle.parse_array.specs.Layout.{mostNodes, otherFrom, placesFrom, workSize}
 
 pub same-held : {x x′ y y′ z z′ : List ℕ} → x ≡ x′ → y ≡ y′ → z ≡ z′ → _≡_ {A = Held} (record { nodes = x; places = y; other = z }) (record { nodes = x′; places = y′; other = z′ })
 same-held p q r = rw (p, q, r)
@@ -51,24 +52,24 @@ added-in s bs p i h =
     ∙ drop-at (take p s) (take i (drop p s) ++ bs) p (length-take-le p s (omega arith))
 
 -- A record and its places, with room for both.
-pub record-added : (w bs ps : List ℕ) (n : ℕ) → length w ≡ 275296 → n < mostNodes → length bs ≡ 8 → length ps ≡ 6
-    → held (n + 1) (placed (placed w (nodeSize * n) bs) (127104 + 6 * n) ps) ≡ withBytes (held n w) bs ps
-unfolding mostNodes placesFrom otherFrom otherIn held
+pub record-added : (w bs ps : List ℕ) (n : ℕ) → length w ≡ workSize → n < mostNodes → length bs ≡ 8 → length ps ≡ 6
+    → held (n + 1) (placed (placed w (nodeSize * n) bs) (placesFrom + 6 * n) ps) ≡ withBytes (held n w) bs ps
+unfolding otherIn held
 record-added w bs ps n l h b p =
     let w₁ = placed w (nodeSize * n) bs in
-    let l₁ : length w₁ ≡ 275296 = placed-length w bs (nodeSize * n) ∙ l in
+    let l₁ : length w₁ ≡ workSize = placed-length w bs (nodeSize * n) ∙ l in
     let e : nodeSize * (n + 1) ≡ nodeSize * n + length bs = omega arith in
     let f : 6 * (n + 1) ≡ 6 * n + length ps = omega arith in
-    let x : take (nodeSize * (n + 1)) (placed w₁ (127104 + 6 * n) ps) ≡ take (nodeSize * n) w ++ bs =
-    before-kept w₁ ps (127104 + 6 * n) (omega arith) (nodeSize * (n + 1)) (omega arith) ∙ rw e (added w bs (nodeSize * n) (omega arith)) in
-    let y : take (6 * (n + 1)) (drop 127104 (placed w₁ (127104 + 6 * n) ps)) ≡ take (6 * n) (drop 127104 w) ++ ps =
-    rw f (added-in w₁ ps 127104 (6 * n) (omega arith)) ∙ ap (λ (v : List ℕ). take (6 * n) v ++ ps) (after-kept w bs (nodeSize * n) (omega arith) 127104 (omega arith)) in
-    let z : drop 222432 (placed w₁ (127104 + 6 * n) ps) ≡ drop 222432 w =
-    after-kept w₁ ps (127104 + 6 * n) (omega arith) 222432 (omega arith) ∙ after-kept w bs (nodeSize * n) (omega arith) 222432 (omega arith) in
+    let x : take (nodeSize * (n + 1)) (placed w₁ (placesFrom + 6 * n) ps) ≡ take (nodeSize * n) w ++ bs =
+    before-kept w₁ ps (placesFrom + 6 * n) (omega arith) (nodeSize * (n + 1)) (omega arith) ∙ rw e (added w bs (nodeSize * n) (omega arith)) in
+    let y : take (6 * (n + 1)) (drop placesFrom (placed w₁ (placesFrom + 6 * n) ps)) ≡ take (6 * n) (drop placesFrom w) ++ ps =
+    rw f (added-in w₁ ps placesFrom (6 * n) (omega arith)) ∙ ap (λ (v : List ℕ). take (6 * n) v ++ ps) (after-kept w bs (nodeSize * n) (omega arith) placesFrom (omega arith)) in
+    let z : drop otherFrom (placed w₁ (placesFrom + 6 * n) ps) ≡ drop otherFrom w =
+    after-kept w₁ ps (placesFrom + 6 * n) (omega arith) otherFrom (omega arith) ∙ after-kept w bs (nodeSize * n) (omega arith) otherFrom (omega arith) in
     same-held x y z
 
-pub record-written : (w bs : List ℕ) {w₁ w₂ bs′ ps′ : List ℕ} (ps : List ℕ) (n : ℕ) → length w ≡ 275296 → n < mostNodes → length bs ≡ 8 → length ps ≡ 6
-    → w₁ ≡ placed w (nodeSize * n) bs′ → bs′ ≡ bs → w₂ ≡ placed w₁ (127104 + 6 * n) ps′ → ps′ ≡ ps
+pub record-written : (w bs : List ℕ) {w₁ w₂ bs′ ps′ : List ℕ} (ps : List ℕ) (n : ℕ) → length w ≡ workSize → n < mostNodes → length bs ≡ 8 → length ps ≡ 6
+    → w₁ ≡ placed w (nodeSize * n) bs′ → bs′ ≡ bs → w₂ ≡ placed w₁ (placesFrom + 6 * n) ps′ → ps′ ≡ ps
     → held (n + 1) w₂ ≡ withBytes (held n w) bs ps
 record-written w bs ps n l h b p e f g i = rw (g, e, f, i) (record-added w bs ps n l h b p)
 

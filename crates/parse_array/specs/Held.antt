@@ -9,16 +9,7 @@ use Rattle.language.specs.Encode.{concat, nodeBytes, nodeSize, two}
 use Rattle.judge_records.specs.Noted.{nodeBesideBytes}
 use Rattle.parse_array.specs.declared.constants.Room.{Room}
 use Rattle.parse_array.specs.declared.nodes.Beside.{Beside}
-
-unfoldable pub mostNodes : ℕ
-mostNodes = 15888
-
--- Where the places of expressions begin, and the other sections.
-unfoldable pub placesFrom : ℕ
-placesFrom = 127104
-
-unfoldable pub otherFrom : ℕ
-otherFrom = 222432
+use Rattle.parse_array.specs.Layout.{mostNodes, otherFrom, placesFrom}
 
 pub record Held : Type 0 where
   pub nodes : List ℕ

@@ -1,4 +1,5 @@
 // A constant's records: the digits of a wide one above the lowest, the highest first, and its own.
+use crate::Work;
 use crate::nodes;
 use crate::places;
 use image_records::constants;
@@ -30,7 +31,7 @@ fn digit_of(v: Value, i: u16) -> u64
 }
 
 // Adds the records of a constant behind n others.
-pub fn add_constant(work: &mut [u8; 275296], n: u16, v: Value, at: Position) -> Room
+pub fn add_constant(work: &mut Work, n: u16, v: Value, at: Position) -> Room
     ensures { λ r. ⌜ Grew n (constantNodes (valued v) (positioned at)) (constantSize (valued v)) (now (work .entry)) (now (work .exit)) r ⌝ }
 {
     let beside = places::plain(at);

@@ -1,22 +1,21 @@
-// The working array of reading, of 275,296 bytes: the records of the sections as they are made, the places of their words beside them, and the names declared so far.
-// From byte 0 on stand the expressions' records, from 127,104 on their places, from 222,432 on the other sections, and from 271,712 on the names of facilities.
+// The working array of reading: the records of the sections as they are made, the places of their words beside them, and the names declared so far.
+use crate::layout::WORK_SIZE;
 ghost use mathlib.Core.Path.{_≡_};
 ghost use lib.ListN.{length};
+ghost use Rattle.parse_array.specs.Layout.{workSize};
 
 pub mod bounds;
 pub mod constants;
+pub mod layout;
 pub mod names;
 pub mod nodes;
 pub mod places;
 
-// How many expression records there is room for, and where their places begin.
-pub const MOST_NODES: u16 = 15888;
-
-pub const NODE_PLACES: usize = 127104;
+pub type Work = [u8; WORK_SIZE];
 
 // The array has all its bytes: said, so that it is known behind a write.
-pub fn whole(work: &[u8; 275296]) -> usize
-    ensures { λ r. ⌜ length (now (work .entry)) ≡ 275296 ⌝ }
+pub fn whole(work: &Work) -> usize
+    ensures { λ r. ⌜ length (now (work .entry)) ≡ workSize ⌝ }
 {
     let s: &[u8] = work;
     s.len()

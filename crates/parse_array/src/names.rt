@@ -1,4 +1,7 @@
 // What a name means among the facilities declared so far: its first declaration.
+use crate::Work;
+use crate::layout::FACILITY_NAMES;
+use crate::layout::MOST_FACILITIES;
 use image_records::bytes;
 use image_records::numbers;
 use text_characters::names;
@@ -7,11 +10,6 @@ ghost use Prim.Native.Nat.{_≤_, min};
 ghost use Rattle.language.specs.Naming.{numberOf};
 ghost use Rattle.parse_array.specs.Held.{otherIn};
 ghost use Rattle.parse_array.specs.Names.{found, letters, namesIn};
-
-// Where the facilities' names begin: four bytes each, the place and the size of the word that declared it.
-const FACILITY_NAMES: usize = 271712;
-
-const MOST_FACILITIES: u16 = 256;
 
 pub enum Found {
     At(u8),
@@ -30,7 +28,7 @@ fn held(n: u16) -> u16
 }
 
 // The number of the first of n facilities that has the name of the word of that place and size.
-pub fn facility(text: &[u8], work: &[u8; 275296], n: u16, place: usize, size: usize) -> Found
+pub fn facility(text: &[u8], work: &Work, n: u16, place: usize, size: usize) -> Found
     ensures { λ r. ⌜ found r ≡ numberOf (letters (now (text .entry)) place size) 0 (namesIn (now (text .entry)) (otherIn (now (work .entry))) n) ⌝ }
 {
     let s: &[u8] = work;

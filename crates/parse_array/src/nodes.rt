@@ -1,6 +1,7 @@
 // Expression records, one behind the other, and the places of their words.
-use crate::MOST_NODES;
-use crate::NODE_PLACES;
+use crate::Work;
+use crate::layout::MOST_NODES;
+use crate::layout::NODE_PLACES;
 use image_records::bytes;
 use image_records::node_bytes;
 use image_records::nodes::Node;
@@ -18,7 +19,7 @@ pub struct Beside {
 }
 
 // Adds record n with its places; answers whether there was room.
-pub fn add_node(work: &mut [u8; 275296], n: u16, node: Node, v: u64, beside: Beside) -> bool
+pub fn add_node(work: &mut Work, n: u16, node: Node, v: u64, beside: Beside) -> bool
     ensures { λ r. ⌜ Added n (nodeBytes (meant v node)) (fields beside) (now (work .entry)) (now (work .exit)) r ⌝ }
 {
     let s: &mut [u8] = work;

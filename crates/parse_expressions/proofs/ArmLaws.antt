@@ -20,8 +20,9 @@ use Rattle.judge_records.specs.Noted.{nodeBesideBytes}
 use Rattle.language.specs.Kinds.{doWord}
 use Rattle.text_words.specs.declared.Word.{Word}
 use Rattle.text_words.specs.Meaning.{positioned}
-use Rattle.parse_array.specs.Held.{Held, held, mostNodes, withNodes}
+use Rattle.parse_array.specs.Held.{Held, held, withNodes}
 use Rattle.parse_array.proofs.NodesAdded.{nodes-append}
+use Rattle.parse_array.specs.Layout.{mostNodes}
 use Rattle.parse_step.specs.declared.Answer.{Answer}
 use Rattle.parse_step.specs.declared.Bearing.the-variants.{Closes, Level, Opens}
 use Rattle.parse_step.specs.declared.State.{State}
@@ -117,9 +118,9 @@ pub record Armings (case : Bool) (text : List ℕ) (w : Word) (s : State) (work 
   pub reads : (sc : Scope) → Here text sc w s work → (h : Held) (base : ℕ) (t : Expression) → Pending sc h base t s work
       → Read text sc (moreStack case) (moreStack case) (pushed t) h base (s .nesting) w s (stayed state next) work′
   pub counts : (sc : Scope) (i : Here text sc w s work) (h : Held) (base : ℕ) (t : Expression) (p : Pending sc h base t s work) → n ≡ armsOf t % 65536 → count ≡ armsOf (reads sc i h base t p .tree) % 65536
-  pub room : (sc : Scope) → Here text sc w s work → (h : Held) (base : ℕ) (t : Expression) → Pending sc h base t s work → s .nodes + 15888 ≤ state .nodes + left
+  pub room : (sc : Scope) → Here text sc w s work → (h : Held) (base : ℕ) (t : Expression) → Pending sc h base t s work → s .nodes + mostNodes ≤ state .nodes + left
 
-pub armings-begin : (case : Bool) {text : List ℕ} {w : Word} {s : State} {work : List ℕ} {n : ℕ} → Armings case text w s work n w s work n 15888
+pub armings-begin : (case : Bool) {text : List ℕ} {w : Word} {s : State} {work : List ℕ} {n : ℕ} → Armings case text w s work n w s work n mostNodes
 armings-begin case = record {
   reads = λ sc h q base t p. record { tree = t; course = λ K b. refl; pending = p; nesting = refl; here = h };
   counts = λ sc i q base t p e. e;
@@ -156,7 +157,6 @@ module _ (case : Bool) {text : List ℕ} {w : Word} {s : State} {work : List ℕ
       )
 
   pub armings-full : left ≤ 0 → {r : Answer} → r ≡ record { verdict = Full; next = next; state = state } → MoreArms case n text w s work work₁ (record { answer = r; count = count })
-  unfolding mostNodes
   armings-full e {r} f sc h q base t p i =
       rw f (record { done = λ d. done-full (sym d); refused = λ g d. refused-full (sym d); full = λ d. omega (arith, v .room sc h q base t p, e) }, λ d. done-full (sym d))
 

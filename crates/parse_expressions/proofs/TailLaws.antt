@@ -18,8 +18,9 @@ use Rattle.judge_records.specs.Noted.{nodeBesideBytes}
 use Rattle.language.specs.Kinds.{aConstant}
 use Rattle.text_words.specs.declared.Word.{Word}
 use Rattle.text_words.specs.Meaning.{positioned}
-use Rattle.parse_array.specs.Held.{Held, mostNodes, withNodes}
+use Rattle.parse_array.specs.Held.{Held, withNodes}
 use Rattle.parse_array.proofs.NodesAdded.{nodes-append}
+use Rattle.parse_array.specs.Layout.{mostNodes}
 use Rattle.parse_step.specs.declared.Answer.{Answer}
 use Rattle.parse_step.specs.declared.Bearing.the-variants.{Level}
 use Rattle.parse_step.specs.declared.State.{State}
@@ -47,9 +48,9 @@ use Rattle.parse_expressions.proofs.StartLaws.{at-same}
 pub record Tails (rank : Rank) (text : List ℕ) (w : Word) (s : State) (work : List ℕ) (next : Word) (state : State) (work′ : List ℕ) (left : ℕ) : Type 0 where
   pub reads : (sc : Scope) → Here text sc w s work → (h : Held) (base : ℕ) (t : Expression) → Pending sc h base t s work
       → Read text sc (tailStack rank) (tailStack rank) (pushed t) h base (s .nesting) w s (stayed state next) work′
-  pub room : (sc : Scope) → Here text sc w s work → (h : Held) (base : ℕ) (t : Expression) → Pending sc h base t s work → s .nodes + 15888 ≤ state .nodes + left
+  pub room : (sc : Scope) → Here text sc w s work → (h : Held) (base : ℕ) (t : Expression) → Pending sc h base t s work → s .nodes + mostNodes ≤ state .nodes + left
 
-pub tails-begin : (rank : Rank) {text : List ℕ} {w : Word} {s : State} {work : List ℕ} → Tails rank text w s work w s work 15888
+pub tails-begin : (rank : Rank) {text : List ℕ} {w : Word} {s : State} {work : List ℕ} → Tails rank text w s work w s work mostNodes
 tails-begin rank = record {
   reads = λ sc h q base t p. record { tree = t; course = λ K b. refl; pending = p; nesting = refl; here = h };
   room = λ sc h q base t p. omega arith;
@@ -93,7 +94,6 @@ module _ (rank : Rank) {text : List ℕ} {w : Word} {s : State} {work : List ℕ
       })
 
   pub tails-full : left ≤ 0 → {r : Answer} → r ≡ record { verdict = Full; next = next; state = state } → Extends (tailStack rank) [] (s .nesting) text w s work work₁ r
-  unfolding mostNodes
   tails-full e f sc h q base t p = rw f (record { done = λ d. done-full (sym d); refused = λ g d. refused-full (sym d); full = λ d. omega (arith, v .room sc h q base t p, e) })
 
   module _ (e : among (kindNo (next .kind)) (operatorsOf rank) ≡ true) {i : State} (g : i ≡ atNesting state (s .nesting)) {work₂ : List ℕ} {r : Answer} (x : Operates rank text next i work₁ work₂ r) where

@@ -1,5 +1,7 @@
 // Expressions and references (the manual, 5.1 and 5.2): a recursive descent that writes their records, against the machine of the grammar.
 use crate::pieces::Armed;
+use parse_array::Work;
+use parse_array::layout::MOST_NODES;
 use parse_levels::Head;
 use parse_levels::Level;
 use parse_levels::Rank;
@@ -31,7 +33,7 @@ ghost use Rattle.parse_expressions.specs.Phrases.{Arms, Begins, FirstArm
 pub mod pieces;
 
 // An expression of a level.
-pub fn start(s: State, level: Level, text: &[u8], w: Word, work: &mut [u8; 275296]) -> Answer
+pub fn start(s: State, level: Level, text: &[u8], w: Word, work: &mut Work) -> Answer
     ensures { λ r. ⌜ Parses (stackOf level) same (s .nesting) (now (text .entry)) w s (now (work .entry)) (now (work .exit)) r × Spends (now (text .entry)) 0 w s r ⌝ }
 {
     let head = heads::head_of(level, kinds::kind_of(w));
@@ -44,7 +46,7 @@ pub fn start(s: State, level: Level, text: &[u8], w: Word, work: &mut [u8; 27529
 }
 
 // Its first operand, with what stands before it.
-fn opening(s: State, head: Head, text: &[u8], w: Word, work: &mut [u8; 275296]) -> Answer
+fn opening(s: State, head: Head, text: &[u8], w: Word, work: &mut Work) -> Answer
     ensures { λ r. ⌜ Begins head (now (text .entry)) w s (now (work .entry)) (now (work .exit)) r × Spends (now (text .entry)) 0 w s r ⌝ }
 {
     if let Head::Plain = head {
@@ -67,7 +69,7 @@ fn opening(s: State, head: Head, text: &[u8], w: Word, work: &mut [u8; 275296]) 
 }
 
 // The operators of a level from a rank on, behind an operand.
-fn rest(s: State, rank: Rank, level: Level, text: &[u8], w: Word, work: &mut [u8; 275296]) -> Answer
+fn rest(s: State, rank: Rank, level: Level, text: &[u8], w: Word, work: &mut Work) -> Answer
     ensures { λ r. ⌜ Extends (tailsFrom rank level) [] (s .nesting) (now (text .entry)) w s (now (work .entry)) (now (work .exit)) r × Spends (now (text .entry)) 1 w s r ⌝ }
 {
     if ranks::within(rank, level) {
@@ -82,12 +84,12 @@ fn rest(s: State, rank: Rank, level: Level, text: &[u8], w: Word, work: &mut [u8
 }
 
 // The operators of a rank; a relation comes at most once. Each writes a record, so that they end before the array is full.
-fn tail(s: State, rank: Rank, text: &[u8], w: Word, work: &mut [u8; 275296]) -> Answer
+fn tail(s: State, rank: Rank, text: &[u8], w: Word, work: &mut Work) -> Answer
     ensures { λ r. ⌜ Extends (tailStack rank) [] (s .nesting) (now (text .entry)) w s (now (work .entry)) (now (work .exit)) r × Spends (now (text .entry)) 1 w s r ⌝ }
 {
     let mut state = s;
     let mut next = w;
-    let mut left: u16 = 15888;
+    let mut left: u16 = MOST_NODES;
     while left > 0 {
         if pieces::operates(rank, next) {
             let one = operation(pieces::at(state, s.nesting), rank, text, next, work);
@@ -108,7 +110,7 @@ fn tail(s: State, rank: Rank, text: &[u8], w: Word, work: &mut [u8; 275296]) -> 
 }
 
 // An operator of a rank and what is on its right.
-fn operation(s: State, rank: Rank, text: &[u8], w: Word, work: &mut [u8; 275296]) -> Answer
+fn operation(s: State, rank: Rank, text: &[u8], w: Word, work: &mut Work) -> Answer
     ensures { λ r. ⌜ Operates rank (now (text .entry)) w s (now (work .entry)) (now (work .exit)) r × Spends (now (text .entry)) 1 w s r ⌝ }
 {
     let taken = taking::take(text, w, s, true, Bearing::Level);
@@ -126,7 +128,7 @@ fn operation(s: State, rank: Rank, text: &[u8], w: Word, work: &mut [u8; 275296]
 }
 
 // A term.
-fn term(s: State, text: &[u8], w: Word, work: &mut [u8; 275296]) -> Answer
+fn term(s: State, text: &[u8], w: Word, work: &mut Work) -> Answer
     ensures { λ r. ⌜ Parses (ask L.term ∷ []) same (s .nesting) (now (text .entry)) w s (now (work .entry)) (now (work .exit)) r × Spends (now (text .entry)) 0 w s r ⌝ }
 {
     let kind = kinds::kind_of(w);
@@ -149,7 +151,7 @@ fn term(s: State, text: &[u8], w: Word, work: &mut [u8; 275296]) -> Answer
 }
 
 // An expression in parentheses.
-fn group(s: State, text: &[u8], w: Word, work: &mut [u8; 275296]) -> Answer
+fn group(s: State, text: &[u8], w: Word, work: &mut Work) -> Answer
     ensures { λ r. ⌜ (kindNo (w .kind) ≡ openParen → Parses (ask L.term ∷ []) same (s .nesting) (now (text .entry)) w s (now (work .entry)) (now (work .exit)) r) × Spends (now (text .entry)) 0 w s r ⌝ }
 {
     let opened = taking::take(text, w, s, false, Bearing::Opens);
@@ -170,7 +172,7 @@ fn group(s: State, text: &[u8], w: Word, work: &mut [u8; 275296]) -> Answer
 }
 
 // A reference, from its name on.
-fn named(s: State, text: &[u8], w: Word, work: &mut [u8; 275296]) -> Answer
+fn named(s: State, text: &[u8], w: Word, work: &mut Work) -> Answer
     ensures { λ r. ⌜ (kindNo (w .kind) ≡ aName → Parses (ask L.term ∷ []) same (s .nesting) (now (text .entry)) w s (now (work .entry)) (now (work .exit)) r) × Spends (now (text .entry)) 0 w s r ⌝ }
 {
     let taken = taking::take(text, w, s, true, Bearing::Level);
@@ -181,7 +183,7 @@ fn named(s: State, text: &[u8], w: Word, work: &mut [u8; 275296]) -> Answer
 }
 
 // The rest of a reference, behind its name.
-pub fn reference(s: State, name: Word, text: &[u8], w: Word, work: &mut [u8; 275296]) -> Answer
+pub fn reference(s: State, name: Word, text: &[u8], w: Word, work: &mut Work) -> Answer
     ensures { λ r. ⌜ Parses (ask L.subscripts ∷ []) (afterName name) (s .nesting) (now (text .entry)) w s (now (work .entry)) (now (work .exit)) r × Spends (now (text .entry)) 2 w s r ⌝ }
 {
     if kinds::kind_of(w) == text_kinds::OPEN_BRACKET {
@@ -195,7 +197,7 @@ pub fn reference(s: State, name: Word, text: &[u8], w: Word, work: &mut [u8; 275
 }
 
 // A reference behind its first bracket.
-pub fn subscript(s: State, name: Word, text: &[u8], w: Word, work: &mut [u8; 275296]) -> Answer
+pub fn subscript(s: State, name: Word, text: &[u8], w: Word, work: &mut Work) -> Answer
     ensures { λ r. ⌜ Parses (ask L.subscript ∷ []) (afterName name) (s .nesting - 1) (now (text .entry)) w s (now (work .entry)) (now (work .exit)) r × Spends (now (text .entry)) 2 w s r ⌝ }
 {
     if taking::ends_ahead(text, w) {
@@ -228,7 +230,7 @@ pub fn subscript(s: State, name: Word, text: &[u8], w: Word, work: &mut [u8; 275
 }
 
 // A reference with one subscript, and perhaps a second one in brackets of its own.
-fn single(s: State, name: Word, text: &[u8], w: Word, work: &mut [u8; 275296]) -> Answer
+fn single(s: State, name: Word, text: &[u8], w: Word, work: &mut Work) -> Answer
     ensures { λ r. ⌜ Second L.secondOption name (s .nesting) (now (text .entry)) w s (now (work .entry)) (now (work .exit)) r × Spends (now (text .entry)) 2 w s r ⌝ }
 {
     if kinds::kind_of(w) == text_kinds::OPEN_BRACKET {
@@ -242,7 +244,7 @@ fn single(s: State, name: Word, text: &[u8], w: Word, work: &mut [u8; 275296]) -
 }
 
 // A reference behind its first subscript.
-fn second(s: State, name: Word, text: &[u8], w: Word, work: &mut [u8; 275296]) -> Answer
+fn second(s: State, name: Word, text: &[u8], w: Word, work: &mut Work) -> Answer
     ensures { λ r. ⌜ Second L.second name (s .nesting - 1) (now (text .entry)) w s (now (work .entry)) (now (work .exit)) r × Spends (now (text .entry)) 2 w s r ⌝ }
 {
     if taking::ends_ahead(text, w) {
@@ -274,7 +276,7 @@ fn second(s: State, name: Word, text: &[u8], w: Word, work: &mut [u8; 275296]) -
 }
 
 // An expression in brackets, which may begin with a constant that no colon follows.
-fn inside(s: State, later: bool, text: &[u8], w: Word, work: &mut [u8; 275296]) -> Answer
+fn inside(s: State, later: bool, text: &[u8], w: Word, work: &mut Work) -> Answer
     ensures { λ r. ⌜ Inside later (now (text .entry)) w s (now (work .entry)) (now (work .exit)) r × Spends (now (text .entry)) 0 w s r ⌝ }
 {
     if kinds::kind_of(w) == text_kinds::CONSTANT {
@@ -300,7 +302,7 @@ fn inside(s: State, later: bool, text: &[u8], w: Word, work: &mut [u8; 275296]) 
 }
 
 // A conditional: IF, or CASE.
-fn choice(s: State, case: bool, text: &[u8], w: Word, work: &mut [u8; 275296]) -> Answer
+fn choice(s: State, case: bool, text: &[u8], w: Word, work: &mut Work) -> Answer
     ensures { λ r. ⌜ (kindNo (w .kind) ≡ choiceWord case → Parses (ask L.term ∷ []) same (s .nesting) (now (text .entry)) w s (now (work .entry)) (now (work .exit)) r) × Spends (now (text .entry)) 0 w s r ⌝ }
 {
     let opened = taking::take(text, w, s, true, Bearing::Opens);
@@ -331,7 +333,7 @@ fn choice(s: State, case: bool, text: &[u8], w: Word, work: &mut [u8; 275296]) -
 }
 
 // The arms of a conditional.
-fn arms(s: State, case: bool, text: &[u8], w: Word, work: &mut [u8; 275296]) -> Armed
+fn arms(s: State, case: bool, text: &[u8], w: Word, work: &mut Work) -> Armed
     ensures { λ r. ⌜ Arms case (now (text .entry)) w s (now (work .entry)) (now (work .exit)) r × Spends (now (text .entry)) 1 w s (r .answer) ⌝ }
 {
     let first = first_arm(s, pieces::first_word(case), text, w, work);
@@ -354,7 +356,7 @@ fn arms(s: State, case: bool, text: &[u8], w: Word, work: &mut [u8; 275296]) -> 
 }
 
 // The first arm, behind its word.
-fn first_arm(s: State, separator: u8, text: &[u8], w: Word, work: &mut [u8; 275296]) -> Answer
+fn first_arm(s: State, separator: u8, text: &[u8], w: Word, work: &mut Work) -> Answer
     ensures { λ r. ⌜ FirstArm separator (now (text .entry)) w s (now (work .entry)) (now (work .exit)) r × (3 ≤ separator → Spends (now (text .entry)) 1 w s r) ⌝ }
 {
     let word = taking::expect(text, w, s, separator, Bearing::Level);
@@ -370,7 +372,7 @@ fn first_arm(s: State, separator: u8, text: &[u8], w: Word, work: &mut [u8; 2752
 }
 
 // An arm behind others.
-fn next_arm(s: State, separator: u8, text: &[u8], w: Word, work: &mut [u8; 275296]) -> Answer
+fn next_arm(s: State, separator: u8, text: &[u8], w: Word, work: &mut Work) -> Answer
     ensures { λ r. ⌜ NextArm separator (now (text .entry)) w s (now (work .entry)) (now (work .exit)) r × (3 ≤ separator → Spends (now (text .entry)) 1 w s r) ⌝ }
 {
     let word = taking::expect(text, w, s, separator, Bearing::Level);
@@ -386,13 +388,13 @@ fn next_arm(s: State, separator: u8, text: &[u8], w: Word, work: &mut [u8; 27529
 }
 
 // Further arms of CASE, behind n. Each writes a record, so that they end before the array is full.
-fn more_arms(s: State, case: bool, n: u16, text: &[u8], w: Word, work: &mut [u8; 275296]) -> Armed
+fn more_arms(s: State, case: bool, n: u16, text: &[u8], w: Word, work: &mut Work) -> Armed
     ensures { λ r. ⌜ MoreArms case n (now (text .entry)) w s (now (work .entry)) (now (work .exit)) r × Spends (now (text .entry)) 1 w s (r .answer) ⌝ }
 {
     let mut state = s;
     let mut next = w;
     let mut count = n;
-    let mut left: u16 = 15888;
+    let mut left: u16 = MOST_NODES;
     while left > 0 {
         if pieces::another(case, next) {
             let one = next_arm(

@@ -1,5 +1,6 @@
 // What the descent is made of besides itself: signs, records of operators, the parts of references.
 use image_records::nodes::Node;
+use parse_array::Work;
 use parse_array::places;
 use parse_levels::Head;
 use parse_levels::Rank;
@@ -161,7 +162,7 @@ pub fn once(rank: Rank) -> bool
 }
 
 // The record of the prefix operator w, behind its operand's.
-pub fn add_prefix(s: State, w: Word, next: Word, work: &mut [u8; 275296]) -> Answer
+pub fn add_prefix(s: State, w: Word, next: Word, work: &mut Work) -> Answer
     ensures { λ r. ⌜ gains (D.prefix (kindNo (w .kind)) (s .nodes - 1)) (positioned (w .at)) next (easedState s) (now (work .entry)) (now (work .exit)) r ⌝ }
 {
     let kind = w.kind;
@@ -172,7 +173,7 @@ pub fn add_prefix(s: State, w: Word, next: Word, work: &mut [u8; 275296]) -> Ans
 }
 
 // The record of the operator w, whose left operand's record is `left`.
-pub fn add_binary(s: State, left: u16, w: Word, next: Word, work: &mut [u8; 275296]) -> Answer
+pub fn add_binary(s: State, left: u16, w: Word, next: Word, work: &mut Work) -> Answer
     ensures { λ r. ⌜ gains (D.binary (kindNo (w .kind)) left (s .nodes - 1)) (positioned (w .at)) next s (now (work .entry)) (now (work .exit)) r ⌝ }
 {
     let kind = w.kind;
@@ -183,7 +184,7 @@ pub fn add_binary(s: State, left: u16, w: Word, next: Word, work: &mut [u8; 2752
 }
 
 // An arm's record: the first, or one behind the arm of record `before`.
-pub fn add_first_arm(s: State, next: Word, work: &mut [u8; 275296]) -> Answer
+pub fn add_first_arm(s: State, next: Word, work: &mut Work) -> Answer
     ensures { λ r. ⌜ gains (D.firstArm (s .nodes - 1)) D.nowhere next s (now (work .entry)) (now (work .exit)) r ⌝ }
 {
     let beside = places::plain(text_words::places::position(0));
@@ -197,7 +198,7 @@ pub fn add_first_arm(s: State, next: Word, work: &mut [u8; 275296]) -> Answer
     )
 }
 
-pub fn add_next_arm(s: State, before: u16, next: Word, work: &mut [u8; 275296]) -> Answer
+pub fn add_next_arm(s: State, before: u16, next: Word, work: &mut Work) -> Answer
     ensures { λ r. ⌜ gains (D.nextArm before (s .nodes - 1)) D.nowhere next s (now (work .entry)) (now (work .exit)) r ⌝ }
 {
     let beside = places::plain(text_words::places::position(0));
@@ -212,7 +213,7 @@ pub fn add_choice(
     count: u16,
     w: Word,
     next: Word,
-    work: &mut [u8; 275296],
+    work: &mut Work,
 ) -> Answer
     ensures { λ r. ⌜ gains (D.choice condition (s .nodes - 1) count) (positioned (w .at)) next s (now (work .entry)) (now (work .exit)) r ⌝ }
 {
@@ -223,7 +224,7 @@ pub fn add_choice(
 }
 
 // A part of a facility, between constants that have been seen.
-pub fn part(s: State, name: Word, text: &[u8], w: Word, work: &mut [u8; 275296]) -> Answer
+pub fn part(s: State, name: Word, text: &[u8], w: Word, work: &mut Work) -> Answer
     ensures { λ r. ⌜ (endsAhead (ahead (now (text .entry)) w) ≡ true → Parses (L.ask L.subscript ∷ []) (afterName name) (s .nesting - 1) (now (text .entry)) w s (now (work .entry)) (now (work .exit)) r) × Spends (now (text .entry)) 2 w s r ⌝ }
 {
     let ends = constants::ends_of(s, text, w);
@@ -243,7 +244,7 @@ pub fn part(s: State, name: Word, text: &[u8], w: Word, work: &mut [u8; 275296])
 }
 
 // A part of a word, whose own subscript has been read.
-pub fn word_part(s: State, name: Word, text: &[u8], w: Word, work: &mut [u8; 275296]) -> Answer
+pub fn word_part(s: State, name: Word, text: &[u8], w: Word, work: &mut Work) -> Answer
     ensures { λ r. ⌜ (endsAhead (ahead (now (text .entry)) w) ≡ true → Second L.second name (s .nesting - 1) (now (text .entry)) w s (now (work .entry)) (now (work .exit)) r) × Spends (now (text .entry)) 2 w s r ⌝ }
 {
     let ends = constants::ends_of(s, text, w);

@@ -21,7 +21,8 @@ use Rattle.parse_tables.specs.Names.{namesOf}
 use Rattle.parse_tables.specs.Rows.{expressions, rows}
 use Rattle.text_words.specs.declared.Word.{Word}
 use Rattle.parse_array.proofs.Regions.{part-of, same-held}
-use Rattle.parse_array.specs.Held.{Held, held, mostNodes, otherFrom, otherIn, placesFrom, withNodes}
+use Rattle.parse_array.specs.Held.{Held, held, otherIn, withNodes}
+use Rattle.parse_array.specs.Layout.{facilityNamesFrom, mostNodes, otherFrom, placesFrom, workSize}
 use Rattle.parse_array.specs.Names.{namesIn}
 use Rattle.parse_facilities.proofs.Appended.{besides-last, facilities-last, length-last, names-last, records-last, store-last}
 use Rattle.parse_facilities.specs.Listed.{Added, Awaiting, Listed, Says, besides, knownState, noneHeld}
@@ -29,19 +30,19 @@ use Rattle.parse_facilities.specs.Listed.{Added, Awaiting, Listed, Says,
 -- ---- Expressions stay while the tables change.
 
 -- What the array holds of n expressions lies before the tables.
-front-held : (n : ℕ) (w w′ : List ℕ) → length w ≡ 275296 → n ≤ mostNodes → expressions w′ ≡ expressions w
+front-held : (n : ℕ) (w w′ : List ℕ) → length w ≡ workSize → n ≤ mostNodes → expressions w′ ≡ expressions w
     → (ns : List Noted) → held n w ≡ withNodes (noneHeld (otherIn w)) ns → held n w′ ≡ withNodes (noneHeld (otherIn w′)) ns
-unfolding held withNodes expressions mostNodes placesFrom otherFrom
+unfolding held withNodes expressions
 front-held n w w′ l h e ns g = same-held (first ∙ ap (λ (x : Held). x .nodes) g) (second ∙ ap (λ (x : Held). x .places) g) refl
   where
     first : take (nodeSize * n) w′ ≡ take (nodeSize * n) w
-    first = sym (take-take (nodeSize * n) 222432 w′ (omega arith)) ∙ ap (take (nodeSize * n)) e ∙ take-take (nodeSize * n) 222432 w (omega arith)
+    first = sym (take-take (nodeSize * n) otherFrom w′ (omega arith)) ∙ ap (take (nodeSize * n)) e ∙ take-take (nodeSize * n) otherFrom w (omega arith)
 
-    front : (v : List ℕ) → 222432 ≤ length v → take (6 * n) (drop 127104 v) ≡ drop 127104 (take (127104 + 6 * n) (take 222432 v))
-    front v m = part-of 127104 (6 * n) v (omega arith) ∙ ap (drop 127104) (sym (take-take (127104 + 6 * n) 222432 v (omega arith)))
+    front : (v : List ℕ) → otherFrom ≤ length v → take (6 * n) (drop placesFrom v) ≡ drop placesFrom (take (placesFrom + 6 * n) (take otherFrom v))
+    front v m = part-of placesFrom (6 * n) v (omega arith) ∙ ap (drop placesFrom) (sym (take-take (placesFrom + 6 * n) otherFrom v (omega arith)))
 
-    second : take (6 * n) (drop 127104 w′) ≡ take (6 * n) (drop 127104 w)
-    second = front w′ (omega (arith, length-take 222432 w, length-take 222432 w′, ap length e)) ∙ ap (λ (v : List ℕ). drop 127104 (take (127104 + 6 * n) v)) e ∙ sym (front w (omega arith))
+    second : take (6 * n) (drop placesFrom w′) ≡ take (6 * n) (drop placesFrom w)
+    second = front w′ (omega (arith, length-take otherFrom w, length-take otherFrom w′, ap length e)) ∙ ap (λ (v : List ℕ). drop placesFrom (take (placesFrom + 6 * n) v)) e ∙ sym (front w (omega arith))
 
 -- ---- The tables.
 
@@ -66,7 +67,7 @@ module _ (text : List ℕ) (ds : List Declaration) (d : Declaration) (place : �
 
   row-length : length (rows T.FacilityNames (s .known) w) ≡ 4 * s .known
   unfolding rows
-  row-length = length-take-le (4 * s .known) (drop 271712 w) (omega (arith, length-drop 271712 w, f .whole, a .room))
+  row-length = length-take-le (4 * s .known) (drop facilityNamesFrom w) (omega (arith, length-drop facilityNamesFrom w, f .whole, a .room))
 
   names : namesIn text (otherIn w′) (suc (s .known)) ≡ map (λ (v : Declaration). v .name) (ds ++ d ∷ [])
   names =

@@ -15,7 +15,8 @@ use Rattle.parse_tables.specs.declared.Table.the-variants as T
 use Rattle.parse_tables.specs.Facilities.{facilitySaid, placesSaid}
 use Rattle.parse_tables.specs.Rows.{rows}
 use Rattle.text_words.specs.declared.Word.{Word}
-use Rattle.parse_array.specs.Held.{Held, held, mostNodes, otherIn, withNodes}
+use Rattle.parse_array.specs.Held.{Held, held, otherIn, withNodes}
+use Rattle.parse_array.specs.Layout.{mostNodes}
 use Rattle.parse_array.specs.Names.{letters, namesIn}
 use Rattle.parse_facilities.specs.declared.Progress.{Progress}
 

@@ -1,5 +1,6 @@
 // A facility added to those declared.
 use crate::Progress;
+use parse_array::Work;
 use parse_step::Answer;
 use parse_step::State;
 use parse_step::Verdict;
@@ -28,7 +29,7 @@ fn one_known(s: State) -> State
 }
 
 // Adds a facility; the word after its declaration has been seen.
-pub fn declare(work: &mut [u8; 275296], next: Word, s: State, place: u16, x: Declared) -> Progress
+pub fn declare(work: &mut Work, next: Word, s: State, place: u16, x: Declared) -> Progress
     ensures { λ r. ⌜ Adds next s place x (now (work .entry)) (now (work .exit)) r ⌝ }
 {
     let n = s.known;

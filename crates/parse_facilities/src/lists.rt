@@ -3,6 +3,7 @@ use crate::List;
 use crate::Progress;
 use crate::stored;
 use image_sections::facilities::Kind;
+use parse_array::Work;
 use parse_step::Bearing;
 use parse_step::State;
 use parse_step::kinds;
@@ -11,7 +12,7 @@ use text_words::Word;
 ghost use Rattle.parse_facilities.specs.Lists.{Ends, Lists, Mores, Ones, Stands, listing};
 
 // One declaration of a list.
-fn one(text: &[u8], w: Word, work: &mut [u8; 275296], s: State, place: u16, list: List) -> Progress
+fn one(text: &[u8], w: Word, work: &mut Work, s: State, place: u16, list: List) -> Progress
     ensures { λ r. ⌜ Ones (listing list) (now (text .entry)) w s place (now (work .entry)) (now (work .exit)) r ⌝ }
 {
     match list {
@@ -42,7 +43,7 @@ pub fn ended(text: &[u8], w: Word, s: State, place: u16) -> Progress
 pub fn declarations(
     text: &[u8],
     w: Word,
-    work: &mut [u8; 275296],
+    work: &mut Work,
     s: State,
     place: u16,
     list: List,
@@ -65,7 +66,7 @@ pub fn declarations(
 }
 
 // Behind a declaration: others, and the end. Each counts a facility, so that there are not too many.
-fn more(text: &[u8], w: Word, work: &mut [u8; 275296], s: State, place: u16, list: List) -> Progress
+fn more(text: &[u8], w: Word, work: &mut Work, s: State, place: u16, list: List) -> Progress
     requires { ⌜ Stands (now text) place w s (now work) ⌝ }
     ensures { λ r. ⌜ Mores (listing list) (now (text .entry)) w s place (now (work .entry)) (now (work .exit)) r ⌝ }
 {

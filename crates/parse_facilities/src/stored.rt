@@ -3,6 +3,7 @@ use crate::Progress;
 use crate::adding;
 use crate::naming;
 use image_sections::facilities::Kind;
+use parse_array::Work;
 use parse_bounds::extents;
 use parse_step::Bearing;
 use parse_step::State;
@@ -14,14 +15,7 @@ use text_words::places;
 ghost use Rattle.parse_facilities.specs.Declares.{Registers, Stores};
 
 // A facility of a kind that is stored, by its name and dimensions.
-pub fn stored(
-    text: &[u8],
-    w: Word,
-    work: &mut [u8; 275296],
-    s: State,
-    place: u16,
-    kind: Kind,
-) -> Progress
+pub fn stored(text: &[u8], w: Word, work: &mut Work, s: State, place: u16, kind: Kind) -> Progress
     ensures { λ r. ⌜ Stores (now (text .entry)) w s place kind (now (work .entry)) (now (work .exit)) r ⌝ }
 {
     let answer = naming::facility_name(text, w, s);
@@ -48,7 +42,7 @@ pub fn stored(
 }
 
 // A register, or behind a `#` the sequencing register.
-pub fn register(text: &[u8], w: Word, work: &mut [u8; 275296], s: State, place: u16) -> Progress
+pub fn register(text: &[u8], w: Word, work: &mut Work, s: State, place: u16) -> Progress
     ensures { λ r. ⌜ Registers (now (text .entry)) w s place (now (work .entry)) (now (work .exit)) r ⌝ }
 {
     let kind = w.kind;

@@ -14,6 +14,7 @@ use Rattle.parse_tables.specs.declared.Table.{Table}
 use Rattle.parse_tables.specs.declared.Table.the-variants as T
 use Rattle.parse_tables.specs.Rows.{from, most, rows, size}
 use Rattle.parse_array.specs.Held.{held}
+use Rattle.parse_array.specs.Layout.{mostNodes, workSize}
 use Rattle.image_records.proofs.FilledLaws.{filled-more}
 use Rattle.language.specs.Encode.{actionSize, facilitySize, headerSize, nodeSize, operationSize, stateSize}
 use Rattle.parse_held.specs.declared.Tally.{Tally}
@@ -29,19 +30,19 @@ pub row-most : (t : Table) (n : ℕ) (w : List ℕ) → length (rows t n w) ≤ 
 unfolding rows
 row-most t n w = omega (arith, length-take (size t * n) (drop (from t) w))
 
-pub row-length : (t : Table) (n : ℕ) (w : List ℕ) → length w ≡ 275296 → n ≤ most t → length (rows t n w) ≡ size t * n
+pub row-length : (t : Table) (n : ℕ) (w : List ℕ) → length w ≡ workSize → n ≤ most t → length (rows t n w) ≡ size t * n
 unfolding rows
 row-length t n w l h =
     let e = mul-le-mul-left (size t) h in
     length-take-le (size t * n) (drop (from t) w) (omega (arith, e, ends-within t, length-drop (from t) w))
 
-pub node-length : (n : ℕ) (w : List ℕ) → length w ≡ 275296 → n ≤ 15888 → length (held n w .nodes) ≡ nodeSize * n
+pub node-length : (n : ℕ) (w : List ℕ) → length w ≡ workSize → n ≤ mostNodes → length (held n w .nodes) ≡ nodeSize * n
 unfolding held
 node-length n w l h = length-take-le (nodeSize * n) w (omega arith)
 
 -- ---- In an image.
 
-module _ (w : List ℕ) (c : Tally) (l : length w ≡ 275296) (few : Few c) where
+module _ (w : List ℕ) (c : Tally) (l : length w ≡ workSize) (few : Few c) where
   pub records-length : headerSize + length (recordsHeld w c) ≡ namesFrom (countsHeld c 0)
   unfolding recordsHeld
   records-length =

@@ -33,6 +33,7 @@ use Rattle.parse_held.proofs.NarrowBack.{names-narrow}
 use Rattle.parse_held.proofs.NodesFit.{AllFit, Here, NodeFits, fit-append, here-left, here-right}
 use Rattle.parse_held.proofs.TextNodesFit.{facility-nodes, operation-acts, operation-nodes, state-acts, state-nodes}
 use Rattle.parse_held.specs.NearTexts.{TextNear}
+use Rattle.parse_held.specs.Sections.{mostLetters}
 use Rattle.parse_held.specs.Standing.{FacilityNear, Marked, Near, Readable, endsOf, narrowFacility, narrowNode, narrowed}
 
 -- ---- By number.
@@ -219,7 +220,7 @@ module _ (t : Text) (tidy : TextTidy t) (near : TextNear t) (l : Option ℕ) (fi
     narrow-facilities : Each FacilityInRange (map narrowFacility (facilitiesOf 0 ds))
     narrow-facilities = each-map FacilityFit FacilityInRange narrowFacility (facilitiesOf 0 ds) (λ f r. r .range) facilities
 
-    pub names-few : length (nameBytes described) ≤ 84480
+    pub names-few : length (nameBytes described) ≤ mostLetters
     unfolding nameBytes
     names-few =
         let fs = facilitiesOf 0 ds in
@@ -339,6 +340,6 @@ module _ (t : Text) (tidy : TextTidy t) (near : TextNear t) (few : Counted (desc
   unfolding describe
   readable = text-readable t tidy near length-of fitting scope-of few-names few-named few-labels few
 
-  pub text-names : length (nameBytes (describe t .description)) ≤ 84480
+  pub text-names : length (nameBytes (describe t .description)) ≤ mostLetters
   unfolding describe
   text-names = names-few t tidy near length-of fitting scope-of few-names few-named few-labels few

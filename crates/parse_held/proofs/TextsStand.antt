@@ -29,7 +29,7 @@ use Rattle.parse_held.proofs.NotedBack.{faults-stand}
 use Rattle.parse_held.proofs.StandingLaws.{names-stand}
 use Rattle.parse_held.proofs.TextFits.{Counted, readable, text-names}
 use Rattle.parse_held.specs.declared.Tally.{Tally}
-use Rattle.parse_held.specs.Sections.{Few, besideHeld, namesHeld, sectionsHeld}
+use Rattle.parse_held.specs.Sections.{Few, besideHeld, mostLetters, namesHeld, sectionsHeld}
 use Rattle.parse_held.specs.Standing.{Stands, StandsBeside}
 
 nodes-most : (n : ℕ) (w : List ℕ) → length (held n w .nodes) ≤ nodeSize * n
@@ -52,7 +52,7 @@ module _ (text w : List ℕ) (c : Tally) (t : Text) {n : ℕ} (short : length te
   text-tidy = tidy derived (words-right text)
 
   -- Its names have room where judging puts them.
-  pub names-room : length (namesHeld text w c) ≤ 84480
+  pub names-room : length (namesHeld text w c) ≤ mostLetters
   names-room = rw (names-stand h) (text-names t text-tidy (text-near text t short derived) (counted (describe t .description) few h))
 
   pub text-judged : StandsBeside w c (describe t .description) (describe t .places)

@@ -14,6 +14,7 @@ use Rattle.language.specs.Reading.{filled, withRoom}
 use Rattle.language.specs.RecordBytes.{fours}
 use Rattle.image_records.specs.Placed.{placed}
 use Rattle.parse_tables.specs.declared.Table.the-variants as T
+use Rattle.parse_array.specs.Layout.{workSize}
 use Rattle.parse_held.proofs.BodyLaws.{node-length, records-length, row-length}
 use Rattle.image_records.proofs.FilledLaws.{filled-length, filled-more, filled-none}
 use Rattle.parse_held.specs.declared.Tally.{Tally}
@@ -57,7 +58,7 @@ module _ (text w : List ℕ) (c : Tally) where
 
 -- ---- The whole.
 
-module _ (text w : List ℕ) (c : Tally) (l : length w ≡ 275296) (few : Few c) where
+module _ (text w : List ℕ) (c : Tally) (l : length w ≡ workSize) (few : Few c) where
   abbrev counted : Counts
   counted = countsHeld c (length (namesHeld text w c))
 
@@ -90,7 +91,7 @@ module _ (text w : List ℕ) (c : Tally) (l : length w ≡ 275296) (few : Few c)
         rw (lt-leb (length (imageOf (sectionsHeld text w c))) (length i₀) (omega (arith, whole-length)), z)
 
     pub room : {i₂ i₃ i₄ : List ℕ} {k : Counts} → from + n ≤ length i₁ → k ≡ countsHeld c n → i₂ ≡ placed i₁ 0 (fours (headerNumbers k))
-        → ((p : List ℕ) → length w ≡ 275296 → Few c → length p ≡ 52 → i₂ ≡ filled (length i₂) p → namesFrom (countsHeld c 0) ≤ length i₂ → i₃ ≡ filled (length i₂) (p ++ recordsHeld w c))
+        → ((p : List ℕ) → length w ≡ workSize → Few c → length p ≡ 52 → i₂ ≡ filled (length i₂) p → namesFrom (countsHeld c 0) ≤ length i₂ → i₃ ≡ filled (length i₂) (p ++ recordsHeld w c))
         → ((p : List ℕ) → length p ≡ from → i₃ ≡ filled (length i₃) p → from + length (namesHeld text w c) ≤ length i₃ → i₄ ≡ filled (length i₃) (p ++ namesHeld text w c))
         → called (Accepted (from + n)) i₄ ≡ withRoom (length i₀) (imageOf (sectionsHeld text w c))
     room {i₂} {i₃} {i₄} h g a b d =

@@ -1,6 +1,6 @@
 -- The sections that the working array holds, and the places beside them.
 use mathlib.Core.List.{List, _++_}
-use Prim.Native.Nat.{ℕ, _≤_, min}
+use Prim.Native.Nat.{ℕ, _+_, _*_, _≤_, min}
 use Rattle.image_sections.specs.declared.header.Counts.{Counts}
 use Rattle.language.specs.Encode.{Sections, concat}
 use Rattle.judge_records.specs.Noted.{Beside}
@@ -9,24 +9,29 @@ use Rattle.parse_tables.specs.declared.Table.the-variants as T
 use Rattle.parse_tables.specs.Names.{namesOf}
 use Rattle.parse_tables.specs.Rows.{rows}
 use Rattle.parse_array.specs.Held.{held}
+use Rattle.parse_array.specs.Layout.{facilityRows, mostActions, mostNodes, operationRows, stateRows}
 use Rattle.parse_held.specs.declared.Tally.{Tally}
 
 -- The array has room for as many.
 pub record Few (c : Tally) : Type 0 where
-  pub facilities : c .facilities ≤ 256
-  pub operations : c .operations ≤ 128
-  pub nodes : c .nodes ≤ 15888
-  pub actions : c .actions ≤ 4352
-  pub states : c .states ≤ 256
+  pub facilities : c .facilities ≤ facilityRows
+  pub operations : c .operations ≤ operationRows
+  pub nodes : c .nodes ≤ mostNodes
+  pub actions : c .actions ≤ mostActions
+  pub states : c .states ≤ stateRows
 
 unfoldable pub within : Tally → Tally
 within c = record {
-  facilities = min (c .facilities) 256;
-  operations = min (c .operations) 128;
-  nodes = min (c .nodes) 15888;
-  actions = min (c .actions) 4352;
-  states = min (c .states) 256;
+  facilities = min (c .facilities) facilityRows;
+  operations = min (c .operations) operationRows;
+  nodes = min (c .nodes) mostNodes;
+  actions = min (c .actions) mostActions;
+  states = min (c .states) stateRows;
 }
+
+-- Letters of all names: at most a line's for each.
+abbrev pub mostLetters : ℕ
+mostLetters = 132 * (facilityRows + operationRows + stateRows)
 
 -- What a header counts, with the bytes of names.
 abbrev pub countsHeld : Tally → ℕ → Counts

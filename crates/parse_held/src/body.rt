@@ -2,6 +2,7 @@
 use crate::Tally;
 use image_records::bytes;
 use image_records::record_sizes;
+use parse_array::layout::NODE_PLACES;
 use parse_tables::Table;
 use parse_tables::rows;
 ghost use mathlib.Core.List.{List, _++_};
@@ -12,6 +13,7 @@ ghost use Rattle.image_sections.specs.Header.{namesFrom};
 ghost use Rattle.language.specs.Reading.{filled};
 ghost use Rattle.parse_tables.specs.Rows as R;
 ghost use Rattle.parse_array.specs.Held.{held};
+ghost use Rattle.parse_array.specs.Layout.{workSize};
 ghost use Rattle.parse_held.specs.Sections.{Few, countsHeld, recordsHeld};
 
 // The first n records of a table.
@@ -33,12 +35,12 @@ pub fn nodes_of(work: &[u8], n: u16) -> &[u8]
 pub fn node_places_of(work: &[u8], n: u16) -> &[u8]
     ensures { λ r. ⌜ now r ≡ held n (now (work .entry)) .places ⌝ }
 {
-    bytes::part(work, 127104, 6 * n as usize)
+    bytes::part(work, NODE_PLACES, 6 * n as usize)
 }
 
 // Writes the sections behind the header.
 pub fn put(image: &mut [u8], work: &[u8], c: Tally)
-    ensures { λ _. ⌜ ((p : List ℕ) → length (now (work .entry)) ≡ 275296 → Few c → length p ≡ 52 → now (image .entry) ≡ filled (length (now (image .entry))) p → namesFrom (countsHeld c 0) ≤ length (now (image .entry)) → now (image .exit) ≡ filled (length (now (image .entry))) (p ++ recordsHeld (now (work .entry)) c)) ⌝ }
+    ensures { λ _. ⌜ ((p : List ℕ) → length (now (work .entry)) ≡ workSize → Few c → length p ≡ 52 → now (image .entry) ≡ filled (length (now (image .entry))) p → namesFrom (countsHeld c 0) ≤ length (now (image .entry)) → now (image .exit) ≡ filled (length (now (image .entry))) (p ++ recordsHeld (now (work .entry)) c)) ⌝ }
 {
     let operations = record_sizes::HEADER + record_sizes::FACILITY * c.facilities as usize;
     let expressions = operations + record_sizes::OPERATION * c.operations as usize;

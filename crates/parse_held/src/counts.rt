@@ -2,6 +2,7 @@
 use crate::Tally;
 use image_records::record_sizes;
 use image_sections::header::Counts;
+use parse_array::layout;
 ghost use mathlib.Core.Path.{_≡_};
 ghost use Prim.Native.Nat.{_≤_, min};
 ghost use Rattle.image_sections.specs.Header.{namesFrom};
@@ -19,11 +20,11 @@ pub fn within(c: Tally) -> Tally
     ensures { λ r. ⌜ (r ≡ Within c) × Few r ⌝ }
 {
     Tally {
-        facilities: least(c.facilities, 256),
-        operations: least(c.operations, 128),
-        nodes: least(c.nodes, 15888),
-        actions: least(c.actions, 4352),
-        states: least(c.states, 256),
+        facilities: least(c.facilities, layout::MOST_FACILITIES),
+        operations: least(c.operations, layout::MOST_OPERATIONS),
+        nodes: least(c.nodes, layout::MOST_NODES),
+        actions: least(c.actions, layout::MOST_ACTIONS),
+        states: least(c.states, layout::MOST_STATES),
     }
 }
 

@@ -1,6 +1,7 @@
 // Names in capitals, from the places and sizes of their words in the text.
 use image_records::bytes;
 use image_records::numbers;
+use parse_array::Work;
 use parse_tables::Table;
 use parse_tables::rows;
 use text_characters::letters;
@@ -33,7 +34,7 @@ fn put_word(s: &mut [u8], at: usize, word: &[u8])
 }
 
 // The word of name k in a table of names.
-fn word_of<'a>(text: &'a [u8], work: &[u8; 275296], table: Table, k: u16) -> &'a [u8]
+fn word_of<'a>(text: &'a [u8], work: &Work, table: Table, k: u16) -> &'a [u8]
     ensures { λ r. ⌜ ((n : ℕ) → size table ≡ 4 → k < n → map folded (now r) ≡ nameAt (now (text .entry)) (R.rows table n (now (work .entry))) k) × (length (now r) ≤ 65535) ⌝ }
 {
     let s: &[u8] = work;
@@ -44,7 +45,7 @@ fn word_of<'a>(text: &'a [u8], work: &[u8; 275296], table: Table, k: u16) -> &'a
 }
 
 // How many letters the first n names of a table have.
-pub fn count(text: &[u8], work: &[u8; 275296], table: Table, n: u16) -> usize
+pub fn count(text: &[u8], work: &Work, table: Table, n: u16) -> usize
     ensures { λ r. ⌜ (size table ≡ 4 → r ≡ length (lettersOf (now (text .entry)) table n (now (work .entry)))) × (r ≤ 65535 * n) ⌝ }
 {
     let mut sum: usize = 0;
@@ -58,7 +59,7 @@ pub fn count(text: &[u8], work: &[u8; 275296], table: Table, n: u16) -> usize
 }
 
 // Writes them from a place on, where they fit; answers where they end.
-pub fn put(s: &mut [u8], at: usize, text: &[u8], work: &[u8; 275296], table: Table, n: u16) -> usize
+pub fn put(s: &mut [u8], at: usize, text: &[u8], work: &Work, table: Table, n: u16) -> usize
     requires { ⌜ at ≤ 0xffffffffff ⌝ }
     ensures { λ r. ⌜ (size table ≡ 4 → r ≡ at + length (lettersOf (now (text .entry)) table n (now (work .entry)))) × (r ≤ at + 65535 * n) × (size table ≡ 4 → at + length (lettersOf (now (text .entry)) table n (now (work .entry))) ≤ length (now (s .entry)) → now (s .exit) ≡ placed (now (s .entry)) at (lettersOf (now (text .entry)) table n (now (work .entry)))) ⌝ }
 {

@@ -1,6 +1,7 @@
 // The names of facilities, operations and states, one behind the other.
 use crate::Tally;
 use crate::letters;
+use parse_array::Work;
 use parse_tables::Table;
 ghost use mathlib.Core.List.{List, _++_};
 ghost use mathlib.Core.Path.{_≡_};
@@ -10,7 +11,7 @@ ghost use Rattle.language.specs.Reading.{filled};
 ghost use Rattle.parse_held.specs.Sections.{namesHeld};
 
 // How many letters they have.
-pub fn count(text: &[u8], work: &[u8; 275296], c: Tally) -> usize
+pub fn count(text: &[u8], work: &Work, c: Tally) -> usize
     ensures { λ r. ⌜ (r ≡ length (namesHeld (now (text .entry)) (now (work .entry)) c)) × (r ≤ 65535 * (c .facilities + (c .operations + c .states))) ⌝ }
 {
     let f = letters::count(text, work, Table::FacilityNames, c.facilities);
@@ -20,7 +21,7 @@ pub fn count(text: &[u8], work: &[u8; 275296], c: Tally) -> usize
 }
 
 // Writes them behind what a buffer holds, where they fit.
-pub fn put(image: &mut [u8], at: usize, text: &[u8], work: &[u8; 275296], c: Tally)
+pub fn put(image: &mut [u8], at: usize, text: &[u8], work: &Work, c: Tally)
     requires { ⌜ at ≤ 0xffffffff ⌝ }
     ensures { λ _. ⌜ ((p : List ℕ) → length p ≡ at → now (image .entry) ≡ filled (length (now (image .entry))) p → at + length (namesHeld (now (text .entry)) (now (work .entry)) c) ≤ length (now (image .entry)) → now (image .exit) ≡ filled (length (now (image .entry))) (p ++ namesHeld (now (text .entry)) (now (work .entry)) c)) ⌝ }
 {

@@ -1,6 +1,7 @@
 // The image of what the working array holds.
 use call_answers::read::Answer;
 use image_sections::header;
+use parse_array::Work;
 use parse_held::Tally;
 use parse_held::body;
 use parse_held::counts;
@@ -14,7 +15,7 @@ ghost use Rattle.language.specs.Reading.{withRoom};
 ghost use Rattle.parse_held.specs.Sections.{Few, sectionsHeld};
 
 // Writes the image, and zero behind it; where there is no room, zero alone.
-pub fn write_image(text: &[u8], work: &[u8; 275296], c: Tally, image: &mut [u8]) -> Answer
+pub fn write_image(text: &[u8], work: &Work, c: Tally, image: &mut [u8]) -> Answer
     ensures { λ r. ⌜ (Few c → called r (now (image .exit)) ≡ withRoom (length (now (image .entry))) (imageOf (sectionsHeld (now (text .entry)) (now (work .entry)) c))) ⌝ }
 {
     let s: &[u8] = work;

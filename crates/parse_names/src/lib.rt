@@ -1,4 +1,5 @@
 // What a name means: a facility, or else an operation, or else a state, the first that was declared.
+use parse_array::Work;
 use parse_array::names;
 use parse_array::names::Found;
 use parse_tables::Table;
@@ -20,7 +21,7 @@ pub struct Counts {
 }
 
 // What the word of this place and length means.
-pub fn what(text: &[u8], work: &[u8; 275296], n: Counts, place: usize, length: usize) -> Meaning
+pub fn what(text: &[u8], work: &Work, n: Counts, place: usize, length: usize) -> Meaning
     ensures { λ r. ⌜ Means (now (text .entry)) (now (work .entry)) n place length r ⌝ }
 {
     let f = names::facility(text, work, n.facilities, place, length);

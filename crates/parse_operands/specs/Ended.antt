@@ -15,7 +15,8 @@ use Rattle.value_operators.specs.Meaning.{valued}
 use Rattle.text_words.specs.declared.Fault.{Fault}
 use Rattle.text_words.specs.declared.Word.{Word}
 use Rattle.text_words.specs.Meaning.{faulted, positioned}
-use Rattle.parse_array.specs.Held.{Held, mostNodes}
+use Rattle.parse_array.specs.Held.{Held}
+use Rattle.parse_array.specs.Layout.{mostNodes}
 use Rattle.parse_step.specs.declared.Answer.{Answer}
 use Rattle.parse_step.specs.declared.State.{State}
 use Rattle.parse_step.specs.declared.Verdict.the-variants.{Done, Full, Refused}

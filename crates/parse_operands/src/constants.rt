@@ -1,4 +1,5 @@
 // Constants as operands, and the ends of a part.
+use parse_array::Work;
 use parse_step::Answer;
 use parse_step::Bearing;
 use parse_step::State;
@@ -16,7 +17,7 @@ ghost use Rattle.parse_step.specs.Says.{Parses};
 ghost use Rattle.parse_operands.specs.Ended.{Closed, Counting, Ended};
 
 // A term that is a constant.
-pub fn constant(s: State, text: &[u8], w: Word, work: &mut [u8; 275296]) -> Answer
+pub fn constant(s: State, text: &[u8], w: Word, work: &mut Work) -> Answer
     ensures { λ r. ⌜ (kindNo (w .kind) ≡ aConstant → Parses (ask term ∷ []) (λ t b. b) (s .nesting) (now (text .entry)) w s (now (work .entry)) (now (work .exit)) r × Spends (now (text .entry)) 0 w s r) ⌝ }
 {
     let taken = taking::take(text, w, s, true, Bearing::Level);
@@ -27,7 +28,7 @@ pub fn constant(s: State, text: &[u8], w: Word, work: &mut [u8; 275296]) -> Answ
 }
 
 // A constant in brackets that begins an expression: it was kept, and counts.
-pub fn counted(s: State, w: Word, next: Word, work: &mut [u8; 275296]) -> Answer
+pub fn counted(s: State, w: Word, next: Word, work: &mut Work) -> Answer
     ensures { λ r. ⌜ Counting w next s (now (work .entry)) (now (work .exit)) r × ((t : List ℕ) → w .value .length ≤ 256 → Spends t 0 next s r) ⌝ }
 {
     let passed = taking::pass(w, next, s, true, Bearing::Level);

@@ -1,5 +1,6 @@
 // HEAD, TAIL and EXT: the operator has been taken; its count must come.
 use image_records::nodes::Node;
+use parse_array::Work;
 use parse_array::bounds;
 use parse_array::places;
 use parse_step::Answer;
@@ -13,14 +14,7 @@ ghost use Rattle.parse_step.specs.Pays.{Spends};
 ghost use Rattle.parse_operands.specs.Ended.{Cuts};
 
 // The count of a cut of kind `kind` whose word is at, and its record.
-pub fn cut(
-    s: State,
-    kind: u8,
-    operator: Word,
-    text: &[u8],
-    w: Word,
-    work: &mut [u8; 275296],
-) -> Answer
+pub fn cut(s: State, kind: u8, operator: Word, text: &[u8], w: Word, work: &mut Work) -> Answer
     ensures { λ r. ⌜ Cuts kind operator (now (text .entry)) w s (now (work .entry)) (now (work .exit)) r × (Seen (now (text .entry)) w → Grows s r) × Spends (now (text .entry)) 2 w s r ⌝ }
 {
     let kept = taking::keep_constant(text, w, s);

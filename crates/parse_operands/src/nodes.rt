@@ -1,5 +1,6 @@
 // References as records: a name that means no facility leaves a broken one.
 use image_records::nodes::Node;
+use parse_array::Work;
 use parse_array::bounds;
 use parse_array::names;
 use parse_array::names::Found;
@@ -21,7 +22,7 @@ ghost use Rattle.parse_array.specs.Names.{found, namesIn};
 ghost use Rattle.parse_operands.specs.References.{Adds, lettersOf, ofFound, ofKnown, partOf, wordPartOf};
 
 // Which facility a name means, of those known.
-fn facility(text: &[u8], work: &[u8; 275296], known: u16, name: Word) -> Found
+fn facility(text: &[u8], work: &Work, known: u16, name: Word) -> Found
     ensures { λ r. ⌜ found r ≡ numberOf (lettersOf (now (text .entry)) name) 0 (namesIn (now (text .entry)) (otherIn (now (work .entry))) known) ⌝ }
 {
     let at = name.at;
@@ -91,7 +92,7 @@ fn word_part(f: Found, e: u16, a: u32, b: u32) -> Node
 }
 
 // A whole facility.
-pub fn add_whole(s: State, name: Word, text: &[u8], next: Word, work: &mut [u8; 275296]) -> Answer
+pub fn add_whole(s: State, name: Word, text: &[u8], next: Word, work: &mut Work) -> Answer
     ensures { λ r. ⌜ Adds (λ sc. noted (ofFacility (meaning sc (lettersOf (now (text .entry)) name)) D.whole) (positioned (name .at))) (now (text .entry)) next s (now (work .entry)) (now (work .exit)) r ⌝ }
 {
     let node = whole(facility(text, work, s.known, name));
@@ -101,14 +102,7 @@ pub fn add_whole(s: State, name: Word, text: &[u8], next: Word, work: &mut [u8; 
 }
 
 // One bit or one word, by the expression of record e.
-pub fn add_one(
-    s: State,
-    name: Word,
-    e: u16,
-    text: &[u8],
-    next: Word,
-    work: &mut [u8; 275296],
-) -> Answer
+pub fn add_one(s: State, name: Word, e: u16, text: &[u8], next: Word, work: &mut Work) -> Answer
     ensures { λ r. ⌜ Adds (λ sc. noted (ofFacility (meaning sc (lettersOf (now (text .entry)) name)) (λ k. D.one k e)) (positioned (name .at))) (now (text .entry)) next s (now (work .entry)) (now (work .exit)) r ⌝ }
 {
     let node = one(facility(text, work, s.known, name), e);
@@ -125,7 +119,7 @@ pub fn add_two(
     g: u16,
     text: &[u8],
     next: Word,
-    work: &mut [u8; 275296],
+    work: &mut Work,
 ) -> Answer
     ensures { λ r. ⌜ Adds (λ sc. noted (ofFacility (meaning sc (lettersOf (now (text .entry)) name)) (λ k. D.two k e g)) (positioned (name .at))) (now (text .entry)) next s (now (work .entry)) (now (work .exit)) r ⌝ }
 {
@@ -143,7 +137,7 @@ pub fn add_part(
     last: Word,
     text: &[u8],
     next: Word,
-    work: &mut [u8; 275296],
+    work: &mut Work,
 ) -> Answer
     ensures { λ r. ⌜ Adds (partOf (now (text .entry)) name first last) (now (text .entry)) next s (now (work .entry)) (now (work .exit)) r ⌝ }
 {
@@ -169,7 +163,7 @@ pub fn add_word_part(
     last: Word,
     text: &[u8],
     next: Word,
-    work: &mut [u8; 275296],
+    work: &mut Work,
 ) -> Answer
     ensures { λ r. ⌜ Adds (wordPartOf (now (text .entry)) name e first last) (now (text .entry)) next s (now (work .entry)) (now (work .exit)) r ⌝ }
 {

@@ -27,6 +27,7 @@ use Rattle.text_words.specs.declared.Position.{Position}
 use Rattle.text_words.specs.Meaning.{positioned}
 use Rattle.parse_array.proofs.NodesAdded.{nodes-append}
 use Rattle.parse_array.specs.Held.{Held, withNodes}
+use Rattle.parse_array.specs.Layout.{operationNamesFrom}
 use Rattle.parse_array.specs.Names.{letters}
 use Rattle.parse_sections.proofs.Appended.{actions-last, bytes-last, expressions-last, names-last, namesOf, nodes-last, operationAt, operations-last, records-last}
 use Rattle.parse_sections.specs.Listed.{Bodies, Tabled, TablesKept}
@@ -48,7 +49,7 @@ tables-kept w o k u e m h =
 module _ {text : List ℕ} {os : List Operation} {m : ℕ} {w w₁ w₂ : List ℕ} (t : Tabled text os m w) (kept : OthersKept w w₁) (few : m < 128) (o : Operation) {at : Position} {size : ℕ} {run : Run} (f : OperationAdded m at size run w₁ w₂) where
   row-length : length (rows T.OperationNames m w₁) ≡ 4 * m
   unfolding rows
-  row-length = length-take-le (4 * m) (drop 272736 w₁) (omega (arith, length-drop 272736 w₁, f .whole))
+  row-length = length-take-le (4 * m) (drop operationNamesFrom w₁) (omega (arith, length-drop operationNamesFrom w₁, f .whole))
 
   pub tabled-more : o .name ≡ letters text (at .place) size → length (o .name) ≡ size → o .at ≡ positioned at → run .first ≡ operationRecords os → run .count ≡ actionsIn (o .body) → at .place < 65536 → size < 65536
       → Tabled text (os ++ o ∷ []) (m + 1) w₂

@@ -31,6 +31,7 @@ use Rattle.parse_tables.specs.declared.Table.the-variants as T
 use Rattle.parse_tables.specs.Rows.{rows}
 use Rattle.text_words.specs.declared.Word.{Word}
 use Rattle.parse_array.specs.Held.{Held, withNodes}
+use Rattle.parse_array.specs.Layout.{workSize}
 use Rattle.parse_sections.proofs.ListLaws.{between-passed}
 use Rattle.parse_sections.proofs.SectionWords.{control-taken, nothing-behind, operation-taken}
 use Rattle.parse_sections.specs.Sections.{AllRead, Between, Goes, Operates, Ready, Somewhere, fromTerminals, withSections}
@@ -51,7 +52,7 @@ module _ {text : List ℕ} {ds : List Declaration} {place : ℕ} {w : Word} {s :
   front = ap alone (x .standing .listed .expressed .records)
 
   -- No operation yet.
-  pub stands : length work ≡ 275296 → Standing text (namesOf ds) (facilitySize ds) (heldOf ds) [] w s 0 work
+  pub stands : length work ≡ workSize → Standing text (namesOf ds) (facilitySize ds) (heldOf ds) [] w s 0 work
   stands l =
       let st = x .standing in
       let e = begins s work (st .seen) (st .short) l (st .within) (x .operations) (x .states) (st .paid) in
@@ -62,7 +63,7 @@ module _ {text : List ℕ} {ds : List Declaration} {place : ℕ} {w : Word} {s :
   tables-at : Tabled text ds (storeSizeOf (facilitiesOf 0 ds) % 65536) (s .known) work
   tables-at = subst (λ (n : ℕ). Tabled text ds n (s .known) work) (x .standing .listed .tabled .store) (x .standing .listed .tabled)
 
-  ready-at : length work ≡ 275296 → Ready text ds [] w s 0 work
+  ready-at : length work ≡ workSize → Ready text ds [] w s 0 work
   ready-at l = record { counted = x .standing .listed .counted; level = x .level; facilities = tables-at; standing = stands l }
 
   few : s .known ≤ 256
@@ -96,7 +97,7 @@ no-more b = rw (append-nil (b .text .registers), append-nil (b .text .memories),
 abbrev listStack : Stack → Stack
 listStack K = ask operationSpec ∷ ask operationsMore ∷ K
 
-module _ {text : List ℕ} {w : Word} {s : State} {place : ℕ} {work : List ℕ} {a : Answer} (l : length work ≡ 275296) (t : Took text w (countsOf s) s a) where
+module _ {text : List ℕ} {w : Word} {s : State} {place : ℕ} {work : List ℕ} {a : Answer} (l : length work ≡ workSize) (t : Took text w (countsOf s) s a) where
   pub operations-not : (a .verdict ≡ Done → ⊥) → {n : ℕ} → Operates text w s place work work (record { answer = a; actions = n })
   operations-not n k ds x = told (D.word-taken t (λ d. absurd (n d)) listStack (λ b. b) (λ K b. operation-taken text w K b s k)) (t .full)
 
@@ -132,7 +133,7 @@ module _ {text : List ℕ} {w : Word} {s : State} {place : ℕ} {work : List ℕ
 -- ---- CONTROL at once, or neither.
 
 module _ {text : List ℕ} {w : Word} {s : State} {place : ℕ} {work : List ℕ} {a : Answer} where
-  pub control-read : length work ≡ 275296 → kindNo (w .kind) ≡ controlWord → Took text w (countsOf s) s a → Goes terminals afterTerminals text w s place work work (record { answer = a; actions = 0 })
+  pub control-read : length work ≡ workSize → kindNo (w .kind) ≡ controlWord → Took text w (countsOf s) s a → Goes terminals afterTerminals text w s place work work (record { answer = a; actions = 0 })
   control-read l k t ds x = told (D.word-taken t read (λ K. controlStack ++ K) (λ b. b) (λ K b. control-taken text w K b s k)) (t .full)
     where
       read : a .verdict ≡ Done → AllRead text ds terminals (ask afterTerminals ∷ []) w s work (record { answer = a; actions = 0 })

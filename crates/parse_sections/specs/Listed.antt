@@ -18,6 +18,7 @@ use Rattle.parse_tables.specs.Names.{namesOf}
 use Rattle.parse_tables.specs.Rows.{apartFrom, most, rows}
 use Rattle.text_words.specs.declared.Word.{Word}
 use Rattle.parse_array.specs.Held.{Held, otherIn, withNodes}
+use Rattle.parse_array.specs.Layout.{workSize}
 use Rattle.parse_array.specs.Names.{namesIn}
 
 -- The bytes of their places.
@@ -43,7 +44,7 @@ pub record Bodies (names : List Name) (first : ℕ) (h : Held) (os : List Operat
 pub record Standing (text : List ℕ) (names : List Name) (first : ℕ) (h : Held) (os : List Operation) (w : Word) (s : State) (acts : ℕ) (work : List ℕ) : Type 0 where
   pub seen : Seen text w
   pub short : length text < 65536
-  pub whole : length work ≡ 275296
+  pub whole : length work ≡ workSize
   pub within : withinCeilings (countsOf s) ≡ true
   pub known : names ≡ namesIn text (otherIn work) (s .known)
   pub states : s .states ≡ 0

@@ -1,4 +1,5 @@
 // The sections of a text up to CONTROL (the manual, 4, 6 and 7), read as the machine of the grammar reads them.
+use parse_array::Work;
 use parse_step::State;
 use parse_step::kinds;
 use parse_step::taking;
@@ -29,7 +30,7 @@ fn start() -> State
 }
 
 // Reads all before the states, whatever the array held.
-pub fn preamble(text: &[u8], work: &mut [u8; 275296]) -> Acted
+pub fn preamble(text: &[u8], work: &mut Work) -> Acted
     requires { ⌜ length (now text) < 65536 ⌝ }
     ensures { λ r. ⌜ Preamble (now (text .entry)) (now (work .exit)) r ⌝ }
 {

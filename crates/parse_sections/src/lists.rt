@@ -1,4 +1,5 @@
 // A section of declarations: the word that begins it, and its list.
+use parse_array::Work;
 use parse_facilities::List;
 use parse_facilities::Progress;
 use parse_step::Bearing;
@@ -9,14 +10,7 @@ ghost use Rattle.parse_facilities.specs.Lists.{listing, terminals};
 ghost use Rattle.parse_sections.specs.Sections.{Section, Starts};
 
 // Registers or memories, whose word has been seen.
-pub fn stored(
-    text: &[u8],
-    w: Word,
-    work: &mut [u8; 275296],
-    s: State,
-    place: u16,
-    list: List,
-) -> Progress
+pub fn stored(text: &[u8], w: Word, work: &mut Work, s: State, place: u16, list: List) -> Progress
     requires { ⌜ Starts (listing list) (now text) place w s (now work) ⌝ }
     ensures { λ r. ⌜ Section (listing list) (now (text .entry)) w s place (now (work .entry)) (now (work .exit)) r ⌝ }
 {
@@ -31,7 +25,7 @@ pub fn stored(
 }
 
 // Terminals, whose word has been seen.
-pub fn defined(text: &[u8], w: Word, work: &mut [u8; 275296], s: State, place: u16) -> Progress
+pub fn defined(text: &[u8], w: Word, work: &mut Work, s: State, place: u16) -> Progress
     requires { ⌜ Starts terminals (now text) place w s (now work) ⌝ }
     ensures { λ r. ⌜ Section terminals (now (text .entry)) w s place (now (work .entry)) (now (work .exit)) r ⌝ }
 {

@@ -1,6 +1,7 @@
 // The sections in their order; each word decides what may follow.
 use crate::lists;
 use crate::operations::lists as operations;
+use parse_array::Work;
 use parse_facilities::List;
 use parse_step::Bearing;
 use parse_step::State;
@@ -13,7 +14,7 @@ ghost use Rattle.language.specs.Machine.{afterMemories, afterRegisters, afterTe
 ghost use Rattle.parse_sections.specs.Sections.{From, Goes, Operates, Somewhere, Starts};
 
 // Operations, whose word has been seen, and CONTROL.
-fn operations(text: &[u8], w: Word, work: &mut [u8; 275296], s: State, place: u16) -> Acted
+fn operations(text: &[u8], w: Word, work: &mut Work, s: State, place: u16) -> Acted
     requires { ⌜ Somewhere (now text) place w s (now work) ⌝ }
     ensures { λ r. ⌜ Operates (now (text .entry)) w s place (now (work .entry)) (now (work .exit)) r ⌝ }
 {
@@ -29,7 +30,7 @@ fn operations(text: &[u8], w: Word, work: &mut [u8; 275296], s: State, place: u1
 }
 
 // Behind the terminals.
-fn behind_terminals(text: &[u8], w: Word, work: &mut [u8; 275296], s: State, place: u16) -> Acted
+fn behind_terminals(text: &[u8], w: Word, work: &mut Work, s: State, place: u16) -> Acted
     requires { ⌜ Somewhere (now text) place w s (now work) ⌝ }
     ensures { λ r. ⌜ Goes terminals afterTerminals (now (text .entry)) w s place (now (work .entry)) (now (work .exit)) r ⌝ }
 {
@@ -48,7 +49,7 @@ fn behind_terminals(text: &[u8], w: Word, work: &mut [u8; 275296], s: State, pla
 }
 
 // Terminals, whose word has been seen, and what follows.
-pub fn terminals(text: &[u8], w: Word, work: &mut [u8; 275296], s: State, place: u16) -> Acted
+pub fn terminals(text: &[u8], w: Word, work: &mut Work, s: State, place: u16) -> Acted
     requires { ⌜ Starts terminals (now text) place w s (now work) ⌝ }
     ensures { λ r. ⌜ From terminals (now (text .entry)) w s place (now (work .entry)) (now (work .exit)) r ⌝ }
 {
@@ -61,7 +62,7 @@ pub fn terminals(text: &[u8], w: Word, work: &mut [u8; 275296], s: State, place:
 }
 
 // Behind the memories.
-fn behind_memories(text: &[u8], w: Word, work: &mut [u8; 275296], s: State, place: u16) -> Acted
+fn behind_memories(text: &[u8], w: Word, work: &mut Work, s: State, place: u16) -> Acted
     requires { ⌜ Somewhere (now text) place w s (now work) ⌝ }
     ensures { λ r. ⌜ Goes memories afterMemories (now (text .entry)) w s place (now (work .entry)) (now (work .exit)) r ⌝ }
 {
@@ -73,7 +74,7 @@ fn behind_memories(text: &[u8], w: Word, work: &mut [u8; 275296], s: State, plac
 }
 
 // Memories, whose word has been seen, and what follows.
-pub fn memories(text: &[u8], w: Word, work: &mut [u8; 275296], s: State, place: u16) -> Acted
+pub fn memories(text: &[u8], w: Word, work: &mut Work, s: State, place: u16) -> Acted
     requires { ⌜ Starts memories (now text) place w s (now work) ⌝ }
     ensures { λ r. ⌜ From memories (now (text .entry)) w s place (now (work .entry)) (now (work .exit)) r ⌝ }
 {
@@ -86,7 +87,7 @@ pub fn memories(text: &[u8], w: Word, work: &mut [u8; 275296], s: State, place: 
 }
 
 // Behind the registers.
-fn behind_registers(text: &[u8], w: Word, work: &mut [u8; 275296], s: State, place: u16) -> Acted
+fn behind_registers(text: &[u8], w: Word, work: &mut Work, s: State, place: u16) -> Acted
     requires { ⌜ Somewhere (now text) place w s (now work) ⌝ }
     ensures { λ r. ⌜ Goes registers afterRegisters (now (text .entry)) w s place (now (work .entry)) (now (work .exit)) r ⌝ }
 {
@@ -98,7 +99,7 @@ fn behind_registers(text: &[u8], w: Word, work: &mut [u8; 275296], s: State, pla
 }
 
 // Registers, whose word has been seen, and what follows.
-pub fn registers(text: &[u8], w: Word, work: &mut [u8; 275296], s: State, place: u16) -> Acted
+pub fn registers(text: &[u8], w: Word, work: &mut Work, s: State, place: u16) -> Acted
     requires { ⌜ Starts registers (now text) place w s (now work) ⌝ }
     ensures { λ r. ⌜ From registers (now (text .entry)) w s place (now (work .entry)) (now (work .exit)) r ⌝ }
 {

@@ -18,12 +18,12 @@ use Rattle.language.specs.Encode.{concat, stateRecord}
 use Rattle.language.specs.Naming.{Scope}
 use Rattle.language.specs.Tree as T
 use Rattle.parse_names.specs.declared.Counts.{Counts}
-use Rattle.parse_stores.proofs.Keeping.{front-kept, known-by, rows-other}
+use Rattle.parse_stores.proofs.Keeping.{front-kept, known-by}
 use Rattle.parse_stores.proofs.Standings.{few-states}
 use Rattle.parse_stores.specs.Actions.{Standing, actionBesides, actionRecords, frontOf}
 use Rattle.parse_stores.specs.declared.Acted.{Acted}
 use Rattle.parse_tables.proofs.NamesGrown.{names-behind}
-use Rattle.parse_tables.proofs.RowLaws.{kept-more}
+use Rattle.parse_tables.proofs.RowLaws.{kept-more, rows-other}
 use Rattle.parse_tables.specs.declared.Table.{Table}
 use Rattle.parse_tables.specs.declared.Table.the-variants as Tb
 use Rattle.parse_tables.specs.Names.{nameRow, namesOf}
@@ -33,6 +33,7 @@ use Rattle.text_words.specs.declared.Word.{Word}
 use Rattle.text_words.specs.Meaning.{positioned}
 use Rattle.parse_array.proofs.NodesAdded.{nodes-append}
 use Rattle.parse_array.specs.Held.{Held, withNodes}
+use Rattle.parse_array.specs.Layout.{labelsFrom, mostActions, mostNodes}
 use Rattle.parse_states.specs.Begins.{lengthOf, moreStates}
 use Rattle.parse_states.specs.Bodies.{BodyRead}
 use Rattle.parse_states.specs.declared.Begun.{Begun}
@@ -103,10 +104,10 @@ module _ {text : List ℕ} {sc : Scope} {n : Counts} {l : ℕ} {name : Word} {P 
   nodes₁ : h .answer .state .nodes ≡ s .nodes + vs
   nodes₁ = x .nodes
 
-  most-acts : r .actions ≤ 4352
+  most-acts : r .actions ≤ mostActions
   most-acts = omega (arith, y .standing .actions, few-counted (countsOf s₂) (y .standing .within))
 
-  most-nodes : s₂ .nodes ≤ 15888
+  most-nodes : s₂ .nodes ≤ mostNodes
   most-nodes = omega (arith, y .standing .nodes, few-counted (countsOf s₂) (y .standing .within), few-states (countsOf s₂) (y .standing .within))
 
   expressions : frontOf (s₂ .nodes) work₃ ≡ withNodes (frontOf (s .nodes) work) (stateNodes (lengthOf l) sc (s .nodes) (tree ∷ []))
@@ -157,7 +158,7 @@ module _ {text : List ℕ} {sc : Scope} {n : Counts} {l : ℕ} {name : Word} {P 
 
   row-length : length (rows Tb.Labels (s .states) work) ≡ 4 * s .states
   unfolding rows
-  row-length = length-take-le (4 * s .states) (drop 274272 work) (omega (arith, length-drop 274272 work, st .whole, few))
+  row-length = length-take-le (4 * s .states) (drop labelsFrom work) (omega (arith, length-drop labelsFrom work, st .whole, few))
 
   labels : namesOf text (rows Tb.Labels (s₂ .states) work₃) (s₂ .states) ≡ namesOf text (rows Tb.Labels (s .states) work) (s .states) ++ labelOf (x .tree .label) ∷ []
   labels =

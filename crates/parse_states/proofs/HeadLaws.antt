@@ -45,7 +45,7 @@ use Rattle.value_operators.specs.Meaning.{valued}
 use Rattle.text_words.specs.declared.Position.{Position}
 use Rattle.text_words.specs.declared.Word.{Word}
 use Rattle.text_words.specs.Meaning.{positioned}
-use Rattle.parse_array.specs.Held.{mostNodes, otherIn, withNodes}
+use Rattle.parse_array.specs.Held.{otherIn, withNodes}
 use Rattle.parse_array.specs.Names.{letters}
 use Rattle.parse_states.proofs.BodyLaws.{stays-refl}
 use Rattle.parse_states.proofs.StateWords.{action-comes, body-starts, label-comes, name-starts}
@@ -169,7 +169,7 @@ module _ {l : ℕ} {text : List ℕ} (name : Word) {w : Word} {s : State} {work 
 
     pub value-read : {m : ℕ} → m ≡ a .state .nodes - 1
         → Valued l name text w s work work′ (record { answer = a; head = record { at = name .at; size = name .size; value = Sv.At m; spot = q .constant .at }; named = false })
-    unfolding wordNo letters mostNodes
+    unfolding wordNo letters
     value-read {m} i k sc n acts z st room = record {
       done = read;
       refused = λ f d. absurd (r .refused f d);

@@ -22,6 +22,7 @@ use Rattle.parse_tables.specs.Names.{nameRow, namesOf}
 use Rattle.parse_tables.specs.Rows.{Kept, apartFrom, most, rows}
 use Rattle.text_words.specs.Meaning.{positioned}
 use Rattle.parse_array.specs.Held.{withNodes}
+use Rattle.parse_array.specs.Layout.{workSize}
 use Rattle.parse_states.specs.Begins.{lengthOf}
 use Rattle.parse_states.specs.declared.Head.{Head}
 
@@ -59,7 +60,7 @@ pub record Written (text : List ℕ) (sc : Scope) (l : ℕ) (ts : List T.State) 
 
 -- State n was added to its tables, with its label.
 pub record Closed (n : ℕ) (x : Head) (actions : Run) (work work′ : List ℕ) : Type 0 where
-  pub whole : length work′ ≡ 275296
+  pub whole : length work′ ≡ workSize
   pub records : (name : Name) → length name ≡ x .size → rows Tb.States (n + 1) work′ ≡ rows Tb.States n work ++ stateRecord (record { name = name; value = valueMeant (x .value); actions = runMeant actions })
   pub places : rows Tb.StatePlaces (n + 1) work′ ≡ rows Tb.StatePlaces n work ++ stateBesideBytes (record { at = positioned (x .at); value = positioned (x .spot) })
   pub labels : rows Tb.Labels (n + 1) work′ ≡ rows Tb.Labels n work ++ nameRow (x .at .place) (x .size)

@@ -1,4 +1,5 @@
 // The actions of a state, separated by commas, and the `/` that ends it.
+use parse_array::Work;
 use parse_names::Counts;
 use parse_step::Bearing;
 use parse_step::State;
@@ -15,7 +16,7 @@ fn first(
     name: Word,
     text: &[u8],
     w: Word,
-    work: &mut [u8; 275296],
+    work: &mut Work,
     n: Counts,
     acts: u16,
 ) -> Acted
@@ -28,7 +29,7 @@ fn first(
 }
 
 // Behind an action: a comma and another, or the `/`. Each counts a word, so that there are not too many.
-fn rest(s: State, text: &[u8], w: Word, work: &mut [u8; 275296], n: Counts, acts: u16) -> Acted
+fn rest(s: State, text: &[u8], w: Word, work: &mut Work, n: Counts, acts: u16) -> Acted
     requires { ⌜ Stands (now text) n w s acts (now work) ⌝ }
     ensures { λ r. ⌜ Rests (now (text .entry)) n w s acts (now (work .entry)) (now (work .exit)) r ⌝ }
 {
@@ -68,7 +69,7 @@ fn list(
     name: Word,
     text: &[u8],
     w: Word,
-    work: &mut [u8; 275296],
+    work: &mut Work,
     n: Counts,
     acts: u16,
 ) -> Acted
@@ -96,7 +97,7 @@ pub fn body(
     name: Word,
     text: &[u8],
     w: Word,
-    work: &mut [u8; 275296],
+    work: &mut Work,
     n: Counts,
     acts: u16,
 ) -> Acted

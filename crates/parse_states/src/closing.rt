@@ -1,6 +1,7 @@
 // A state added to its tables, with its label.
 use crate::Head;
 use image_sections::runs::Run;
+use parse_array::Work;
 use parse_tables::Table;
 use parse_tables::names;
 use parse_tables::states;
@@ -17,7 +18,7 @@ pub fn run(first: u16, end: u16) -> Run
 }
 
 // Adds state n; its label's word is at its place.
-pub fn close(work: &mut [u8; 275296], n: u16, x: Head, actions: Run)
+pub fn close(work: &mut Work, n: u16, x: Head, actions: Run)
     ensures { λ _. ⌜ (n < 256 → Closed n x actions (now (work .entry)) (now (work .exit))) ⌝ }
 {
     let at = x.at;

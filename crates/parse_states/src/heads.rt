@@ -3,6 +3,7 @@ use crate::Begun;
 use crate::Head;
 use crate::values;
 use image_sections::states::StateValue;
+use parse_array::Work;
 use parse_step::Answer;
 use parse_step::Bearing;
 use parse_step::State;
@@ -122,7 +123,7 @@ fn in_brackets(text: &[u8], w: Word, s: State) -> Bracketed
 }
 
 // A label's value, whose records are written.
-fn valued(text: &[u8], name: Word, w: Word, work: &mut [u8; 275296], s: State, l: u16) -> Begun
+fn valued(text: &[u8], name: Word, w: Word, work: &mut Work, s: State, l: u16) -> Begun
     ensures { λ r. ⌜ Valued l name (now (text .entry)) w s (now (work .entry)) (now (work .exit)) r ⌝ }
 {
     let read = in_brackets(text, w, s);
@@ -155,7 +156,7 @@ fn valued(text: &[u8], name: Word, w: Word, work: &mut [u8; 275296], s: State, l
 }
 
 // Behind the name that a state begins with: it was a label, or the first action's.
-fn after_name(text: &[u8], name: Word, w: Word, work: &mut [u8; 275296], s: State, l: u16) -> Begun
+fn after_name(text: &[u8], name: Word, w: Word, work: &mut Work, s: State, l: u16) -> Begun
     ensures { λ r. ⌜ AfterName l name (now (text .entry)) w s (now (work .entry)) (now (work .exit)) r ⌝ }
 {
     let kind = w.kind;
@@ -187,7 +188,7 @@ fn after_name(text: &[u8], name: Word, w: Word, work: &mut [u8; 275296], s: Stat
 }
 
 // The head of a state.
-pub fn head(text: &[u8], w: Word, work: &mut [u8; 275296], s: State, l: u16) -> Begun
+pub fn head(text: &[u8], w: Word, work: &mut Work, s: State, l: u16) -> Begun
     ensures { λ r. ⌜ Heads l (now (text .entry)) w s (now (work .entry)) (now (work .exit)) r ⌝ }
 {
     let counted = count(w, s);

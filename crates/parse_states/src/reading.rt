@@ -3,6 +3,7 @@ use crate::bodies;
 use crate::closing;
 use crate::ends;
 use crate::heads;
+use parse_array::Work;
 use parse_names::Counts;
 use parse_step::State;
 use parse_step::kinds;
@@ -12,15 +13,7 @@ ghost use Rattle.parse_states.specs.Bodies.{Stands};
 ghost use Rattle.parse_states.specs.States.{All, One, moreStack, startStack};
 
 // One state; l is the length of the sequencing register, and 0 where there is none.
-fn one(
-    s: State,
-    text: &[u8],
-    w: Word,
-    work: &mut [u8; 275296],
-    n: Counts,
-    acts: u16,
-    l: u16,
-) -> Acted
+fn one(s: State, text: &[u8], w: Word, work: &mut Work, n: Counts, acts: u16, l: u16) -> Acted
     requires { ⌜ Stands (now text) n w s acts (now work) ⌝ }
     ensures { λ r. ⌜ One l (now (text .entry)) n w s acts (now (work .entry)) (now (work .exit)) r ⌝ }
 {
@@ -52,15 +45,7 @@ fn one(
 }
 
 // Behind a state: others, and the end of the text. Each is counted, so that there are not too many.
-fn more(
-    s: State,
-    text: &[u8],
-    w: Word,
-    work: &mut [u8; 275296],
-    n: Counts,
-    acts: u16,
-    l: u16,
-) -> Acted
+fn more(s: State, text: &[u8], w: Word, work: &mut Work, n: Counts, acts: u16, l: u16) -> Acted
     requires { ⌜ Stands (now text) n w s acts (now work) ⌝ }
     ensures { λ r. ⌜ All moreStack l (now (text .entry)) n w s acts (now (work .entry)) (now (work .exit)) r ⌝ }
 {
@@ -91,7 +76,7 @@ pub fn states(
     s: State,
     text: &[u8],
     w: Word,
-    work: &mut [u8; 275296],
+    work: &mut Work,
     n: Counts,
     acts: u16,
     l: u16,

@@ -9,8 +9,9 @@ use Rattle.language.specs.Encode.{nodeBytes}
 use Rattle.judge_records.specs.Noted.{nodeBesideBytes}
 use Rattle.text_words.specs.declared.Word.{Word}
 use Rattle.parse_array.proofs.NodesAdded.{node-one}
-use Rattle.parse_array.specs.Held.{Added, Grew, held, mostNodes, withNodes}
+use Rattle.parse_array.specs.Held.{Added, Grew, held, withNodes}
 use Rattle.parse_array.specs.declared.constants.Room.{Room}
+use Rattle.parse_array.specs.Layout.{mostNodes}
 use Rattle.parse_step.specs.declared.Answer.{Answer}
 use Rattle.parse_step.specs.declared.State.{State}
 use Rattle.parse_step.specs.declared.Verdict.the-variants.{Done, Full}

@@ -5,7 +5,8 @@ use Prim.Native.Nat.{ℕ, _+_, _-_, _<_, _≤_}
 use Rattle.language.specs.Describe.{Noted}
 use Rattle.text_words.specs.declared.Fault.{Fault}
 use Rattle.text_words.specs.declared.Word.{Word}
-use Rattle.parse_array.specs.Held.{held, mostNodes, withBytes, withNodes}
+use Rattle.parse_array.specs.Held.{held, withBytes, withNodes}
+use Rattle.parse_array.specs.Layout.{mostNodes}
 use Rattle.parse_step.specs.declared.Answer.{Answer}
 use Rattle.parse_step.specs.declared.State.{State}
 use Rattle.parse_step.specs.declared.Verdict.the-variants.{Done, Full, Refused}

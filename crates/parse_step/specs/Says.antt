@@ -10,7 +10,8 @@ use Rattle.language.specs.Tree.{Expression}
 use Rattle.text_words.specs.declared.Fault.{Fault}
 use Rattle.text_words.specs.declared.Word.{Word}
 use Rattle.text_words.specs.Meaning.{faulted}
-use Rattle.parse_array.specs.Held.{Held, held, mostNodes, otherIn, withNodes}
+use Rattle.parse_array.specs.Held.{Held, held, otherIn, withNodes}
+use Rattle.parse_array.specs.Layout.{mostNodes}
 use Rattle.parse_array.specs.Names.{namesIn}
 use Rattle.parse_step.specs.declared.Answer.{Answer}
 use Rattle.parse_step.specs.declared.State.{State}

@@ -3,6 +3,7 @@ use crate::Answer;
 use crate::State;
 use crate::Verdict;
 use image_records::nodes::Node;
+use parse_array::Work;
 use parse_array::constants;
 use parse_array::nodes;
 use parse_array::nodes::Beside;
@@ -40,14 +41,7 @@ pub fn with_nodes(s: State, nodes: u16) -> State
 }
 
 // Adds an expression's record; the word after it has been seen.
-pub fn add(
-    work: &mut [u8; 275296],
-    next: Word,
-    s: State,
-    node: Node,
-    v: u64,
-    beside: Beside,
-) -> Answer
+pub fn add(work: &mut Work, next: Word, s: State, node: Node, v: u64, beside: Beside) -> Answer
     ensures { λ r. ⌜ Gained next s (nodeBytes (meant v node)) (fields beside) (now (work .entry)) (now (work .exit)) r ⌝ }
 {
     if nodes::add_node(work, s.nodes, node, v, beside) {
@@ -66,7 +60,7 @@ pub fn add(
 }
 
 // Adds the records of a constant; the word after it has been seen.
-pub fn add_constant(work: &mut [u8; 275296], w: Word, next: Word, s: State) -> Answer
+pub fn add_constant(work: &mut Work, w: Word, next: Word, s: State) -> Answer
     ensures { λ r. ⌜ Written (constantNodes (valued (w .value)) (positioned (w .at))) (constantSize (valued (w .value))) next s (now (work .entry)) (now (work .exit)) r ⌝ }
 {
     let v = w.value;

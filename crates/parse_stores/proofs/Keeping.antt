@@ -1,68 +1,47 @@
 -- What stays as it is while actions are read: the tables of names, the records before, the ceilings.
 use mathlib.Core.List.{List}
 use mathlib.Core.Path.{_≡_, refl, sym, ap, _∙_}
-use Prim.Native.Nat.{ℕ, _+_, _-_, _*_, _≤_, min}
+use Prim.Native.Nat.{ℕ, _+_, _*_, _≤_, min}
 use native.Mathlib.Omega.{arith}
 use lib.ListN.{drop, length, length-drop, take}
-use lib.Seq.{drop-at, drop-drop, length-take-le, take-add, take-take}
+use lib.Seq.{drop-at, length-take-le, take-add, take-take}
 use Rattle.language.specs.Encode.{nodeSize}
 use Rattle.language.specs.Naming.{Scope}
 use Rattle.parse_names.specs.declared.Counts.{Counts}
 use Rattle.parse_names.specs.Known.{Known}
 use Rattle.parse_tables.proofs.NamesGrown.{facility-names}
-use Rattle.parse_tables.specs.declared.Table.{Table}
+use Rattle.parse_tables.proofs.RowLaws.{rows-other}
 use Rattle.parse_tables.specs.declared.Table.the-variants as T
 use Rattle.parse_tables.specs.Names.{namesOf}
-use Rattle.parse_tables.specs.Rows.{expressions, from, rows, size}
+use Rattle.parse_tables.specs.Rows.{expressions, rows}
 use Rattle.parse_array.proofs.Regions.{same-held}
-use Rattle.parse_array.specs.Held.{held, otherFrom, otherIn, placesFrom}
+use Rattle.parse_array.specs.Held.{held, otherIn}
+use Rattle.parse_array.specs.Layout.{mostNodes, otherFrom, placesFrom, workSize}
 use Rattle.parse_array.specs.Names.{namesIn}
 use Rattle.parse_stores.specs.Actions.{OthersKept, frontOf}
 
 -- ---- Tables, read from all that stands behind the expressions.
 
-behind : (u : Table) → 222432 ≤ from u
-behind T.Actions = omega arith
-behind T.ActionPlaces = omega arith
-behind T.Facilities = omega arith
-behind T.FacilityPlaces = omega arith
-behind T.Operations = omega arith
-behind T.OperationPlaces = omega arith
-behind T.States = omega arith
-behind T.StatePlaces = omega arith
-behind T.FacilityNames = omega arith
-behind T.OperationNames = omega arith
-behind T.StateNames = omega arith
-behind T.Labels = omega arith
-
 module _ (w w′ : List ℕ) where
-  pub rows-other : otherIn w′ ≡ otherIn w → (u : Table) (m : ℕ) → rows u m w′ ≡ rows u m w
-  unfolding rows otherIn otherFrom
-  rows-other e u m =
-      let k = from u - 222432 in
-      let g : from u ≡ 222432 + k = omega (arith, behind u) in
-      ap (take (size u * m))
-      (ap (λ (n : ℕ). drop n w′) g ∙ sym (drop-drop k 222432 w′) ∙ ap (drop k) e ∙ drop-drop k 222432 w ∙ sym (ap (λ (n : ℕ). drop n w) g))
-
   pub others-other : otherIn w′ ≡ otherIn w → OthersKept w w′
-  others-other e u a m h = rows-other e u m
+  others-other e u a m h = rows-other w w′ e u m
 
-  pub whole-other : otherIn w′ ≡ otherIn w → length w ≡ 275296 → length w′ ≡ 275296
-  unfolding otherIn otherFrom
-  whole-other e l = omega (arith, length-drop 222432 w′, length-drop 222432 w, ap length e)
+  pub whole-other : otherIn w′ ≡ otherIn w → length w ≡ workSize → length w′ ≡ workSize
+  unfolding otherIn
+  whole-other e l = omega (arith, length-drop otherFrom w′, length-drop otherFrom w, ap length e)
 
   -- ---- The first records, where nothing before the tables changes.
 
-  front-part : length w ≡ 275296 → length w′ ≡ 275296 → expressions w′ ≡ expressions w → (p k : ℕ) → p + k ≤ 222432 → take k (drop p w′) ≡ take k (drop p w)
-  unfolding expressions otherFrom
-  front-part l l′ e p k h = part w′ (omega arith) ∙ ap (drop p) (sym (take-take (p + k) 222432 w′ h) ∙ ap (take (p + k)) e ∙ take-take (p + k) 222432 w h) ∙ sym (part w (omega arith))
+  front-part : length w ≡ workSize → length w′ ≡ workSize → expressions w′ ≡ expressions w → (p k : ℕ) → p + k ≤ otherFrom → take k (drop p w′) ≡ take k (drop p w)
+  unfolding expressions
+  front-part l l′ e p k h = part w′ (omega arith) ∙ ap (drop p) (sym (take-take (p + k) otherFrom w′ h) ∙ ap (take (p + k)) e ∙ take-take (p + k) otherFrom w h) ∙ sym (part w (omega arith))
     where
       part : (v : List ℕ) → p ≤ length v → take k (drop p v) ≡ drop p (take (p + k) v)
       part v g = sym (ap (drop p) (take-add p k v) ∙ drop-at (take p v) (take k (drop p v)) p (length-take-le p v g))
 
-  pub front-kept : length w ≡ 275296 → length w′ ≡ 275296 → expressions w′ ≡ expressions w → (n : ℕ) → n ≤ 15888 → frontOf n w′ ≡ frontOf n w
-  unfolding frontOf held placesFrom
-  front-kept l l′ e n h = same-held (front-part l l′ e 0 (nodeSize * n) (omega arith)) (front-part l l′ e 127104 (6 * n) (omega arith)) refl
+  pub front-kept : length w ≡ workSize → length w′ ≡ workSize → expressions w′ ≡ expressions w → (n : ℕ) → n ≤ mostNodes → frontOf n w′ ≡ frontOf n w
+  unfolding frontOf held
+  front-kept l l′ e n h = same-held (front-part l l′ e 0 (nodeSize * n) (omega arith)) (front-part l l′ e placesFrom (6 * n) (omega arith)) refl
 
 -- ---- The names known.
 

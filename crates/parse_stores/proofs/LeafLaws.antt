@@ -18,6 +18,7 @@ use Rattle.parse_tables.specs.Actions.{ActionAdded}
 use Rattle.text_words.specs.declared.Position.{Position}
 use Rattle.text_words.specs.declared.Word.{Word}
 use Rattle.text_words.specs.Meaning.{faulted}
+use Rattle.parse_array.specs.Layout.{workSize}
 use Rattle.parse_stores.proofs.ActionWords.{name-kept, no-name}
 use Rattle.parse_stores.specs.Leaves.{KeepsName, Puts}
 
@@ -36,7 +37,7 @@ module _ {text : List ℕ} {w : Word} {s : State} {r : Answer} where
     full = λ d. refused-full (sym (x .verdict) ∙ d);
   }
 
-module _ {a : D.Action} {at : Position} {next : Word} {s : State} {acts : ℕ} {work work′ : List ℕ} (l : length work′ ≡ 275296) where
+module _ {a : D.Action} {at : Position} {next : Word} {s : State} {acts : ℕ} {work work′ : List ℕ} (l : length work′ ≡ workSize) where
   pub put-done : {z : Bool} → ActionAdded acts a at work work′ z → z ≡ true → Puts a at next s acts work work′ (record { answer = record { verdict = Done; next = next; state = s }; actions = acts + 1 })
   put-done {z} x e = record {
     word = refl;

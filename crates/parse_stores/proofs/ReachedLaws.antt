@@ -32,8 +32,10 @@ use Rattle.text_words.specs.declared.Word.{Word}
 use Rattle.text_words.specs.Meaning.{positioned}
 use Rattle.parse_array.proofs.NodesAdded.{nodes-append}
 use Rattle.parse_array.proofs.Regions.{same-held}
-use Rattle.parse_array.specs.Held.{Held, held, mostNodes, otherIn, withNodes}
-use Rattle.parse_stores.proofs.Keeping.{front-kept, known-kept, others-other, rows-other, whole-other}
+use Rattle.parse_array.specs.Held.{Held, held, otherIn, withNodes}
+use Rattle.parse_array.specs.Layout.{mostNodes, workSize}
+use Rattle.parse_stores.proofs.Keeping.{front-kept, known-kept, others-other, whole-other}
+use Rattle.parse_tables.proofs.RowLaws.{rows-other}
 use Rattle.parse_stores.proofs.Standings.{few-states, standing-after, within-more}
 use Rattle.parse_stores.specs.Actions.{Paid, Standing, Written, frontOf, grown}
 use Rattle.parse_stores.specs.declared.Acted.{Acted}
@@ -108,7 +110,6 @@ module _ {text : List ℕ} {sc : Scope} {n : M.Counts} {w : Word} {s : State} {a
 
     -- There is room for what is not yet paid for.
     pub room-reached : {p : ℕ} {s₂ : State} → pay + p ≤ 15 → Pays p 0 s₁ s₂ → mostNodes ≤ s₂ .nodes → ⊥
-    unfolding mostNodes
     room-reached h y m = omega (arith, x .pays .nodes, y .nodes, st .nodes, few-states (countsOf s) (st .within), few, y .ceiling few, h, m)
 
     module _ {a : Answer} (d : a .verdict ≡ Done) where
@@ -167,7 +168,7 @@ module _ {text : List ℕ} {sc : Scope} {n : M.Counts} {w : Word} {s : State} {a
 
   module _ {ns : List Noted} {size : ℕ} {w₁ : Word} {s₁ : State} {work₁ : List ℕ} (x : Reached text sc 1 0 ns size s work w₁ s₁ work₁) {a : D.Action} {at : Position} {work₂ : List ℕ} {r : Acted} (y : Puts a at w₁ s₁ acts work₁ work₂ r)
       (t : Actions) (e₁ : expressionsIn t ≡ size) (e₂ : nodesIn sc (s .nodes) t ≡ ns) (e₃ : actionsIn t ≡ 1) (e₄ : actionsOf sc (s .nodes) t ≡ act a (positioned at) ∷ []) where
-    whole₁ : length work₁ ≡ 275296
+    whole₁ : length work₁ ≡ workSize
     whole₁ = whole-other work work₁ (other-reached x) (st .whole)
 
     put-written : ActionAdded acts a at work₁ work₂ true → Written sc t s acts work s₁ (acts + 1) work₂

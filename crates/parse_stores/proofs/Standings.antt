@@ -20,6 +20,7 @@ use Rattle.language.specs.Tree.{Actions}
 use Rattle.parse_names.specs.declared.Counts as M
 use Rattle.text_words.specs.declared.Word.{Word}
 use Rattle.parse_array.specs.Held.{otherIn}
+use Rattle.parse_array.specs.Layout.{workSize}
 use Rattle.parse_array.specs.Names.{namesIn}
 use Rattle.parse_stores.proofs.Keeping.{known-kept}
 use Rattle.parse_stores.specs.Actions.{Paid, Standing, Written}
@@ -75,7 +76,7 @@ module _ {text : List ℕ} {sc : Scope} {n : M.Counts} {w : Word} {s : State} {a
 
   -- Behind a list of actions.
   pub standing-after : {a : Actions} {w′ : Word} {s′ : State} {acts′ : ℕ} {work′ : List ℕ} → Standing text sc n w s acts work → Written sc a s acts work s′ acts′ work′ → Paid s acts s′ acts′ → Seen text w′
-      → length work′ ≡ 275296 → withinCeilings (countsOf s′) ≡ true → Standing text sc n w′ s′ acts′ work′
+      → length work′ ≡ workSize → withinCeilings (countsOf s′) ≡ true → Standing text sc n w′ s′ acts′ work′
   standing-after {work′ = work′} st x p z l c = record {
     seen = z;
     short = st .short;

@@ -23,13 +23,14 @@ use Rattle.text_words.specs.declared.Fault.{Fault}
 use Rattle.text_words.specs.declared.Word.{Word}
 use Rattle.text_words.specs.Meaning.{faulted}
 use Rattle.parse_array.specs.Held.{Held, held, withNodes}
+use Rattle.parse_array.specs.Layout.{workSize}
 use Rattle.parse_stores.specs.declared.Acted.{Acted}
 
 -- Where reading actions stands: the look-ahead is a word of the text, the names known are those of the scope, and every record is paid for by what was counted: seven expression records and two action records for each counted word, six expression records for each state.
 pub record Standing (text : List ℕ) (sc : Scope) (n : Counts) (w : Word) (s : State) (acts : ℕ) (work : List ℕ) : Type 0 where
   pub seen : Seen text w
   pub short : length text < 65536
-  pub whole : length work ≡ 275296
+  pub whole : length work ≡ workSize
   pub within : withinCeilings (countsOf s) ≡ true
   pub known : Known text sc n work
   pub facilities : n .facilities ≡ s .known

@@ -27,6 +27,7 @@ use Rattle.text_words.specs.declared.Fault.{Fault}
 use Rattle.text_words.specs.declared.Position.{Position}
 use Rattle.text_words.specs.declared.Word.{Word}
 use Rattle.text_words.specs.Meaning.{faulted, positioned}
+use Rattle.parse_array.specs.Layout.{mostActions, workSize}
 use Rattle.parse_stores.specs.Actions.{Acts, grown}
 use Rattle.parse_stores.specs.declared.Acted.{Acted}
 
@@ -47,11 +48,11 @@ pub record KeepsName (text : List ℕ) (w : Word) (s : State) (r : Answer) : Typ
 pub record Puts (a : D.Action) (at : Position) (next : Word) (s : State) (acts : ℕ) (work work′ : List ℕ) (r : Acted) : Type 0 where
   pub word : r .answer .next ≡ next
   pub state : r .answer .state ≡ s
-  pub whole : length work′ ≡ 275296
+  pub whole : length work′ ≡ workSize
   pub count : r .answer .verdict ≡ Done → r .actions ≡ acts + 1
   pub added : r .answer .verdict ≡ Done → ActionAdded acts a at work work′ true
   pub refused : (f : Fault) → r .answer .verdict ≡ Refused f → ⊥
-  pub full : r .answer .verdict ≡ Full → 4352 ≤ acts
+  pub full : r .answer .verdict ≡ Full → mostActions ≤ acts
 
 -- What a name means, by its word.
 abbrev pub NameMeans : List ℕ → List ℕ → Counts → Word → Meaning → Type 0

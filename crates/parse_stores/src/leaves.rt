@@ -1,6 +1,7 @@
 // What simple actions are made of: names, and the records of actions.
 use crate::Acted;
 use image_records::actions::Action;
+use parse_array::Work;
 use parse_names::Counts;
 use parse_names::Meaning;
 use parse_step::Answer;
@@ -33,14 +34,7 @@ pub fn keep_name(text: &[u8], w: Word, s: State) -> Answer
 }
 
 // Adds an action's record, whose word is at; the word behind the action has been seen.
-pub fn put(
-    s: State,
-    action: Action,
-    at: Position,
-    next: Word,
-    work: &mut [u8; 275296],
-    acts: u16,
-) -> Acted
+pub fn put(s: State, action: Action, at: Position, next: Word, work: &mut Work, acts: u16) -> Acted
     ensures { λ r. ⌜ Puts (meant action) at next s acts (now (work .entry)) (now (work .exit)) r ⌝ }
 {
     let room = actions::add_action(work, acts, action, at);
@@ -103,7 +97,7 @@ pub fn going(call: bool, m: Meaning) -> Action
 }
 
 // What a name means, by its word.
-pub fn meaning(text: &[u8], work: &[u8; 275296], n: Counts, name: Word) -> Meaning
+pub fn meaning(text: &[u8], work: &Work, n: Counts, name: Word) -> Meaning
     ensures { λ r. ⌜ NameMeans (now (text .entry)) (now (work .entry)) n name r ⌝ }
 {
     let at = name.at;

@@ -1,5 +1,6 @@
 // Simple actions (the manual, 7.1 and 8.2), read as the machine of the grammar reads them.
 use image_records::actions::Action;
+use parse_array::Work;
 use parse_names::Counts;
 use parse_step::Answer;
 use parse_step::Bearing;
@@ -35,7 +36,7 @@ fn perform(
     name: Word,
     text: &[u8],
     w: Word,
-    work: &mut [u8; 275296],
+    work: &mut Work,
     n: Counts,
     acts: u16,
 ) -> Acted
@@ -54,15 +55,7 @@ fn perform(
 }
 
 // A state's name behind `->` or `=>`.
-fn arrow(
-    s: State,
-    call: bool,
-    text: &[u8],
-    w: Word,
-    work: &mut [u8; 275296],
-    n: Counts,
-    acts: u16,
-) -> Acted
+fn arrow(s: State, call: bool, text: &[u8], w: Word, work: &mut Work, n: Counts, acts: u16) -> Acted
     ensures { λ r. ⌜ Arrows call (now (text .entry)) n w s acts (now (work .entry)) (now (work .exit)) r ⌝ }
 {
     let kept = leaves::keep_name(text, w, s);
@@ -85,14 +78,7 @@ fn arrow(
 }
 
 // What begins with a sign in a state: `->`, `=>` or RETURN.
-pub fn signed(
-    s: State,
-    text: &[u8],
-    w: Word,
-    work: &mut [u8; 275296],
-    n: Counts,
-    acts: u16,
-) -> Acted
+pub fn signed(s: State, text: &[u8], w: Word, work: &mut Work, n: Counts, acts: u16) -> Acted
     ensures { λ r. ⌜ (among (kindNo (w .kind)) (gotoSign ∷ callSign ∷ returnWord ∷ []) ≡ true → Acts (ask L.stateAction ∷ []) same (now (text .entry)) n w s acts (now (work .entry)) (now (work .exit)) r) ⌝ }
 {
     let taken = taking::take(text, w, s, true, Bearing::Level);
@@ -151,7 +137,7 @@ pub fn named_in_operation(
     name: Word,
     text: &[u8],
     w: Word,
-    work: &mut [u8; 275296],
+    work: &mut Work,
     n: Counts,
     acts: u16,
 ) -> Acted
@@ -177,7 +163,7 @@ pub fn named_in_state(
     name: Word,
     text: &[u8],
     w: Word,
-    work: &mut [u8; 275296],
+    work: &mut Work,
     n: Counts,
     acts: u16,
 ) -> Acted

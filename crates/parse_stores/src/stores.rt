@@ -2,6 +2,7 @@
 use crate::Acted;
 use crate::leaves;
 use image_records::actions::Action;
+use parse_array::Work;
 use parse_levels::Level;
 use parse_step::Bearing;
 use parse_step::State;
@@ -45,7 +46,7 @@ fn storing(kind: u8, left: Sides, right: u16) -> Action
 }
 
 // `@` behind a reference.
-pub fn set(s: State, text: &[u8], w: Word, work: &mut [u8; 275296], acts: u16) -> Acted
+pub fn set(s: State, text: &[u8], w: Word, work: &mut Work, acts: u16) -> Acted
     ensures { λ r. ⌜ AfterLeft L.setSign (now (text .entry)) w s acts (now (work .entry)) (now (work .exit)) r ⌝ }
 {
     let found = w.kind;
@@ -68,7 +69,7 @@ pub fn set(s: State, text: &[u8], w: Word, work: &mut [u8; 275296], acts: u16) -
 }
 
 // A store, from its sign on.
-fn store(s: State, left: Sides, text: &[u8], w: Word, work: &mut [u8; 275296], acts: u16) -> Acted
+fn store(s: State, left: Sides, text: &[u8], w: Word, work: &mut Work, acts: u16) -> Acted
     ensures { λ r. ⌜ Stores left (now (text .entry)) w s acts (now (work .entry)) (now (work .exit)) r ⌝ }
 {
     let found = w.kind;
@@ -105,7 +106,7 @@ fn store(s: State, left: Sides, text: &[u8], w: Word, work: &mut [u8; 275296], a
 }
 
 // CON, a second reference, and the store.
-fn second(s: State, text: &[u8], w: Word, work: &mut [u8; 275296], acts: u16) -> Acted
+fn second(s: State, text: &[u8], w: Word, work: &mut Work, acts: u16) -> Acted
     ensures { λ r. ⌜ (kindNo (w .kind) ≡ conWord → AfterLeft L.leftRest (now (text .entry)) w s acts (now (work .entry)) (now (work .exit)) r) ⌝ }
 {
     let taken = taking::take(text, w, s, false, Bearing::Level);
@@ -134,7 +135,7 @@ fn second(s: State, text: &[u8], w: Word, work: &mut [u8; 275296], acts: u16) ->
 }
 
 // What follows the first reference in an operation.
-pub fn rest(s: State, text: &[u8], w: Word, work: &mut [u8; 275296], acts: u16) -> Acted
+pub fn rest(s: State, text: &[u8], w: Word, work: &mut Work, acts: u16) -> Acted
     ensures { λ r. ⌜ AfterLeft L.leftRest (now (text .entry)) w s acts (now (work .entry)) (now (work .exit)) r ⌝ }
 {
     let found = w.kind;

@@ -16,6 +16,7 @@ use Rattle.judge_records.specs.Noted.{endPlaces, facilityBesideBytes, placeByte
 use Rattle.text_words.specs.Meaning.{positioned}
 use Rattle.parse_array.specs.declared.nodes.Beside.{Beside}
 use Rattle.parse_array.specs.Held.{fields}
+use Rattle.parse_array.specs.Layout.{facilityRows}
 use Rattle.parse_tables.proofs.RowLaws.{kept-more}
 use Rattle.parse_tables.proofs.TwoBytes.{three-apart, two-low}
 use Rattle.parse_tables.specs.declared.facilities.Declared.{Declared}
@@ -76,7 +77,7 @@ beside-said name x p q g h i0 i1 i2 i3 i4 i5 j0 j1 j2 j3 k0 k1 =
 
 -- ---- All of it, added.
 
-module _ (n place : ℕ) (x : Declared) (h : n < 256) (small : place < 65536) {bs ps : List ℕ}
+module _ (n place : ℕ) (x : Declared) (h : n < facilityRows) (small : place < 65536) {bs ps : List ℕ}
     (f : (name : Name) (at : ℕ) → length name ≡ x .size → place ≡ at % 65536 → bs ≡ facilityRecord at (facilitySaid name x))
     (g : (name : Name) → ps ≡ facilityBesideBytes (facilitySaid name x) (placesSaid x)) where
   whole : length bs ≡ 13
@@ -86,11 +87,11 @@ module _ (n place : ℕ) (x : Declared) (h : n < 256) (small : place < 65536) {b
   unfolding facilityBesideBytes placeBytes little
   beside-length = ap length (g [])
 
-  pub facility-added : {w w₁ w₂ w₃ : List ℕ} → (length bs ≡ 13 → n < 256 → Wrote T.Facilities n bs w w₁) → (length ps ≡ 12 → n < 256 → Wrote T.FacilityPlaces n ps w₁ w₂)
-      → (_≡_ {A = ℕ} 4 4 → n < 256 → Wrote T.FacilityNames n (nameRow (x .at .place) (x .size)) w₂ w₃) → FacilityAdded n place x w w₃
+  pub facility-added : {w w₁ w₂ w₃ : List ℕ} → (length bs ≡ 13 → n < facilityRows → Wrote T.Facilities n bs w w₁) → (length ps ≡ 12 → n < facilityRows → Wrote T.FacilityPlaces n ps w₁ w₂)
+      → (_≡_ {A = ℕ} 4 4 → n < facilityRows → Wrote T.FacilityNames n (nameRow (x .at .place) (x .size)) w₂ w₃) → FacilityAdded n place x w w₃
   facility-added {w} {w₁} {w₂} {w₃} a b c = all (a whole h) (b beside-length h) (c refl h)
     where
-      few : n + 1 ≤ 256
+      few : n + 1 ≤ facilityRows
       few = omega arith
 
       all : Wrote T.Facilities n bs w w₁ → Wrote T.FacilityPlaces n ps w₁ w₂ → Wrote T.FacilityNames n (nameRow (x .at .place) (x .size)) w₂ w₃ → FacilityAdded n place x w w₃

@@ -11,6 +11,7 @@ use Rattle.language.specs.Encode.{little, two}
 use Rattle.image_records.proofs.NumberLaws.{number-back, number-two}
 use Rattle.parse_array.proofs.Naming.{name-at}
 use Rattle.parse_array.specs.Held.{otherIn}
+use Rattle.parse_array.specs.Layout.{facilityNamesFrom}
 use Rattle.parse_array.specs.Names.{letters, nameNo, namesIn}
 use Rattle.parse_tables.specs.declared.Table.the-variants as T
 use Rattle.parse_tables.specs.Names.{nameAt, nameRow, namesOf}
@@ -55,9 +56,9 @@ part-number w p k i h =
     byte : (j : ℕ) → j < k → getD (take k (drop p w)) j 0 ≡ getD w (p + j) 0
     byte j g = getD-take k (drop p w) j 0 g ∙ getD-drop p w j 0
 
-row-number : (w : List ℕ) (n i : ℕ) → i + 2 ≤ 4 * n → numberAt 2 i (rows T.FacilityNames n w) ≡ numberAt 2 (271712 + i) w
+row-number : (w : List ℕ) (n i : ℕ) → i + 2 ≤ 4 * n → numberAt 2 i (rows T.FacilityNames n w) ≡ numberAt 2 (facilityNamesFrom + i) w
 unfolding rows
-row-number w n i h = part-number w 271712 (4 * n) i h
+row-number w n i h = part-number w facilityNamesFrom (4 * n) i h
 
 module _ (text : List ℕ) where
   -- A name stands in four bytes.
@@ -111,5 +112,5 @@ module _ (text : List ℕ) where
     where
       one : (k : ℕ) → k < 0 + n → nameNo text (otherIn w) k ≡ nameAt text (rows T.FacilityNames n w) k
       one k g =
-          let e : 271712 + (4 * k + 2) ≡ 271712 + 4 * k + 2 = omega arith in
+          let e : facilityNamesFrom + (4 * k + 2) ≡ facilityNamesFrom + 4 * k + 2 = omega arith in
           name-at text w k ∙ sym (rw (row-number w n (4 * k) (omega arith), row-number w n (4 * k + 2) (omega arith), e) refl)

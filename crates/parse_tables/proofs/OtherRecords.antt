@@ -20,6 +20,7 @@ use Rattle.text_words.specs.declared.Position.{Position}
 use Rattle.text_words.specs.Meaning.{positioned}
 use Rattle.parse_array.specs.declared.nodes.Beside.{Beside}
 use Rattle.parse_array.specs.Held.{fields}
+use Rattle.parse_array.specs.Layout.{mostActions, operationRows, stateRows}
 use Rattle.parse_tables.proofs.RowLaws.{kept-more}
 use Rattle.parse_tables.proofs.TwoBytes.{three-apart}
 use Rattle.parse_tables.specs.Actions.{ActionAdded}
@@ -45,14 +46,14 @@ place-said p b e f g = rw (f, g) (bytes-two (b .at) ∙ three-apart (b .at) (b .
 
 -- ---- Actions.
 
-pub action-written : (a : Action) {n : ℕ} {bs w w′ : List ℕ} → bs ≡ actionBytes a → (length bs ≡ 7 → n < 4352 → Wrote T.Actions n bs w w′) → n < 4352 → Wrote T.Actions n (actionBytes a) w w′
+pub action-written : (a : Action) {n : ℕ} {bs w w′ : List ℕ} → bs ≡ actionBytes a → (length bs ≡ 7 → n < mostActions → Wrote T.Actions n bs w w′) → n < mostActions → Wrote T.Actions n (actionBytes a) w w′
 action-written a {n} {bs} {w} {w′} e f h = subst (λ (v : List ℕ). Wrote T.Actions n v w w′) e (f (ap length e ∙ action-length a) h)
 
-pub action-added : {n : ℕ} {a : Action} {at : Position} {ps w w₁ w₂ : List ℕ} → n < 4352 → (n < 4352 → Wrote T.Actions n (actionBytes a) w w₁) → ps ≡ placeBytes 0 (positioned at)
-    → (length ps ≡ 2 → n < 4352 → Wrote T.ActionPlaces n ps w₁ w₂) → ActionAdded n a at w w₂ true
+pub action-added : {n : ℕ} {a : Action} {at : Position} {ps w w₁ w₂ : List ℕ} → n < mostActions → (n < mostActions → Wrote T.Actions n (actionBytes a) w w₁) → ps ≡ placeBytes 0 (positioned at)
+    → (length ps ≡ 2 → n < mostActions → Wrote T.ActionPlaces n ps w₁ w₂) → ActionAdded n a at w w₂ true
 action-added {n} {a} {at} {ps} {w} {w₁} {w₂} h f e g = all (f h) (g (ap length e ∙ place-length 0 (positioned at)) h)
   where
-    few : n + 1 ≤ 4352
+    few : n + 1 ≤ mostActions
     few = omega arith
 
     all : Wrote T.Actions n (actionBytes a) w w₁ → Wrote T.ActionPlaces n ps w₁ w₂ → ActionAdded n a at w w₂ true
@@ -65,7 +66,7 @@ action-added {n} {a} {at} {ps} {w} {w₁} {w₂} h f e g = all (f h) (g (ap leng
       full = λ d. absurd (true≢false d);
     }
 
-pub action-full : {n : ℕ} {a : Action} {at : Position} {w : List ℕ} → 4352 ≤ n → ActionAdded n a at w w false
+pub action-full : {n : ℕ} {a : Action} {at : Position} {w : List ℕ} → mostActions ≤ n → ActionAdded n a at w w false
 action-full h = record {
   room = λ d. absurd (true≢false (sym d));
   records = λ d. absurd (true≢false (sym d));
@@ -94,14 +95,14 @@ pub operation-said : (size : ℕ) (b : Run) {r : List ℕ} → ((n : Name) → l
 operation-said size b g name l =
     g (blank (size % 256)) (blank-length (size % 256)) ∙ same-operation (blank (size % 256)) name b (omega (arith, blank-length (size % 256), l))
 
-pub operation-added : (n : ℕ) (at : Position) (size : ℕ) (body : C.Run) {bs ps w w₁ w₂ w₃ : List ℕ} → n < 128
+pub operation-added : (n : ℕ) (at : Position) (size : ℕ) (body : C.Run) {bs ps w w₁ w₂ w₃ : List ℕ} → n < operationRows
     → ((name : Name) → length name ≡ size → bs ≡ operationRecord (record { name = name; body = runMeant body })) → ps ≡ placeBytes 0 (positioned at)
-    → (length bs ≡ 5 → n < 128 → Wrote T.Operations n bs w w₁) → (length ps ≡ 2 → n < 128 → Wrote T.OperationPlaces n ps w₁ w₂)
-    → (_≡_ {A = ℕ} 4 4 → n < 128 → Wrote T.OperationNames n (nameRow (at .place) size) w₂ w₃) → OperationAdded n at size body w w₃
+    → (length bs ≡ 5 → n < operationRows → Wrote T.Operations n bs w w₁) → (length ps ≡ 2 → n < operationRows → Wrote T.OperationPlaces n ps w₁ w₂)
+    → (_≡_ {A = ℕ} 4 4 → n < operationRows → Wrote T.OperationNames n (nameRow (at .place) size) w₂ w₃) → OperationAdded n at size body w w₃
 operation-added n at size body {bs} {ps} {w} {w₁} {w₂} {w₃} h f e a b c =
     all (a (ap length (f (blank size) (blank-length size)) ∙ operation-length _) h) (b (ap length e ∙ place-length 0 (positioned at)) h) (c refl h)
   where
-    few : n + 1 ≤ 128
+    few : n + 1 ≤ operationRows
     few = omega arith
 
     all : Wrote T.Operations n bs w w₁ → Wrote T.OperationPlaces n ps w₁ w₂ → Wrote T.OperationNames n (nameRow (at .place) size) w₂ w₃ → OperationAdded n at size body w w₃
@@ -133,9 +134,9 @@ beside-length : (p q : L.Position) → length (stateBesideBytes (record { at = p
 unfolding stateBesideBytes placeBytes little
 beside-length p q = refl
 
-pub state-added : (n : ℕ) (at : L.Position) (size : ℕ) (v : Option ℕ) (vat : L.Position) (b : Run) {bs ps w w₁ w₂ : List ℕ} → n < 256
+pub state-added : (n : ℕ) (at : L.Position) (size : ℕ) (v : Option ℕ) (vat : L.Position) (b : Run) {bs ps w w₁ w₂ : List ℕ} → n < stateRows
     → ((name : Name) → length name ≡ size → bs ≡ stateRecord (record { name = name; value = v; actions = b })) → ps ≡ stateBesideBytes (record { at = at; value = vat })
-    → (length bs ≡ 7 → n < 256 → Wrote T.States n bs w w₁) → (length ps ≡ 4 → n < 256 → Wrote T.StatePlaces n ps w₁ w₂) → StateAdded n at size v vat b w w₂
+    → (length bs ≡ 7 → n < stateRows → Wrote T.States n bs w w₁) → (length ps ≡ 4 → n < stateRows → Wrote T.StatePlaces n ps w₁ w₂) → StateAdded n at size v vat b w w₂
 state-added n at size v vat b {bs} {ps} {w} {w₁} {w₂} h f e a c =
     all (a (ap length (f (blank size) (blank-length size)) ∙ state-length _) h) (c (ap length e ∙ beside-length at vat) h)
   where

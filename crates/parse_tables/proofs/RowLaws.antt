@@ -8,11 +8,12 @@ use native.Mathlib.Omega.{arith}
 use borrow.Author.Tests.{leb-true, ltb-false, ltb-true}
 use lib.Dec.{leb, ltb}
 use lib.ListN.{length, getD, take, drop, length-drop}
-use lib.Seq.{ext-getD, getD-drop, getD-take, length-take-le}
+use lib.Seq.{drop-drop, ext-getD, getD-drop, getD-take, length-take-le}
 use Rattle.image_records.proofs.ByteLaws.{placed-after, placed-before, placed-in, placed-length}
 use Rattle.image_records.specs.Placed.{placed}
 use Rattle.parse_array.proofs.Regions.{added-in, after-kept, before-kept, part-of}
-use Rattle.parse_array.specs.Held.{otherFrom}
+use Rattle.parse_array.specs.Held.{otherIn}
+use Rattle.parse_array.specs.Layout.{otherFrom, workSize}
 use Rattle.parse_tables.specs.declared.Table.{Table}
 use Rattle.parse_tables.specs.declared.Table.the-variants as T
 use Rattle.parse_tables.specs.Rows.{Kept, Wrote, apart, apartFrom, expressions, from, most, rows, size}
@@ -20,7 +21,7 @@ use Rattle.parse_tables.specs.Rows.{Kept, Wrote, apart, apartFrom, expre
 -- ---- Tables as they lie.
 
 -- A table ends within the array.
-pub ends-within : (t : Table) → from t + size t * most t ≤ 275296
+pub ends-within : (t : Table) → from t + size t * most t ≤ workSize
 ends-within T.Actions = omega arith
 ends-within T.ActionPlaces = omega arith
 ends-within T.Facilities = omega arith
@@ -34,7 +35,7 @@ ends-within T.OperationNames = omega arith
 ends-within T.StateNames = omega arith
 ends-within T.Labels = omega arith
 
-begins-behind : (t : Table) → 222432 ≤ from t
+begins-behind : (t : Table) → otherFrom ≤ from t
 begins-behind T.Actions = omega arith
 begins-behind T.ActionPlaces = omega arith
 begins-behind T.Facilities = omega arith
@@ -47,6 +48,14 @@ begins-behind T.FacilityNames = omega arith
 begins-behind T.OperationNames = omega arith
 begins-behind T.StateNames = omega arith
 begins-behind T.Labels = omega arith
+
+-- A table is read from all that stands behind the expressions.
+pub rows-other : (w w′ : List ℕ) → otherIn w′ ≡ otherIn w → (u : Table) (m : ℕ) → rows u m w′ ≡ rows u m w
+unfolding rows otherIn
+rows-other w w′ e u m =
+    let k = from u - otherFrom in
+    let g : from u ≡ otherFrom + k = omega (arith, begins-behind u) in
+    ap (take (size u * m)) (ap (λ (n : ℕ). drop n w′) g ∙ sym (drop-drop k otherFrom w′) ∙ ap (drop k) e ∙ drop-drop k otherFrom w ∙ sym (ap (λ (n : ℕ). drop n w) g))
 
 times-next : (k n : ℕ) → k * (n + 1) ≡ k * n + k
 times-next k n = omega arith
@@ -95,7 +104,7 @@ within-part s bs p i k h g =
     by-place j q false e false d =
         placed-after s bs (p + i) (p + j) (omega (arith, ltb-false j (i + length bs) d)) ∙ sym (placed-after r bs i j (ltb-false _ _ d) ∙ getD-part s j q)
 
-module _ (t : Table) (n : ℕ) (w bs : List ℕ) (l : length w ≡ 275296) (b : length bs ≡ size t) (h : n < most t) where
+module _ (t : Table) (n : ℕ) (w bs : List ℕ) (l : length w ≡ workSize) (b : length bs ≡ size t) (h : n < most t) where
   more : n + 1 ≤ most t
   more = omega arith
 
@@ -123,8 +132,8 @@ module _ (t : Table) (n : ℕ) (w bs : List ℕ) (l : length w ≡ 275296) (b : 
       go false e d = after-part w bs (from t + size t * n) fits (from u) (size u * m) (omega (arith, up-to t (n + 1) more, times-next (size t) n, leb-true (from t + size t * most t) (from u) d))
 
   row-front : expressions (placed w (from t + size t * n) bs) ≡ expressions w
-  unfolding expressions otherFrom
-  row-front = before-kept w bs (from t + size t * n) fits 222432 (omega (arith, begins-behind t))
+  unfolding expressions
+  row-front = before-kept w bs (from t + size t * n) fits otherFrom (omega (arith, begins-behind t))
 
   pub written : Wrote t n bs w (placed w (from t + size t * n) bs)
   written = record { whole = l; still = placed-length w bs (from t + size t * n) ∙ l; behind = row-behind; instead = row-instead; kept = record { tables = λ u a. row-apart u (one u a); front = row-front } }
@@ -137,7 +146,7 @@ module _ (t : Table) (n : ℕ) (w bs : List ℕ) (l : length w ≡ 275296) (b : 
           go false e = e
 
 -- The same, as the code has it.
-pub row-written : (t : Table) (n : ℕ) {w w′ bs : List ℕ} {a k : ℕ} → length w ≡ 275296 → length bs ≡ size t → n < most t → a ≡ from t → k ≡ size t → w′ ≡ placed w (a + k * n) bs
+pub row-written : (t : Table) (n : ℕ) {w w′ bs : List ℕ} {a k : ℕ} → length w ≡ workSize → length bs ≡ size t → n < most t → a ≡ from t → k ≡ size t → w′ ≡ placed w (a + k * n) bs
     → Wrote t n bs w w′
 row-written t n {w} {bs = bs} l b h e f g = subst (Wrote t n bs w) (sym (g ∙ rw (e, f))) (written t n w bs l b h)
 

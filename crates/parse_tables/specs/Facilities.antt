@@ -10,6 +10,7 @@ use Rattle.language.specs.Encode.{facilityRecord}
 use Rattle.language.specs.Tree.{Name}
 use Rattle.judge_records.specs.Noted.{facilityBesideBytes}
 use Rattle.text_words.specs.Meaning.{positioned}
+use Rattle.parse_array.specs.Layout.{workSize}
 use Rattle.parse_tables.specs.declared.extents.Ends.{Ends}
 use Rattle.parse_tables.specs.declared.facilities.Declared.{Declared}
 use Rattle.parse_tables.specs.declared.Table.the-variants as T
@@ -42,7 +43,7 @@ placesSaid x = record {
 
 -- Facility n stands behind those before it, with its places and its name; its place in the store ends in the bits of `place`.
 pub record FacilityAdded (n place : ℕ) (x : Declared) (w w′ : List ℕ) : Type 0 where
-  pub whole : length w ≡ 275296
+  pub whole : length w ≡ workSize
   pub records : (name : Name) (at : ℕ) → length name ≡ x .size → place ≡ at % 65536 → rows T.Facilities (n + 1) w′ ≡ rows T.Facilities n w ++ facilityRecord at (facilitySaid name x)
   pub places : (name : Name) → rows T.FacilityPlaces (n + 1) w′ ≡ rows T.FacilityPlaces n w ++ facilityBesideBytes (facilitySaid name x) (placesSaid x)
   pub names : rows T.FacilityNames (n + 1) w′ ≡ rows T.FacilityNames n w ++ nameRow (x .at .place) (x .size)

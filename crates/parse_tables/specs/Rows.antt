@@ -6,54 +6,56 @@ use Prim.Native.Nat.{ℕ, _+_, _*_, _<_, _≤_}
 use lib.Dec.{leb}
 use lib.ListN.{drop, length, take}
 use Rattle.image_records.specs.Placed.{placed}
-use Rattle.parse_array.specs.Held.{otherFrom}
+use Rattle.judge_records.specs.Noted.{actionBeside, facilityBeside, operationBeside, stateBeside}
+use Rattle.language.specs.Encode.{actionSize, facilitySize, operationSize, stateSize}
+use Rattle.parse_array.specs.Layout.{actionPlacesFrom, facilitiesFrom, facilityNamesFrom, facilityPlacesFrom, facilityRows, labelsFrom, mostActions, nameSize, operationNamesFrom, operationPlacesFrom, operationRows, operationsFrom, otherFrom, stateNamesFrom, statePlacesFrom, stateRows, statesFrom, workSize}
 use Rattle.parse_tables.specs.declared.Table.{Table}
 use Rattle.parse_tables.specs.declared.Table.the-variants as T
 
 -- Bytes of a record.
 abbrev pub size : Table → ℕ
-size T.Actions = 7
-size T.ActionPlaces = 2
-size T.Facilities = 13
-size T.FacilityPlaces = 12
-size T.Operations = 5
-size T.OperationPlaces = 2
-size T.States = 7
-size T.StatePlaces = 4
-size T.FacilityNames = 4
-size T.OperationNames = 4
-size T.StateNames = 4
-size T.Labels = 4
+size T.Actions = actionSize
+size T.ActionPlaces = actionBeside
+size T.Facilities = facilitySize
+size T.FacilityPlaces = facilityBeside
+size T.Operations = operationSize
+size T.OperationPlaces = operationBeside
+size T.States = stateSize
+size T.StatePlaces = stateBeside
+size T.FacilityNames = nameSize
+size T.OperationNames = nameSize
+size T.StateNames = nameSize
+size T.Labels = nameSize
 
 -- How many there is room for.
 abbrev pub most : Table → ℕ
-most T.Actions = 4352
-most T.ActionPlaces = 4352
-most T.Facilities = 256
-most T.FacilityPlaces = 256
-most T.Operations = 128
-most T.OperationPlaces = 128
-most T.States = 256
-most T.StatePlaces = 256
-most T.FacilityNames = 256
-most T.OperationNames = 128
-most T.StateNames = 256
-most T.Labels = 256
+most T.Actions = mostActions
+most T.ActionPlaces = mostActions
+most T.Facilities = facilityRows
+most T.FacilityPlaces = facilityRows
+most T.Operations = operationRows
+most T.OperationPlaces = operationRows
+most T.States = stateRows
+most T.StatePlaces = stateRows
+most T.FacilityNames = facilityRows
+most T.OperationNames = operationRows
+most T.StateNames = stateRows
+most T.Labels = stateRows
 
 -- Where a table begins.
 abbrev pub from : Table → ℕ
-from T.Actions = 222432
-from T.ActionPlaces = 252896
-from T.Facilities = 261600
-from T.FacilityPlaces = 264928
-from T.Operations = 268000
-from T.OperationPlaces = 268640
-from T.States = 268896
-from T.StatePlaces = 270688
-from T.FacilityNames = 271712
-from T.OperationNames = 272736
-from T.StateNames = 273248
-from T.Labels = 274272
+from T.Actions = otherFrom
+from T.ActionPlaces = actionPlacesFrom
+from T.Facilities = facilitiesFrom
+from T.FacilityPlaces = facilityPlacesFrom
+from T.Operations = operationsFrom
+from T.OperationPlaces = operationPlacesFrom
+from T.States = statesFrom
+from T.StatePlaces = statePlacesFrom
+from T.FacilityNames = facilityNamesFrom
+from T.OperationNames = operationNamesFrom
+from T.StateNames = stateNamesFrom
+from T.Labels = labelsFrom
 
 -- The bytes of the first n records.
 unfoldable pub rows : Table → ℕ → List ℕ → List ℕ
@@ -79,8 +81,8 @@ pub record Kept (ts : List Table) (w w′ : List ℕ) : Type 0 where
 
 -- Record n of a table was written: behind those before it, or in the place of the one that was there.
 pub record Wrote (t : Table) (n : ℕ) (bs w w′ : List ℕ) : Type 0 where
-  pub whole : length w ≡ 275296
-  pub still : length w′ ≡ 275296
+  pub whole : length w ≡ workSize
+  pub still : length w′ ≡ workSize
   pub behind : rows t (n + 1) w′ ≡ rows t n w ++ bs
   pub instead : (m : ℕ) → n < m → m ≤ most t → rows t m w′ ≡ placed (rows t m w) (size t * n) bs
   pub kept : Kept (t ∷ []) w w′

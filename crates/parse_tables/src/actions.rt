@@ -4,27 +4,27 @@ use crate::places;
 use crate::rows;
 use image_records::action_bytes;
 use image_records::actions::Action;
+use parse_array::Work;
+use parse_array::layout::MOST_ACTIONS;
 use text_words::Position;
 ghost use Prim.Native.Nat.{_<_};
 ghost use Rattle.language.specs.Encode.{actionBytes};
 ghost use Rattle.image_records.specs.Actions.{meant};
+ghost use Rattle.parse_array.specs.Layout.{mostActions};
 ghost use Rattle.parse_tables.specs.Actions.{ActionAdded};
 ghost use Rattle.parse_tables.specs.declared.Table.the-variants as T;
 ghost use Rattle.parse_tables.specs.Rows.{Wrote};
 
-// How many there is room for.
-const MOST_ACTIONS: u16 = 4352;
-
 // Writes the record of action n again.
-pub fn rewrite_action(work: &mut [u8; 275296], n: u16, action: Action)
-    ensures { λ _. ⌜ (n < 4352 → Wrote T.Actions n (actionBytes (meant action)) (now (work .entry)) (now (work .exit))) ⌝ }
+pub fn rewrite_action(work: &mut Work, n: u16, action: Action)
+    ensures { λ _. ⌜ (n < mostActions → Wrote T.Actions n (actionBytes (meant action)) (now (work .entry)) (now (work .exit))) ⌝ }
 {
     let written = action_bytes::action_bytes(action);
     rows::write(work, Table::Actions, n, &written);
 }
 
 // Adds action n with the place of its word; answers whether there was room.
-pub fn add_action(work: &mut [u8; 275296], n: u16, action: Action, at: Position) -> bool
+pub fn add_action(work: &mut Work, n: u16, action: Action, at: Position) -> bool
     ensures { λ r. ⌜ ActionAdded n (meant action) at (now (work .entry)) (now (work .exit)) r ⌝ }
 {
     if MOST_ACTIONS <= n {

@@ -9,6 +9,7 @@ use image_sections::facilities::Facility;
 use image_sections::facilities::Kind;
 use image_sections::facilities::ShortBounds;
 use image_sections::facility_bytes;
+use parse_array::Work;
 use parse_array::places;
 use text_words::Position;
 ghost use mathlib.Core.Path.{_≡_};
@@ -17,6 +18,7 @@ ghost use lib.ListN.{length};
 ghost use Rattle.language.specs.Encode.{facilityRecord};
 ghost use Rattle.language.specs.Tree.{Name};
 ghost use Rattle.judge_records.specs.Noted.{facilityBesideBytes};
+ghost use Rattle.parse_array.specs.Layout.{facilityRows};
 ghost use Rattle.parse_tables.specs.Facilities.{FacilityAdded, facilitySaid, placesSaid};
 
 // What a declaration says: the name by its place and size, and of a computed terminal the number of its expression and the place of its `=`.
@@ -86,8 +88,8 @@ pub fn facility_beside(x: Declared) -> [u8; 12]
 }
 
 // Adds facility n with the places of its words and its name.
-pub fn add_facility(work: &mut [u8; 275296], n: u16, place: u16, x: Declared)
-    ensures { λ _. ⌜ (n < 256 → FacilityAdded n place x (now (work .entry)) (now (work .exit))) ⌝ }
+pub fn add_facility(work: &mut Work, n: u16, place: u16, x: Declared)
+    ensures { λ _. ⌜ (n < facilityRows → FacilityAdded n place x (now (work .entry)) (now (work .exit))) ⌝ }
 {
     let written = facility_record(x, place);
     rows::write(work, Table::Facilities, n, &written);

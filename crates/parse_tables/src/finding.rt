@@ -3,6 +3,7 @@ use crate::Table;
 use crate::rows;
 use image_records::bytes;
 use image_records::numbers;
+use parse_array::Work;
 use parse_array::names::Found;
 use text_characters::names;
 ghost use mathlib.Core.Path.{_≡_};
@@ -20,14 +21,7 @@ fn at_most(n: u16) -> usize
 }
 
 // The number of the first of n names in a table that is the word of this place and length.
-pub fn find(
-    text: &[u8],
-    work: &[u8; 275296],
-    table: Table,
-    n: u16,
-    place: usize,
-    length: usize,
-) -> Found
+pub fn find(text: &[u8], work: &Work, table: Table, n: u16, place: usize, length: usize) -> Found
     ensures { λ r. ⌜ (size table ≡ 4 → n ≤ most table → n ≤ 256 → found r ≡ numberOf (letters (now (text .entry)) place length) 0 (namesOf (now (text .entry)) (rows table n (now (work .entry))) n)) ⌝ }
 {
     let s: &[u8] = work;

@@ -2,6 +2,7 @@
 use crate::Table;
 use crate::rows;
 use image_records::numbers;
+use parse_array::Work;
 use text_words::Position;
 use text_words::places;
 ghost use mathlib.Core.Path.{_≡_};
@@ -23,7 +24,7 @@ fn name_row(at: Position, length: usize) -> [u8; 4]
 }
 
 // Adds name n to a table of names.
-pub fn add_name(work: &mut [u8; 275296], table: Table, n: u16, at: Position, length: usize)
+pub fn add_name(work: &mut Work, table: Table, n: u16, at: Position, length: usize)
     ensures { λ _. ⌜ (size table ≡ 4 → n < most table → Wrote table n (nameRow (at .place) length) (now (work .entry)) (now (work .exit))) ⌝ }
 {
     let row = name_row(at, length);

@@ -7,6 +7,7 @@ use image_records::record_sizes;
 use image_sections::operations;
 use image_sections::operations::Operation;
 use image_sections::runs::Run;
+use parse_array::Work;
 use text_words::Position;
 ghost use mathlib.Core.Path.{_≡_};
 ghost use Prim.Native.Nat.{_<_};
@@ -14,6 +15,7 @@ ghost use lib.ListN.{length};
 ghost use Rattle.image_sections.specs.Declarations.{runMeant};
 ghost use Rattle.language.specs.Encode.{operationRecord};
 ghost use Rattle.language.specs.Tree.{Name};
+ghost use Rattle.parse_array.specs.Layout.{operationRows};
 ghost use Rattle.parse_tables.specs.Operations.{OperationAdded};
 
 // The bytes of a record.
@@ -26,8 +28,8 @@ fn operation_row(size: usize, body: Run) -> [u8; record_sizes::OPERATION]
 }
 
 // Adds operation n, whose name is given by its place and size.
-pub fn add_operation(work: &mut [u8; 275296], n: u16, at: Position, size: usize, body: Run)
-    ensures { λ _. ⌜ (n < 128 → OperationAdded n at size body (now (work .entry)) (now (work .exit))) ⌝ }
+pub fn add_operation(work: &mut Work, n: u16, at: Position, size: usize, body: Run)
+    ensures { λ _. ⌜ (n < operationRows → OperationAdded n at size body (now (work .entry)) (now (work .exit))) ⌝ }
 {
     let written = operation_row(size, body);
     rows::write(work, Table::Operations, n, &written);

@@ -1,28 +1,31 @@
 // The records of a table, by their numbers. Only these functions know where a table stands.
 use crate::Table;
 use image_records::bytes;
+use parse_array::Work;
+use parse_array::layout;
 ghost use mathlib.Core.Path.{_≡_};
 ghost use Prim.Native.Nat.{_<_, _≤_};
 ghost use lib.ListN.{length};
+ghost use Rattle.parse_array.specs.Layout.{workSize};
 ghost use Rattle.parse_tables.specs.Rows.{Wrote, from, most, size};
 
 // Where a table begins.
 pub fn begin(table: Table) -> usize
-    ensures { λ r. ⌜ (r ≡ from table) × (r ≤ 275296) ⌝ }
+    ensures { λ r. ⌜ (r ≡ from table) × (r ≤ workSize) ⌝ }
 {
     match table {
-        Table::Actions => 222432,
-        Table::ActionPlaces => 252896,
-        Table::Facilities => 261600,
-        Table::FacilityPlaces => 264928,
-        Table::Operations => 268000,
-        Table::OperationPlaces => 268640,
-        Table::States => 268896,
-        Table::StatePlaces => 270688,
-        Table::FacilityNames => 271712,
-        Table::OperationNames => 272736,
-        Table::StateNames => 273248,
-        Table::Labels => 274272,
+        Table::Actions => layout::ACTIONS,
+        Table::ActionPlaces => layout::ACTION_PLACES,
+        Table::Facilities => layout::FACILITIES,
+        Table::FacilityPlaces => layout::FACILITY_PLACES,
+        Table::Operations => layout::OPERATIONS,
+        Table::OperationPlaces => layout::OPERATION_PLACES,
+        Table::States => layout::STATES,
+        Table::StatePlaces => layout::STATE_PLACES,
+        Table::FacilityNames => layout::FACILITY_NAMES,
+        Table::OperationNames => layout::OPERATION_NAMES,
+        Table::StateNames => layout::STATE_NAMES,
+        Table::Labels => layout::LABELS,
     }
 }
 
@@ -31,23 +34,23 @@ pub fn bytes_of(table: Table) -> usize
     ensures { λ r. ⌜ (r ≡ size table) × (r ≤ 13) ⌝ }
 {
     match table {
-        Table::Actions => 7,
-        Table::ActionPlaces => 2,
-        Table::Facilities => 13,
-        Table::FacilityPlaces => 12,
-        Table::Operations => 5,
-        Table::OperationPlaces => 2,
-        Table::States => 7,
-        Table::StatePlaces => 4,
-        Table::FacilityNames => 4,
-        Table::OperationNames => 4,
-        Table::StateNames => 4,
-        Table::Labels => 4,
+        Table::Actions => layout::ACTION_SIZE,
+        Table::ActionPlaces => layout::ACTION_BESIDE,
+        Table::Facilities => layout::FACILITY_SIZE,
+        Table::FacilityPlaces => layout::FACILITY_BESIDE,
+        Table::Operations => layout::OPERATION_SIZE,
+        Table::OperationPlaces => layout::OPERATION_BESIDE,
+        Table::States => layout::STATE_SIZE,
+        Table::StatePlaces => layout::STATE_BESIDE,
+        Table::FacilityNames => layout::NAME_SIZE,
+        Table::OperationNames => layout::NAME_SIZE,
+        Table::StateNames => layout::NAME_SIZE,
+        Table::Labels => layout::NAME_SIZE,
     }
 }
 
 // Writes record n of a table.
-pub fn write(work: &mut [u8; 275296], table: Table, n: u16, row: &[u8])
+pub fn write(work: &mut Work, table: Table, n: u16, row: &[u8])
     ensures { λ _. ⌜ (length (now (row .entry)) ≡ size table → n < most table → Wrote table n (now (row .entry)) (now (work .entry)) (now (work .exit))) ⌝ }
 {
     let s: &mut [u8] = work;

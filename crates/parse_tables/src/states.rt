@@ -7,6 +7,7 @@ use image_sections::runs::Run;
 use image_sections::states;
 use image_sections::states::State;
 use image_sections::states::StateValue;
+use parse_array::Work;
 use text_words::Position;
 ghost use mathlib.Core.Path.{_≡_};
 ghost use Prim.Native.Nat.{_<_};
@@ -16,6 +17,7 @@ ghost use Rattle.language.specs.Encode.{stateRecord};
 ghost use Rattle.language.specs.Tree.{Name};
 ghost use Rattle.judge_records.specs.Noted.{stateBesideBytes};
 ghost use Rattle.text_words.specs.Meaning.{positioned};
+ghost use Rattle.parse_array.specs.Layout.{stateRows};
 ghost use Rattle.parse_tables.specs.States.{StateAdded};
 
 // The bytes of a record.
@@ -42,7 +44,7 @@ fn state_beside(at: Position, value: Position) -> [u8; 4]
 
 // Adds state n, whose label has `size` bytes and whose value stands at `spot`.
 pub fn add_state(
-    work: &mut [u8; 275296],
+    work: &mut Work,
     n: u16,
     at: Position,
     size: usize,
@@ -50,7 +52,7 @@ pub fn add_state(
     spot: Position,
     actions: Run,
 )
-    ensures { λ _. ⌜ (n < 256 → StateAdded n (positioned at) size (valueMeant value) (positioned spot) (runMeant actions) (now (work .entry)) (now (work .exit))) ⌝ }
+    ensures { λ _. ⌜ (n < stateRows → StateAdded n (positioned at) size (valueMeant value) (positioned spot) (runMeant actions) (now (work .entry)) (now (work .exit))) ⌝ }
 {
     let written = state_row(size, value, actions);
     rows::write(work, Table::States, n, &written);

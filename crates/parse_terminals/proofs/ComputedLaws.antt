@@ -6,8 +6,6 @@ use Prim.Native.Nat.{ℕ, _+_, _-_, _*_, _≤_}
 use native.Mathlib.Omega.{arith}
 use borrow.Author.Tests.{le-leb}
 use lib.Dec.{leb}
-use lib.ListN.{drop, take}
-use lib.Seq.{drop-drop}
 use Rattle.parse_step.proofs.Ceilings.{few-counted}
 use Rattle.parse_step.proofs.Saying.{makes-it}
 use Rattle.parse_step.specs.declared.Answer.{Answer}
@@ -31,29 +29,29 @@ use Rattle.language.specs.Tree as T
 use Rattle.language.specs.Tree.{Declaration, Expression, Extent}
 use Rattle.language.specs.Words.{Position}
 use Rattle.parse_expressions.specs.Phrases.{same}
+use Rattle.parse_tables.proofs.RowLaws.{rows-other}
+use Rattle.parse_tables.proofs.NamesGrown.{facilities-other}
+use Rattle.parse_tables.specs.declared.Table.the-variants as Tb
+use Rattle.parse_tables.specs.Names.{facilityNames}
 use Rattle.parse_tables.specs.Rows.{rows}
 use Rattle.text_words.specs.declared.Word.{Word}
 use Rattle.text_words.specs.Meaning.{positioned}
 use Rattle.parse_array.proofs.NodesAdded.{nodes-append, nodes-other}
-use Rattle.parse_array.specs.Held.{Held, held, mostNodes, otherFrom, otherIn, withNodes}
-use Rattle.parse_array.specs.Names.{namesIn}
+use Rattle.parse_array.specs.Held.{Held, held, otherIn, withNodes}
+use Rattle.parse_array.specs.Layout.{mostNodes}
 use Rattle.parse_terminals.specs.Functions.{Computes, FunctionRead}
 use Rattle.parse_terminals.specs.Inputs.{atFunction, withOne}
 use Rattle.parse_terminals.proofs.FunctionWords.{expression-first}
 
 -- ---- The tables lie behind the expressions.
 
-behind-expressions : (k : ℕ) (w w′ : List ℕ) → otherIn w′ ≡ otherIn w → drop (222432 + k) w′ ≡ drop (222432 + k) w
-unfolding otherIn otherFrom
-behind-expressions k w w′ e = sym (drop-drop k 222432 w′) ∙ ap (drop k) e ∙ drop-drop k 222432 w
-
 tabled-kept : {text : List ℕ} {ds : List Declaration} {place n : ℕ} {w w′ : List ℕ} → Tabled text ds place n w → otherIn w′ ≡ otherIn w → Tabled text ds place n w′
 unfolding rows
 tabled-kept {text} {n = n} {w} {w′} t e = record {
   known = t .known;
-  records = ap (take (Encode.facilitySize * n)) (behind-expressions 39168 w w′ e) ∙ t .records;
-  places = ap (take (12 * n)) (behind-expressions 42496 w w′ e) ∙ t .places;
-  names = ap (λ (v : List ℕ). namesIn text v n) e ∙ t .names;
+  records = rows-other w w′ e Tb.Facilities n ∙ t .records;
+  places = rows-other w w′ e Tb.FacilityPlaces n ∙ t .places;
+  names = facilities-other text w w′ e n ∙ t .names;
   store = t .store;
 }
 
@@ -102,7 +100,7 @@ within-kept {s} {s′} p n e =
 
 module _ {text : List ℕ} (equal : Word) {w : Word} {s : State} {work work′ : List ℕ} {a : Answer} {i : ℕ} (f : Parses (ask expression ∷ []) same (s .nesting) text w s work work′ a) (pay : Spends text 0 w s a) (l : i ≡ a .state .nodes - 1) where
   pub computed-read : Computes text equal w s work work′ (record { answer = a; kind = F.Computed; expression = i; equals = equal .at })
-  unfolding wordNo expressionNo mostNodes
+  unfolding wordNo expressionNo
   computed-read n ds place name x g = record {
     done = read;
     refused = λ h d K b. expression-first text w K (atFunction text name x equal b) s (g .seen) n ∙ told .refused h d (make makeComputed ∷ K) (atFunction text name x equal b);
@@ -116,7 +114,7 @@ module _ {text : List ℕ} (equal : Word) {w : Word} {s : State} {work work′ :
       known = ap (λ (j : State). j .known) (g .state)
 
       told : Says text sc (ask expression ∷ []) [] (λ b. b) (held (s .nodes) work) (s .nodes) (s .nesting) w s a work′
-      told = f sc (record { seen = g .seen; names = sym (ap (namesIn text (otherIn work)) known ∙ g .listed .tabled .names) })
+      told = f sc (record { seen = g .seen; names = sym (ap (facilityNames text work) known ∙ g .listed .tabled .names) })
 
       read : a .verdict ≡ Done → FunctionRead text ds place name x (ask functionOf ∷ []) (atFunction text name x equal) w s work′ (record { answer = a; kind = F.Computed; expression = i; equals = equal .at })
       read d = record {
@@ -134,7 +132,7 @@ module _ {text : List ℕ} (equal : Word) {w : Word} {s : State} {work work′ :
         seen = y .here .seen;
         within = within-kept p (y .nesting) (g .within);
         paid = paid;
-        others = record { operations = p .operations; states = p .states; nesting = y .nesting };
+        others = record { operations = p .operations; states = p .states; nesting = y .nesting; actions = p .actions };
       }
         where
           y : Read text sc (ask expression ∷ []) [] (λ b. b) (held (s .nodes) work) (s .nodes) (s .nesting) w s a work′

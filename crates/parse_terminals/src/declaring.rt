@@ -1,5 +1,6 @@
 // A terminal declared: a name, its dimensions and its function.
 use crate::functions;
+use parse_array::Work;
 use parse_bounds::extents;
 use parse_facilities::Progress;
 use parse_facilities::adding;
@@ -10,7 +11,7 @@ use text_words::Word;
 ghost use Rattle.parse_facilities.specs.Lists.{Ones, terminals};
 
 // Reads a terminal and adds it to the facilities.
-pub fn terminal(text: &[u8], w: Word, work: &mut [u8; 275296], s: State, place: u16) -> Progress
+pub fn terminal(text: &[u8], w: Word, work: &mut Work, s: State, place: u16) -> Progress
     ensures { λ r. ⌜ Ones terminals (now (text .entry)) w s place (now (work .entry)) (now (work .exit)) r ⌝ }
 {
     let named = naming::facility_name(text, w, s);

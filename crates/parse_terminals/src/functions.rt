@@ -2,6 +2,7 @@
 use crate::Defined;
 use crate::inputs;
 use image_sections::facilities::Kind;
+use parse_array::Work;
 use parse_levels::Level;
 use parse_step::Answer;
 use parse_step::Bearing;
@@ -33,7 +34,7 @@ fn plain(w: Word, s: State) -> Defined
 }
 
 // An expression behind the `=`, written behind those of the terminals before.
-fn computed(text: &[u8], equal: Word, w: Word, work: &mut [u8; 275296], s: State) -> Defined
+fn computed(text: &[u8], equal: Word, w: Word, work: &mut Work, s: State) -> Defined
     ensures { λ r. ⌜ Computes (now (text .entry)) equal w s (now (work .entry)) (now (work .exit)) r ⌝ }
 {
     let answer = parse_expressions::start(s, Level::Expression, text, w, work);
@@ -49,14 +50,7 @@ fn computed(text: &[u8], equal: Word, w: Word, work: &mut [u8; 275296], s: State
 }
 
 // What stands behind the `=`.
-fn behind_equal(
-    text: &[u8],
-    name: Word,
-    equal: Word,
-    w: Word,
-    work: &mut [u8; 275296],
-    s: State,
-) -> Defined
+fn behind_equal(text: &[u8], name: Word, equal: Word, w: Word, work: &mut Work, s: State) -> Defined
     ensures { λ r. ⌜ Follows (now (text .entry)) name equal w s (now (work .entry)) (now (work .exit)) r ⌝ }
 {
     let kind = w.kind;
@@ -79,7 +73,7 @@ pub fn function(
     name: Word,
     dimensions: u8,
     w: Word,
-    work: &mut [u8; 275296],
+    work: &mut Work,
     s: State,
 ) -> Defined
     ensures { λ r. ⌜ Functions (now (text .entry)) name dimensions w s (now (work .entry)) (now (work .exit)) r ⌝ }

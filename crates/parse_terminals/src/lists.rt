@@ -1,5 +1,6 @@
 // The list of terminals: separated by commas, and ended by a period or END.
 use crate::declaring;
+use parse_array::Work;
 use parse_facilities::Progress;
 use parse_facilities::lists;
 use parse_step::Bearing;
@@ -10,7 +11,7 @@ use text_words::Word;
 ghost use Rattle.parse_facilities.specs.Lists.{Lists, Mores, Stands, terminals};
 
 // Reads the terminals and the word that ends them.
-pub fn terminals(text: &[u8], w: Word, work: &mut [u8; 275296], s: State, place: u16) -> Progress
+pub fn terminals(text: &[u8], w: Word, work: &mut Work, s: State, place: u16) -> Progress
     requires { ⌜ Stands (now text) place w s (now work) ⌝ }
     ensures { λ r. ⌜ Lists terminals (now (text .entry)) w s place (now (work .entry)) (now (work .exit)) r ⌝ }
 {
@@ -28,7 +29,7 @@ pub fn terminals(text: &[u8], w: Word, work: &mut [u8; 275296], s: State, place:
 }
 
 // Behind a terminal: others, and the end. Each counts a facility, so that there are not too many.
-fn more(text: &[u8], w: Word, work: &mut [u8; 275296], s: State, place: u16) -> Progress
+fn more(text: &[u8], w: Word, work: &mut Work, s: State, place: u16) -> Progress
     requires { ⌜ Stands (now text) place w s (now work) ⌝ }
     ensures { λ r. ⌜ Mores terminals (now (text .entry)) w s place (now (work .entry)) (now (work .exit)) r ⌝ }
 {

@@ -1,5 +1,6 @@
 // The length that the bare values of states take.
 use judge_sections::wanted;
+use parse_array::Work;
 use parse_held::body;
 use parse_tables::Table;
 ghost use mathlib.Core.List.{List};
@@ -14,7 +15,7 @@ ghost use Rattle.parse_tables.specs.Rows as R;
 ghost use Rattle.call_read.specs.Lengths.{lending};
 
 // The length of the sequencing register among the first n facilities; 0 where there is none, or where it is longer than values are.
-pub fn sequencing_length(work: &[u8; 275296], n: u16) -> u16
+pub fn sequencing_length(work: &Work, n: u16) -> u16
     ensures { λ r. ⌜ ((es ep : List ℕ) (d : Description) (p : Places) → Declared (R.rows T.Facilities n (now (work .entry))) es (R.rows T.FacilityPlaces n (now (work .entry))) ep d p → lengthOf r ≡ lending (sequencingLength d p)) ⌝ }
 {
     let s: &[u8] = work;

@@ -1,5 +1,6 @@
 // The states of a text, read a first time for their labels and a second time with them as names.
 use crate::described::labels;
+use parse_array::Work;
 use parse_names::Counts;
 use parse_states::reading;
 use parse_step::State;
@@ -8,14 +9,7 @@ use text_words::Word;
 ghost use Rattle.call_read.specs.Ready.{Behind, Twice};
 
 // All states, behind the sections before them; l is the length that their bare values take, and 0 where there is none.
-pub fn states_of(
-    text: &[u8],
-    work: &mut [u8; 275296],
-    w: Word,
-    s: State,
-    acts: u16,
-    l: u16,
-) -> Acted
+pub fn states_of(text: &[u8], work: &mut Work, w: Word, s: State, acts: u16, l: u16) -> Acted
     requires { ⌜ Behind (now text) w s acts (now work) ⌝ }
     ensures { λ r. ⌜ Twice (now (text .entry)) l w s acts (now (work .entry)) (now (work .exit)) r ⌝ }
 {

@@ -2,6 +2,7 @@
 use crate::described::Outcome;
 use crate::described::lengths;
 use crate::described::twice;
+use parse_array::Work;
 use parse_held::Tally;
 use parse_step::Verdict;
 use text_words::Fault;
@@ -26,7 +27,7 @@ fn stopped(verdict: Verdict) -> Outcome
 }
 
 // Reads the text whole, whatever the array held.
-pub fn described(text: &[u8], work: &mut [u8; 275296]) -> Outcome
+pub fn described(text: &[u8], work: &mut Work) -> Outcome
     requires { ⌜ length (now text) ≤ 32768 ⌝ }
     ensures { λ r. ⌜ Described (now (text .entry)) (now (work .exit)) r ⌝ }
 {

@@ -1,6 +1,7 @@
 // The operations of a text: separated by commas, and ended by CONTROL.
 use crate::operations::ends;
 use crate::operations::one;
+use parse_array::Work;
 use parse_step::Bearing;
 use parse_step::State;
 use parse_step::kinds;
@@ -10,7 +11,7 @@ use text_words::Word;
 ghost use Rattle.parse_sections.specs.Lists.{Lists, Mores, Stands};
 
 // Reads the operations and CONTROL behind them.
-pub fn operations(text: &[u8], w: Word, work: &mut [u8; 275296], s: State, acts: u16) -> Acted
+pub fn operations(text: &[u8], w: Word, work: &mut Work, s: State, acts: u16) -> Acted
     requires { ⌜ Stands (now text) w s acts (now work) ⌝ }
     ensures { λ r. ⌜ Lists (now (text .entry)) w s acts (now (work .entry)) (now (work .exit)) r ⌝ }
 {
@@ -28,7 +29,7 @@ pub fn operations(text: &[u8], w: Word, work: &mut [u8; 275296], s: State, acts:
 }
 
 // Behind an operation: others, and the end. Each counts, so that there are not too many.
-fn more(text: &[u8], w: Word, work: &mut [u8; 275296], s: State, acts: u16) -> Acted
+fn more(text: &[u8], w: Word, work: &mut Work, s: State, acts: u16) -> Acted
     requires { ⌜ Stands (now text) w s acts (now work) ⌝ }
     ensures { λ r. ⌜ Mores (now (text .entry)) w s acts (now (work .entry)) (now (work .exit)) r ⌝ }
 {

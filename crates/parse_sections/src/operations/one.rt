@@ -1,6 +1,7 @@
 // One operation: what it begins with, its body, and its record.
 use crate::operations::heads;
 use image_sections::runs::Run;
+use parse_array::Work;
 use parse_names::Counts;
 use parse_step::Bearing;
 use parse_step::State;
@@ -14,7 +15,7 @@ ghost use Rattle.parse_sections.specs.Heads.{Body};
 ghost use Rattle.parse_sections.specs.Lists.{One};
 
 // The body and the bracket behind it.
-fn body(s: State, text: &[u8], w: Word, work: &mut [u8; 275296], n: Counts, acts: u16) -> Acted
+fn body(s: State, text: &[u8], w: Word, work: &mut Work, n: Counts, acts: u16) -> Acted
     ensures { λ r. ⌜ Body (now (text .entry)) n w s acts (now (work .entry)) (now (work .exit)) r ⌝ }
 {
     let list = parse_actions::list(s, false, text, w, work, n, acts);
@@ -42,7 +43,7 @@ fn since(n: u16, count: u16) -> u16
 }
 
 // Reads an operation. It knows the operations before it, and not itself.
-pub fn operation(text: &[u8], w: Word, work: &mut [u8; 275296], s: State, acts: u16) -> Acted
+pub fn operation(text: &[u8], w: Word, work: &mut Work, s: State, acts: u16) -> Acted
     ensures { λ r. ⌜ One (now (text .entry)) w s acts (now (work .entry)) (now (work .exit)) r ⌝ }
 {
     let head = heads::head(text, w, s);

@@ -3,7 +3,6 @@ use Rattle.language.specs.Description as D
 use Rattle.language.specs.Encode.{nodeBytes}
 use Rattle.language.specs.Value.{value}
 use Rattle.text_words.specs.Meaning.{positioned}
-use Rattle.parse_array.specs.Held.{mostNodes}
 use mathlib.Core.Bool.{true≢false}
 use Rattle.language.specs.Describe.{constantNodes}
 use Rattle.language.specs.Description.{furtherDigits, nodePlaces}
@@ -18,6 +17,7 @@ use native.Mathlib.Omega.{arith}
 use borrow.Author.Needs.{needs}
 use Rattle.parse_array.proofs.constants.add_constant.Statement.{statement}
 use Rattle.parse_array.proofs.constants.add_constant.Tie as tie
+use Rattle.parse_array.specs.Layout.{mostNodes}
 
 abbrev Inv-loop : tie.InvT-loop
 Inv-loop work₀ n v beside i₀ k₀ work i k =
@@ -48,9 +48,8 @@ returns c =
     record { nodes = λ e. absurd (true≢false (sym e)); added = λ e. absurd (true≢false (sym e)); full = λ e. c .before .add-node .ensures .full (c .if1 .left); most = omega (arith, c .before .before .before .before .before .loop .inv .0, all-records (valued (c .before .before .before .before .before .before .before .before .args .v)) (positioned (c .before .before .before .before .before .before .before .before .args .at))) }
 
 add-k : tie.Need-add-k Inv-loop μ-loop
-unfolding mostNodes
 add-k c =
-    let h : c .before .before .before .before .before .loop .k < 15888 = c .before .add-node .ensures .room (c .if1 .taken) in search needs
+    let h : c .before .before .before .before .before .loop .k < mostNodes = c .before .add-node .ensures .room (c .if1 .taken) in search needs
 
 sub-i : tie.Need-sub-i Inv-loop μ-loop
 sub-i c = search needs
@@ -69,9 +68,8 @@ add-node-requires-2 : tie.Need-add-node-requires-2 Inv-loop μ-loop
 add-node-requires-2 c κs = search needs
 
 add-t17 : tie.Need-add-t17 Inv-loop μ-loop
-unfolding mostNodes
 add-t17 c =
-    let h : c .before .before .before .before .before .loop .k < 15888 = c .before .add-node2 .ensures .room (c .if2 .taken) in search needs
+    let h : c .before .before .before .before .before .loop .k < mostNodes = c .before .add-node2 .ensures .room (c .if2 .taken) in search needs
 
 returns-2 : tie.Need-returns-2 Inv-loop μ-loop
 returns-2 c =

@@ -4,12 +4,10 @@ use borrow.Author.Needs.{needs}
 use Rattle.language.specs.Encode.{little}
 use Rattle.image_records.proofs.WrittenNodes.{node-length}
 use Rattle.parse_array.proofs.Regions.{record-written, six-bytes}
-use Rattle.parse_array.specs.Held.{mostNodes}
 use Rattle.parse_array.proofs.nodes.add_node.Statement.{statement}
 use Rattle.parse_array.proofs.nodes.add_node.Tie as tie
 
 returns : tie.Need-returns
-unfolding mostNodes
 returns c = record { room = λ e. absurd (true≢false (sym e)); added = λ e. absurd (true≢false (sym e)); full = λ e. c .if1 .taken }
 
 node-bytes-requires : tie.Need-node-bytes-requires
@@ -55,7 +53,7 @@ put-requires-2 : tie.Need-put-requires-2
 put-requires-2 c κs = search needs
 
 returns-2 : tie.Need-returns-2
-unfolding mostNodes little
+unfolding little
 returns-2 c =
     record {
       room = λ e. c .before .before .before .before .before .before .before .before .before .before .before .before .before .before .if1 .left;

@@ -1,4 +1,4 @@
-use Rattle.parse_array.specs.Held.{held, placesFrom}
+use Rattle.parse_array.specs.Held.{held}
 use borrow.Author.Needs.{needs}
 use Rattle.parse_held.proofs.body.node_places_of.Statement.{statement}
 use Rattle.parse_held.proofs.body.node_places_of.Tie as tie
@@ -10,7 +10,7 @@ part-requires : tie.Need-part-requires
 part-requires c κs = search needs
 
 returns : tie.Need-returns
-unfolding held placesFrom
+unfolding held
 returns c =
     c .part .ensures
 

@@ -1,4 +1,4 @@
-use Rattle.parse_array.specs.Held.{mostNodes}
+use Rattle.parse_array.specs.Layout.{mostNodes}
 use Rattle.parse_step.proofs.NodeGained.{gained, no-gain}
 use Prim.Native.Nat.{_-_, _<_}
 use borrow.Author.Needs.{needs}
@@ -9,9 +9,8 @@ add-node-requires : tie.Need-add-node-requires
 add-node-requires c κs = search needs
 
 add-with-nodes : tie.Need-add-with-nodes
-unfolding mostNodes
 add-with-nodes c =
-    let h : c .before .before .before .before .args .s .nodes < 15888 = c .before .before .add-node .ensures .room (c .before .if1 .taken) in search needs
+    let h : c .before .before .before .before .args .s .nodes < mostNodes = c .before .before .add-node .ensures .room (c .before .if1 .taken) in search needs
 
 with-nodes-requires : tie.Need-with-nodes-requires
 with-nodes-requires c κs = search needs
