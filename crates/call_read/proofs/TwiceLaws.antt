@@ -11,13 +11,13 @@ use Rattle.parse_step.specs.declared.Verdict.the-variants as Vd
 use Rattle.parse_step.specs.Course.{countsOf}
 use Rattle.parse_facilities.proofs.NameWords.{few-facilities}
 use Rattle.language.specs.Building.{Built, nothingBuilt, withText}
-use Rattle.language.specs.Decode.{upTo}
 use Rattle.language.specs.Machine.{Parsed, parsed, refused}
 use Rattle.language.specs.Tree as T
 use Rattle.language.specs.Tree.{Declaration, Operation}
 use Rattle.parse_names.specs.declared.Counts.{Counts}
 use Rattle.parse_sections.specs.Sections.{Ready}
-use Rattle.parse_stores.proofs.Keeping.{front-kept, names-kept}
+use Rattle.parse_stores.proofs.Keeping.{front-kept}
+use Rattle.parse_tables.proofs.NamesGrown.{names-few, names-kept, no-names}
 use Rattle.parse_stores.proofs.Standings.{few-operations, few-states}
 use Rattle.parse_stores.specs.Actions.{Standing, frontOf}
 use Rattle.parse_stores.specs.declared.Acted.{Acted}
@@ -26,12 +26,10 @@ use Rattle.parse_states.specs.States.{All, AllRead, Ends, moreOf, startStack}
 use Rattle.parse_states.specs.Written.{Written, labelsOf}
 use Rattle.parse_tables.specs.declared.Table.{Table}
 use Rattle.parse_tables.specs.declared.Table.the-variants as Tb
-use Rattle.parse_tables.specs.Names.{namesOf}
+use Rattle.parse_tables.specs.Names.{facilityNames, namesIn, namesOf}
 use Rattle.parse_tables.specs.Rows.{apartFrom, most, rows}
 use Rattle.text_words.specs.declared.Word.{Word}
-use Rattle.parse_array.specs.Held.{otherIn}
 use Rattle.parse_array.specs.Layout.{mostActions, mostNodes, workSize}
-use Rattle.parse_array.specs.Names.{namesIn}
 use Rattle.call_read.proofs.Fronts.{front-before, rows-before}
 use Rattle.call_read.proofs.WholeLaws.{named, whole-at}
 use Rattle.call_read.specs.Labels.{Copied}
@@ -39,10 +37,6 @@ use Rattle.call_read.specs.Ready.{Behind, Closes, Finished}
 
 abbrev pub counts : State → ℕ → Counts
 counts s n = record { facilities = s .known; operations = s .operations; states = n }
-
-no-names : (text s : List ℕ) → [] ≡ namesOf text s 0
-unfolding namesOf upTo
-no-names text s = refl
 
 -- The states of what was parsed.
 statesIn : Parsed Built → List T.State
@@ -64,19 +58,17 @@ written-again ds os e h = rw e at h
 
 module _ {text : List ℕ} {ds : List Declaration} {os : List Operation} {w : Word} {s : State} {acts : ℕ} where
   -- Where the labels of n states are known.
-  stands : {work : List ℕ} → Ready text ds os w s acts work → (n : ℕ) (labels : List (List ℕ)) → n ≤ 256 → labels ≡ namesOf text (rows Tb.StateNames n work) n
+  stands : {work : List ℕ} → Ready text ds os w s acts work → (n : ℕ) (labels : List (List ℕ)) → labels ≡ namesIn text Tb.StateNames work n
       → Standing text (named ds os labels) (counts s n) w s acts work
-  stands a n labels h e = record {
+  stands a n labels e = record {
     seen = a .standing .seen;
     short = a .standing .short;
     whole = a .standing .whole;
     within = a .standing .within;
     known = record {
       facilities = a .standing .known;
-      operations = sym (a .standing .tabled .names);
+      operations = sym (names-few text Tb.OperationNames _ (s .operations) (few-operations (countsOf s) (a .standing .within)) ∙ a .standing .tabled .names);
       states = e;
-      fewOperations = few-operations (countsOf s) (a .standing .within);
-      fewStates = h;
     };
     facilities = refl;
     nodes = omega (arith, a .standing .nodes);
@@ -85,7 +77,7 @@ module _ {text : List ℕ} {ds : List Declaration} {os : List Operation} {w : Wo
 
   module _ {w₁ : List ℕ} (a : Ready text ds os w s acts w₁) where
     pub first-stands : Standing text (named ds os []) (counts s 0) w s acts w₁
-    first-stands = stands a 0 [] (omega arith) (no-names text (rows Tb.StateNames 0 w₁))
+    first-stands = stands a 0 [] (no-names text Tb.StateNames w₁)
 
     module _ {l : ℕ} {r : Acted} {w′ : List ℕ} (q : All startStack l text (counts s 0) w s acts w₁ w′ r) where
       pub not-read : (r .answer .verdict ≡ Vd.Done → ⊥) → Closes text ds os l w s w′ r
@@ -123,8 +115,8 @@ module _ {text : List ℕ} {ds : List Declaration} {os : List Operation} {w : Wo
               front-kept w′ w₂ (first .standing .whole) long (c .kept .front) (s .nodes) few-nodes
               ∙ front-before (s .nodes) (r .answer .state .nodes) w₁ w′ _ (a .standing .whole) (omega (arith, first .written .nodes)) few-nodes (first .written .expressions)
 
-          facility-names-kept : namesIn text (otherIn w₂) (s .known) ≡ map (λ d. d .name) ds
-          facility-names-kept = names-kept text w₁ w₂ (λ m h. kept Tb.FacilityNames refl refl m h) (s .known) ∙ a .facilities .names
+          facility-names-kept : facilityNames text w₂ (s .known) ≡ map (λ d. d .name) ds
+          facility-names-kept = names-kept text Tb.FacilityNames w₁ w₂ (λ m h. kept Tb.FacilityNames refl refl m h) (s .known) ∙ a .facilities .names
 
           again : Ready text ds os w s acts w₂
           again = record {
@@ -173,10 +165,10 @@ module _ {text : List ℕ} {ds : List Declaration} {os : List Operation} {w : Wo
               ∙ ap (λ (x : List (List ℕ)). x ++ labelsOf (first .trees)) (none-before (a .standing .states))
             where
               none-before : s .states ≡ 0 → namesOf text (rows Tb.Labels (s .states) w₁) (s .states) ≡ []
-              none-before e = rw e (sym (no-names text (rows Tb.Labels 0 w₁)))
+              none-before e = rw e (sym (no-names text Tb.Labels w₁ ∙ names-few text Tb.Labels w₁ 0 (omega arith)))
 
           pub second-stands : Standing text (named ds os (labelsOf (first .trees))) (counts s (r .answer .state .states)) w s acts w₂
-          second-stands = stands again (r .answer .state .states) (labelsOf (first .trees)) few (sym labels)
+          second-stands = stands again (r .answer .state .states) (labelsOf (first .trees)) (sym (names-few text Tb.StateNames w₂ (r .answer .state .states) few ∙ labels))
 
           pub read-twice : {r₂ : Acted} {w₃ : List ℕ} → All startStack l text (counts s (r .answer .state .states)) w s acts w₂ w₃ r₂ → Closes text ds os l w s w₃ r₂
           read-twice {r₂} {w₃} q₂ = record { done = finished; refused = z .refused; full = z .full }

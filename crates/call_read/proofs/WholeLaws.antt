@@ -19,7 +19,7 @@ use Rattle.parse_sections.specs.Sections.{Ready}
 use Rattle.parse_stores.specs.Actions.{frontOf}
 use Rattle.parse_states.specs.Begins.{lengthOf}
 use Rattle.parse_states.specs.Written.{Written, labelsOf}
-use Rattle.parse_tables.proofs.NamesGrown.{facility-names}
+use Rattle.parse_tables.proofs.NamesGrown.{names-few}
 use Rattle.parse_tables.specs.declared.Table.the-variants as Tb
 use Rattle.parse_tables.specs.Names.{namesOf}
 use Rattle.parse_tables.specs.Rows.{rows}
@@ -140,7 +140,7 @@ module _ (t : Text) {text : List ℕ} {w : Word} {s s′ : State} {acts acts′ 
       actions = actions-are;
       states = states-are;
       facilityNames = ap (λ (v : List ℕ). namesOf text v (s .known)) (x .tables Tb.FacilityNames refl (s .known) (few .facilities))
-          ∙ sym (facility-names text w₂ (s .known) (few .facilities)) ∙ a .facilities .names ∙ facilities-named 0 ds;
+          ∙ sym (names-few text Tb.FacilityNames w₂ (s .known) (few .facilities)) ∙ a .facilities .names ∙ facilities-named 0 ds;
       operationNames = ap (λ (v : List ℕ). namesOf text v (s .operations)) (x .tables Tb.OperationNames refl (s .operations) (few .operations))
           ∙ a .standing .tabled .names ∙ operations-named 0 (t .operations);
       stateNames = ap (λ (v : List ℕ). namesOf text v (s′ .states)) (x .tables Tb.StateNames refl (s′ .states) (few .states))

@@ -1,4 +1,3 @@
-pub mod Naming
 pub mod NodesAdded
 pub mod PlaceLaws
 pub mod Regions

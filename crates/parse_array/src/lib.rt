@@ -7,7 +7,6 @@ ghost use Rattle.parse_array.specs.Layout.{workSize};
 pub mod bounds;
 pub mod constants;
 pub mod layout;
-pub mod names;
 pub mod nodes;
 pub mod places;
 

@@ -19,8 +19,9 @@ use Rattle.language.specs.Words.{fault}
 use Rattle.value_operators.specs.Meaning.{valued}
 use Rattle.text_words.specs.declared.Word.{Word}
 use Rattle.text_words.specs.Meaning.{positioned}
+use Rattle.parse_tables.proofs.NamesGrown.{facilities-other}
+use Rattle.parse_tables.specs.Names.{facilityNames}
 use Rattle.parse_array.specs.Held.{Held, held, otherIn, withNodes}
-use Rattle.parse_array.specs.Names.{namesIn}
 use Rattle.parse_array.proofs.NodesAdded.{nodes-append, nodes-other}
 use Rattle.parse_step.specs.declared.Answer.{Answer}
 use Rattle.parse_step.specs.declared.Bearing.the-variants.{Closes, Level, Opens}
@@ -101,7 +102,7 @@ module _ {text : List ℕ} {w : Word} {s : State} {work : List ℕ} (later : Boo
           let o : otherIn work₁ ≡ otherIn work = ap (λ (a : Held). a .other) (v .held d) ∙ nodes-other (held (t .state .nodes) work) (constantNodes (valued (w .value)) (positioned (w .at))) in
           let a : Here text sc (c .next) (c .state) work₁ = record {
             seen = subst (Seen text) (sym (v .word)) (p .seen);
-            names = here-passed h p .names ∙ ap (λ (l : List ℕ). namesIn text l (t .state .known)) (sym o) ∙ ap (λ (l : State). namesIn text (otherIn work₁) (l .known)) (sym q);
+            names = here-passed h p .names ∙ sym (facilities-other text work work₁ o (t .state .known)) ∙ ap (λ (l : State). facilityNames text work₁ (l .known)) (sym q);
           } in
           let b₁ : Pending sc (held (s .nodes) work) (s .nodes) u (c .state) work₁ = record {
             records = ap (λ (l : State). held (l .nodes) work₁) q ∙ v .held d ∙ ap (λ (l : ℕ). withNodes (held l work) (constantNodes (valued (w .value)) (positioned (w .at)))) (p .kept .nodes);

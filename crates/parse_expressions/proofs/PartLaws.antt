@@ -16,8 +16,8 @@ use Rattle.language.specs.Tree as T
 use Rattle.language.specs.Tree.{Expression}
 use Rattle.text_words.specs.declared.Word.{Word}
 use Rattle.text_words.specs.Meaning.{positioned}
-use Rattle.parse_array.specs.Held.{Held, held, otherIn, withNodes}
-use Rattle.parse_array.specs.Names.{namesIn}
+use Rattle.parse_tables.specs.Names.{facilityNames}
+use Rattle.parse_array.specs.Held.{Held, held, withNodes}
 use Rattle.parse_step.specs.declared.Answer.{Answer}
 use Rattle.parse_step.specs.declared.Bearing.the-variants.{Level}
 use Rattle.parse_step.specs.declared.State.{State}
@@ -78,7 +78,7 @@ module _ {text : List ℕ} {sc : Scope} {w : Word} {s : State} {work work′ : L
   part-says d y =
       let o = x .done d (h .seen) g in
       let i = o .0 in
-      let j = h .names ∙ ap (namesIn text (otherIn work)) (sym (i .known)) in
+      let j = h .names ∙ ap (facilityNames text work) (sym (i .known)) in
       let t = T.part (lettersOf text name) (positioned (name .at)) (endsOf w (e .last)) in
       made t [] (partOf text name w (e .last) sc) 0 (y sc j) refl refl (ap (λ (n : ℕ). held n work) (i .nodes) ∙ with-nothing (held (s .nodes) work)) (i .nodes ∙ plus-nothing (s .nodes)) refl refl (i .nesting)
       (record { seen = i .seen; names = j })
@@ -99,7 +99,7 @@ module _ {text : List ℕ} {sc : Scope} {w : Word} {s : State} {work work′ : L
     word-part-says d {m} k y =
         let o = x .done d (h .seen) g in
         let i = o .0 in
-        let j = h .names ∙ ap (namesIn text (otherIn work)) (sym (i .known)) in
+        let j = h .names ∙ ap (facilityNames text work) (sym (i .known)) in
         let t = T.wordPart (lettersOf text name) (positioned (name .at)) u (endsOf w (e .last)) in
         let l : m ≡ lastOf base (expressionSize u) = k ∙ ap (λ (n : ℕ). n - 1) (i .nodes ∙ p .nodes) in
         made t (nodesOf sc base u) (wordPartOf text name m w (e .last) sc) (expressionSize u) (y sc j) (ap (λ (n : ℕ). nodesOf sc base u ++ wordPartOf text name n w (e .last) sc ∷ []) (sym l)) refl

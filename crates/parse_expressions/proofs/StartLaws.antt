@@ -18,8 +18,8 @@ use Rattle.language.specs.Words as L
 use Rattle.judge_records.specs.Noted.{nodeBesideBytes}
 use Rattle.text_words.specs.declared.Word.{Word}
 use Rattle.text_words.specs.Meaning.{positioned}
-use Rattle.parse_array.specs.Held.{held, otherIn, withNodes}
-use Rattle.parse_array.specs.Names.{namesIn}
+use Rattle.parse_tables.specs.Names.{facilityNames}
+use Rattle.parse_array.specs.Held.{held, withNodes}
 use Rattle.parse_step.specs.declared.Answer.{Answer}
 use Rattle.parse_step.specs.declared.Bearing.the-variants.{Level, Opens}
 use Rattle.parse_step.specs.declared.State.{State}
@@ -115,7 +115,7 @@ module _ {text : List ℕ} {w : Word} {s : State} {work : List ℕ} where
         operand-here h =
             let p = x .done d₁ in
             let q = y .done d₂ (p .seen) in
-            record { seen = q .seen; names = here-passed h p .names ∙ ap (namesIn text (otherIn work)) (sym (q .kept .known)) }
+            record { seen = q .seen; names = here-passed h p .names ∙ ap (facilityNames text work) (sym (q .kept .known)) }
 
         operand-course : {sc : Scope} → Here text sc w s work → (l : Lv.Level) → headOf l (kindNo (w .kind)) ≡ head → (K : Stack) (b : Built)
             → runs text (stackOf l ++ K) w b s ≡ runs text (stackOf v ++ below head l K) (u .next) (keeping w b) (u .state)

@@ -13,17 +13,16 @@ use Rattle.language.specs.DescribeText.{facilitiesOf, facilityNodes, facilityOf
 use Rattle.language.specs.Encode.{facilityRecords, nodeSize}
 use Rattle.language.specs.Layout.{facilityBytes, storeSizeOf}
 use Rattle.language.specs.Tree.{Declaration, Name}
-use Rattle.parse_tables.proofs.NamesGrown.{facility-names, names-behind}
+use Rattle.parse_tables.proofs.NamesGrown.{names-behind, names-few}
 use Rattle.parse_tables.specs.declared.facilities.Declared.{Declared}
 use Rattle.parse_tables.specs.declared.Table.the-variants as T
 use Rattle.parse_tables.specs.Facilities.{FacilityAdded, facilitySaid}
-use Rattle.parse_tables.specs.Names.{namesOf}
+use Rattle.parse_tables.specs.Names.{facilityNames, namesOf}
 use Rattle.parse_tables.specs.Rows.{expressions, rows}
 use Rattle.text_words.specs.declared.Word.{Word}
 use Rattle.parse_array.proofs.Regions.{part-of, same-held}
 use Rattle.parse_array.specs.Held.{Held, held, otherIn, withNodes}
 use Rattle.parse_array.specs.Layout.{facilityNamesFrom, mostNodes, otherFrom, placesFrom, workSize}
-use Rattle.parse_array.specs.Names.{namesIn}
 use Rattle.parse_facilities.proofs.Appended.{besides-last, facilities-last, length-last, names-last, records-last, store-last}
 use Rattle.parse_facilities.specs.Listed.{Added, Awaiting, Listed, Says, besides, knownState, noneHeld}
 
@@ -69,13 +68,13 @@ module _ (text : List ℕ) (ds : List Declaration) (d : Declaration) (place : �
   unfolding rows
   row-length = length-take-le (4 * s .known) (drop facilityNamesFrom w) (omega (arith, length-drop facilityNamesFrom w, f .whole, a .room))
 
-  names : namesIn text (otherIn w′) (suc (s .known)) ≡ map (λ (v : Declaration). v .name) (ds ++ d ∷ [])
+  names : facilityNames text w′ (suc (s .known)) ≡ map (λ (v : Declaration). v .name) (ds ++ d ∷ [])
   names =
-      facility-names text w′ (suc (s .known)) (omega (arith, a .room))
+      names-few text T.FacilityNames w′ (suc (s .known)) (omega (arith, a .room))
       ∙ ap (λ (n : ℕ). namesOf text (rows T.FacilityNames n w′) n) n+1
       ∙ ap (λ (v : List ℕ). namesOf text v (s .known + 1)) (f .names)
       ∙ names-behind text (rows T.FacilityNames (s .known) w) (s .known) (x .at .place) (x .size) row-length (y .near) (y .short)
-      ∙ rw (← facility-names text w (s .known) (omega (arith, a .room)), a .tabled .names, ← y .name) (sym (names-last ds d))
+      ∙ rw (← names-few text T.FacilityNames w (s .known) (omega (arith, a .room)), a .tabled .names, ← y .name) (sym (names-last ds d))
 
   after : {p : ℕ} → ((name : Name) → p ≡ (place + facilityBytes (facilitySaid name x)) % 65536) → p ≡ storeSizeOf (facilitiesOf 0 (ds ++ d ∷ [])) % 65536
   after {p} g =

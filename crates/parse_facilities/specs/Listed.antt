@@ -13,11 +13,12 @@ use Rattle.judge_records.specs.Noted.{facilityBesideBytes}
 use Rattle.parse_tables.specs.declared.facilities.Declared.{Declared}
 use Rattle.parse_tables.specs.declared.Table.the-variants as T
 use Rattle.parse_tables.specs.Facilities.{facilitySaid, placesSaid}
+use Rattle.parse_tables.specs.Names.{facilityNames}
 use Rattle.parse_tables.specs.Rows.{rows}
 use Rattle.text_words.specs.declared.Word.{Word}
 use Rattle.parse_array.specs.Held.{Held, held, otherIn, withNodes}
 use Rattle.parse_array.specs.Layout.{mostNodes}
-use Rattle.parse_array.specs.Names.{letters, namesIn}
+use Rattle.parse_array.specs.Names.{letters}
 use Rattle.parse_facilities.specs.declared.Progress.{Progress}
 
 -- The bytes of their places.
@@ -34,7 +35,7 @@ pub record Tabled (text : List ℕ) (ds : List Declaration) (place n : ℕ) (wor
   pub known : n ≡ length ds
   pub records : rows T.Facilities n work ≡ facilityRecords 0 (facilitiesOf 0 ds)
   pub places : rows T.FacilityPlaces n work ≡ besides 0 ds
-  pub names : namesIn text (otherIn work) n ≡ map (λ d. d .name) ds
+  pub names : facilityNames text work n ≡ map (λ d. d .name) ds
   pub store : place ≡ storeSizeOf (facilitiesOf 0 ds) % 65536
 
 -- The expressions hold those of ds.

@@ -1,17 +1,14 @@
 -- A meaning by what is found among facilities, operations and states.
 use mathlib.Core.List.{List}
-use mathlib.Core.Path.{_≡_, refl, sym, ap, _∙_}
-use Prim.Native.Nat.{ℕ, _≤_}
-use native.Mathlib.Omega.{arith}
+use mathlib.Core.Path.{_≡_, sym, ap, _∙_}
+use Prim.Native.Nat.{ℕ}
 use Rattle.language.specs.Naming as L
 use Rattle.language.specs.Naming.{Scope, meaning, numberOf, orElse}
 use Rattle.parse_tables.specs.declared.Table.the-variants as T
-use Rattle.parse_tables.specs.Names.{namesOf}
-use Rattle.parse_tables.specs.Rows.{rows}
-use Rattle.parse_array.specs.declared.names.Found.{Found}
-use Rattle.parse_array.specs.declared.names.Found.the-variants.{At, Nothing}
-use Rattle.parse_array.specs.Held.{otherIn}
-use Rattle.parse_array.specs.Names.{found, letters, namesIn}
+use Rattle.parse_tables.specs.Names.{facilityNames, found, namesIn}
+use Rattle.parse_tables.specs.declared.finding.Found.{Found}
+use Rattle.parse_tables.specs.declared.finding.Found.the-variants.{At, Nothing}
+use Rattle.parse_array.specs.Names.{letters}
 use Rattle.parse_names.specs.declared.Counts.{Counts}
 use Rattle.parse_names.specs.Known.{Known}
 
@@ -33,17 +30,9 @@ module _ (f o s : Found) where
   as-unknown e g h = sym (ap (λ (x : Found). chosen x o s) e ∙ ap (λ (x : Found). chosen Nothing x s) g ∙ ap (λ (x : Found). chosen Nothing Nothing x) h)
 
 pub by-tables : (text work : List ℕ) (n : Counts) (place length : ℕ) (f o s : Found)
-    → found f ≡ numberOf (letters text place length) 0 (namesIn text (otherIn work) (n .facilities))
-    → (_≡_ {A = ℕ} 4 4 → n .operations ≤ 128 → n .operations ≤ 256 → found o ≡ numberOf (letters text place length) 0 (namesOf text (rows T.OperationNames (n .operations) work) (n .operations)))
-    → (_≡_ {A = ℕ} 4 4 → n .states ≤ 256 → n .states ≤ 256 → found s ≡ numberOf (letters text place length) 0 (namesOf text (rows T.StateNames (n .states) work) (n .states)))
+    → found f ≡ numberOf (letters text place length) 0 (facilityNames text work (n .facilities))
+    → found o ≡ numberOf (letters text place length) 0 (namesIn text T.OperationNames work (n .operations))
+    → found s ≡ numberOf (letters text place length) 0 (namesIn text T.StateNames work (n .states))
     → (sc : Scope) → Known text sc n work → chosen f o s ≡ meaning sc (letters text place length)
 unfolding meaning
-by-tables text work n place length f o s e g h sc k =
-    rw (
-      k .facilities,
-      k .operations,
-      k .states,
-      ← e,
-      ← g refl (k .fewOperations) (omega (arith, k .fewOperations)),
-      ← h refl (k .fewStates) (k .fewStates),
-    )
+by-tables text work n place length f o s e g h sc k = rw (k .facilities, k .operations, k .states, ← e, ← g, ← h)

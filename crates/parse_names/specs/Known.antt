@@ -1,25 +1,21 @@
 -- The names known at a place of the text, as the working array holds them, and what one means.
 use mathlib.Core.List.{List}
 use mathlib.Core.Path.{_≡_}
-use Prim.Native.Nat.{ℕ, _≤_}
+use Prim.Native.Nat.{ℕ}
 use Rattle.language.specs.Naming as L
 use Rattle.language.specs.Naming.{Scope, meaning}
 use Rattle.parse_tables.specs.declared.Table.the-variants as T
-use Rattle.parse_tables.specs.Names.{namesOf}
-use Rattle.parse_tables.specs.Rows.{rows}
-use Rattle.parse_array.specs.Held.{otherIn}
-use Rattle.parse_array.specs.Names.{letters, namesIn}
+use Rattle.parse_tables.specs.Names.{facilityNames, namesIn}
+use Rattle.parse_array.specs.Names.{letters}
 use Rattle.parse_names.specs.declared.Counts.{Counts}
 use Rattle.parse_names.specs.declared.Meaning.{Meaning}
 use Rattle.parse_names.specs.declared.Meaning.the-variants as M
 
 -- The names of a scope stand in their tables.
 pub record Known (text : List ℕ) (sc : Scope) (n : Counts) (work : List ℕ) : Type 0 where
-  pub facilities : sc .facilities ≡ namesIn text (otherIn work) (n .facilities)
-  pub operations : sc .operations ≡ namesOf text (rows T.OperationNames (n .operations) work) (n .operations)
-  pub states : sc .states ≡ namesOf text (rows T.StateNames (n .states) work) (n .states)
-  pub fewOperations : n .operations ≤ 128
-  pub fewStates : n .states ≤ 256
+  pub facilities : sc .facilities ≡ facilityNames text work (n .facilities)
+  pub operations : sc .operations ≡ namesIn text T.OperationNames work (n .operations)
+  pub states : sc .states ≡ namesIn text T.StateNames work (n .states)
 
 abbrev pub meant : Meaning → L.Meaning
 meant (M.Facility k) = L.facility k

@@ -1,9 +1,8 @@
 // What a name means: a facility, or else an operation, or else a state, the first that was declared.
 use parse_array::Work;
-use parse_array::names;
-use parse_array::names::Found;
 use parse_tables::Table;
 use parse_tables::finding;
+use parse_tables::finding::Found;
 ghost use Rattle.parse_names.specs.Known.{Means};
 
 pub enum Meaning {
@@ -24,7 +23,14 @@ pub struct Counts {
 pub fn what(text: &[u8], work: &Work, n: Counts, place: usize, length: usize) -> Meaning
     ensures { λ r. ⌜ Means (now (text .entry)) (now (work .entry)) n place length r ⌝ }
 {
-    let f = names::facility(text, work, n.facilities, place, length);
+    let f = finding::find(
+        text,
+        work,
+        Table::FacilityNames,
+        n.facilities,
+        place,
+        length,
+    );
     let o = finding::find(
         text,
         work,

@@ -9,8 +9,7 @@ use Rattle.language.specs.Naming.{Scope}
 use Rattle.value_operators.specs.Meaning.{valued}
 use Rattle.text_words.specs.declared.Word.{Word}
 use Rattle.text_words.specs.Meaning.{positioned}
-use Rattle.parse_array.specs.Held.{otherIn}
-use Rattle.parse_array.specs.Names.{namesIn}
+use Rattle.parse_tables.specs.Names.{facilityNames}
 use Rattle.parse_step.specs.declared.Answer.{Answer}
 use Rattle.parse_step.specs.declared.State.{State}
 use Rattle.parse_step.specs.declared.Verdict.the-variants.{Done}
@@ -33,5 +32,5 @@ module _ {w : Word} {s : State} {t r : Answer} {work work′ : List ℕ} {n : �
 
 -- Whatever the scope is, a reference takes one record.
 pub adds-spends : {B P : Scope → List ℕ} {text : List ℕ} {next : Word} {s : State} {work work′ : List ℕ} {r : Answer}
-    → ((sc : Scope) → sc .facilities ≡ namesIn text (otherIn work) (s .known) → Gained next s (B sc) (P sc) work work′ r) → Spends text 2 next s r
-adds-spends {text = text} {s = s} {work = work} a = gained-spends (a (record { facilities = namesIn text (otherIn work) (s .known); operations = []; states = [] }) refl)
+    → ((sc : Scope) → sc .facilities ≡ facilityNames text work (s .known) → Gained next s (B sc) (P sc) work work′ r) → Spends text 2 next s r
+adds-spends {text = text} {s = s} {work = work} a = gained-spends (a (record { facilities = facilityNames text work (s .known); operations = []; states = [] }) refl)

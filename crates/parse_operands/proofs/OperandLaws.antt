@@ -21,9 +21,10 @@ use Rattle.language.specs.Kinds.{aConstant}
 use Rattle.value_operators.specs.Meaning.{valued}
 use Rattle.text_words.specs.declared.Word.{Word}
 use Rattle.text_words.specs.Meaning.{positioned}
+use Rattle.parse_tables.proofs.NamesGrown.{facilities-other}
+use Rattle.parse_tables.specs.Names.{facilityNames}
 use Rattle.parse_array.proofs.NodesAdded.{nodes-other}
 use Rattle.parse_array.specs.Held.{Held, held, otherIn, withNodes}
-use Rattle.parse_array.specs.Names.{namesIn}
 use Rattle.parse_step.specs.declared.Answer.{Answer}
 use Rattle.parse_step.specs.declared.State.{State}
 use Rattle.parse_step.specs.declared.Verdict.the-variants.{Done}
@@ -64,7 +65,7 @@ module _ {text : List ℕ} {sc : Scope} {P Q : Stack} {pre : Built → Built} {b
           nesting = ap (λ (q : State). q .nesting) p ∙ n;
           here = record {
             seen = subst (Seen text) (sym (x .word)) (h .seen);
-            names = h .names ∙ ap (λ (y : List ℕ). namesIn text y (s₁ .known)) (sym (other d)) ∙ ap (λ (q : State). namesIn text (otherIn work′) (q .known)) (sym p);
+            names = h .names ∙ sym (facilities-other text work work′ (other d) (s₁ .known)) ∙ ap (λ (q : State). facilityNames text work′ (q .known)) (sym p);
           };
         };
     refused = λ f d. absurd (x .refused f d);
@@ -130,7 +131,7 @@ module _ (kind : ℕ) (at : L.Position) {text : List ℕ} {sc : Scope} {w : Word
       let l : m ≡ lastOf base (expressionSize t) = e ∙ ap (λ (x : State). x .nodes - 1) v ∙ ap (λ (x : ℕ). x - 1) (o .nodes) in
       made c (nodesOf sc base t) (noted (D.cut kind (lastOf base (expressionSize t)) (count (number (w .value .limbs)))) at) (expressionSize t) g refl refl
       (ap (λ (x : State). held (x .nodes) work) v ∙ o .records) (ap (λ (x : State). x .nodes) v ∙ o .nodes) (rw (l, f)) i (ap (λ (x : State). x .nesting) v)
-      (record { seen = q .seen; names = h .names ∙ ap (λ (x : State). namesIn text (otherIn work) (x .known)) (sym v) })
+      (record { seen = q .seen; names = h .names ∙ ap (λ (x : State). facilityNames text work (x .known)) (sym v) })
       (λ K b. q .course (make (treeSteps .makeCut) ∷ K) (keepWord (L.sign kind at) (pushed t b))
       ∙ makes-it text (treeSteps .makeCut) K (r .next) (keepWord (constantWord w) (keepWord (L.sign kind at) (pushed t b))) (pushed c b) (r .state) (λ x. refl))
 

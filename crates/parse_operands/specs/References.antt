@@ -17,8 +17,7 @@ use Rattle.judge_records.specs.Noted.{nodeBesideBytes}
 use Rattle.value_operators.specs.Meaning.{valued}
 use Rattle.text_words.specs.declared.Word.{Word}
 use Rattle.text_words.specs.Meaning.{positioned}
-use Rattle.parse_array.specs.Held.{otherIn}
-use Rattle.parse_array.specs.Names.{namesIn}
+use Rattle.parse_tables.specs.Names.{facilityNames}
 use Rattle.parse_step.specs.declared.Answer.{Answer}
 use Rattle.parse_step.specs.declared.State.{State}
 use Rattle.parse_step.specs.Gained.{Gained}
@@ -47,5 +46,5 @@ wordPartOf text name e a b sc = notedPart (ofFacility (meaning sc (lettersOf tex
 -- A record is added, by what its name means in a scope that has the facilities known.
 abbrev pub Adds : (Scope → Noted) → List ℕ → Word → State → List ℕ → List ℕ → Answer → Type 0
 Adds X text next s work work′ r =
-    (sc : Scope) → sc .facilities ≡ namesIn text (otherIn work) (s .known)
+    (sc : Scope) → sc .facilities ≡ facilityNames text work (s .known)
     → Gained next s (nodeBytes (X sc .node)) (nodeBesideBytes (X sc .node) (X sc .places)) work work′ r

@@ -2,11 +2,12 @@
 use image_records::nodes::Node;
 use parse_array::Work;
 use parse_array::bounds;
-use parse_array::names;
-use parse_array::names::Found;
 use parse_step::Answer;
 use parse_step::State;
 use parse_step::adding;
+use parse_tables::Table;
+use parse_tables::finding;
+use parse_tables::finding::Found;
 use text_words::Word;
 use text_words::places;
 ghost use mathlib.Core.Path.{_≡_};
@@ -17,16 +18,22 @@ ghost use Rattle.language.specs.Description.{bounds};
 ghost use Rattle.language.specs.Naming.{meaning, numberOf, ofFacility};
 ghost use Rattle.image_records.specs.Nodes.{meant};
 ghost use Rattle.text_words.specs.Meaning.{positioned};
-ghost use Rattle.parse_array.specs.Held.{otherIn};
-ghost use Rattle.parse_array.specs.Names.{found, namesIn};
+ghost use Rattle.parse_tables.specs.Names.{facilityNames, found};
 ghost use Rattle.parse_operands.specs.References.{Adds, lettersOf, ofFound, ofKnown, partOf, wordPartOf};
 
 // Which facility a name means, of those known.
 fn facility(text: &[u8], work: &Work, known: u16, name: Word) -> Found
-    ensures { λ r. ⌜ found r ≡ numberOf (lettersOf (now (text .entry)) name) 0 (namesIn (now (text .entry)) (otherIn (now (work .entry))) known) ⌝ }
+    ensures { λ r. ⌜ found r ≡ numberOf (lettersOf (now (text .entry)) name) 0 (facilityNames (now (text .entry)) (now (work .entry)) known) ⌝ }
 {
     let at = name.at;
-    names::facility(text, work, known, places::place(at), name.size)
+    finding::find(
+        text,
+        work,
+        Table::FacilityNames,
+        known,
+        places::place(at),
+        name.size,
+    )
 }
 
 fn whole(f: Found) -> Node

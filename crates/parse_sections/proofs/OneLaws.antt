@@ -14,7 +14,6 @@ use Rattle.parse_step.specs.declared.Verdict.the-variants.{Done}
 use Rattle.parse_step.specs.Course.{Stack, countsOf, runs}
 use Rattle.parse_facilities.proofs.Unexpressed.{letters-length}
 use Rattle.language.specs.Building.{Built, joined, listNo, withText, wordNo}
-use Rattle.language.specs.Decode.{upTo}
 use Rattle.language.specs.Declaring.{makeOperation}
 use Rattle.language.specs.DescribeText.{operationScope}
 use Rattle.language.specs.Machine.{ask, make, operationSpec}
@@ -22,19 +21,19 @@ use Rattle.language.specs.Naming.{Scope}
 use Rattle.language.specs.Tree.{Name, Operation}
 use Rattle.parse_names.specs.declared.Counts.{Counts}
 use Rattle.parse_names.specs.Known.{Known}
-use Rattle.parse_stores.proofs.Keeping.{front-kept, names-kept}
+use Rattle.parse_stores.proofs.Keeping.{front-kept}
+use Rattle.parse_tables.proofs.NamesGrown.{names-few, names-kept, no-names}
 use Rattle.parse_stores.proofs.Standings.{few-operations}
 use Rattle.parse_stores.specs.Actions as A
 use Rattle.parse_stores.specs.Actions.{grown}
 use Rattle.parse_stores.specs.declared.Acted.{Acted}
 use Rattle.parse_tables.specs.declared.Table.the-variants as T
-use Rattle.parse_tables.specs.Names as Tn
 use Rattle.parse_tables.specs.Operations.{OperationAdded}
-use Rattle.parse_tables.specs.Rows.{rows}
+use Rattle.parse_tables.specs.Names.{facilityNames}
 use Rattle.text_words.specs.declared.Word.{Word}
 use Rattle.text_words.specs.Meaning.{positioned}
-use Rattle.parse_array.specs.Held.{Held, otherIn}
-use Rattle.parse_array.specs.Names.{letters, namesIn}
+use Rattle.parse_array.specs.Held.{Held}
+use Rattle.parse_array.specs.Names.{letters}
 use Rattle.parse_sections.proofs.Appended.{namesOf}
 use Rattle.parse_sections.proofs.ListedMore.{bodies-more, tabled-more, tables-kept}
 use Rattle.parse_sections.proofs.Telling.{through-not}
@@ -46,16 +45,12 @@ use Rattle.parse_sections.specs.Lists.{One, OneRead, withOperations}
 abbrev pub before : State → Counts
 before s = record { facilities = s .known; operations = s .operations; states = 0 }
 
-no-names : (text s : List ℕ) → [] ≡ Tn.namesOf text s 0
-unfolding Tn.namesOf upTo
-no-names text s = refl
-
 module _ {text : List ℕ} {names : List Name} {first : ℕ} {h : Held} {os : List Operation} {w : Word} {s : State} {acts : ℕ} {work : List ℕ} (st : Standing text names first h os w s acts work) where
   abbrev sc : Scope
   sc = operationScope names (namesOf os)
 
   known : Known text sc (before s) work
-  known = record { facilities = st .known; operations = sym (st .tabled .names); states = no-names text (rows T.StateNames 0 work); fewOperations = few-operations (countsOf s) (st .within); fewStates = omega arith }
+  known = record { facilities = st .known; operations = sym (names-few text T.OperationNames work (s .operations) (few-operations (countsOf s) (st .within)) ∙ st .tabled .names); states = no-names text T.StateNames work }
 
   module _ {a : Answer} (z : HeadRead text w s a) where
     -- Where its body begins.
@@ -121,7 +116,7 @@ module _ {text : List ℕ} {names : List Name} {first : ℕ} {h : Held} {os : Li
             short = st .short;
             whole = f .still;
             within = y .standing .within;
-            known = st .known ∙ sym (names-kept text work work₂ (tables T.FacilityNames refl) (s .known)) ∙ ap (namesIn text (otherIn work₂)) (sym (y .closed .known));
+            known = st .known ∙ sym (names-kept text T.FacilityNames work work₂ (tables T.FacilityNames refl) (s .known)) ∙ ap (facilityNames text work₂) (sym (y .closed .known));
             states = none;
             nodes = omega (arith, y .standing .nodes, none);
             actions = y .standing .actions;

@@ -25,12 +25,11 @@ use Rattle.parse_expressions.proofs.PartLaws.{with-nothing}
 use Rattle.parse_stores.proofs.Standings.{few-operations}
 use Rattle.parse_stores.specs.Actions.{frontOf}
 use Rattle.parse_stores.specs.declared.Acted.{Acted}
-use Rattle.parse_tables.specs.Names.{namesOf}
+use Rattle.parse_tables.specs.Names.{facilityNames, namesOf}
 use Rattle.parse_tables.specs.Rows.{rows}
 use Rattle.text_words.specs.declared.Word.{Word}
-use Rattle.parse_array.specs.Held.{Held, otherIn}
+use Rattle.parse_array.specs.Held.{Held}
 use Rattle.parse_array.specs.Layout.{workSize}
-use Rattle.parse_array.specs.Names.{namesIn}
 use Rattle.parse_sections.proofs.HeadWords.{comma-taken}
 use Rattle.parse_sections.proofs.Telling.{through}
 use Rattle.parse_sections.specs.Heads.{ControlRead, Ends, controlStack}
@@ -184,7 +183,7 @@ module _ {text : List ℕ} {w : Word} {s : State} {acts : ℕ} {work work₁ : L
 
 -- No operation yet: all that was written belongs to the facilities.
 pub begins : {text : List ℕ} {w : Word} (s : State) (work : List ℕ) → Seen text w → length text < 65536 → length work ≡ workSize → withinCeilings (countsOf s) ≡ true → s .operations ≡ 0 → s .states ≡ 0 → s .nodes ≤ 7 * s .counted
-    → Standing text (namesIn text (otherIn work) (s .known)) (s .nodes) (frontOf (s .nodes) work) [] w s 0 work
+    → Standing text (facilityNames text work (s .known)) (s .nodes) (frontOf (s .nodes) work) [] w s 0 work
 unfolding rows namesOf upTo operationsOf operationRecords operationActions operationNodes operationExpressions concat
 begins {text} s work z l k c o e n = record {
   seen = z;

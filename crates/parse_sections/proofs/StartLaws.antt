@@ -24,11 +24,11 @@ use Rattle.language.specs.Words as L
 use Rattle.language.specs.WordStage.{scan, wordsFrom}
 use Rattle.parse_sections.proofs.Telling.{refuses}
 use Rattle.parse_stores.specs.declared.Acted.{Acted}
+use Rattle.parse_tables.specs.Names.{namesIn, namesOf}
 use Rattle.parse_tables.specs.Rows.{rows}
 use Rattle.text_words.specs.declared.Word.{Word}
 use Rattle.text_words.specs.Meaning.{Next}
 use Rattle.parse_array.specs.Held.{held, withNodes}
-use Rattle.parse_array.specs.Names.{namesIn}
 use Rattle.parse_sections.proofs.SectionWords.{nothing-first}
 use Rattle.parse_sections.specs.Sections.{AllRead, Between, From, Opened, Preamble, Starts, atStart, startState, wordIn}
 
@@ -38,7 +38,7 @@ unfolding parse parseWith runsOn scan wordsFrom ahead
 parse-runs {text} n = ap (λ (vs : List L.Word). runsOn text (ask sections ∷ []) vs nothingBuilt noCounts) (sym (n .words))
 
 between-nothing : {text : List ℕ} {w : Word} (work : List ℕ) → Next text 0 w → length text < 65536 → Between text [] 0 w startState work
-unfolding rows besides facilitiesOf facilityRecords facilityNodes facilitySize storeSizeOf namesIn upTo held withNodes concat withinCeilings mostFacilities mostOperations mostStates mostCounted deepest
+unfolding rows besides facilitiesOf facilityRecords facilityNodes facilitySize storeSizeOf namesIn namesOf upTo held withNodes concat withinCeilings mostFacilities mostOperations mostStates mostCounted deepest
 between-nothing work n h = record {
   standing = record {
     seen = next-seen 0 n;

@@ -14,12 +14,11 @@ use Rattle.judge_records.specs.Noted.{placeBytes}
 use Rattle.parse_stores.specs.Actions.{actionBesides, actionRecords, frontOf}
 use Rattle.parse_tables.specs.declared.Table.{Table}
 use Rattle.parse_tables.specs.declared.Table.the-variants as T
-use Rattle.parse_tables.specs.Names.{namesOf}
+use Rattle.parse_tables.specs.Names.{facilityNames, namesOf}
 use Rattle.parse_tables.specs.Rows.{apartFrom, most, rows}
 use Rattle.text_words.specs.declared.Word.{Word}
-use Rattle.parse_array.specs.Held.{Held, otherIn, withNodes}
+use Rattle.parse_array.specs.Held.{Held, withNodes}
 use Rattle.parse_array.specs.Layout.{workSize}
-use Rattle.parse_array.specs.Names.{namesIn}
 
 -- The bytes of their places.
 abbrev pub besides : List Operation → List ℕ
@@ -46,7 +45,7 @@ pub record Standing (text : List ℕ) (names : List Name) (first : ℕ) (h : Hel
   pub short : length text < 65536
   pub whole : length work ≡ workSize
   pub within : withinCeilings (countsOf s) ≡ true
-  pub known : names ≡ namesIn text (otherIn work) (s .known)
+  pub known : names ≡ facilityNames text work (s .known)
   pub states : s .states ≡ 0
   pub nodes : s .nodes ≤ 7 * s .counted
   pub actions : acts ≤ 2 * s .counted

@@ -19,9 +19,10 @@ use Rattle.language.specs.Words.{fault}
 use Rattle.judge_records.specs.Noted.{nodeBesideBytes}
 use Rattle.text_words.specs.declared.Word.{Word}
 use Rattle.text_words.specs.Meaning.{faulted, positioned}
+use Rattle.parse_tables.proofs.NamesGrown.{facilities-other}
+use Rattle.parse_tables.specs.Names.{facilityNames}
 use Rattle.parse_array.proofs.NodesAdded.{nodes-append}
 use Rattle.parse_array.specs.Held.{Held, held, otherIn, withBytes, withNodes}
-use Rattle.parse_array.specs.Names.{namesIn}
 use Rattle.parse_step.specs.declared.Answer.{Answer}
 use Rattle.parse_step.specs.declared.Bearing.{Bearing}
 use Rattle.parse_step.specs.declared.State.{State}
@@ -49,7 +50,7 @@ eases text K (v ∷ vs) b c = refl
 
 module _ {text : List ℕ} {sc : Scope} where
   pub here-passed : {w : Word} {c : Counts} {s : State} {r : Answer} {work : List ℕ} → Here text sc w s work → Passed text w c s r → Here text sc (r .next) (r .state) work
-  here-passed {work = work} h p = record { seen = p .seen; names = h .names ∙ ap (namesIn text (otherIn work)) (sym (p .kept .known)) }
+  here-passed {work = work} h p = record { seen = p .seen; names = h .names ∙ ap (facilityNames text work) (sym (p .kept .known)) }
 
 pub pending-kept : {sc : Scope} {h : Held} {base : ℕ} {t : Expression} {s s′ : State} {work : List ℕ} → Pending sc h base t s work → Kept s s′ → Pending sc h base t s′ work
 pending-kept {work = work} p k = record { records = ap (λ (n : ℕ). held n work) (k .nodes) ∙ p .records; nodes = k .nodes ∙ p .nodes }
@@ -128,7 +129,7 @@ module _ {text : List ℕ} {sc : Scope} {P Q : Stack} {pre : Built → Built} {h
         nesting = ap (λ (q : State). q .nesting) (y .state) ∙ e₇;
         here = record {
           seen = subst (Seen text) (sym (y .word)) (e₈ .seen);
-          names = e₈ .names ∙ ap (λ (v : List ℕ). namesIn text v (s₁ .known)) (sym (other-kept (s₁ .nodes) (s₁ .nodes + 1) work₁ work bs ps (y .held))) ∙ ap (λ (q : State). namesIn text (otherIn work) (q .known)) (sym (y .state));
+          names = e₈ .names ∙ sym (facilities-other text work₁ work (other-kept (s₁ .nodes) (s₁ .nodes + 1) work₁ work bs ps (y .held)) (s₁ .known)) ∙ ap (λ (q : State). facilityNames text work (q .known)) (sym (y .state));
         };
       }
 

@@ -10,9 +10,9 @@ use Rattle.language.specs.Tree.{Expression}
 use Rattle.text_words.specs.declared.Fault.{Fault}
 use Rattle.text_words.specs.declared.Word.{Word}
 use Rattle.text_words.specs.Meaning.{faulted}
-use Rattle.parse_array.specs.Held.{Held, held, otherIn, withNodes}
+use Rattle.parse_tables.specs.Names.{facilityNames}
+use Rattle.parse_array.specs.Held.{Held, held, withNodes}
 use Rattle.parse_array.specs.Layout.{mostNodes}
-use Rattle.parse_array.specs.Names.{namesIn}
 use Rattle.parse_step.specs.declared.Answer.{Answer}
 use Rattle.parse_step.specs.declared.State.{State}
 use Rattle.parse_step.specs.declared.Verdict.the-variants as Vd
@@ -25,7 +25,7 @@ pushed t b = withExpressions b (t ∷ b .expressions)
 -- Where parsing stands: the look-ahead is a word of the text, and the facilities known are those of the scope.
 pub record Here (text : List ℕ) (sc : Scope) (w : Word) (s : State) (work : List ℕ) : Type 0 where
   pub seen : Seen text w
-  pub names : sc .facilities ≡ namesIn text (otherIn work) (s .known)
+  pub names : sc .facilities ≡ facilityNames text work (s .known)
 
 -- The last records written are those of the expression t, from number base on; before them the array held h.
 pub record Pending (sc : Scope) (h : Held) (base : ℕ) (t : Expression) (s : State) (work : List ℕ) : Type 0 where

@@ -1,7 +1,7 @@
 -- What stays as it is while actions are read: the tables of names, the records before, the ceilings.
 use mathlib.Core.List.{List}
 use mathlib.Core.Path.{_≡_, refl, sym, ap, _∙_}
-use Prim.Native.Nat.{ℕ, _+_, _*_, _≤_, min}
+use Prim.Native.Nat.{ℕ, _+_, _*_, _≤_}
 use native.Mathlib.Omega.{arith}
 use lib.ListN.{drop, length, length-drop, take}
 use lib.Seq.{drop-at, length-take-le, take-add, take-take}
@@ -9,15 +9,13 @@ use Rattle.language.specs.Encode.{nodeSize}
 use Rattle.language.specs.Naming.{Scope}
 use Rattle.parse_names.specs.declared.Counts.{Counts}
 use Rattle.parse_names.specs.Known.{Known}
-use Rattle.parse_tables.proofs.NamesGrown.{facility-names}
+use Rattle.parse_tables.proofs.NamesGrown.{names-kept}
 use Rattle.parse_tables.proofs.RowLaws.{rows-other}
 use Rattle.parse_tables.specs.declared.Table.the-variants as T
-use Rattle.parse_tables.specs.Names.{namesOf}
 use Rattle.parse_tables.specs.Rows.{expressions, rows}
 use Rattle.parse_array.proofs.Regions.{same-held}
 use Rattle.parse_array.specs.Held.{held, otherIn}
-use Rattle.parse_array.specs.Layout.{mostNodes, otherFrom, placesFrom, workSize}
-use Rattle.parse_array.specs.Names.{namesIn}
+use Rattle.parse_array.specs.Layout.{facilityRows, mostNodes, operationRows, otherFrom, placesFrom, stateRows, workSize}
 use Rattle.parse_stores.specs.Actions.{OthersKept, frontOf}
 
 -- ---- Tables, read from all that stands behind the expressions.
@@ -45,26 +43,13 @@ module _ (w w′ : List ℕ) where
 
 -- ---- The names known.
 
-module _ (text : List ℕ) where
-  few-names : (v : List ℕ) (n : ℕ) → namesIn text v n ≡ namesIn text v (min n 256)
-  unfolding namesIn
-  few-names v n = let e : min (min n 256) 256 ≡ min n 256 = omega arith in rw e
-
-  pub names-kept : (w w′ : List ℕ) → ((m : ℕ) → m ≤ 256 → rows T.FacilityNames m w′ ≡ rows T.FacilityNames m w) → (n : ℕ) → namesIn text (otherIn w′) n ≡ namesIn text (otherIn w) n
-  names-kept w w′ o n =
-      let h : min n 256 ≤ 256 = omega arith in
-      few-names (otherIn w′) n ∙ facility-names text w′ (min n 256) h ∙ ap (λ (r : List ℕ). namesOf text r (min n 256)) (o (min n 256) h)
-      ∙ sym (facility-names text w (min n 256) h) ∙ sym (few-names (otherIn w) n)
-
 -- Where the tables of names are as they were.
-pub known-by : {text : List ℕ} {sc : Scope} {n : Counts} {w : List ℕ} (w′ : List ℕ) → ((m : ℕ) → m ≤ 256 → rows T.FacilityNames m w′ ≡ rows T.FacilityNames m w)
-    → ((m : ℕ) → m ≤ 128 → rows T.OperationNames m w′ ≡ rows T.OperationNames m w) → ((m : ℕ) → m ≤ 256 → rows T.StateNames m w′ ≡ rows T.StateNames m w) → Known text sc n w → Known text sc n w′
+pub known-by : {text : List ℕ} {sc : Scope} {n : Counts} {w : List ℕ} (w′ : List ℕ) → ((m : ℕ) → m ≤ facilityRows → rows T.FacilityNames m w′ ≡ rows T.FacilityNames m w)
+    → ((m : ℕ) → m ≤ operationRows → rows T.OperationNames m w′ ≡ rows T.OperationNames m w) → ((m : ℕ) → m ≤ stateRows → rows T.StateNames m w′ ≡ rows T.StateNames m w) → Known text sc n w → Known text sc n w′
 known-by {text} {n = n} {w} w′ f o s k = record {
-  facilities = k .facilities ∙ sym (names-kept text w w′ f (n .facilities));
-  operations = k .operations ∙ ap (λ (r : List ℕ). namesOf text r (n .operations)) (sym (o (n .operations) (k .fewOperations)));
-  states = k .states ∙ ap (λ (r : List ℕ). namesOf text r (n .states)) (sym (s (n .states) (k .fewStates)));
-  fewOperations = k .fewOperations;
-  fewStates = k .fewStates;
+  facilities = k .facilities ∙ sym (names-kept text T.FacilityNames w w′ f (n .facilities));
+  operations = k .operations ∙ sym (names-kept text T.OperationNames w w′ o (n .operations));
+  states = k .states ∙ sym (names-kept text T.StateNames w w′ s (n .states));
 }
 
 pub known-kept : {text : List ℕ} {sc : Scope} {n : Counts} {w : List ℕ} (w′ : List ℕ) → OthersKept w w′ → Known text sc n w → Known text sc n w′

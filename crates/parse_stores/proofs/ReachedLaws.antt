@@ -25,6 +25,7 @@ use Rattle.language.specs.Tree.{Actions}
 use Rattle.parse_names.specs.declared.Counts as M
 use Rattle.parse_names.specs.Known.{Known}
 use Rattle.judge_records.specs.Noted.{placeBytes}
+use Rattle.parse_tables.proofs.NamesGrown.{facilities-other}
 use Rattle.parse_tables.specs.Actions.{ActionAdded}
 use Rattle.parse_tables.specs.declared.Table.the-variants as Tb
 use Rattle.text_words.specs.declared.Position.{Position}
@@ -96,7 +97,7 @@ module _ {text : List ℕ} {sc : Scope} {n : M.Counts} {w : Word} {s : State} {a
     pub here-reached : Here text sc w₁ s₁ work₁
     here-reached = record {
       seen = x .seen;
-      names = st .known .facilities ∙ rw (st .facilities, other-reached, x .pays .known);
+      names = st .known .facilities ∙ rw (st .facilities, ← facilities-other text work work₁ other-reached (s .known), x .pays .known);
     }
 
     pub known-reached : Known text sc n work₁

@@ -19,9 +19,8 @@ use Rattle.language.specs.Naming.{Scope}
 use Rattle.language.specs.Tree.{Actions}
 use Rattle.parse_names.specs.declared.Counts as M
 use Rattle.text_words.specs.declared.Word.{Word}
-use Rattle.parse_array.specs.Held.{otherIn}
+use Rattle.parse_tables.specs.Names.{facilityNames}
 use Rattle.parse_array.specs.Layout.{workSize}
-use Rattle.parse_array.specs.Names.{namesIn}
 use Rattle.parse_stores.proofs.Keeping.{known-kept}
 use Rattle.parse_stores.specs.Actions.{Paid, Standing, Written}
 
@@ -53,7 +52,7 @@ within-more c d e f o s k n =
 
 module _ {text : List ℕ} {sc : Scope} {n : M.Counts} {w : Word} {s : State} {acts : ℕ} {work : List ℕ} where
   pub here-of : Standing text sc n w s acts work → Here text sc w s work
-  here-of st = record { seen = st .seen; names = st .known .facilities ∙ ap (namesIn text (otherIn work)) (st .facilities) }
+  here-of st = record { seen = st .seen; names = st .known .facilities ∙ ap (facilityNames text work) (st .facilities) }
 
   pub standing-passed : (counts : Bool) (b : Bearing) {a : Answer} → Standing text sc n w s acts work → Passed text w (afterWord counts b s) s a → Standing text sc n (a .next) (a .state) acts work
   standing-passed counts b {a} st p =

@@ -1,7 +1,7 @@
--- The names of a table, when one is added.
+-- The names of a table, when one is added, and where the table stays.
 use mathlib.Core.List.{List, [], _∷_, _++_}
 use mathlib.Core.Path.{_≡_, refl, sym, ap, _∙_}
-use Prim.Native.Nat.{ℕ, zero, suc, _+_, _*_, _<_, _≤_}
+use Prim.Native.Nat.{ℕ, zero, suc, _+_, _*_, _<_, _≤_, min}
 use native.Mathlib.Nat.{min-eq-left, zero-add}
 use native.Mathlib.Omega.{arith}
 use lib.ListN.{drop, getD, length, take, List·getD-append}
@@ -9,13 +9,13 @@ use lib.Seq.{getD-append-add, getD-drop, getD-take}
 use Rattle.language.specs.Decode.{numberAt, upTo}
 use Rattle.language.specs.Encode.{little, two}
 use Rattle.image_records.proofs.NumberLaws.{number-back, number-two}
-use Rattle.parse_array.proofs.Naming.{name-at}
 use Rattle.parse_array.specs.Held.{otherIn}
-use Rattle.parse_array.specs.Layout.{facilityNamesFrom}
-use Rattle.parse_array.specs.Names.{letters, nameNo, namesIn}
+use Rattle.parse_array.specs.Names.{letters}
+use Rattle.parse_tables.proofs.RowLaws.{rows-other}
+use Rattle.parse_tables.specs.declared.Table.{Table}
 use Rattle.parse_tables.specs.declared.Table.the-variants as T
-use Rattle.parse_tables.specs.Names.{nameAt, nameRow, namesOf}
-use Rattle.parse_tables.specs.Rows.{rows}
+use Rattle.parse_tables.specs.Names.{facilityNames, nameAt, nameRow, namesIn, namesOf}
+use Rattle.parse_tables.specs.Rows.{most, rows}
 
 -- ---- Lists by numbers.
 
@@ -55,10 +55,6 @@ part-number w p k i h =
   where
     byte : (j : ℕ) → j < k → getD (take k (drop p w)) j 0 ≡ getD w (p + j) 0
     byte j g = getD-take k (drop p w) j 0 g ∙ getD-drop p w j 0
-
-row-number : (w : List ℕ) (n i : ℕ) → i + 2 ≤ 4 * n → numberAt 2 i (rows T.FacilityNames n w) ≡ numberAt 2 (facilityNamesFrom + i) w
-unfolding rows
-row-number w n i h = part-number w facilityNamesFrom (4 * n) i h
 
 module _ (text : List ℕ) where
   -- A name stands in four bytes.
@@ -105,12 +101,22 @@ module _ (text : List ℕ) where
             (λ k h. name-same (s ++ nameRow place size) s k (λ i g. List·getD-append s (nameRow place size) 0 i (omega arith))),
       )
 
-  -- The names of facilities, from their table.
-  pub facility-names : (w : List ℕ) (n : ℕ) → n ≤ 256 → namesIn text (otherIn w) n ≡ namesOf text (rows T.FacilityNames n w) n
-  unfolding namesIn namesOf nameAt letters
-  facility-names w n h = rw (min-eq-left h) (up-to-same (nameNo text (otherIn w)) (nameAt text (rows T.FacilityNames n w)) 0 n one)
-    where
-      one : (k : ℕ) → k < 0 + n → nameNo text (otherIn w) k ≡ nameAt text (rows T.FacilityNames n w) k
-      one k g =
-          let e : facilityNamesFrom + (4 * k + 2) ≡ facilityNamesFrom + 4 * k + 2 = omega arith in
-          name-at text w k ∙ sym (rw (row-number w n (4 * k) (omega arith), row-number w n (4 * k + 2) (omega arith), e) refl)
+-- ---- The names that a table holds.
+
+module _ (text : List ℕ) (t : Table) where
+  pub names-few : (w : List ℕ) (n : ℕ) → n ≤ most t → namesIn text t w n ≡ namesOf text (rows t n w) n
+  unfolding namesIn
+  names-few w n h = rw (min-eq-left h)
+
+  pub no-names : (w : List ℕ) → [] ≡ namesIn text t w 0
+  unfolding namesIn namesOf upTo
+  no-names w = let e : min 0 (most t) ≡ 0 = omega arith in rw e
+
+  -- They stay where the table does.
+  pub names-kept : (w w′ : List ℕ) → ((m : ℕ) → m ≤ most t → rows t m w′ ≡ rows t m w) → (n : ℕ) → namesIn text t w′ n ≡ namesIn text t w n
+  unfolding namesIn
+  names-kept w w′ o n = ap (λ (r : List ℕ). namesOf text r (min n (most t))) (o (min n (most t)) (omega arith))
+
+-- Those of facilities, where all that stands behind the expressions does.
+pub facilities-other : (text w w′ : List ℕ) → otherIn w′ ≡ otherIn w → (n : ℕ) → facilityNames text w′ n ≡ facilityNames text w n
+facilities-other text w w′ e n = names-kept text T.FacilityNames w w′ (λ m h. rows-other w w′ e T.FacilityNames m) n

@@ -4,7 +4,7 @@ use image_records::bytes;
 use parse_array::Work;
 use parse_array::layout;
 ghost use mathlib.Core.Path.{_≡_};
-ghost use Prim.Native.Nat.{_<_, _≤_};
+ghost use Prim.Native.Nat.{_<_, _≤_, min};
 ghost use lib.ListN.{length};
 ghost use Rattle.parse_array.specs.Layout.{workSize};
 ghost use Rattle.parse_tables.specs.Rows.{Wrote, from, most, size};
@@ -47,6 +47,34 @@ pub fn bytes_of(table: Table) -> usize
         Table::StateNames => layout::NAME_SIZE,
         Table::Labels => layout::NAME_SIZE,
     }
+}
+
+// How many records there is room for.
+fn room(table: Table) -> u16
+    ensures { λ r. ⌜ r ≡ most table ⌝ }
+{
+    match table {
+        Table::Actions => layout::MOST_ACTIONS,
+        Table::ActionPlaces => layout::MOST_ACTIONS,
+        Table::Facilities => layout::MOST_FACILITIES,
+        Table::FacilityPlaces => layout::MOST_FACILITIES,
+        Table::Operations => layout::MOST_OPERATIONS,
+        Table::OperationPlaces => layout::MOST_OPERATIONS,
+        Table::States => layout::MOST_STATES,
+        Table::StatePlaces => layout::MOST_STATES,
+        Table::FacilityNames => layout::MOST_FACILITIES,
+        Table::OperationNames => layout::MOST_OPERATIONS,
+        Table::StateNames => layout::MOST_STATES,
+        Table::Labels => layout::MOST_STATES,
+    }
+}
+
+// How many of n records a table holds.
+pub fn held(table: Table, n: u16) -> u16
+    ensures { λ r. ⌜ r ≡ min n (most table) ⌝ }
+{
+    let most = room(table);
+    if n < most { n } else { most }
 }
 
 // Writes record n of a table.
