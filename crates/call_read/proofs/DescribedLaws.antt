@@ -7,6 +7,7 @@ use native.Mathlib.Omega.{arith}
 use lib.ListN.{length}
 use Rattle.parse_step.proofs.Ceilings.{few-counted}
 use Rattle.parse_step.specs.Course.{countsOf}
+use Rattle.parse_step.specs.declared.Answer.{Answer}
 use Rattle.parse_step.specs.declared.State.{State}
 use Rattle.parse_step.specs.declared.Verdict.the-variants as Vd
 use Rattle.parse_facilities.proofs.NameWords.{few-facilities}
@@ -25,7 +26,6 @@ use Rattle.language.specs.WordStage.{scan}
 use Rattle.about_rules.specs.RightWords.{words-right}
 use Rattle.about_rules.specs.TidyTexts.{tidy}
 use Rattle.parse_sections.specs.Sections as P
-use Rattle.parse_stores.specs.declared.Acted.{Acted}
 use Rattle.parse_states.specs.Begins.{lengthOf}
 use Rattle.parse_tables.specs.declared.Table.the-variants as Tb
 use Rattle.parse_tables.specs.Rows.{rows}
@@ -44,15 +44,15 @@ lengths-agree : (fs : List Facility) (n : Option ℕ) → lending (lengthNo fs n
 lengths-agree fs none = refl
 lengths-agree fs (some n) = refl
 
-module _ {text w₁ : List ℕ} {r : Acted} (short : length text ≤ 32768) (x : P.Opened text w₁ r) where
+module _ {text w₁ : List ℕ} {r : Answer} (short : length text ≤ 32768) (x : P.Opened text w₁ r) where
   abbrev ds : List Declaration
   ds = x .registers ++ (x .memories ++ x .terminals)
 
   abbrev textOf : List T.State → Text
   textOf ss = record { registers = x .registers; memories = x .memories; terminals = x .terminals; operations = x .operations; states = ss }
 
-  module _ (l : ℕ) {r₂ : Acted} {w₂ : List ℕ} (z : Closes text ds (x .operations) l (r .answer .next) (r .answer .state) w₂ r₂)
-      (f : Lends l (rows Tb.Facilities (r .answer .state .known) w₁) (rows Tb.FacilityPlaces (r .answer .state .known) w₁)) (d : r₂ .answer .verdict ≡ Vd.Done) where
+  module _ (l : ℕ) {r₂ : Answer} {w₂ : List ℕ} (z : Closes text ds (x .operations) l (r .next) (r .state) w₂ r₂)
+      (f : Lends l (rows Tb.Facilities (r .state .known) w₁) (rows Tb.FacilityPlaces (r .state .known) w₁)) (d : r₂ .verdict ≡ Vd.Done) where
     abbrev whole-text : Text
     whole-text = textOf (z .done d .trees)
 
@@ -65,25 +65,25 @@ module _ {text w₁ : List ℕ} {r : Acted} (short : length text ≤ 32768) (x :
     lent-length : lengthOf l ≡ lengthIn ds
     lent-length =
         register-lent whole-text (tidy derived (words-right text)) (text-near text whole-text short derived)
-        (omega (arith, x .ready .facilities .known, x .ready .counted, few-facilities (countsOf (r .answer .state)) (x .ready .standing .within)))
-        (omega (arith, x .ready .standing .bodies .nodes, x .ready .standing .nodes, few-counted (countsOf (r .answer .state)) (x .ready .standing .within))) l
+        (omega (arith, x .ready .facilities .known, x .ready .counted, few-facilities (countsOf (r .state)) (x .ready .standing .within)))
+        (omega (arith, x .ready .standing .bodies .nodes, x .ready .standing .nodes, few-counted (countsOf (r .state)) (x .ready .standing .within))) l
         (rw (x .ready .facilities .records, x .ready .facilities .places) at f)
         ∙ lengths-agree (facilitiesOf 0 ds) (sequencingFrom 0 (facilitiesOf 0 ds))
 
-    pub text-whole : Whole text w₂ (tallied (r .answer .state) (r₂ .answer .state) (r₂ .actions)) whole-text
+    pub text-whole : Whole text w₂ (tallied (r .state) (r₂ .state)) whole-text
     text-whole = z .done d .whole whole-text refl refl refl lent-length
 
-    pub text-described : Described text w₂ (Oc.Done (tallied (r .answer .state) (r₂ .answer .state) (r₂ .actions)))
+    pub text-described : Described text w₂ (Oc.Done (tallied (r .state) (r₂ .state)))
     text-described = done-so (record { built = withText nothingBuilt whole-text; course = text-parsed; whole = text-whole })
 
   -- A refusal of the states is one of the text.
-  pub states-refused : {l : ℕ} {r₂ : Acted} {w₂ : List ℕ} {o : Outcome} → Closes text ds (x .operations) l (r .answer .next) (r .answer .state) w₂ r₂
-      → (r₂ .answer .verdict ≡ Vd.Done → ⊥) → Stops (r₂ .answer .verdict) o → Described text w₂ o
-  states-refused {r₂ = r₂} z n s = refused-so (r₂ .answer .verdict) n (z .full) (λ f e. x .course ∙ z .refused f e _) s
+  pub states-refused : {l : ℕ} {r₂ : Answer} {w₂ : List ℕ} {o : Outcome} → Closes text ds (x .operations) l (r .next) (r .state) w₂ r₂
+      → (r₂ .verdict ≡ Vd.Done → ⊥) → Stops (r₂ .verdict) o → Described text w₂ o
+  states-refused {r₂ = r₂} z n s = refused-so (r₂ .verdict) n (z .full) (λ f e. x .course ∙ z .refused f e _) s
 
 -- A refusal of what is before the states.
-pub opening-refused : {text w₁ : List ℕ} {r : Acted} {o : Outcome} → P.Preamble text w₁ r → (r .answer .verdict ≡ Vd.Done → ⊥) → Stops (r .answer .verdict) o → Described text w₁ o
-opening-refused {r = r} p n s = refused-so (r .answer .verdict) n (p .full) (p .refused) s
+pub opening-refused : {text w₁ : List ℕ} {r : Answer} {o : Outcome} → P.Preamble text w₁ r → (r .verdict ≡ Vd.Done → ⊥) → Stops (r .verdict) o → Described text w₁ o
+opening-refused {r = r} p n s = refused-so (r .verdict) n (p .full) (p .refused) s
 
-pub behind : {text w₁ : List ℕ} {r : Acted} → P.Opened text w₁ r → Behind text (r .answer .next) (r .answer .state) (r .actions) w₁
+pub behind : {text w₁ : List ℕ} {r : Answer} → P.Opened text w₁ r → Behind text (r .next) (r .state) w₁
 behind x = record { declared = x .registers ++ (x .memories ++ x .terminals); operations = x .operations; ready = x .ready }

@@ -6,6 +6,7 @@ use Prim.Native.Nat.{ℕ, _+_, _≤_}
 use native.Mathlib.Omega.{arith}
 use lib.ListN.{length}
 use Rattle.parse_step.proofs.Ceilings.{few-counted}
+use Rattle.parse_step.specs.declared.Answer.{Answer}
 use Rattle.parse_step.specs.declared.State.{State}
 use Rattle.parse_step.specs.declared.Verdict.the-variants as Vd
 use Rattle.parse_step.specs.Course.{countsOf}
@@ -20,7 +21,6 @@ use Rattle.parse_stores.proofs.Keeping.{front-kept}
 use Rattle.parse_tables.proofs.NamesGrown.{names-few, names-kept, no-names}
 use Rattle.parse_stores.proofs.Standings.{few-operations, few-states}
 use Rattle.parse_stores.specs.Actions.{Standing, frontOf}
-use Rattle.parse_stores.specs.declared.Acted.{Acted}
 use Rattle.parse_states.specs.Bodies.{Stands}
 use Rattle.parse_states.specs.States.{All, AllRead, Ends, moreOf, startStack}
 use Rattle.parse_states.specs.Written.{Written, labelsOf}
@@ -52,14 +52,14 @@ same-states f g = ap statesIn (sym (f nothingBuilt) ∙ g nothingBuilt)
 labels-again : (text work : List ℕ) {n m : ℕ} {ts us : List T.State} → n ≡ m → ts ≡ us → namesOf text (rows Tb.StateNames n work) n ≡ labelsOf ts → namesOf text (rows Tb.StateNames m work) m ≡ labelsOf us
 labels-again text work e f h = rw (e, f) at h
 
-written-again : {text : List ℕ} (ds : List Declaration) (os : List Operation) {l : ℕ} {ts us : List T.State} {s s′ : State} {acts acts′ : ℕ} {work work′ : List ℕ} → ts ≡ us
-    → Written text (named ds os (labelsOf ts)) l us s acts work s′ acts′ work′ → Written text (named ds os (labelsOf us)) l us s acts work s′ acts′ work′
+written-again : {text : List ℕ} (ds : List Declaration) (os : List Operation) {l : ℕ} {ts us : List T.State} {s s′ : State} {work work′ : List ℕ} → ts ≡ us
+    → Written text (named ds os (labelsOf ts)) l us s work s′ work′ → Written text (named ds os (labelsOf us)) l us s work s′ work′
 written-again ds os e h = rw e at h
 
-module _ {text : List ℕ} {ds : List Declaration} {os : List Operation} {w : Word} {s : State} {acts : ℕ} where
+module _ {text : List ℕ} {ds : List Declaration} {os : List Operation} {w : Word} {s : State} where
   -- Where the labels of n states are known.
-  stands : {work : List ℕ} → Ready text ds os w s acts work → (n : ℕ) (labels : List (List ℕ)) → labels ≡ namesIn text Tb.StateNames work n
-      → Standing text (named ds os labels) (counts s n) w s acts work
+  stands : {work : List ℕ} → Ready text ds os w s work → (n : ℕ) (labels : List (List ℕ)) → labels ≡ namesIn text Tb.StateNames work n
+      → Standing text (named ds os labels) (counts s n) w s (s .actions) work
   stands a n labels e = record {
     seen = a .standing .seen;
     short = a .standing .short;
@@ -75,22 +75,22 @@ module _ {text : List ℕ} {ds : List Declaration} {os : List Operation} {w : Wo
     actions = a .standing .actions;
   }
 
-  module _ {w₁ : List ℕ} (a : Ready text ds os w s acts w₁) where
-    pub first-stands : Standing text (named ds os []) (counts s 0) w s acts w₁
+  module _ {w₁ : List ℕ} (a : Ready text ds os w s w₁) where
+    pub first-stands : Standing text (named ds os []) (counts s 0) w s (s .actions) w₁
     first-stands = stands a 0 [] (no-names text Tb.StateNames w₁)
 
-    module _ {l : ℕ} {r : Acted} {w′ : List ℕ} (q : All startStack l text (counts s 0) w s acts w₁ w′ r) where
-      pub not-read : (r .answer .verdict ≡ Vd.Done → ⊥) → Closes text ds os l w s w′ r
+    module _ {l : ℕ} {r : Answer} {w′ : List ℕ} (q : All startStack l text (counts s 0) w s w₁ w′ r) where
+      pub not-read : (r .verdict ≡ Vd.Done → ⊥) → Closes text ds os l w s w′ r
       not-read n = let z = q (named ds os []) first-stands in record { done = λ d. absurd (n d); refused = z .refused; full = z .full }
 
-      module _ (d : r .answer .verdict ≡ Vd.Done) where
-        pub first : AllRead text (named ds os []) (counts s 0) l startStack w s acts w₁ w′ r
+      module _ (d : r .verdict ≡ Vd.Done) where
+        pub first : AllRead text (named ds os []) (counts s 0) l startStack w s w₁ w′ r
         first = q (named ds os []) first-stands .done d
 
-        pub few : r .answer .state .states ≤ 256
-        few = few-states (countsOf (r .answer .state)) (first .standing .within)
+        pub few : r .state .states ≤ 256
+        few = few-states (countsOf (r .state)) (first .standing .within)
 
-        module _ {w₂ : List ℕ} (c : Copied (r .answer .state .states) w′ w₂) where
+        module _ {w₂ : List ℕ} (c : Copied (r .state .states) w′ w₂) where
           long : length w₂ ≡ workSize
           long = c .whole (first .standing .whole)
 
@@ -107,18 +107,18 @@ module _ {text : List ℕ} {ds : List Declaration} {os : List Operation} {w : Wo
           few-nodes : s .nodes ≤ mostNodes
           few-nodes = omega (arith, a .standing .nodes, few-counted (countsOf s) (a .standing .within))
 
-          few-actions : acts ≤ mostActions
+          few-actions : s .actions ≤ mostActions
           few-actions = omega (arith, a .standing .actions, few-counted (countsOf s) (a .standing .within))
 
           front : frontOf (s .nodes) w₂ ≡ frontOf (s .nodes) w₁
           front =
               front-kept w′ w₂ (first .standing .whole) long (c .kept .front) (s .nodes) few-nodes
-              ∙ front-before (s .nodes) (r .answer .state .nodes) w₁ w′ _ (a .standing .whole) (omega (arith, first .written .nodes)) few-nodes (first .written .expressions)
+              ∙ front-before (s .nodes) (r .state .nodes) w₁ w′ _ (a .standing .whole) (omega (arith, first .written .nodes)) few-nodes (first .written .expressions)
 
           facility-names-kept : facilityNames text w₂ (s .known) ≡ map (λ d. d .name) ds
           facility-names-kept = names-kept text Tb.FacilityNames w₁ w₂ (λ m h. kept Tb.FacilityNames refl refl m h) (s .known) ∙ a .facilities .names
 
-          again : Ready text ds os w s acts w₂
+          again : Ready text ds os w s w₂
           again = record {
             counted = a .counted;
             level = a .level;
@@ -146,11 +146,11 @@ module _ {text : List ℕ} {ds : List Declaration} {os : List Operation} {w : Wo
               };
               bodies = record {
                 count = a .standing .bodies .count;
-                records = c .kept .tables Tb.Actions refl acts few-actions
-                    ∙ rows-before Tb.Actions acts (r .actions) w₁ w′ _ (a .standing .whole) (omega (arith, first .written .count)) few-actions (first .written .actions)
+                records = c .kept .tables Tb.Actions refl (s .actions) few-actions
+                    ∙ rows-before Tb.Actions (s .actions) (r .state .actions) w₁ w′ _ (a .standing .whole) (omega (arith, first .written .count)) few-actions (first .written .actions)
                     ∙ a .standing .bodies .records;
-                places = c .kept .tables Tb.ActionPlaces refl acts few-actions
-                    ∙ rows-before Tb.ActionPlaces acts (r .actions) w₁ w′ _ (a .standing .whole) (omega (arith, first .written .count)) few-actions (first .written .actionPlaces)
+                places = c .kept .tables Tb.ActionPlaces refl (s .actions) few-actions
+                    ∙ rows-before Tb.ActionPlaces (s .actions) (r .state .actions) w₁ w′ _ (a .standing .whole) (omega (arith, first .written .count)) few-actions (first .written .actionPlaces)
                     ∙ a .standing .bodies .places;
                 nodes = a .standing .bodies .nodes;
                 expressions = front ∙ a .standing .bodies .expressions;
@@ -158,46 +158,46 @@ module _ {text : List ℕ} {ds : List Declaration} {os : List Operation} {w : Wo
             };
           }
 
-          labels : namesOf text (rows Tb.StateNames (r .answer .state .states) w₂) (r .answer .state .states) ≡ labelsOf (first .trees)
+          labels : namesOf text (rows Tb.StateNames (r .state .states) w₂) (r .state .states) ≡ labelsOf (first .trees)
           labels =
-              ap (λ (x : List ℕ). namesOf text x (r .answer .state .states)) (c .names)
+              ap (λ (x : List ℕ). namesOf text x (r .state .states)) (c .names)
               ∙ first .written .labels
               ∙ ap (λ (x : List (List ℕ)). x ++ labelsOf (first .trees)) (none-before (a .standing .states))
             where
               none-before : s .states ≡ 0 → namesOf text (rows Tb.Labels (s .states) w₁) (s .states) ≡ []
               none-before e = rw e (sym (no-names text Tb.Labels w₁ ∙ names-few text Tb.Labels w₁ 0 (omega arith)))
 
-          pub second-stands : Standing text (named ds os (labelsOf (first .trees))) (counts s (r .answer .state .states)) w s acts w₂
-          second-stands = stands again (r .answer .state .states) (labelsOf (first .trees)) (sym (names-few text Tb.StateNames w₂ (r .answer .state .states) few ∙ labels))
+          pub second-stands : Standing text (named ds os (labelsOf (first .trees))) (counts s (r .state .states)) w s (s .actions) w₂
+          second-stands = stands again (r .state .states) (labelsOf (first .trees)) (sym (names-few text Tb.StateNames w₂ (r .state .states) few ∙ labels))
 
-          pub read-twice : {r₂ : Acted} {w₃ : List ℕ} → All startStack l text (counts s (r .answer .state .states)) w s acts w₂ w₃ r₂ → Closes text ds os l w s w₃ r₂
+          pub read-twice : {r₂ : Answer} {w₃ : List ℕ} → All startStack l text (counts s (r .state .states)) w s w₂ w₃ r₂ → Closes text ds os l w s w₃ r₂
           read-twice {r₂} {w₃} q₂ = record { done = finished; refused = z .refused; full = z .full }
             where
-              z : Ends text startStack w s r₂ (AllRead text (named ds os (labelsOf (first .trees))) (counts s (r .answer .state .states)) l startStack w s acts w₂ w₃ r₂)
+              z : Ends text startStack w s r₂ (AllRead text (named ds os (labelsOf (first .trees))) (counts s (r .state .states)) l startStack w s w₂ w₃ r₂)
               z = q₂ (named ds os (labelsOf (first .trees))) second-stands
 
-              finished : r₂ .answer .verdict ≡ Vd.Done → Finished text ds os l w s w₃ r₂
+              finished : r₂ .verdict ≡ Vd.Done → Finished text ds os l w s w₃ r₂
               finished e =
                   let y = z .done e in
                   let same : first .trees ≡ y .trees = same-states (first .course) (y .course) in
-                  let number : r .answer .state .states ≡ r₂ .answer .state .states = first .written .number ∙ ap (λ (ts : List T.State). s .states + length ts) same ∙ sym (y .written .number) in
+                  let number : r .state .states ≡ r₂ .state .states = first .written .number ∙ ap (λ (ts : List T.State). s .states + length ts) same ∙ sym (y .written .number) in
                   record {
                     trees = y .trees;
                     course = y .course;
                     whole = λ t i j k g. whole-at t i j k again g (written-again ds os same (y .written)) (labels-again text w₂ number same labels) (record {
                       facilities = few-known;
                       operations = few-named;
-                      nodes = omega (arith, y .standing .nodes, few-counted (countsOf (r₂ .answer .state)) (y .standing .within), few-states (countsOf (r₂ .answer .state)) (y .standing .within));
-                      actions = omega (arith, y .standing .actions, few-counted (countsOf (r₂ .answer .state)) (y .standing .within));
-                      states = few-states (countsOf (r₂ .answer .state)) (y .standing .within);
+                      nodes = omega (arith, y .standing .nodes, few-counted (countsOf (r₂ .state)) (y .standing .within), few-states (countsOf (r₂ .state)) (y .standing .within));
+                      actions = omega (arith, y .standing .actions, few-counted (countsOf (r₂ .state)) (y .standing .within));
+                      states = few-states (countsOf (r₂ .state)) (y .standing .within);
                     });
                   }
 
 -- ---- As the code takes it.
 
-pub first-known : {text : List ℕ} {w : Word} {s : State} {acts : ℕ} {work : List ℕ} → Behind text w s acts work → Stands text (counts s 0) w s acts work
+pub first-known : {text : List ℕ} {w : Word} {s : State} {work : List ℕ} → Behind text w s work → Stands text (counts s 0) w s work
 first-known b = record { scope = named (b .declared) (b .operations) []; standing = first-stands (b .ready) }
 
-pub second-known : {text : List ℕ} {w : Word} {s : State} {acts l : ℕ} {r : Acted} {work w′ w₂ : List ℕ} → Behind text w s acts work → All startStack l text (counts s 0) w s acts work w′ r
-    → r .answer .verdict ≡ Vd.Done → Copied (r .answer .state .states) w′ w₂ → Stands text (counts s (r .answer .state .states)) w s acts w₂
+pub second-known : {text : List ℕ} {w : Word} {s : State} {l : ℕ} {r : Answer} {work w′ w₂ : List ℕ} → Behind text w s work → All startStack l text (counts s 0) w s work w′ r
+    → r .verdict ≡ Vd.Done → Copied (r .state .states) w′ w₂ → Stands text (counts s (r .state .states)) w s w₂
 second-known b q d c = record { scope = named (b .declared) (b .operations) (labelsOf (first (b .ready) q d .trees)); standing = second-stands (b .ready) q d c }

@@ -74,9 +74,9 @@ module _ (n : ℕ) (w : List ℕ) (xs : List Noted) (e : frontOf n w ≡ withNod
 
 -- ---- The whole.
 
-module _ (t : Text) {text : List ℕ} {w : Word} {s s′ : State} {acts acts′ l : ℕ} {w₂ w₃ : List ℕ} (a : Ready text (declarationsOf t) (t .operations) w s acts w₂) (e : lengthOf l ≡ lengthIn (declarationsOf t))
-    (x : Written text (named (declarationsOf t) (t .operations) (labelsOf (t .states))) l (t .states) s acts w₂ s′ acts′ w₃)
-    (labels : namesOf text (rows Tb.StateNames (s′ .states) w₂) (s′ .states) ≡ labelsOf (t .states)) (few : Few (tallied s s′ acts′)) where
+module _ (t : Text) {text : List ℕ} {w : Word} {s s′ : State} {l : ℕ} {w₂ w₃ : List ℕ} (a : Ready text (declarationsOf t) (t .operations) w s w₂) (e : lengthOf l ≡ lengthIn (declarationsOf t))
+    (x : Written text (named (declarationsOf t) (t .operations) (labelsOf (t .states))) l (t .states) s w₂ s′ w₃)
+    (labels : namesOf text (rows Tb.StateNames (s′ .states) w₂) (s′ .states) ≡ labelsOf (t .states)) (few : Few (tallied s s′)) where
   abbrev ds : List Declaration
   ds = declarationsOf t
 
@@ -115,11 +115,11 @@ module _ (t : Text) {text : List ℕ} {w : Word} {s s′ : State} {acts acts′ 
       ∙ sym (nodes-append (withNodes (noneHeld []) before) between stated)
       ∙ sym (nodes-append (noneHeld []) before (between ++ stated))
 
-  actions-are : rows Tb.Actions acts′ w₃ ≡ concat actionBytes (map (λ (y : NotedAction). y .action) (operated ++ acted))
+  actions-are : rows Tb.Actions (s′ .actions) w₃ ≡ concat actionBytes (map (λ (y : NotedAction). y .action) (operated ++ acted))
   actions-are =
       x .actions ∙ rw (a .standing .bodies .records, e, at-second) (two-mapped actionBytes (λ (y : NotedAction). y .action) operated acted)
 
-  action-places-are : rows Tb.ActionPlaces acts′ w₃ ≡ concat (placeBytes 0) (map (λ (y : NotedAction). y .at) (operated ++ acted))
+  action-places-are : rows Tb.ActionPlaces (s′ .actions) w₃ ≡ concat (placeBytes 0) (map (λ (y : NotedAction). y .at) (operated ++ acted))
   action-places-are =
       x .actionPlaces ∙ rw (a .standing .bodies .places, e, at-second) (two-mapped (placeBytes 0) (λ (y : NotedAction). y .at) operated acted)
 
@@ -129,7 +129,7 @@ module _ (t : Text) {text : List ℕ} {w : Word} {s s′ : State} {acts acts′ 
   state-places-are : rows Tb.StatePlaces (s′ .states) w₃ ≡ concat stateBesideBytes (map (λ (y : T.State). record { at = y .at; value = valuePlace (y .value) }) (t .states))
   state-places-are = x .places ∙ rw (a .standing .states, rows-none Tb.StatePlaces w₂) (concat-mapped stateBesideBytes (λ (y : T.State). record { at = y .at; value = valuePlace (y .value) }) (t .states))
 
-  pub whole-of : Whole text w₃ (tallied s s′ acts′) t
+  pub whole-of : Whole text w₃ (tallied s s′) t
   unfolding describe
   whole-of = record {
     few = few;
@@ -157,7 +157,7 @@ module _ (t : Text) {text : List ℕ} {w : Word} {s s′ : State} {acts acts′ 
 
 -- The same, where the sections of the text are given by themselves.
 pub whole-at : (t : Text) {ds : List Declaration} {os : List T.Operation} {ss : List T.State} → declarationsOf t ≡ ds → t .operations ≡ os → t .states ≡ ss
-    → {text : List ℕ} {w : Word} {s s′ : State} {acts acts′ l : ℕ} {w₂ w₃ : List ℕ} → Ready text ds os w s acts w₂ → lengthOf l ≡ lengthIn ds
-    → Written text (named ds os (labelsOf ss)) l ss s acts w₂ s′ acts′ w₃
-    → namesOf text (rows Tb.StateNames (s′ .states) w₂) (s′ .states) ≡ labelsOf ss → Few (tallied s s′ acts′) → Whole text w₃ (tallied s s′ acts′) t
+    → {text : List ℕ} {w : Word} {s s′ : State} {l : ℕ} {w₂ w₃ : List ℕ} → Ready text ds os w s w₂ → lengthOf l ≡ lengthIn ds
+    → Written text (named ds os (labelsOf ss)) l ss s w₂ s′ w₃
+    → namesOf text (rows Tb.StateNames (s′ .states) w₂) (s′ .states) ≡ labelsOf ss → Few (tallied s s′) → Whole text w₃ (tallied s s′) t
 whole-at t i j k a e x n few = whole-of t (rw (← i, ← j) at a) (rw (← i) at e) (rw (← i, ← j, ← k) at x) (rw (← k) at n) few

@@ -33,40 +33,40 @@ use Rattle.text_words.specs.Meaning.{positioned}
 use Rattle.parse_array.proofs.NodesAdded.{nodes-append}
 use Rattle.parse_array.specs.Held.{Held, held, otherIn, withNodes}
 use Rattle.parse_array.specs.Layout.{actionPlacesFrom, mostActions, mostNodes, otherFrom, workSize}
-use Rattle.parse_actions.specs.Laid.{Laid}
+use Rattle.parse_actions.specs.Laid.{Laid, oneMore}
 
 -- ---- Lists of actions.
 
-pub written-laid : {sc : Scope} {a : Actions} {s : State} {acts : ℕ} {work : List ℕ} {s′ : State} {acts′ : ℕ} {work′ : List ℕ} → Written sc a s acts work s′ acts′ work′
-    → Laid (expressionsIn a) (nodesIn sc (s .nodes) a) (actionsIn a) (actionsOf sc (s .nodes) a) s acts work s′ acts′ work′
+pub written-laid : {sc : Scope} {a : Actions} {s : State} {work : List ℕ} {s′ : State} {work′ : List ℕ} → Written sc a s work s′ work′
+    → Laid (expressionsIn a) (nodesIn sc (s .nodes) a) (actionsIn a) (actionsOf sc (s .nodes) a) s work s′ work′
 written-laid x = record { nodes = x .nodes; expressions = x .expressions; count = x .count; records = x .records; places = x .places; tables = x .tables }
 
-pub laid-written : {sc : Scope} (a : Actions) {k : ℕ} {ns : List Noted} {m : ℕ} {xs : List NotedAction} {s : State} {acts : ℕ} {work : List ℕ} {s′ : State} {acts′ : ℕ} {work′ : List ℕ}
-    → Laid k ns m xs s acts work s′ acts′ work′ → k ≡ expressionsIn a → ns ≡ nodesIn sc (s .nodes) a → m ≡ actionsIn a → xs ≡ actionsOf sc (s .nodes) a → Written sc a s acts work s′ acts′ work′
-laid-written {sc} a {s = s} {acts} {work} x e f g h = record {
+pub laid-written : {sc : Scope} (a : Actions) {k : ℕ} {ns : List Noted} {m : ℕ} {xs : List NotedAction} {s : State} {work : List ℕ} {s′ : State} {work′ : List ℕ}
+    → Laid k ns m xs s work s′ work′ → k ≡ expressionsIn a → ns ≡ nodesIn sc (s .nodes) a → m ≡ actionsIn a → xs ≡ actionsOf sc (s .nodes) a → Written sc a s work s′ work′
+laid-written {sc} a {s = s} {work} x e f g h = record {
   nodes = x .nodes ∙ ap (λ (n : ℕ). s .nodes + n) e;
   expressions = x .expressions ∙ ap (withNodes (frontOf (s .nodes) work)) f;
-  count = x .count ∙ ap (λ (n : ℕ). acts + n) g;
-  records = x .records ∙ ap (λ (l : List NotedAction). rows T.Actions acts work ++ actionRecords l) h;
-  places = x .places ∙ ap (λ (l : List NotedAction). rows T.ActionPlaces acts work ++ actionBesides l) h;
+  count = x .count ∙ ap (λ (n : ℕ). s .actions + n) g;
+  records = x .records ∙ ap (λ (l : List NotedAction). rows T.Actions (s .actions) work ++ actionRecords l) h;
+  places = x .places ∙ ap (λ (l : List NotedAction). rows T.ActionPlaces (s .actions) work ++ actionBesides l) h;
   tables = x .tables;
 }
 
-pub laid-then : {k : ℕ} {ns : List Noted} {m : ℕ} {xs : List NotedAction} {s : State} {acts : ℕ} {work : List ℕ} {s₁ : State} {acts₁ : ℕ} {work₁ : List ℕ} {k₁ : ℕ} {ns₁ : List Noted} {m₁ : ℕ} {xs₁ : List NotedAction} {s₂ : State} {acts₂ : ℕ} {work₂ : List ℕ}
-    → Laid k ns m xs s acts work s₁ acts₁ work₁ → Laid k₁ ns₁ m₁ xs₁ s₁ acts₁ work₁ s₂ acts₂ work₂ → Laid (k + k₁) (ns ++ ns₁) (m + m₁) (xs ++ xs₁) s acts work s₂ acts₂ work₂
-laid-then {k} {ns} {m} {xs} {s} {acts} {work} {k₁ = k₁} {ns₁} {m₁} {xs₁} x y = record {
+pub laid-then : {k : ℕ} {ns : List Noted} {m : ℕ} {xs : List NotedAction} {s : State} {work : List ℕ} {s₁ : State} {work₁ : List ℕ} {k₁ : ℕ} {ns₁ : List Noted} {m₁ : ℕ} {xs₁ : List NotedAction} {s₂ : State} {work₂ : List ℕ}
+    → Laid k ns m xs s work s₁ work₁ → Laid k₁ ns₁ m₁ xs₁ s₁ work₁ s₂ work₂ → Laid (k + k₁) (ns ++ ns₁) (m + m₁) (xs ++ xs₁) s work s₂ work₂
+laid-then {k} {ns} {m} {xs} {s} {work} {k₁ = k₁} {ns₁} {m₁} {xs₁} x y = record {
   nodes = omega (arith, x .nodes, y .nodes);
   expressions = y .expressions ∙ ap (λ (h : Held). withNodes h ns₁) (x .expressions) ∙ sym (nodes-append (frontOf (s .nodes) work) ns ns₁);
   count = omega (arith, x .count, y .count);
-  records = y .records ∙ ap (λ (l : List ℕ). l ++ actionRecords xs₁) (x .records) ∙ append-assoc (rows T.Actions acts work) (actionRecords xs) (actionRecords xs₁)
-      ∙ ap (λ (l : List ℕ). rows T.Actions acts work ++ l) (sym (bytes-append (λ v. actionBytes (v .action)) xs xs₁));
-  places = y .places ∙ ap (λ (l : List ℕ). l ++ actionBesides xs₁) (x .places) ∙ append-assoc (rows T.ActionPlaces acts work) (actionBesides xs) (actionBesides xs₁)
-      ∙ ap (λ (l : List ℕ). rows T.ActionPlaces acts work ++ l) (sym (bytes-append (λ v. placeBytes 0 (v .at)) xs xs₁));
+  records = y .records ∙ ap (λ (l : List ℕ). l ++ actionRecords xs₁) (x .records) ∙ append-assoc (rows T.Actions (s .actions) work) (actionRecords xs) (actionRecords xs₁)
+      ∙ ap (λ (l : List ℕ). rows T.Actions (s .actions) work ++ l) (sym (bytes-append (λ v. actionBytes (v .action)) xs xs₁));
+  places = y .places ∙ ap (λ (l : List ℕ). l ++ actionBesides xs₁) (x .places) ∙ append-assoc (rows T.ActionPlaces (s .actions) work) (actionBesides xs) (actionBesides xs₁)
+      ∙ ap (λ (l : List ℕ). rows T.ActionPlaces (s .actions) work ++ l) (sym (bytes-append (λ v. placeBytes 0 (v .at)) xs xs₁));
   tables = λ u e n h. y .tables u e n h ∙ x .tables u e n h;
 }
 
-pub laid-as : {k k′ : ℕ} {ns ns′ : List Noted} {m : ℕ} {xs : List NotedAction} {s : State} {acts : ℕ} {work : List ℕ} {s′ : State} {acts′ : ℕ} {work′ : List ℕ} → k ≡ k′ → ns ≡ ns′ → Laid k ns m xs s acts work s′ acts′ work′
-    → Laid k′ ns′ m xs s acts work s′ acts′ work′
+pub laid-as : {k k′ : ℕ} {ns ns′ : List Noted} {m : ℕ} {xs : List NotedAction} {s : State} {work : List ℕ} {s′ : State} {work′ : List ℕ} → k ≡ k′ → ns ≡ ns′ → Laid k ns m xs s work s′ work′
+    → Laid k′ ns′ m xs s work s′ work′
 laid-as {s = s} {work = work} e f x = record {
   nodes = x .nodes ∙ ap (λ (n : ℕ). s .nodes + n) e;
   expressions = x .expressions ∙ ap (withNodes (frontOf (s .nodes) work)) f;
@@ -82,14 +82,14 @@ bytes-one : (f : NotedAction → List ℕ) (x : NotedAction) → f x ≡ concat 
 unfolding concat
 bytes-one f x = sym (append-nil (f x))
 
-pub laid-added : {acts : ℕ} {a : D.Action} {at : Position} {work work′ : List ℕ} (s : State) → ActionAdded acts a at work work′ true → length work ≡ workSize → s .nodes ≤ mostNodes
-    → Laid 0 [] 1 (act a (positioned at) ∷ []) s acts work s (acts + 1) work′
-laid-added {acts} {a} {at} {work} {work′} s x l h = record {
+pub laid-added : {a : D.Action} {at : Position} {work work′ : List ℕ} (s : State) → ActionAdded (s .actions) a at work work′ true → length work ≡ workSize → s .nodes ≤ mostNodes
+    → Laid 0 [] 1 (act a (positioned at) ∷ []) s work (oneMore s) work′
+laid-added {a} {at} {work} {work′} s x l h = record {
   nodes = omega arith;
   expressions = front-kept work work′ l (x .whole refl) (x .kept refl .front) (s .nodes) h ∙ sym (nodes-none (frontOf (s .nodes) work));
   count = refl;
-  records = x .records refl ∙ ap (λ (v : List ℕ). rows T.Actions acts work ++ v) (bytes-one (λ v. actionBytes (v .action)) (act a (positioned at)));
-  places = x .places refl ∙ ap (λ (v : List ℕ). rows T.ActionPlaces acts work ++ v) (bytes-one (λ v. placeBytes 0 (v .at)) (act a (positioned at)));
+  records = x .records refl ∙ ap (λ (v : List ℕ). rows T.Actions (s .actions) work ++ v) (bytes-one (λ v. actionBytes (v .action)) (act a (positioned at)));
+  places = x .places refl ∙ ap (λ (v : List ℕ). rows T.ActionPlaces (s .actions) work ++ v) (bytes-one (λ v. placeBytes 0 (v .at)) (act a (positioned at)));
   tables = x .kept refl .tables;
 }
 
@@ -99,16 +99,16 @@ no-bytes : (f : NotedAction → List ℕ) (xs : List ℕ) → xs ≡ xs ++ conca
 unfolding concat
 no-bytes f xs = sym (append-nil xs)
 
-pub laid-expression : {sc : Scope} {e : Expression} {s′ : State} {work′ : List ℕ} (s : State) (work : List ℕ) (acts : ℕ) → Pending sc (held (s .nodes) work) (s .nodes) e s′ work′
-    → Laid (expressionSize e) (nodesOf sc (s .nodes) e) 0 [] s acts work s′ acts work′
-laid-expression {sc} {e} {s′} {work′} s work acts h =
+pub laid-expression : {sc : Scope} {e : Expression} {s′ : State} {work′ : List ℕ} (s : State) (work : List ℕ) → s′ .actions ≡ s .actions → Pending sc (held (s .nodes) work) (s .nodes) e s′ work′
+    → Laid (expressionSize e) (nodesOf sc (s .nodes) e) 0 [] s work s′ work′
+laid-expression {sc} {e} {s′} {work′} s work k h =
     let o : otherIn work′ ≡ otherIn work = other-held (s .nodes) (s′ .nodes) work work′ (nodesOf sc (s .nodes) e) (h .records) in
     record {
       nodes = h .nodes;
       expressions = front-held (s .nodes) (s′ .nodes) work work′ (nodesOf sc (s .nodes) e) (h .records);
-      count = omega arith;
-      records = rows-other work work′ o T.Actions acts ∙ no-bytes _ (rows T.Actions acts work);
-      places = rows-other work work′ o T.ActionPlaces acts ∙ no-bytes _ (rows T.ActionPlaces acts work);
+      count = omega (arith, k);
+      records = rows-other work work′ o T.Actions (s′ .actions) ∙ ap (λ (n : ℕ). rows T.Actions n work) k ∙ no-bytes _ (rows T.Actions (s .actions) work);
+      places = rows-other work work′ o T.ActionPlaces (s′ .actions) ∙ ap (λ (n : ℕ). rows T.ActionPlaces n work) k ∙ no-bytes _ (rows T.ActionPlaces (s .actions) work);
       tables = others-other work work′ o;
     }
 
@@ -144,43 +144,43 @@ first-kept {w′ = w′} k = kept-more k (still (T.ActionPlaces ∷ []) w′) .t
 pub place-kept : {w w′ : List ℕ} → Kept (T.ActionPlaces ∷ []) w w′ → OthersKept w w′
 place-kept {w} k = kept-more (still (T.Actions ∷ []) w) k .tables
 
-module _ {k : ℕ} {ns : List Noted} {m : ℕ} {s : State} {acts : ℕ} {work : List ℕ} {s′ : State} {acts′ : ℕ} {work′ work″ : List ℕ} (l : length work ≡ workSize) (few : acts′ ≤ mostActions) (room : s′ .nodes ≤ mostNodes) where
+module _ {k : ℕ} {ns : List Noted} {m : ℕ} {s : State} {work : List ℕ} {s′ : State} {work′ work″ : List ℕ} (l : length work ≡ workSize) (few : s′ .actions ≤ mostActions) (room : s′ .nodes ≤ mostNodes) where
   -- The first record.
-  pub first-again : (x : NotedAction) (ys : List NotedAction) (z : D.Action) → 0 < m → Laid k ns m (x ∷ ys) s acts work s′ acts′ work′ → Wrote T.Actions acts (actionBytes z) work′ work″
-      → Laid k ns m (act z (x .at) ∷ ys) s acts work s′ acts′ work″
+  pub first-again : (x : NotedAction) (ys : List NotedAction) (z : D.Action) → 0 < m → Laid k ns m (x ∷ ys) s work s′ work′ → Wrote T.Actions (s .actions) (actionBytes z) work′ work″
+      → Laid k ns m (act z (x .at) ∷ ys) s work s′ work″
   unfolding concat
   first-again x ys z h a w =
-      let more : acts < acts′ = omega (arith, a .count) in
+      let more : s .actions < s′ .actions = omega (arith, a .count) in
       record {
         nodes = a .nodes;
         expressions = front-kept work′ work″ (w .whole) (w .still) (w .kept .front) (s′ .nodes) room ∙ a .expressions;
         count = a .count;
-        records = row-again T.Actions acts acts′ (rows T.Actions acts work) (actionBytes (x .action)) (actionRecords ys) (a .records) (action-rows acts work l (omega arith)) (action-length (x .action) ∙ sym (action-length z)) more few w;
-        places = w .kept .tables T.ActionPlaces refl acts′ few ∙ a .places;
+        records = row-again T.Actions (s .actions) (s′ .actions) (rows T.Actions (s .actions) work) (actionBytes (x .action)) (actionRecords ys) (a .records) (action-rows (s .actions) work l (omega arith)) (action-length (x .action) ∙ sym (action-length z)) more few w;
+        places = w .kept .tables T.ActionPlaces refl (s′ .actions) few ∙ a .places;
         tables = λ u e n q. first-kept (w .kept) u e n q ∙ a .tables u e n q;
       }
 
   -- The place of the second.
-  pub place-again : (y x : NotedAction) (ys : List NotedAction) (p : L.Position) {i : ℕ} → i ≡ acts + 1 → 1 < m → Laid k ns m (y ∷ x ∷ ys) s acts work s′ acts′ work′ → Wrote T.ActionPlaces i (placeBytes 0 p) work′ work″
-      → Laid k ns m (y ∷ act (x .action) p ∷ ys) s acts work s′ acts′ work″
+  pub place-again : (y x : NotedAction) (ys : List NotedAction) (p : L.Position) {i : ℕ} → i ≡ s .actions + 1 → 1 < m → Laid k ns m (y ∷ x ∷ ys) s work s′ work′ → Wrote T.ActionPlaces i (placeBytes 0 p) work′ work″
+      → Laid k ns m (y ∷ act (x .action) p ∷ ys) s work s′ work″
   unfolding concat
   place-again y x ys p {i} e h a w =
-      let more : i < acts′ = omega (arith, a .count) in
-      let front = rows T.ActionPlaces acts work ++ placeBytes 0 (y .at) in
-      let size : 2 * i ≡ length front = omega (arith, place-rows acts work l (omega arith), length-append (rows T.ActionPlaces acts work) (placeBytes 0 (y .at)), place-length 0 (y .at)) in
+      let more : i < s′ .actions = omega (arith, a .count) in
+      let front = rows T.ActionPlaces (s .actions) work ++ placeBytes 0 (y .at) in
+      let size : 2 * i ≡ length front = omega (arith, place-rows (s .actions) work l (omega arith), length-append (rows T.ActionPlaces (s .actions) work) (placeBytes 0 (y .at)), place-length 0 (y .at)) in
       record {
         nodes = a .nodes;
         expressions = front-kept work′ work″ (w .whole) (w .still) (w .kept .front) (s′ .nodes) room ∙ a .expressions;
         count = a .count;
-        records = w .kept .tables T.Actions refl acts′ few ∙ a .records;
+        records = w .kept .tables T.Actions refl (s′ .actions) few ∙ a .records;
         places =
-            row-again T.ActionPlaces i acts′ front (placeBytes 0 (x .at)) (actionBesides ys) (a .places ∙ sym (append-assoc (rows T.ActionPlaces acts work) (placeBytes 0 (y .at)) (placeBytes 0 (x .at) ++ actionBesides ys))) size (place-length 0 (x .at) ∙ sym (place-length 0 p)) more few w
-            ∙ append-assoc (rows T.ActionPlaces acts work) (placeBytes 0 (y .at)) (placeBytes 0 p ++ actionBesides ys);
+            row-again T.ActionPlaces i (s′ .actions) front (placeBytes 0 (x .at)) (actionBesides ys) (a .places ∙ sym (append-assoc (rows T.ActionPlaces (s .actions) work) (placeBytes 0 (y .at)) (placeBytes 0 (x .at) ++ actionBesides ys))) size (place-length 0 (x .at) ∙ sym (place-length 0 p)) more few w
+            ∙ append-assoc (rows T.ActionPlaces (s .actions) work) (placeBytes 0 (y .at)) (placeBytes 0 p ++ actionBesides ys);
         tables = λ u e n q. place-kept (w .kept) u e n q ∙ a .tables u e n q;
       }
 
 -- A record, then those of a list that belong to it, and the record written again.
-pub headed : {sc : Scope} {k : ℕ} {ns : List Noted} {x : NotedAction} {s : State} {acts : ℕ} {work : List ℕ} {s₁ : State} {acts₁ : ℕ} {work₁ : List ℕ} (t : Actions) {s₂ : State} {acts₂ : ℕ} {work₂ work₃ : List ℕ} (z : D.Action)
-    → length work ≡ workSize → acts₂ ≤ mostActions → s₂ .nodes ≤ mostNodes → Laid k ns 1 (x ∷ []) s acts work s₁ acts₁ work₁ → Written sc t s₁ acts₁ work₁ s₂ acts₂ work₂ → Wrote T.Actions acts (actionBytes z) work₂ work₃
-    → Laid (k + expressionsIn t) (ns ++ nodesIn sc (s₁ .nodes) t) (1 + actionsIn t) (act z (x .at) ∷ actionsOf sc (s₁ .nodes) t) s acts work s₂ acts₂ work₃
+pub headed : {sc : Scope} {k : ℕ} {ns : List Noted} {x : NotedAction} {s : State} {work : List ℕ} {s₁ : State} {work₁ : List ℕ} (t : Actions) {s₂ : State} {work₂ work₃ : List ℕ} (z : D.Action)
+    → length work ≡ workSize → s₂ .actions ≤ mostActions → s₂ .nodes ≤ mostNodes → Laid k ns 1 (x ∷ []) s work s₁ work₁ → Written sc t s₁ work₁ s₂ work₂ → Wrote T.Actions (s .actions) (actionBytes z) work₂ work₃
+    → Laid (k + expressionsIn t) (ns ++ nodesIn sc (s₁ .nodes) t) (1 + actionsIn t) (act z (x .at) ∷ actionsOf sc (s₁ .nodes) t) s work s₂ work₃
 headed {sc} {x = x} {s₁ = s₁} t z l few room a b w = first-again l few room x (actionsOf sc (s₁ .nodes) t) z (omega arith) (laid-then a (written-laid b)) w

@@ -14,7 +14,7 @@ use Rattle.parse_step.specs.declared.State.{State}
 use Rattle.parse_step.specs.declared.Verdict.the-variants.{Done}
 use Rattle.parse_step.specs.Course.{Seen, Stack, countsOf, kindNo, runs}
 use Rattle.parse_step.specs.Taken.{Passed, Took, afterWord}
-use Rattle.parse_bounds.proofs.States.{state-of}
+use Rattle.parse_step.proofs.States.{state-of}
 use Rattle.language.specs.Building.{Built, joined}
 use Rattle.language.specs.Kinds.{comma}
 use Rattle.language.specs.Machine.{ask}
@@ -23,9 +23,8 @@ use Rattle.parse_names.specs.declared.Counts.{Counts}
 use Rattle.parse_expressions.proofs.StartLaws.{at-same}
 use Rattle.parse_expressions.specs.Phrases.{atNesting, same}
 use Rattle.parse_stores.proofs.Joining.{grown-two, paid-then, written-then}
-use Rattle.parse_stores.proofs.Standings.{standing-passed}
+use Rattle.parse_stores.proofs.Standings.{standing-word}
 use Rattle.parse_stores.specs.Actions.{ActionsRead, Acts, Reads, Standing, grown}
-use Rattle.parse_stores.specs.declared.Acted.{Acted}
 use Rattle.text_words.specs.declared.Word.{Word}
 use Rattle.parse_actions.proofs.ListWords.{comma-comes, no-comma}
 use Rattle.parse_actions.specs.Lists.{Another, actionAsk, listStack, moreAsk}
@@ -38,14 +37,14 @@ level-same p = state-of (p .counts) (p .kept)
 pub at-level : {text : List ℕ} {w : Word} {s : State} {t : Answer} {i : State} → Passed text w (afterWord false Level s) s t → i ≡ atNesting (t .state) (s .nesting) → i ≡ t .state
 at-level {s = s} {t} p g = g ∙ at-same (t .state) (s .nesting) (ap (λ (q : State). q .nesting) (level-same p))
 
-module _ {text : List ℕ} {sc : Scope} {n : Counts} {P Q : Stack} {w : Word} {s : State} {acts : ℕ} {work work₁ : List ℕ} {r : Acted} where
+module _ {text : List ℕ} {sc : Scope} {n : Counts} {P Q : Stack} {w : Word} {s : State} {work work₁ : List ℕ} {r : Answer} where
   -- A refusal handed on.
-  pub reads-not : Reads text sc n P Q (same text) w s acts work work₁ r → (r .answer .verdict ≡ Done → ⊥) → (Q′ : Stack) → Reads text sc n P Q′ (same text) w s acts work work₁ r
+  pub reads-not : Reads text sc n P Q (same text) w s work work₁ r → (r .verdict ≡ Done → ⊥) → (Q′ : Stack) → Reads text sc n P Q′ (same text) w s work work₁ r
   reads-not x m Q′ = record { done = λ d. absurd (m d); refused = x .refused; full = x .full }
 
   -- Actions behind actions.
-  pub reads-then : ActionsRead text sc n P Q (same text) w s acts work work₁ r → {R : Stack} {work₂ : List ℕ} {r₂ : Acted} → Reads text sc n Q R (same text) (r .answer .next) (r .answer .state) (r .actions) work₁ work₂ r₂
-      → Reads text sc n P R (same text) w s acts work work₂ r₂
+  pub reads-then : ActionsRead text sc n P Q (same text) w s work work₁ r → {R : Stack} {work₂ : List ℕ} {r₂ : Answer} → Reads text sc n Q R (same text) (r .next) (r .state) work₁ work₂ r₂
+      → Reads text sc n P R (same text) w s work work₂ r₂
   reads-then x y = record {
     done = λ d. let z = y .done d in
         record {
@@ -60,7 +59,7 @@ module _ {text : List ℕ} {sc : Scope} {n : Counts} {P Q : Stack} {w : Word} {s
   }
 
   -- Each action counts a word.
-  pub counts-one : ActionsRead text sc n P Q (same text) w s acts work work₁ r → s .counted + 1 ≤ r .answer .state .counted
+  pub counts-one : ActionsRead text sc n P Q (same text) w s work work₁ r → s .counted + 1 ≤ r .state .counted
   counts-one x = omega (arith, x .paid .actions, x .written .count)
 
 -- ---- A comma and an action.
@@ -71,15 +70,15 @@ module _ (q : Bool) {text : List ℕ} {w : Word} {s : State} {t : Answer} (x : T
       comma-comes text w z b (countsOf s) e q K ∙ took-done (x .done d) z (ask (actionAsk q) ∷ ask (moreAsk q) ∷ K) b
       ∙ ap (λ (v : State). runs text (ask (actionAsk q) ∷ ask (moreAsk q) ∷ K) (t .next) b v) (level-same (x .done d))
 
-module _ (q : Bool) {text : List ℕ} {n : Counts} {w : Word} {s : State} {acts : ℕ} {work : List ℕ} {t : Answer} (x : Took text w (afterWord false Level s) s t) where
-  pub another-not : (t .verdict ≡ Done → ⊥) → {work′ : List ℕ} → Another q text n w s acts work work′ (record { answer = t; actions = acts })
+module _ (q : Bool) {text : List ℕ} {n : Counts} {w : Word} {s : State} {work : List ℕ} {t : Answer} (x : Took text w (afterWord false Level s) s t) where
+  pub another-not : (t .verdict ≡ Done → ⊥) → {work′ : List ℕ} → Another q text n w s work work′ t
   another-not m e sc st = record {
     done = λ d. absurd (m d);
     refused = λ f d K b. comma-comes text w (st .seen) b (countsOf s) e q K ∙ took-refused x f d (ask (actionAsk q) ∷ ask (moreAsk q) ∷ K) b;
     full = λ d. absurd (x .full d);
   }
 
-  pub another-says : t .verdict ≡ Done → {i : State} → i ≡ atNesting (t .state) (s .nesting) → {work′ : List ℕ} {r : Acted} → Acts (ask (actionAsk q) ∷ []) same text n (t .next) i acts work work′ r → Another q text n w s acts work work′ r
+  pub another-says : t .verdict ≡ Done → {i : State} → i ≡ atNesting (t .state) (s .nesting) → {work′ : List ℕ} {r : Answer} → Acts (ask (actionAsk q) ∷ []) same text n (t .next) i work work′ r → Another q text n w s work work′ r
   another-says d {i} g {work′} {r} y₀ e sc st = record {
     done = λ u. let z = y .done u in
         record { tree = z .tree; course = λ K b. comma-course q x d e (st .seen) K b ∙ z .course (ask (moreAsk q) ∷ K) b; written = z .written; paid = z .paid; standing = z .standing };
@@ -90,20 +89,20 @@ module _ (q : Bool) {text : List ℕ} {n : Counts} {w : Word} {s : State} {acts 
       p : Passed text w (afterWord false Level s) s t
       p = x .done d
 
-      y : Reads text sc n (ask (actionAsk q) ∷ []) [] (same text) (t .next) s acts work work′ r
-      y = rw (at-level p g ∙ level-same p) at (y₀ sc (rw (at-level p g) (standing-passed false Level st p)))
+      y : Reads text sc n (ask (actionAsk q) ∷ []) [] (same text) (t .next) s work work′ r
+      y = rw (at-level p g ∙ level-same p) at (y₀ sc (rw (at-level p g) (standing-word false Level st p)))
 
 -- ---- The list.
 
 -- So far: what was read, with as many words counted as there were actions.
-pub record Going (q : Bool) (text : List ℕ) (n : Counts) (w : Word) (s : State) (acts : ℕ) (work : List ℕ) (count : ℕ) (r : Acted) (work′ : List ℕ) : Type 0 where
-  pub reads : (sc : Scope) → Standing text sc n w s acts work → Reads text sc n (listStack q) (ask (moreAsk q) ∷ []) (same text) w s acts work work′ r
-  pub counted : (sc : Scope) → Standing text sc n w s acts work → r .answer .verdict ≡ Done → s .counted + count ≤ r .answer .state .counted
+pub record Going (q : Bool) (text : List ℕ) (n : Counts) (w : Word) (s : State) (work : List ℕ) (count : ℕ) (r : Answer) (work′ : List ℕ) : Type 0 where
+  pub reads : (sc : Scope) → Standing text sc n w s (s .actions) work → Reads text sc n (listStack q) (ask (moreAsk q) ∷ []) (same text) w s work work′ r
+  pub counted : (sc : Scope) → Standing text sc n w s (s .actions) work → r .verdict ≡ Done → s .counted + count ≤ r .state .counted
 
-pub going-begin : (q : Bool) {text : List ℕ} {n : Counts} {w : Word} {s : State} {acts : ℕ} {work work′ : List ℕ} {r : Acted} → Acts (ask (actionAsk q) ∷ []) same text n w s acts work work′ r → Going q text n w s acts work 1 r work′
-going-begin q {text} {n} {w} {s} {acts} {work} {work′} {r} x = record { reads = reads; counted = λ sc st d. counts-one (reads sc st .done d) }
+pub going-begin : (q : Bool) {text : List ℕ} {n : Counts} {w : Word} {s : State} {work work′ : List ℕ} {r : Answer} → Acts (ask (actionAsk q) ∷ []) same text n w s work work′ r → Going q text n w s work 1 r work′
+going-begin q {text} {n} {w} {s} {work} {work′} {r} x = record { reads = reads; counted = λ sc st d. counts-one (reads sc st .done d) }
   where
-    reads : (sc : Scope) → Standing text sc n w s acts work → Reads text sc n (listStack q) (ask (moreAsk q) ∷ []) (same text) w s acts work work′ r
+    reads : (sc : Scope) → Standing text sc n w s (s .actions) work → Reads text sc n (listStack q) (ask (moreAsk q) ∷ []) (same text) w s work work′ r
     reads sc st =
         let y = x sc st in
         record {
@@ -113,31 +112,31 @@ going-begin q {text} {n} {w} {s} {acts} {work} {work′} {r} x = record { reads 
           full = y .full;
         }
 
-module _ {q : Bool} {text : List ℕ} {n : Counts} {w : Word} {s : State} {acts : ℕ} {work : List ℕ} {count : ℕ} {r : Acted} {work′ : List ℕ} (g : Going q text n w s acts work count r work′) where
-  pub going-more : r .answer .verdict ≡ Done → {z : Bool} → z ≡ eqb (kindNo (r .answer .next .kind)) comma → z ≡ true → {i : State} → i ≡ atNesting (r .answer .state) (s .nesting) → {work₂ : List ℕ} {r₂ : Acted} → Another q text n (r .answer .next) i (r .actions) work′ work₂ r₂
-      → {m : ℕ} → m ≡ count + 1 → Going q text n w s acts work m r₂ work₂
+module _ {q : Bool} {text : List ℕ} {n : Counts} {w : Word} {s : State} {work : List ℕ} {count : ℕ} {r : Answer} {work′ : List ℕ} (g : Going q text n w s work count r work′) where
+  pub going-more : r .verdict ≡ Done → {z : Bool} → z ≡ eqb (kindNo (r .next .kind)) comma → z ≡ true → {i : State} → i ≡ atNesting (r .state) (s .nesting) → {work₂ : List ℕ} {r₂ : Answer} → Another q text n (r .next) i work′ work₂ r₂
+      → {m : ℕ} → m ≡ count + 1 → Going q text n w s work m r₂ work₂
   going-more d e₁ e₂ {i} h {work₂} {r₂} y₀ {m} f = record { reads = λ sc st. reads-then (first sc st) (next sc st); counted = λ sc st u. omega (arith, f, g .counted sc st d, counts-one (next sc st .done u)) }
     where
-      first : (sc : Scope) (st : Standing text sc n w s acts work) → ActionsRead text sc n (listStack q) (ask (moreAsk q) ∷ []) (same text) w s acts work work′ r
+      first : (sc : Scope) (st : Standing text sc n w s (s .actions) work) → ActionsRead text sc n (listStack q) (ask (moreAsk q) ∷ []) (same text) w s work work′ r
       first sc st = g .reads sc st .done d
 
-      next : (sc : Scope) (st : Standing text sc n w s acts work) → Reads text sc n (ask (moreAsk q) ∷ []) (ask (moreAsk q) ∷ []) (same text) (r .answer .next) (r .answer .state) (r .actions) work′ work₂ r₂
+      next : (sc : Scope) (st : Standing text sc n w s (s .actions) work) → Reads text sc n (ask (moreAsk q) ∷ []) (ask (moreAsk q) ∷ []) (same text) (r .next) (r .state) work′ work₂ r₂
       next sc st =
-          let j : i ≡ r .answer .state = h ∙ at-same (r .answer .state) (s .nesting) (first sc st .paid .nesting) in
-          let y : Another q text n (r .answer .next) (r .answer .state) (r .actions) work′ work₂ r₂ = rw j at y₀ in
-          y (eqb-true (kindNo (r .answer .next .kind)) comma (sym e₁ ∙ e₂)) sc (first sc st .standing)
+          let j : i ≡ r .state = h ∙ at-same (r .state) (s .nesting) (first sc st .paid .nesting) in
+          let y : Another q text n (r .next) (r .state) work′ work₂ r₂ = rw j at y₀ in
+          y (eqb-true (kindNo (r .next .kind)) comma (sym e₁ ∙ e₂)) sc (first sc st .standing)
 
-  pub list-not : (r .answer .verdict ≡ Done → ⊥) → Acts (listStack q) same text n w s acts work work′ r
+  pub list-not : (r .verdict ≡ Done → ⊥) → Acts (listStack q) same text n w s work work′ r
   list-not m sc st = reads-not (g .reads sc st) m []
 
-  pub list-ends : {z : Bool} → z ≡ eqb (kindNo (r .answer .next .kind)) comma → z ≡ false → Acts (listStack q) same text n w s acts work work′ r
+  pub list-ends : {z : Bool} → z ≡ eqb (kindNo (r .next .kind)) comma → z ≡ false → Acts (listStack q) same text n w s work work′ r
   list-ends e₁ e₂ sc st =
       let y = g .reads sc st in
       record {
         done = λ d. let z = y .done d in
             record {
               tree = z .tree;
-              course = λ K b. z .course K b ∙ no-comma text (r .answer .next) (z .standing .seen) (grown (z .tree) b) (countsOf (r .answer .state)) (eqb-false (kindNo (r .answer .next .kind)) comma (sym e₁ ∙ e₂)) q K;
+              course = λ K b. z .course K b ∙ no-comma text (r .next) (z .standing .seen) (grown (z .tree) b) (countsOf (r .state)) (eqb-false (kindNo (r .next .kind)) comma (sym e₁ ∙ e₂)) q K;
               written = z .written;
               paid = z .paid;
               standing = z .standing;
@@ -147,6 +146,6 @@ module _ {q : Bool} {text : List ℕ} {n : Counts} {w : Word} {s : State} {acts 
       }
 
   -- No more words can be counted.
-  pub list-long : 2049 ≤ count → Acts (listStack q) same text n w s acts work work′ r
+  pub list-long : 2049 ≤ count → Acts (listStack q) same text n w s work work′ r
   list-long h sc st =
-      reads-not (g .reads sc st) (λ d. omega (arith, h, g .counted sc st d, few-counted (countsOf (r .answer .state)) (g .reads sc st .done d .standing .within))) []
+      reads-not (g .reads sc st) (λ d. omega (arith, h, g .counted sc st d, few-counted (countsOf (r .state)) (g .reads sc st .done d .standing .within))) []

@@ -6,6 +6,7 @@ use native.Mathlib.Omega.{arith}
 use lib.ListN.{length}
 use Rattle.parse_step.proofs.Ceilings.{few-counted}
 use Rattle.parse_step.specs.declared.State.{State}
+use Rattle.parse_step.specs.Gained.{withActionCount}
 use Rattle.parse_step.specs.Course.{countsOf}
 use Rattle.language.specs.Naming.{Scope}
 use Rattle.parse_names.specs.declared.Counts.{Counts}
@@ -31,6 +32,10 @@ module _ {text : List ℕ} {sc : Scope} {n : Counts} {w : Word} {s : State} {act
   -- Another number of action records.
   pub standing-acts : (m : ℕ) → Standing text sc n w s acts work → m ≤ 2 * s .counted → Standing text sc n w s m work
   standing-acts m st h = record { seen = st .seen; short = st .short; whole = st .whole; within = st .within; known = st .known; facilities = st .facilities; nodes = st .nodes; actions = h }
+
+  -- A state that counts another number of them.
+  pub standing-counted : (k : ℕ) → Standing text sc n w s acts work → Standing text sc n w (withActionCount s k) acts work
+  standing-counted k st = record { seen = st .seen; short = st .short; whole = st .whole; within = st .within; known = st .known; facilities = st .facilities; nodes = st .nodes; actions = st .actions }
 
   -- There is room.
   pub few-actions : Standing text sc n w s acts work → acts ≤ 4096

@@ -23,7 +23,6 @@ use Rattle.parse_names.specs.declared.Counts.{Counts}
 use Rattle.judge_records.specs.Noted.{placeBytes}
 use Rattle.parse_expressions.specs.Phrases.{choiceWord, same}
 use Rattle.parse_stores.specs.Actions.{Acts, Paid, Reads, Standing, Written, grown}
-use Rattle.parse_stores.specs.declared.Acted.{Acted}
 use Rattle.parse_tables.specs.declared.Table.the-variants as Tb
 use Rattle.parse_tables.specs.Rows.{Wrote}
 use Rattle.text_words.specs.declared.Fault.{Fault}
@@ -74,66 +73,66 @@ pub record Told (text : List ℕ) (P : Stack) (w : Word) (s : State) (a : Answer
   pub full : a .verdict ≡ Vd.Full → ⊥
 
 -- A comma and the action behind it.
-abbrev pub Another : Bool → List ℕ → Counts → Word → State → ℕ → List ℕ → List ℕ → Acted → Type 0
-Another q text n w s acts work work′ r =
-    kindNo (w .kind) ≡ comma → (sc : Scope) → Standing text sc n w s acts work → Reads text sc n (ask (moreAsk q) ∷ []) (ask (moreAsk q) ∷ []) (same text) w s acts work work′ r
+abbrev pub Another : Bool → List ℕ → Counts → Word → State → List ℕ → List ℕ → Answer → Type 0
+Another q text n w s work work′ r =
+    kindNo (w .kind) ≡ comma → (sc : Scope) → Standing text sc n w s (s .actions) work → Reads text sc n (ask (moreAsk q) ∷ []) (ask (moreAsk q) ∷ []) (same text) w s work work′ r
 
 -- ---- Arms. An arm's own record is paid for beforehand.
 
 -- From the stack P to the stack Q with a list of its own, and the records of an arm that holds it.
-pub record ArmRead (P Q : Stack) (text : List ℕ) (sc : Scope) (n : Counts) (w : Word) (s : State) (acts : ℕ) (work work′ : List ℕ) (r : Acted) : Type 0 where
+pub record ArmRead (P Q : Stack) (text : List ℕ) (sc : Scope) (n : Counts) (w : Word) (s : State) (work work′ : List ℕ) (r : Answer) : Type 0 where
   pub tree : Actions
-  pub course : (K : Stack) (b : Built) → runs text (P ++ K) w b s ≡ runs text (Q ++ K) (r .answer .next) (withLists b (tree ∷ b .lists)) (r .answer .state)
-  pub written : Written sc (T.arm tree T.done) s acts work (r .answer .state) (r .actions) work′
-  pub paid : Paid s (acts + 1) (r .answer .state) (r .actions)
-  pub standing : Standing text sc n (r .answer .next) (r .answer .state) (r .actions) work′
+  pub course : (K : Stack) (b : Built) → runs text (P ++ K) w b s ≡ runs text (Q ++ K) (r .next) (withLists b (tree ∷ b .lists)) (r .state)
+  pub written : Written sc (T.arm tree T.done) s work (r .state) work′
+  pub paid : Paid s (s .actions + 1) (r .state)
+  pub standing : Standing text sc n (r .next) (r .state) (r .state .actions) work′
 
-abbrev pub Arm : Bool → List ℕ → Counts → Word → State → ℕ → List ℕ → List ℕ → Acted → Type 0
-Arm q text n w s acts work work′ r =
-    (sc : Scope) → Standing text sc n w s (acts + 1) work → Told text (ownStack q) w s (r .answer) (ArmRead (ownStack q) [] text sc n w s acts work work′ r)
+abbrev pub Arm : Bool → List ℕ → Counts → Word → State → List ℕ → List ℕ → Answer → Type 0
+Arm q text n w s work work′ r =
+    (sc : Scope) → Standing text sc n w s (s .actions + 1) work → Told text (ownStack q) w s r (ArmRead (ownStack q) [] text sc n w s work work′ r)
 
 -- ELSE and its list; the end of the conditional is still to come.
 abbrev pub elseStack : Stack
 elseStack = word endIfWord closes ∷ make (treeSteps .makeIf) ∷ []
 
-abbrev pub Else : Bool → List ℕ → Counts → Word → State → ℕ → List ℕ → List ℕ → Acted → Type 0
-Else q text n w s acts work work′ r =
-    (kindNo (w .kind) ≡ endIfWord → ⊥) → (sc : Scope) → Standing text sc n w s (acts + 1) work
-    → Told text (ask (restAsk q) ∷ []) w s (r .answer) (ArmRead (ask (restAsk q) ∷ []) elseStack text sc n w s acts work work′ r)
+abbrev pub Else : Bool → List ℕ → Counts → Word → State → List ℕ → List ℕ → Answer → Type 0
+Else q text n w s work work′ r =
+    (kindNo (w .kind) ≡ endIfWord → ⊥) → (sc : Scope) → Standing text sc n w s (s .actions + 1) work
+    → Told text (ask (restAsk q) ∷ []) w s r (ArmRead (ask (restAsk q) ∷ []) elseStack text sc n w s work work′ r)
 
 -- From the stack P to the stack Q with k arms more.
-pub record ArmsRead (k : ℕ) (P Q : Stack) (text : List ℕ) (sc : Scope) (n : Counts) (w : Word) (s : State) (acts : ℕ) (work work′ : List ℕ) (r : Acted) : Type 0 where
+pub record ArmsRead (k : ℕ) (P Q : Stack) (text : List ℕ) (sc : Scope) (n : Counts) (w : Word) (s : State) (work work′ : List ℕ) (r : Answer) : Type 0 where
   pub tree : Actions
   pub arms : (t : Actions) → armsIn (joined tree t) ≡ k + armsIn t
-  pub counted : s .counted + k ≤ r .answer .state .counted
-  pub course : (K : Stack) (b : Built) → runs text (P ++ K) w b s ≡ runs text (Q ++ K) (r .answer .next) (grown tree b) (r .answer .state)
-  pub written : Written sc tree s acts work (r .answer .state) (r .actions) work′
-  pub paid : Paid s (acts + 1) (r .answer .state) (r .actions)
-  pub standing : Standing text sc n (r .answer .next) (r .answer .state) (r .actions) work′
+  pub counted : s .counted + k ≤ r .state .counted
+  pub course : (K : Stack) (b : Built) → runs text (P ++ K) w b s ≡ runs text (Q ++ K) (r .next) (grown tree b) (r .state)
+  pub written : Written sc tree s work (r .state) work′
+  pub paid : Paid s (s .actions + 1) (r .state)
+  pub standing : Standing text sc n (r .next) (r .state) (r .state .actions) work′
 
-abbrev pub NextArm : Bool → List ℕ → Counts → Word → State → ℕ → List ℕ → List ℕ → Acted → Type 0
-NextArm q text n w s acts work work′ r =
-    kindNo (w .kind) ≡ doWord → (sc : Scope) → Standing text sc n w s (acts + 1) work
-    → Told text (ask (armsAsk q) ∷ []) w s (r .answer) (ArmsRead 1 (ask (armsAsk q) ∷ []) (ask (armsAsk q) ∷ []) text sc n w s acts work work′ r)
+abbrev pub NextArm : Bool → List ℕ → Counts → Word → State → List ℕ → List ℕ → Answer → Type 0
+NextArm q text n w s work work′ r =
+    kindNo (w .kind) ≡ doWord → (sc : Scope) → Standing text sc n w s (s .actions + 1) work
+    → Told text (ask (armsAsk q) ∷ []) w s r (ArmsRead 1 (ask (armsAsk q) ∷ []) (ask (armsAsk q) ∷ []) text sc n w s work work′ r)
 
-abbrev pub Arms : Bool → List ℕ → Counts → Word → State → ℕ → List ℕ → List ℕ → Armed → Type 0
-Arms q text n w s acts work work′ r =
-    (sc : Scope) → Standing text sc n w s (acts + 1) work
-    → Told text (armStack q) w s (r .acted .answer) (ArmsRead (r .count) (armStack q) [] text sc n w s acts work work′ (r .acted))
+abbrev pub Arms : Bool → List ℕ → Counts → Word → State → List ℕ → List ℕ → Armed → Type 0
+Arms q text n w s work work′ r =
+    (sc : Scope) → Standing text sc n w s (s .actions + 1) work
+    → Told text (armStack q) w s (r .answer) (ArmsRead (r .count) (armStack q) [] text sc n w s work work′ (r .answer))
 
 -- An action that begins with a name.
-abbrev pub Named : Bool → List ℕ → Counts → Word → State → ℕ → List ℕ → List ℕ → Acted → Type 0
-Named q text n w s acts work work′ r = kindNo (w .kind) ≡ aName → Acts (ask (actionAsk q) ∷ []) same text n w s acts work work′ r
+abbrev pub Named : Bool → List ℕ → Counts → Word → State → List ℕ → List ℕ → Answer → Type 0
+Named q text n w s work work′ r = kindNo (w .kind) ≡ aName → Acts (ask (actionAsk q) ∷ []) same text n w s work work′ r
 
 -- An action of a state that begins with no name and is no conditional.
-abbrev pub Signed : List ℕ → Counts → Word → State → ℕ → List ℕ → List ℕ → Acted → Type 0
-Signed text n w s acts work work′ r =
-    (kindNo (w .kind) ≡ aName → ⊥) → (kindNo (w .kind) ≡ ifWord → ⊥) → (kindNo (w .kind) ≡ caseWord → ⊥) → Acts (ask stateAction ∷ []) same text n w s acts work work′ r
+abbrev pub Signed : List ℕ → Counts → Word → State → List ℕ → List ℕ → Answer → Type 0
+Signed text n w s work work′ r =
+    (kindNo (w .kind) ≡ aName → ⊥) → (kindNo (w .kind) ≡ ifWord → ⊥) → (kindNo (w .kind) ≡ caseWord → ⊥) → Acts (ask stateAction ∷ []) same text n w s work work′ r
 
 -- An action that is no conditional.
-abbrev pub Plain : Bool → List ℕ → Counts → Word → State → ℕ → List ℕ → List ℕ → Acted → Type 0
-Plain q text n w s acts work work′ r =
-    (kindNo (w .kind) ≡ ifWord → ⊥) → (kindNo (w .kind) ≡ caseWord → ⊥) → Acts (ask (actionAsk q) ∷ []) same text n w s acts work work′ r
+abbrev pub Plain : Bool → List ℕ → Counts → Word → State → List ℕ → List ℕ → Answer → Type 0
+Plain q text n w s work work′ r =
+    (kindNo (w .kind) ≡ ifWord → ⊥) → (kindNo (w .kind) ≡ caseWord → ⊥) → Acts (ask (actionAsk q) ∷ []) same text n w s work work′ r
 
 -- ---- Conditionals.
 
@@ -161,24 +160,24 @@ pub record Entered (s s′ : State) : Type 0 where
   pub nodes : s′ .nodes + 7 * s .counted ≤ s .nodes + 7 * s′ .counted
 
 -- A conditional up to its first arm. Its own record is still to be written again; that of an arm is paid for besides.
-pub record ConditionRead (case : Bool) (text : List ℕ) (sc : Scope) (n : Counts) (w : Word) (s : State) (acts : ℕ) (work work′ : List ℕ) (r : Acted) : Type 0 where
+pub record ConditionRead (case : Bool) (text : List ℕ) (sc : Scope) (n : Counts) (w : Word) (s : State) (work work′ : List ℕ) (r : Answer) : Type 0 where
   pub tree : Expression
-  pub course : (q : Bool) (K : Stack) (b : Built) → runs text (ask (actionAsk q) ∷ K) w b s ≡ runs text (branchStack q case ++ K) (r .answer .next) (branching case (pushed tree (keepWord (signOf case w) b))) (r .answer .state)
-  pub laid : Laid (expressionSize tree) (nodesOf sc (s .nodes) tree) 1 (act D.Action.broken (positioned (w .at)) ∷ []) s acts work (r .answer .state) (r .actions) work′
-  pub entered : Entered s (r .answer .state)
-  pub standing : Standing text sc n (r .answer .next) (r .answer .state) (r .actions + 1) work′
+  pub course : (q : Bool) (K : Stack) (b : Built) → runs text (ask (actionAsk q) ∷ K) w b s ≡ runs text (branchStack q case ++ K) (r .next) (branching case (pushed tree (keepWord (signOf case w) b))) (r .state)
+  pub laid : Laid (expressionSize tree) (nodesOf sc (s .nodes) tree) 1 (act D.Action.broken (positioned (w .at)) ∷ []) s work (r .state) work′
+  pub entered : Entered s (r .state)
+  pub standing : Standing text sc n (r .next) (r .state) (r .state .actions + 1) work′
 
-abbrev pub Condition : Bool → List ℕ → Counts → Word → State → ℕ → List ℕ → List ℕ → Acted → Type 0
-Condition case text n w s acts work work′ r =
-    kindNo (w .kind) ≡ choiceWord case → (q : Bool) (sc : Scope) → Standing text sc n w s acts work → Told text (ask (actionAsk q) ∷ []) w s (r .answer) (ConditionRead case text sc n w s acts work work′ r)
+abbrev pub Condition : Bool → List ℕ → Counts → Word → State → List ℕ → List ℕ → Answer → Type 0
+Condition case text n w s work work′ r =
+    kindNo (w .kind) ≡ choiceWord case → (q : Bool) (sc : Scope) → Standing text sc n w s (s .actions) work → Told text (ask (actionAsk q) ∷ []) w s r (ConditionRead case text sc n w s work work′ r)
 
 -- One more is open, and not too many.
 abbrev pub Deeper : State → Answer → Type 0
 Deeper s r = r .verdict ≡ Vd.Done → (r .state .nesting ≡ suc (s .nesting)) × (r .state .nesting ≤ 24)
 
-abbrev pub Conditional : Bool → Bool → List ℕ → Counts → Word → State → ℕ → List ℕ → List ℕ → Acted → Type 0
-Conditional q case text n w s acts work work′ r =
-    kindNo (w .kind) ≡ choiceWord case → Acts (ask (actionAsk q) ∷ []) same text n w s acts work work′ r
+abbrev pub Conditional : Bool → Bool → List ℕ → Counts → Word → State → List ℕ → List ℕ → Answer → Type 0
+Conditional q case text n w s work work′ r =
+    kindNo (w .kind) ≡ choiceWord case → Acts (ask (actionAsk q) ∷ []) same text n w s work work′ r
 
 -- ---- Records.
 

@@ -6,7 +6,6 @@ use parse_step::Bearing;
 use parse_step::adding;
 use parse_step::kinds;
 use parse_step::taking;
-use parse_stores::Acted;
 use parse_tables::Table;
 use parse_tables::actions;
 use parse_tables::places;
@@ -54,13 +53,6 @@ pub fn behind(n: u16, count: u16) -> u16
     ensures { λ r. ⌜ r ≡ count - n - 1 ⌝ }
 {
     if count <= n { 0 } else { count - n - 1 }
-}
-
-// An answer, with how many action records there are.
-pub fn answered(answer: Answer, actions: u16) -> Acted
-    ensures { λ r. ⌜ r ≡ record { answer = answer; actions = actions } ⌝ }
-{
-    Acted { answer, actions }
 }
 
 // Writes the record of an arm again: those behind it belong to it.

@@ -23,7 +23,7 @@ use Rattle.parse_tables.specs.declared.extents.Ends.{Ends}
 use Rattle.parse_tables.specs.declared.extents.Extent.{Extent}
 use Rattle.text_words.specs.declared.Word.{Word}
 use Rattle.parse_bounds.proofs.ExtentWords.{extent-comma, extent-none, extent-opened, extent-row, extent-stuck}
-use Rattle.parse_bounds.proofs.States.{state-of}
+use Rattle.parse_step.proofs.States.{state-of}
 use Rattle.parse_bounds.proofs.Telling.{expected, refuses, through, word-taken}
 use Rattle.parse_bounds.specs.declared.extents.Measured.{Measured}
 use Rattle.parse_bounds.specs.declared.ranges.Ranged.{Ranged}

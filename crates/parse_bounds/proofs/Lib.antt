@@ -1,4 +1,3 @@
-pub mod States
 pub mod Telling
 pub mod RangeWords
 pub mod RangeLaws

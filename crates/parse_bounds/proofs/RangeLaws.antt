@@ -20,7 +20,7 @@ use Rattle.value_limbs.specs.Limbs.{number}
 use Rattle.parse_tables.specs.declared.extents.Ends.{Ends}
 use Rattle.text_words.specs.declared.Word.{Word}
 use Rattle.parse_bounds.proofs.RangeWords.{range-colon, range-last}
-use Rattle.parse_bounds.proofs.States.{state-of}
+use Rattle.parse_step.proofs.States.{state-of}
 use Rattle.parse_bounds.proofs.Telling.{constant-kept, word-taken}
 use Rattle.parse_bounds.specs.Ranges.{Bounded, RangeRead, Ranges, bothEnds, lastEnd, withRange}
 use Rattle.parse_bounds.specs.Telling.{same}

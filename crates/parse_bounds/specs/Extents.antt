@@ -84,7 +84,7 @@ withExtent x b = withExtents b (x ∷ b .extents)
 
 -- The state after a bracket is closed.
 abbrev pub closedState : State → State
-closedState s = record { facilities = s .facilities; operations = s .operations; states = s .states; counted = s .counted; nesting = s .nesting - 1; nodes = s .nodes; known = s .known }
+closedState s = record { facilities = s .facilities; operations = s .operations; states = s .states; counted = s .counted; nesting = s .nesting - 1; nodes = s .nodes; actions = s .actions; known = s .known }
 
 -- From the stack P the machine comes to what follows the dimensions, with their extent on its row.
 pub record ExtentRead (text : List ℕ) (o : Whose) (P : Stack) (pre : Built → Built) (w : Word) (s s′ : State) (r : Measured) : Type 0 where

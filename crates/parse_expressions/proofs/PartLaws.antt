@@ -40,7 +40,7 @@ use Rattle.parse_expressions.specs.Phrases.{Unprefixed, afterName, staye
 
 pub unprefixed : {text : List ℕ} {w : Word} {s : State} {r : Answer} (h : Head) → r ≡ stayed s w → ((K : Stack) → _≡_ {A = Stack} (prefixStack h ++ K) (stackOf (prefixLevel h) ++ K)) → Unprefixed h text w s r
 unprefixed {text} {w} {s} h e f = rw e (record {
-  done = λ d z. record { course = λ K b. ap (λ (M : Stack). runs text M w b s) (f K); nesting = refl; kept = record { nodes = refl; known = refl }; seen = z };
+  done = λ d z. record { course = λ K b. ap (λ (M : Stack). runs text M w b s) (f K); nesting = refl; kept = record { nodes = refl; actions = refl; known = refl }; seen = z };
   refused = λ g d. done-refused d;
   full = λ d. done-full d;
 })

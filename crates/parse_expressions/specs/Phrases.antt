@@ -48,7 +48,7 @@ stayed s w = record { verdict = Done; next = w; state = s }
 
 -- The state at a nesting.
 abbrev pub atNesting : State → ℕ → State
-atNesting s n = record { facilities = s .facilities; operations = s .operations; states = s .states; counted = s .counted; nesting = n; nodes = s .nodes; known = s .known }
+atNesting s n = record { facilities = s .facilities; operations = s .operations; states = s .states; counted = s .counted; nesting = n; nodes = s .nodes; actions = s .actions; known = s .known }
 
 -- A record with one place.
 abbrev pub gains : Node → L.Position → Word → State → List ℕ → List ℕ → Answer → Type 0

@@ -121,6 +121,7 @@ pub fn at(s: State, nesting: u16) -> State
         counted: s.counted,
         nesting,
         nodes: s.nodes,
+        actions: s.actions,
         known: s.known,
     }
 }

@@ -10,7 +10,7 @@ use Rattle.parse_step.specs.declared.State.{State}
 use Rattle.parse_step.specs.declared.Verdict.the-variants.{Done}
 use Rattle.parse_step.specs.Course.{Stack, countsOf, kindNo, runs}
 use Rattle.parse_step.specs.Taken.{Took}
-use Rattle.parse_bounds.proofs.States.{state-of}
+use Rattle.parse_step.proofs.States.{state-of}
 use Rattle.parse_bounds.proofs.Telling.{through}
 use Rattle.parse_bounds.specs.Telling.{Tells, same}
 use Rattle.image_sections.specs.declared.facilities.Kind.the-variants as F

@@ -12,7 +12,7 @@ use Rattle.parse_step.specs.declared.State.{State}
 use Rattle.parse_step.specs.declared.Verdict.the-variants.{Done}
 use Rattle.parse_step.specs.Course.{Seen, Stack, behind, countsOf, kindNo, runs, runsOn}
 use Rattle.parse_step.specs.Taken.{Passed, Took}
-use Rattle.parse_bounds.proofs.States.{state-of}
+use Rattle.parse_step.proofs.States.{state-of}
 use Rattle.parse_bounds.proofs.Telling.{through, word-taken}
 use Rattle.parse_bounds.specs.declared.extents.Measured.{Measured}
 use Rattle.parse_bounds.specs.Extents.{ExtentRead, Measures, askOf, toCome, withExtent}
@@ -40,10 +40,10 @@ use Rattle.parse_facilities.specs.Specs.{NameRead, Names, declarationOf,
 -- ---- Counts that declarations do not touch.
 
 pub others-same : {s s′ : State} → s′ ≡ s → OthersKept s s′
-others-same e = record { operations = ap (λ (j : State). j .operations) e; states = ap (λ (j : State). j .states) e; nesting = ap (λ (j : State). j .nesting) e }
+others-same e = record { operations = ap (λ (j : State). j .operations) e; states = ap (λ (j : State). j .states) e; nesting = ap (λ (j : State). j .nesting) e; actions = ap (λ (j : State). j .actions) e }
 
 pub others-then : {s s₁ s₂ : State} → OthersKept s s₁ → OthersKept s₁ s₂ → OthersKept s s₂
-others-then x y = record { operations = y .operations ∙ x .operations; states = y .states ∙ x .states; nesting = y .nesting ∙ x .nesting }
+others-then x y = record { operations = y .operations ∙ x .operations; states = y .states ∙ x .states; nesting = y .nesting ∙ x .nesting; actions = y .actions ∙ x .actions }
 
 -- ---- Where reading stands, when a word is taken that counts nothing.
 
@@ -111,7 +111,7 @@ module _ {text : List ℕ} {w : Word} {s : State} {place : ℕ} {k : Kind} {work
         known = v .state ∙ ap knownState counted
 
         untouched : OthersKept s (r .answer .state)
-        untouched = record { operations = ap (λ (j : State). j .operations) known; states = ap (λ (j : State). j .states) known; nesting = ap (λ (j : State). j .nesting) known }
+        untouched = record { operations = ap (λ (j : State). j .operations) known; states = ap (λ (j : State). j .states) known; nesting = ap (λ (j : State). j .nesting) known; actions = ap (λ (j : State). j .actions) known }
 
         course : (K : Stack) (b : Built) → runs text (ask (specOf k) ∷ K) w b s ≡ runs text K (r .answer .next) (withText b (put k d (b .text))) (r .answer .state)
         course K b =

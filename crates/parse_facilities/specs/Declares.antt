@@ -44,11 +44,12 @@ Stored K.Plain = ⊥
 Stored K.Input = ⊥
 Stored K.Computed = ⊥
 
--- Operations, states and what is open are counted as before.
+-- Operations, states and what is open are counted as before, and no action is written.
 pub record OthersKept (s s′ : State) : Type 0 where
   pub operations : s′ .operations ≡ s .operations
   pub states : s′ .states ≡ s .states
   pub nesting : s′ .nesting ≡ s .nesting
+  pub actions : s′ .actions ≡ s .actions
 
 pub record OneRead (text : List ℕ) (ds : List Declaration) (P : Stack) (k : Kind) (w : Word) (s : State) (work′ : List ℕ) (r : Progress) : Type 0 where
   pub tree : Declaration

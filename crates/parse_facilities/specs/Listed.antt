@@ -67,7 +67,7 @@ pub record Says (text : List ℕ) (base : ℕ) (d : Declaration) (x : Declared) 
 
 -- One facility known more.
 abbrev pub knownState : State → State
-knownState s = record { facilities = s .facilities; operations = s .operations; states = s .states; counted = s .counted; nesting = s .nesting; nodes = s .nodes; known = suc (s .known) }
+knownState s = record { facilities = s .facilities; operations = s .operations; states = s .states; counted = s .counted; nesting = s .nesting; nodes = s .nodes; actions = s .actions; known = suc (s .known) }
 
 -- It was added.
 pub record Added (text : List ℕ) (ds : List Declaration) (next : Word) (s : State) (work′ : List ℕ) (r : Progress) : Type 0 where

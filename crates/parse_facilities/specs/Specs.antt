@@ -66,7 +66,7 @@ declarationOf text k w x f = facilityOf (kindMeant k) (letters text (w .at .plac
 
 -- One facility more.
 abbrev pub moreState : State → State
-moreState s = record { facilities = suc (s .facilities); operations = s .operations; states = s .states; counted = s .counted; nesting = s .nesting; nodes = s .nodes; known = s .known }
+moreState s = record { facilities = suc (s .facilities); operations = s .operations; states = s .states; counted = s .counted; nesting = s .nesting; nodes = s .nodes; actions = s .actions; known = s .known }
 
 -- The name of a facility was taken.
 pub record NameRead (text : List ℕ) (k : Kind) (w : Word) (s : State) (r : Answer) : Type 0 where

@@ -24,6 +24,7 @@ fn one_known(s: State) -> State
         counted: s.counted,
         nesting: s.nesting,
         nodes: s.nodes,
+        actions: s.actions,
         known,
     }
 }

@@ -34,16 +34,9 @@ use Rattle.parse_step.specs.Says.{Here, Pending, Says, pushed}
 use Rattle.parse_step.specs.Taken.{Keeps, Took, Went, constantWord}
 use Rattle.parse_step.proofs.Saying.{here-passed, made, makes-it}
 use Rattle.parse_step.proofs.TakenWords.{onTaken, took-done}
+use Rattle.parse_step.proofs.States.{state-of}
 use Rattle.parse_operands.specs.Ended.{Counting, oneMore}
 use Rattle.parse_operands.proofs.TermWords.{constant-term}
-
--- A state by its counts.
-abbrev stateWith : Counts → ℕ → ℕ → State
-stateWith c n k = record { facilities = c .facilities; operations = c .operations; states = c .states; counted = c .counted; nesting = c .nesting; nodes = n; known = k }
-
-pub state-of : (s : State) (c : Counts) (n k : ℕ) → countsOf s ≡ c → s .nodes ≡ n → s .known ≡ k → s ≡ stateWith c n k
-state-of s c n k e f g =
-    ap (λ (d : Counts). stateWith d (s .nodes) (s .known)) e ∙ ap (λ (m : ℕ). stateWith c m (s .known)) f ∙ ap (stateWith c n) g
 
 -- ---- A constant's records behind what h holds.
 
@@ -81,7 +74,7 @@ module _ {w next : Word} {s : State} {work work′ : List ℕ} {r : Answer} wher
   pub counting : {p : Answer} → Went w next (countsOf (oneMore s)) s p → p .verdict ≡ Done
       → Written (constantNodes (valued (w .value)) (positioned (w .at))) (constantSize (valued (w .value))) (p .next) (p .state) work work′ r → Counting w next s work work′ r
   counting {p} x d y = record {
-    done = λ e. let o = x .done d in (o .fits, go (p .next) (p .state) (o .word) (state-of (p .state) (countsOf (oneMore s)) (s .nodes) (s .known) (o .counts) (o .kept .nodes) (o .kept .known)) y);
+    done = λ e. let o = x .done d in (o .fits, go (p .next) (p .state) (o .word) (state-of (o .counts) (o .kept)) y);
     refused = λ f e. absurd (y .refused f e);
     full = y .full;
   }

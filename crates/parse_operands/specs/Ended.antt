@@ -29,7 +29,7 @@ use Rattle.parse_operands.specs.Brackets.{bracketAsk, bracketMake}
 
 -- The state with one more counted.
 abbrev pub oneMore : State → State
-oneMore s = record { facilities = s .facilities; operations = s .operations; states = s .states; counted = suc (s .counted); nesting = s .nesting; nodes = s .nodes; known = s .known }
+oneMore s = record { facilities = s .facilities; operations = s .operations; states = s .states; counted = suc (s .counted); nesting = s .nesting; nodes = s .nodes; actions = s .actions; known = s .known }
 
 -- A constant that was kept counts, and its records are written.
 pub record Counting (w next : Word) (s : State) (work work′ : List ℕ) (r : Answer) : Type 0 where

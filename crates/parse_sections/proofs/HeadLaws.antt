@@ -14,18 +14,16 @@ use Rattle.parse_step.specs.declared.Verdict.the-variants.{Done}
 use Rattle.parse_step.specs.Course.{Seen, Stack, countsOf, kindNo, runs}
 use Rattle.parse_step.specs.Taken.{Expected, Passed, Refuses, Took, afterWord}
 use Rattle.parse_facilities.specs.Specs.{namedWord}
-use Rattle.parse_bounds.proofs.States.{counted, state-of}
+use Rattle.parse_step.proofs.States.{counted, state-of}
 use Rattle.parse_bounds.proofs.Telling as D
 use Rattle.language.specs.Building.{Built, beginList, keepWord}
 use Rattle.language.specs.Kinds.{aName, closeBracket, controlWord, endWord, equalSign, openBracket, period}
 use Rattle.language.specs.Machine.{Counts, ask, closes, control, opens, operationSpec, operationsMore, withinCeilings, word}
-use Rattle.language.specs.Naming.{Scope}
-use Rattle.language.specs.Tree.{Actions}
 use Rattle.parse_names.specs.declared.Counts as M
 use Rattle.parse_expressions.specs.Phrases.{same}
-use Rattle.parse_stores.proofs.Standings.{few-operations, standing-passed}
-use Rattle.parse_stores.specs.Actions.{ActionsRead, Acts, Written, frontOf, grown}
-use Rattle.parse_stores.specs.declared.Acted.{Acted}
+use Rattle.parse_actions.proofs.EndLaws.{written-to}
+use Rattle.parse_stores.proofs.Standings.{few-operations, standing-word}
+use Rattle.parse_stores.specs.Actions.{ActionsRead, Acts, grown}
 use Rattle.text_words.specs.declared.Word.{Word}
 use Rattle.parse_sections.proofs.HeadWords.{control-stuck, control-taken, more-control, more-ending, more-stuck, name-stuck, name-taken}
 use Rattle.parse_sections.proofs.Telling.{refuses, through, told}
@@ -93,35 +91,24 @@ module _ {text : List ℕ} {w : Word} {s : State} {a : Answer} (x : Names text w
 
 -- ---- The body and `]`.
 
--- The state may differ in what is counted and open.
-written-as : {sc : Scope} {a : Actions} {s : State} {acts : ℕ} {work : List ℕ} {s₁ : State} {acts₁ : ℕ} {work₁ : List ℕ} (s₂ : State) → Written sc a s acts work s₁ acts₁ work₁ → s₂ .nodes ≡ s₁ .nodes → Written sc a s acts work s₂ acts₁ work₁
-written-as {work₁ = work₁} s₂ x e = record {
-  nodes = e ∙ x .nodes;
-  expressions = ap (λ (n : ℕ). frontOf n work₁) e ∙ x .expressions;
-  count = x .count;
-  records = x .records;
-  places = x .places;
-  tables = x .tables;
-}
-
-module _ {text : List ℕ} {n : M.Counts} {w : Word} {s : State} {acts : ℕ} {work work₁ : List ℕ} {r : Acted} (x : Acts (listStack false) same text n w s acts work work₁ r) where
-  pub body-not : (r .answer .verdict ≡ Done → ⊥) → Body text n w s acts work work₁ r
+module _ {text : List ℕ} {n : M.Counts} {w : Word} {s : State} {work work₁ : List ℕ} {r : Answer} (x : Acts (listStack false) same text n w s work work₁ r) where
+  pub body-not : (r .verdict ≡ Done → ⊥) → Body text n w s work work₁ r
   body-not m sc st = let t = x sc st in record { done = λ d. absurd (m d); refused = λ f d K b. t .refused f d (word closeBracket closes ∷ K) b; full = t .full }
 
-  pub body-read : r .answer .verdict ≡ Done → {e : Answer} → Expected text closeBracket Closes (r .answer .next) (r .answer .state) e → Body text n w s acts work work₁ (record { answer = e; actions = r .actions })
+  pub body-read : r .verdict ≡ Done → {e : Answer} → Expected text closeBracket Closes (r .next) (r .state) e → Body text n w s work work₁ e
   body-read done {e} g sc st = told (D.expected g read (y .standing .seen) (omega arith) (λ K. K) (grown (y .tree)) (λ K b. y .course (word closeBracket closes ∷ K) b)) (g .full)
     where
-      y : ActionsRead text sc n (listStack false) [] (same text) w s acts work work₁ r
+      y : ActionsRead text sc n (listStack false) [] (same text) w s work work₁ r
       y = x sc st .done done
 
-      read : e .verdict ≡ Done → BodyRead text sc n w s acts work work₁ (record { answer = e; actions = r .actions })
+      read : e .verdict ≡ Done → BodyRead text sc n w s work work₁ e
       read d =
           let q = g .done d (y .standing .seen) (omega arith) in
           let c = q .0 .counts in
           record {
             tree = y .tree;
             course = λ K b. y .course (word closeBracket closes ∷ K) b ∙ q .1 K (grown (y .tree) b);
-            written = written-as (e .state) (y .written) (q .0 .kept .nodes);
+            written = written-to (y .written) (q .0 .kept);
             closed = record {
               facilities = ap (λ (v : Counts). v .facilities) c ∙ y .paid .facilities;
               operations = ap (λ (v : Counts). v .operations) c ∙ y .paid .operations;
@@ -129,7 +116,7 @@ module _ {text : List ℕ} {n : M.Counts} {w : Word} {s : State} {acts : ℕ} {w
               known = q .0 .kept .known ∙ y .paid .known;
               nesting = ap (λ (v : Counts). v .nesting) c ∙ rw (y .paid .nesting);
             };
-            standing = standing-passed false Closes (y .standing) (q .0);
+            standing = standing-word false Closes (y .standing) (q .0);
           }
 
 -- ---- The end of the section.

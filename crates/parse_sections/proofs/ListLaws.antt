@@ -11,7 +11,7 @@ use Rattle.parse_step.specs.Taken.{Passed, Took}
 use Rattle.parse_facilities.proofs.StoredLaws.{standing-passed}
 use Rattle.parse_facilities.specs.declared.Progress.{Progress}
 use Rattle.parse_facilities.specs.Lists.{Listing, Lists, SomeRead, Stands, moreIn, specIn}
-use Rattle.parse_bounds.proofs.States.{state-of}
+use Rattle.parse_step.proofs.States.{state-of}
 use Rattle.parse_bounds.proofs.Telling as D
 use Rattle.parse_bounds.specs.Telling.{Tells, same}
 use Rattle.language.specs.Building.{Built}
@@ -32,6 +32,7 @@ between-passed {s = s} {a = a} x p =
       operations = ap (λ (j : State). j .operations) e ∙ x .operations;
       states = ap (λ (j : State). j .states) e ∙ x .states;
       level = ap (λ (j : State). j .nesting) e ∙ x .level;
+      actions = ap (λ (j : State). j .actions) e ∙ x .actions;
     }
 
 module _ {text : List ℕ} (l : Listing) {w : Word} {s : State} {place : ℕ} {work : List ℕ} {a : Answer} (i : Starts l text place w s work) (t : Took text w (countsOf s) s a) where
@@ -67,5 +68,6 @@ module _ {text : List ℕ} (l : Listing) {w : Word} {s : State} {place : ℕ} {w
             operations = v .others .operations ∙ here .operations;
             states = v .others .states ∙ here .states;
             level = v .others .nesting ∙ here .level;
+            actions = v .others .actions ∙ here .actions;
           };
         }

@@ -66,15 +66,15 @@ module _ {text : List ℕ} {os : List Operation} {m : ℕ} {w w₁ w₂ : List �
 
 -- ---- The body.
 
-module _ {names : List Name} {first : ℕ} {h : Held} {os : List Operation} {s s₁ : State} {acts acts₁ : ℕ} {w w₁ : List ℕ} (b : Bodies names first h os (s .nodes) acts w) (o : Operation)
-    (x : Written (operationScope names (namesOf os)) (o .body) s acts w s₁ acts₁ w₁) (w₂ : List ℕ) (front : frontOf (s₁ .nodes) w₂ ≡ frontOf (s₁ .nodes) w₁) (rec : rows T.Actions acts₁ w₂ ≡ rows T.Actions acts₁ w₁) (pl : rows T.ActionPlaces acts₁ w₂ ≡ rows T.ActionPlaces acts₁ w₁) where
+module _ {names : List Name} {first : ℕ} {h : Held} {os : List Operation} {s s₁ : State} {w w₁ : List ℕ} (b : Bodies names first h os (s .nodes) (s .actions) w) (o : Operation)
+    (x : Written (operationScope names (namesOf os)) (o .body) s w s₁ w₁) (w₂ : List ℕ) (front : frontOf (s₁ .nodes) w₂ ≡ frontOf (s₁ .nodes) w₁) (rec : rows T.Actions (s₁ .actions) w₂ ≡ rows T.Actions (s₁ .actions) w₁) (pl : rows T.ActionPlaces (s₁ .actions) w₂ ≡ rows T.ActionPlaces (s₁ .actions) w₁) where
   abbrev sc : Scope
   sc = operationScope names (namesOf os)
 
   base : s .nodes ≡ first + operationExpressions os
   base = b .nodes
 
-  pub bodies-more : Bodies names first h (os ++ o ∷ []) (s₁ .nodes) acts₁ w₂
+  pub bodies-more : Bodies names first h (os ++ o ∷ []) (s₁ .nodes) (s₁ .actions) w₂
   bodies-more = record {
     count = omega (arith, b .count, x .count, records-last os o);
     records =

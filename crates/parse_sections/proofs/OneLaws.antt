@@ -26,7 +26,6 @@ use Rattle.parse_tables.proofs.NamesGrown.{names-few, names-kept, no-names}
 use Rattle.parse_stores.proofs.Standings.{few-operations}
 use Rattle.parse_stores.specs.Actions as A
 use Rattle.parse_stores.specs.Actions.{grown}
-use Rattle.parse_stores.specs.declared.Acted.{Acted}
 use Rattle.parse_tables.specs.declared.Table.the-variants as T
 use Rattle.parse_tables.specs.Operations.{OperationAdded}
 use Rattle.parse_tables.specs.Names.{facilityNames}
@@ -45,7 +44,7 @@ use Rattle.parse_sections.specs.Lists.{One, OneRead, withOperations}
 abbrev pub before : State → Counts
 before s = record { facilities = s .known; operations = s .operations; states = 0 }
 
-module _ {text : List ℕ} {names : List Name} {first : ℕ} {h : Held} {os : List Operation} {w : Word} {s : State} {acts : ℕ} {work : List ℕ} (st : Standing text names first h os w s acts work) where
+module _ {text : List ℕ} {names : List Name} {first : ℕ} {h : Held} {os : List Operation} {w : Word} {s : State} {work : List ℕ} (st : Standing text names first h os w s work) where
   abbrev sc : Scope
   sc = operationScope names (namesOf os)
 
@@ -54,7 +53,7 @@ module _ {text : List ℕ} {names : List Name} {first : ℕ} {h : Held} {os : Li
 
   module _ {a : Answer} (z : HeadRead text w s a) where
     -- Where its body begins.
-    pub body-stands : A.Standing text sc (before s) (a .next) (openState s) acts work
+    pub body-stands : A.Standing text sc (before s) (a .next) (openState s) (s .actions) work
     body-stands = record {
       seen = z .seen;
       short = st .short;
@@ -69,41 +68,41 @@ module _ {text : List ℕ} {names : List Name} {first : ℕ} {h : Held} {os : Li
     to-body : (K : Stack) (b : Built) → runs text (ask operationSpec ∷ K) w b s ≡ runs text (listStack false ++ (closeStack ++ K)) (a .next) (begun text w b) (openState s)
     to-body K b = z .course K b ∙ ap (λ (v : State). runs text (listStack false ++ (closeStack ++ K)) (a .next) (begun text w b) v) (z .state)
 
-    module _ {work₁ : List ℕ} {r : Acted} where
-      pub body-fails : Body text (before s) (a .next) (openState s) acts work work₁ r → (r .answer .verdict ≡ Done → ⊥) → {Read : Type 0} → Told text (ask operationSpec ∷ []) w s (r .answer) Read
+    module _ {work₁ : List ℕ} {r : Answer} where
+      pub body-fails : Body text (before s) (a .next) (openState s) work work₁ r → (r .verdict ≡ Done → ⊥) → {Read : Type 0} → Told text (ask operationSpec ∷ []) w s r Read
       body-fails y n = through-not (y sc body-stands) (λ K. make makeOperation ∷ K) (begun text w) to-body n
 
-      module _ (y : BodyRead text sc (before s) (a .next) (openState s) acts work work₁ r) {c : ℕ} (e : c ≡ r .actions - acts) {work₂ : List ℕ} (f : OperationAdded (s .operations) (w .at) (w .size) (record { first = acts; count = c }) work₁ work₂) where
+      module _ (y : BodyRead text sc (before s) (a .next) (openState s) work work₁ r) {c : ℕ} (e : c ≡ r .state .actions - s .actions) {work₂ : List ℕ} (f : OperationAdded (s .operations) (w .at) (w .size) (record { first = s .actions; count = c }) work₁ work₂) where
         abbrev o : Operation
         o = record { name = letters text (w .at .place) (w .size); at = positioned (w .at); body = y .tree }
 
-        course : (K : Stack) (b : Built) → runs text (ask operationSpec ∷ K) w b s ≡ runs text K (r .answer .next) (withText b (withOperations (b .text) (o ∷ []))) (r .answer .state)
+        course : (K : Stack) (b : Built) → runs text (ask operationSpec ∷ K) w b s ≡ runs text K (r .next) (withText b (withOperations (b .text) (o ∷ []))) (r .state)
         unfolding listNo wordNo joined
         course K b =
             to-body K b ∙ y .course (make makeOperation ∷ K) (begun text w b)
-            ∙ makes-it text makeOperation K (r .answer .next) (grown (y .tree) (begun text w b)) (withText b (withOperations (b .text) (o ∷ []))) (r .answer .state) (λ p. refl)
+            ∙ makes-it text makeOperation K (r .next) (grown (y .tree) (begun text w b)) (withText b (withOperations (b .text) (o ∷ []))) (r .state) (λ p. refl)
 
-        few : r .answer .state .counted ≤ 2048
-        few = few-counted (countsOf (r .answer .state)) (y .standing .within)
+        few : r .state .counted ≤ 2048
+        few = few-counted (countsOf (r .state)) (y .standing .within)
 
-        none : r .answer .state .states ≡ 0
+        none : r .state .states ≡ 0
         none = y .closed .states ∙ st .states
 
         tables : TablesKept work work₂
         tables = tables-kept work (y .written .tables) (f .kept)
 
-        tabled : Tabled text (os ++ o ∷ []) (r .answer .state .operations) work₂
+        tabled : Tabled text (os ++ o ∷ []) (r .state .operations) work₂
         tabled =
-            let q : s .operations + 1 ≡ r .answer .state .operations = omega (arith, y .closed .operations) in
+            let q : s .operations + 1 ≡ r .state .operations = omega (arith, y .closed .operations) in
             subst (λ (m : ℕ). Tabled text (os ++ o ∷ []) m work₂) q
             (tabled-more (st .tabled) (y .written .tables) (z .room) o f refl (letters-length text (w .at .place) (w .size) (st .seen .next .within)) refl (st .bodies .count) (omega (arith, e, y .written .count))
             (omega (arith, st .seen .next .within, st .short)) (omega (arith, st .seen .next .within, st .short)))
 
-        bodies : Bodies names first h (os ++ o ∷ []) (r .answer .state .nodes) (r .actions) work₂
+        bodies : Bodies names first h (os ++ o ∷ []) (r .state .nodes) (r .state .actions) work₂
         bodies =
             bodies-more (st .bodies) o (y .written) work₂
-            (front-kept work₁ work₂ (f .whole) (f .still) (f .kept .front) (r .answer .state .nodes) (omega (arith, y .standing .nodes, none, few)))
-            (f .kept .tables T.Actions refl (r .actions) (omega (arith, y .standing .actions, few))) (f .kept .tables T.ActionPlaces refl (r .actions) (omega (arith, y .standing .actions, few)))
+            (front-kept work₁ work₂ (f .whole) (f .still) (f .kept .front) (r .state .nodes) (omega (arith, y .standing .nodes, none, few)))
+            (f .kept .tables T.Actions refl (r .state .actions) (omega (arith, y .standing .actions, few))) (f .kept .tables T.ActionPlaces refl (r .state .actions) (omega (arith, y .standing .actions, few)))
 
         pub operation-read : OneRead text names first h os w s work work₂ r
         operation-read = record {
@@ -125,22 +124,22 @@ module _ {text : List ℕ} {names : List Name} {first : ℕ} {h : Held} {os : Li
           };
         }
 
-module _ {text : List ℕ} {w : Word} {s : State} {acts : ℕ} {work : List ℕ} {a : Answer} (x : Heads text w s a) where
-  pub one-unheaded : (a .verdict ≡ Done → ⊥) → {work′ : List ℕ} → One text w s acts work work′ (record { answer = a; actions = acts })
+module _ {text : List ℕ} {w : Word} {s : State} {work : List ℕ} {a : Answer} (x : Heads text w s a) where
+  pub one-unheaded : (a .verdict ≡ Done → ⊥) → {work′ : List ℕ} → One text w s work work′ a
   one-unheaded n names first h os st = let t = x (st .seen) (st .within) in record { done = λ d. absurd (n d); refused = t .refused; full = t .full }
 
-  module _ (done : a .verdict ≡ Done) {work₁ : List ℕ} {r : Acted} (y : Body text (before s) (a .next) (a .state) acts work work₁ r) where
-    module _ {names : List Name} {first : ℕ} {h : Held} {os : List Operation} (st : Standing text names first h os w s acts work) where
+  module _ (done : a .verdict ≡ Done) {work₁ : List ℕ} {r : Answer} (y : Body text (before s) (a .next) (a .state) work work₁ r) where
+    module _ {names : List Name} {first : ℕ} {h : Held} {os : List Operation} (st : Standing text names first h os w s work) where
       head : HeadRead text w s a
       head = x (st .seen) (st .within) .done done
 
-      body : Body text (before s) (a .next) (openState s) acts work work₁ r
-      body = subst (λ (v : State). Body text (before s) (a .next) v acts work work₁ r) (head .state) y
+      body : Body text (before s) (a .next) (openState s) work work₁ r
+      body = subst (λ (v : State). Body text (before s) (a .next) v work work₁ r) (head .state) y
 
-    pub one-bodiless : (r .answer .verdict ≡ Done → ⊥) → One text w s acts work work₁ r
+    pub one-bodiless : (r .verdict ≡ Done → ⊥) → One text w s work work₁ r
     one-bodiless n names first h os st = body-fails st (head st) (body st) n
 
-    pub one-read : r .answer .verdict ≡ Done → {c : ℕ} → c ≡ r .actions - acts → {work₂ : List ℕ} → (s .operations < 128 → OperationAdded (s .operations) (w .at) (w .size) (record { first = acts; count = c }) work₁ work₂) → One text w s acts work work₂ r
+    pub one-read : r .verdict ≡ Done → {c : ℕ} → c ≡ r .state .actions - s .actions → {work₂ : List ℕ} → (s .operations < 128 → OperationAdded (s .operations) (w .at) (w .size) (record { first = s .actions; count = c }) work₁ work₂) → One text w s work work₂ r
     one-read d e f names first h os st =
         let t = body st (operationScope names (namesOf os)) (body-stands st (head st)) in
         record {

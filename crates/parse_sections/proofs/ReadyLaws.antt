@@ -26,7 +26,6 @@ use Rattle.parse_sections.specs.Heads.{controlStack}
 use Rattle.parse_sections.specs.Listed.{Standing}
 use Rattle.parse_sections.specs.Lists.{Lists, SomeRead, Stands, withOperations}
 use Rattle.parse_stores.specs.Actions.{frontOf}
-use Rattle.parse_stores.specs.declared.Acted.{Acted}
 use Rattle.parse_tables.specs.declared.Table.the-variants as T
 use Rattle.parse_tables.specs.Rows.{rows}
 use Rattle.text_words.specs.declared.Word.{Word}
@@ -52,26 +51,26 @@ module _ {text : List ℕ} {ds : List Declaration} {place : ℕ} {w : Word} {s :
   front = ap alone (x .standing .listed .expressed .records)
 
   -- No operation yet.
-  pub stands : length work ≡ workSize → Standing text (namesOf ds) (facilitySize ds) (heldOf ds) [] w s 0 work
+  pub stands : length work ≡ workSize → Standing text (namesOf ds) (facilitySize ds) (heldOf ds) [] w s work
   stands l =
       let st = x .standing in
-      let e = begins s work (st .seen) (st .short) l (st .within) (x .operations) (x .states) (st .paid) in
-      subst (λ (h : Held). Standing text (namesOf ds) (facilitySize ds) h [] w s 0 work) front
-      (subst (λ (n : ℕ). Standing text (namesOf ds) n (frontOf (s .nodes) work) [] w s 0 work) (st .listed .expressed .nodes)
-      (subst (λ (names : List Name). Standing text names (s .nodes) (frontOf (s .nodes) work) [] w s 0 work) (st .listed .tabled .names) e))
+      let e = begins s work (st .seen) (st .short) l (st .within) (x .operations) (x .states) (x .actions) (st .paid) in
+      subst (λ (h : Held). Standing text (namesOf ds) (facilitySize ds) h [] w s work) front
+      (subst (λ (n : ℕ). Standing text (namesOf ds) n (frontOf (s .nodes) work) [] w s work) (st .listed .expressed .nodes)
+      (subst (λ (names : List Name). Standing text names (s .nodes) (frontOf (s .nodes) work) [] w s work) (st .listed .tabled .names) e))
 
   tables-at : Tabled text ds (storeSizeOf (facilitiesOf 0 ds) % 65536) (s .known) work
   tables-at = subst (λ (n : ℕ). Tabled text ds n (s .known) work) (x .standing .listed .tabled .store) (x .standing .listed .tabled)
 
-  ready-at : length work ≡ workSize → Ready text ds [] w s 0 work
+  ready-at : length work ≡ workSize → Ready text ds [] w s work
   ready-at l = record { counted = x .standing .listed .counted; level = x .level; facilities = tables-at; standing = stands l }
 
   few : s .known ≤ 256
   few = omega (arith, x .standing .listed .counted, few-facilities (countsOf s) (x .standing .within))
 
   -- Operations keep the tables of facilities.
-  ready-behind : {P : Stack} {next : Word} {state : State} {acts : ℕ} {work′ : List ℕ} (y : SomeRead text (namesOf ds) (facilitySize ds) (heldOf ds) [] P controlStack w s work next state acts work′)
-      → Ready text ds (y .trees) next state acts work′
+  ready-behind : {P : Stack} {next : Word} {state : State} {work′ : List ℕ} (y : SomeRead text (namesOf ds) (facilitySize ds) (heldOf ds) [] P controlStack w s work next state work′)
+      → Ready text ds (y .trees) next state work′
   ready-behind {work′ = work′} y =
       let t = x .standing .listed .tabled in
       record {
@@ -98,14 +97,14 @@ abbrev listStack : Stack → Stack
 listStack K = ask operationSpec ∷ ask operationsMore ∷ K
 
 module _ {text : List ℕ} {w : Word} {s : State} {place : ℕ} {work : List ℕ} {a : Answer} (l : length work ≡ workSize) (t : Took text w (countsOf s) s a) where
-  pub operations-not : (a .verdict ≡ Done → ⊥) → {n : ℕ} → Operates text w s place work work (record { answer = a; actions = n })
+  pub operations-not : (a .verdict ≡ Done → ⊥) → Operates text w s place work work a
   operations-not n k ds x = told (D.word-taken t (λ d. absurd (n d)) listStack (λ b. b) (λ K b. operation-taken text w K b s k)) (t .full)
 
   module _ (done : a .verdict ≡ Done) where
-    pub operations-stand : Somewhere text place w s work → Stands text (a .next) (a .state) 0 work
+    pub operations-stand : Somewhere text place w s work → Stands text (a .next) (a .state) work
     operations-stand x = record { names = namesOf (x .declared); first = facilitySize (x .declared); before = heldOf (x .declared); declared = []; standing = stands (between-passed (x .between) (t .done done)) l }
 
-    pub operations-read : {r : Acted} {work′ : List ℕ} → Lists text (a .next) (a .state) 0 work work′ r → Operates text w s place work work′ r
+    pub operations-read : {r : Answer} {work′ : List ℕ} → Lists text (a .next) (a .state) work work′ r → Operates text w s place work work′ r
     operations-read {r} {work′} f k ds x = through (f (namesOf ds) (facilitySize ds) (heldOf ds) [] (stands here l)) (λ K. K) (λ b. b) to-list read
       where
         here : Between text ds place (a .next) (a .state) work
@@ -114,11 +113,11 @@ module _ {text : List ℕ} {w : Word} {s : State} {place : ℕ} {work : List ℕ
         to-list : (K : Stack) (b : Built) → runs text (ask afterTerminals ∷ K) w b s ≡ runs text (listStack K) (a .next) b (a .state)
         to-list K b = operation-taken text w K b s k ∙ took-done (t .done done) (x .standing .seen) (listStack K) b
 
-        gains : (b : Built) (y : SomeRead text (namesOf ds) (facilitySize ds) (heldOf ds) [] (listStack []) controlStack (a .next) (a .state) work (r .answer .next) (r .answer .state) (r .actions) work′)
+        gains : (b : Built) (y : SomeRead text (namesOf ds) (facilitySize ds) (heldOf ds) [] (listStack []) controlStack (a .next) (a .state) work (r .next) (r .state) work′)
             → withText b (withOperations (b .text) (y .trees)) ≡ withText b (withSections (b .text) [] [] [] (y .trees))
         gains b y = rw (append-nil (b .text .registers), append-nil (b .text .memories), append-nil (b .text .terminals))
 
-        read : SomeRead text (namesOf ds) (facilitySize ds) (heldOf ds) [] (listStack []) controlStack (a .next) (a .state) work (r .answer .next) (r .answer .state) (r .actions) work′
+        read : SomeRead text (namesOf ds) (facilitySize ds) (heldOf ds) [] (listStack []) controlStack (a .next) (a .state) work (r .next) (r .state) work′
             → AllRead text ds terminals (ask afterTerminals ∷ []) w s work′ r
         read y = record {
           registers = [];
@@ -126,17 +125,17 @@ module _ {text : List ℕ} {w : Word} {s : State} {place : ℕ} {work : List ℕ
           terminals = [];
           operations = y .trees;
           since = fromTerminals [];
-          course = λ K b. to-list K b ∙ y .course K b ∙ ap (λ (v : Built). runs text (controlStack ++ K) (r .answer .next) v (r .answer .state)) (gains b y);
-          ready = subst (λ (v : List Declaration). Ready text v (y .trees) (r .answer .next) (r .answer .state) (r .actions) work′) (sym (append-nil ds)) (ready-behind here y);
+          course = λ K b. to-list K b ∙ y .course K b ∙ ap (λ (v : Built). runs text (controlStack ++ K) (r .next) v (r .state)) (gains b y);
+          ready = subst (λ (v : List Declaration). Ready text v (y .trees) (r .next) (r .state) work′) (sym (append-nil ds)) (ready-behind here y);
         }
 
 -- ---- CONTROL at once, or neither.
 
 module _ {text : List ℕ} {w : Word} {s : State} {place : ℕ} {work : List ℕ} {a : Answer} where
-  pub control-read : length work ≡ workSize → kindNo (w .kind) ≡ controlWord → Took text w (countsOf s) s a → Goes terminals afterTerminals text w s place work work (record { answer = a; actions = 0 })
+  pub control-read : length work ≡ workSize → kindNo (w .kind) ≡ controlWord → Took text w (countsOf s) s a → Goes terminals afterTerminals text w s place work work a
   control-read l k t ds x = told (D.word-taken t read (λ K. controlStack ++ K) (λ b. b) (λ K b. control-taken text w K b s k)) (t .full)
     where
-      read : a .verdict ≡ Done → AllRead text ds terminals (ask afterTerminals ∷ []) w s work (record { answer = a; actions = 0 })
+      read : a .verdict ≡ Done → AllRead text ds terminals (ask afterTerminals ∷ []) w s work a
       read d = record {
         registers = [];
         memories = [];
@@ -145,8 +144,8 @@ module _ {text : List ℕ} {w : Word} {s : State} {place : ℕ} {work : List ℕ
         since = fromTerminals [];
         course = λ K b. control-taken text w K b s k ∙ took-done (t .done d) (x .standing .seen) (controlStack ++ K) b
             ∙ ap (λ (v : Built). runs text (controlStack ++ K) (a .next) v (a .state)) (no-more b);
-        ready = subst (λ (v : List Declaration). Ready text v [] (a .next) (a .state) 0 work) (sym (append-nil ds)) (ready-at (between-passed x (t .done d)) l);
+        ready = subst (λ (v : List Declaration). Ready text v [] (a .next) (a .state) work) (sym (append-nil ds)) (ready-at (between-passed x (t .done d)) l);
       }
 
-  pub no-section : (kindNo (w .kind) ≡ operationWord → ⊥) → (kindNo (w .kind) ≡ controlWord → ⊥) → Refuses w 3 a → {n : ℕ} → Goes terminals afterTerminals text w s place work work (record { answer = a; actions = n })
+  pub no-section : (kindNo (w .kind) ≡ operationWord → ⊥) → (kindNo (w .kind) ≡ controlWord → ⊥) → Refuses w 3 a → Goes terminals afterTerminals text w s place work work a
   no-section o c f ds x = refuses 3 f (λ K b. nothing-behind text w K b s (x .standing .seen) o c)

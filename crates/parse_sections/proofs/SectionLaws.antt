@@ -3,6 +3,7 @@ use mathlib.Core.List.{List, [], _∷_, _++_, append-assoc}
 use mathlib.Core.Path.{_≡_, refl, sym, ap, _∙_, subst}
 use Prim.Native.Nat.{ℕ}
 use Rattle.parse_actions.specs.Lists.{Told}
+use Rattle.parse_step.specs.declared.Answer.{Answer}
 use Rattle.parse_step.specs.declared.State.{State}
 use Rattle.parse_step.specs.declared.Verdict.the-variants.{Done}
 use Rattle.parse_step.specs.Course.{Stack, kindNo, runs}
@@ -14,7 +15,6 @@ use Rattle.language.specs.Kinds.{memoryWord, terminalWord}
 use Rattle.language.specs.Machine.{Ask, afterMemories, afterRegisters, ask, sections}
 use Rattle.language.specs.Tree.{Declaration, Operation, Text}
 use Rattle.parse_sections.specs.Heads.{controlStack}
-use Rattle.parse_stores.specs.declared.Acted.{Acted}
 use Rattle.text_words.specs.declared.Word.{Word}
 use Rattle.parse_sections.proofs.SectionWords.{no-memories, no-terminals}
 use Rattle.parse_sections.specs.Sections.{AllRead, From, Goes, Ready, Section, SectionRead, Since, Somewhere, Starts, afterIn, atStart, behindMemories, behindRegisters, fromMemories, fromRegisters, fromTerminals, withSections}
@@ -37,13 +37,13 @@ terminals-put t [] rs ms ts os = refl
 terminals-put t (d ∷ ds) rs ms ts os = terminals-put (withTerminal t d) ds rs ms ts os ∙ rw (append-assoc (t .terminals) (d ∷ []) (ds ++ ts))
 
 -- From what is asked to the states, with the text t; and there with the facilities v.
-abbrev Leads : List ℕ → Ask → Word → State → Acted → Stack → Built → Text → Type 0
-Leads text p w s r K b t = runs text (ask p ∷ K) w b s ≡ runs text (controlStack ++ K) (r .answer .next) (withText b t) (r .answer .state)
+abbrev Leads : List ℕ → Ask → Word → State → Answer → Stack → Built → Text → Type 0
+Leads text p w s r K b t = runs text (ask p ∷ K) w b s ≡ runs text (controlStack ++ K) (r .next) (withText b t) (r .state)
 
-abbrev ReadyWith : List ℕ → List ℕ → Acted → List Operation → List Declaration → Type 0
-ReadyWith text work′ r os v = Ready text v os (r .answer .next) (r .answer .state) (r .actions) work′
+abbrev ReadyWith : List ℕ → List ℕ → Answer → List Operation → List Declaration → Type 0
+ReadyWith text work′ r os v = Ready text v os (r .next) (r .state) work′
 
-module _ {text : List ℕ} {ds : List Declaration} {p : Ask} {w : Word} {s : State} {work′ : List ℕ} {r : Acted} where
+module _ {text : List ℕ} {ds : List Declaration} {p : Ask} {w : Word} {s : State} {work′ : List ℕ} {r : Answer} where
   joined : {l : Listing} {rs ms ts : List Declaration} (trees : List Declaration) (os : List Operation) → Since l rs ms ts → ((K : Stack) (b : Built) → Leads text p w s r K b (withSections (putAll l trees (b .text)) rs ms ts os))
       → ReadyWith text work′ r os ((ds ++ trees) ++ (rs ++ (ms ++ ts))) → AllRead text ds l (ask p ∷ []) w s work′ r
   joined trees os (fromRegisters rs ms ts) c y = record {
@@ -77,7 +77,7 @@ module _ {text : List ℕ} {ds : List Declaration} {p : Ask} {w : Word} {s : Sta
 -- ---- A section, and what follows.
 
 module _ {text : List ℕ} (l : Listing) {w : Word} {s : State} {place : ℕ} {work work₁ : List ℕ} {r : Progress} (f : Section l text w s place work work₁ r) where
-  pub from-not : (r .answer .verdict ≡ Done → ⊥) → {n : ℕ} → From l text w s place work work₁ (record { answer = r .answer; actions = n })
+  pub from-not : (r .answer .verdict ≡ Done → ⊥) → From l text w s place work work₁ (r .answer)
   from-not n p c ds x = let t = f p c ds x in record { done = λ d. absurd (n d); refused = t .refused; full = t .full }
 
   module _ (done : r .answer .verdict ≡ Done) where
@@ -87,7 +87,7 @@ module _ {text : List ℕ} (l : Listing) {w : Word} {s : State} {place : ℕ} {w
         let y = f sections (atStart l) (x .declared) (x .between) .done done in
         record { declared = x .declared ++ y .trees; between = y .between }
 
-    pub from-read : {q : Acted} {work₂ : List ℕ} → Goes l (afterIn l) text (r .answer .next) (r .answer .state) (r .place) work₁ work₂ q → From l text w s place work work₂ q
+    pub from-read : {q : Answer} {work₂ : List ℕ} → Goes l (afterIn l) text (r .answer .next) (r .answer .state) (r .place) work₁ work₂ q → From l text w s place work work₂ q
     from-read {q} {work₂} g p c ds x = record {
       done = λ d. read (z .done d);
       refused = λ h d K b. y .course K b ∙ z .refused h d K (withText b (putAll l (y .trees) (b .text)));
@@ -97,7 +97,7 @@ module _ {text : List ℕ} (l : Listing) {w : Word} {s : State} {place : ℕ} {w
         y : SectionRead text ds l p w s work₁ r
         y = f p c ds x .done done
 
-        z : Told text (ask (afterIn l) ∷ []) (r .answer .next) (r .answer .state) (q .answer) (AllRead text (ds ++ y .trees) l (ask (afterIn l) ∷ []) (r .answer .next) (r .answer .state) work₂ q)
+        z : Told text (ask (afterIn l) ∷ []) (r .answer .next) (r .answer .state) q (AllRead text (ds ++ y .trees) l (ask (afterIn l) ∷ []) (r .answer .next) (r .answer .state) work₂ q)
         z = g (ds ++ y .trees) (y .between)
 
         read : AllRead text (ds ++ y .trees) l (ask (afterIn l) ∷ []) (r .answer .next) (r .answer .state) work₂ q → AllRead text ds l (ask p ∷ []) w s work₂ q
@@ -108,11 +108,11 @@ module _ {text : List ℕ} (l : Listing) {w : Word} {s : State} {place : ℕ} {w
 sooner : (rs ms ts : List Declaration) → Since terminals rs ms ts → Since memories rs ms ts
 sooner rs ms ts (fromTerminals us) = fromMemories [] us
 
-module _ {text : List ℕ} {w : Word} {s : State} {work′ : List ℕ} {r : Acted} where
+module _ {text : List ℕ} {w : Word} {s : State} {work′ : List ℕ} {r : Answer} where
   -- Where the machine asks p as it would ask q.
   sooner-read : {ds : List Declaration} {l k : Listing} {p q : Ask} → ((K : Stack) (b : Built) → runs text (ask p ∷ K) w b s ≡ runs text (ask q ∷ K) w b s)
-      → ((rs ms ts : List Declaration) → Since l rs ms ts → Since k rs ms ts) → Told text (ask q ∷ []) w s (r .answer) (AllRead text ds l (ask q ∷ []) w s work′ r)
-      → Told text (ask p ∷ []) w s (r .answer) (AllRead text ds k (ask p ∷ []) w s work′ r)
+      → ((rs ms ts : List Declaration) → Since l rs ms ts → Since k rs ms ts) → Told text (ask q ∷ []) w s r (AllRead text ds l (ask q ∷ []) w s work′ r)
+      → Told text (ask p ∷ []) w s r (AllRead text ds k (ask p ∷ []) w s work′ r)
   sooner-read {ds} {l} {k} {p} {q} e f t = record { done = λ d. read (t .done d); refused = λ h d K b. e K b ∙ t .refused h d K b; full = t .full }
     where
       read : AllRead text ds l (ask q ∷ []) w s work′ r → AllRead text ds k (ask p ∷ []) w s work′ r
@@ -126,7 +126,7 @@ module _ {text : List ℕ} {w : Word} {s : State} {work′ : List ℕ} {r : Acte
         ready = y .ready;
       }
 
-module _ {text : List ℕ} {w : Word} {s : State} {place : ℕ} {work work′ : List ℕ} {r : Acted} where
+module _ {text : List ℕ} {w : Word} {s : State} {place : ℕ} {work work′ : List ℕ} {r : Answer} where
   pub with-terminals : From terminals text w s place work work′ r → Goes memories afterMemories text w s place work work′ r
   with-terminals f ds x = sooner-read (λ K b. refl) sooner (f afterMemories behindMemories ds x)
 

@@ -23,7 +23,6 @@ use Rattle.language.specs.Sections.{parse, parseWith}
 use Rattle.language.specs.Words as L
 use Rattle.language.specs.WordStage.{scan, wordsFrom}
 use Rattle.parse_sections.proofs.Telling.{refuses}
-use Rattle.parse_stores.specs.declared.Acted.{Acted}
 use Rattle.parse_tables.specs.Names.{namesIn, namesOf}
 use Rattle.parse_tables.specs.Rows.{rows}
 use Rattle.text_words.specs.declared.Word.{Word}
@@ -54,6 +53,7 @@ between-nothing work n h = record {
   operations = refl;
   states = refl;
   level = refl;
+  actions = refl;
 }
 
 module _ {text : List ℕ} {w : Word} {s : State} (n : Next text 0 w) (e : s ≡ startState) (h : length text < 65536) where
@@ -66,10 +66,10 @@ module _ {text : List ℕ} {w : Word} {s : State} (n : Next text 0 w) (e : s ≡
   to-start : parse (scan text .words) (length text) ≡ runs text (ask sections ∷ []) w nothingBuilt s
   to-start = parse-runs n ∙ ap (λ (j : State). runs text (ask sections ∷ []) w nothingBuilt j) (sym e)
 
-  pub opened : (l : Listing) {work work′ : List ℕ} {r : Acted} → From l text w s 0 work work′ r → Preamble text work′ r
+  pub opened : (l : Listing) {work work′ : List ℕ} {r : Answer} → From l text w s 0 work work′ r → Preamble text work′ r
   opened l {work} {work′} {r} f = record { done = λ d. read (t .done d); refused = λ i d. to-start ∙ t .refused i d [] nothingBuilt; full = t .full }
     where
-      t : Told text (ask sections ∷ []) w s (r .answer) (AllRead text [] l (ask sections ∷ []) w s work′ r)
+      t : Told text (ask sections ∷ []) w s r (AllRead text [] l (ask sections ∷ []) w s work′ r)
       t = f sections (atStart l) [] (between-start work)
 
       read : AllRead text [] l (ask sections ∷ []) w s work′ r → Opened text work′ r
@@ -82,8 +82,8 @@ module _ {text : List ℕ} {w : Word} {s : State} (n : Next text 0 w) (e : s ≡
         ready = y .ready;
       }
 
-  pub not-opened : (kindNo (w .kind) ≡ registerWord → ⊥) → (kindNo (w .kind) ≡ memoryWord → ⊥) → (kindNo (w .kind) ≡ terminalWord → ⊥) → {a : Answer} {m : ℕ} → Refuses w 3 a → {work : List ℕ} → Preamble text work (record { answer = a; actions = m })
-  not-opened i j k {a} {m} x {work} = record { done = t .done; refused = λ f d. to-start ∙ t .refused f d [] nothingBuilt; full = t .full }
+  pub not-opened : (kindNo (w .kind) ≡ registerWord → ⊥) → (kindNo (w .kind) ≡ memoryWord → ⊥) → (kindNo (w .kind) ≡ terminalWord → ⊥) → {a : Answer} → Refuses w 3 a → {work : List ℕ} → Preamble text work a
+  not-opened i j k {a} x {work} = record { done = t .done; refused = λ f d. to-start ∙ t .refused f d [] nothingBuilt; full = t .full }
     where
-      t : Told text (ask sections ∷ []) w s a (Opened text work (record { answer = a; actions = m }))
+      t : Told text (ask sections ∷ []) w s a (Opened text work a)
       t = refuses 3 x (λ K b. nothing-first text w K b s (next-seen 0 n) i j k)

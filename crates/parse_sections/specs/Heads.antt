@@ -17,17 +17,16 @@ use Rattle.language.specs.Tree as T
 use Rattle.language.specs.Tree.{Actions}
 use Rattle.parse_names.specs.declared.Counts.{Counts}
 use Rattle.parse_stores.specs.Actions.{Standing, Written, grown}
-use Rattle.parse_stores.specs.declared.Acted.{Acted}
 use Rattle.text_words.specs.declared.Word.{Word}
 
 -- ---- The name, `=` and `[`.
 
 -- One operation more, and one bracket more that is open.
 abbrev pub moreState : State → State
-moreState s = record { facilities = s .facilities; operations = suc (s .operations); states = s .states; counted = s .counted; nesting = s .nesting; nodes = s .nodes; known = s .known }
+moreState s = record { facilities = s .facilities; operations = suc (s .operations); states = s .states; counted = s .counted; nesting = s .nesting; nodes = s .nodes; actions = s .actions; known = s .known }
 
 abbrev pub openState : State → State
-openState s = record { facilities = s .facilities; operations = suc (s .operations); states = s .states; counted = s .counted; nesting = suc (s .nesting); nodes = s .nodes; known = s .known }
+openState s = record { facilities = s .facilities; operations = suc (s .operations); states = s .states; counted = s .counted; nesting = suc (s .nesting); nodes = s .nodes; actions = s .actions; known = s .known }
 
 -- What is still to come behind the body, and behind the name.
 abbrev pub closeStack : Stack
@@ -75,16 +74,16 @@ pub record Closed (s s′ : State) : Type 0 where
   pub known : s′ .known ≡ s .known
   pub nesting : s′ .nesting ≡ s .nesting - 1
 
-pub record BodyRead (text : List ℕ) (sc : Scope) (n : Counts) (w : Word) (s : State) (acts : ℕ) (work work′ : List ℕ) (r : Acted) : Type 0 where
+pub record BodyRead (text : List ℕ) (sc : Scope) (n : Counts) (w : Word) (s : State) (work work′ : List ℕ) (r : Answer) : Type 0 where
   pub tree : Actions
-  pub course : (K : Stack) (b : Built) → runs text (listStack false ++ (word closeBracket closes ∷ K)) w b s ≡ runs text K (r .answer .next) (grown tree b) (r .answer .state)
-  pub written : Written sc tree s acts work (r .answer .state) (r .actions) work′
-  pub closed : Closed s (r .answer .state)
-  pub standing : Standing text sc n (r .answer .next) (r .answer .state) (r .actions) work′
+  pub course : (K : Stack) (b : Built) → runs text (listStack false ++ (word closeBracket closes ∷ K)) w b s ≡ runs text K (r .next) (grown tree b) (r .state)
+  pub written : Written sc tree s work (r .state) work′
+  pub closed : Closed s (r .state)
+  pub standing : Standing text sc n (r .next) (r .state) (r .state .actions) work′
 
-abbrev pub Body : List ℕ → Counts → Word → State → ℕ → List ℕ → List ℕ → Acted → Type 0
-Body text n w s acts work work′ r =
-    (sc : Scope) → Standing text sc n w s acts work → Told text (listStack false ++ word closeBracket closes ∷ []) w s (r .answer) (BodyRead text sc n w s acts work work′ r)
+abbrev pub Body : List ℕ → Counts → Word → State → List ℕ → List ℕ → Answer → Type 0
+Body text n w s work work′ r =
+    (sc : Scope) → Standing text sc n w s (s .actions) work → Told text (listStack false ++ word closeBracket closes ∷ []) w s r (BodyRead text sc n w s work work′ r)
 
 -- ---- The end of the section.
 

@@ -40,7 +40,7 @@ pub record Bodies (names : List Name) (first : ℕ) (h : Held) (os : List Operat
   pub expressions : frontOf n work ≡ withNodes h (operationNodes names [] first os)
 
 -- Where reading operations stands: behind os. Every record is paid for by what was counted.
-pub record Standing (text : List ℕ) (names : List Name) (first : ℕ) (h : Held) (os : List Operation) (w : Word) (s : State) (acts : ℕ) (work : List ℕ) : Type 0 where
+pub record Standing (text : List ℕ) (names : List Name) (first : ℕ) (h : Held) (os : List Operation) (w : Word) (s : State) (work : List ℕ) : Type 0 where
   pub seen : Seen text w
   pub short : length text < 65536
   pub whole : length work ≡ workSize
@@ -48,9 +48,9 @@ pub record Standing (text : List ℕ) (names : List Name) (first : ℕ) (h : Hel
   pub known : names ≡ facilityNames text work (s .known)
   pub states : s .states ≡ 0
   pub nodes : s .nodes ≤ 7 * s .counted
-  pub actions : acts ≤ 2 * s .counted
+  pub actions : s .actions ≤ 2 * s .counted
   pub tabled : Tabled text os (s .operations) work
-  pub bodies : Bodies names first h os (s .nodes) acts work
+  pub bodies : Bodies names first h os (s .nodes) (s .actions) work
 
 -- The tables other than those of operations and actions are as they were.
 abbrev pub TablesKept : List ℕ → List ℕ → Type 0

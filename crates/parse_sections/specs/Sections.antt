@@ -4,6 +4,7 @@ use mathlib.Core.Path.{_≡_}
 use Prim.Native.Nat.{ℕ, _%_}
 use lib.ListN.{length}
 use Rattle.parse_actions.specs.Lists.{Told}
+use Rattle.parse_step.specs.declared.Answer.{Answer}
 use Rattle.parse_step.specs.declared.State.{State}
 use Rattle.parse_step.specs.declared.Verdict.the-variants as Vd
 use Rattle.parse_step.specs.Course.{Stack, kindNo, runs}
@@ -21,7 +22,6 @@ use Rattle.language.specs.Tree.{Declaration, Operation, Text}
 use Rattle.language.specs.WordStage.{scan}
 use Rattle.parse_sections.specs.Heads.{controlStack}
 use Rattle.parse_sections.specs.Listed.{Standing}
-use Rattle.parse_stores.specs.declared.Acted.{Acted}
 use Rattle.text_words.specs.declared.Fault.{Fault}
 use Rattle.text_words.specs.declared.Word.{Word}
 use Rattle.text_words.specs.Meaning.{faulted}
@@ -54,12 +54,13 @@ pub data Since : Listing → List Declaration → List Declaration → List Decl
 
 -- ---- Where reading stands.
 
--- Behind the declarations ds, before any operation and any state.
+-- Behind the declarations ds, before any operation, any action and any state.
 pub record Between (text : List ℕ) (ds : List Declaration) (place : ℕ) (w : Word) (s : State) (work : List ℕ) : Type 0 where
   pub standing : D.Standing text ds place w s work
   pub operations : s .operations ≡ 0
   pub states : s .states ≡ 0
   pub level : s .nesting ≡ 0
+  pub actions : s .actions ≡ 0
 
 pub record Somewhere (text : List ℕ) (place : ℕ) (w : Word) (s : State) (work : List ℕ) : Type 0 where
   pub declared : List Declaration
@@ -71,11 +72,11 @@ pub record Starts (l : Listing) (text : List ℕ) (place : ℕ) (w : Word) (s : 
   pub somewhere : Somewhere text place w s work
 
 -- Behind CONTROL: the tables hold the facilities ds and the operations os, the expressions those of both.
-pub record Ready (text : List ℕ) (ds : List Declaration) (os : List Operation) (w : Word) (s : State) (acts : ℕ) (work : List ℕ) : Type 0 where
+pub record Ready (text : List ℕ) (ds : List Declaration) (os : List Operation) (w : Word) (s : State) (work : List ℕ) : Type 0 where
   pub counted : s .facilities ≡ s .known
   pub level : s .nesting ≡ 0
   pub facilities : Tabled text ds (storeSizeOf (facilitiesOf 0 ds) % 65536) (s .known) work
-  pub standing : Standing text (map (λ d. d .name) ds) (facilitySize ds) (withNodes (noneHeld []) (facilityNodes [] 0 ds)) os w s acts work
+  pub standing : Standing text (map (λ d. d .name) ds) (facilitySize ds) (withNodes (noneHeld []) (facilityNodes [] 0 ds)) os w s work
 
 -- ---- A section of declarations.
 
@@ -94,44 +95,44 @@ abbrev pub withSections : Text → List Declaration → List Declaration → Lis
 withSections t rs ms ts os = record { registers = t .registers ++ rs; memories = t .memories ++ ms; terminals = t .terminals ++ ts; operations = t .operations ++ os; states = t .states }
 
 -- From the stack P the machine comes to the states, with nothing of the lists before l.
-pub record AllRead (text : List ℕ) (ds : List Declaration) (l : Listing) (P : Stack) (w : Word) (s : State) (work′ : List ℕ) (r : Acted) : Type 0 where
+pub record AllRead (text : List ℕ) (ds : List Declaration) (l : Listing) (P : Stack) (w : Word) (s : State) (work′ : List ℕ) (r : Answer) : Type 0 where
   pub registers : List Declaration
   pub memories : List Declaration
   pub terminals : List Declaration
   pub operations : List Operation
   pub since : Since l registers memories terminals
-  pub course : (K : Stack) (b : Built) → runs text (P ++ K) w b s ≡ runs text (controlStack ++ K) (r .answer .next) (withText b (withSections (b .text) registers memories terminals operations)) (r .answer .state)
-  pub ready : Ready text (ds ++ (registers ++ (memories ++ terminals))) operations (r .answer .next) (r .answer .state) (r .actions) work′
+  pub course : (K : Stack) (b : Built) → runs text (P ++ K) w b s ≡ runs text (controlStack ++ K) (r .next) (withText b (withSections (b .text) registers memories terminals operations)) (r .state)
+  pub ready : Ready text (ds ++ (registers ++ (memories ++ terminals))) operations (r .next) (r .state) work′
 
 -- Where the machine asks p.
-abbrev pub Goes : Listing → Ask → List ℕ → Word → State → ℕ → List ℕ → List ℕ → Acted → Type 0
+abbrev pub Goes : Listing → Ask → List ℕ → Word → State → ℕ → List ℕ → List ℕ → Answer → Type 0
 Goes l p text w s place work work′ r =
-    (ds : List Declaration) → Between text ds place w s work → Told text (ask p ∷ []) w s (r .answer) (AllRead text ds l (ask p ∷ []) w s work′ r)
+    (ds : List Declaration) → Between text ds place w s work → Told text (ask p ∷ []) w s r (AllRead text ds l (ask p ∷ []) w s work′ r)
 
 -- Where the list l begins.
-abbrev pub From : Listing → List ℕ → Word → State → ℕ → List ℕ → List ℕ → Acted → Type 0
+abbrev pub From : Listing → List ℕ → Word → State → ℕ → List ℕ → List ℕ → Answer → Type 0
 From l text w s place work work′ r = (p : Ask) → Comes l p → Goes l p text w s place work work′ r
 
 -- Where the operations begin.
-abbrev pub Operates : List ℕ → Word → State → ℕ → List ℕ → List ℕ → Acted → Type 0
+abbrev pub Operates : List ℕ → Word → State → ℕ → List ℕ → List ℕ → Answer → Type 0
 Operates text w s place work work′ r = kindNo (w .kind) ≡ operationWord → Goes terminals afterTerminals text w s place work work′ r
 
 -- ---- From the start of the text.
 
 abbrev pub startState : State
-startState = record { facilities = 0; operations = 0; states = 0; counted = 0; nesting = 0; nodes = 0; known = 0 }
+startState = record { facilities = 0; operations = 0; states = 0; counted = 0; nesting = 0; nodes = 0; actions = 0; known = 0 }
 
 -- Parsing comes to the states, with these declarations and operations.
-pub record Opened (text work′ : List ℕ) (r : Acted) : Type 0 where
+pub record Opened (text work′ : List ℕ) (r : Answer) : Type 0 where
   pub registers : List Declaration
   pub memories : List Declaration
   pub terminals : List Declaration
   pub operations : List Operation
   pub course : parse (scan text .words) (length text)
-      ≡ runs text controlStack (r .answer .next) (withText nothingBuilt (record { registers = registers; memories = memories; terminals = terminals; operations = operations; states = [] })) (r .answer .state)
-  pub ready : Ready text (registers ++ (memories ++ terminals)) operations (r .answer .next) (r .answer .state) (r .actions) work′
+      ≡ runs text controlStack (r .next) (withText nothingBuilt (record { registers = registers; memories = memories; terminals = terminals; operations = operations; states = [] })) (r .state)
+  pub ready : Ready text (registers ++ (memories ++ terminals)) operations (r .next) (r .state) work′
 
-pub record Preamble (text work′ : List ℕ) (r : Acted) : Type 0 where
-  pub done : r .answer .verdict ≡ Vd.Done → Opened text work′ r
-  pub refused : (f : Fault) → r .answer .verdict ≡ Vd.Refused f → parse (scan text .words) (length text) ≡ refused (faulted f)
-  pub full : r .answer .verdict ≡ Vd.Full → ⊥
+pub record Preamble (text work′ : List ℕ) (r : Answer) : Type 0 where
+  pub done : r .verdict ≡ Vd.Done → Opened text work′ r
+  pub refused : (f : Fault) → r .verdict ≡ Vd.Refused f → parse (scan text .words) (length text) ≡ refused (faulted f)
+  pub full : r .verdict ≡ Vd.Full → ⊥

@@ -1,9 +1,9 @@
 // The sections of a text up to CONTROL (the manual, 4, 6 and 7), read as the machine of the grammar reads them.
 use parse_array::Work;
+use parse_step::Answer;
 use parse_step::State;
 use parse_step::kinds;
 use parse_step::taking;
-use parse_stores::Acted;
 use text_words::next;
 ghost use Prim.Native.Nat.{_<_};
 ghost use mathlib.Core.Path.{_≡_};
@@ -25,12 +25,13 @@ fn start() -> State
         counted: 0,
         nesting: 0,
         nodes: 0,
+        actions: 0,
         known: 0,
     }
 }
 
 // Reads all before the states, whatever the array held.
-pub fn preamble(text: &[u8], work: &mut Work) -> Acted
+pub fn preamble(text: &[u8], work: &mut Work) -> Answer
     requires { ⌜ length (now text) < 65536 ⌝ }
     ensures { λ r. ⌜ Preamble (now (text .entry)) (now (work .exit)) r ⌝ }
 {
@@ -47,6 +48,5 @@ pub fn preamble(text: &[u8], work: &mut Work) -> Acted
     if k == text_kinds::TERMINAL {
         return sections::terminals(text, w, work, s, 0);
     }
-    let answer = taking::refuse(w, s, 3);
-    Acted { answer, actions: 0 }
+    taking::refuse(w, s, 3)
 }

@@ -3,34 +3,31 @@ use crate::lists;
 use crate::operations::lists as operations;
 use parse_array::Work;
 use parse_facilities::List;
+use parse_step::Answer;
 use parse_step::Bearing;
 use parse_step::State;
 use parse_step::kinds;
 use parse_step::taking;
-use parse_stores::Acted;
 use text_words::Word;
 ghost use Rattle.parse_facilities.specs.Lists.{memories, registers, terminals};
 ghost use Rattle.language.specs.Machine.{afterMemories, afterRegisters, afterTerminals};
 ghost use Rattle.parse_sections.specs.Sections.{From, Goes, Operates, Somewhere, Starts};
 
 // Operations, whose word has been seen, and CONTROL.
-fn operations(text: &[u8], w: Word, work: &mut Work, s: State, place: u16) -> Acted
+fn operations(text: &[u8], w: Word, work: &mut Work, s: State, place: u16) -> Answer
     requires { ⌜ Somewhere (now text) place w s (now work) ⌝ }
     ensures { λ r. ⌜ Operates (now (text .entry)) w s place (now (work .entry)) (now (work .exit)) r ⌝ }
 {
     parse_array::whole(work);
     let first = taking::take(text, w, s, false, Bearing::Level);
     if parse_step::unread(first) {
-        return Acted {
-            answer: first,
-            actions: 0,
-        };
+        return first;
     }
-    operations::operations(text, first.next, work, first.state, 0)
+    operations::operations(text, first.next, work, first.state)
 }
 
 // Behind the terminals.
-fn behind_terminals(text: &[u8], w: Word, work: &mut Work, s: State, place: u16) -> Acted
+fn behind_terminals(text: &[u8], w: Word, work: &mut Work, s: State, place: u16) -> Answer
     requires { ⌜ Somewhere (now text) place w s (now work) ⌝ }
     ensures { λ r. ⌜ Goes terminals afterTerminals (now (text .entry)) w s place (now (work .entry)) (now (work .exit)) r ⌝ }
 {
@@ -41,28 +38,25 @@ fn behind_terminals(text: &[u8], w: Word, work: &mut Work, s: State, place: u16)
     }
     parse_array::whole(work);
     if k == text_kinds::CONTROL {
-        let answer = taking::take(text, w, s, false, Bearing::Level);
-        return Acted { answer, actions: 0 };
+        return taking::take(text, w, s, false, Bearing::Level);
     }
-    let answer = taking::refuse(w, s, 3);
-    Acted { answer, actions: 0 }
+    taking::refuse(w, s, 3)
 }
 
 // Terminals, whose word has been seen, and what follows.
-pub fn terminals(text: &[u8], w: Word, work: &mut Work, s: State, place: u16) -> Acted
+pub fn terminals(text: &[u8], w: Word, work: &mut Work, s: State, place: u16) -> Answer
     requires { ⌜ Starts terminals (now text) place w s (now work) ⌝ }
     ensures { λ r. ⌜ From terminals (now (text .entry)) w s place (now (work .entry)) (now (work .exit)) r ⌝ }
 {
     let read = lists::defined(text, w, work, s, place);
     if parse_step::unread(read.answer) {
-        let answer = read.answer;
-        return Acted { answer, actions: 0 };
+        return read.answer;
     }
     behind_terminals(text, read.answer.next, work, read.answer.state, read.place)
 }
 
 // Behind the memories.
-fn behind_memories(text: &[u8], w: Word, work: &mut Work, s: State, place: u16) -> Acted
+fn behind_memories(text: &[u8], w: Word, work: &mut Work, s: State, place: u16) -> Answer
     requires { ⌜ Somewhere (now text) place w s (now work) ⌝ }
     ensures { λ r. ⌜ Goes memories afterMemories (now (text .entry)) w s place (now (work .entry)) (now (work .exit)) r ⌝ }
 {
@@ -74,20 +68,19 @@ fn behind_memories(text: &[u8], w: Word, work: &mut Work, s: State, place: u16) 
 }
 
 // Memories, whose word has been seen, and what follows.
-pub fn memories(text: &[u8], w: Word, work: &mut Work, s: State, place: u16) -> Acted
+pub fn memories(text: &[u8], w: Word, work: &mut Work, s: State, place: u16) -> Answer
     requires { ⌜ Starts memories (now text) place w s (now work) ⌝ }
     ensures { λ r. ⌜ From memories (now (text .entry)) w s place (now (work .entry)) (now (work .exit)) r ⌝ }
 {
     let read = lists::stored(text, w, work, s, place, List::Memories);
     if parse_step::unread(read.answer) {
-        let answer = read.answer;
-        return Acted { answer, actions: 0 };
+        return read.answer;
     }
     behind_memories(text, read.answer.next, work, read.answer.state, read.place)
 }
 
 // Behind the registers.
-fn behind_registers(text: &[u8], w: Word, work: &mut Work, s: State, place: u16) -> Acted
+fn behind_registers(text: &[u8], w: Word, work: &mut Work, s: State, place: u16) -> Answer
     requires { ⌜ Somewhere (now text) place w s (now work) ⌝ }
     ensures { λ r. ⌜ Goes registers afterRegisters (now (text .entry)) w s place (now (work .entry)) (now (work .exit)) r ⌝ }
 {
@@ -99,14 +92,13 @@ fn behind_registers(text: &[u8], w: Word, work: &mut Work, s: State, place: u16)
 }
 
 // Registers, whose word has been seen, and what follows.
-pub fn registers(text: &[u8], w: Word, work: &mut Work, s: State, place: u16) -> Acted
+pub fn registers(text: &[u8], w: Word, work: &mut Work, s: State, place: u16) -> Answer
     requires { ⌜ Starts registers (now text) place w s (now work) ⌝ }
     ensures { λ r. ⌜ From registers (now (text .entry)) w s place (now (work .entry)) (now (work .exit)) r ⌝ }
 {
     let read = lists::stored(text, w, work, s, place, List::Registers);
     if parse_step::unread(read.answer) {
-        let answer = read.answer;
-        return Acted { answer, actions: 0 };
+        return read.answer;
     }
     behind_registers(text, read.answer.next, work, read.answer.state, read.place)
 }

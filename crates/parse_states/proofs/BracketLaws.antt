@@ -12,7 +12,7 @@ use Rattle.parse_step.specs.declared.State.{State}
 use Rattle.parse_step.specs.declared.Verdict.the-variants.{Done}
 use Rattle.parse_step.specs.Course.{Seen, Stack, kindNo, runs}
 use Rattle.parse_step.specs.Taken.{Expected, Passed, Took, afterWord, constantWord, Keeps, KeptOn}
-use Rattle.parse_bounds.proofs.States.{counted, state-of}
+use Rattle.parse_step.proofs.States.{counted, state-of}
 use Rattle.language.specs.Building.{Built, keepWord}
 use Rattle.language.specs.Declaring.{treeSteps}
 use Rattle.language.specs.Kinds.{aConstant, closeParen, colon, openParen}

@@ -7,6 +7,7 @@ use native.Mathlib.Omega.{arith}
 use lib.ListN.{drop, length, length-drop}
 use lib.Seq.{length-take-le}
 use Rattle.parse_step.proofs.Ceilings.{few-counted}
+use Rattle.parse_step.specs.declared.Answer.{Answer}
 use Rattle.parse_step.specs.declared.State.{State}
 use Rattle.parse_step.specs.Course.{Stack, countsOf}
 use Rattle.image_sections.specs.declared.runs.Run.{Run}
@@ -21,7 +22,6 @@ use Rattle.parse_names.specs.declared.Counts.{Counts}
 use Rattle.parse_stores.proofs.Keeping.{front-kept, known-by}
 use Rattle.parse_stores.proofs.Standings.{few-states}
 use Rattle.parse_stores.specs.Actions.{Standing, actionBesides, actionRecords, frontOf}
-use Rattle.parse_stores.specs.declared.Acted.{Acted}
 use Rattle.parse_tables.proofs.NamesGrown.{names-behind}
 use Rattle.parse_tables.proofs.RowLaws.{kept-more, rows-other}
 use Rattle.parse_tables.specs.declared.Table.{Table}
@@ -85,15 +85,15 @@ module _ (u : Table) (e : apartFrom u (Tb.Actions ∷ Tb.ActionPlaces ∷ Tb.Sta
 
 -- ---- One state.
 
-module _ {text : List ℕ} {sc : Scope} {n : Counts} {l : ℕ} {name : Word} {P R : Stack} {pre mid : Built → Built} {w v : Word} {s : State} {acts : ℕ} {work work₁ work₂ work₃ : List ℕ} {h : Begun} {r : Acted} {run : Run}
-    (st : Standing text sc n w s acts work) (x : HeadRead text sc n l name P pre w s (moreStates s) acts work work₁ h)
-    (y : BodyRead text sc n R mid v (h .answer .state) acts work₁ work₂ r) (few : s .states < 256) (c : Closed (s .states) (h .head) run work₂ work₃)
-    (e : run ≡ record { first = acts; count = r .actions - acts }) where
+module _ {text : List ℕ} {sc : Scope} {n : Counts} {l : ℕ} {name : Word} {P R : Stack} {pre mid : Built → Built} {w v : Word} {s : State} {work work₁ work₂ work₃ : List ℕ} {h : Begun} {r : Answer} {run : Run}
+    (st : Standing text sc n w s (s .actions) work) (x : HeadRead text sc n l name P pre w s (moreStates s) work work₁ h)
+    (y : BodyRead text sc n R mid v (h .answer .state) work₁ work₂ r) (few : s .states < 256) (c : Closed (s .states) (h .head) run work₂ work₃)
+    (e : run ≡ record { first = s .actions; count = r .state .actions - s .actions }) where
   abbrev pub tree : T.State
   tree = record { at = x .tree .at; label = x .tree .label; value = x .tree .value; actions = y .tree }
 
   abbrev s₂ : State
-  s₂ = r .answer .state
+  s₂ = r .state
 
   abbrev vs : ℕ
   vs = valueSize (lengthOf l) (x .tree .value)
@@ -104,7 +104,7 @@ module _ {text : List ℕ} {sc : Scope} {n : Counts} {l : ℕ} {name : Word} {P 
   nodes₁ : h .answer .state .nodes ≡ s .nodes + vs
   nodes₁ = x .nodes
 
-  most-acts : r .actions ≤ mostActions
+  most-acts : s₂ .actions ≤ mostActions
   most-acts = omega (arith, y .standing .actions, few-counted (countsOf s₂) (y .standing .within))
 
   most-nodes : s₂ .nodes ≤ mostNodes
@@ -125,26 +125,30 @@ module _ {text : List ℕ} {sc : Scope} {n : Counts} {l : ℕ} {name : Word} {P 
   before : (u : Table) → apartFrom u (Tb.Actions ∷ Tb.ActionPlaces ∷ []) ≡ true → (m : ℕ) → m ≤ most u → rows u m work₂ ≡ rows u m work
   before u a m g = y .written .tables u a m g ∙ rows-other work work₁ (x .other) u m
 
-  actions : rows Tb.Actions (r .actions) work₃ ≡ rows Tb.Actions acts work ++ actionRecords (stateActions (lengthOf l) sc (s .nodes) (tree ∷ []))
+  -- The head adds no action.
+  as-before : (u : Table) → rows u (h .answer .state .actions) work₁ ≡ rows u (s .actions) work
+  as-before u = rows-other work work₁ (x .other) u (h .answer .state .actions) ∙ ap (λ (m : ℕ). rows u m work) (x .actions)
+
+  actions : rows Tb.Actions (s₂ .actions) work₃ ≡ rows Tb.Actions (s .actions) work ++ actionRecords (stateActions (lengthOf l) sc (s .nodes) (tree ∷ []))
   unfolding stateActions
   actions =
-      c .kept .tables Tb.Actions refl (r .actions) most-acts ∙ y .written .records
-      ∙ ap (λ (z : List ℕ). z ++ actionRecords (actionsOf sc (h .answer .state .nodes) (y .tree))) (rows-other work work₁ (x .other) Tb.Actions acts)
-      ∙ ap (λ (j : ℕ). rows Tb.Actions acts work ++ actionRecords (actionsOf sc j (y .tree))) nodes₁
-      ∙ ap (λ (xs : List NotedAction). rows Tb.Actions acts work ++ actionRecords xs) (sym (append-nil (actionsOf sc (s .nodes + vs) (y .tree))))
+      c .kept .tables Tb.Actions refl (s₂ .actions) most-acts ∙ y .written .records
+      ∙ ap (λ (z : List ℕ). z ++ actionRecords (actionsOf sc (h .answer .state .nodes) (y .tree))) (as-before Tb.Actions)
+      ∙ ap (λ (j : ℕ). rows Tb.Actions (s .actions) work ++ actionRecords (actionsOf sc j (y .tree))) nodes₁
+      ∙ ap (λ (xs : List NotedAction). rows Tb.Actions (s .actions) work ++ actionRecords xs) (sym (append-nil (actionsOf sc (s .nodes + vs) (y .tree))))
 
-  action-places : rows Tb.ActionPlaces (r .actions) work₃ ≡ rows Tb.ActionPlaces acts work ++ actionBesides (stateActions (lengthOf l) sc (s .nodes) (tree ∷ []))
+  action-places : rows Tb.ActionPlaces (s₂ .actions) work₃ ≡ rows Tb.ActionPlaces (s .actions) work ++ actionBesides (stateActions (lengthOf l) sc (s .nodes) (tree ∷ []))
   unfolding stateActions
   action-places =
-      c .kept .tables Tb.ActionPlaces refl (r .actions) most-acts ∙ y .written .places
-      ∙ ap (λ (z : List ℕ). z ++ actionBesides (actionsOf sc (h .answer .state .nodes) (y .tree))) (rows-other work work₁ (x .other) Tb.ActionPlaces acts)
-      ∙ ap (λ (j : ℕ). rows Tb.ActionPlaces acts work ++ actionBesides (actionsOf sc j (y .tree))) nodes₁
-      ∙ ap (λ (xs : List NotedAction). rows Tb.ActionPlaces acts work ++ actionBesides xs) (sym (append-nil (actionsOf sc (s .nodes + vs) (y .tree))))
+      c .kept .tables Tb.ActionPlaces refl (s₂ .actions) most-acts ∙ y .written .places
+      ∙ ap (λ (z : List ℕ). z ++ actionBesides (actionsOf sc (h .answer .state .nodes) (y .tree))) (as-before Tb.ActionPlaces)
+      ∙ ap (λ (j : ℕ). rows Tb.ActionPlaces (s .actions) work ++ actionBesides (actionsOf sc j (y .tree))) nodes₁
+      ∙ ap (λ (xs : List NotedAction). rows Tb.ActionPlaces (s .actions) work ++ actionBesides xs) (sym (append-nil (actionsOf sc (s .nodes + vs) (y .tree))))
 
-  count-run : r .actions - acts ≡ actionsIn (y .tree)
-  count-run = omega (arith, y .written .count)
+  count-run : s₂ .actions - s .actions ≡ actionsIn (y .tree)
+  count-run = omega (arith, y .written .count, x .actions)
 
-  records : rows Tb.States (s₂ .states) work₃ ≡ rows Tb.States (s .states) work ++ concat stateRecord (statesOf (lengthOf l) (s .nodes) acts (tree ∷ []))
+  records : rows Tb.States (s₂ .states) work₃ ≡ rows Tb.States (s .states) work ++ concat stateRecord (statesOf (lengthOf l) (s .nodes) (s .actions) (tree ∷ []))
   unfolding statesOf concat
   records =
       ap (λ (m : ℕ). rows Tb.States m work₃) number ∙ c .records (labelOf (x .tree .label)) (x .says .length)
@@ -167,12 +171,12 @@ module _ {text : List ℕ} {sc : Scope} {n : Counts} {l : ℕ} {name : Word} {P 
       ∙ names-behind text (rows Tb.Labels (s .states) work) (s .states) (h .head .at .place) (h .head .size) row-length (x .says .near) (x .says .short)
       ∙ rw (← x .says .label)
 
-  pub one-written : Written text sc l (tree ∷ []) s acts work s₂ (r .actions) work₃
+  pub one-written : Written text sc l (tree ∷ []) s work s₂ work₃
   unfolding statesSize statesActions
   one-written = record {
     nodes = omega (arith, y .written .nodes, nodes₁);
     expressions = expressions;
-    count = omega (arith, y .written .count);
+    count = omega (arith, y .written .count, x .actions);
     actions = actions;
     actionPlaces = action-places;
     number = number;
@@ -182,7 +186,7 @@ module _ {text : List ℕ} {sc : Scope} {n : Counts} {l : ℕ} {name : Word} {P 
     tables = λ u a m g. c .kept .tables u (three-of u a) m g ∙ before u (two-of u a) m g;
   }
 
-  pub one-standing : Standing text sc n (r .answer .next) s₂ (r .actions) work₃
+  pub one-standing : Standing text sc n (r .next) s₂ (s₂ .actions) work₃
   one-standing = record {
     seen = y .standing .seen;
     short = st .short;

@@ -116,7 +116,7 @@ module _ {w : Word} {s : State} {r : Answer} where
   }
 
 pub one-more : {w : Word} {s : State} → s .states < 256 → {m : ℕ} → m ≡ s .states + 1
-    → Counted w s (record { verdict = Done; next = w; state = record { facilities = s .facilities; operations = s .operations; states = m; counted = s .counted; nesting = s .nesting; nodes = s .nodes; known = s .known } })
+    → Counted w s (record { verdict = Done; next = w; state = record { facilities = s .facilities; operations = s .operations; states = m; counted = s .counted; nesting = s .nesting; nodes = s .nodes; actions = s .actions; known = s .known } })
 one-more {w} {s} h {m} e = record {
   done = λ d. (let q : m ≡ suc (s .states) = omega arith in rw q, h);
   refused = λ f d. done-refused d;

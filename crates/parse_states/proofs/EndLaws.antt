@@ -17,22 +17,21 @@ use Rattle.language.specs.Building.{Built}
 use Rattle.language.specs.Kinds.{dollar}
 use Rattle.language.specs.Machine.{ask, dollarOption, refused}
 use Rattle.parse_expressions.specs.Phrases.{stayed}
-use Rattle.parse_stores.proofs.Standings.{standing-passed}
-use Rattle.parse_stores.specs.declared.Acted.{Acted}
+use Rattle.parse_stores.proofs.Standings.{standing-word}
 use Rattle.text_words.specs.declared.Word.{Word}
 use Rattle.text_words.specs.Meaning.{faulted, isEnd}
 use Rattle.parse_states.proofs.StateWords.{dollar-comes, end-ends, no-dollar, period-ends, text-ends, text-goes-on}
 use Rattle.parse_states.specs.States.{Ended, Ending, Ends, Finish, moreStack}
 
-module _ {w : Word} {s : State} {acts : ℕ} where
-  pub no-word-left : isEnd (w .kind) ≡ true → (text : List ℕ) → Finish [] text w s acts (record { answer = stayed s w; actions = acts })
+module _ {w : Word} {s : State} where
+  pub no-word-left : isEnd (w .kind) ≡ true → (text : List ℕ) → Finish [] text w s (stayed s w)
   no-word-left e text sc n work st = record {
-    done = λ d. record { course = λ b. text-ends text w (st .seen) s [] b e; state = refl; count = refl; seen = st .seen };
+    done = λ d. record { course = λ b. text-ends text w (st .seen) s [] b e; state = refl; seen = st .seen };
     refused = λ f d. done-refused d;
     full = λ d. done-full d;
   }
 
-  pub word-left : isEnd (w .kind) ≡ false → {a : Answer} → Refuses w 3 a → (text : List ℕ) → Finish [] text w s acts (record { answer = a; actions = acts })
+  pub word-left : isEnd (w .kind) ≡ false → {a : Answer} → Refuses w 3 a → (text : List ℕ) → Finish [] text w s a
   word-left e x text sc n work st = record {
     done = λ d. done-refused (sym d ∙ x .verdict);
     refused = λ f d b. text-goes-on text w (st .seen) s [] b e ∙ ap refused (sym (ap faulted (same-fault (sym d ∙ x .verdict)) ∙ x .is));
@@ -40,14 +39,14 @@ module _ {w : Word} {s : State} {acts : ℕ} where
   }
 
 -- A word is taken, and then the text ends by the stack Q.
-module _ {text : List ℕ} {P : Stack} (Q : Stack) {w : Word} {s : State} {acts : ℕ} {a : Answer} (t : Took text w (afterWord false Level s) s a)
+module _ {text : List ℕ} {P : Stack} (Q : Stack) {w : Word} {s : State} {a : Answer} (t : Took text w (afterWord false Level s) s a)
     (g : Seen text w → (b : Built) → runs text P w b s ≡ onTaken text w Q b (countsOf s)) where
-  pub not-ended : (a .verdict ≡ Done → ⊥) → Finish P text w s acts (record { answer = a; actions = acts })
+  pub not-ended : (a .verdict ≡ Done → ⊥) → Finish P text w s a
   not-ended m sc n work st = record { done = λ d. absurd (m d); refused = λ f d b. g (st .seen) b ∙ took-refused t f d Q b; full = λ d. absurd (t .full d) }
 
-  pub ends-behind : a .verdict ≡ Done → {r : Acted} → Finish Q text (a .next) (a .state) acts r → Finish P text w s acts r
+  pub ends-behind : a .verdict ≡ Done → {r : Answer} → Finish Q text (a .next) (a .state) r → Finish P text w s r
   ends-behind d {r} f sc n work st = record {
-    done = λ e. let v = y .done e in record { course = λ b. to-next b ∙ v .course b; state = v .state ∙ level-same p; count = v .count; seen = v .seen };
+    done = λ e. let v = y .done e in record { course = λ b. to-next b ∙ v .course b; state = v .state ∙ level-same p; seen = v .seen };
     refused = λ i e b. to-next b ∙ y .refused i e b;
     full = y .full;
   }
@@ -58,17 +57,17 @@ module _ {text : List ℕ} {P : Stack} (Q : Stack) {w : Word} {s : State} {acts 
       to-next : (b : Built) → runs text P w b s ≡ runs text Q (a .next) b (a .state)
       to-next b = g (st .seen) b ∙ took-done p (st .seen) Q b
 
-      y : Ends text Q (a .next) (a .state) r (Ended text Q (a .next) (a .state) acts r)
-      y = f sc n work (standing-passed false Level st p)
+      y : Ends text Q (a .next) (a .state) r (Ended text Q (a .next) (a .state) r)
+      y = f sc n work (standing-word false Level st p)
 
 -- ---- A dollar or nothing.
 
-module _ {text : List ℕ} {w : Word} {s : State} {acts : ℕ} where
-  pub without-dollar : (kindNo (w .kind) ≡ dollar → ⊥) → {r : Acted} → Finish [] text w s acts r → Finish (ask dollarOption ∷ []) text w s acts r
+module _ {text : List ℕ} {w : Word} {s : State} where
+  pub without-dollar : (kindNo (w .kind) ≡ dollar → ⊥) → {r : Answer} → Finish [] text w s r → Finish (ask dollarOption ∷ []) text w s r
   without-dollar m f sc n work st =
       let y = f sc n work st in
       record {
-        done = λ d. let v = y .done d in record { course = λ b. no-dollar text w (st .seen) s [] b m ∙ v .course b; state = v .state; count = v .count; seen = v .seen };
+        done = λ d. let v = y .done d in record { course = λ b. no-dollar text w (st .seen) s [] b m ∙ v .course b; state = v .state; seen = v .seen };
         refused = λ i d b. no-dollar text w (st .seen) s [] b m ∙ y .refused i d b;
         full = y .full;
       }

@@ -39,7 +39,7 @@ use Rattle.parse_operands.specs.References.{lettersOf}
 use Rattle.parse_expressions.specs.Phrases.{afterName, stayed}
 use Rattle.parse_stores.proofs.Keeping.{known-kept, others-other, whole-other}
 use Rattle.parse_stores.proofs.ReachedLaws.{front-held, nodes-none, other-held}
-use Rattle.parse_stores.proofs.Standings.{few-states, first-three, standing-passed}
+use Rattle.parse_stores.proofs.Standings.{few-states, first-three, standing-word}
 use Rattle.parse_stores.specs.Actions.{Standing, frontOf}
 use Rattle.value_operators.specs.Meaning.{valued}
 use Rattle.text_words.specs.declared.Position.{Position}
@@ -99,7 +99,7 @@ front-none s work = sym (nodes-none (frontOf (s .nodes) work))
 module _ {l : ℕ} {text : List ℕ} (name : Word) {w : Word} {s : State} {work : List ℕ} where
   pub named-first : (kindNo (w .kind) ≡ colon → ⊥) → (kindNo (w .kind) ≡ openParen → ⊥) → {x : Head} → PlainHead (name .at) 0 x
       → AfterName l name text w s work work (record { answer = stayed s w; head = x; named = true })
-  named-first m k {x} h sc n acts z st room = record {
+  named-first m k {x} h sc n z st room = record {
     done = λ d. record {
       tree = plainAt (positioned (name .at));
       course = λ K b. action-comes text w (st .seen) s (ask stateRest ∷ K) b m k name;
@@ -108,6 +108,7 @@ module _ {l : ℕ} {text : List ℕ} (name : Word) {w : Word} {s : State} {work 
       nodes = omega arith;
       expressions = front-none s work;
       other = refl;
+      actions = refl;
       standing = st;
     };
     refused = λ f d. done-refused d;
@@ -117,13 +118,13 @@ module _ {l : ℕ} {text : List ℕ} (name : Word) {w : Word} {s : State} {work 
   pub label-read : kindNo (w .kind) ≡ colon → {a : Answer} → Took text w (afterWord false Level s) s a → {x : Head} → PlainHead (name .at) (name .size) x
       → AfterName l name text w s work work (record { answer = a; head = x; named = false })
   unfolding wordNo
-  label-read k {a} t {x} h sc n acts z st room = record {
+  label-read k {a} t {x} h sc n z st room = record {
     done = λ d. read (t .done d);
     refused = λ f d K b. label-comes text w (st .seen) s K (afterName name text b) k ∙ took-refused t f d (make (treeSteps .beginLabelled) ∷ ask stateBody ∷ K) (afterName name text b);
     full = λ d. absurd (t .full d);
   }
     where
-      read : Passed text w (afterWord false Level s) s a → HeadRead text sc n l name (ask firstName ∷ ask stateRest ∷ []) (afterName name text) w s s acts work work (record { answer = a; head = x; named = false })
+      read : Passed text w (afterWord false Level s) s a → HeadRead text sc n l name (ask firstName ∷ ask stateRest ∷ []) (afterName name text) w s s work work (record { answer = a; head = x; named = false })
       read p = record {
         tree = labelled text name;
         course = λ K b.
@@ -134,14 +135,15 @@ module _ {l : ℕ} {text : List ℕ} (name : Word) {w : Word} {s : State} {work 
         nodes = omega (arith, ap (λ (q : State). q .nodes) (level-same p));
         expressions = ap (λ (q : State). frontOf (q .nodes) work) (level-same p) ∙ front-none s work;
         other = refl;
-        standing = standing-passed false Level st p;
+        actions = ap (λ (q : State). q .actions) (level-same p);
+        standing = standing-word false Level st p;
       }
 
 -- ---- A value.
 
 module _ {l : ℕ} {text : List ℕ} (name : Word) {w : Word} {s : State} {work : List ℕ} {q : Bracketed} (x : Brackets text w s q) where
   pub value-not : (q .answer .verdict ≡ Done → ⊥) → {h : Head} → Valued l name text w s work work (record { answer = q .answer; head = h; named = false })
-  value-not m k sc n acts z st room =
+  value-not m k sc n z st room =
       let t = x k (st .seen) in
       record { done = λ d. absurd (m d); refused = λ f d K b. t .refused f d K (afterName name text b); full = t .full }
 
@@ -170,7 +172,7 @@ module _ {l : ℕ} {text : List ℕ} (name : Word) {w : Word} {s : State} {work 
     pub value-read : {m : ℕ} → m ≡ a .state .nodes - 1
         → Valued l name text w s work work′ (record { answer = a; head = record { at = name .at; size = name .size; value = Sv.At m; spot = q .constant .at }; named = false })
     unfolding wordNo letters
-    value-read {m} i k sc n acts z st room = record {
+    value-read {m} i k sc n z st room = record {
       done = read;
       refused = λ f d. absurd (r .refused f d);
       full = λ d. omega (arith, r .full d, r .most, few, room, few-states (countsOf s) (st .within), few-counted (countsOf s) (st .within));
@@ -185,7 +187,7 @@ module _ {l : ℕ} {text : List ℕ} (name : Word) {w : Word} {s : State} {work 
         few : size ≤ 6
         few = few-records (stateConstant (lengthOf l) c) (not-longer l c (narrow text (q .constant) (y .constant) (y .kind)))
 
-        read : a .verdict ≡ Done → HeadRead text sc n l name (ask firstName ∷ ask stateRest ∷ []) (afterName name text) w s s acts work work′ (record { answer = a; head = record { at = name .at; size = name .size; value = Sv.At m; spot = q .constant .at }; named = false })
+        read : a .verdict ≡ Done → HeadRead text sc n l name (ask firstName ∷ ask stateRest ∷ []) (afterName name text) w s s work work′ (record { answer = a; head = record { at = name .at; size = name .size; value = Sv.At m; spot = q .constant .at }; named = false })
         read d = record {
           tree = tree;
           course = λ K b.
@@ -205,6 +207,7 @@ module _ {l : ℕ} {text : List ℕ} (name : Word) {w : Word} {s : State} {work 
           nodes = nodes;
           expressions = ap (λ (j : ℕ). frontOf j work′) nodes ∙ front-held (s .nodes) (s .nodes + size) work work′ (valueNodes (lengthOf l) (tree .value)) (r .held d);
           other = other;
+          actions = ap (λ (j : State). j .actions) state;
           standing = record {
             seen = subst (Seen text) (sym (r .word)) (y .seen);
             short = st .short;
@@ -213,7 +216,7 @@ module _ {l : ℕ} {text : List ℕ} (name : Word) {w : Word} {s : State} {work 
             known = known-kept work′ (others-other work work′ other) (st .known);
             facilities = st .facilities ∙ ap (λ (j : State). j .known) (sym state);
             nodes = omega (arith, nodes, few, room, ap (λ (j : State). j .counted) state, ap (λ (j : State). j .states) state);
-            actions = omega (arith, st .actions, ap (λ (j : State). j .counted) state);
+            actions = omega (arith, st .actions, ap (λ (j : State). j .counted) state, ap (λ (j : State). j .actions) state);
           };
         }
           where
@@ -253,11 +256,11 @@ taken {text} {w} {c = c} f d t = subst (λ (j : State). Took text w (countsOf j)
 
 module _ {l : ℕ} {text : List ℕ} {w : Word} {s : State} {work : List ℕ} {a : Answer} (f : Counted w s a) where
   pub head-not : {x : Head} → (a .verdict ≡ Done → ⊥) → Heads l text w s work work (record { answer = a; head = x; named = false })
-  head-not m sc n acts st = record { done = λ d. absurd (m d); refused = λ i d K b. f .refused i d text (st .seen) (st .within) K b; full = f .full }
+  head-not m sc n st = record { done = λ d. absurd (m d); refused = λ i d K b. f .refused i d text (st .seen) (st .within) K b; full = f .full }
 
   module _ (done : a .verdict ≡ Done) where
     pub head-plain : (kindNo (w .kind) ≡ aName → ⊥) → {x : Head} → PlainHead (w .at) 0 x → Heads l text w s work work (record { answer = a; head = x; named = false })
-    head-plain m {x} h = subst (λ (j : Answer). Heads l text w s work work (record { answer = j; head = x; named = false })) (sym (f .done done .0)) λ sc n acts st. record {
+    head-plain m {x} h = subst (λ (j : Answer). Heads l text w s work work (record { answer = j; head = x; named = false })) (sym (f .done done .0)) λ sc n st. record {
       done = λ d. record {
         tree = plainAt (positioned (w .at));
         course = λ K b. body-starts text w (st .seen) s K b m;
@@ -266,6 +269,7 @@ module _ {l : ℕ} {text : List ℕ} {w : Word} {s : State} {work : List ℕ} {a
         nodes = omega arith;
         expressions = front-none s work;
         other = refl;
+        actions = refl;
         standing = standing (f .done done .1) st;
       };
       refused = λ i d. done-refused d;
@@ -274,14 +278,14 @@ module _ {l : ℕ} {text : List ℕ} {w : Word} {s : State} {work : List ℕ} {a
 
     module _ (k : kindNo (w .kind) ≡ aName) {c : Answer} (t : Took text w (afterWord false Level (a .state)) (a .state) c) where
       pub name-not : {x : Head} → (c .verdict ≡ Done → ⊥) → Heads l text w s work work (record { answer = c; head = x; named = false })
-      name-not m sc n acts st = record {
+      name-not m sc n st = record {
         done = λ d. absurd (m d);
         refused = λ i d K b. name-starts text w (st .seen) s K b k ∙ took-refused (taken f done t) i d (ask firstName ∷ ask stateRest ∷ K) (afterName w text b);
         full = λ d. absurd (t .full d);
       }
 
       pub head-named : c .verdict ≡ Done → {r : Begun} {work′ : List ℕ} → AfterName l w text (c .next) (c .state) work work′ r → Heads l text w s work work′ r
-      head-named d {r} {work′} g sc n acts st = record {
+      head-named d {r} {work′} g sc n st = record {
         done = λ i. read (told .done i);
         refused = λ i h K b. to-name K b ∙ told .refused i h K b;
         full = told .full;
@@ -296,10 +300,10 @@ module _ {l : ℕ} {text : List ℕ} {w : Word} {s : State} {work : List ℕ} {a
           same-state : c .state ≡ moreStates s
           same-state = level-same p
 
-          told : Tells text (ask firstName ∷ ask stateRest ∷ []) (afterName w text) (c .next) (c .state) (r .answer) (HeadRead text sc n l w (ask firstName ∷ ask stateRest ∷ []) (afterName w text) (c .next) (c .state) (c .state) acts work work′ r)
-          told = g sc n acts (st .seen) (standing-passed false Level (standing (f .done done .1) st) p) (omega (arith, st .nodes, ap (λ (j : State). j .nodes) same-state, ap (λ (j : State). j .counted) same-state, ap (λ (j : State). j .states) same-state))
+          told : Tells text (ask firstName ∷ ask stateRest ∷ []) (afterName w text) (c .next) (c .state) (r .answer) (HeadRead text sc n l w (ask firstName ∷ ask stateRest ∷ []) (afterName w text) (c .next) (c .state) (c .state) work work′ r)
+          told = g sc n (st .seen) (standing-word false Level (standing (f .done done .1) st) p) (omega (arith, st .nodes, ap (λ (j : State). j .nodes) same-state, ap (λ (j : State). j .counted) same-state, ap (λ (j : State). j .states) same-state))
 
-          read : HeadRead text sc n l w (ask firstName ∷ ask stateRest ∷ []) (afterName w text) (c .next) (c .state) (c .state) acts work work′ r → HeadRead text sc n l w (ask stateStart ∷ []) same w s (moreStates s) acts work work′ r
+          read : HeadRead text sc n l w (ask firstName ∷ ask stateRest ∷ []) (afterName w text) (c .next) (c .state) (c .state) work work′ r → HeadRead text sc n l w (ask stateStart ∷ []) same w s (moreStates s) work work′ r
           read y = record {
             tree = y .tree;
             course = λ K b. to-name K b ∙ y .course K b;
@@ -308,5 +312,6 @@ module _ {l : ℕ} {text : List ℕ} {w : Word} {s : State} {work : List ℕ} {a
             nodes = y .nodes ∙ ap (λ (j : State). j .nodes + valueSize (lengthOf l) (y .tree .value)) same-state;
             expressions = y .expressions ∙ ap (λ (j : State). withNodes (frontOf (j .nodes) work) (valueNodes (lengthOf l) (y .tree .value))) same-state;
             other = y .other;
+            actions = y .actions ∙ ap (λ (j : State). j .actions) same-state;
             standing = y .standing;
           }

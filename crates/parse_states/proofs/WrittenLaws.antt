@@ -66,8 +66,8 @@ module _ (l : ℕ) where
 
 -- ---- States read one after the other.
 
-module _ {text : List ℕ} {sc : Scope} {l : ℕ} {xs ys : List T.State} {s s₁ s₂ : State} {acts acts₁ acts₂ : ℕ} {work work₁ work₂ : List ℕ} where
-  pub written-then : Written text sc l xs s acts work s₁ acts₁ work₁ → Written text sc l ys s₁ acts₁ work₁ s₂ acts₂ work₂ → Written text sc l (xs ++ ys) s acts work s₂ acts₂ work₂
+module _ {text : List ℕ} {sc : Scope} {l : ℕ} {xs ys : List T.State} {s s₁ s₂ : State} {work work₁ work₂ : List ℕ} where
+  pub written-then : Written text sc l xs s work s₁ work₁ → Written text sc l ys s₁ work₁ s₂ work₂ → Written text sc l (xs ++ ys) s work s₂ work₂
   written-then x y = record {
     nodes = omega (arith, x .nodes, y .nodes, size-append l xs ys);
     expressions =
@@ -75,15 +75,15 @@ module _ {text : List ℕ} {sc : Scope} {l : ℕ} {xs ys : List T.State} {s s₁
         ∙ ap (withNodes (frontOf (s .nodes) work)) (sym (nodes-of-append l sc (s .nodes) xs ys));
     count = omega (arith, x .count, y .count, actions-append l xs ys);
     actions =
-        y .actions ∙ rw (x .actions, x .nodes) (append-assoc (rows Tb.Actions acts work) (actionRecords (stateActions (lengthOf l) sc (s .nodes) xs)) (actionRecords (stateActions (lengthOf l) sc (s .nodes + statesSize l xs) ys)))
-        ∙ ap (λ (v : List ℕ). rows Tb.Actions acts work ++ v) (sym (ap actionRecords (actions-of-append l sc (s .nodes) xs ys) ∙ concat-append _ (stateActions (lengthOf l) sc (s .nodes) xs) (stateActions (lengthOf l) sc (s .nodes + statesSize l xs) ys)));
+        y .actions ∙ rw (x .actions, x .nodes) (append-assoc (rows Tb.Actions (s .actions) work) (actionRecords (stateActions (lengthOf l) sc (s .nodes) xs)) (actionRecords (stateActions (lengthOf l) sc (s .nodes + statesSize l xs) ys)))
+        ∙ ap (λ (v : List ℕ). rows Tb.Actions (s .actions) work ++ v) (sym (ap actionRecords (actions-of-append l sc (s .nodes) xs ys) ∙ concat-append _ (stateActions (lengthOf l) sc (s .nodes) xs) (stateActions (lengthOf l) sc (s .nodes + statesSize l xs) ys)));
     actionPlaces =
-        y .actionPlaces ∙ rw (x .actionPlaces, x .nodes) (append-assoc (rows Tb.ActionPlaces acts work) (actionBesides (stateActions (lengthOf l) sc (s .nodes) xs)) (actionBesides (stateActions (lengthOf l) sc (s .nodes + statesSize l xs) ys)))
-        ∙ ap (λ (v : List ℕ). rows Tb.ActionPlaces acts work ++ v) (sym (ap actionBesides (actions-of-append l sc (s .nodes) xs ys) ∙ concat-append _ (stateActions (lengthOf l) sc (s .nodes) xs) (stateActions (lengthOf l) sc (s .nodes + statesSize l xs) ys)));
+        y .actionPlaces ∙ rw (x .actionPlaces, x .nodes) (append-assoc (rows Tb.ActionPlaces (s .actions) work) (actionBesides (stateActions (lengthOf l) sc (s .nodes) xs)) (actionBesides (stateActions (lengthOf l) sc (s .nodes + statesSize l xs) ys)))
+        ∙ ap (λ (v : List ℕ). rows Tb.ActionPlaces (s .actions) work ++ v) (sym (ap actionBesides (actions-of-append l sc (s .nodes) xs ys) ∙ concat-append _ (stateActions (lengthOf l) sc (s .nodes) xs) (stateActions (lengthOf l) sc (s .nodes + statesSize l xs) ys)));
     number = omega (arith, x .number, y .number, length-append xs ys);
     records =
-        y .records ∙ rw (x .records, x .nodes, x .count) (append-assoc (rows Tb.States (s .states) work) (concat stateRecord (statesOf (lengthOf l) (s .nodes) acts xs)) (concat stateRecord (statesOf (lengthOf l) (s .nodes + statesSize l xs) (acts + statesActions xs) ys)))
-        ∙ ap (λ (v : List ℕ). rows Tb.States (s .states) work ++ v) (sym (ap (concat stateRecord) (states-append l (s .nodes) acts xs ys) ∙ concat-append stateRecord (statesOf (lengthOf l) (s .nodes) acts xs) (statesOf (lengthOf l) (s .nodes + statesSize l xs) (acts + statesActions xs) ys)));
+        y .records ∙ rw (x .records, x .nodes, x .count) (append-assoc (rows Tb.States (s .states) work) (concat stateRecord (statesOf (lengthOf l) (s .nodes) (s .actions) xs)) (concat stateRecord (statesOf (lengthOf l) (s .nodes + statesSize l xs) (s .actions + statesActions xs) ys)))
+        ∙ ap (λ (v : List ℕ). rows Tb.States (s .states) work ++ v) (sym (ap (concat stateRecord) (states-append l (s .nodes) (s .actions) xs ys) ∙ concat-append stateRecord (statesOf (lengthOf l) (s .nodes) (s .actions) xs) (statesOf (lengthOf l) (s .nodes + statesSize l xs) (s .actions + statesActions xs) ys)));
     places =
         y .places ∙ rw (x .places) (append-assoc (rows Tb.StatePlaces (s .states) work) (concat stateBeside xs) (concat stateBeside ys))
         ∙ ap (λ (v : List ℕ). rows Tb.StatePlaces (s .states) work ++ v) (sym (concat-append stateBeside xs ys));
@@ -93,14 +93,14 @@ module _ {text : List ℕ} {sc : Scope} {l : ℕ} {xs ys : List T.State} {s s₁
     tables = λ u e m h. y .tables u e m h ∙ x .tables u e m h;
   }
 
-pub written-none : (text : List ℕ) (sc : Scope) (l : ℕ) (s : State) (acts : ℕ) (work : List ℕ) → Written text sc l [] s acts work s acts work
+pub written-none : (text : List ℕ) (sc : Scope) (l : ℕ) (s : State) (work : List ℕ) → Written text sc l [] s work s work
 unfolding statesSize statesActions stateNodes stateActions statesOf concat
-written-none text sc l s acts work = record {
+written-none text sc l s work = record {
   nodes = omega arith;
   expressions = sym (nodes-none (frontOf (s .nodes) work));
   count = omega arith;
-  actions = sym (append-nil (rows Tb.Actions acts work));
-  actionPlaces = sym (append-nil (rows Tb.ActionPlaces acts work));
+  actions = sym (append-nil (rows Tb.Actions (s .actions) work));
+  actionPlaces = sym (append-nil (rows Tb.ActionPlaces (s .actions) work));
   number = omega arith;
   records = sym (append-nil (rows Tb.States (s .states) work));
   places = sym (append-nil (rows Tb.StatePlaces (s .states) work));

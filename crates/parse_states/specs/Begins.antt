@@ -20,7 +20,7 @@ use Rattle.text_words.specs.Meaning.{faulted}
 
 -- One state more.
 abbrev pub moreStates : State → State
-moreStates s = record { facilities = s .facilities; operations = s .operations; states = suc (s .states); counted = s .counted; nesting = s .nesting; nodes = s .nodes; known = s .known }
+moreStates s = record { facilities = s .facilities; operations = s .operations; states = suc (s .states); counted = s .counted; nesting = s .nesting; nodes = s .nodes; actions = s .actions; known = s .known }
 
 -- A state without label and value, before its actions.
 abbrev pub plainAt : Position → T.State

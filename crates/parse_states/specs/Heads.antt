@@ -92,7 +92,7 @@ headBuilt true name text b = afterName name text (withList T.done b)
 headBuilt false name text b = b
 
 -- From the stack P in the state s the machine comes to the head's end; s₁ is the state with this one counted.
-pub record HeadRead (text : List ℕ) (sc : Scope) (n : Counts) (l : ℕ) (name : Word) (P : Stack) (pre : Built → Built) (w : Word) (s s₁ : State) (acts : ℕ) (work work′ : List ℕ) (r : Begun) : Type 0 where
+pub record HeadRead (text : List ℕ) (sc : Scope) (n : Counts) (l : ℕ) (name : Word) (P : Stack) (pre : Built → Built) (w : Word) (s s₁ : State) (work work′ : List ℕ) (r : Begun) : Type 0 where
   pub tree : T.State
   pub course : (K : Stack) (b : Built) → runs text (P ++ K) w (pre b) s ≡ runs text (headStack (r .named) ++ K) (r .answer .next) (headBuilt (r .named) name text (opened tree b)) (r .answer .state)
   pub says : Says text l (s₁ .nodes) tree (r .head)
@@ -100,13 +100,14 @@ pub record HeadRead (text : List ℕ) (sc : Scope) (n : Counts) (l : ℕ) (name 
   pub nodes : r .answer .state .nodes ≡ s₁ .nodes + valueSize (lengthOf l) (tree .value)
   pub expressions : frontOf (r .answer .state .nodes) work′ ≡ withNodes (frontOf (s₁ .nodes) work) (valueNodes (lengthOf l) (tree .value))
   pub other : otherIn work′ ≡ otherIn work
-  pub standing : Standing text sc n (r .answer .next) (r .answer .state) acts work′
+  pub actions : r .answer .state .actions ≡ s₁ .actions
+  pub standing : Standing text sc n (r .answer .next) (r .answer .state) (r .answer .state .actions) work′
 
 -- Behind the name that a state begins with. Six records of its value are not yet written.
 abbrev pub AfterName : ℕ → Word → List ℕ → Word → State → List ℕ → List ℕ → Begun → Type 0
 AfterName l name text w s work work′ r =
-    (sc : Scope) (n : Counts) (acts : ℕ) → Seen text name → Standing text sc n w s acts work → s .nodes + 6 ≤ 7 * s .counted + 6 * s .states
-    → Tells text (ask firstName ∷ ask stateRest ∷ []) (afterName name text) w s (r .answer) (HeadRead text sc n l name (ask firstName ∷ ask stateRest ∷ []) (afterName name text) w s s acts work work′ r)
+    (sc : Scope) (n : Counts) → Seen text name → Standing text sc n w s (s .actions) work → s .nodes + 6 ≤ 7 * s .counted + 6 * s .states
+    → Tells text (ask firstName ∷ ask stateRest ∷ []) (afterName name text) w s (r .answer) (HeadRead text sc n l name (ask firstName ∷ ask stateRest ∷ []) (afterName name text) w s s work work′ r)
 
 -- The same by a parenthesis.
 abbrev pub Valued : ℕ → Word → List ℕ → Word → State → List ℕ → List ℕ → Begun → Type 0
@@ -114,5 +115,5 @@ Valued l name text w s work work′ r = kindNo (w .kind) ≡ openParen → After
 
 abbrev pub Heads : ℕ → List ℕ → Word → State → List ℕ → List ℕ → Begun → Type 0
 Heads l text w s work work′ r =
-    (sc : Scope) (n : Counts) (acts : ℕ) → Standing text sc n w s acts work
-    → Tells text (ask stateStart ∷ []) same w s (r .answer) (HeadRead text sc n l w (ask stateStart ∷ []) same w s (moreStates s) acts work work′ r)
+    (sc : Scope) (n : Counts) → Standing text sc n w s (s .actions) work
+    → Tells text (ask stateStart ∷ []) same w s (r .answer) (HeadRead text sc n l w (ask stateStart ∷ []) same w s (moreStates s) work work′ r)

@@ -3,6 +3,7 @@ use mathlib.Core.List.{List, [], _∷_, _++_}
 use mathlib.Core.Logic.{_⊎_}
 use mathlib.Core.Path.{_≡_}
 use Prim.Native.Nat.{ℕ, _+_}
+use Rattle.parse_step.specs.declared.Answer.{Answer}
 use Rattle.parse_step.specs.declared.State.{State}
 use Rattle.parse_step.specs.declared.Verdict.the-variants as Vd
 use Rattle.parse_step.specs.Course.{Seen, Stack, kindNo, runs}
@@ -14,7 +15,6 @@ use Rattle.language.specs.Tree as T
 use Rattle.language.specs.Tree.{Text}
 use Rattle.parse_names.specs.declared.Counts.{Counts}
 use Rattle.parse_stores.specs.Actions.{Standing}
-use Rattle.parse_stores.specs.declared.Acted.{Acted}
 use Rattle.text_words.specs.declared.Fault.{Fault}
 use Rattle.text_words.specs.declared.Word.{Word}
 use Rattle.text_words.specs.Meaning.{faulted}
@@ -26,41 +26,40 @@ abbrev pub moreOf : List T.State → Text → Text
 moreOf ts t = record { registers = t .registers; memories = t .memories; terminals = t .terminals; operations = t .operations; states = t .states ++ ts }
 
 -- From the stack P the machine comes to the stack Q with some states more.
-pub record SomeRead (text : List ℕ) (sc : Scope) (n : Counts) (l : ℕ) (P Q : Stack) (w : Word) (s : State) (acts : ℕ) (work : List ℕ) (next : Word) (state : State) (acts′ : ℕ) (work′ : List ℕ) : Type 0 where
+pub record SomeRead (text : List ℕ) (sc : Scope) (n : Counts) (l : ℕ) (P Q : Stack) (w : Word) (s : State) (work : List ℕ) (next : Word) (state : State) (work′ : List ℕ) : Type 0 where
   pub trees : List T.State
   pub course : (K : Stack) (b : Built) → runs text (P ++ K) w b s ≡ runs text (Q ++ K) next (withText b (moreOf trees (b .text))) state
-  pub written : Written text sc l trees s acts work state acts′ work′
-  pub standing : Standing text sc n next state acts′ work′
+  pub written : Written text sc l trees s work state work′
+  pub standing : Standing text sc n next state (state .actions) work′
 
 -- One state, and it is counted.
-abbrev pub One : ℕ → List ℕ → Counts → Word → State → ℕ → List ℕ → List ℕ → Acted → Type 0
-One l text n w s acts work work′ r =
-    (sc : Scope) → Standing text sc n w s acts work
-    → Tells text (ask stateStart ∷ []) same w s (r .answer) (SomeRead text sc n l (ask stateStart ∷ []) [] w s acts work (r .answer .next) (r .answer .state) (r .actions) work′ × (r .answer .state .states ≡ s .states + 1))
+abbrev pub One : ℕ → List ℕ → Counts → Word → State → List ℕ → List ℕ → Answer → Type 0
+One l text n w s work work′ r =
+    (sc : Scope) → Standing text sc n w s (s .actions) work
+    → Tells text (ask stateStart ∷ []) same w s r (SomeRead text sc n l (ask stateStart ∷ []) [] w s work (r .next) (r .state) work′ × (r .state .states ≡ s .states + 1))
 
 -- ---- The end of the text.
 
 -- From the stack P, with nothing below it, the machine takes the rest of the text.
-pub record AllRead (text : List ℕ) (sc : Scope) (n : Counts) (l : ℕ) (P : Stack) (w : Word) (s : State) (acts : ℕ) (work work′ : List ℕ) (r : Acted) : Type 0 where
+pub record AllRead (text : List ℕ) (sc : Scope) (n : Counts) (l : ℕ) (P : Stack) (w : Word) (s : State) (work work′ : List ℕ) (r : Answer) : Type 0 where
   pub trees : List T.State
   pub course : (b : Built) → runs text P w b s ≡ parsed (withText b (moreOf trees (b .text)))
-  pub written : Written text sc l trees s acts work (r .answer .state) (r .actions) work′
-  pub standing : Standing text sc n (r .answer .next) (r .answer .state) (r .actions) work′
+  pub written : Written text sc l trees s work (r .state) work′
+  pub standing : Standing text sc n (r .next) (r .state) (r .state .actions) work′
 
-pub record Ends (text : List ℕ) (P : Stack) (w : Word) (s : State) (r : Acted) (Read : Type 0) : Type 0 where
-  pub done : r .answer .verdict ≡ Vd.Done → Read
-  pub refused : (f : Fault) → r .answer .verdict ≡ Vd.Refused f → (b : Built) → runs text P w b s ≡ refused (faulted f)
-  pub full : r .answer .verdict ≡ Vd.Full → ⊥
+pub record Ends (text : List ℕ) (P : Stack) (w : Word) (s : State) (r : Answer) (Read : Type 0) : Type 0 where
+  pub done : r .verdict ≡ Vd.Done → Read
+  pub refused : (f : Fault) → r .verdict ≡ Vd.Refused f → (b : Built) → runs text P w b s ≡ refused (faulted f)
+  pub full : r .verdict ≡ Vd.Full → ⊥
 
 -- Nothing more of the text was read than the words that end it.
-pub record Ended (text : List ℕ) (P : Stack) (w : Word) (s : State) (acts : ℕ) (r : Acted) : Type 0 where
+pub record Ended (text : List ℕ) (P : Stack) (w : Word) (s : State) (r : Answer) : Type 0 where
   pub course : (b : Built) → runs text P w b s ≡ parsed b
-  pub state : r .answer .state ≡ s
-  pub count : r .actions ≡ acts
-  pub seen : Seen text (r .answer .next)
+  pub state : r .state ≡ s
+  pub seen : Seen text (r .next)
 
-abbrev pub Finish : Stack → List ℕ → Word → State → ℕ → Acted → Type 0
-Finish P text w s acts r = (sc : Scope) (n : Counts) (work : List ℕ) → Standing text sc n w s acts work → Ends text P w s r (Ended text P w s acts r)
+abbrev pub Finish : Stack → List ℕ → Word → State → Answer → Type 0
+Finish P text w s r = (sc : Scope) (n : Counts) (work : List ℕ) → Standing text sc n w s (s .actions) work → Ends text P w s r (Ended text P w s r)
 
 -- A word behind which the text ends.
 abbrev pub Ending : Word → Type 0
@@ -72,6 +71,6 @@ moreStack = ask statesMore ∷ ask dollarOption ∷ []
 abbrev pub startStack : Stack
 startStack = ask stateStart ∷ moreStack
 
-abbrev pub All : Stack → ℕ → List ℕ → Counts → Word → State → ℕ → List ℕ → List ℕ → Acted → Type 0
-All P l text n w s acts work work′ r =
-    (sc : Scope) → Standing text sc n w s acts work → Ends text P w s r (AllRead text sc n l P w s acts work work′ r)
+abbrev pub All : Stack → ℕ → List ℕ → Counts → Word → State → List ℕ → List ℕ → Answer → Type 0
+All P l text n w s work work′ r =
+    (sc : Scope) → Standing text sc n w s (s .actions) work → Ends text P w s r (AllRead text sc n l P w s work work′ r)

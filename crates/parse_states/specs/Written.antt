@@ -46,14 +46,14 @@ abbrev pub OthersKept : List ℕ → List ℕ → Type 0
 OthersKept work work′ =
     (u : Table) → apartFrom u (Tb.Actions ∷ Tb.ActionPlaces ∷ Tb.States ∷ Tb.StatePlaces ∷ Tb.Labels ∷ []) ≡ true → (m : ℕ) → m ≤ most u → rows u m work′ ≡ rows u m work
 
-pub record Written (text : List ℕ) (sc : Scope) (l : ℕ) (ts : List T.State) (s : State) (acts : ℕ) (work : List ℕ) (s′ : State) (acts′ : ℕ) (work′ : List ℕ) : Type 0 where
+pub record Written (text : List ℕ) (sc : Scope) (l : ℕ) (ts : List T.State) (s : State) (work : List ℕ) (s′ : State) (work′ : List ℕ) : Type 0 where
   pub nodes : s′ .nodes ≡ s .nodes + statesSize l ts
   pub expressions : frontOf (s′ .nodes) work′ ≡ withNodes (frontOf (s .nodes) work) (stateNodes (lengthOf l) sc (s .nodes) ts)
-  pub count : acts′ ≡ acts + statesActions ts
-  pub actions : rows Tb.Actions acts′ work′ ≡ rows Tb.Actions acts work ++ actionRecords (stateActions (lengthOf l) sc (s .nodes) ts)
-  pub actionPlaces : rows Tb.ActionPlaces acts′ work′ ≡ rows Tb.ActionPlaces acts work ++ actionBesides (stateActions (lengthOf l) sc (s .nodes) ts)
+  pub count : s′ .actions ≡ s .actions + statesActions ts
+  pub actions : rows Tb.Actions (s′ .actions) work′ ≡ rows Tb.Actions (s .actions) work ++ actionRecords (stateActions (lengthOf l) sc (s .nodes) ts)
+  pub actionPlaces : rows Tb.ActionPlaces (s′ .actions) work′ ≡ rows Tb.ActionPlaces (s .actions) work ++ actionBesides (stateActions (lengthOf l) sc (s .nodes) ts)
   pub number : s′ .states ≡ s .states + length ts
-  pub records : rows Tb.States (s′ .states) work′ ≡ rows Tb.States (s .states) work ++ concat stateRecord (statesOf (lengthOf l) (s .nodes) acts ts)
+  pub records : rows Tb.States (s′ .states) work′ ≡ rows Tb.States (s .states) work ++ concat stateRecord (statesOf (lengthOf l) (s .nodes) (s .actions) ts)
   pub places : rows Tb.StatePlaces (s′ .states) work′ ≡ rows Tb.StatePlaces (s .states) work ++ concat stateBeside ts
   pub labels : namesOf text (rows Tb.Labels (s′ .states) work′) (s′ .states) ≡ namesOf text (rows Tb.Labels (s .states) work) (s .states) ++ labelsOf ts
   pub tables : OthersKept work work′

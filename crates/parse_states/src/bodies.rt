@@ -1,11 +1,11 @@
 // The actions of a state, separated by commas, and the `/` that ends it.
 use parse_array::Work;
 use parse_names::Counts;
+use parse_step::Answer;
 use parse_step::Bearing;
 use parse_step::State;
 use parse_step::kinds;
 use parse_step::taking;
-use parse_stores::Acted;
 use text_words::Word;
 ghost use Rattle.parse_states.specs.Bodies.{Bodies, Firsts, Lists, Rests, Stands};
 
@@ -18,47 +18,37 @@ fn first(
     w: Word,
     work: &mut Work,
     n: Counts,
-    acts: u16,
-) -> Acted
-    ensures { λ r. ⌜ Firsts named name (now (text .entry)) n w s acts (now (work .entry)) (now (work .exit)) r ⌝ }
+) -> Answer
+    ensures { λ r. ⌜ Firsts named name (now (text .entry)) n w s (now (work .entry)) (now (work .exit)) r ⌝ }
 {
     if named {
-        return parse_stores::named_in_state(s, name, text, w, work, n, acts);
+        return parse_stores::named_in_state(s, name, text, w, work, n);
     }
-    parse_actions::action(s, true, text, w, work, n, acts)
+    parse_actions::action(s, true, text, w, work, n)
 }
 
 // Behind an action: a comma and another, or the `/`. Each counts a word, so that there are not too many.
-fn rest(s: State, text: &[u8], w: Word, work: &mut Work, n: Counts, acts: u16) -> Acted
-    requires { ⌜ Stands (now text) n w s acts (now work) ⌝ }
-    ensures { λ r. ⌜ Rests (now (text .entry)) n w s acts (now (work .entry)) (now (work .exit)) r ⌝ }
+fn rest(s: State, text: &[u8], w: Word, work: &mut Work, n: Counts) -> Answer
+    requires { ⌜ Stands (now text) n w s (now work) ⌝ }
+    ensures { λ r. ⌜ Rests (now (text .entry)) n w s (now (work .entry)) (now (work .exit)) r ⌝ }
 {
     let mut next = w;
     let mut state = s;
-    let mut after = acts;
     loop {
         let kind = next.kind;
         if kinds::number(kind) != text_kinds::COMMA {
-            let answer = taking::expect(text, next, state, text_kinds::SLASH, Bearing::Level);
-            return Acted {
-                answer,
-                actions: after,
-            };
+            return taking::expect(text, next, state, text_kinds::SLASH, Bearing::Level);
         }
         let comma = taking::take(text, next, state, false, Bearing::Level);
         if parse_step::unread(comma) {
-            return Acted {
-                answer: comma,
-                actions: after,
-            };
+            return comma;
         }
-        let another = parse_actions::action(comma.state, true, text, comma.next, work, n, after);
-        if parse_step::unread(another.answer) {
+        let another = parse_actions::action(comma.state, true, text, comma.next, work, n);
+        if parse_step::unread(another) {
             return another;
         }
-        next = another.answer.next;
-        state = another.answer.state;
-        after = another.actions;
+        next = another.next;
+        state = another.state;
     }
 }
 
@@ -71,23 +61,15 @@ fn list(
     w: Word,
     work: &mut Work,
     n: Counts,
-    acts: u16,
-) -> Acted
-    requires { ⌜ Stands (now text) n w s acts (now work) ⌝ }
-    ensures { λ r. ⌜ Lists named name (now (text .entry)) n w s acts (now (work .entry)) (now (work .exit)) r ⌝ }
+) -> Answer
+    requires { ⌜ Stands (now text) n w s (now work) ⌝ }
+    ensures { λ r. ⌜ Lists named name (now (text .entry)) n w s (now (work .entry)) (now (work .exit)) r ⌝ }
 {
-    let one = first(s, named, name, text, w, work, n, acts);
-    if parse_step::unread(one.answer) {
+    let one = first(s, named, name, text, w, work, n);
+    if parse_step::unread(one) {
         return one;
     }
-    rest(
-        one.answer.state,
-        text,
-        one.answer.next,
-        work,
-        n,
-        one.actions,
-    )
+    rest(one.state, text, one.next, work, n)
 }
 
 // The actions of a state, of which the first one's name was taken or not; there may be none.
@@ -99,21 +81,16 @@ pub fn body(
     w: Word,
     work: &mut Work,
     n: Counts,
-    acts: u16,
-) -> Acted
-    requires { ⌜ Stands (now text) n w s acts (now work) ⌝ }
-    ensures { λ r. ⌜ Bodies named name (now (text .entry)) n w s acts (now (work .entry)) (now (work .exit)) r ⌝ }
+) -> Answer
+    requires { ⌜ Stands (now text) n w s (now work) ⌝ }
+    ensures { λ r. ⌜ Bodies named name (now (text .entry)) n w s (now (work .entry)) (now (work .exit)) r ⌝ }
 {
     if named {
-        return list(s, true, name, text, w, work, n, acts);
+        return list(s, true, name, text, w, work, n);
     }
     let kind = w.kind;
     if kinds::number(kind) == text_kinds::SLASH {
-        let answer = taking::take(text, w, s, false, Bearing::Level);
-        return Acted {
-            answer,
-            actions: acts,
-        };
+        return taking::take(text, w, s, false, Bearing::Level);
     }
-    list(s, false, name, text, w, work, n, acts)
+    list(s, false, name, text, w, work, n)
 }

@@ -52,6 +52,7 @@ fn count(w: Word, s: State) -> Answer
             counted: s.counted,
             nesting: s.nesting,
             nodes: s.nodes,
+            actions: s.actions,
             known: s.known,
         };
         return Answer {

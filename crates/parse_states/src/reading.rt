@@ -5,25 +5,21 @@ use crate::ends;
 use crate::heads;
 use parse_array::Work;
 use parse_names::Counts;
+use parse_step::Answer;
 use parse_step::State;
 use parse_step::kinds;
-use parse_stores::Acted;
 use text_words::Word;
 ghost use Rattle.parse_states.specs.Bodies.{Stands};
 ghost use Rattle.parse_states.specs.States.{All, One, moreStack, startStack};
 
 // One state; l is the length of the sequencing register, and 0 where there is none.
-fn one(s: State, text: &[u8], w: Word, work: &mut Work, n: Counts, acts: u16, l: u16) -> Acted
-    requires { ⌜ Stands (now text) n w s acts (now work) ⌝ }
-    ensures { λ r. ⌜ One l (now (text .entry)) n w s acts (now (work .entry)) (now (work .exit)) r ⌝ }
+fn one(s: State, text: &[u8], w: Word, work: &mut Work, n: Counts, l: u16) -> Answer
+    requires { ⌜ Stands (now text) n w s (now work) ⌝ }
+    ensures { λ r. ⌜ One l (now (text .entry)) n w s (now (work .entry)) (now (work .exit)) r ⌝ }
 {
     let begun = heads::head(text, w, work, s, l);
     if parse_step::unread(begun.answer) {
-        let answer = begun.answer;
-        return Acted {
-            answer,
-            actions: acts,
-        };
+        return begun.answer;
     }
     let read = bodies::body(
         begun.answer.state,
@@ -33,68 +29,49 @@ fn one(s: State, text: &[u8], w: Word, work: &mut Work, n: Counts, acts: u16, l:
         begun.answer.next,
         work,
         n,
-        acts,
     );
-    if parse_step::unread(read.answer) {
+    if parse_step::unread(read) {
         return read;
     }
     let head = begun.head;
-    let actions = closing::run(acts, read.actions);
+    let actions = closing::run(s.actions, read.state.actions);
     closing::close(work, s.states, head, actions);
     read
 }
 
 // Behind a state: others, and the end of the text. Each is counted, so that there are not too many.
-fn more(s: State, text: &[u8], w: Word, work: &mut Work, n: Counts, acts: u16, l: u16) -> Acted
-    requires { ⌜ Stands (now text) n w s acts (now work) ⌝ }
-    ensures { λ r. ⌜ All moreStack l (now (text .entry)) n w s acts (now (work .entry)) (now (work .exit)) r ⌝ }
+fn more(s: State, text: &[u8], w: Word, work: &mut Work, n: Counts, l: u16) -> Answer
+    requires { ⌜ Stands (now text) n w s (now work) ⌝ }
+    ensures { λ r. ⌜ All moreStack l (now (text .entry)) n w s (now (work .entry)) (now (work .exit)) r ⌝ }
 {
     let mut next = w;
     let mut state = s;
-    let mut after = acts;
     loop {
         let kind = next.kind;
         let k = kinds::number(kind);
         if k == text_kinds::PERIOD {
-            return ends::ended(text, next, state, after);
+            return ends::ended(text, next, state);
         }
         if k == text_kinds::END {
-            return ends::ended(text, next, state, after);
+            return ends::ended(text, next, state);
         }
-        let another = one(state, text, next, work, n, after, l);
-        if parse_step::unread(another.answer) {
+        let another = one(state, text, next, work, n, l);
+        if parse_step::unread(another) {
             return another;
         }
-        next = another.answer.next;
-        state = another.answer.state;
-        after = another.actions;
+        next = another.next;
+        state = another.state;
     }
 }
 
 // All states, to the end of the text.
-pub fn states(
-    s: State,
-    text: &[u8],
-    w: Word,
-    work: &mut Work,
-    n: Counts,
-    acts: u16,
-    l: u16,
-) -> Acted
-    requires { ⌜ Stands (now text) n w s acts (now work) ⌝ }
-    ensures { λ r. ⌜ All startStack l (now (text .entry)) n w s acts (now (work .entry)) (now (work .exit)) r ⌝ }
+pub fn states(s: State, text: &[u8], w: Word, work: &mut Work, n: Counts, l: u16) -> Answer
+    requires { ⌜ Stands (now text) n w s (now work) ⌝ }
+    ensures { λ r. ⌜ All startStack l (now (text .entry)) n w s (now (work .entry)) (now (work .exit)) r ⌝ }
 {
-    let first = one(s, text, w, work, n, acts, l);
-    if parse_step::unread(first.answer) {
+    let first = one(s, text, w, work, n, l);
+    if parse_step::unread(first) {
         return first;
     }
-    more(
-        first.answer.state,
-        text,
-        first.answer.next,
-        work,
-        n,
-        first.actions,
-        l,
-    )
+    more(first.state, text, first.next, work, n, l)
 }

@@ -6,4 +6,5 @@ pub mod NodeGained
 pub mod Omitted
 pub mod Paying
 pub mod Saying
+pub mod States
 pub mod TakenWords

@@ -19,7 +19,7 @@ use Rattle.parse_step.proofs.Answers.{done-full, done-refused, refused-
 use Rattle.parse_step.proofs.Ceilings.{few-counted}
 
 pub pays-refl : (s : State) → Pays 0 0 s s
-pays-refl s = record { facilities = refl; operations = refl; states = refl; known = refl; counted = omega arith; ceiling = λ h. h; nodes = omega arith }
+pays-refl s = record { facilities = refl; operations = refl; states = refl; actions = refl; known = refl; counted = omega arith; ceiling = λ h. h; nodes = omega arith }
 
 -- What the first leaves over helps to pay for the second.
 pub pays-on : {a b c d p l : ℕ} {s t u : State} → Pays a b s t → Pays c d t u → a + c + l ≤ b + d + p → Pays p l s u
@@ -27,6 +27,7 @@ pays-on x y h = record {
   facilities = y .facilities ∙ x .facilities;
   operations = y .operations ∙ x .operations;
   states = y .states ∙ x .states;
+  actions = y .actions ∙ x .actions;
   known = y .known ∙ x .known;
   counted = omega (arith, x .counted, y .counted);
   ceiling = λ k. y .ceiling (x .ceiling k);
@@ -34,9 +35,9 @@ pays-on x y h = record {
 }
 
 -- A state that differs in nesting and in what was written.
-pub nodes-paid : {s s′ : State} {m n p l : ℕ} → s′ ≡ record { facilities = s .facilities; operations = s .operations; states = s .states; counted = s .counted; nesting = m; nodes = n; known = s .known }
+pub nodes-paid : {s s′ : State} {m n p l : ℕ} → s′ ≡ record { facilities = s .facilities; operations = s .operations; states = s .states; counted = s .counted; nesting = m; nodes = n; actions = s .actions; known = s .known }
     → n + l ≤ s .nodes + p → Pays p l s s′
-nodes-paid {s} e h = rw e (record { facilities = refl; operations = refl; states = refl; known = refl; counted = omega arith; ceiling = λ k. k; nodes = omega (arith, h) })
+nodes-paid {s} e h = rw e (record { facilities = refl; operations = refl; states = refl; actions = refl; known = refl; counted = omega arith; ceiling = λ k. k; nodes = omega (arith, h) })
 
 -- ---- Parsing that goes on.
 
@@ -52,7 +53,7 @@ module _ {text : List ℕ} {w : Word} {s : State} where
   comes-as {s₁ = s₁} f h z = let x = f z in record { pays = pays-on (x .pays) (pays-refl s₁) (omega (arith, h)); seen = x .seen }
 
   -- Another nesting costs nothing.
-  pub nests : {n : ℕ} {s′ : State} → s′ ≡ record { facilities = s .facilities; operations = s .operations; states = s .states; counted = s .counted; nesting = n; nodes = s .nodes; known = s .known }
+  pub nests : {n : ℕ} {s′ : State} → s′ ≡ record { facilities = s .facilities; operations = s .operations; states = s .states; counted = s .counted; nesting = n; nodes = s .nodes; actions = s .actions; known = s .known }
       → Seen text w → Comes text 0 0 s w s′
   nests e z = record { pays = nodes-paid e (omega arith); seen = z }
 
@@ -94,6 +95,7 @@ passes {s} {s′} {m} {n} f e k g h =
       facilities = ap (λ (c : Counts). c .facilities) e;
       operations = ap (λ (c : Counts). c .operations) e;
       states = ap (λ (c : Counts). c .states) e;
+      actions = k .actions;
       known = k .known;
       counted = omega (arith, q, g);
       ceiling = λ x. omega (arith, few-counted (counts5 s m n) f, q);

@@ -70,9 +70,9 @@ pub followed : {text : List ℕ} {w n : Word} (end : ℕ) → (w .at .place + w 
 followed {w = w} end g x = record { words = λ z. next-ahead w end (g (z .next .within)) x; seen = next-seen end x }
 
 pub went-on : {w n : Word} {s : State} {c : Counts} (counted nesting : ℕ) → withinCeilings c ≡ true → c ≡ counts5 s counted nesting → nesting ≤ 24
-    → Went w n c s (record { verdict = Done; next = n; state = record { facilities = s .facilities; operations = s .operations; states = s .states; counted = counted; nesting = nesting; nodes = s .nodes; known = s .known } })
+    → Went w n c s (record { verdict = Done; next = n; state = record { facilities = s .facilities; operations = s .operations; states = s .states; counted = counted; nesting = nesting; nodes = s .nodes; actions = s .actions; known = s .known } })
 went-on counted nesting f e d = record {
-  done = λ q. record { fits = f; counts = sym e; deep = d; kept = record { nodes = refl; known = refl }; word = refl };
+  done = λ q. record { fits = f; counts = sym e; deep = d; kept = record { nodes = refl; actions = refl; known = refl }; word = refl };
   refused = λ g q. done-refused q;
   full = λ q. done-full q;
 }

@@ -12,7 +12,10 @@ use Rattle.parse_step.specs.declared.State.{State}
 use Rattle.parse_step.specs.declared.Verdict.the-variants.{Done, Full, Refused}
 
 abbrev pub withNodeCount : State → ℕ → State
-withNodeCount s n = record { facilities = s .facilities; operations = s .operations; states = s .states; counted = s .counted; nesting = s .nesting; nodes = n; known = s .known }
+withNodeCount s n = record { facilities = s .facilities; operations = s .operations; states = s .states; counted = s .counted; nesting = s .nesting; nodes = n; actions = s .actions; known = s .known }
+
+abbrev pub withActionCount : State → ℕ → State
+withActionCount s n = record { facilities = s .facilities; operations = s .operations; states = s .states; counted = s .counted; nesting = s .nesting; nodes = s .nodes; actions = n; known = s .known }
 
 -- A record of these bytes behind the others, and the next word as it was.
 pub record Behind (next : Word) (s : State) (bs ps w w′ : List ℕ) (r : Answer) : Type 0 where
@@ -39,7 +42,7 @@ pub record Written (ns : List Noted) (size : ℕ) (next : Word) (s : State) (w w
 
 -- One less is open.
 abbrev pub easedState : State → State
-easedState s = record { facilities = s .facilities; operations = s .operations; states = s .states; counted = s .counted; nesting = s .nesting - 1; nodes = s .nodes; known = s .known }
+easedState s = record { facilities = s .facilities; operations = s .operations; states = s .states; counted = s .counted; nesting = s .nesting - 1; nodes = s .nodes; actions = s .actions; known = s .known }
 
 -- Where it is done, records were written, and no more than there is room for.
 abbrev pub Grows : State → Answer → Type 0

@@ -8,11 +8,12 @@ use Rattle.parse_step.specs.declared.State.{State}
 use Rattle.parse_step.specs.declared.Verdict.the-variants.{Done, Full}
 use Rattle.parse_step.specs.Course.{Seen}
 
--- Other counts are kept; counted words stay within their ceiling; records are paid for by the words counted and `pay` besides, and `left` of that is left over.
+-- Other counts are kept, and the records of actions; counted words stay within their ceiling; records are paid for by the words counted and `pay` besides, and `left` of that is left over.
 pub record Pays (pay left : ℕ) (s s′ : State) : Type 0 where
   pub facilities : s′ .facilities ≡ s .facilities
   pub operations : s′ .operations ≡ s .operations
   pub states : s′ .states ≡ s .states
+  pub actions : s′ .actions ≡ s .actions
   pub known : s′ .known ≡ s .known
   pub counted : s .counted ≤ s′ .counted
   pub ceiling : s .counted ≤ 2048 → s′ .counted ≤ 2048

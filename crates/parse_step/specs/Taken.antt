@@ -35,6 +35,7 @@ pub record Refuses (w : Word) (n : ℕ) (r : Answer) : Type 0 where
 -- Facilities known and records written are as they were.
 pub record Kept (s s′ : State) : Type 0 where
   pub nodes : s′ .nodes ≡ s .nodes
+  pub actions : s′ .actions ≡ s .actions
   pub known : s′ .known ≡ s .known
 
 -- The word behind w.

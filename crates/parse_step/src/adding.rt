@@ -16,7 +16,7 @@ ghost use Rattle.image_records.specs.Nodes.{meant};
 ghost use Rattle.value_operators.specs.Meaning.{valued};
 ghost use Rattle.text_words.specs.Meaning.{positioned};
 ghost use Rattle.parse_array.specs.Held.{fields};
-ghost use Rattle.parse_step.specs.Gained.{Gained, Written, easedState, withNodeCount};
+ghost use Rattle.parse_step.specs.Gained.{Gained, Written, easedState, withActionCount, withNodeCount};
 
 // The number of the last of n records.
 pub fn last(n: u16) -> u16
@@ -36,6 +36,23 @@ pub fn with_nodes(s: State, nodes: u16) -> State
         counted: s.counted,
         nesting: s.nesting,
         nodes,
+        actions: s.actions,
+        known: s.known,
+    }
+}
+
+// The same state with another number of action records.
+pub fn with_actions(s: State, actions: u16) -> State
+    ensures { λ r. ⌜ r ≡ withActionCount s actions ⌝ }
+{
+    State {
+        facilities: s.facilities,
+        operations: s.operations,
+        states: s.states,
+        counted: s.counted,
+        nesting: s.nesting,
+        nodes: s.nodes,
+        actions,
         known: s.known,
     }
 }
@@ -92,6 +109,7 @@ pub fn eased(s: State) -> State
         counted: s.counted,
         nesting: last(s.nesting),
         nodes: s.nodes,
+        actions: s.actions,
         known: s.known,
     }
 }

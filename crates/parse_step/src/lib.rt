@@ -9,7 +9,7 @@ pub mod adding;
 pub mod kinds;
 pub mod taking;
 
-// The counts of the grammar's machine; how many expression records are written, and how many facilities are known.
+// The counts of the grammar's machine; how many records of expressions and of actions are written, and how many facilities are known.
 pub struct State {
     pub facilities: u16,
     pub operations: u16,
@@ -17,6 +17,7 @@ pub struct State {
     pub counted: u16,
     pub nesting: u16,
     pub nodes: u16,
+    pub actions: u16,
     pub known: u16,
 }
 

@@ -106,6 +106,7 @@ pub fn pass(w: Word, next: Word, s: State, counts: bool, bearing: Bearing) -> An
             counted: counted as u16,
             nesting: nesting as u16,
             nodes: s.nodes,
+            actions: s.actions,
             known: s.known,
         };
         return Answer {

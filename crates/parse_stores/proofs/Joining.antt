@@ -106,8 +106,8 @@ pub grown-two : (a c : Actions) (b : Built) → grown c (grown a b) ≡ grown (j
 unfolding listNo
 grown-two a c b = rw (joined-assoc (listNo 0 b) a c)
 
-module _ {sc : Scope} {a b : Actions} {s s₁ s₂ : State} {acts acts₁ acts₂ : ℕ} {work work₁ work₂ : List ℕ} where
-  pub written-then : Written sc a s acts work s₁ acts₁ work₁ → Written sc b s₁ acts₁ work₁ s₂ acts₂ work₂ → Written sc (joined a b) s acts work s₂ acts₂ work₂
+module _ {sc : Scope} {a b : Actions} {s s₁ s₂ : State} {work work₁ work₂ : List ℕ} where
+  pub written-then : Written sc a s work s₁ work₁ → Written sc b s₁ work₁ s₂ work₂ → Written sc (joined a b) s work s₂ work₂
   written-then x y = record {
     nodes = omega (arith, x .nodes, y .nodes, expressions-joined a b);
     expressions =
@@ -115,15 +115,15 @@ module _ {sc : Scope} {a b : Actions} {s s₁ s₂ : State} {acts acts₁ acts�
         ∙ ap (withNodes (frontOf (s .nodes) work)) (sym (nodes-joined sc (s .nodes) a b));
     count = omega (arith, x .count, y .count, actions-joined a b);
     records =
-        y .records ∙ rw (x .records, x .nodes) (append-assoc (rows Tb.Actions acts work) (actionRecords (actionsOf sc (s .nodes) a)) (actionRecords (actionsOf sc (s .nodes + expressionsIn a) b)))
-        ∙ ap (λ (l : List ℕ). rows Tb.Actions acts work ++ l) (sym (ap actionRecords (records-joined sc (s .nodes) a b) ∙ bytes-append _ (actionsOf sc (s .nodes) a) (actionsOf sc (s .nodes + expressionsIn a) b)));
+        y .records ∙ rw (x .records, x .nodes) (append-assoc (rows Tb.Actions (s .actions) work) (actionRecords (actionsOf sc (s .nodes) a)) (actionRecords (actionsOf sc (s .nodes + expressionsIn a) b)))
+        ∙ ap (λ (l : List ℕ). rows Tb.Actions (s .actions) work ++ l) (sym (ap actionRecords (records-joined sc (s .nodes) a b) ∙ bytes-append _ (actionsOf sc (s .nodes) a) (actionsOf sc (s .nodes + expressionsIn a) b)));
     places =
-        y .places ∙ rw (x .places, x .nodes) (append-assoc (rows Tb.ActionPlaces acts work) (actionBesides (actionsOf sc (s .nodes) a)) (actionBesides (actionsOf sc (s .nodes + expressionsIn a) b)))
-        ∙ ap (λ (l : List ℕ). rows Tb.ActionPlaces acts work ++ l) (sym (ap actionBesides (records-joined sc (s .nodes) a b) ∙ bytes-append _ (actionsOf sc (s .nodes) a) (actionsOf sc (s .nodes + expressionsIn a) b)));
+        y .places ∙ rw (x .places, x .nodes) (append-assoc (rows Tb.ActionPlaces (s .actions) work) (actionBesides (actionsOf sc (s .nodes) a)) (actionBesides (actionsOf sc (s .nodes + expressionsIn a) b)))
+        ∙ ap (λ (l : List ℕ). rows Tb.ActionPlaces (s .actions) work ++ l) (sym (ap actionBesides (records-joined sc (s .nodes) a b) ∙ bytes-append _ (actionsOf sc (s .nodes) a) (actionsOf sc (s .nodes + expressionsIn a) b)));
     tables = λ u e m h. y .tables u e m h ∙ x .tables u e m h;
   }
 
-pub paid-then : {s s₁ s₂ : State} {acts acts₁ acts₂ : ℕ} → Paid s acts s₁ acts₁ → Paid s₁ acts₁ s₂ acts₂ → Paid s acts s₂ acts₂
+pub paid-then : {s s₁ s₂ : State} {acts : ℕ} → Paid s acts s₁ → Paid s₁ (s₁ .actions) s₂ → Paid s acts s₂
 paid-then x y = record {
   facilities = y .facilities ∙ x .facilities;
   operations = y .operations ∙ x .operations;

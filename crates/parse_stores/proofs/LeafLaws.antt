@@ -10,6 +10,7 @@ use Rattle.parse_step.specs.declared.Bearing.the-variants.{Level}
 use Rattle.parse_step.specs.declared.State.{State}
 use Rattle.parse_step.specs.declared.Verdict.the-variants.{Done, Full}
 use Rattle.parse_step.specs.Course.{countsOf, kindNo}
+use Rattle.parse_step.specs.Gained.{withActionCount}
 use Rattle.parse_step.specs.Taken.{Refuses, Took, afterWord}
 use Rattle.language.specs.Description as D
 use Rattle.language.specs.Kinds.{aName}
@@ -37,24 +38,22 @@ module _ {text : List ℕ} {w : Word} {s : State} {r : Answer} where
     full = λ d. refused-full (sym (x .verdict) ∙ d);
   }
 
-module _ {a : D.Action} {at : Position} {next : Word} {s : State} {acts : ℕ} {work work′ : List ℕ} (l : length work′ ≡ workSize) where
-  pub put-done : {z : Bool} → ActionAdded acts a at work work′ z → z ≡ true → Puts a at next s acts work work′ (record { answer = record { verdict = Done; next = next; state = s }; actions = acts + 1 })
-  put-done {z} x e = record {
+module _ {a : D.Action} {at : Position} {next : Word} {s : State} {work work′ : List ℕ} (l : length work′ ≡ workSize) where
+  pub put-done : {z : Bool} → ActionAdded (s .actions) a at work work′ z → z ≡ true → {s′ : State} → s′ ≡ withActionCount s (s .actions + 1) → Puts a at next s work work′ (record { verdict = Done; next = next; state = s′ })
+  put-done {z} x e f = record {
     word = refl;
-    state = refl;
+    state = λ d. f;
     whole = l;
-    count = λ d. refl;
     added = λ d. rw e at x;
-    refused = λ f d. done-refused d;
+    refused = λ g d. done-refused d;
     full = λ d. done-full d;
   }
 
-  pub put-full : {z : Bool} → ActionAdded acts a at work work′ z → z ≡ false → {k : ℕ} → Puts a at next s acts work work′ (record { answer = record { verdict = Full; next = next; state = s }; actions = k })
+  pub put-full : {z : Bool} → ActionAdded (s .actions) a at work work′ z → z ≡ false → Puts a at next s work work′ (record { verdict = Full; next = next; state = s })
   put-full x e = record {
     word = refl;
-    state = refl;
+    state = λ d. done-full (sym d);
     whole = l;
-    count = λ d. done-full (sym d);
     added = λ d. done-full (sym d);
     refused = λ f d. refused-full (sym d);
     full = λ d. x .full e;

@@ -4,7 +4,6 @@ use mathlib.Core.List.{List, [], _∷_, _++_, append-nil}
 use mathlib.Core.Path.{_≡_, refl, sym, ap, _∙_, subst}
 use Prim.Native.Nat.{ℕ, _+_, _≤_}
 use native.Mathlib.Omega.{arith}
-use lib.ListN.{length}
 use Rattle.parse_step.proofs.Ceilings.{few-counted}
 use Rattle.parse_step.proofs.Paying.{counted-comes, pays-on, pays-refl, took-comes}
 use Rattle.parse_step.specs.declared.Answer.{Answer}
@@ -12,6 +11,7 @@ use Rattle.parse_step.specs.declared.Bearing.the-variants.{Level}
 use Rattle.parse_step.specs.declared.State.{State}
 use Rattle.parse_step.specs.declared.Verdict.the-variants.{Done}
 use Rattle.parse_step.specs.Course.{Seen, Stack, countsOf, runs}
+use Rattle.parse_step.specs.Gained.{withActionCount}
 use Rattle.parse_step.specs.Pays.{Comes, Pays}
 use Rattle.parse_step.specs.Says.{Here, Read}
 use Rattle.parse_step.specs.Taken.{Took, afterWord}
@@ -34,12 +34,11 @@ use Rattle.text_words.specs.Meaning.{positioned}
 use Rattle.parse_array.proofs.NodesAdded.{nodes-append}
 use Rattle.parse_array.proofs.Regions.{same-held}
 use Rattle.parse_array.specs.Held.{Held, held, otherIn, withNodes}
-use Rattle.parse_array.specs.Layout.{mostNodes, workSize}
+use Rattle.parse_array.specs.Layout.{mostNodes}
 use Rattle.parse_stores.proofs.Keeping.{front-kept, known-kept, others-other, whole-other}
 use Rattle.parse_tables.proofs.RowLaws.{rows-other}
 use Rattle.parse_stores.proofs.Standings.{few-states, standing-after, within-more}
 use Rattle.parse_stores.specs.Actions.{Paid, Standing, Written, frontOf, grown}
-use Rattle.parse_stores.specs.declared.Acted.{Acted}
 use Rattle.parse_stores.specs.Leaves.{Puts}
 use Rattle.parse_stores.specs.Reached.{Ended, Ends, Reached}
 
@@ -165,54 +164,58 @@ module _ {text : List ℕ} {sc : Scope} {n : M.Counts} {w : Word} {s : State} {a
       → Standing text sc n (r .next) (r .state) acts work₁
   standing-read y c = standing-reached (read-reached start-reached y c)
 
-  -- ---- The record of the action.
+-- ---- The record of the action.
 
-  module _ {ns : List Noted} {size : ℕ} {w₁ : Word} {s₁ : State} {work₁ : List ℕ} (x : Reached text sc 1 0 ns size s work w₁ s₁ work₁) {a : D.Action} {at : Position} {work₂ : List ℕ} {r : Acted} (y : Puts a at w₁ s₁ acts work₁ work₂ r)
-      (t : Actions) (e₁ : expressionsIn t ≡ size) (e₂ : nodesIn sc (s .nodes) t ≡ ns) (e₃ : actionsIn t ≡ 1) (e₄ : actionsOf sc (s .nodes) t ≡ act a (positioned at) ∷ []) where
-    whole₁ : length work₁ ≡ workSize
-    whole₁ = whole-other work work₁ (other-reached x) (st .whole)
+module _ {text : List ℕ} {sc : Scope} {n : M.Counts} {w : Word} {s : State} {work : List ℕ} (st : Standing text sc n w s (s .actions) work)
+    {ns : List Noted} {size : ℕ} {w₁ : Word} {s₁ : State} {work₁ : List ℕ} (x : Reached text sc 1 0 ns size s work w₁ s₁ work₁) {a : D.Action} {at : Position} {work₂ : List ℕ} {r : Answer} (y : Puts a at w₁ s₁ work₁ work₂ r)
+    (t : Actions) (e₁ : expressionsIn t ≡ size) (e₂ : nodesIn sc (s .nodes) t ≡ ns) (e₃ : actionsIn t ≡ 1) (e₄ : actionsOf sc (s .nodes) t ≡ act a (positioned at) ∷ []) where
+  abbrev after : State
+  after = withActionCount s₁ (s₁ .actions + 1)
 
-    put-written : ActionAdded acts a at work₁ work₂ true → Written sc t s acts work s₁ (acts + 1) work₂
-    unfolding concat
-    put-written z = record {
-      nodes = x .nodes ∙ ap (λ (m : ℕ). s .nodes + m) (sym e₁);
-      expressions =
-          front-kept work₁ work₂ whole₁ (y .whole) (z .kept refl .front) (s₁ .nodes) (omega (arith, x .pays .nodes, st .nodes, few-states (countsOf s) (st .within), few x))
-          ∙ front-held (s .nodes) (s₁ .nodes) work work₁ ns (x .held) ∙ ap (withNodes (frontOf (s .nodes) work)) (sym e₂);
-      count = omega (arith, e₃);
-      records = z .records refl ∙ rw (rows-other work work₁ (other-reached x) Tb.Actions acts, e₄, append-nil (actionBytes a));
-      places = z .places refl ∙ rw (rows-other work work₁ (other-reached x) Tb.ActionPlaces acts, e₄, append-nil (placeBytes 0 (positioned at)));
-      tables = λ u b m h. z .kept refl .tables u b m h ∙ rows-other work work₁ (other-reached x) u m;
-    }
+  other : otherIn work₁ ≡ otherIn work
+  other = other-reached st x
 
-    put-paid : Paid s acts s₁ (acts + 1)
-    put-paid = record {
-      facilities = x .pays .facilities;
-      operations = x .pays .operations;
-      states = x .pays .states;
-      known = x .pays .known;
-      nesting = x .nesting;
-      counted = x .pays .counted;
-      nodes = omega (arith, x .pays .nodes);
-      actions = omega (arith, x .counted);
-    }
+  put-written : ActionAdded (s₁ .actions) a at work₁ work₂ true → Written sc t s work after work₂
+  unfolding concat
+  put-written z = record {
+    nodes = x .nodes ∙ ap (λ (m : ℕ). s .nodes + m) (sym e₁);
+    expressions =
+        front-kept work₁ work₂ (whole-other work work₁ other (st .whole)) (y .whole) (z .kept refl .front) (s₁ .nodes) (omega (arith, x .pays .nodes, st .nodes, few-states (countsOf s) (st .within), few st x))
+        ∙ front-held (s .nodes) (s₁ .nodes) work work₁ ns (x .held) ∙ ap (withNodes (frontOf (s .nodes) work)) (sym e₂);
+    count = omega (arith, e₃, x .pays .actions);
+    records = z .records refl ∙ rw (rows-other work work₁ other Tb.Actions (s₁ .actions), x .pays .actions, e₄, append-nil (actionBytes a));
+    places = z .places refl ∙ rw (rows-other work work₁ other Tb.ActionPlaces (s₁ .actions), x .pays .actions, e₄, append-nil (placeBytes 0 (positioned at)));
+    tables = λ u b m h. z .kept refl .tables u b m h ∙ rows-other work work₁ other u m;
+  }
 
-    pub ends-with : {P : Stack} {pre : Built → Built} {w₂ : Word} {s₂ : State} → ((K : Stack) (b : Built) → runs text (P ++ K) w₂ (pre b) s₂ ≡ runs text K w₁ (grown t b) s₁)
-        → Ends text sc n P pre w₂ s₂ s acts work work₂ r
-    ends-with {P} {pre} {w₂} {s₂} c = record {
-      done = λ d. ended d;
-      refused = λ f d. absurd (y .refused f d);
-      full = λ d. omega (arith, y .full d, st .actions, few-counted (countsOf s) (st .within));
-    }
-      where
-        ended : r .answer .verdict ≡ Done → Ended text sc n P pre w₂ s₂ s acts work work₂ r
-        ended d =
-            let v : Written sc t s acts work (r .answer .state) (r .actions) work₂ = rw (y .state, y .count d) (put-written (y .added d)) in
-            let q : Paid s acts (r .answer .state) (r .actions) = rw (y .state, y .count d) put-paid in
-            record {
-              tree = t;
-              course = λ K b. c K b ∙ rw (y .word, y .state);
-              written = v;
-              paid = q;
-              standing = standing-after st v q (subst (Seen text) (sym (y .word)) (x .seen)) (y .whole) (ap (λ (j : State). withinCeilings (countsOf j)) (y .state) ∙ within-reached x);
-            }
+  put-paid : Paid s (s .actions) after
+  put-paid = record {
+    facilities = x .pays .facilities;
+    operations = x .pays .operations;
+    states = x .pays .states;
+    known = x .pays .known;
+    nesting = x .nesting;
+    counted = x .pays .counted;
+    nodes = omega (arith, x .pays .nodes);
+    actions = omega (arith, x .counted, x .pays .actions);
+  }
+
+  pub ends-with : {P : Stack} {pre : Built → Built} {w₂ : Word} {s₂ : State} → ((K : Stack) (b : Built) → runs text (P ++ K) w₂ (pre b) s₂ ≡ runs text K w₁ (grown t b) s₁)
+      → Ends text sc n P pre w₂ s₂ s work work₂ r
+  ends-with {P} {pre} {w₂} {s₂} c = record {
+    done = λ d. ended d;
+    refused = λ f d. absurd (y .refused f d);
+    full = λ d. omega (arith, y .full d, st .actions, x .pays .actions, few-counted (countsOf s) (st .within));
+  }
+    where
+      ended : r .verdict ≡ Done → Ended text sc n P pre w₂ s₂ s work work₂ r
+      ended d =
+          let v : Written sc t s work (r .state) work₂ = rw (y .state d) (put-written (y .added d)) in
+          let q : Paid s (s .actions) (r .state) = rw (y .state d) put-paid in
+          record {
+            tree = t;
+            course = λ K b. c K b ∙ rw (y .word, y .state d);
+            written = v;
+            paid = q;
+            standing = standing-after st v q (subst (Seen text) (sym (y .word)) (x .seen)) (y .whole) (ap (λ (j : State). withinCeilings (countsOf j)) (y .state d) ∙ within-reached st x);
+          }

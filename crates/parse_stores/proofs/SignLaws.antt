@@ -39,22 +39,21 @@ use Rattle.parse_stores.proofs.ActionWords.{call-comes, goto-comes, ret
 use Rattle.parse_stores.proofs.EndLaws.{ends-through, ends-unnamed, ends-untaken, reads-ended}
 use Rattle.parse_stores.proofs.ReachedLaws.{counted-reached, ends-with, known-reached, nodes-none, passed-reached, start-reached, within-reached}
 use Rattle.parse_stores.specs.Actions.{Acts, grown}
-use Rattle.parse_stores.specs.declared.Acted.{Acted}
 use Rattle.parse_stores.specs.Leaves.{KeepsName, NameMeans, Performs, Puts}
 use Rattle.parse_stores.specs.Reached.{Arrows, Reached, arrowAction, arrowStep}
 
 -- ---- An operation performed.
 
-module _ {text : List ℕ} {n : M.Counts} {name w : Word} {s : State} {acts : ℕ} {work : List ℕ} {a : Answer} (t : Went name w (afterWord true Level s) s a) where
-  pub unperformed : {k : ℕ} → (a .verdict ≡ Done → ⊥) → Performs name text n w s acts work work (record { answer = a; actions = k })
+module _ {text : List ℕ} {n : M.Counts} {name w : Word} {s : State} {work : List ℕ} {a : Answer} (t : Went name w (afterWord true Level s) s a) where
+  pub unperformed : (a .verdict ≡ Done → ⊥) → Performs name text n w s work work a
   unperformed m q g sc st = record {
     done = λ d. absurd (m d);
     refused = λ f d K b. let e = t .refused f d in g (st .seen) K b ∙ rw (e .0, e .1);
     full = λ d. absurd (t .full d);
   }
 
-  pub performs : a .verdict ≡ Done → (m : Meaning) → NameMeans text work n name m → {x : D.Action} → x ≡ ofOperation (meant m) D.perform → {work′ : List ℕ} {r : Acted} → Puts x (name .at) w (a .state) acts work work′ r
-      → Performs name text n w s acts work work′ r
+  pub performs : a .verdict ≡ Done → (m : Meaning) → NameMeans text work n name m → {x : D.Action} → x ≡ ofOperation (meant m) D.perform → {work′ : List ℕ} {r : Answer} → Puts x (name .at) w (a .state) work work′ r
+      → Performs name text n w s work work′ r
   unfolding expressionsIn nodesIn actionsIn actionsOf
   performs d m f {x} e y q g sc st =
       reads-ended (ends-with st reached y (T.perform (lettersOf text name) (positioned (name .at)) T.done) refl refl refl
@@ -93,12 +92,12 @@ unfolding expressionsIn nodesIn actionsIn actionsOf wordNo listNo
 arrow-laws sc false m p = record { size = refl; nodes = λ i. refl; count = refl; records = λ i. refl; step = λ b q. refl }
 arrow-laws sc true m p = record { size = refl; nodes = λ i. refl; count = refl; records = λ i. refl; step = λ b q. refl }
 
-module _ {text : List ℕ} {n : M.Counts} {w₁ : Word} {s₁ : State} {acts : ℕ} {work₁ : List ℕ} {a : Answer} (t : KeepsName text w₁ s₁ a) where
-  pub arrow-unnamed : (call : Bool) {k : ℕ} → (a .verdict ≡ Done → ⊥) → Arrows call text n w₁ s₁ acts work₁ work₁ (record { answer = a; actions = k })
+module _ {text : List ℕ} {n : M.Counts} {w₁ : Word} {s₁ : State} {work₁ : List ℕ} {a : Answer} (t : KeepsName text w₁ s₁ a) where
+  pub arrow-unnamed : (call : Bool) → (a .verdict ≡ Done → ⊥) → Arrows call text n w₁ s₁ work₁ work₁ a
   arrow-unnamed call m sc w s work st x = ends-unnamed t m (x .seen) (within-reached st x) (λ K. make (arrowStep call) ∷ K) (λ b. b) (λ K b. refl)
 
-  module _ (d : a .verdict ≡ Done) (m : Meaning) (f : NameMeans text work₁ n w₁ m) {x : D.Action} {work₂ : List ℕ} {r : Acted} (y : Puts x (w₁ .at) (a .next) (a .state) acts work₁ work₂ r) where
-    pub arrow-leads : (call : Bool) → x ≡ ofState (meant m) (arrowAction call) → Arrows call text n w₁ s₁ acts work₁ work₂ r
+  module _ (d : a .verdict ≡ Done) (m : Meaning) (f : NameMeans text work₁ n w₁ m) {x : D.Action} {work₂ : List ℕ} {r : Answer} (y : Puts x (w₁ .at) (a .next) (a .state) work₁ work₂ r) where
+    pub arrow-leads : (call : Bool) → x ≡ ofState (meant m) (arrowAction call) → Arrows call text n w₁ s₁ work₁ work₂ r
     arrow-leads call e sc w s work st z =
         let k = t .done d (z .seen) in
         let g = arrowTree call (lettersOf text w₁) (positioned (w₁ .at)) in
@@ -119,21 +118,21 @@ module _ (text : List ℕ) (w : Word) (s : State) (e : among (kindNo (w .kind)) 
       among-first-or i callSign (returnWord ∷ []) e₁ (λ q. call-comes text w z b (countsOf s) q K ∙ ap (λ (j : ℕ). onTaken text w (keep aName ∷ make (arrowStep (eqb j 28)) ∷ K) b (afterWord true Level s)) (sym q)) λ e₂.
       among-first-or i returnWord [] e₂ (λ q. absurd (m q)) (among-none i)
 
-  module _ {n : M.Counts} {acts : ℕ} {work : List ℕ} {a : Answer} (t : Took text w (afterWord true Level s) s a) where
-    pub sign-untaken : {i : ℕ} → (a .verdict ≡ Done → ⊥) → Acts (ask stateAction ∷ []) same text n w s acts work work (record { answer = a; actions = i })
+  module _ {n : M.Counts} {work : List ℕ} {a : Answer} (t : Took text w (afterWord true Level s) s a) where
+    pub sign-untaken : (a .verdict ≡ Done → ⊥) → Acts (ask stateAction ∷ []) same text n w s work work a
     sign-untaken m sc st =
         let i = kindNo (w .kind) in
         among-first-or i gotoSign (callSign ∷ returnWord ∷ []) e (λ q. reads-ended (ends-untaken t m (λ K. keep aName ∷ make (treeSteps .makeGoto) ∷ K) (λ b. b) (λ K b. goto-comes text w (st .seen) b (countsOf s) q K))) λ e₁.
         among-first-or i callSign (returnWord ∷ []) e₁ (λ q. reads-ended (ends-untaken t m (λ K. keep aName ∷ make (treeSteps .makeCall) ∷ K) (λ b. b) (λ K b. call-comes text w (st .seen) b (countsOf s) q K))) λ e₂.
         among-first-or i returnWord [] e₂ (λ q. reads-ended (ends-untaken t m (λ K. make (treeSteps .makeReturn) ∷ K) (λ b. keepWord (L.sign returnWord (positioned (w .at))) b) (λ K b. return-comes text w (st .seen) b (countsOf s) q K))) (among-none i)
 
-    module _ (d : a .verdict ≡ Done) {work′ : List ℕ} {r : Acted} where
-      pub sign-arrow : (kindNo (w .kind) ≡ returnWord → ⊥) → {call : Bool} → call ≡ eqb (kindNo (w .kind)) callSign → Arrows call text n (a .next) (a .state) acts work work′ r → Acts (ask stateAction ∷ []) same text n w s acts work work′ r
+    module _ (d : a .verdict ≡ Done) {work′ : List ℕ} {r : Answer} where
+      pub sign-arrow : (kindNo (w .kind) ≡ returnWord → ⊥) → {call : Bool} → call ≡ eqb (kindNo (w .kind)) callSign → Arrows call text n (a .next) (a .state) work work′ r → Acts (ask stateAction ∷ []) same text n w s work work′ r
       sign-arrow m {call} q y sc st =
           reads-ended (ends-through (y sc w s work st (counted-reached st (start-reached st) d (omega arith) t))
           (λ K b. arrow-comes m (st .seen) K b ∙ took-done (t .done d) (st .seen) (keep aName ∷ make (arrowStep (eqb (kindNo (w .kind)) callSign)) ∷ K) b ∙ rw q))
 
-      pub sign-returns : kindNo (w .kind) ≡ returnWord → Puts D.return (w .at) (a .next) (a .state) acts work work′ r → Acts (ask stateAction ∷ []) same text n w s acts work work′ r
+      pub sign-returns : kindNo (w .kind) ≡ returnWord → Puts D.return (w .at) (a .next) (a .state) work work′ r → Acts (ask stateAction ∷ []) same text n w s work work′ r
       unfolding expressionsIn nodesIn actionsIn actionsOf wordNo listNo
       sign-returns q y sc st =
           let g = T.return (positioned (w .at)) T.done in

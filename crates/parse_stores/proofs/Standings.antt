@@ -1,7 +1,7 @@
 -- Where reading actions stands, from where it stood.
 use mathlib.Core.Bool.{Bool, true, false}
 use mathlib.Core.List.{List}
-use mathlib.Core.Path.{_≡_, sym, ap, _∙_}
+use mathlib.Core.Path.{_≡_, sym, ap, _∙_, subst}
 use Prim.Native.Nat.{ℕ, _≤_}
 use native.Mathlib.Omega.{arith}
 use borrow.Author.Tests.{le-leb, leb-true}
@@ -74,8 +74,8 @@ module _ {text : List ℕ} {sc : Scope} {n : M.Counts} {w : Word} {s : State} {a
       more false = omega arith
 
   -- Behind a list of actions.
-  pub standing-after : {a : Actions} {w′ : Word} {s′ : State} {acts′ : ℕ} {work′ : List ℕ} → Standing text sc n w s acts work → Written sc a s acts work s′ acts′ work′ → Paid s acts s′ acts′ → Seen text w′
-      → length work′ ≡ workSize → withinCeilings (countsOf s′) ≡ true → Standing text sc n w′ s′ acts′ work′
+  pub standing-after : {a : Actions} {w′ : Word} {s′ : State} {work′ : List ℕ} → Standing text sc n w s acts work → Written sc a s work s′ work′ → Paid s acts s′ → Seen text w′
+      → length work′ ≡ workSize → withinCeilings (countsOf s′) ≡ true → Standing text sc n w′ s′ (s′ .actions) work′
   standing-after {work′ = work′} st x p z l c = record {
     seen = z;
     short = st .short;
@@ -86,3 +86,9 @@ module _ {text : List ℕ} {sc : Scope} {n : M.Counts} {w : Word} {s : State} {a
     nodes = omega (arith, st .nodes, p .nodes, p .states, p .counted);
     actions = omega (arith, st .actions, p .actions);
   }
+
+-- Behind a word, with the action records that are written there.
+pub standing-word : {text : List ℕ} {sc : Scope} {n : M.Counts} {w : Word} {s : State} {work : List ℕ} (counts : Bool) (b : Bearing) {a : Answer} → Standing text sc n w s (s .actions) work
+    → Passed text w (afterWord counts b s) s a → Standing text sc n (a .next) (a .state) (a .state .actions) work
+standing-word {text} {sc} {n} {work = work} counts b {a} st p =
+    subst (λ (m : ℕ). Standing text sc n (a .next) (a .state) m work) (sym (p .kept .actions)) (standing-passed counts b st p)

@@ -32,7 +32,6 @@ use Rattle.parse_stores.proofs.ActionWords.{con-comes, no-set, no-store
 use Rattle.parse_stores.proofs.EndLaws.{ends-refused, ends-through, ends-unnamed, ends-unread, ends-untaken, reads-ended}
 use Rattle.parse_stores.proofs.ReachedLaws.{cheaper, counted-reached, ends-with, here-reached, passed-reached, reached-as, read-reached, start-reached, within-reached}
 use Rattle.parse_stores.specs.Actions.{Acts, grown}
-use Rattle.parse_stores.specs.declared.Acted.{Acted}
 use Rattle.parse_stores.specs.declared.stores.Sides.{Sides}
 use Rattle.parse_stores.specs.declared.stores.Sides.the-variants.{One, Two}
 use Rattle.parse_stores.specs.Leaves.{KeepsName, Puts}
@@ -54,15 +53,15 @@ behindCon K = ask subscripts ∷ make (treeSteps .makePair) ∷ ask storeSign �
 
 -- ---- `@`.
 
-module _ {text : List ℕ} {w₁ : Word} {s₁ : State} {acts : ℕ} {work₁ : List ℕ} where
-  pub unset : {a : Answer} {k : ℕ} {work′ : List ℕ} → (kindNo (w₁ .kind) ≡ atSign → ⊥) → Refuses w₁ 3 a → AfterLeft setSign text w₁ s₁ acts work₁ work′ (record { answer = a; actions = k })
+module _ {text : List ℕ} {w₁ : Word} {s₁ : State} {work₁ : List ℕ} where
+  pub unset : {a : Answer} {work′ : List ℕ} → (kindNo (w₁ .kind) ≡ atSign → ⊥) → Refuses w₁ 3 a → AfterLeft setSign text w₁ s₁ work₁ work′ a
   unset m t sc n w s work u st x = ends-refused 3 t (λ K b. no-set text w₁ (x .seen) (pushed u b) (countsOf s₁) m K)
 
   module _ (e : kindNo (w₁ .kind) ≡ atSign) {a : Answer} (t : Took text w₁ (afterWord true Level s₁) s₁ a) where
-    pub set-untaken : {k : ℕ} → (a .verdict ≡ Done → ⊥) → AfterLeft setSign text w₁ s₁ acts work₁ work₁ (record { answer = a; actions = k })
+    pub set-untaken : (a .verdict ≡ Done → ⊥) → AfterLeft setSign text w₁ s₁ work₁ work₁ a
     set-untaken m sc n w s work u st x = ends-untaken t m (λ K. make (treeSteps .makeSet) ∷ K) (atKept w₁ u) (λ K b. set-comes text w₁ (x .seen) (pushed u b) (countsOf s₁) e K)
 
-    pub sets : a .verdict ≡ Done → {l : ℕ} → l ≡ a .state .nodes - 1 → {work′ : List ℕ} {r : Acted} → Puts (D.set l) (w₁ .at) (a .next) (a .state) acts work₁ work′ r → AfterLeft setSign text w₁ s₁ acts work₁ work′ r
+    pub sets : a .verdict ≡ Done → {l : ℕ} → l ≡ a .state .nodes - 1 → {work′ : List ℕ} {r : Answer} → Puts (D.set l) (w₁ .at) (a .next) (a .state) work₁ work′ r → AfterLeft setSign text w₁ s₁ work₁ work′ r
     unfolding expressionsIn nodesIn actionsIn actionsOf wordNo listNo expressionNo
     sets d {l} f y sc n w s work u st x =
         let g = T.set (positioned (w₁ .at)) u T.done in
@@ -83,22 +82,22 @@ to-right : {text : List ℕ} {w₁ : Word} {s₁ : State} {a : Answer} → among
     → runs text (ask storeSign ∷ K) w₁ (withLeft l b) s₁ ≡ runs text (right K) (a .next) (signKept w₁ l b) (a .state)
 to-right {text} {w₁} {s₁} e t d l z K b = store-comes text w₁ z (withLeft l b) (countsOf s₁) e K ∙ took-done (t .done d) z (right K) (signKept w₁ l b)
 
-module _ {text : List ℕ} {w₁ : Word} {s₁ : State} {acts : ℕ} {work₁ : List ℕ} (left : Sides) where
-  pub unstored : {a : Answer} {k : ℕ} {work′ : List ℕ} → among (kindNo (w₁ .kind)) (delayedSign ∷ equalSign ∷ []) ≡ false → Refuses w₁ 3 a → Stores left text w₁ s₁ acts work₁ work′ (record { answer = a; actions = k })
+module _ {text : List ℕ} {w₁ : Word} {s₁ : State} {work₁ : List ℕ} (left : Sides) where
+  pub unstored : {a : Answer} {work′ : List ℕ} → among (kindNo (w₁ .kind)) (delayedSign ∷ equalSign ∷ []) ≡ false → Refuses w₁ 3 a → Stores left text w₁ s₁ work₁ work′ a
   unstored e t sc n w s work l st q x = ends-refused 3 t (λ K b. no-store text w₁ (x .seen) (withLeft l b) (countsOf s₁) e K)
 
   module _ (e : among (kindNo (w₁ .kind)) (delayedSign ∷ equalSign ∷ []) ≡ true) {a : Answer} (t : Took text w₁ (afterWord true Level s₁) s₁ a) where
-    pub sign-untaken : {k : ℕ} → (a .verdict ≡ Done → ⊥) → Stores left text w₁ s₁ acts work₁ work₁ (record { answer = a; actions = k })
+    pub sign-untaken : (a .verdict ≡ Done → ⊥) → Stores left text w₁ s₁ work₁ work₁ a
     sign-untaken m sc n w s work l st q x = ends-untaken t m right (signKept w₁ l) (λ K b. store-comes text w₁ (x .seen) (withLeft l b) (countsOf s₁) e K)
 
     module _ (d : a .verdict ≡ Done) {work₂ : List ℕ} {i : Answer} (f : Parses (ask expression ∷ []) same (a .state .nesting) text (a .next) (a .state) work₁ work₂ i) (p : Spends text 0 (a .next) (a .state) i) where
-      pub right-unread : {k : ℕ} → (i .verdict ≡ Done → ⊥) → Stores left text w₁ s₁ acts work₁ work₂ (record { answer = i; actions = k })
+      pub right-unread : (i .verdict ≡ Done → ⊥) → Stores left text w₁ s₁ work₁ work₂ i
       right-unread m sc n w s work l st q x =
           let z = counted-reached st x d (omega arith) t in
           ends-unread st z (f sc (here-reached st z)) p (omega arith) m (λ K. make (treeSteps .makeStore) ∷ K) (signKept w₁ l) (λ K b. to-right e t d l (x .seen) K b)
 
-      pub stores : i .verdict ≡ Done → {k j : ℕ} → k ≡ kindNo (w₁ .kind) → j ≡ i .state .nodes - 1 → {v : D.Action} → v ≡ sided k left j → {work₃ : List ℕ} {r : Acted} → Puts v (w₁ .at) (i .next) (i .state) acts work₂ work₃ r
-          → Stores left text w₁ s₁ acts work₁ work₃ r
+      pub stores : i .verdict ≡ Done → {k j : ℕ} → k ≡ kindNo (w₁ .kind) → j ≡ i .state .nodes - 1 → {v : D.Action} → v ≡ sided k left j → {work₃ : List ℕ} {r : Answer} → Puts v (w₁ .at) (i .next) (i .state) work₂ work₃ r
+          → Stores left text w₁ s₁ work₁ work₃ r
       unfolding expressionsIn nodesIn actionsIn actionsOf wordNo listNo expressionNo
       stores d₁ {k} {j} c h {v} g y sc n w s work l st q x =
           let z = counted-reached st x d (omega arith) t in
@@ -124,25 +123,25 @@ module _ {text : List ℕ} {w₁ : Word} {s₁ : State} (e : kindNo (w₁ .kind)
       → runs text (ask leftRest ∷ K) w₁ (pushed u b) s₁ ≡ runs text (behindCon K) (i .next) (afterName (a .next) text (pushed u b)) (i .state)
   to-subscripts f d₁ K b = to-name K b ∙ f .done d₁ (t .done d .seen) .course (behindCon K) (pushed u b)
 
-module _ {text : List ℕ} {w₁ : Word} {s₁ : State} {acts : ℕ} {work₁ : List ℕ} (e : kindNo (w₁ .kind) ≡ conWord) {a : Answer} (t : Took text w₁ (afterWord false Level s₁) s₁ a) where
-  pub con-untaken : {k : ℕ} → (a .verdict ≡ Done → ⊥) → AfterLeft leftRest text w₁ s₁ acts work₁ work₁ (record { answer = a; actions = k })
+module _ {text : List ℕ} {w₁ : Word} {s₁ : State} {work₁ : List ℕ} (e : kindNo (w₁ .kind) ≡ conWord) {a : Answer} (t : Took text w₁ (afterWord false Level s₁) s₁ a) where
+  pub con-untaken : (a .verdict ≡ Done → ⊥) → AfterLeft leftRest text w₁ s₁ work₁ work₁ a
   con-untaken m sc n w s work u st x = ends-untaken t m (λ K. keep aName ∷ behindCon K) (pushed u) (λ K b. con-comes text w₁ (x .seen) (pushed u b) (countsOf s₁) e K)
 
   module _ (d : a .verdict ≡ Done) {i : Answer} (f : KeepsName text (a .next) (a .state) i) where
-    pub con-unnamed : {k : ℕ} → (i .verdict ≡ Done → ⊥) → AfterLeft leftRest text w₁ s₁ acts work₁ work₁ (record { answer = i; actions = k })
+    pub con-unnamed : (i .verdict ≡ Done → ⊥) → AfterLeft leftRest text w₁ s₁ work₁ work₁ i
     con-unnamed m sc n w s work u st x =
         let z = passed-reached st x d t in
         ends-unnamed f m (z .seen) (within-reached st z) behindCon (pushed u) (λ K b. to-name e t d u (x .seen) K b)
 
     module _ (d₁ : i .verdict ≡ Done) {work₂ : List ℕ} {j : Answer} (g : Parses (ask subscripts ∷ []) (afterName (a .next)) (i .state .nesting) text (i .next) (i .state) work₁ work₂ j) (p : Spends text 2 (i .next) (i .state) j) where
-      pub con-unread : {k : ℕ} → (j .verdict ≡ Done → ⊥) → AfterLeft leftRest text w₁ s₁ acts work₁ work₂ (record { answer = j; actions = k })
+      pub con-unread : (j .verdict ≡ Done → ⊥) → AfterLeft leftRest text w₁ s₁ work₁ work₂ j
       con-unread m sc n w s work u st x =
           let y = passed-reached st x d t in
           let z = passed-reached st y d₁ (f .done d₁ (y .seen) .took) in
           ends-unread st z (g sc (here-reached st z)) p (omega arith) m (λ K. make (treeSteps .makePair) ∷ ask storeSign ∷ K) (pushed u) (λ K b. to-subscripts e t d u (x .seen) f d₁ K b)
 
-      pub con-stores : j .verdict ≡ Done → {k l : ℕ} → k ≡ s₁ .nodes - 1 → l ≡ j .state .nodes - 1 → {work₃ : List ℕ} {r : Acted} → Stores (Two k l) text (j .next) (j .state) acts work₂ work₃ r
-          → AfterLeft leftRest text w₁ s₁ acts work₁ work₃ r
+      pub con-stores : j .verdict ≡ Done → {k l : ℕ} → k ≡ s₁ .nodes - 1 → l ≡ j .state .nodes - 1 → {work₃ : List ℕ} {r : Answer} → Stores (Two k l) text (j .next) (j .state) work₂ work₃ r
+          → AfterLeft leftRest text w₁ s₁ work₁ work₃ r
       unfolding expressionNo
       con-stores d₂ {k} {l} h h₁ v sc n w s work u st x =
           let y = passed-reached st x d t in
@@ -157,26 +156,26 @@ module _ {text : List ℕ} {w₁ : Word} {s₁ : State} {acts : ℕ} {work₁ : 
 
 -- ---- What follows the first reference.
 
-module _ {text : List ℕ} {w₁ : Word} {s₁ : State} {acts : ℕ} {work₁ work₂ : List ℕ} {r : Acted} where
-  pub rest-sets : kindNo (w₁ .kind) ≡ atSign → AfterLeft setSign text w₁ s₁ acts work₁ work₂ r → AfterLeft leftRest text w₁ s₁ acts work₁ work₂ r
+module _ {text : List ℕ} {w₁ : Word} {s₁ : State} {work₁ work₂ : List ℕ} {r : Answer} where
+  pub rest-sets : kindNo (w₁ .kind) ≡ atSign → AfterLeft setSign text w₁ s₁ work₁ work₂ r → AfterLeft leftRest text w₁ s₁ work₁ work₂ r
   rest-sets e y sc n w s work u st x = ends-through (y sc n w s work u st x) (λ K b. set-left text w₁ (x .seen) (pushed u b) (countsOf s₁) e K)
 
-  pub rest-stores : (kindNo (w₁ .kind) ≡ conWord → ⊥) → (kindNo (w₁ .kind) ≡ atSign → ⊥) → {k : ℕ} → k ≡ s₁ .nodes - 1 → Stores (One k) text w₁ s₁ acts work₁ work₂ r → AfterLeft leftRest text w₁ s₁ acts work₁ work₂ r
+  pub rest-stores : (kindNo (w₁ .kind) ≡ conWord → ⊥) → (kindNo (w₁ .kind) ≡ atSign → ⊥) → {k : ℕ} → k ≡ s₁ .nodes - 1 → Stores (One k) text w₁ s₁ work₁ work₂ r → AfterLeft leftRest text w₁ s₁ work₁ work₂ r
   rest-stores e f {k} h y sc n w s work u st x =
       let c : k ≡ lastOf (s .nodes) (expressionSize u) = h ∙ ap (λ (m : ℕ). m - 1) (x .nodes) in
       ends-through (y sc n w s work (T.single u) st (rw c) (cheaper x (omega arith))) (λ K b. store-left text w₁ (x .seen) (countsOf s₁) e f u b K)
 
 -- ---- A name that is referred to.
 
-module _ {text : List ℕ} (name : Word) {w : Word} {s : State} {acts : ℕ} {work work₁ : List ℕ} {n : M.Counts} (a q : Ask)
+module _ {text : List ℕ} (name : Word) {w : Word} {s : State} {work work₁ : List ℕ} {n : M.Counts} (a q : Ask)
     (c : Seen text w → (K : Stack) (b : Built) → runs text (ask a ∷ K) w b s ≡ runs text (ask subscripts ∷ ask q ∷ K) w b s)
     {i : Answer} (f : Parses (ask subscripts ∷ []) (afterName name) (s .nesting) text w s work work₁ i) (p : Spends text 2 w s i) where
-  pub unreferred : {k : ℕ} → (i .verdict ≡ Done → ⊥) → Acts (ask a ∷ []) (afterName name) text n w s acts work work₁ (record { answer = i; actions = k })
+  pub unreferred : (i .verdict ≡ Done → ⊥) → Acts (ask a ∷ []) (afterName name) text n w s work work₁ i
   unreferred m sc st =
       let x = start-reached st in
       reads-ended (ends-unread st x (f sc (here-reached st x)) p (omega arith) m (λ K. ask q ∷ K) (λ b. b) (λ K b. c (st .seen) K (afterName name text b)))
 
-  pub referred : i .verdict ≡ Done → {work₂ : List ℕ} {r : Acted} → AfterLeft q text (i .next) (i .state) acts work₁ work₂ r → Acts (ask a ∷ []) (afterName name) text n w s acts work work₂ r
+  pub referred : i .verdict ≡ Done → {work₂ : List ℕ} {r : Answer} → AfterLeft q text (i .next) (i .state) work₁ work₂ r → Acts (ask a ∷ []) (afterName name) text n w s work work₂ r
   referred d y sc st =
       let x = start-reached st in
       let u = f sc (here-reached st x) .done d in

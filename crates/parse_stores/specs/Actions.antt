@@ -4,6 +4,7 @@ use mathlib.Core.List.{List, [], _∷_, _++_}
 use mathlib.Core.Path.{_≡_}
 use Prim.Native.Nat.{ℕ, _+_, _*_, _<_, _≤_}
 use lib.ListN.{drop, length}
+use Rattle.parse_step.specs.declared.Answer.{Answer}
 use Rattle.parse_step.specs.declared.State.{State}
 use Rattle.parse_step.specs.declared.Verdict.the-variants as Vd
 use Rattle.parse_step.specs.Course.{Seen, Stack, countsOf, runs}
@@ -24,9 +25,8 @@ use Rattle.text_words.specs.declared.Word.{Word}
 use Rattle.text_words.specs.Meaning.{faulted}
 use Rattle.parse_array.specs.Held.{Held, held, withNodes}
 use Rattle.parse_array.specs.Layout.{workSize}
-use Rattle.parse_stores.specs.declared.Acted.{Acted}
 
--- Where reading actions stands: the look-ahead is a word of the text, the names known are those of the scope, and every record is paid for by what was counted: seven expression records and two action records for each counted word, six expression records for each state.
+-- Where reading actions stands: the look-ahead is a word of the text, the names known are those of the scope, and every expression record and `acts` action records are paid for by what was counted: seven expression records and two action records for each counted word, six expression records for each state.
 pub record Standing (text : List ℕ) (sc : Scope) (n : Counts) (w : Word) (s : State) (acts : ℕ) (work : List ℕ) : Type 0 where
   pub seen : Seen text w
   pub short : length text < 65536
@@ -56,16 +56,16 @@ abbrev pub OthersKept : List ℕ → List ℕ → Type 0
 OthersKept work work′ = (u : Table) → apartFrom u (T.Actions ∷ T.ActionPlaces ∷ []) ≡ true → (m : ℕ) → m ≤ most u → rows u m work′ ≡ rows u m work
 
 -- The records of a list stand behind those before it.
-pub record Written (sc : Scope) (a : Actions) (s : State) (acts : ℕ) (work : List ℕ) (s′ : State) (acts′ : ℕ) (work′ : List ℕ) : Type 0 where
+pub record Written (sc : Scope) (a : Actions) (s : State) (work : List ℕ) (s′ : State) (work′ : List ℕ) : Type 0 where
   pub nodes : s′ .nodes ≡ s .nodes + expressionsIn a
   pub expressions : frontOf (s′ .nodes) work′ ≡ withNodes (frontOf (s .nodes) work) (nodesIn sc (s .nodes) a)
-  pub count : acts′ ≡ acts + actionsIn a
-  pub records : rows T.Actions acts′ work′ ≡ rows T.Actions acts work ++ actionRecords (actionsOf sc (s .nodes) a)
-  pub places : rows T.ActionPlaces acts′ work′ ≡ rows T.ActionPlaces acts work ++ actionBesides (actionsOf sc (s .nodes) a)
+  pub count : s′ .actions ≡ s .actions + actionsIn a
+  pub records : rows T.Actions (s′ .actions) work′ ≡ rows T.Actions (s .actions) work ++ actionRecords (actionsOf sc (s .nodes) a)
+  pub places : rows T.ActionPlaces (s′ .actions) work′ ≡ rows T.ActionPlaces (s .actions) work ++ actionBesides (actionsOf sc (s .nodes) a)
   pub tables : OthersKept work work′
 
--- Other counts are kept. Some action was read, so that an action record is left of what was counted.
-pub record Paid (s : State) (acts : ℕ) (s′ : State) (acts′ : ℕ) : Type 0 where
+-- Other counts are kept. Some action was read, so that of what was counted an action record is left, where `acts` are paid for in the state s.
+pub record Paid (s : State) (acts : ℕ) (s′ : State) : Type 0 where
   pub facilities : s′ .facilities ≡ s .facilities
   pub operations : s′ .operations ≡ s .operations
   pub states : s′ .states ≡ s .states
@@ -73,23 +73,23 @@ pub record Paid (s : State) (acts : ℕ) (s′ : State) (acts′ : ℕ) : Type 0
   pub nesting : s′ .nesting ≡ s .nesting
   pub counted : s .counted ≤ s′ .counted
   pub nodes : s′ .nodes + 7 * s .counted ≤ s .nodes + 7 * s′ .counted
-  pub actions : acts′ + 1 + 2 * s .counted ≤ acts + 2 * s′ .counted
+  pub actions : s′ .actions + 1 + 2 * s .counted ≤ acts + 2 * s′ .counted
 
 -- From the stack P and what `pre` makes of what was built the machine comes to the stack Q with some actions more.
-pub record ActionsRead (text : List ℕ) (sc : Scope) (n : Counts) (P Q : Stack) (pre : Built → Built) (w : Word) (s : State) (acts : ℕ) (work work′ : List ℕ) (r : Acted) : Type 0 where
+pub record ActionsRead (text : List ℕ) (sc : Scope) (n : Counts) (P Q : Stack) (pre : Built → Built) (w : Word) (s : State) (work work′ : List ℕ) (r : Answer) : Type 0 where
   pub tree : Actions
-  pub course : (K : Stack) (b : Built) → runs text (P ++ K) w (pre b) s ≡ runs text (Q ++ K) (r .answer .next) (grown tree b) (r .answer .state)
-  pub written : Written sc tree s acts work (r .answer .state) (r .actions) work′
-  pub paid : Paid s acts (r .answer .state) (r .actions)
-  pub standing : Standing text sc n (r .answer .next) (r .answer .state) (r .actions) work′
+  pub course : (K : Stack) (b : Built) → runs text (P ++ K) w (pre b) s ≡ runs text (Q ++ K) (r .next) (grown tree b) (r .state)
+  pub written : Written sc tree s work (r .state) work′
+  pub paid : Paid s (s .actions) (r .state)
+  pub standing : Standing text sc n (r .next) (r .state) (r .state .actions) work′
 
 -- What was read, or the machine's refusal; there is room for everything.
-pub record Reads (text : List ℕ) (sc : Scope) (n : Counts) (P Q : Stack) (pre : Built → Built) (w : Word) (s : State) (acts : ℕ) (work work′ : List ℕ) (r : Acted) : Type 0 where
-  pub done : r .answer .verdict ≡ Vd.Done → ActionsRead text sc n P Q pre w s acts work work′ r
-  pub refused : (f : Fault) → r .answer .verdict ≡ Vd.Refused f → (K : Stack) (b : Built) → runs text (P ++ K) w (pre b) s ≡ refused (faulted f)
-  pub full : r .answer .verdict ≡ Vd.Full → ⊥
+pub record Reads (text : List ℕ) (sc : Scope) (n : Counts) (P Q : Stack) (pre : Built → Built) (w : Word) (s : State) (work work′ : List ℕ) (r : Answer) : Type 0 where
+  pub done : r .verdict ≡ Vd.Done → ActionsRead text sc n P Q pre w s work work′ r
+  pub refused : (f : Fault) → r .verdict ≡ Vd.Refused f → (K : Stack) (b : Built) → runs text (P ++ K) w (pre b) s ≡ refused (faulted f)
+  pub full : r .verdict ≡ Vd.Full → ⊥
 
 -- Actions by the stack P.
-abbrev pub Acts : Stack → (List ℕ → Built → Built) → List ℕ → Counts → Word → State → ℕ → List ℕ → List ℕ → Acted → Type 0
-Acts P pre text n w s acts work work′ r =
-    (sc : Scope) → Standing text sc n w s acts work → Reads text sc n P [] (pre text) w s acts work work′ r
+abbrev pub Acts : Stack → (List ℕ → Built → Built) → List ℕ → Counts → Word → State → List ℕ → List ℕ → Answer → Type 0
+Acts P pre text n w s work work′ r =
+    (sc : Scope) → Standing text sc n w s (s .actions) work → Reads text sc n P [] (pre text) w s work work′ r

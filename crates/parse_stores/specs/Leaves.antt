@@ -9,6 +9,7 @@ use Rattle.parse_step.specs.declared.Bearing.the-variants.{Level}
 use Rattle.parse_step.specs.declared.State.{State}
 use Rattle.parse_step.specs.declared.Verdict.the-variants.{Done, Full, Refused}
 use Rattle.parse_step.specs.Course.{Seen, Stack, countsOf, runs, runsOn, ahead}
+use Rattle.parse_step.specs.Gained.{withActionCount}
 use Rattle.parse_step.specs.Taken.{Took, afterWord}
 use Rattle.language.specs.Building.{Built}
 use Rattle.language.specs.Description as D
@@ -29,7 +30,6 @@ use Rattle.text_words.specs.declared.Word.{Word}
 use Rattle.text_words.specs.Meaning.{faulted, positioned}
 use Rattle.parse_array.specs.Layout.{mostActions, workSize}
 use Rattle.parse_stores.specs.Actions.{Acts, grown}
-use Rattle.parse_stores.specs.declared.Acted.{Acted}
 
 -- ---- A name that must come is kept; it is not counted.
 
@@ -45,14 +45,13 @@ pub record KeepsName (text : List ℕ) (w : Word) (s : State) (r : Answer) : Typ
 
 -- ---- An action's record behind the others; the word after the action has been seen.
 
-pub record Puts (a : D.Action) (at : Position) (next : Word) (s : State) (acts : ℕ) (work work′ : List ℕ) (r : Acted) : Type 0 where
-  pub word : r .answer .next ≡ next
-  pub state : r .answer .state ≡ s
+pub record Puts (a : D.Action) (at : Position) (next : Word) (s : State) (work work′ : List ℕ) (r : Answer) : Type 0 where
+  pub word : r .next ≡ next
+  pub state : r .verdict ≡ Done → r .state ≡ withActionCount s (s .actions + 1)
   pub whole : length work′ ≡ workSize
-  pub count : r .answer .verdict ≡ Done → r .actions ≡ acts + 1
-  pub added : r .answer .verdict ≡ Done → ActionAdded acts a at work work′ true
-  pub refused : (f : Fault) → r .answer .verdict ≡ Refused f → ⊥
-  pub full : r .answer .verdict ≡ Full → mostActions ≤ acts
+  pub added : r .verdict ≡ Done → ActionAdded (s .actions) a at work work′ true
+  pub refused : (f : Fault) → r .verdict ≡ Refused f → ⊥
+  pub full : r .verdict ≡ Full → mostActions ≤ s .actions
 
 -- What a name means, by its word.
 abbrev pub NameMeans : List ℕ → List ℕ → Counts → Word → Meaning → Type 0
@@ -66,7 +65,7 @@ alone text name w s K b =
     (runsOn text K (ahead text w) (grown (T.perform (lettersOf text name) (positioned (name .at)) T.done) b) (afterWord true Level s))
     (refused (fault (positioned (name .at)) 10))
 
-abbrev pub Performs : Word → List ℕ → Counts → Word → State → ℕ → List ℕ → List ℕ → Acted → Type 0
-Performs name text n w s acts work work′ r =
+abbrev pub Performs : Word → List ℕ → Counts → Word → State → List ℕ → List ℕ → Answer → Type 0
+Performs name text n w s work work′ r =
     (a : Ask) → (Seen text w → (K : Stack) (b : Built) → runs text (ask a ∷ K) w (afterName name text b) s ≡ alone text name w s K b)
-    → Acts (ask a ∷ []) (afterName name) text n w s acts work work′ r
+    → Acts (ask a ∷ []) (afterName name) text n w s work work′ r

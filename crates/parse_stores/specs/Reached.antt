@@ -3,6 +3,7 @@ use mathlib.Core.Bool.{Bool, true, false}
 use mathlib.Core.List.{List, [], _∷_, _++_}
 use mathlib.Core.Path.{_≡_}
 use Prim.Native.Nat.{ℕ, _+_, _≤_}
+use Rattle.parse_step.specs.declared.Answer.{Answer}
 use Rattle.parse_step.specs.declared.State.{State}
 use Rattle.parse_step.specs.declared.Verdict.the-variants.{Done, Full, Refused}
 use Rattle.parse_step.specs.Course.{Seen, Stack, runs}
@@ -24,7 +25,6 @@ use Rattle.text_words.specs.declared.Word.{Word}
 use Rattle.text_words.specs.Meaning.{faulted}
 use Rattle.parse_array.specs.Held.{held, withNodes}
 use Rattle.parse_stores.specs.Actions.{Paid, Standing, Written, grown}
-use Rattle.parse_stores.specs.declared.Acted.{Acted}
 use Rattle.parse_stores.specs.declared.stores.Sides.{Sides}
 use Rattle.parse_stores.specs.declared.stores.Sides.the-variants.{One, Two}
 
@@ -38,17 +38,17 @@ pub record Reached (text : List ℕ) (sc : Scope) (more pay : ℕ) (ns : List No
   pub nodes : s₁ .nodes ≡ s .nodes + size
 
 -- From the stack P at the word w₁ the machine comes to some actions, which begin at the state s.
-pub record Ended (text : List ℕ) (sc : Scope) (n : Counts) (P : Stack) (pre : Built → Built) (w₁ : Word) (s₁ s : State) (acts : ℕ) (work work′ : List ℕ) (r : Acted) : Type 0 where
+pub record Ended (text : List ℕ) (sc : Scope) (n : Counts) (P : Stack) (pre : Built → Built) (w₁ : Word) (s₁ s : State) (work work′ : List ℕ) (r : Answer) : Type 0 where
   pub tree : Actions
-  pub course : (K : Stack) (b : Built) → runs text (P ++ K) w₁ (pre b) s₁ ≡ runs text K (r .answer .next) (grown tree b) (r .answer .state)
-  pub written : Written sc tree s acts work (r .answer .state) (r .actions) work′
-  pub paid : Paid s acts (r .answer .state) (r .actions)
-  pub standing : Standing text sc n (r .answer .next) (r .answer .state) (r .actions) work′
+  pub course : (K : Stack) (b : Built) → runs text (P ++ K) w₁ (pre b) s₁ ≡ runs text K (r .next) (grown tree b) (r .state)
+  pub written : Written sc tree s work (r .state) work′
+  pub paid : Paid s (s .actions) (r .state)
+  pub standing : Standing text sc n (r .next) (r .state) (r .state .actions) work′
 
-pub record Ends (text : List ℕ) (sc : Scope) (n : Counts) (P : Stack) (pre : Built → Built) (w₁ : Word) (s₁ s : State) (acts : ℕ) (work work′ : List ℕ) (r : Acted) : Type 0 where
-  pub done : r .answer .verdict ≡ Done → Ended text sc n P pre w₁ s₁ s acts work work′ r
-  pub refused : (f : Fault) → r .answer .verdict ≡ Refused f → (K : Stack) (b : Built) → runs text (P ++ K) w₁ (pre b) s₁ ≡ refused (faulted f)
-  pub full : r .answer .verdict ≡ Full → ⊥
+pub record Ends (text : List ℕ) (sc : Scope) (n : Counts) (P : Stack) (pre : Built → Built) (w₁ : Word) (s₁ s : State) (work work′ : List ℕ) (r : Answer) : Type 0 where
+  pub done : r .verdict ≡ Done → Ended text sc n P pre w₁ s₁ s work work′ r
+  pub refused : (f : Fault) → r .verdict ≡ Refused f → (K : Stack) (b : Built) → runs text (P ++ K) w₁ (pre b) s₁ ≡ refused (faulted f)
+  pub full : r .verdict ≡ Full → ⊥
 
 -- ---- Behind `->` and `=>`.
 
@@ -60,17 +60,17 @@ abbrev pub arrowAction : Bool → ℕ → D.Action
 arrowAction false k = D.goto k
 arrowAction true k = D.call k
 
-abbrev pub Arrows : Bool → List ℕ → Counts → Word → State → ℕ → List ℕ → List ℕ → Acted → Type 0
-Arrows call text n w₁ s₁ acts work₁ work′ r =
-    (sc : Scope) (w : Word) (s : State) (work : List ℕ) → Standing text sc n w s acts work → Reached text sc 1 0 [] 0 s work w₁ s₁ work₁
-    → Ends text sc n (keep aName ∷ make (arrowStep call) ∷ []) (λ b. b) w₁ s₁ s acts work work′ r
+abbrev pub Arrows : Bool → List ℕ → Counts → Word → State → List ℕ → List ℕ → Answer → Type 0
+Arrows call text n w₁ s₁ work₁ work′ r =
+    (sc : Scope) (w : Word) (s : State) (work : List ℕ) → Standing text sc n w s (s .actions) work → Reached text sc 1 0 [] 0 s work w₁ s₁ work₁
+    → Ends text sc n (keep aName ∷ make (arrowStep call) ∷ []) (λ b. b) w₁ s₁ s work work′ r
 
 -- ---- Behind a reference on the left.
 
-abbrev pub AfterLeft : Ask → List ℕ → Word → State → ℕ → List ℕ → List ℕ → Acted → Type 0
-AfterLeft a text w₁ s₁ acts work₁ work′ r =
-    (sc : Scope) (n : Counts) (w : Word) (s : State) (work : List ℕ) (t : Expression) → Standing text sc n w s acts work
-    → Reached text sc 0 2 (nodesOf sc (s .nodes) t) (expressionSize t) s work w₁ s₁ work₁ → Ends text sc n (ask a ∷ []) (pushed t) w₁ s₁ s acts work work′ r
+abbrev pub AfterLeft : Ask → List ℕ → Word → State → List ℕ → List ℕ → Answer → Type 0
+AfterLeft a text w₁ s₁ work₁ work′ r =
+    (sc : Scope) (n : Counts) (w : Word) (s : State) (work : List ℕ) (t : Expression) → Standing text sc n w s (s .actions) work
+    → Reached text sc 0 2 (nodesOf sc (s .nodes) t) (expressionSize t) s work w₁ s₁ work₁ → Ends text sc n (ask a ∷ []) (pushed t) w₁ s₁ s work work′ r
 
 -- The numbers of the records of a left side.
 abbrev pub sidesOf : ℕ → Left → Sides
@@ -86,7 +86,7 @@ sided k (Two l m) r = D.storePair k l m r
 abbrev pub withLeft : Left → Built → Built
 withLeft l b = withLefts b (l ∷ b .lefts)
 
-abbrev pub Stores : Sides → List ℕ → Word → State → ℕ → List ℕ → List ℕ → Acted → Type 0
-Stores left text w₁ s₁ acts work₁ work′ r =
-    (sc : Scope) (n : Counts) (w : Word) (s : State) (work : List ℕ) (l : Left) → Standing text sc n w s acts work → left ≡ sidesOf (s .nodes) l
-    → Reached text sc 0 4 (leftNodes sc (s .nodes) l) (leftSize l) s work w₁ s₁ work₁ → Ends text sc n (ask storeSign ∷ []) (withLeft l) w₁ s₁ s acts work work′ r
+abbrev pub Stores : Sides → List ℕ → Word → State → List ℕ → List ℕ → Answer → Type 0
+Stores left text w₁ s₁ work₁ work′ r =
+    (sc : Scope) (n : Counts) (w : Word) (s : State) (work : List ℕ) (l : Left) → Standing text sc n w s (s .actions) work → left ≡ sidesOf (s .nodes) l
+    → Reached text sc 0 4 (leftNodes sc (s .nodes) l) (leftSize l) s work w₁ s₁ work₁ → Ends text sc n (ask storeSign ∷ []) (withLeft l) w₁ s₁ s work work′ r

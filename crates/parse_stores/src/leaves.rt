@@ -1,5 +1,4 @@
 // What simple actions are made of: names, and the records of actions.
-use crate::Acted;
 use image_records::actions::Action;
 use parse_array::Work;
 use parse_names::Counts;
@@ -8,6 +7,7 @@ use parse_step::Answer;
 use parse_step::Bearing;
 use parse_step::State;
 use parse_step::Verdict;
+use parse_step::adding;
 use parse_step::kinds;
 use parse_step::taking;
 use parse_tables::actions;
@@ -34,30 +34,23 @@ pub fn keep_name(text: &[u8], w: Word, s: State) -> Answer
 }
 
 // Adds an action's record, whose word is at; the word behind the action has been seen.
-pub fn put(s: State, action: Action, at: Position, next: Word, work: &mut Work, acts: u16) -> Acted
-    ensures { λ r. ⌜ Puts (meant action) at next s acts (now (work .entry)) (now (work .exit)) r ⌝ }
+pub fn put(s: State, action: Action, at: Position, next: Word, work: &mut Work) -> Answer
+    ensures { λ r. ⌜ Puts (meant action) at next s (now (work .entry)) (now (work .exit)) r ⌝ }
 {
-    let room = actions::add_action(work, acts, action, at);
+    let room = actions::add_action(work, s.actions, action, at);
     parse_array::whole(work);
     if room {
-        let answer = Answer {
+        let state = adding::with_actions(s, s.actions + 1);
+        return Answer {
             verdict: Verdict::Done,
             next,
-            state: s,
-        };
-        return Acted {
-            answer,
-            actions: acts + 1,
+            state,
         };
     }
-    let answer = Answer {
+    Answer {
         verdict: Verdict::Full,
         next,
         state: s,
-    };
-    Acted {
-        answer,
-        actions: acts,
     }
 }
 

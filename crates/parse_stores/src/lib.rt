@@ -24,85 +24,47 @@ ghost use Rattle.parse_stores.specs.Reached.{Arrows};
 pub mod leaves;
 mod stores;
 
-// What became of actions, and where they are done how many action records there are.
-pub struct Acted {
-    pub answer: Answer,
-    pub actions: u16,
-}
-
 // A name alone: it performs an operation, and counts.
-fn perform(
-    s: State,
-    name: Word,
-    text: &[u8],
-    w: Word,
-    work: &mut Work,
-    n: Counts,
-    acts: u16,
-) -> Acted
-    ensures { λ r. ⌜ Performs name (now (text .entry)) n w s acts (now (work .entry)) (now (work .exit)) r ⌝ }
+fn perform(s: State, name: Word, text: &[u8], w: Word, work: &mut Work, n: Counts) -> Answer
+    ensures { λ r. ⌜ Performs name (now (text .entry)) n w s (now (work .entry)) (now (work .exit)) r ⌝ }
 {
     let counted = taking::pass(name, w, s, true, Bearing::Level);
     if parse_step::unread(counted) {
-        return Acted {
-            answer: counted,
-            actions: acts,
-        };
+        return counted;
     }
     let m = leaves::meaning(text, work, n, name);
     let at = name.at;
-    leaves::put(counted.state, leaves::performing(m), at, w, work, acts)
+    leaves::put(counted.state, leaves::performing(m), at, w, work)
 }
 
 // A state's name behind `->` or `=>`.
-fn arrow(s: State, call: bool, text: &[u8], w: Word, work: &mut Work, n: Counts, acts: u16) -> Acted
-    ensures { λ r. ⌜ Arrows call (now (text .entry)) n w s acts (now (work .entry)) (now (work .exit)) r ⌝ }
+fn arrow(s: State, call: bool, text: &[u8], w: Word, work: &mut Work, n: Counts) -> Answer
+    ensures { λ r. ⌜ Arrows call (now (text .entry)) n w s (now (work .entry)) (now (work .exit)) r ⌝ }
 {
     let kept = leaves::keep_name(text, w, s);
     if parse_step::unread(kept) {
-        return Acted {
-            answer: kept,
-            actions: acts,
-        };
+        return kept;
     }
     let m = leaves::meaning(text, work, n, w);
     let at = w.at;
-    leaves::put(
-        kept.state,
-        leaves::going(call, m),
-        at,
-        kept.next,
-        work,
-        acts,
-    )
+    leaves::put(kept.state, leaves::going(call, m), at, kept.next, work)
 }
 
 // What begins with a sign in a state: `->`, `=>` or RETURN.
-pub fn signed(s: State, text: &[u8], w: Word, work: &mut Work, n: Counts, acts: u16) -> Acted
-    ensures { λ r. ⌜ (among (kindNo (w .kind)) (gotoSign ∷ callSign ∷ returnWord ∷ []) ≡ true → Acts (ask L.stateAction ∷ []) same (now (text .entry)) n w s acts (now (work .entry)) (now (work .exit)) r) ⌝ }
+pub fn signed(s: State, text: &[u8], w: Word, work: &mut Work, n: Counts) -> Answer
+    ensures { λ r. ⌜ (among (kindNo (w .kind)) (gotoSign ∷ callSign ∷ returnWord ∷ []) ≡ true → Acts (ask L.stateAction ∷ []) same (now (text .entry)) n w s (now (work .entry)) (now (work .exit)) r) ⌝ }
 {
     let taken = taking::take(text, w, s, true, Bearing::Level);
     if parse_step::unread(taken) {
-        return Acted {
-            answer: taken,
-            actions: acts,
-        };
+        return taken;
     }
     let found = w.kind;
     let kind = kinds::number(found);
     if kind == text_kinds::RETURN {
         let at = w.at;
-        return leaves::put(taken.state, Action::Return, at, taken.next, work, acts);
+        return leaves::put(taken.state, Action::Return, at, taken.next, work);
     }
-    arrow(
-        taken.state,
-        kind == text_kinds::CALL,
-        text,
-        taken.next,
-        work,
-        n,
-        acts,
-    )
+    arrow(taken.state, kind == text_kinds::CALL, text, taken.next, work, n)
 }
 
 // Whether a reference goes on behind a name in an operation: `[`, CON, `@`, `<-` or `=` comes.
@@ -139,22 +101,18 @@ pub fn named_in_operation(
     w: Word,
     work: &mut Work,
     n: Counts,
-    acts: u16,
-) -> Acted
-    ensures { λ r. ⌜ Acts (ask L.operationName ∷ []) (afterName name) (now (text .entry)) n w s acts (now (work .entry)) (now (work .exit)) r ⌝ }
+) -> Answer
+    ensures { λ r. ⌜ Acts (ask L.operationName ∷ []) (afterName name) (now (text .entry)) n w s (now (work .entry)) (now (work .exit)) r ⌝ }
 {
     let kind = w.kind;
     if refers(kinds::number(kind)) {
         let first = parse_expressions::reference(s, name, text, w, work);
         if parse_step::unread(first) {
-            return Acted {
-                answer: first,
-                actions: acts,
-            };
+            return first;
         }
-        return stores::rest(first.state, text, first.next, work, acts);
+        return stores::rest(first.state, text, first.next, work);
     }
-    perform(s, name, text, w, work, n, acts)
+    perform(s, name, text, w, work, n)
 }
 
 // An action of a state, behind its first name.
@@ -165,20 +123,16 @@ pub fn named_in_state(
     w: Word,
     work: &mut Work,
     n: Counts,
-    acts: u16,
-) -> Acted
-    ensures { λ r. ⌜ Acts (ask L.stateName ∷ []) (afterName name) (now (text .entry)) n w s acts (now (work .entry)) (now (work .exit)) r ⌝ }
+) -> Answer
+    ensures { λ r. ⌜ Acts (ask L.stateName ∷ []) (afterName name) (now (text .entry)) n w s (now (work .entry)) (now (work .exit)) r ⌝ }
 {
     let kind = w.kind;
     if sets(kinds::number(kind)) {
         let first = parse_expressions::reference(s, name, text, w, work);
         if parse_step::unread(first) {
-            return Acted {
-                answer: first,
-                actions: acts,
-            };
+            return first;
         }
-        return stores::set(first.state, text, first.next, work, acts);
+        return stores::set(first.state, text, first.next, work);
     }
-    perform(s, name, text, w, work, n, acts)
+    perform(s, name, text, w, work, n)
 }

@@ -1,9 +1,9 @@
 // What follows a reference on the left: `@`, a store's sign, or CON and a second reference.
-use crate::Acted;
 use crate::leaves;
 use image_records::actions::Action;
 use parse_array::Work;
 use parse_levels::Level;
+use parse_step::Answer;
 use parse_step::Bearing;
 use parse_step::State;
 use parse_step::adding;
@@ -46,41 +46,32 @@ fn storing(kind: u8, left: Sides, right: u16) -> Action
 }
 
 // `@` behind a reference.
-pub fn set(s: State, text: &[u8], w: Word, work: &mut Work, acts: u16) -> Acted
-    ensures { λ r. ⌜ AfterLeft L.setSign (now (text .entry)) w s acts (now (work .entry)) (now (work .exit)) r ⌝ }
+pub fn set(s: State, text: &[u8], w: Word, work: &mut Work) -> Answer
+    ensures { λ r. ⌜ AfterLeft L.setSign (now (text .entry)) w s (now (work .entry)) (now (work .exit)) r ⌝ }
 {
     let found = w.kind;
     if kinds::number(found) == text_kinds::AT {
         let taken = taking::take(text, w, s, true, Bearing::Level);
         if parse_step::unread(taken) {
-            return Acted {
-                answer: taken,
-                actions: acts,
-            };
+            return taken;
         }
         let at = w.at;
         let action = Action::Set(adding::last(taken.state.nodes));
-        return leaves::put(taken.state, action, at, taken.next, work, acts);
+        return leaves::put(taken.state, action, at, taken.next, work);
     }
-    Acted {
-        answer: taking::refuse(w, s, 3),
-        actions: acts,
-    }
+    taking::refuse(w, s, 3)
 }
 
 // A store, from its sign on.
-fn store(s: State, left: Sides, text: &[u8], w: Word, work: &mut Work, acts: u16) -> Acted
-    ensures { λ r. ⌜ Stores left (now (text .entry)) w s acts (now (work .entry)) (now (work .exit)) r ⌝ }
+fn store(s: State, left: Sides, text: &[u8], w: Word, work: &mut Work) -> Answer
+    ensures { λ r. ⌜ Stores left (now (text .entry)) w s (now (work .entry)) (now (work .exit)) r ⌝ }
 {
     let found = w.kind;
     let kind = kinds::number(found);
     if signs(kind) {
         let taken = taking::take(text, w, s, true, Bearing::Level);
         if parse_step::unread(taken) {
-            return Acted {
-                answer: taken,
-                actions: acts,
-            };
+            return taken;
         }
         let right = parse_expressions::start(
             taken.state,
@@ -90,62 +81,47 @@ fn store(s: State, left: Sides, text: &[u8], w: Word, work: &mut Work, acts: u16
             work,
         );
         if parse_step::unread(right) {
-            return Acted {
-                answer: right,
-                actions: acts,
-            };
+            return right;
         }
         let at = w.at;
         let action = storing(kind, left, adding::last(right.state.nodes));
-        return leaves::put(right.state, action, at, right.next, work, acts);
+        return leaves::put(right.state, action, at, right.next, work);
     }
-    Acted {
-        answer: taking::refuse(w, s, 3),
-        actions: acts,
-    }
+    taking::refuse(w, s, 3)
 }
 
 // CON, a second reference, and the store.
-fn second(s: State, text: &[u8], w: Word, work: &mut Work, acts: u16) -> Acted
-    ensures { λ r. ⌜ (kindNo (w .kind) ≡ conWord → AfterLeft L.leftRest (now (text .entry)) w s acts (now (work .entry)) (now (work .exit)) r) ⌝ }
+fn second(s: State, text: &[u8], w: Word, work: &mut Work) -> Answer
+    ensures { λ r. ⌜ (kindNo (w .kind) ≡ conWord → AfterLeft L.leftRest (now (text .entry)) w s (now (work .entry)) (now (work .exit)) r) ⌝ }
 {
     let taken = taking::take(text, w, s, false, Bearing::Level);
     if parse_step::unread(taken) {
-        return Acted {
-            answer: taken,
-            actions: acts,
-        };
+        return taken;
     }
     let kept = leaves::keep_name(text, taken.next, taken.state);
     if parse_step::unread(kept) {
-        return Acted {
-            answer: kept,
-            actions: acts,
-        };
+        return kept;
     }
     let other = parse_expressions::reference(kept.state, taken.next, text, kept.next, work);
     if parse_step::unread(other) {
-        return Acted {
-            answer: other,
-            actions: acts,
-        };
+        return other;
     }
     let left = Sides::Two(adding::last(s.nodes), adding::last(other.state.nodes));
-    store(other.state, left, text, other.next, work, acts)
+    store(other.state, left, text, other.next, work)
 }
 
 // What follows the first reference in an operation.
-pub fn rest(s: State, text: &[u8], w: Word, work: &mut Work, acts: u16) -> Acted
-    ensures { λ r. ⌜ AfterLeft L.leftRest (now (text .entry)) w s acts (now (work .entry)) (now (work .exit)) r ⌝ }
+pub fn rest(s: State, text: &[u8], w: Word, work: &mut Work) -> Answer
+    ensures { λ r. ⌜ AfterLeft L.leftRest (now (text .entry)) w s (now (work .entry)) (now (work .exit)) r ⌝ }
 {
     let found = w.kind;
     let kind = kinds::number(found);
     if kind == text_kinds::CON {
-        return second(s, text, w, work, acts);
+        return second(s, text, w, work);
     }
     if kind == text_kinds::AT {
-        return set(s, text, w, work, acts);
+        return set(s, text, w, work);
     }
     let left = Sides::One(adding::last(s.nodes));
-    store(s, left, text, w, work, acts)
+    store(s, left, text, w, work)
 }

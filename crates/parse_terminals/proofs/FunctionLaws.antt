@@ -15,7 +15,7 @@ use Rattle.parse_facilities.proofs.StoredLaws.{others-same, others-then}
 use Rattle.parse_facilities.proofs.Unexpressed.{Bare, bare-awaits}
 use Rattle.parse_facilities.specs.Listed.{Awaiting}
 use Rattle.parse_facilities.specs.Specs.{declarationOf}
-use Rattle.parse_bounds.proofs.States.{state-of}
+use Rattle.parse_step.proofs.States.{state-of}
 use Rattle.parse_bounds.proofs.Telling.{through, word-taken}
 use Rattle.parse_bounds.specs.Extents.{ofTerminal, toCome}
 use Rattle.image_sections.specs.declared.facilities.Kind.{Kind}

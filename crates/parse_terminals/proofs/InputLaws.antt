@@ -14,7 +14,7 @@ use Rattle.parse_step.specs.declared.Verdict.the-variants.{Done}
 use Rattle.parse_step.specs.Course.{Seen, Stack, behind, countsOf, kindNo, runs, runsOn}
 use Rattle.parse_step.specs.Taken.{Expected, Passed, Refuses, Took, afterWord}
 use Rattle.parse_facilities.specs.Specs.{declarationOf}
-use Rattle.parse_bounds.proofs.States.{state-of}
+use Rattle.parse_step.proofs.States.{state-of}
 use Rattle.parse_bounds.proofs.Telling.{expected, refuses, through, word-taken}
 use Rattle.parse_bounds.specs.Extents.{closedState}
 use Rattle.parse_bounds.specs.Telling.{Tells, same}

@@ -81,10 +81,10 @@ module _ {text : List ℕ} {w : Word} {s : State} {a : Answer} (x : Names text w
         u = f text ds d (v .awaiting) (said text (r .kind) w (z .tree) (v .function) (facilitySize ds) (st .seen) (st .short) (z .extent) (v .number) (v .equals))
 
         begins : OthersKept s (m .answer .state)
-        begins = record { operations = ap (λ (j : State). j .operations) counted; states = ap (λ (j : State). j .states) counted; nesting = ap (λ (j : State). j .nesting) counted }
+        begins = record { operations = ap (λ (j : State). j .operations) counted; states = ap (λ (j : State). j .states) counted; nesting = ap (λ (j : State). j .nesting) counted; actions = ap (λ (j : State). j .actions) counted }
 
         ends : OthersKept (r .answer .state) (q .answer .state)
-        ends = record { operations = ap (λ (j : State). j .operations) (u .state); states = ap (λ (j : State). j .states) (u .state); nesting = ap (λ (j : State). j .nesting) (u .state) }
+        ends = record { operations = ap (λ (j : State). j .operations) (u .state); states = ap (λ (j : State). j .states) (u .state); nesting = ap (λ (j : State). j .nesting) (u .state); actions = ap (λ (j : State). j .actions) (u .state) }
 
         read : OneRead text ds (ask terminalSpec ∷ []) F.Plain w s work₂ q
         read = record {

@@ -32,26 +32,24 @@ pub fn described(text: &[u8], work: &mut Work) -> Outcome
     ensures { λ r. ⌜ Described (now (text .entry)) (now (work .exit)) r ⌝ }
 {
     let opened = parse_sections::preamble(text, work);
-    let answer = opened.answer;
-    let verdict = answer.verdict;
+    let verdict = opened.verdict;
     let Verdict::Done = verdict else {
         return stopped(verdict);
     };
-    let w = answer.next;
-    let s = answer.state;
+    let w = opened.next;
+    let s = opened.state;
     let l = lengths::sequencing_length(work, s.known);
-    let read = twice::states_of(text, work, w, s, opened.actions, l);
-    let last = read.answer;
-    let verdict = last.verdict;
+    let read = twice::states_of(text, work, w, s, l);
+    let verdict = read.verdict;
     let Verdict::Done = verdict else {
         return stopped(verdict);
     };
-    let end = last.state;
+    let end = read.state;
     let c = Tally {
         facilities: s.known,
         operations: s.operations,
         nodes: end.nodes,
-        actions: read.actions,
+        actions: end.actions,
         states: end.states,
     };
     Outcome::Done(c)

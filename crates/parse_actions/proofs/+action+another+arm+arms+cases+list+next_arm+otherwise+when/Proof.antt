@@ -40,7 +40,6 @@ use Rattle.parse_actions.proofs.when.Reads as when
 use Rattle.parse_actions.proofs.when.Kinds as when-kinds
 use Rattle.parse_actions.proofs.+action+another+arm+arms+cases+list+next_arm+otherwise+when.Lts-when as when-lts
 use Rattle.parse_actions.proofs.condition.Reads as condition-reads
-use Rattle.parse_actions.proofs.leaves.answered.Reads as answered-reads
 use Rattle.parse_actions.proofs.leaves.arm_again.Reads as arm-again-reads
 use Rattle.parse_actions.proofs.leaves.choose_again.Reads as choose-again-reads
 use Rattle.parse_actions.proofs.leaves.end_if.Reads as end-if-reads
@@ -148,7 +147,7 @@ abbrev action-calls : ℕ → action-lts.Claims
 action-calls t = (number-reads.Asked, number-reads.Learnt, when-below t, when.Post, cases-below t, cases.Post, plain-reads.Asked, plain-reads.Learnt)
 
 abbrev another-calls : ℕ → another-lts.Claims
-another-calls t = (take-reads.Asked, take-reads.Learnt, unread-reads.Asked, unread-reads.Learnt, answered-reads.Asked, answered-reads.Learnt, at-reads.Asked, at-reads.Learnt, action-below t, action.Post)
+another-calls t = (take-reads.Asked, take-reads.Learnt, unread-reads.Asked, unread-reads.Learnt, at-reads.Asked, at-reads.Learnt, action-below t, action.Post)
 
 abbrev arm-calls : ℕ → arm-lts.Claims
 arm-calls t = (position-reads.Asked, position-reads.Learnt, put-reads.Asked, put-reads.Learnt, unread-reads.Asked, unread-reads.Learnt, list-below t, list.Post, arm-again-reads.Asked, arm-again-reads.Learnt)
@@ -157,19 +156,19 @@ abbrev arms-calls : ℕ → arms-lts.Claims
 arms-calls t = (arm-below t, arm.Post, unread-reads.Asked, unread-reads.Learnt, is-reads.Asked, is-reads.Learnt, at-reads.Asked, at-reads.Learnt, next-arm-below t, next-arm.Post)
 
 abbrev cases-calls : ℕ → cases-lts.Claims
-cases-calls t = (condition-reads.Asked, condition-reads.Learnt, unread-reads.Asked, unread-reads.Learnt, arms-below t, arms.Post, expect-reads.Asked, expect-reads.Learnt, choose-again-reads.Asked, choose-again-reads.Learnt, answered-reads.Asked, answered-reads.Learnt)
+cases-calls t = (condition-reads.Asked, condition-reads.Learnt, unread-reads.Asked, unread-reads.Learnt, arms-below t, arms.Post, expect-reads.Asked, expect-reads.Learnt, choose-again-reads.Asked, choose-again-reads.Learnt)
 
 abbrev list-calls : ℕ → list-lts.Claims
 list-calls t = (action-below t, action.Post, unread-reads.Asked, unread-reads.Learnt, is-reads.Asked, is-reads.Learnt, at-reads.Asked, at-reads.Learnt, another-below t, another.Post)
 
 abbrev next-arm-calls : ℕ → next-arm-lts.Claims
-next-arm-calls t = (take-reads.Asked, take-reads.Learnt, unread-reads.Asked, unread-reads.Learnt, answered-reads.Asked, answered-reads.Learnt, at-reads.Asked, at-reads.Learnt, arm-below t, arm.Post)
+next-arm-calls t = (take-reads.Asked, take-reads.Learnt, unread-reads.Asked, unread-reads.Learnt, at-reads.Asked, at-reads.Learnt, arm-below t, arm.Post)
 
 abbrev otherwise-calls : ℕ → otherwise-lts.Claims
-otherwise-calls t = (expect-reads.Asked, expect-reads.Learnt, unread-reads.Asked, unread-reads.Learnt, answered-reads.Asked, answered-reads.Learnt, at-reads.Asked, at-reads.Learnt, arm-below t, arm.Post)
+otherwise-calls t = (expect-reads.Asked, expect-reads.Learnt, unread-reads.Asked, unread-reads.Learnt, at-reads.Asked, at-reads.Learnt, arm-below t, arm.Post)
 
 abbrev when-calls : ℕ → when-lts.Claims
-when-calls t = (condition-reads.Asked, condition-reads.Learnt, unread-reads.Asked, unread-reads.Learnt, arm-below t, arm.Post, is-reads.Asked, is-reads.Learnt, end-if-reads.Asked, end-if-reads.Learnt, when-again-reads.Asked, when-again-reads.Learnt, answered-reads.Asked, answered-reads.Learnt, at-reads.Asked, at-reads.Learnt, otherwise-below t, otherwise.Post, choose-again-reads.Asked, choose-again-reads.Learnt)
+when-calls t = (condition-reads.Asked, condition-reads.Learnt, unread-reads.Asked, unread-reads.Learnt, arm-below t, arm.Post, is-reads.Asked, is-reads.Learnt, end-if-reads.Asked, end-if-reads.Learnt, when-again-reads.Asked, when-again-reads.Learnt, at-reads.Asked, at-reads.Learnt, otherwise-below t, otherwise.Post, choose-again-reads.Asked, choose-again-reads.Learnt)
 
 action-number-requires : (t : ℕ) → action-lts.Need-number-requires (action-calls t) (action-at t) action.Post
 action-number-requires t c κs = search needs
@@ -201,12 +200,9 @@ another-take-requires t c κs = search needs
 another-unread-requires : (t : ℕ) → another-lts.Need-unread-requires (another-calls t) (another-at t) another.Post
 another-unread-requires t c κs = search needs
 
-another-answered-requires : (t : ℕ) → another-lts.Need-answered-requires (another-calls t) (another-at t) another.Post
-another-answered-requires t c κs = search needs
-
 another-returns : (t : ℕ) → another-lts.Need-returns (another-calls t) (another-at t) another.Post
 another-returns t c =
-    rw (c .answered .ensures) (another-not (c .before .before .before .before .before .args .in-state) (c .before .before .before .take .ensures) (c .before .before .unread .ensures .1 (c .before .if1 .taken)))
+    another-not (c .before .before .before .before .args .in-state) (c .before .before .take .ensures) (c .before .unread .ensures .1 (c .if1 .taken))
 
 another-at-requires : (t : ℕ) → another-lts.Need-at-requires (another-calls t) (another-at t) another.Post
 another-at-requires t c κs = search needs
@@ -233,7 +229,8 @@ arm-returns t c =
     arm-full (c .before .before .before .before .before .before .args .in-state) (c .before .before .put .ensures) (c .before .unread .ensures .1 (c .if1 .taken))
 
 arm-list-requires : (t : ℕ) → arm-lts.Need-list-requires (arm-calls t) (arm-at t) arm.Post
-arm-list-requires t c κs = search needs
+arm-list-requires t c κs =
+    let h : c .before .before .before .put .result .state .nesting ≡ c .before .before .before .before .before .before .before .args .s .nesting = ap (λ (q : State). q .nesting) (c .before .before .before .put .ensures .state (c .before .before .unread .ensures .0 (c .before .if1 .left))) in search needs
 
 arm-unread-requires-2 : (t : ℕ) → arm-lts.Need-unread-requires-2 (arm-calls t) (arm-at t) arm.Post
 arm-unread-requires-2 t c κs = search needs
@@ -250,10 +247,10 @@ arm-returns-3 t c =
     arm-says (c .before .before .before .before .before .before .before .before .before .before .before .before .args .in-state) (c .before .before .before .before .before .before .before .before .put .ensures) (c .before .before .before .before .before .before .before .unread .ensures .0 (c .before .before .before .before .before .before .if1 .left)) (c .before .before .before .before .list .ensures) (c .before .before .before .before .before .before .before .before .before .before .position .ensures) (c .before .before .before .unread2 .ensures .0 (c .before .before .if2 .left)) (c .arm-again .ensures)
 
 abbrev arms-Inv-loop : arms-lts.InvT-loop
-arms-Inv-loop s in-state text work₀ n acts read₀ count₀ work read count = ((w : Word) (v : List ℕ) → Arming in-state text n w s acts v count₀ read₀ work₀ → Arming in-state text n w s acts v count read work) × (count ≤ 2049)
+arms-Inv-loop s in-state text work₀ n read₀ count₀ work read count = ((w : Word) (v : List ℕ) → Arming in-state text n w s v count₀ read₀ work₀ → Arming in-state text n w s v count read work) × (count ≤ 2049)
 
 abbrev arms-μ-loop : arms-lts.MeasureT-loop
-arms-μ-loop s in-state text work₀ n acts read₀ count₀ work read count = 2049 - count
+arms-μ-loop s in-state text work₀ n read₀ count₀ work read count = 2049 - count
 
 arms-arm-requires : (t : ℕ) → arms-lts.Need-arm-requires (arms-calls t) (arms-at t) arms.Post arms-Inv-loop arms-μ-loop
 arms-arm-requires t c κs =
@@ -315,7 +312,7 @@ cases-returns t c =
 
 cases-arms-requires : (t : ℕ) → cases-lts.Need-arms-requires (cases-calls t) (cases-at t) cases.Post
 cases-arms-requires t c κs =
-    let p = c .before .before .before .condition .ensures .1 (c .before .before .unread .ensures .0 (c .before .if1 .left)) in let g : c .before .before .before .condition .result .answer .state .nesting ≡ suc (c .before .before .before .before .before .before .args .s .nesting) = p .0 in let d : c .before .before .before .condition .result .answer .state .nesting ≤ 24 = p .1 in search needs
+    let p = c .before .before .before .condition .ensures .1 (c .before .before .unread .ensures .0 (c .before .if1 .left)) in let g : c .before .before .before .condition .result .state .nesting ≡ suc (c .before .before .before .before .before .before .args .s .nesting) = p .0 in let d : c .before .before .before .condition .result .state .nesting ≤ 24 = p .1 in search needs
 
 cases-unread-requires-2 : (t : ℕ) → cases-lts.Need-unread-requires-2 (cases-calls t) (cases-at t) cases.Post
 cases-unread-requires-2 t c κs = search needs
@@ -330,18 +327,15 @@ cases-expect-requires t c κs = search needs
 cases-choose-again-requires : (t : ℕ) → cases-lts.Need-choose-again-requires (cases-calls t) (cases-at t) cases.Post
 cases-choose-again-requires t c κs = search needs
 
-cases-answered-requires : (t : ℕ) → cases-lts.Need-answered-requires (cases-calls t) (cases-at t) cases.Post
-cases-answered-requires t c κs = search needs
-
 cases-returns-3 : (t : ℕ) → cases-lts.Need-returns-3 (cases-calls t) (cases-at t) cases.Post
 cases-returns-3 t c =
-    rw (c .answered .ensures) (case-says (c .before .before .before .before .before .before .before .before .before .before .before .before .before .before .args .in-state) (c .before .before .before .before .before .before .before .before .before .before .before .condition .ensures .0 (c .before .before .before .before .before .before .before .before .before .before .before .before .before .before .args .n)) (c .before .before .before .before .before .before .before .before .before .before .unread .ensures .0 (c .before .before .before .before .before .before .before .before .before .if1 .left)) (c .before .before .before .before .before .before .before .arms .ensures) (c .before .before .before .before .before .unread2 .ensures .0 (c .before .before .before .before .if2 .left)) (c .before .before .before .expect .ensures) (c .before .choose-again .ensures))
+    case-says (c .before .before .before .before .before .before .before .before .before .before .before .before .before .args .in-state) (c .before .before .before .before .before .before .before .before .before .before .condition .ensures .0 (c .before .before .before .before .before .before .before .before .before .before .before .before .before .args .n)) (c .before .before .before .before .before .before .before .before .before .unread .ensures .0 (c .before .before .before .before .before .before .before .before .if1 .left)) (c .before .before .before .before .before .before .arms .ensures) (c .before .before .before .before .unread2 .ensures .0 (c .before .before .before .if2 .left)) (c .before .before .expect .ensures) (c .choose-again .ensures)
 
 abbrev list-Inv-loop : list-lts.InvT-loop
-list-Inv-loop s in-state text work₀ n acts read₀ count₀ work read count = ((w : Word) (v : List ℕ) → Going in-state text n w s acts v count₀ read₀ work₀ → Going in-state text n w s acts v count read work) × (count ≤ 2049)
+list-Inv-loop s in-state text work₀ n read₀ count₀ work read count = ((w : Word) (v : List ℕ) → Going in-state text n w s v count₀ read₀ work₀ → Going in-state text n w s v count read work) × (count ≤ 2049)
 
 abbrev list-μ-loop : list-lts.MeasureT-loop
-list-μ-loop s in-state text work₀ n acts read₀ count₀ work read count = 2049 - count
+list-μ-loop s in-state text work₀ n read₀ count₀ work read count = 2049 - count
 
 list-action-requires : (t : ℕ) → list-lts.Need-action-requires (list-calls t) (list-at t) list.Post list-Inv-loop list-μ-loop
 list-action-requires t c κs =
@@ -397,12 +391,9 @@ next-arm-take-requires t c κs = search needs
 next-arm-unread-requires : (t : ℕ) → next-arm-lts.Need-unread-requires (next-arm-calls t) (next-arm-at t) next-arm.Post
 next-arm-unread-requires t c κs = search needs
 
-next-arm-answered-requires : (t : ℕ) → next-arm-lts.Need-answered-requires (next-arm-calls t) (next-arm-at t) next-arm.Post
-next-arm-answered-requires t c κs = search needs
-
 next-arm-returns : (t : ℕ) → next-arm-lts.Need-returns (next-arm-calls t) (next-arm-at t) next-arm.Post
 next-arm-returns t c =
-    rw (c .answered .ensures) (next-arm-not (c .before .before .before .before .before .args .in-state) (c .before .before .before .take .ensures) (c .before .before .unread .ensures .1 (c .before .if1 .taken)))
+    next-arm-not (c .before .before .before .before .args .in-state) (c .before .before .take .ensures) (c .before .unread .ensures .1 (c .if1 .taken))
 
 next-arm-at-requires : (t : ℕ) → next-arm-lts.Need-at-requires (next-arm-calls t) (next-arm-at t) next-arm.Post
 next-arm-at-requires t c κs = search needs
@@ -421,12 +412,9 @@ otherwise-expect-requires t c κs = search needs
 otherwise-unread-requires : (t : ℕ) → otherwise-lts.Need-unread-requires (otherwise-calls t) (otherwise-at t) otherwise.Post
 otherwise-unread-requires t c κs = search needs
 
-otherwise-answered-requires : (t : ℕ) → otherwise-lts.Need-answered-requires (otherwise-calls t) (otherwise-at t) otherwise.Post
-otherwise-answered-requires t c κs = search needs
-
 otherwise-returns : (t : ℕ) → otherwise-lts.Need-returns (otherwise-calls t) (otherwise-at t) otherwise.Post
 otherwise-returns t c =
-    rw (c .answered .ensures) (else-not (c .before .before .before .before .before .args .in-state) (c .before .before .before .expect .ensures) (c .before .before .unread .ensures .1 (c .before .if1 .taken)))
+    else-not (c .before .before .before .before .args .in-state) (c .before .before .expect .ensures) (c .before .unread .ensures .1 (c .if1 .taken))
 
 otherwise-at-requires : (t : ℕ) → otherwise-lts.Need-at-requires (otherwise-calls t) (otherwise-at t) otherwise.Post
 otherwise-at-requires t c κs = search needs
@@ -451,7 +439,7 @@ when-returns t c =
 
 when-arm-requires : (t : ℕ) → when-lts.Need-arm-requires (when-calls t) (when-at t) when.Post
 when-arm-requires t c κs =
-    let p = c .before .before .before .condition .ensures .1 (c .before .before .unread .ensures .0 (c .before .if1 .left)) in let g : c .before .before .before .condition .result .answer .state .nesting ≡ suc (c .before .before .before .before .before .before .args .s .nesting) = p .0 in let d : c .before .before .before .condition .result .answer .state .nesting ≤ 24 = p .1 in search needs
+    let p = c .before .before .before .condition .ensures .1 (c .before .before .unread .ensures .0 (c .before .if1 .left)) in let g : c .before .before .before .condition .result .state .nesting ≡ suc (c .before .before .before .before .before .before .args .s .nesting) = p .0 in let d : c .before .before .before .condition .result .state .nesting ≤ 24 = p .1 in search needs
 
 when-unread-requires-2 : (t : ℕ) → when-lts.Need-unread-requires-2 (when-calls t) (when-at t) when.Post
 when-unread-requires-2 t c κs = search needs
@@ -469,19 +457,16 @@ when-end-if-requires t c κs = search needs
 when-when-again-requires : (t : ℕ) → when-lts.Need-when-again-requires (when-calls t) (when-at t) when.Post
 when-when-again-requires t c κs = search needs
 
-when-answered-requires : (t : ℕ) → when-lts.Need-answered-requires (when-calls t) (when-at t) when.Post
-when-answered-requires t c κs = search needs
-
 when-returns-3 : (t : ℕ) → when-lts.Need-returns-3 (when-calls t) (when-at t) when.Post
 when-returns-3 t c =
-    rw (c .answered .ensures) (if-says (c .before .before .before .before .before .before .before .before .before .before .before .before .before .before .before .args .in-state) (c .before .before .before .before .before .before .before .before .before .before .before .before .condition .ensures .0 (c .before .before .before .before .before .before .before .before .before .before .before .before .before .before .before .args .n)) (c .before .before .before .before .before .before .before .before .before .before .before .unread .ensures .0 (c .before .before .before .before .before .before .before .before .before .before .if1 .left)) (c .before .before .before .before .before .before .before .before .arm .ensures) (c .before .before .before .before .before .before .before .unread2 .ensures .0 (c .before .before .before .before .before .before .if2 .left)) (c .before .before .before .before .before .is .ensures) (c .before .before .before .before .if3 .taken) (c .before .before .before .end-if .ensures) (c .before .when-again .ensures))
+    if-says (c .before .before .before .before .before .before .before .before .before .before .before .before .before .before .args .in-state) (c .before .before .before .before .before .before .before .before .before .before .before .condition .ensures .0 (c .before .before .before .before .before .before .before .before .before .before .before .before .before .before .args .n)) (c .before .before .before .before .before .before .before .before .before .before .unread .ensures .0 (c .before .before .before .before .before .before .before .before .before .if1 .left)) (c .before .before .before .before .before .before .before .arm .ensures) (c .before .before .before .before .before .before .unread2 .ensures .0 (c .before .before .before .before .before .if2 .left)) (c .before .before .before .before .is .ensures) (c .before .before .before .if3 .taken) (c .before .before .end-if .ensures) (c .when-again .ensures)
 
 when-at-requires : (t : ℕ) → when-lts.Need-at-requires (when-calls t) (when-at t) when.Post
 when-at-requires t c κs = search needs
 
 when-otherwise-requires : (t : ℕ) → when-lts.Need-otherwise-requires (when-calls t) (when-at t) when.Post
 when-otherwise-requires t c κs =
-    let e = c .before .before .before .before .before .before .before .before .before .before .before .before .before .pre .0 in let p = c .before .before .before .before .before .before .before .before .before .before .condition .ensures .1 (c .before .before .before .before .before .before .before .before .before .unread .ensures .0 (c .before .before .before .before .before .before .before .before .if1 .left)) in let g : c .before .before .before .before .before .before .before .before .before .before .condition .result .answer .state .nesting ≡ suc (c .before .before .before .before .before .before .before .before .before .before .before .before .before .args .s .nesting) = p .0 in let d : c .before .before .before .before .before .before .before .before .before .before .condition .result .answer .state .nesting ≤ 24 = p .1 in let h : c .before .at .result .nesting ≡ c .before .before .before .before .before .before .before .before .before .before .condition .result .answer .state .nesting = ap (λ (q : State). q .nesting) (c .before .at .ensures) in search needs
+    let e = c .before .before .before .before .before .before .before .before .before .before .before .before .before .pre .0 in let p = c .before .before .before .before .before .before .before .before .before .before .condition .ensures .1 (c .before .before .before .before .before .before .before .before .before .unread .ensures .0 (c .before .before .before .before .before .before .before .before .if1 .left)) in let g : c .before .before .before .before .before .before .before .before .before .before .condition .result .state .nesting ≡ suc (c .before .before .before .before .before .before .before .before .before .before .before .before .before .args .s .nesting) = p .0 in let d : c .before .before .before .before .before .before .before .before .before .before .condition .result .state .nesting ≤ 24 = p .1 in let h : c .before .at .result .nesting ≡ c .before .before .before .before .before .before .before .before .before .before .condition .result .state .nesting = ap (λ (q : State). q .nesting) (c .before .at .ensures) in search needs
 
 when-unread-requires-3 : (t : ℕ) → when-lts.Need-unread-requires-3 (when-calls t) (when-at t) when.Post
 when-unread-requires-3 t c κs = search needs
@@ -496,12 +481,9 @@ when-end-if-requires-2 t c κs = search needs
 when-choose-again-requires : (t : ℕ) → when-lts.Need-choose-again-requires (when-calls t) (when-at t) when.Post
 when-choose-again-requires t c κs = search needs
 
-when-answered-requires-2 : (t : ℕ) → when-lts.Need-answered-requires-2 (when-calls t) (when-at t) when.Post
-when-answered-requires-2 t c κs = search needs
-
 when-returns-5 : (t : ℕ) → when-lts.Need-returns-5 (when-calls t) (when-at t) when.Post
 when-returns-5 t c =
-    rw (c .answered2 .ensures) (if-else-says (c .before .before .before .before .before .before .before .before .before .before .before .before .before .before .before .before .before .before .before .before .args .in-state) (c .before .before .before .before .before .before .before .before .before .before .before .before .before .before .before .before .before .condition .ensures .0 (c .before .before .before .before .before .before .before .before .before .before .before .before .before .before .before .before .before .before .before .before .args .n)) (c .before .before .before .before .before .before .before .before .before .before .before .before .before .before .before .before .unread .ensures .0 (c .before .before .before .before .before .before .before .before .before .before .before .before .before .before .before .if1 .left)) (c .before .before .before .before .before .before .before .before .before .before .before .before .before .arm .ensures) (c .before .before .before .before .before .before .before .before .before .before .before .before .unread2 .ensures .0 (c .before .before .before .before .before .before .before .before .before .before .before .if2 .left)) (c .before .before .before .before .before .before .before .before .before .before .is .ensures) (c .before .before .before .before .before .before .before .before .before .if3 .left) (c .before .before .before .before .before .before .before .before .at .ensures) (c .before .before .before .before .before .before .otherwise .ensures) (c .before .before .before .before .before .unread3 .ensures .0 (c .before .before .before .before .if4 .left)) (c .before .before .before .end-if2 .ensures) (c .before .choose-again .ensures))
+    if-else-says (c .before .before .before .before .before .before .before .before .before .before .before .before .before .before .before .before .before .before .before .args .in-state) (c .before .before .before .before .before .before .before .before .before .before .before .before .before .before .before .before .condition .ensures .0 (c .before .before .before .before .before .before .before .before .before .before .before .before .before .before .before .before .before .before .before .args .n)) (c .before .before .before .before .before .before .before .before .before .before .before .before .before .before .before .unread .ensures .0 (c .before .before .before .before .before .before .before .before .before .before .before .before .before .before .if1 .left)) (c .before .before .before .before .before .before .before .before .before .before .before .before .arm .ensures) (c .before .before .before .before .before .before .before .before .before .before .before .unread2 .ensures .0 (c .before .before .before .before .before .before .before .before .before .before .if2 .left)) (c .before .before .before .before .before .before .before .before .before .is .ensures) (c .before .before .before .before .before .before .before .before .if3 .left) (c .before .before .before .before .before .before .before .at .ensures) (c .before .before .before .before .before .otherwise .ensures) (c .before .before .before .before .unread3 .ensures .0 (c .before .before .before .if4 .left)) (c .before .before .end-if2 .ensures) (c .choose-again .ensures)
 
 pub +action+another+arm+arms+cases+list+next-arm+otherwise+when-spec : {M : Type 1} → statement M
 +action+another+arm+arms+cases+list+next-arm+otherwise+when-spec =
@@ -530,7 +512,6 @@ pub +action+another+arm+arms+cases+list+next-arm+otherwise+when-spec : {M : Type
     another.Post
     (another-take-requires t)
     (another-unread-requires t)
-    (another-answered-requires t)
     (another-returns t)
     (another-at-requires t)
     (another-action-requires t)
@@ -575,7 +556,6 @@ pub +action+another+arm+arms+cases+list+next-arm+otherwise+when-spec : {M : Type
     (cases-returns-2 t)
     (cases-expect-requires t)
     (cases-choose-again-requires t)
-    (cases-answered-requires t)
     (cases-returns-3 t))
     (λ t. list-lts.spec (list-calls t)
     (list-at t)
@@ -599,7 +579,6 @@ pub +action+another+arm+arms+cases+list+next-arm+otherwise+when-spec : {M : Type
     next-arm.Post
     (next-arm-take-requires t)
     (next-arm-unread-requires t)
-    (next-arm-answered-requires t)
     (next-arm-returns t)
     (next-arm-at-requires t)
     (next-arm-arm-requires t)
@@ -609,7 +588,6 @@ pub +action+another+arm+arms+cases+list+next-arm+otherwise+when-spec : {M : Type
     otherwise.Post
     (otherwise-expect-requires t)
     (otherwise-unread-requires t)
-    (otherwise-answered-requires t)
     (otherwise-returns t)
     (otherwise-at-requires t)
     (otherwise-arm-requires t)
@@ -626,7 +604,6 @@ pub +action+another+arm+arms+cases+list+next-arm+otherwise+when-spec : {M : Type
     (when-is-requires t)
     (when-end-if-requires t)
     (when-when-again-requires t)
-    (when-answered-requires t)
     (when-returns-3 t)
     (when-at-requires t)
     (when-otherwise-requires t)
@@ -634,5 +611,4 @@ pub +action+another+arm+arms+cases+list+next-arm+otherwise+when-spec : {M : Type
     (when-returns-4 t)
     (when-end-if-requires-2 t)
     (when-choose-again-requires t)
-    (when-answered-requires-2 t)
     (when-returns-5 t)

@@ -9,12 +9,9 @@ take-requires c κs = search needs
 unread-requires : tie.Need-unread-requires
 unread-requires c κs = search needs
 
-answered-requires : tie.Need-answered-requires
-answered-requires c κs = search needs
-
 returns : tie.Need-returns
 returns c =
-    rw (c .answered .ensures) ((λ m. word-not (c .before .before .before .before .before .args .case) (c .before .before .before .take .ensures) (c .before .before .unread .ensures .1 (c .before .if1 .taken))), λ d. absurd (c .before .before .unread .ensures .1 (c .before .if1 .taken) d))
+    ((λ m. word-not (c .before .before .before .before .args .case) (c .before .before .take .ensures) (c .before .unread .ensures .1 (c .if1 .taken))), λ d. absurd (c .before .unread .ensures .1 (c .if1 .taken) d))
 
 start-requires : tie.Need-start-requires
 start-requires c κs = search needs
@@ -22,12 +19,9 @@ start-requires c κs = search needs
 unread-requires-2 : tie.Need-unread-requires-2
 unread-requires-2 c κs = search needs
 
-answered-requires-2 : tie.Need-answered-requires-2
-answered-requires-2 c κs = search needs
-
 returns-2 : tie.Need-returns-2
 returns-2 c =
-    rw (c .answered2 .ensures) ((λ m. condition-not (c .before .before .before .before .before .before .before .before .before .args .case) (c .before .before .before .before .before .before .before .take .ensures) (c .before .before .before .before .before .before .unread .ensures .0 (c .before .before .before .before .before .if1 .left)) (c .before .before .before .start .ensures .0) (c .before .before .before .start .ensures .1) (c .before .before .unread2 .ensures .1 (c .before .if2 .taken))), λ d. absurd (c .before .before .unread2 .ensures .1 (c .before .if2 .taken) d))
+    ((λ m. condition-not (c .before .before .before .before .before .before .before .before .args .case) (c .before .before .before .before .before .before .take .ensures) (c .before .before .before .before .before .unread .ensures .0 (c .before .before .before .before .if1 .left)) (c .before .before .start .ensures .0) (c .before .before .start .ensures .1) (c .before .unread2 .ensures .1 (c .if2 .taken))), λ d. absurd (c .before .unread2 .ensures .1 (c .if2 .taken) d))
 
 first-word-requires : tie.Need-first-word-requires
 first-word-requires c κs = search needs
@@ -38,12 +32,9 @@ expect-requires c κs = search needs
 unread-requires-3 : tie.Need-unread-requires-3
 unread-requires-3 c κs = search needs
 
-answered-requires-3 : tie.Need-answered-requires-3
-answered-requires-3 c κs = search needs
-
 returns-3 : tie.Need-returns-3
 returns-3 c =
-    rw (c .answered3 .ensures) ((λ m. branch-not (c .before .before .before .before .before .before .before .before .before .before .before .before .before .args .case) (c .before .before .before .before .before .before .before .before .before .before .before .take .ensures) (c .before .before .before .before .before .before .before .before .before .before .unread .ensures .0 (c .before .before .before .before .before .before .before .before .before .if1 .left)) (c .before .before .before .before .before .before .before .start .ensures .0) (c .before .before .before .before .before .before .before .start .ensures .1) (c .before .before .before .before .before .before .unread2 .ensures .0 (c .before .before .before .before .before .if2 .left)) (rw (c .before .before .before .before .first-word .ensures) at (c .before .before .before .expect .ensures)) (c .before .before .unread3 .ensures .1 (c .before .if3 .taken))), λ d. absurd (c .before .before .unread3 .ensures .1 (c .before .if3 .taken) d))
+    ((λ m. branch-not (c .before .before .before .before .before .before .before .before .before .before .before .before .args .case) (c .before .before .before .before .before .before .before .before .before .before .take .ensures) (c .before .before .before .before .before .before .before .before .before .unread .ensures .0 (c .before .before .before .before .before .before .before .before .if1 .left)) (c .before .before .before .before .before .before .start .ensures .0) (c .before .before .before .before .before .before .start .ensures .1) (c .before .before .before .before .before .unread2 .ensures .0 (c .before .before .before .before .if2 .left)) (rw (c .before .before .before .first-word .ensures) at (c .before .before .expect .ensures)) (c .before .unread3 .ensures .1 (c .if3 .taken))), λ d. absurd (c .before .unread3 .ensures .1 (c .if3 .taken) d))
 
 at-requires : tie.Need-at-requires
 at-requires c κs = search needs
@@ -61,16 +52,13 @@ condition-spec =
     (tie.spec
     take-requires
     unread-requires
-    answered-requires
     returns
     start-requires
     unread-requires-2
-    answered-requires-2
     returns-2
     first-word-requires
     expect-requires
     unread-requires-3
-    answered-requires-3
     returns-3
     at-requires
     put-requires

@@ -10,12 +10,9 @@ take-requires c κs = search needs
 unread-requires : tie.Need-unread-requires
 unread-requires c κs = search needs
 
-answered-requires : tie.Need-answered-requires
-answered-requires c κs = search needs
-
 returns : tie.Need-returns
 returns c =
-    rw (c .answered .ensures) (named-not (c .before .before .before .before .before .args .in-state) (c .before .before .before .take .ensures) (c .before .before .unread .ensures .1 (c .before .if1 .taken)))
+    named-not (c .before .before .before .before .args .in-state) (c .before .before .take .ensures) (c .before .unread .ensures .1 (c .if1 .taken))
 
 named-in-state-requires : tie.Need-named-in-state-requires
 named-in-state-requires c κs = search needs
@@ -37,7 +34,6 @@ named-spec =
     (tie.spec
     take-requires
     unread-requires
-    answered-requires
     returns
     named-in-state-requires
     returns-2

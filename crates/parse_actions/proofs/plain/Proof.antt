@@ -24,12 +24,9 @@ returns-2 c =
 refuse-requires : tie.Need-refuse-requires
 refuse-requires c κs = search needs
 
-answered-requires : tie.Need-answered-requires
-answered-requires c κs = search needs
-
 returns-3 : tie.Need-returns-3
 returns-3 c =
-    rw (c .before .before .if2 .left, c .answered .ensures) (operation-not (c .before .refuse .ensures) (c .before .before .before .before .number .ensures) (c .before .before .before .if1 .left))
+    rw (c .before .if2 .left) (operation-not (c .refuse .ensures) (c .before .before .before .number .ensures) (c .before .before .if1 .left))
 
 pub plain-spec : {M : Type 1} → statement M
 plain-spec =
@@ -41,5 +38,4 @@ plain-spec =
     signed-requires
     returns-2
     refuse-requires
-    answered-requires
     returns-3)

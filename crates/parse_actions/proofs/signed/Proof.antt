@@ -19,12 +19,9 @@ returns c =
 refuse-requires : tie.Need-refuse-requires
 refuse-requires c κs = search needs
 
-answered-requires : tie.Need-answered-requires
-answered-requires c κs = search needs
-
 returns-2 : tie.Need-returns-2
 returns-2 c =
-    rw (c .answered .ensures) (signed-not (c .before .refuse .ensures) (c .before .before .before .before .number .ensures) (c .before .before .before .signs .ensures) (c .before .before .if1 .left))
+    signed-not (c .refuse .ensures) (c .before .before .before .number .ensures) (c .before .before .signs .ensures) (c .before .if1 .left)
 
 pub signed-spec : {M : Type 1} → statement M
 signed-spec =
@@ -35,5 +32,4 @@ signed-spec =
     signed-requires
     returns
     refuse-requires
-    answered-requires
     returns-2)

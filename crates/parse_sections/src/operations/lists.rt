@@ -2,62 +2,47 @@
 use crate::operations::ends;
 use crate::operations::one;
 use parse_array::Work;
+use parse_step::Answer;
 use parse_step::Bearing;
 use parse_step::State;
 use parse_step::kinds;
 use parse_step::taking;
-use parse_stores::Acted;
 use text_words::Word;
 ghost use Rattle.parse_sections.specs.Lists.{Lists, Mores, Stands};
 
 // Reads the operations and CONTROL behind them.
-pub fn operations(text: &[u8], w: Word, work: &mut Work, s: State, acts: u16) -> Acted
-    requires { ⌜ Stands (now text) w s acts (now work) ⌝ }
-    ensures { λ r. ⌜ Lists (now (text .entry)) w s acts (now (work .entry)) (now (work .exit)) r ⌝ }
+pub fn operations(text: &[u8], w: Word, work: &mut Work, s: State) -> Answer
+    requires { ⌜ Stands (now text) w s (now work) ⌝ }
+    ensures { λ r. ⌜ Lists (now (text .entry)) w s (now (work .entry)) (now (work .exit)) r ⌝ }
 {
-    let first = one::operation(text, w, work, s, acts);
-    if parse_step::unread(first.answer) {
+    let first = one::operation(text, w, work, s);
+    if parse_step::unread(first) {
         return first;
     }
-    more(
-        text,
-        first.answer.next,
-        work,
-        first.answer.state,
-        first.actions,
-    )
+    more(text, first.next, work, first.state)
 }
 
 // Behind an operation: others, and the end. Each counts, so that there are not too many.
-fn more(text: &[u8], w: Word, work: &mut Work, s: State, acts: u16) -> Acted
-    requires { ⌜ Stands (now text) w s acts (now work) ⌝ }
-    ensures { λ r. ⌜ Mores (now (text .entry)) w s acts (now (work .entry)) (now (work .exit)) r ⌝ }
+fn more(text: &[u8], w: Word, work: &mut Work, s: State) -> Answer
+    requires { ⌜ Stands (now text) w s (now work) ⌝ }
+    ensures { λ r. ⌜ Mores (now (text .entry)) w s (now (work .entry)) (now (work .exit)) r ⌝ }
 {
     let mut next = w;
     let mut state = s;
-    let mut count = acts;
     loop {
         let kind = next.kind;
         if kinds::number(kind) != text_kinds::COMMA {
-            let answer = ends::ended(text, next, state);
-            return Acted {
-                answer,
-                actions: count,
-            };
+            return ends::ended(text, next, state);
         }
         let comma = taking::take(text, next, state, false, Bearing::Level);
         if parse_step::unread(comma) {
-            return Acted {
-                answer: comma,
-                actions: count,
-            };
+            return comma;
         }
-        let another = one::operation(text, comma.next, work, comma.state, count);
-        if parse_step::unread(another.answer) {
+        let another = one::operation(text, comma.next, work, comma.state);
+        if parse_step::unread(another) {
             return another;
         }
-        next = another.answer.next;
-        state = another.answer.state;
-        count = another.actions;
+        next = another.next;
+        state = another.state;
     }
 }

@@ -3,10 +3,10 @@ use crate::operations::heads;
 use image_sections::runs::Run;
 use parse_array::Work;
 use parse_names::Counts;
+use parse_step::Answer;
 use parse_step::Bearing;
 use parse_step::State;
 use parse_step::taking;
-use parse_stores::Acted;
 use parse_tables::operations;
 use text_words::Word;
 ghost use mathlib.Core.Path.{_≡_};
@@ -15,24 +15,20 @@ ghost use Rattle.parse_sections.specs.Heads.{Body};
 ghost use Rattle.parse_sections.specs.Lists.{One};
 
 // The body and the bracket behind it.
-fn body(s: State, text: &[u8], w: Word, work: &mut Work, n: Counts, acts: u16) -> Acted
-    ensures { λ r. ⌜ Body (now (text .entry)) n w s acts (now (work .entry)) (now (work .exit)) r ⌝ }
+fn body(s: State, text: &[u8], w: Word, work: &mut Work, n: Counts) -> Answer
+    ensures { λ r. ⌜ Body (now (text .entry)) n w s (now (work .entry)) (now (work .exit)) r ⌝ }
 {
-    let list = parse_actions::list(s, false, text, w, work, n, acts);
-    if parse_step::unread(list.answer) {
+    let list = parse_actions::list(s, false, text, w, work, n);
+    if parse_step::unread(list) {
         return list;
     }
-    let end = taking::expect(
+    taking::expect(
         text,
-        list.answer.next,
-        list.answer.state,
+        list.next,
+        list.state,
         text_kinds::CLOSE_BRACKET,
         Bearing::Closes,
-    );
-    Acted {
-        answer: end,
-        actions: list.actions,
-    }
+    )
 }
 
 // How many of `count` records stand from record n on.
@@ -43,29 +39,26 @@ fn since(n: u16, count: u16) -> u16
 }
 
 // Reads an operation. It knows the operations before it, and not itself.
-pub fn operation(text: &[u8], w: Word, work: &mut Work, s: State, acts: u16) -> Acted
-    ensures { λ r. ⌜ One (now (text .entry)) w s acts (now (work .entry)) (now (work .exit)) r ⌝ }
+pub fn operation(text: &[u8], w: Word, work: &mut Work, s: State) -> Answer
+    ensures { λ r. ⌜ One (now (text .entry)) w s (now (work .entry)) (now (work .exit)) r ⌝ }
 {
     let head = heads::head(text, w, s);
     if parse_step::unread(head) {
-        return Acted {
-            answer: head,
-            actions: acts,
-        };
+        return head;
     }
     let n = Counts {
         facilities: s.known,
         operations: s.operations,
         states: 0,
     };
-    let read = body(head.state, text, head.next, work, n, acts);
-    if parse_step::unread(read.answer) {
+    let read = body(head.state, text, head.next, work, n);
+    if parse_step::unread(read) {
         return read;
     }
     let at = w.at;
     let run = Run {
-        first: acts,
-        count: since(acts, read.actions),
+        first: s.actions,
+        count: since(s.actions, read.state.actions),
     };
     operations::add_operation(work, s.operations, at, w.size, run);
     read

@@ -8,11 +8,11 @@ use Rattle.parse_states.proofs.bodies.rest.Statement.{statement}
 use Rattle.parse_states.proofs.bodies.rest.Tie as tie
 
 abbrev Inv-loop : tie.InvT-loop
-Inv-loop text work₀ n acts next₀ state₀ after₀ work next state after =
-    (sc : Scope) → Standing text sc n next₀ state₀ after₀ work₀ → Here text sc n next₀ state₀ after₀ work₀ next state after work
+Inv-loop text work₀ n next₀ state₀ work next state =
+    (sc : Scope) → Standing text sc n next₀ state₀ (state₀ .actions) work₀ → Here text sc n next₀ state₀ work₀ next state work
 
 abbrev μ-loop : tie.MeasureT-loop
-μ-loop text work₀ n acts next₀ state₀ after₀ work next state after = 2049 - state .counted
+μ-loop text work₀ n next₀ state₀ work next state = 2049 - state .counted
 
 loop-holds : tie.Need-loop-holds Inv-loop μ-loop
 loop-holds c =

@@ -9,11 +9,11 @@ use Rattle.parse_states.proofs.reading.more.Statement.{statement}
 use Rattle.parse_states.proofs.reading.more.Tie as tie
 
 abbrev Inv-loop : tie.InvT-loop
-Inv-loop text work₀ n acts l next₀ state₀ after₀ work next state after =
-    (sc : Scope) → Standing text sc n next₀ state₀ after₀ work₀ → Here l text sc n next₀ state₀ after₀ work₀ next state after work
+Inv-loop text work₀ n l next₀ state₀ work next state =
+    (sc : Scope) → Standing text sc n next₀ state₀ (state₀ .actions) work₀ → Here l text sc n next₀ state₀ work₀ next state work
 
 abbrev μ-loop : tie.MeasureT-loop
-μ-loop text work₀ n acts l next₀ state₀ after₀ work next state after = 257 - state .states
+μ-loop text work₀ n l next₀ state₀ work next state = 257 - state .states
 
 loop-holds : tie.Need-loop-holds Inv-loop μ-loop
 loop-holds c =

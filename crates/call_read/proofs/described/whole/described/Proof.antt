@@ -15,14 +15,14 @@ stopped-requires c κs = search needs
 
 returns : tie.Need-returns
 returns c =
-    opening-refused (c .before .before .before .preamble .ensures) (not-done (c .before .match .keys2)) (c .stopped .ensures)
+    opening-refused (c .before .before .preamble .ensures) (not-done (c .before .match .keys2)) (c .stopped .ensures)
 
 sequencing-length-requires : tie.Need-sequencing-length-requires
 sequencing-length-requires c κs = search needs
 
 states-of-requires : tie.Need-states-of-requires
 states-of-requires c κs =
-    behind (c .before .before .before .before .before .before .before .before .preamble .ensures .done (c .before .before .before .before .before .enum-told .given .1))
+    behind (c .before .before .before .before .before .before .before .preamble .ensures .done (c .before .before .before .before .before .enum-told .given .1))
 
 enum-told-2 : tie.Need-enum-told-2
 enum-told-2 c = search needs
@@ -32,13 +32,13 @@ stopped-requires-2 c κs = search needs
 
 returns-2 : tie.Need-returns-2
 returns-2 c =
-    let x = c .before .before .before .before .before .before .before .before .before .before .before .before .preamble .ensures .done (c .before .before .before .before .before .before .before .before .before .enum-told .given .1) in
-    states-refused (c .before .before .before .before .before .before .before .before .before .before .before .before .before .before .before .pre) x (c .before .before .before .states-of .ensures _ (x .operations) (x .ready)) (not-done (c .before .match2 .keys2)) (c .stopped2 .ensures)
+    let x = c .before .before .before .before .before .before .before .before .before .before .preamble .ensures .done (c .before .before .before .before .before .before .before .before .enum-told .given .1) in
+    states-refused (c .before .before .before .before .before .before .before .before .before .before .before .before .before .pre) x (c .before .before .states-of .ensures _ (x .operations) (x .ready)) (not-done (c .before .match2 .keys2)) (c .stopped2 .ensures)
 
 returns-3 : tie.Need-returns-3
 returns-3 c =
-    let x = c .before .before .before .before .before .before .before .before .before .before .before .before .before .preamble .ensures .done (c .before .before .before .before .before .before .before .before .before .before .enum-told .given .1) in
-    text-described (c .before .before .before .before .before .before .before .before .before .before .before .before .before .before .before .before .pre) x (c .before .before .before .before .before .before .sequencing-length .result) (c .before .before .before .before .states-of .ensures _ (x .operations) (x .ready)) (c .before .before .before .before .before .before .sequencing-length .ensures) (c .before .enum-told2 .given .1)
+    let x = c .before .before .before .before .before .before .before .before .before .before .before .preamble .ensures .done (c .before .before .before .before .before .before .before .before .before .enum-told .given .1) in
+    text-described (c .before .before .before .before .before .before .before .before .before .before .before .before .before .before .pre) x (c .before .before .before .before .before .sequencing-length .result) (c .before .before .before .states-of .ensures _ (x .operations) (x .ready)) (c .before .before .before .before .before .sequencing-length .ensures) (c .before .enum-told2 .given .1)
 
 pub described-spec : {M : Type 1} → statement M
 described-spec =

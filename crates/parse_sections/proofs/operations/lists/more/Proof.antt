@@ -10,11 +10,11 @@ use Rattle.parse_sections.proofs.operations.lists.more.Statement.{state
 use Rattle.parse_sections.proofs.operations.lists.more.Tie as tie
 
 abbrev Inv-loop : tie.InvT-loop
-Inv-loop text work₀ acts next₀ state₀ count₀ work next state count =
-    (names : List Name) (first : ℕ) (h : Held) (os : List Operation) → Standing text names first h os next₀ state₀ count₀ work₀ → Here text names first h os next₀ state₀ work₀ next state count work
+Inv-loop text work₀ next₀ state₀ work next state =
+    (names : List Name) (first : ℕ) (h : Held) (os : List Operation) → Standing text names first h os next₀ state₀ work₀ → Here text names first h os next₀ state₀ work₀ next state work
 
 abbrev μ-loop : tie.MeasureT-loop
-μ-loop text work₀ acts next₀ state₀ count₀ work next state count =
+μ-loop text work₀ next₀ state₀ work next state =
     129 - state .operations
 
 loop-holds : tie.Need-loop-holds Inv-loop μ-loop
