@@ -16,8 +16,10 @@ use Rattle.language.specs.Judging.{both}
 use Rattle.language.specs.Layout.{storeSize}
 use Rattle.language.specs.Reading.{filled, zeroes}
 use Rattle.language.specs.RecordBytes.{recordBytes, recordFrom, recordSize}
+use Rattle.language.specs.declared.refusals.Refusal.the-variants.{BufferTooShort, ImageFails}
 use Rattle.language.specs.Rules.{mostWork}
 use Rattle.language.specs.Step.{Outcome, completed, openRecord, step}
+use Rattle.language.specs.declared.stops.Stop.{Stop}
 use Rattle.language.specs.Store.{fromBytes, inputsOf, toBytes}
 use Rattle.about_bytes.specs.StaysSound.{both-left, both-right, no-refusal, record-length, stays-sound, unrefused, written-sound}
 use Rattle.about_bytes.specs.StoreBack.{both-so, store-length}
@@ -30,7 +32,7 @@ pub data Goes (image : List ℕ) (scratch : ℕ) : List ℕ → List ℕ → Lis
   over : {store record′ : List ℕ} → Goes image scratch store record′ []
   completes : {store record′ stimulus : List ℕ} {more : List (List ℕ)} (n : ℕ) → cycle image store record′ stimulus scratch .answer ≡ cycled n → n ≤ mostWork
       → Goes image scratch (cycle image store record′ stimulus scratch .store) (cycle image store record′ stimulus scratch .record′) more → Goes image scratch store record′ (stimulus ∷ more)
-  stops : {store record′ stimulus : List ℕ} {more : List (List ℕ)} (n : ℕ) → cycle image store record′ stimulus scratch .answer ≡ stoppedFor n
+  stops : {store record′ stimulus : List ℕ} {more : List (List ℕ)} (n : Stop) → cycle image store record′ stimulus scratch .answer ≡ stoppedFor n
       → Goes image scratch store record′ more → Goes image scratch store record′ (stimulus ∷ more)
 
 abbrev pub AllFormed : Description → List (List ℕ) → Type 0
@@ -44,7 +46,7 @@ pub record Ready (image store record′ : List ℕ) (scratch : ℕ) : Type 0 whe
 -- What a cycle comes to.
 pub data Answered (image store record′ stimulus : List ℕ) (scratch : ℕ) : Type 0 where
   completed-so : (n : ℕ) → cycle image store record′ stimulus scratch .answer ≡ cycled n → n ≤ mostWork → Answered image store record′ stimulus scratch
-  stopped-so : (n : ℕ) → cycle image store record′ stimulus scratch .answer ≡ stoppedFor n → Answered image store record′ stimulus scratch
+  stopped-so : (n : Stop) → cycle image store record′ stimulus scratch .answer ≡ stoppedFor n → Answered image store record′ stimulus scratch
 
 module _ (image store record′ stimulus : List ℕ) (scratch : ℕ) (none-refused : cycleRefusal image store record′ stimulus scratch ≡ none) where
   abbrev d : Description
@@ -98,8 +100,8 @@ module _ (image : List ℕ) (store record′ scratch : ℕ) (none-refused : open
   pub opens-ready : Ready image (open′ image store record′ .store) (open′ image store record′ .record′) scratch
   unfolding open′ openRefusal
   opens-ready =
-      let a = not-first (passes image) 13 _ none-refused in
-      let b = not-first (both (leb (storeSize described) store) (leb recordSize record′)) 12 none (a .1) .0 in
+      let a = not-first (passes image) ImageFails _ none-refused in
+      let b = not-first (both (leb (storeSize described) store) (leb recordSize record′)) BufferTooShort none (a .1) .0 in
       let h = opens-sound image (a .0) in
       let room-store = leb-true (storeSize described) store (both-left _ _ b) in
       let room-record = leb-true recordSize record′ (both-right (leb (storeSize described) store) _ b) in

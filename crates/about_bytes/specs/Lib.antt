@@ -4,3 +4,4 @@ pub mod StoreBack
 pub mod StaysSound
 pub mod AnyRun
 pub mod ManyCycles
+pub mod OneCycle

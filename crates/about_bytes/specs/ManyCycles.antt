@@ -16,6 +16,7 @@ use Rattle.language.specs.Image.{passes}
 use Rattle.language.specs.Judging.{both}
 use Rattle.about_running.specs.LegalForm.{left-of, right-of}
 use Rattle.about_running.specs.NeverStuck.{not-first}
+use Rattle.language.specs.declared.refusals.Refusal.the-variants.{BadStimulus, BufferTooShort, ImageFails, Unsound}
 
 -- What the tests of a run gave.
 pub record Free (image store kept stimuli : List ℕ) (count scratch trace : ℕ) : Type 0 where
@@ -29,15 +30,15 @@ pub run-free : (image store kept stimuli : List ℕ) (count scratch trace : ℕ)
 unfolding runRefusal
 run-free image store kept stimuli count scratch trace e =
     let d = decode image in
-    let a = not-first (passes image) 13 _ e in
-    let b = not-first (both (roomy d (length store) (length kept) scratch) (traceRoomy d count trace)) 12 _ (a .1) in
-    let c = not-first (soundBytes d store kept) 14 _ (b .1) in
+    let a = not-first (passes image) ImageFails _ e in
+    let b = not-first (both (roomy d (length store) (length kept) scratch) (traceRoomy d count trace)) BufferTooShort _ (a .1) in
+    let c = not-first (soundBytes d store kept) Unsound _ (b .1) in
     record {
       passing = a .0;
       room = left-of (roomy d (length store) (length kept) scratch) _ (b .0);
       trace-room = right-of (roomy d (length store) (length kept) scratch) _ (b .0);
       sound-there = c .0;
-      form = not-first (allWellFormed d count stimuli) 15 none (c .1) .0;
+      form = not-first (allWellFormed d count stimuli) BadStimulus none (c .1) .0;
     }
 
 -- After n completed cycles.

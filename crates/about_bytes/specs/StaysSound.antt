@@ -19,9 +19,11 @@ use Rattle.language.specs.Layout.{storeSize}
 use Rattle.language.specs.Machine.{mostStates}
 use Rattle.language.specs.Meaning.{noState}
 use Rattle.language.specs.RecordBytes.{fours, recordBytes, recordFrom, recordSize, returnsSound, sound}
+use Rattle.language.specs.declared.refusals.Refusal.the-variants.{BadStimulus, BufferTooShort, ImageFails, Unsound}
 use Rattle.language.specs.Step as Step
 use Rattle.language.specs.Step.{Outcome, Record, afterActions, completed, entered, finished, landed, lastCycle, mostReturns, nextRecord, orStopped, setRegister, stateNumber, step, stopAfter}
-use Rattle.language.specs.Stops.{lastCycleReached}
+use Rattle.language.specs.declared.stops.Stop.{Stop}
+use Rattle.language.specs.declared.stops.Stop.the-variants.{LastCycleReached}
 use Rattle.language.specs.Store.{Held, Words, begin, fromBytes, inputsOf, numbers, toBytes}
 use Rattle.about_bytes.specs.RecordBack.{InWords, Words32, record-back, record-marked}
 use Rattle.about_bytes.specs.StoreBack.{both-so, fit-narrow, store-back, store-length}
@@ -61,7 +63,7 @@ in-words d s r h l c = (
 -- ---- The cycle number after a cycle.
 
 module _ (d : Description) where
-  none-completed : {A : Type 0} {n m : ℕ} {s : Words} {r : Record} → Outcome.stopped n ≡ completed s r m → A
+  none-completed : {A : Type 0} {n : Stop} {m : ℕ} {s : Words} {r : Record} → Outcome.stopped n ≡ completed s r m → A
   none-completed e = absurd (let z : _≡_ {A = ℕ} 0 1 = cc in omega arith)
 
   next-cycle : (r : Record) (c : Doing Held) → nextRecord d r c .cycle ≡ suc (r .cycle)
@@ -77,7 +79,7 @@ module _ (d : Description) where
   entered-cycle r c none e = absurd (let z : _≡_ {A = ℕ} 0 1 = cc in omega arith)
   entered-cycle r c (some t) {s} {q} {n} e = let z : nextRecord d r c ≡ q = cc in rw (← z) (next-cycle r c)
 
-  finished-cycle : (r : Record) (c : Doing Held) (x : Option ℕ) {s : Words} {q : Record} {n : ℕ} → orStopped d r c x ≡ completed s q n → q .cycle ≡ suc (r .cycle)
+  finished-cycle : (r : Record) (c : Doing Held) (x : Option Stop) {s : Words} {q : Record} {n : ℕ} → orStopped d r c x ≡ completed s q n → q .cycle ≡ suc (r .cycle)
   finished-cycle r c none e = entered-cycle r c (setRegister d (sequencingOf d) (stateNumber d (nextRecord d r c .state)) (landed d r c)) e
   finished-cycle r c (some m) e = none-completed e
 
@@ -94,7 +96,7 @@ module _ (d : Description) where
       run : Ran Held
       run = runActions (numbers d) d (stateAt d (r .state) .actions) (Step.nothingDone d (begin (d .facilities) s ins))
 
-      go : (a : Bool) → leb lastCycle (r .cycle) ≡ a → (b : Bool) → cond a (Outcome.stopped lastCycleReached) (cond b (afterActions d r run) (Outcome.stuck noState)) ≡ completed t q n
+      go : (a : Bool) → leb lastCycle (r .cycle) ≡ a → (b : Bool) → cond a (Outcome.stopped LastCycleReached) (cond b (afterActions d r run) (Outcome.stuck noState)) ≡ completed t q n
           → (q .cycle ≡ suc (r .cycle)) × (r .cycle < lastCycle)
       go true x b k = none-completed k
       go false x false k = absurd (let z : _≡_ {A = ℕ} 0 1 = cc in omega arith)
@@ -116,10 +118,10 @@ pub unrefused : (image store record′ stimulus : List ℕ) (scratch : ℕ) → 
 unfolding cycleRefusal
 unrefused image store record′ stimulus scratch e =
     let d = decode image in
-    let a = not-first (passes image) 13 _ e in
-    let b = not-first (roomy d (length store) (length record′) scratch) 12 _ (a .1) in
-    let c = not-first (soundBytes d store record′) 14 _ (b .1) in
-    record { passing = a .0; room = b .0; sound-there = c .0; form = not-first (wellFormed d stimulus) 15 none (c .1) .0 }
+    let a = not-first (passes image) ImageFails _ e in
+    let b = not-first (roomy d (length store) (length record′) scratch) BufferTooShort _ (a .1) in
+    let c = not-first (soundBytes d store record′) Unsound _ (b .1) in
+    record { passing = a .0; room = b .0; sound-there = c .0; form = not-first (wellFormed d stimulus) BadStimulus none (c .1) .0 }
 
 pub no-refusal : (image store record′ stimulus : List ℕ) (scratch : ℕ) → Unrefused image store record′ stimulus scratch → cycleRefusal image store record′ stimulus scratch ≡ none
 unfolding cycleRefusal

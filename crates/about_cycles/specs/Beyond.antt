@@ -14,12 +14,14 @@ use Rattle.language.specs.Decode.{decode, numberAt}
 use Rattle.language.specs.Description.{Description, Facility, isComputed, wordCount, wordLength}
 use Rattle.language.specs.Layout.{facilityBytes, storeSize, storeSizeOf, wordBytes, wordFromBytes}
 use Rattle.language.specs.RecordBytes.{marked, recordBytes, recordFrom, recordSize, returnsFrom}
+use Rattle.language.specs.declared.refusals.Refusal.{Refusal}
 use Rattle.language.specs.Step.{Outcome, Record, completed, mostReturns, step}
 use Rattle.language.specs.Store.{Words, facilityWords, fromBytes, inputsOf, toBytes, wordsFrom}
 use Rattle.about_running.specs.Cycle.{Well, completes}
 use Rattle.about_running.specs.NeverStuck.{never-stuck}
 use Rattle.about_bytes.specs.StaysSound.{record-length}
 use Rattle.about_bytes.specs.StoreBack.{store-length}
+use Rattle.language.specs.declared.stops.Stop.{Stop}
 
 -- ---- The words of a store are those of its first bytes.
 
@@ -132,7 +134,7 @@ module _ (image store record′ stimulus : List ℕ) (scratch : ℕ) (store-long
           completed-same s r n (omega (arith, a, store-long)) (omega (arith, b, record-long))
       after (Outcome.stopped n) h = refl
 
-      by-refusal : (y : Option ℕ) → cycleRefusal image store record′ stimulus scratch ≡ y → cycleWith d (store ++ x) (record′ ++ u) scratch stimulus y ≡ behind x u (cycleWith d store record′ scratch stimulus y)
+      by-refusal : (y : Option Refusal) → cycleRefusal image store record′ stimulus scratch ≡ y → cycleWith d (store ++ x) (record′ ++ u) scratch stimulus y ≡ behind x u (cycleWith d store record′ scratch stimulus y)
       by-refusal (some n) e = refl
       by-refusal none e = rw (words-same, record-front record′ u record-long) (after outcome (never-stuck image store record′ stimulus scratch e))
 
@@ -157,7 +159,7 @@ module _ (image store record′ stimulus : List ℕ) (scratch : ℕ) (store-long
           (over-long (toBytes (e .facilities) s) store (omega (arith, a, store-long)), over-long (recordBytes r) record′ (omega (arith, b, record-long)))
       after (Outcome.stopped n) h = (refl, refl)
 
-      by-refusal : (y : Option ℕ) → cycleRefusal image store record′ stimulus scratch ≡ y
+      by-refusal : (y : Option Refusal) → cycleRefusal image store record′ stimulus scratch ≡ y
           → (length (cycleWith e store record′ scratch stimulus y .store) ≡ length store) × (length (cycleWith e store record′ scratch stimulus y .record′) ≡ length record′)
       by-refusal (some n) q = (refl, refl)
       by-refusal none q = after (step e (fromBytes (e .facilities) store) (recordFrom record′) (fromBytes (inputsOf (e .facilities)) stimulus)) (never-stuck image store record′ stimulus scratch q)
@@ -172,7 +174,7 @@ module _ (image : List ℕ) (scratch : ℕ) (x u : List ℕ) where
   abbrev nextOf : CycleCall → ℕ → Running → Running
   nextOf c n r = record { completed′ = suc (r .completed′); conflicts = r .conflicts + n; store = c .store; record′ = c .record′; trace = r .trace ++ take size (c .store) }
 
-  after-beyond : (each : ℕ) (c : CycleCall) (r : Running) (on : Running → Running × ℕ) → length (c .store) ≡ size → ((n : ℕ) → on (further (nextOf c n r)) ≡ (further (on (nextOf c n r) .0), on (nextOf c n r) .1))
+  after-beyond : (each : ℕ) (c : CycleCall) (r : Running) (on : Running → Running × Option Stop) → length (c .store) ≡ size → ((n : ℕ) → on (further (nextOf c n r)) ≡ (further (on (nextOf c n r) .0), on (nextOf c n r) .1))
       → afterCycle image scratch size each (behind x u c) (further r) on ≡ (further (afterCycle image scratch size each c r on .0), afterCycle image scratch size each c r on .1)
   after-beyond each c r on long h = go (c .answer) refl
     where
@@ -213,6 +215,6 @@ module _ (image store record′ stimuli : List ℕ) (count scratch trace : ℕ) 
       start : Running
       start = record { completed′ = 0; conflicts = 0; store = store; record′ = record′; trace = [] }
 
-      go : (y : Option ℕ) → runRefusal image store record′ stimuli count scratch trace ≡ y → run image (store ++ x) (record′ ++ u) stimuli count scratch trace ≡ runBehind x u (run image store record′ stimuli count scratch trace)
+      go : (y : Option Refusal) → runRefusal image store record′ stimuli count scratch trace ≡ y → run image (store ++ x) (record′ ++ u) stimuli count scratch trace ≡ runBehind x u (run image store record′ stimuli count scratch trace)
       go (some n) e = rw (run-refusal-same, e) refl
       go none e = rw (run-refusal-same, e, cycles-beyond image scratch x u (stimulusSize (decode image)) count stimuli start store-long record-long) refl

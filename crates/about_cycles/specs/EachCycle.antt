@@ -9,7 +9,9 @@ use Rattle.language.specs.Decode.{decode}
 use Rattle.language.specs.Description.{Description}
 use Rattle.language.specs.Layout.{storeSize}
 use Rattle.language.specs.RecordBytes.{recordFrom}
+use Rattle.language.specs.declared.refusals.Refusal.{Refusal}
 use Rattle.language.specs.Step.{Outcome, completed, step}
+use Rattle.language.specs.declared.stops.Stop.{Stop}
 use Rattle.language.specs.Store.{fromBytes, inputsOf}
 use Rattle.about_bytes.specs.AnyRun.{AllFormed, Answered, Ready, answered, completed-so, opens-ready, stopped-so}
 use Rattle.about_bytes.specs.StaysSound.{stays-sound}
@@ -32,12 +34,12 @@ module _ (image store record′ stimulus : List ℕ) (scratch : ℕ) where
       after (Outcome.stopped m) q = (refl, refl)
       after (Outcome.stuck m) q = (refl, refl)
 
-      refused : (x : Option ℕ) → ((n : ℕ) → cycleWith d store record′ scratch stimulus x .answer ≡ cycled n → ⊥)
+      refused : (x : Option Refusal) → ((n : ℕ) → cycleWith d store record′ scratch stimulus x .answer ≡ cycled n → ⊥)
           → (cycleWith d store record′ scratch stimulus x .store ≡ store) × (cycleWith d store record′ scratch stimulus x .record′ ≡ record′)
       refused none q = after (step d (fromBytes (d .facilities) store) (recordFrom record′) (fromBytes (inputsOf (d .facilities)) stimulus)) q
       refused (some m) q = (refl, refl)
 
-not-cycled : {a : CycleAnswer} {n m : ℕ} → a ≡ stoppedFor n → a ≡ cycled m → ⊥
+not-cycled : {a : CycleAnswer} {n : Stop} {m : ℕ} → a ≡ stoppedFor n → a ≡ cycled m → ⊥
 not-cycled e z = let y : _≡_ {A = ℕ} 0 1 = cc in omega arith
 
 -- ---- Cycle after cycle.

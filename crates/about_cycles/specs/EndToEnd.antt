@@ -19,6 +19,7 @@ use Rattle.language.specs.RecordBytes.{recordSize}
 use Rattle.about_passing.specs.PassesExactly.{reads-back, reads-pass}
 use Rattle.about_bytes.specs.AnyRun.{AllFormed}
 use Rattle.about_cycles.specs.EachCycle.{Follows, from-opening}
+use Rattle.language.specs.declared.refusals.Refusal.the-variants.{BufferTooShort}
 
 module _ (text : List ℕ) (room n : ℕ) where
   -- A text that was accepted: a legal description, whose bytes stand in front of the buffer.
@@ -34,7 +35,7 @@ module _ (text : List ℕ) (room n : ℕ) where
     where
       -- Where there is room, and where not.
       by-room : (d : Description) → readText text ≡ legal d → (b : Bool) → leb (length (encode d)) room ≡ b
-          → cond {A = ReadCall} b (record { answer = accepted (length (encode d)); image = filled room (encode d) }) (readRefused room 12 0) .answer ≡ accepted n → Taken
+          → cond {A = ReadCall} b (record { answer = accepted (length (encode d)); image = filled room (encode d) }) (readRefused room BufferTooShort 0) .answer ≡ accepted n → Taken
       by-room d q true k h = record { description = d; legal-text = q; written = rw (q, k) refl; so-long = cc }
       by-room d q false k h = absurd (let z : _≡_ {A = ℕ} 0 1 = cc in omega arith)
 

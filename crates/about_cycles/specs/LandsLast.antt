@@ -13,7 +13,8 @@ use Rattle.language.specs.Description.{Description, facilityAt, nodeAt, sequenc
 use Rattle.language.specs.Kinds.{delayedSign}
 use Rattle.language.specs.Meaning.{Answer, Located, Place, Write, evalAt, is, noState, notStorable, place, sidesDiffer, stops, stuck}
 use Rattle.language.specs.Step.{Outcome, Record, afterActions, completed, entered, finished, landed, lastCycle, nextRecord, nothingDone, orStopped, setRegister, stateCount, stateNumber, step, stopAfter}
-use Rattle.language.specs.Stops.{lastCycleReached}
+use Rattle.language.specs.declared.stops.Stop.{Stop}
+use Rattle.language.specs.declared.stops.Stop.the-variants.{LastCycleReached}
 use Rattle.language.specs.Store.{Held, Words, begin, conflicts, held, landAll, loadPart, numbers, wordOf}
 use Rattle.language.specs.Value.{Value}
 use Rattle.about_running.specs.BitsKept.{NoneHas, NoneHasAny, bitOf}
@@ -140,7 +141,7 @@ module _ (d : Description) where
         let next : nextRecord d r c ≡ q = cc in
         record { done = c; ran = h; lands = rw (← next) (k ∙ ap some same); counted = cc }
 
-    did-finish : (c : Doing Held) → run ≡ went c → (x : Option ℕ) → orStopped d r c x ≡ completed t q n → Did
+    did-finish : (c : Doing Held) → run ≡ went c → (x : Option Stop) → orStopped d r c x ≡ completed t q n → Did
     did-finish c h none e = did-enter c h (setRegister d (sequencingOf d) (stateNumber d (nextRecord d r c .state)) (landed d r c)) refl e
     did-finish c h (some m) e = absurd (let z : _≡_ {A = ℕ} 0 1 = cc in omega arith)
 
@@ -154,7 +155,7 @@ module _ (d : Description) where
     unfolding step
     lands-last e = go (leb lastCycle (r .cycle)) (ltb (r .state) (stateCount d)) e
       where
-        go : (a b : Bool) → cond a (Outcome.stopped lastCycleReached) (cond b (afterActions d r run) (Outcome.stuck noState)) ≡ completed t q n → Did
+        go : (a b : Bool) → cond a (Outcome.stopped LastCycleReached) (cond b (afterActions d r run) (Outcome.stuck noState)) ≡ completed t q n → Did
         go true b h = absurd (let z : _≡_ {A = ℕ} 0 1 = cc in omega arith)
         go false false h = absurd (let z : _≡_ {A = ℕ} 0 1 = cc in omega arith)
         go false true h = did-after run refl h

@@ -19,6 +19,7 @@ use Rattle.language.specs.Meaning.{evalAt}
 use Rattle.language.specs.Operators.{cutOf}
 use Rattle.language.specs.Order.{startAt}
 use Rattle.language.specs.Recursion.{below-lt}
+use Rattle.language.specs.declared.refusals.Refusal.the-variants.{BadName}
 use Rattle.language.specs.Store.{Held, numbers}
 use Rattle.language.specs.Value as Values
 use Rattle.language.specs.Value.{Value, cutLength, extended, fit, head, longest, made, tail, value}
@@ -48,7 +49,7 @@ module _ (image : List ℕ) (passing : passes image ≡ true) where
 
   terminal-known : (f : ℕ) → f < length (d .facilities) → terminalBelow d noPlaces (length (d .facilities)) f ≡ terminalJudged d noPlaces f
   unfolding terminalBelow terminalJudged
-  terminal-known f h = below-lt (refuse D.nowhere 4) (terminalStep d noPlaces) (length (d .facilities)) f h
+  terminal-known f h = below-lt (refuse D.nowhere BadName) (terminalStep d noPlaces) (length (d .facilities)) f h
 
   -- A computed terminal has its declared length.
   pub terminals-hold : (x : Held) (f : ℕ) → f < length (decode image .facilities) → isComputed (facilityAt (decode image) f .kind) ≡ true

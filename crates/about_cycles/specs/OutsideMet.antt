@@ -2,7 +2,7 @@
 use mathlib.Core.Bool.{Bool, true, false, cond}
 use mathlib.Core.List.{List, [], _∷_}
 use mathlib.Core.Option.{Option, none, some}
-use mathlib.Core.Path.{_≡_, refl, sym, ap, _∙_}
+use mathlib.Core.Path.{_∙_, _≡_, ap, refl, sym}
 use native.Mathlib.Omega.{arith}
 use Prim.Native.Nat.{ℕ, zero, suc, _+_, _-_, _<_}
 use borrow.Author.Tests.{ltb-false, ltb-true}
@@ -18,8 +18,10 @@ use Rattle.language.specs.Operators.{binaryOf, cutOf, prefixOf}
 use Rattle.language.specs.Recursion.{below-ge, below-lt}
 use Rattle.language.specs.References as R
 use Rattle.language.specs.References.{Reference, Subscripts, part, referenceOf, rightCount, sameDirection, two, whole, wordPart}
+use Rattle.language.specs.Stops.{stopNumber}
 use Rattle.language.specs.Storing.{isPlain}
-use Rattle.language.specs.Stops.{noArm, outsideBounds}
+use Rattle.language.specs.declared.stops.Stop.{Stop}
+use Rattle.language.specs.declared.stops.Stop.the-variants.{NoArm, OutsideBounds}
 use Rattle.language.specs.Value as Values
 use Rattle.language.specs.Value.{Made, Value, longest, made, value}
 
@@ -48,12 +50,12 @@ module _ {X : Type 0} (S : Stores X) (d : Description) where
     -- A stop for S1 has such a subscript.
     data Met : Answer → Type 0 where
       worth-so : {v : Value} → Met (is v)
-      stops-so : {n : ℕ} → (n ≡ outsideBounds → Outside x) → Met (stops n)
+      stops-so : {n : Stop} → (n ≡ OutsideBounds → Outside x) → Met (stops n)
       stuck-so : {s : Stuck} → Met (stuck s)
 
     data MetAt : Located → Type 0 where
       there : {p : Place} → MetAt (Located.at p)
-      stops-there : {n : ℕ} → (n ≡ outsideBounds → Outside x) → MetAt (Located.stops n)
+      stops-there : {n : Stop} → (n ≡ OutsideBounds → Outside x) → MetAt (Located.stops n)
       stuck-there : {s : Stuck} → MetAt (Located.stuck s)
 
     after-met : (a : Answer) (on : Value → Answer) → Met a → ((v : Value) → Met (on v)) → Met (after a on)
@@ -78,7 +80,7 @@ module _ {X : Type 0} (S : Stores X) (d : Description) where
     subscript-met : (a : Answer) (b : Bounds) (on : ℕ → Located) → Met a → ((v : Value) → a ≡ is v → inBounds b (v .number) ≡ false → Outside x) → ((m : ℕ) → MetAt (on m)) → MetAt (subscript a b on)
     subscript-met (is v) b on h out k = go (inBounds b (v .number)) refl
       where
-        go : (t : Bool) → inBounds b (v .number) ≡ t → MetAt (cond t (on (fromFirst b (v .number))) (Located.stops outsideBounds))
+        go : (t : Bool) → inBounds b (v .number) ≡ t → MetAt (cond t (on (fromFirst b (v .number))) (Located.stops OutsideBounds))
         go true q = k (fromFirst b (v .number))
         go false q = stops-there (λ e. out v refl q)
     subscript-met (stops n) b on (stops-so h) out k = stops-there h
@@ -124,7 +126,7 @@ module _ {X : Type 0} (S : Stores X) (d : Description) where
       read-met f (Located.stuck s) h = stuck-so
 
       chosen-met : (a n : ℕ) (k : Option ℕ) → Met (chosen S d x ev a n k)
-      chosen-met a n none = stops-so {n = noArm} (λ e. absurd (omega (arith, e)))
+      chosen-met a n none = stops-so {n = NoArm} (λ e. absurd (omega (arith, ap stopNumber e)))
       chosen-met a n (some k) = go (armBack d (n - k) a)
         where
           go : (e : Option ℕ) → Met (armWorth S d x ev e)
@@ -192,16 +194,16 @@ module _ {X : Type 0} (S : Stores X) (d : Description) where
         go (some r) q = side-met n (below-under (suc n) n (omega arith)) r q
 
     -- On the very store that an expression, or a left side, is worked out on.
-    pub value-outside : (n : ℕ) → evalAt S d x n ≡ stops outsideBounds → Outside x
+    pub value-outside : (n : ℕ) → evalAt S d x n ≡ stops OutsideBounds → Outside x
     value-outside n e = go (rw e at (value-met n))
       where
-        go : Met (stops outsideBounds) → Outside x
+        go : Met (stops OutsideBounds) → Outside x
         go (stops-so h) = h refl
 
-    pub place-outside : (n : ℕ) → side S d x n ≡ Located.stops outsideBounds → Outside x
+    pub place-outside : (n : ℕ) → side S d x n ≡ Located.stops OutsideBounds → Outside x
     place-outside n e = go (rw e at (place-named n))
       where
-        go : MetAt (Located.stops outsideBounds) → Outside x
+        go : MetAt (Located.stops OutsideBounds) → Outside x
         go (stops-there h) = h refl
 
   -- ---- Actions.
@@ -216,7 +218,7 @@ module _ {X : Type 0} (S : Stores X) (d : Description) where
     -- Actions that stopped for S1 came, by stores, to one on which a subscript is outside its bounds.
     pub data Stopped : Ran X → Type 0 where
       went-so : {c : Doing X} → From first (c .store) → Stopped (went c)
-      halts : {n : ℕ} → (n ≡ outsideBounds → (x : X) × (From first x × Outside x)) → Stopped (Ran.stopped n)
+      halts : {n : Stop} → (n ≡ OutsideBounds → (x : X) × (From first x × Outside x)) → Stopped (Ran.stopped n)
       sticks : {s : Stuck} → Stopped (Ran.stuck s)
 
     onward-stopped : (a : Ran X) (on : Doing X → Ran X) → Stopped a → ((c : Doing X) → From first (c .store) → Stopped (on c)) → Stopped (onward a on)
@@ -292,7 +294,7 @@ module _ {X : Type 0} (S : Stores X) (d : Description) where
         arm-stopped x (some r) c f = onward-stopped (ev (r .count) (r .first) c) (passing S d perform ev m i x) (evs _ _ c f) (passing-stopped x)
 
         chosen-stopped : (x : ℕ) (k : Option ℕ) (c : Doing X) → From first (c .store) → Stopped (armChosen S d perform ev m i x k c)
-        chosen-stopped x none c f = halts {n = noArm} (λ e. absurd (omega (arith, e)))
+        chosen-stopped x none c f = halts {n = NoArm} (λ e. absurd (omega (arith, ap stopNumber e)))
         chosen-stopped x (some k) c f = arm-stopped x (armAt d (k - 1) (i + 1) x) c f
 
         when-stopped : (x : ℕ) (v : Value) (c : Doing X) → From first (c .store) → Stopped (whenWorth S d perform ev m i x v c)

@@ -18,6 +18,8 @@ use Rattle.language.specs.Layout.{storeSize}
 use Rattle.language.specs.Lookups.{facility, facilityName, facilityPart, stateName, statePart}
 use Rattle.about_passing.specs.PassesExactly.{passed, passing, passing-read}
 use Rattle.about_cycles.specs.Beyond.{number-front}
+use Rattle.language.specs.declared.stops.Stop.{Stop}
+use mathlib.Core.Option.{Option}
 
 module _ (image rest : List ℕ) (passing-so : passes image ≡ true) where
   abbrev all : List ℕ
@@ -77,7 +79,7 @@ module _ (image rest : List ℕ) (passing-so : passes image ≡ true) where
 
   -- ---- A run.
 
-  after-tail : (scratch size stimulus : ℕ) (c : CycleCall) (r : Running) (on on′ : Running → Running × ℕ) → ((q : Running) → on q ≡ on′ q)
+  after-tail : (scratch size stimulus : ℕ) (c : CycleCall) (r : Running) (on on′ : Running → Running × Option Stop) → ((q : Running) → on q ≡ on′ q)
       → afterCycle all scratch size stimulus c r on ≡ afterCycle image scratch size stimulus c r on′
   after-tail scratch size stimulus c r on on′ h = go (c .answer) refl
     where

@@ -12,6 +12,7 @@ use Rattle.language.specs.Building.{Built}
 use Rattle.language.specs.Declaring.{treeSteps}
 use Rattle.language.specs.Kinds.{aConstant, aName}
 use Rattle.language.specs.Machine.{Alternative, Ask, Bearing, Counts, Fed, Parsed, Without, after, ask, bears, choose, closes, counted, ease, feed, finish, keptIf, leave, leaveAtEnd, level, make, may, more, must, nested, opens, operand, parsed, reading, refused, run, takeWay, taken, tallied, took, wrong}
+use Rattle.language.specs.declared.refusals.Refusal.the-variants.{CeilingPassed}
 use Rattle.language.specs.Sections.{ruleOf}
 use Rattle.language.specs.Steps.{Step}
 use Rattle.language.specs.Tree.{Name}
@@ -110,7 +111,7 @@ module _ (J : Judge) where
       give opens f x h r = let o = J .open-room d (c .nesting) h (length vs) f r in (o .0, o .1, record { runs = x; good = J .good _ f; room = o .2; short = s; proper = q })
 
       go : (z : Bool) → J .fits (nested (bears g (c .nesting)) d) ≡ z
-          → after treeSteps (J .fits) (ruleOf treeSteps) (cond z (took K (reading b (nested (bears g (c .nesting)) d))) (wrong (fault p 10))) (λ L q. run treeSteps (J .fits) (ruleOf treeSteps) L vs (J .end) q) ≡ parsed (J .result)
+          → after treeSteps (J .fits) (ruleOf treeSteps) (cond z (took K (reading b (nested (bears g (c .nesting)) d))) (wrong (fault p CeilingPassed))) (λ L q. run treeSteps (J .fits) (ruleOf treeSteps) L vs (J .end) q) ≡ parsed (J .result)
           → Borne g h (λ i. Accepts J K m i b (nested (bears g (c .nesting)) d) vs)
       go true f x = give g f x h r
       go false f x = never x
@@ -162,7 +163,7 @@ module _ (J : Judge) where
   left-out (operand f) K n h b c w vs g r s q x = go (J .fits (more counted c)) refl x
     where
       go : (z : Bool) → J .fits (more counted c) ≡ z
-          → after treeSteps (J .fits) (ruleOf treeSteps) (cond z (feed treeSteps (J .fits) (ruleOf treeSteps) K w (reading (f (wordAt w) b) (more counted c))) (wrong (fault (wordAt (treeSteps .lastWord b)) 10))) (λ L q. run treeSteps (J .fits) (ruleOf treeSteps) L vs (J .end) q) ≡ parsed (J .result)
+          → after treeSteps (J .fits) (ruleOf treeSteps) (cond z (feed treeSteps (J .fits) (ruleOf treeSteps) K w (reading (f (wordAt w) b) (more counted c))) (wrong (fault (wordAt (treeSteps .lastWord b)) CeilingPassed))) (λ L q. run treeSteps (J .fits) (ruleOf treeSteps) L vs (J .end) q) ≡ parsed (J .result)
           → Leaves (operand f) K n h b c (w ∷ vs)
       go true e y = (wordAt w, record { runs = y; good = J .good (more counted c) e; room = r; short = s; proper = q })
       go false e y = never y
@@ -175,7 +176,7 @@ module _ (J : Judge) where
   left-at-end (operand f) K n h b c g r s x = go (J .fits (more counted c)) refl x
     where
       go : (z : Bool) → J .fits (more counted c) ≡ z
-          → cond z (finish treeSteps (J .fits) (ruleOf treeSteps) K (J .end) (reading (f (position (J .end)) b) (more counted c))) (refused (fault (wordAt (treeSteps .lastWord b)) 10)) ≡ parsed (J .result) → Leaves (operand f) K n h b c []
+          → cond z (finish treeSteps (J .fits) (ruleOf treeSteps) K (J .end) (reading (f (position (J .end)) b) (more counted c))) (refused (fault (wordAt (treeSteps .lastWord b)) CeilingPassed)) ≡ parsed (J .result) → Leaves (operand f) K n h b c []
       go true e y = (position (J .end), record { runs = y; good = J .good (more counted c) e; room = r; short = s; proper = tt })
       go false e y = never y
 

@@ -8,6 +8,7 @@ use lib.ListN.{drop}
 use Rattle.language.specs.Building.{nameOf}
 use Rattle.language.specs.Kinds.{aName}
 use Rattle.language.specs.Machine.{Alternative, Ask, Counts, Fed, Parsed, Reading, Rule, Sym, Without, again, ask, bears, both, choose, countKept, ease, feed, finish, keep, keptAt, leave, leaveAtEnd, make, may, must, nested, operand, parsed, reading, refused, taken, tallied, took, word, wrong}
+use Rattle.language.specs.declared.refusals.Refusal.the-variants.{CeilingPassed, NoContinuation}
 use Rattle.language.specs.Scan.{same}
 use Rattle.language.specs.Steps.{Step, Steps}
 use Rattle.language.specs.Words.{Position, Word, fault, kindOf, position, wordAt}
@@ -43,9 +44,9 @@ module _ {B : Type 0} (S : Steps B) (fits : Counts → Bool) (Good : Counts → 
     -- What the two machines make of a word: both take it; it can stand in neither; or it can stand, and its counts do not fit; or, before it, the word kept last counts and does not fit.
     pub data Alike (K : List (Sym B)) (r : Reading B) (w : Word) : Fed B → Fed B → Type 0 where
       taken-both : (L : List (Sym B)) (q : Reading B) → Good (q .counts) → Alike K r w (took L q) (took L q)
-      stuck-both : Alike K r w (wrong (fault (wordAt w) 3)) (wrong (fault (wordAt w) 3))
-      past : (L : List (Sym B)) (q : Reading B) → fits (q .counts) ≡ false → Alike K r w (wrong (fault (wordAt w) 10)) (took L q)
-      past-kept : (s : Reading B) (f : Fed B) → Overfull (wordAt w) K r s → Alike K r w (wrong (fault (keptAt S fits s) 10)) f
+      stuck-both : Alike K r w (wrong (fault (wordAt w) NoContinuation)) (wrong (fault (wordAt w) NoContinuation))
+      past : (L : List (Sym B)) (q : Reading B) → fits (q .counts) ≡ false → Alike K r w (wrong (fault (wordAt w) CeilingPassed)) (took L q)
+      past-kept : (s : Reading B) (f : Fed B) → Overfull (wordAt w) K r s → Alike K r w (wrong (fault (keptAt S fits s) CeilingPassed)) f
 
     lifted : {K L : List (Sym B)} {r q : Reading B} {w : Word} {x y : Fed B} → ((M : List (Sym B)) (t : Reading B) → Slides (wordAt w) K r M t → Slides (wordAt w) L q M t) → Alike K r w x y → Alike L q w x y
     lifted f (taken-both M t g) = taken-both M t g
@@ -56,7 +57,7 @@ module _ {B : Type 0} (S : Steps B) (fits : Counts → Bool) (Good : Counts → 
     taken-alike : (K₀ : List (Sym B)) (r : Reading B) (w : Word) (K : List (Sym B)) (b : B) (c : Counts) → Alike K₀ r w (taken S fits (wordAt w) K b c) (taken S all (wordAt w) K b c)
     taken-alike K₀ r w K b c = go (fits c) refl
       where
-        go : (z : Bool) → fits c ≡ z → Alike K₀ r w (cond z (took K (reading b c)) (wrong (fault (wordAt w) 10))) (took K (reading b c))
+        go : (z : Bool) → fits c ≡ z → Alike K₀ r w (cond z (took K (reading b c)) (wrong (fault (wordAt w) CeilingPassed))) (took K (reading b c))
         go true e = taken-both K (reading b c) (good c e)
         go false e = past K (reading b c) e
 
@@ -78,7 +79,7 @@ module _ {B : Type 0} (S : Steps B) (fits : Counts → Bool) (Good : Counts → 
     leave-alike n K (operand s) q w r f g a i = go (fits (countKept S fits r)) refl
       where
         go : (z : Bool) → fits (countKept S fits r) ≡ z
-            → Alike (ask n ∷ K) r w (cond z (f (reading (s (wordAt w) (r .built)) (countKept S fits r))) (wrong (fault (keptAt S fits r) 10))) (g (reading (s (wordAt w) (r .built)) (countKept S fits r)))
+            → Alike (ask n ∷ K) r w (cond z (f (reading (s (wordAt w) (r .built)) (countKept S fits r))) (wrong (fault (keptAt S fits r) CeilingPassed))) (g (reading (s (wordAt w) (r .built)) (countKept S fits r)))
         go true e = lifted (λ M t z. by-counting q z) (a (reading (s (wordAt w) (r .built)) (countKept S fits r)) (good (countKept S fits r) e))
         go false e = past-kept r (g (reading (s (wordAt w) (r .built)) (countKept S fits r))) (record { notion = n; step = s; counts-it = q; below = K; slides = stays (ask n ∷ K) r; before = i; past-it = e })
 
@@ -97,8 +98,8 @@ module _ {B : Type 0} (S : Steps B) (fits : Counts → Bool) (Good : Counts → 
     -- The same at the end of the words.
     pub data AlikeAtEnd (K : List (Sym B)) (r : Reading B) (end : ℕ) : Parsed B → Parsed B → Type 0 where
       parsed-both : (q : Reading B) → Good (q .counts) → AlikeAtEnd K r end (parsed (q .built)) (parsed (q .built))
-      refused-both : AlikeAtEnd K r end (refused (fault (position end) 3)) (refused (fault (position end) 3))
-      past-at-end : (s : Reading B) (f : Parsed B) → Overfull (position end) K r s → AlikeAtEnd K r end (refused (fault (keptAt S fits s) 10)) f
+      refused-both : AlikeAtEnd K r end (refused (fault (position end) NoContinuation)) (refused (fault (position end) NoContinuation))
+      past-at-end : (s : Reading B) (f : Parsed B) → Overfull (position end) K r s → AlikeAtEnd K r end (refused (fault (keptAt S fits s) CeilingPassed)) f
 
     lifted-at-end : {K L : List (Sym B)} {r q : Reading B} {end : ℕ} {x y : Parsed B} → ((M : List (Sym B)) (t : Reading B) → Slides (position end) K r M t → Slides (position end) L q M t) → AlikeAtEnd K r end x y → AlikeAtEnd L q end x y
     lifted-at-end f (parsed-both t g) = parsed-both t g
@@ -112,7 +113,7 @@ module _ {B : Type 0} (S : Steps B) (fits : Counts → Bool) (Good : Counts → 
     leave-alike-at-end n K (operand s) q end r f g a i = go (fits (countKept S fits r)) refl
       where
         go : (z : Bool) → fits (countKept S fits r) ≡ z
-            → AlikeAtEnd (ask n ∷ K) r end (cond z (f (reading (s (position end) (r .built)) (countKept S fits r))) (refused (fault (keptAt S fits r) 10))) (g (reading (s (position end) (r .built)) (countKept S fits r)))
+            → AlikeAtEnd (ask n ∷ K) r end (cond z (f (reading (s (position end) (r .built)) (countKept S fits r))) (refused (fault (keptAt S fits r) CeilingPassed))) (g (reading (s (position end) (r .built)) (countKept S fits r)))
         go true e = lifted-at-end (λ M t z. by-counting q z) (a (reading (s (position end) (r .built)) (countKept S fits r)) (good (countKept S fits r) e))
         go false e = past-at-end r (g (reading (s (position end) (r .built)) (countKept S fits r))) (record { notion = n; step = s; counts-it = q; below = K; slides = stays (ask n ∷ K) r; before = i; past-it = e })
 

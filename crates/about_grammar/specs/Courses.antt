@@ -6,6 +6,7 @@ use Prim.Native.Nat.{ℕ, _+_, _≤_}
 use Rattle.language.specs.Building.{Built}
 use Rattle.language.specs.Declaring.{treeSteps}
 use Rattle.language.specs.Machine.{Counts, Parsed, Reading, Sym, after, reading, run, taken, took, wrong}
+use Rattle.language.specs.declared.refusals.Refusal.the-variants.{CeilingPassed}
 use Rattle.language.specs.Sections.{ruleOf}
 use Rattle.language.specs.Words.{Position, Word, fault}
 use Rattle.about_grammar.specs.Following.{Follows, among}
@@ -54,7 +55,7 @@ pub record Comes (C : Ceiling) (ks : List ℕ) (K : Stack) (r : Reading Built) (
 pub took-it : (C : Ceiling) (p : Position) (K : Stack) (b : Built) (c : Counts) → Under (C .top) c → (next : Stack → Reading Built → Parsed Built)
     → after treeSteps (C .fits) (ruleOf treeSteps) (taken treeSteps (C .fits) p K b c) next ≡ next K (reading b c)
 took-it C p K b c u next =
-    ap (λ (z : Bool). after treeSteps (C .fits) (ruleOf treeSteps) (cond z (took K (reading b c)) (wrong (fault p 10))) next) (C .below c u)
+    ap (λ (z : Bool). after treeSteps (C .fits) (ruleOf treeSteps) (cond z (took K (reading b c)) (wrong (fault p CeilingPassed))) next) (C .below c u)
 
 pub comes : {C : Ceiling} {ks : List ℕ} {K : Stack} {r : Reading Built} {us : List Word} {L : Stack} {q : Reading Built}
     → ((vs : List Word) (end : ℕ) → Follows ks vs → runs C K (us ++ vs) end r ≡ runs C L vs end q) → Comes C ks K r us L q

@@ -6,6 +6,8 @@ use Prim.Native.Nat.{ℕ}
 use Prim.Native.String.{String}
 use lib.ListN.{length}
 use Rattle.language.specs.GrammarExamples.{faultIn, grammar-open}
+use Rattle.language.specs.declared.refusals.Refusal.{Refusal}
+use Rattle.language.specs.declared.refusals.Refusal.the-variants.{NoContinuation}
 use Rattle.language.specs.Scan.{bytes}
 use Rattle.language.specs.Sections.{parse}
 use Rattle.language.specs.WordStage.{scan}
@@ -14,9 +16,9 @@ use Rattle.language.specs.Words.{Fault, fault, position}
 unfoldable pub faultOf : List ℕ → Option Fault
 faultOf s = faultIn (parse (scan s .words) (length s))
 
--- Refused with this number at the first byte of the second part.
-abbrev Refused : ℕ → List ℕ → List ℕ → Type 0
-Refused n a b = faultOf (a ++ b) ≡ some (fault (position (length a)) n)
+-- Refused so at the first byte of the second part.
+abbrev Refused : Refusal → List ℕ → List ℕ → Type 0
+Refused r a b = faultOf (a ++ b) ≡ some (fault (position (length a)) r)
 
 abbrev Accepted : String → Type 0
 Accepted s = faultOf (bytes s) ≡ none
@@ -36,7 +38,7 @@ unfolding grammar-open faultOf
 sequenced = refl
 
 -- The fourth has a second CONTROL section, which 01 leaves out.
-interpretively-linked : Refused 3 (bytes "REGISTER A[16], B[16], ADDR[8].\nMEMORY MEM[0:255, 16].\nTERMINAL YCLR, YINC, YADD, YREAD,\n NDONE = ADDR # 255,\n START = INPUT (1, START).\nOPERATION CLEAR = [A <- 16D0, ADDR <- 8D0],\n INC = [ADDR <- ADDR(+)8D1 TAIL 8],\n ADD = [A <- A(+)B TAIL 16],\n READ = [B <- MEM[ADDR],\n MEM[ADDR] = 16D0],\n RESTORE = [MEM[ADDR] = B].\nCONTROL\nP1: IF START THEN YCLR @, YREAD @, ->P2\n ELSE ->P1 ENDIF/\nP2: YADD @,\n IF NDONE THEN YINC @, YREAD @, ->P2\n ELSE ->P1 ENDIF/\n") (bytes "CONTROL\nQ1: IF YINC THEN INC ENDIF,\n IF YREAD THEN ->Q2\n ELSE ->Q1, LEVEL ENDIF/\nQ2: READ, ->Q3/\nQ3: RESTORE, LEVEL, ->Q1/.$\n")
+interpretively-linked : Refused NoContinuation (bytes "REGISTER A[16], B[16], ADDR[8].\nMEMORY MEM[0:255, 16].\nTERMINAL YCLR, YINC, YADD, YREAD,\n NDONE = ADDR # 255,\n START = INPUT (1, START).\nOPERATION CLEAR = [A <- 16D0, ADDR <- 8D0],\n INC = [ADDR <- ADDR(+)8D1 TAIL 8],\n ADD = [A <- A(+)B TAIL 16],\n READ = [B <- MEM[ADDR],\n MEM[ADDR] = 16D0],\n RESTORE = [MEM[ADDR] = B].\nCONTROL\nP1: IF START THEN YCLR @, YREAD @, ->P2\n ELSE ->P1 ENDIF/\nP2: YADD @,\n IF NDONE THEN YINC @, YREAD @, ->P2\n ELSE ->P1 ENDIF/\n") (bytes "CONTROL\nQ1: IF YINC THEN INC ENDIF,\n IF YREAD THEN ->Q2\n ELSE ->Q1, LEVEL ENDIF/\nQ2: READ, ->Q3/\nQ3: RESTORE, LEVEL, ->Q1/.$\n")
 unfolding grammar-open faultOf
 interpretively-linked = refl
 
@@ -47,70 +49,70 @@ forms = refl
 
 -- ---- What 01 leaves out, each refused at its word.
 
-operation-parameter : Refused 3 (bytes "REGISTER A. OPERATION X") (bytes "(N) = [A <- N]. CONTROL X/.")
+operation-parameter : Refused NoContinuation (bytes "REGISTER A. OPERATION X") (bytes "(N) = [A <- N]. CONTROL X/.")
 unfolding grammar-open faultOf
 operation-parameter = refl
 
-actual-parameter : Refused 3 (bytes "REGISTER A. OPERATION X = [A <- 1]. CONTROL Q: X") (bytes "(A)/.")
+actual-parameter : Refused NoContinuation (bytes "REGISTER A. OPERATION X = [A <- 1]. CONTROL Q: X") (bytes "(A)/.")
 unfolding grammar-open faultOf
 actual-parameter = refl
 
-terminal-parameter : Refused 3 (bytes "TERMINAL SUM") (bytes "(A1,A2)[1:16]=A1(+)A2. CONTROL X/.")
+terminal-parameter : Refused NoContinuation (bytes "TERMINAL SUM") (bytes "(A1,A2)[1:16]=A1(+)A2. CONTROL X/.")
 unfolding grammar-open faultOf
 terminal-parameter = refl
 
-output : Refused 3 (bytes "REGISTER A. OPERATION X = [") (bytes "OUTPUT(1,A)]. CONTROL X/.")
+output : Refused NoContinuation (bytes "REGISTER A. OPERATION X = [") (bytes "OUTPUT(1,A)]. CONTROL X/.")
 unfolding grammar-open faultOf
 output = refl
 
-time : Refused 3 (bytes "REGISTER A. OPERATION X = [A <- 1, ") (bytes "TIME 2]. CONTROL X/.")
+time : Refused NoContinuation (bytes "REGISTER A. OPERATION X = [A <- 1, ") (bytes "TIME 2]. CONTROL X/.")
 unfolding grammar-open faultOf
 time = refl
 
-level-action : Refused 3 (bytes "REGISTER A. CONTROL Q: X, ") (bytes "LEVEL/.")
+level-action : Refused NoContinuation (bytes "REGISTER A. CONTROL Q: X, ") (bytes "LEVEL/.")
 unfolding grammar-open faultOf
 level-action = refl
 
-goto-in-operation : Refused 3 (bytes "REGISTER A. OPERATION X = [A <- 1, ") (bytes "->P]. CONTROL X/.")
+goto-in-operation : Refused NoContinuation (bytes "REGISTER A. OPERATION X = [A <- 1, ") (bytes "->P]. CONTROL X/.")
 unfolding grammar-open faultOf
 goto-in-operation = refl
 
-store-in-state : Refused 3 (bytes "REGISTER A. CONTROL Q: A ") (bytes "<- 1/.")
+store-in-state : Refused NoContinuation (bytes "REGISTER A. CONTROL Q: A ") (bytes "<- 1/.")
 unfolding grammar-open faultOf
 store-in-state = refl
 
-count-by-name : Refused 3 (bytes "REGISTER A. OPERATION X = [A <- B HEAD ") (bytes "N]. CONTROL X/.")
+count-by-name : Refused NoContinuation (bytes "REGISTER A. OPERATION X = [A <- B HEAD ") (bytes "N]. CONTROL X/.")
 unfolding grammar-open faultOf
 count-by-name = refl
 
-second-control : Refused 3 (bytes "REGISTER A. CONTROL P: ->P/ . ") (bytes "CONTROL Q: ->Q/.")
+second-control : Refused NoContinuation (bytes "REGISTER A. CONTROL P: ->P/ . ") (bytes "CONTROL Q: ->Q/.")
 unfolding grammar-open faultOf
 second-control = refl
 
-no-ending : Refused 3 (bytes "REGISTER A. CONTROL P: ->P/ ") []
+no-ending : Refused NoContinuation (bytes "REGISTER A. CONTROL P: ->P/ ") []
 unfolding grammar-open faultOf
 no-ending = refl
 
-part-by-name : Refused 3 (bytes "REGISTER A. OPERATION X = [A <- B[N") (bytes ":1]]. CONTROL X/.")
+part-by-name : Refused NoContinuation (bytes "REGISTER A. OPERATION X = [A <- B[N") (bytes ":1]]. CONTROL X/.")
 unfolding grammar-open faultOf
 part-by-name = refl
 
-other-input : Refused 3 (bytes "TERMINAL T = INPUT(1,") (bytes "U). CONTROL X/.")
+other-input : Refused NoContinuation (bytes "TERMINAL T = INPUT(1,") (bytes "U). CONTROL X/.")
 unfolding grammar-open faultOf
 other-input = refl
 
-input-in-expression : Refused 3 (bytes "TERMINAL T = A + ") (bytes "INPUT(1,T). CONTROL X/.")
+input-in-expression : Refused NoContinuation (bytes "TERMINAL T = A + ") (bytes "INPUT(1,T). CONTROL X/.")
 unfolding grammar-open faultOf
 input-in-expression = refl
 
-two-dimensions-computed : Refused 3 (bytes "TERMINAL T[2,3] ") (bytes "= A. CONTROL X/.")
+two-dimensions-computed : Refused NoContinuation (bytes "TERMINAL T[2,3] ") (bytes "= A. CONTROL X/.")
 unfolding grammar-open faultOf
 two-dimensions-computed = refl
 
-one-arm : Refused 3 (bytes "REGISTER A. OPERATION X = [A <- CASE A DO 1 ") (bytes "ENDCASE]. CONTROL X/.")
+one-arm : Refused NoContinuation (bytes "REGISTER A. OPERATION X = [A <- CASE A DO 1 ") (bytes "ENDCASE]. CONTROL X/.")
 unfolding grammar-open faultOf
 one-arm = refl
 
-three-on-the-left : Refused 3 (bytes "REGISTER A. OPERATION X = [A CON B ") (bytes "CON C <- D]. CONTROL X/.")
+three-on-the-left : Refused NoContinuation (bytes "REGISTER A. OPERATION X = [A CON B ") (bytes "CON C <- D]. CONTROL X/.")
 unfolding grammar-open faultOf
 three-on-the-left = refl

@@ -10,6 +10,8 @@ use Rattle.language.specs.Declaring.{treeSteps}
 use Rattle.language.specs.GrammarExamples.{faultIn, grammar-open}
 use Rattle.language.specs.Kinds.{aConstant, aName, conWord, differenceSign, exclusiveSign, headWord, minus, plus, star, sumSign, tailWord}
 use Rattle.language.specs.Machine.{Parsed, parsed, refused}
+use Rattle.language.specs.declared.refusals.Refusal.{Refusal}
+use Rattle.language.specs.declared.refusals.Refusal.the-variants.{CeilingPassed, NoContinuation}
 use Rattle.language.specs.Scan.{bytes}
 use Rattle.language.specs.Sections.{parse, parseWith}
 use Rattle.language.specs.Tree as T
@@ -18,8 +20,8 @@ use Rattle.language.specs.WordStage.{scan}
 use Rattle.language.specs.Words.{Fault, fault, position}
 use Rattle.about_grammar.specs.Examples.{faultOf}
 
-abbrev Refused : ℕ → List ℕ → List ℕ → Type 0
-Refused n a b = faultOf (a ++ b) ≡ some (fault (position (length a)) n)
+abbrev Refused : Refusal → List ℕ → List ℕ → Type 0
+Refused r a b = faultOf (a ++ b) ≡ some (fault (position (length a)) r)
 
 -- ---- Precedence. Of an expression, its operands (1 a name, 2 a constant) and the kinds of its operators behind them.
 
@@ -86,19 +88,19 @@ reduction-of-cut : shapeOf (bytes "+ RED A TAIL 3 CON B") ≡ aName ∷ tailWord
 unfolding grammar-open shapeOf postfix
 reduction-of-cut = refl
 
-complement-in-chain : Refused 3 (opening ++ bytes "A CON ") (bytes "-B" ++ ending)
+complement-in-chain : Refused NoContinuation (opening ++ bytes "A CON ") (bytes "-B" ++ ending)
 unfolding grammar-open faultOf
 complement-in-chain = refl
 
-sum-behind-cut : Refused 3 (opening ++ bytes "A HEAD 4 ") (bytes "(+) B" ++ ending)
+sum-behind-cut : Refused NoContinuation (opening ++ bytes "A HEAD 4 ") (bytes "(+) B" ++ ending)
 unfolding grammar-open faultOf
 sum-behind-cut = refl
 
-relation-behind-cut : Refused 3 (opening ++ bytes "A HEAD 4 ") (bytes "< B" ++ ending)
+relation-behind-cut : Refused NoContinuation (opening ++ bytes "A HEAD 4 ") (bytes "< B" ++ ending)
 unfolding grammar-open faultOf
 relation-behind-cut = refl
 
-two-relations : Refused 3 (opening ++ bytes "A < B ") (bytes "< C" ++ ending)
+two-relations : Refused NoContinuation (opening ++ bytes "A < B ") (bytes "< C" ++ ending)
 unfolding grammar-open faultOf
 two-relations = refl
 
@@ -146,31 +148,31 @@ deepest-actions : faultOf (bytes "REGISTER A. CONTROL " ++ (times 24 (bytes "IF 
 unfolding grammar-open faultOf times
 deepest-actions = refl
 
-too-deep-parens : Refused 10 (deep ++ bytes "(") (bytes "(A))" ++ shut)
+too-deep-parens : Refused CeilingPassed (deep ++ bytes "(") (bytes "(A))" ++ shut)
 unfolding grammar-open faultOf times
 too-deep-parens = refl
 
-too-deep-subscript : Refused 10 (deep ++ bytes "(A") (bytes "[1])" ++ shut)
+too-deep-subscript : Refused CeilingPassed (deep ++ bytes "(A") (bytes "[1])" ++ shut)
 unfolding grammar-open faultOf times
 too-deep-subscript = refl
 
-too-deep-if : Refused 10 (deep ++ bytes "(") (bytes "IF A THEN B ELSE C ENDIF)" ++ shut)
+too-deep-if : Refused CeilingPassed (deep ++ bytes "(") (bytes "IF A THEN B ELSE C ENDIF)" ++ shut)
 unfolding grammar-open faultOf times
 too-deep-if = refl
 
-too-deep-case : Refused 10 (deep ++ bytes "(") (bytes "CASE A DO B DO C ENDCASE)" ++ shut)
+too-deep-case : Refused CeilingPassed (deep ++ bytes "(") (bytes "CASE A DO B DO C ENDCASE)" ++ shut)
 unfolding grammar-open faultOf times
 too-deep-case = refl
 
-too-deep-complement : Refused 10 (deep ++ bytes "(") (bytes "-A)" ++ shut)
+too-deep-complement : Refused CeilingPassed (deep ++ bytes "(") (bytes "-A)" ++ shut)
 unfolding grammar-open faultOf times
 too-deep-complement = refl
 
-too-deep-negation : Refused 10 (deep ++ bytes "(") (bytes "(-)A)" ++ shut)
+too-deep-negation : Refused CeilingPassed (deep ++ bytes "(") (bytes "(-)A)" ++ shut)
 unfolding grammar-open faultOf times
 too-deep-negation = refl
 
-too-deep-reduction : Refused 10 (deep ++ bytes "(") (bytes "+ RED A)" ++ shut)
+too-deep-reduction : Refused CeilingPassed (deep ++ bytes "(") (bytes "+ RED A)" ++ shut)
 unfolding grammar-open faultOf times
 too-deep-reduction = refl
 
@@ -180,12 +182,12 @@ unfolding grammar-open faultOf times
 room-again = refl
 
 -- Of conditionals in a state, the 25th.
-too-deep-action : Refused 10 (bytes "REGISTER A. CONTROL " ++ times 24 (bytes "IF A THEN ")) (bytes "IF A THEN X ENDIF/.")
+too-deep-action : Refused CeilingPassed (bytes "REGISTER A. CONTROL " ++ times 24 (bytes "IF A THEN ")) (bytes "IF A THEN X ENDIF/.")
 unfolding grammar-open faultOf times
 too-deep-action = refl
 
 -- A word that cannot stand is 3, also where it would nest too deep.
-three-before-ten : Refused 3 (deep ++ bytes "(A ") (bytes "(A))" ++ shut)
+three-before-ten : Refused NoContinuation (deep ++ bytes "(A ") (bytes "(A))" ++ shut)
 unfolding grammar-open faultOf times
 three-before-ten = refl
 
@@ -195,7 +197,7 @@ unfoldable atMostTwo : List ℕ → Option Fault
 atMostTwo s = faultIn (parseWith treeSteps (λ c. leb (c .counted) 2) nothingBuilt (scan s .words) (length s))
 
 abbrev Third : List ℕ → List ℕ → Type 0
-Third a b = atMostTwo (a ++ b) ≡ some (fault (position (length a)) 10)
+Third a b = atMostTwo (a ++ b) ≡ some (fault (position (length a)) CeilingPassed)
 
 counted-name : Third (bytes "REGISTER A. CONTROL X, Y, ") (bytes "Z/.")
 unfolding grammar-open atMostTwo

@@ -6,6 +6,7 @@ use lib.ListN.{length}
 use Rattle.language.specs.Grammar.{Is}
 use Rattle.language.specs.Machine.{refused}
 use Rattle.language.specs.Notions.{text, wholeText}
+use Rattle.language.specs.declared.refusals.Refusal.the-variants.{NoContinuation}
 use Rattle.language.specs.Sections.{parse, parseWith}
 use Rattle.language.specs.Tree.{Text}
 use Rattle.language.specs.Words.{Position, Word, fault}
@@ -32,11 +33,11 @@ proper-left : (us vs : List Word) → Proper (us ++ vs) → Proper us
 proper-left [] vs p = tt
 proper-left (w ∷ us) vs p = (p .0, proper-left us vs (p .1))
 
-pub first-fault : (ws : List Word) (end : ℕ) (p : Position) → Proper ws → parse ws end ≡ refused (fault p 3) → FirstFault ws end p
+pub first-fault : (ws : List Word) (end : ℕ) (p : Position) → Proper ws → parse ws end ≡ refused (fault p NoContinuation) → FirstFault ws end p
 unfolding parseWith
-first-fault ws end p q h = go (stopped ws end (fault p 3) h)
+first-fault ws end p q h = go (stopped ws end (fault p NoContinuation) h)
   where
-    go : StoppedAt ws end (fault p 3) → FirstFault ws end p
+    go : StoppedAt ws end (fault p NoContinuation) → FirstFault ws end p
     go s = onward (completed (s .stack) (s .nice-stack) (s .sofar .built) (s .sofar .counts))
       where
         onward : Completed (s .stack) (s .sofar .built) (s .sofar .counts) → FirstFault ws end p

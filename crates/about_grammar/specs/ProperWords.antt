@@ -9,6 +9,7 @@ use Rattle.language.specs.Characters.{blankClass, classOf, digitClass, folded, 
 use Rattle.language.specs.Constants.{bareConstant, bareLargest, decimalConstant, digitsNumber}
 use Rattle.language.specs.Kinds.{aConstant, aName}
 use Rattle.language.specs.Machine.{both}
+use Rattle.language.specs.declared.refusals.Refusal.the-variants.{BadConstant, BadName}
 use Rattle.language.specs.Scan as S
 use Rattle.language.specs.Scan.{Found, Item, Reserved, Spelled, bareAt, basedItem, binaryAt, commentAt, constantAt, decimalAt, digitBits, digitsOf, isDecimalBase, isNamePart, itemAt, longestName, nameAt, nameItem, reservedAmong, reservedKind, reservedWords, same, span, spelledSymbols, symbolAmong, written}
 use Rattle.language.specs.Value.{longest}
@@ -81,13 +82,13 @@ words-well = refl
 -- ---- Names and constants.
 
 name-proper : (s : List ℕ) → Fit (nameItem s)
-name-proper s = either-item (eqb (reservedKind s) 0) (either-item (leb (length s) longestName) (fit (S.named s) tt) (fit (S.wrong 4) tt)) (fit (S.sign (reservedKind s)) (reserved-proper reservedWords words-well s))
+name-proper s = either-item (eqb (reservedKind s) 0) (either-item (leb (length s) longestName) (fit (S.named s) tt) (fit (S.wrong BadName) tt)) (fit (S.sign (reservedKind s)) (reserved-proper reservedWords words-well s))
 
-constant-or-wrong : (z : Bool) (c : Constant) → Fit (cond z (S.constant c) (S.wrong 5))
-constant-or-wrong z c = either-item z (fit (S.constant c) tt) (fit (S.wrong 5) tt)
+constant-or-wrong : (z : Bool) (c : Constant) → Fit (cond z (S.constant c) (S.wrong BadConstant))
+constant-or-wrong z c = either-item z (fit (S.constant c) tt) (fit (S.wrong BadConstant) tt)
 
 based-proper : (l : ℕ) (ds : List ℕ) (c : Constant) → Fit (basedItem l ds c)
-based-proper l ds c = either-item (ltb 0 (length ds)) (either-item (ltb 0 l) (constant-or-wrong (leb l longest) c) (fit (S.wrong 5) tt)) (fit (S.wrong 5) tt)
+based-proper l ds c = either-item (ltb 0 (length ds)) (either-item (ltb 0 l) (constant-or-wrong (leb l longest) c) (fit (S.wrong BadConstant) tt)) (fit (S.wrong BadConstant) tt)
 
 binary-proper : (k l n : ℕ) (s : List ℕ) → ProperFound (binaryAt k l n s)
 unfolding binaryAt

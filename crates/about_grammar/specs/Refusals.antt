@@ -11,6 +11,7 @@ use Rattle.language.specs.Declaring.{treeSteps}
 use Rattle.language.specs.Grammar.{Is}
 use Rattle.language.specs.Machine.{Counts, Fed, Reading, after, ask, counted, deepest, feed, mostCounted, mostFacilities, mostOperations, mostStates, nested, noCounts, reading, refused, run, sections, took, withinCeilings}
 use Rattle.language.specs.Notions.{text, wholeText}
+use Rattle.language.specs.declared.refusals.Refusal.the-variants.{CeilingPassed, NoContinuation}
 use Rattle.language.specs.Sections.{parse, parseWith, ruleOf}
 use Rattle.language.specs.Tree.{Text}
 use Rattle.language.specs.Words.{Fault, Position, Word, fault, position, wordAt}
@@ -83,16 +84,16 @@ pub record PlaceOfTen (ws : List Word) (end : ℕ) (p : Position) : Type 0 where
   pub within : Within (sofar .counts)
   pub passing : Passing stack sofar end left p
 
-ten : {L : Stack} {q : Reading Built} {end : ℕ} {left : List Word} {f : Fault} → Why treeSteps withinCeilings Within (λ c e. e) eased (ruleOf treeSteps) Fine stays-fine L q end left f → f .number ≡ 10 → Passing L q end left (f .at)
-ten (no-way w vs e) n = absurd (omega arith)
-ten (too-short e) n = absurd (omega arith)
+ten : {L : Stack} {q : Reading Built} {end : ℕ} {left : List Word} {f : Fault} → Why treeSteps withinCeilings Within (λ c e. e) eased (ruleOf treeSteps) Fine stays-fine L q end left f → f .refusal ≡ CeilingPassed → Passing L q end left (f .at)
+ten (no-way w vs e) n = absurd (let z : _≡_ {A = ℕ} 0 1 = cc in omega arith)
+ten (too-short e) n = absurd (let z : _≡_ {A = ℕ} 0 1 = cc in omega arith)
 ten (too-much w vs M s e g) n = by-word w vs M s e g
 ten (too-much-kept vs s o) n = by-kept vs s o
 
-pub place-of-ten : (ws : List Word) (end : ℕ) (p : Position) → parse ws end ≡ refused (fault p 10) → PlaceOfTen ws end p
+pub place-of-ten : (ws : List Word) (end : ℕ) (p : Position) → parse ws end ≡ refused (fault p CeilingPassed) → PlaceOfTen ws end p
 unfolding parse parseWith
 place-of-ten ws end p h =
-    let s = stopped ws end (fault p 10) h in
+    let s = stopped ws end (fault p CeilingPassed) h in
     record { us = s .us; left = s .left; split = s .split; stack = s .stack; sofar = s .sofar; reach = s .reach; within = s .within; passing = ten (s .why) refl }
 
 -- ---- 3.
@@ -103,7 +104,7 @@ pub data NoWay (us : List Word) (end : ℕ) : List Word → Position → Type 0 
   with-nothing : ((h : ℕ) (t : Text) → Is wholeText h us (text t) → ⊥) → NoWay us end [] (position end)
 
 pub three : {L : Stack} {q : Reading Built} {end : ℕ} {left : List Word} {f : Fault} (us : List Word) → ((vs : List Word) (end₁ : ℕ) → run treeSteps all (ruleOf treeSteps) start (us ++ vs) end₁ begun ≡ run treeSteps all (ruleOf treeSteps) L vs end₁ q)
-    → Why treeSteps withinCeilings Within (λ c e. e) eased (ruleOf treeSteps) Fine stays-fine L q end left f → f .number ≡ 3 → NoWay us end left (f .at)
+    → Why treeSteps withinCeilings Within (λ c e. e) eased (ruleOf treeSteps) Fine stays-fine L q end left f → f .refusal ≡ NoContinuation → NoWay us end left (f .at)
 unfolding run parseWith
 three {L} {q} us reach (no-way w vs e) n =
     with-word w vs (λ h xs t x.
@@ -113,5 +114,5 @@ three {end = end} us reach (too-short e) n =
     with-nothing (λ h t x.
     let y = complete-unbounded x end in
     not-refused (sym (y .1) ∙ ap (λ (l : List Word). run treeSteps all (ruleOf treeSteps) start l end begun) (sym (append-nil us)) ∙ reach [] end ∙ e))
-three us reach (too-much w vs M s e g) n = absurd (omega arith)
-three us reach (too-much-kept vs s o) n = absurd (omega arith)
+three us reach (too-much w vs M s e g) n = absurd (let z : _≡_ {A = ℕ} 0 1 = cc in omega arith)
+three us reach (too-much-kept vs s o) n = absurd (let z : _≡_ {A = ℕ} 0 1 = cc in omega arith)

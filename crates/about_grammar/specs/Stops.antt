@@ -5,6 +5,7 @@ use mathlib.Core.Path.{_≡_, _∙_, ap, refl, subst}
 use Prim.Native.Nat.{ℕ, _-_}
 use native.Mathlib.Omega.{arith}
 use Rattle.language.specs.Machine.{Ask, Counts, Fed, Parsed, Reading, Rule, Sym, after, feed, finish, keptAt, nested, parsed, refused, run, took, wrong}
+use Rattle.language.specs.declared.refusals.Refusal.the-variants.{CeilingPassed, NoContinuation}
 use Rattle.language.specs.Steps.{Steps}
 use Rattle.language.specs.Words.{Position, Fault, Word, fault, position, wordAt}
 use Rattle.about_grammar.specs.Ceilingless.{Alike, AlikeAtEnd, Overfull, all, feed-alike, finish-alike, parsed-both, past, past-at-end, past-kept, refused-both, stuck-both, taken-both}
@@ -24,13 +25,13 @@ module _ {B : Type 0} (S : Steps B) (fits : Counts → Bool) (Good : Counts → 
   -- With the stack L and the reading q, before the words that are left.
   pub data Why (L : List (Sym B)) (q : Reading B) (end : ℕ) : List Word → Fault → Type 0 where
     -- the word cannot stand
-    no-way : (w : Word) (vs : List Word) → feed S all rules L w q ≡ wrong (fault (wordAt w) 3) → Why L q end (w ∷ vs) (fault (wordAt w) 3)
+    no-way : (w : Word) (vs : List Word) → feed S all rules L w q ≡ wrong (fault (wordAt w) NoContinuation) → Why L q end (w ∷ vs) (fault (wordAt w) NoContinuation)
     -- the words are too few
-    too-short : finish S all rules L end q ≡ refused (fault (position end) 3) → Why L q end [] (fault (position end) 3)
+    too-short : finish S all rules L end q ≡ refused (fault (position end) NoContinuation) → Why L q end [] (fault (position end) NoContinuation)
     -- the word can stand, and with it the counts do not fit
-    too-much : (w : Word) (vs : List Word) (M : List (Sym B)) (s : Reading B) → feed S all rules L w q ≡ took M s → fits (s .counts) ≡ false → Why L q end (w ∷ vs) (fault (wordAt w) 10)
+    too-much : (w : Word) (vs : List Word) (M : List (Sym B)) (s : Reading B) → feed S all rules L w q ≡ took M s → fits (s .counts) ≡ false → Why L q end (w ∷ vs) (fault (wordAt w) CeilingPassed)
     -- the word kept last counts, and with it the counts do not fit
-    too-much-kept : (vs : List Word) (s : Reading B) → Overfull S fits Good good eased rules (nextPlace vs end) L q s → Why L q end vs (fault (keptAt S fits s) 10)
+    too-much-kept : (vs : List Word) (s : Reading B) → Overfull S fits Good good eased rules (nextPlace vs end) L q s → Why L q end vs (fault (keptAt S fits s) CeilingPassed)
 
   pub record Stopped (K : List (Sym B)) (r : Reading B) (ws : List Word) (end : ℕ) (f : Fault) : Type 0 where
     pub us : List Word

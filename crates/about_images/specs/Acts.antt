@@ -18,6 +18,7 @@ use Rattle.language.specs.Expressions.{ownWork, selects}
 use Rattle.language.specs.Judging.{Judged, Worth, both, fine, givenBoth, refuse, unless, worth}
 use Rattle.language.specs.Order.{startAt}
 use Rattle.language.specs.Recursion.{below-lt}
+use Rattle.language.specs.declared.refusals.Refusal.the-variants.{BadLength, BadName, BadStore, NoContinuation}
 use Rattle.language.specs.Storing.{mayStore, takesDelayed, takesImmediate}
 use Rattle.language.specs.Tree.{Kind}
 use Rattle.language.specs.Words.{Position}
@@ -87,12 +88,12 @@ module _ (d : Description) (p : Places) (end : ℕ) (few-states : length (d .sta
 
   may-store : (allowed : Bool) (at : Position) (v w : Worth) {u : Worth} → J.stored d p inState works allowed at v w ≡ fine u → allowed ≡ true
   may-store allowed at v w e =
-      unless-none allowed at 8 (append-none-right (unless (eqb (v .length) (w .length)) at 7) _ (clean-fine (unless (eqb (v .length) (w .length)) at 7 ++ unless allowed at 8) _ e .none))
+      unless-none allowed at BadStore (append-none-right (unless (eqb (v .length) (w .length)) at BadLength) _ (clean-fine (unless (eqb (v .length) (w .length)) at BadLength ++ unless allowed at BadStore) _ e .none))
 
   to-state : (at : Position) (s : ℕ) {w : Worth} → J.toState d p inState works at s ≡ fine w → Half s
   to-state at s {w} e = go (ltb 0 (length (stateAt d s .name))) refl e
     where
-      go : (b : Bool) → ltb 0 (length (stateAt d s .name)) ≡ b → cond b (worth 1 0 ownWork) (refuse at 4) ≡ fine w → Half s
+      go : (b : Bool) → ltb 0 (length (stateAt d s .name)) ≡ b → cond b (worth 1 0 ownWork) (refuse at BadName) ≡ fine w → Half s
       go true t k = omega (arith, named-there d s (ltb-true 0 (length (stateAt d s .name)) t))
       go false t k = faulty-fine k
 
@@ -127,7 +128,7 @@ module _ (d : Description) (p : Places) (end : ℕ) (few-states : length (d .sta
 
   judged-lt : (k a i : ℕ) (s : Shape) → a < k → J.runBelow d p inState works k a i s ≡ judged a i s
   unfolding J.runBelow
-  judged-lt k a i s h = ap (λ (f : ℕ → Shape → Judged). f i s) (below-lt (λ i s. refuse D.nowhere 3) (J.runStep d p inState works) k a h)
+  judged-lt k a i s h = ap (λ (f : ℕ → Shape → Judged). f i s) (below-lt (λ i s. refuse D.nowhere NoContinuation) (J.runStep d p inState works) k a h)
 
   abbrev All : ℕ → ℕ → Type 0
   All i k = (j : ℕ) → i ≤ j → j < i + k → SaneAct d end (actionAt d j)
@@ -190,12 +191,12 @@ module _ (d : Description) (p : Places) (end : ℕ) (few-states : length (d .sta
         → J.holding d p inState works ev m i x (J.conditional d p inState works (actionPlace p i) (J.right d p inState works c) (ev x (i + 1) arms) test) ≡ fine w → Held c x test
     held c x test {w} e = go (leb x m) refl e
       where
-        tested : (t : Bool) (j : Judged) {v : Worth} → cond t j (refuse (actionPlace p i) 7) ≡ fine v → t ≡ true
+        tested : (t : Bool) (j : Judged) {v : Worth} → cond t j (refuse (actionPlace p i) BadLength) ≡ fine v → t ≡ true
         tested true j e = refl
         tested false j e = faulty-fine e
 
         go : (b : Bool) → leb x m ≡ b
-            → cond b (givenBoth (J.conditional d p inState works (actionPlace p i) (J.right d p inState works c) (ev x (i + 1) arms) test) (ev (m - x) (i + 1 + x) actions) (J.allWork d p inState works)) (refuse D.nowhere 3) ≡ fine w
+            → cond b (givenBoth (J.conditional d p inState works (actionPlace p i) (J.right d p inState works c) (ev x (i + 1) arms) test) (ev (m - x) (i + 1 + x) actions) (J.allWork d p inState works)) (refuse D.nowhere NoContinuation) ≡ fine w
             → Held c x test
         go false q k = faulty-fine k
         go true q k =
@@ -243,7 +244,7 @@ module _ (d : Description) (p : Places) (end : ℕ) (few-states : length (d .sta
     arm-sane x {w} q e = go (both (leb 1 x) (leb x m)) refl e
       where
         go : (b : Bool) → both (leb 1 x) (leb x m) ≡ b
-            → cond b (givenBoth (ev x (i + 1) actions) (ev (m - x) (i + 1 + x) arms) (λ v w. worth 1 (w .arms + 1) (v .work + w .work))) (refuse D.nowhere 3) ≡ fine w
+            → cond b (givenBoth (ev x (i + 1) actions) (ev (m - x) (i + 1 + x) arms) (λ v w. worth 1 (w .arms + 1) (v .work + w .work))) (refuse D.nowhere NoContinuation) ≡ fine w
             → All i (suc m) × (suc m ≤ 2 * count (acts d) i (suc m))
         go false t k = faulty-fine k
         go true t k =

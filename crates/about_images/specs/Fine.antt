@@ -20,6 +20,7 @@ use Rattle.language.specs.Recursion.{below-lt}
 use Rattle.language.specs.ReferenceRules.{boundFaults, endFaults, referenceJudged, subscriptFaults, subscriptWorth, subscriptsJudged}
 use Rattle.language.specs.References as R
 use Rattle.language.specs.References.{Subscripts, referenceOf}
+use Rattle.language.specs.declared.refusals.Refusal.the-variants.{BadLength, BadSubscript}
 use Rattle.language.specs.Value.{Value, longest}
 use Rattle.about_running.specs.Finds.{Refers, reference-fine}
 use Rattle.about_running.specs.Judged.{append-none-left, append-none-right, arms-fine, both-fine, faulty-fine, given-fine, proper-fine, sized-fine, unless-none}
@@ -106,8 +107,8 @@ module _ (d : Description) (p : Places) (terminals : ℕ → Judged) (known : �
       ends-in b h e =
           let t = bounded f h in
           let c = facilityAt d f .bits in (
-            within-bounds c (b .first) (t .0) (t .1) (unless-none (inBounds c (b .first)) (at .first) 6 (append-none-left _ _ e)),
-            within-bounds c (b .last) (t .0) (t .1) (unless-none (inBounds c (b .last)) (at .last) 6 (append-none-right (unless (inBounds c (b .first)) (at .first) 6) _ e)),
+            within-bounds c (b .first) (t .0) (t .1) (unless-none (inBounds c (b .first)) (at .first) BadSubscript (append-none-left _ _ e)),
+            within-bounds c (b .last) (t .0) (t .1) (unless-none (inBounds c (b .last)) (at .last) BadSubscript (append-none-right (unless (inBounds c (b .first)) (at .first) BadSubscript) _ e)),
           )
 
       whole-tree : {w : Worth} → nodeAt d n ≡ D.whole f → referenceJudged d p terminals ev own known (record { facility = f; subscripts = R.whole }) at ≡ fine w → Tree d n n arms
@@ -233,7 +234,7 @@ module _ (d : Description) (p : Places) (terminals : ℕ → Judged) (known : �
           few : (c : ℕ) (u v : Worth) → choiceJudged d p terminals known (at .at) c u v ≡ fine w → c ≤ 64
           few c u v k = go (both (selects (u .length) c) (eqb (v .arms) c)) refl k
             where
-              go : (b : Bool) → both (selects (u .length) c) (eqb (v .arms) c) ≡ b → cond b (sized (at .at) (v .length) (ownWork + u .work + v .work)) (refuse (at .at) 7) ≡ fine w → c ≤ 64
+              go : (b : Bool) → both (selects (u .length) c) (eqb (v .arms) c) ≡ b → cond b (sized (at .at) (v .length) (ownWork + u .work + v .work)) (refuse (at .at) BadLength) ≡ fine w → c ≤ 64
               go true x y = selects-few (u .length) c (both-left (selects (u .length) c) _ x)
               go false x y = faulty-fine y
       node-tree D.Node.broken w q e o = none-some o

@@ -20,6 +20,7 @@ use Rattle.language.specs.Layout.{facilityBytes}
 use Rattle.language.specs.Machine.{mostCounted, mostFacilities, mostOperations, mostStates}
 use Rattle.language.specs.Order.{facilityRoots, operationRoots, startAt, startNode, stateRoots, valueRoot}
 use Rattle.language.specs.Recursion.{below-ge}
+use Rattle.language.specs.declared.refusals.Refusal.the-variants.{BadSequencing, BadSubscript, NoContinuation}
 use Rattle.language.specs.Rules.{boundsFaults, facilitiesFaults, facilityFaults, largestBound, lengthAt, orElse, repeated, sequencingLength, sequencingRight, valueFaults}
 use Rattle.language.specs.Scan.{longestName, reservedKind}
 use Rattle.language.specs.Tree.{Kind, Name, computed, input, memory, plain, register, sequencing}
@@ -89,17 +90,17 @@ bounds-at d n another before (f ∷ fs) e zero h = roomy (or-left _ _ (append-no
     or-left [] ys e = refl
     or-left (x ∷ xs) ys e = e
 
-    half : (n : ℕ) (p : Position) → unless (leb n 65535) p 6 ≡ [] → Half n
-    half n p e = omega (arith, leb-true n 65535 (unless-none (leb n 65535) p 6 e))
+    half : (n : ℕ) (p : Position) → unless (leb n 65535) p BadSubscript ≡ [] → Half n
+    half n p e = omega (arith, leb-true n 65535 (unless-none (leb n 65535) p BadSubscript e))
 
     roomy : boundsFaults d noPlaces f (facilityPlace noPlaces n) ≡ [] → Roomy f
     roomy g =
         let at = facilityPlace noPlaces n in
-        let g1 = append-none-right (unless (leb (f .words .first) 65535) (at .wordsFirst) 6) _ g in
-        let g2 = append-none-right (unless (leb (f .words .last) 65535) (at .wordsLast) 6) _ g1 in
+        let g1 = append-none-right (unless (leb (f .words .first) 65535) (at .wordsFirst) BadSubscript) _ g in
+        let g2 = append-none-right (unless (leb (f .words .last) 65535) (at .wordsLast) BadSubscript) _ g1 in
         record {
           words = (half _ (at .wordsFirst) (append-none-left _ _ g), half _ (at .wordsLast) (append-none-left _ _ g1));
-          bits = (half _ (at .bitsFirst) (append-none-left _ _ g2), half _ (at .bitsLast) (append-none-right (unless (leb (f .bits .first) 65535) (at .bitsFirst) 6) _ g2));
+          bits = (half _ (at .bitsFirst) (append-none-left _ _ g2), half _ (at .bitsLast) (append-none-right (unless (leb (f .bits .first) 65535) (at .bitsFirst) BadSubscript) _ g2));
         }
 bounds-at d n another before (f ∷ fs) e (suc i) h =
     bounds-at d (suc n) (another || isSequencing (f .kind)) (before + facilityBytes f) fs
@@ -242,7 +243,7 @@ module _ (d : Description) (h : legalForm d ≡ true) where
   unfolding J.operationJudged
   body-fine o {w} e = go (eqb (operationAt d o .body .count) 0) e
     where
-      go : (b : Bool) → cond b (refuse D.nowhere 3) (J.runJudged d noPlaces false (J.operationBelow d noPlaces o) (operationAt d o .body)) ≡ fine w
+      go : (b : Bool) → cond b (refuse D.nowhere NoContinuation) (J.runJudged d noPlaces false (J.operationBelow d noPlaces o) (operationAt d o .body)) ≡ fine w
           → J.runJudged d noPlaces false (J.operationBelow d noPlaces o) (operationAt d o .body) ≡ fine w
       go true k = faulty-fine k
       go false k = k
@@ -270,7 +271,7 @@ module _ (d : Description) (h : legalForm d ≡ true) where
       let g : Facility = getD (d .facilities) k noFacility in
       let at : FacilityPlaces = facilityPlace noPlaces (0 + k) in
       let t : cond (isSequencing (g .kind)) (sequencingRight d noPlaces (x .0) g) true ≡ true =
-      unless-none (cond (isSequencing (g .kind)) (sequencingRight d noPlaces (x .0) g) true) (at .name) 9 (append-none-left _ _ (x .1 .1)) in
+      unless-none (cond (isSequencing (g .kind)) (sequencingRight d noPlaces (x .0) g) true) (at .name) BadSequencing (append-none-left _ _ (x .1 .1)) in
       let r : sequencingRight d noPlaces (x .0) g ≡ true = rw (y .2 .sequencing) at t in
       let m : wordLength g ≤ 256 = leb-true (wordLength g) 256 (right-of (leb (g .dimensions) 1) _ (right-of (cond (x .0) false true) _ r)) in
       let z : f ≡ k = omega (arith, y .1) in
@@ -293,7 +294,7 @@ module _ (d : Description) (h : legalForm d ≡ true) where
   value-own (some n) before at none q e = absurd (let z : _≡_ {A = ℕ} 0 1 = cc in omega arith)
   value-own (some n) before at (some l) q e =
       let v : Value = constantValue (nodeAt d n) in
-      let t = unless-none (both (eqb (v .length) l) (cond (repeated d noPlaces (v .number) before) false true)) at 9 e in
+      let t = unless-none (both (eqb (v .length) l) (cond (repeated d noPlaces (v .number) before) false true)) at BadSequencing e in
       let g : v .length ≡ l = eqb-true (v .length) l (left-of (eqb (v .length) l) _ t) in
       let r = register-long l q in
       let c = constant-so (nodeAt d n) (omega (arith, g, r .0)) in

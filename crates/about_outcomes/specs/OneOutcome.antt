@@ -13,6 +13,7 @@ use Rattle.language.specs.Description.{facilityAt, isComputed}
 use Rattle.language.specs.Image as I
 use Rattle.language.specs.Lookups as Lk
 use Rattle.language.specs.Reading as R
+use Rattle.language.specs.Stops.{halted}
 use Rattle.language.specs.Tree as T
 use Rattle.language.specs.Tree.{Name}
 use Rattle.image_sections.specs.Declarations.{facilityMeant, kindMeant, shortMeant}
@@ -40,6 +41,8 @@ use Rattle.call_answers.specs.Run as Run
 use Rattle.call_answers.specs.declared.ran.Answer as RunAnswer
 use Rattle.call_answers.specs.declared.ran.Answer.the-variants as W
 use Rattle.call_answers.specs.declared.ran.Tally.{Tally}
+use Rattle.language.specs.declared.stops.Halt.{Halt}
+use Rattle.language.specs.declared.stops.Halt.the-variants as Halts
 
 -- ---- The check, and names as parts of the image: the contract names the answer itself.
 
@@ -237,6 +240,18 @@ module _ (text image image′ : List ℕ) (s : length image ≡ length image′)
 
 -- ---- A run: scratch and trace are not read.
 
+halt-one : (a b : Halt) → halted a ≡ halted b → a ≡ b
+halt-one Halts.None Halts.None e = refl
+halt-one (Halts.At m) (Halts.At n) e =
+    let z : m ≡ n = cc in
+    ap Halts.At z
+halt-one Halts.None (Halts.At n) e =
+    let z : _≡_ {A = ℕ} 0 1 = cc in
+    absurd (omega arith)
+halt-one (Halts.At m) Halts.None e =
+    let z : _≡_ {A = ℕ} 0 1 = cc in
+    absurd (omega arith)
+
 tally-one : (s t : Tally) → s .completed ≡ t .completed → s .conflicts ≡ t .conflicts → s .stop ≡ t .stop → s ≡ t
 tally-one s t a b c =
     let r : s ≡ record { completed = t .completed; conflicts = t .conflicts; stop = t .stop } = rw (← a, ← b, ← c) in
@@ -246,8 +261,8 @@ ran-one : (a b : RunAnswer.Answer) → Run.answered a ≡ Run.answered b → a �
 ran-one (W.Ran s) (W.Ran t) e =
     let x : s .completed ≡ t .completed = cc in
     let y : s .conflicts ≡ t .conflicts = cc in
-    let z : s .stop ≡ t .stop = cc in
-    ap W.Ran (tally-one s t x y z)
+    let z : halted (s .stop) ≡ halted (t .stop) = cc in
+    ap W.Ran (tally-one s t x y (halt-one (s .stop) (t .stop) z))
 ran-one (W.Refused m) (W.Refused n) e =
     let z : m ≡ n = cc in
     ap W.Refused z

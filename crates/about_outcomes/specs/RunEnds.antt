@@ -1,7 +1,7 @@
--- A run that is not refused carries out every cycle asked for, or ends at a stop of 01's list; no cycle of it is refused. Assumes nothing.
+-- A run that is not refused carries out every cycle asked for, or ends at one of 01's stops; no cycle of it is refused. Assumes nothing.
 use mathlib.Core.Bool.{true}
 use mathlib.Core.List.{List, [], _++_}
-use mathlib.Core.Option.{Option, none}
+use mathlib.Core.Option.{Option, none, some}
 use mathlib.Core.Path.{_≡_, refl}
 use native.Mathlib.Omega.{arith}
 use Prim.Native.Nat.{ℕ, zero, suc, _+_, _*_, _≤_}
@@ -19,14 +19,14 @@ use Rattle.about_cycles.specs.StopsFirst.{Ends, firstStop, goes-on, halts-for, 
 use Rattle.about_bytes.specs.AnyRun.{Ready, opens-ready}
 use Rattle.about_bytes.specs.ManyCycles.{all-first, all-rest, going, run-free}
 use Rattle.about_bytes.specs.StaysSound.{no-refusal, unrefused}
+use Rattle.language.specs.declared.stops.Stop.{Stop}
 
 -- Of k cycles from r on: how many more were completed, and what ended them.
-record Ended (k : ℕ) (r : Running) (e : Running × ℕ) : Type 0 where
+record Ended (k : ℕ) (r : Running) (e : Running × Option Stop) : Type 0 where
   more : ℕ
   completed-so : e .0 .completed′ ≡ r .completed′ + more
   few : more ≤ k
-  listed : e .1 ≤ 8
-  all-done : e .1 ≡ 0 → more ≡ k
+  all-done : e .1 ≡ none → more ≡ k
   counted : e .0 .conflicts ≤ r .conflicts + more * mostWork
 
 module _ (image : List ℕ) (scratch : ℕ) where
@@ -36,26 +36,25 @@ module _ (image : List ℕ) (scratch : ℕ) where
   abbrev nextOf : CycleCall → ℕ → Running → Running
   nextOf c n r = record { completed′ = suc (r .completed′); conflicts = r .conflicts + n; store = c .store; record′ = c .record′; trace = r .trace ++ take (storeSize d) (c .store) }
 
-  cycled-on : (c : CycleCall) (r : Running) (on : Running → Running × ℕ) (n : ℕ) → c .answer ≡ cycled n → afterCycle image scratch (storeSize d) (stimulusSize d) c r on ≡ on (nextOf c n r)
+  cycled-on : (c : CycleCall) (r : Running) (on : Running → Running × Option Stop) (n : ℕ) → c .answer ≡ cycled n → afterCycle image scratch (storeSize d) (stimulusSize d) c r on ≡ on (nextOf c n r)
   cycled-on c r on n e = rw e refl
 
-  stopped-on : (c : CycleCall) (r : Running) (on : Running → Running × ℕ) (n : ℕ) → c .answer ≡ stoppedFor n → afterCycle image scratch (storeSize d) (stimulusSize d) c r on ≡ (r, n)
+  stopped-on : (c : CycleCall) (r : Running) (on : Running → Running × Option Stop) (n : Stop) → c .answer ≡ stoppedFor n → afterCycle image scratch (storeSize d) (stimulusSize d) c r on ≡ (r, some n)
   stopped-on c r on n e = rw e refl
 
-  one-more : (k : ℕ) (c : CycleCall) (r : Running) (n : ℕ) (e : Running × ℕ) → n ≤ mostWork → Ended k (nextOf c n r) e → Ended (suc k) r e
+  one-more : (k : ℕ) (c : CycleCall) (r : Running) (n : ℕ) (e : Running × Option Stop) → n ≤ mostWork → Ended k (nextOf c n r) e → Ended (suc k) r e
   unfolding mostWork
   one-more k c r n e l h = record {
     more = suc (h .more);
     completed-so = omega (arith, h .completed-so);
     few = omega (arith, h .few);
-    listed = h .listed;
     all-done = λ z. let y = h .all-done z in omega (arith, y);
     counted = omega (arith, h .counted, l);
   }
 
   ended : (k : ℕ) (stimuli : List ℕ) (r : Running) → Ready image (r .store) (r .record′) scratch → allWellFormed d k stimuli ≡ true → Ended k r (cycles image scratch (storeSize d) (stimulusSize d) k stimuli r)
   unfolding cycles
-  ended zero stimuli r h f = record { more = 0; completed-so = omega arith; few = omega arith; listed = omega arith; all-done = λ z. refl; counted = omega arith }
+  ended zero stimuli r h f = record { more = 0; completed-so = omega arith; few = omega arith; all-done = λ z. refl; counted = omega arith }
   ended (suc k) stimuli r h f =
       go (λ t x. ended k (drop (stimulusSize d) stimuli) t x (all-rest d k stimuli f)) (firstStop image (r .store) (r .record′) stimulus) (c .answer) refl
       (stops-first image (r .store) (r .record′) stimulus scratch (h .unrefused-with stimulus form))
@@ -69,24 +68,23 @@ module _ (image : List ℕ) (scratch : ℕ) where
       c : CycleCall
       c = cycle image (r .store) (r .record′) stimulus scratch
 
-      on : Running → Running × ℕ
+      on : Running → Running × Option Stop
       on = cycles image scratch (storeSize d) (stimulusSize d) k (drop (stimulusSize d) stimuli)
 
-      go : ((t : Running) → Ready image (t .store) (t .record′) scratch → Ended k t (on t)) → (x : Option ℕ) (a : CycleAnswer) → c .answer ≡ a → Ends x a
+      go : ((t : Running) → Ready image (t .store) (t .record′) scratch → Ended k t (on t)) → (x : Option Stop) (a : CycleAnswer) → c .answer ≡ a → Ends x a
           → Ended (suc k) r (afterCycle image scratch (storeSize d) (stimulusSize d) c r on)
       go next x a q (goes-on {n} l) = rw (cycled-on c r on n q) (one-more k c r n (on (nextOf c n r)) l (next (nextOf c n r) (ready-again image (r .store) (r .record′) stimulus scratch h form)))
-      go next x a q (halts-for {n} l) =
-          rw (stopped-on c r on n q) (record { more = 0; completed-so = omega arith; few = omega arith; listed = l .most; all-done = λ z. absurd (omega (arith, z, l .least)); counted = omega arith })
+      go next x a q (halts-for {n}) =
+          rw (stopped-on c r on n q) (record { more = 0; completed-so = omega arith; few = omega arith; all-done = λ z. absurd (let y : _≡_ {A = ℕ} 0 1 = cc in omega arith); counted = omega arith })
 
 -- What a run answers.
 pub record Ran (count : ℕ) (a : RunAnswer) : Type 0 where
   pub completed : ℕ
   pub conflicts : ℕ
-  pub stop : ℕ
+  pub stop : Option Stop
   pub answers : a ≡ ran completed conflicts stop
   pub few : completed ≤ count
-  pub listed : stop ≤ 8
-  pub all-done : stop ≡ 0 → completed ≡ count
+  pub all-done : stop ≡ none → completed ≡ count
   pub counted : conflicts ≤ completed * mostWork
 
 module _ (image store record′ stimuli : List ℕ) (count scratch trace : ℕ) (none-refused : runRefusal image store record′ stimuli count scratch trace ≡ none) where
@@ -102,7 +100,6 @@ module _ (image store record′ stimuli : List ℕ) (count scratch trace : ℕ) 
         stop = _;
         answers = refl;
         few = let a = e .completed-so in let b = e .few in omega (arith, a, b);
-        listed = e .listed;
         all-done = λ z. let a = e .completed-so in let b = e .all-done z in omega (arith, a, b);
         counted = let a = e .completed-so in let b = e .counted in omega (arith, a, b);
       })

@@ -14,6 +14,8 @@ use Rattle.language.specs.Reading.{ReadCall, accepted, read}
 use Rattle.language.specs.Scan.{bytes}
 use Rattle.language.specs.Step.{Outcome, Record, completed, step}
 use Rattle.language.specs.Store.{Words}
+use Rattle.language.specs.declared.refusals.Refusal.{Refusal}
+use mathlib.Core.Option.{none}
 
 -- ---- The calls as any module may have them.
 
@@ -74,11 +76,11 @@ example-accepted : read example 320 .answer ≡ accepted 288
 unfolding computing example
 example-accepted = refl
 
-pub not-refusing : (f : Reader) → Reads f → (number place : List ℕ → ℕ → ℕ) → ((text : List ℕ) (room : ℕ) → f text room .answer ≡ Reading.refusedFor (number text room) (place text room)) → ⊥
-not-refusing f reads number place refuses =
+pub not-refusing : (f : Reader) → Reads f → (refusal : List ℕ → ℕ → Refusal) (place : List ℕ → ℕ → ℕ) → ((text : List ℕ) (room : ℕ) → f text room .answer ≡ Reading.refusedFor (refusal text room) (place text room)) → ⊥
+not-refusing f reads refusal place refuses =
     told (sym example-accepted ∙ sym (ap (λ (c : ReadCall). c .answer) (reads example 320)) ∙ refuses example 320)
   where
-    told : accepted 288 ≡ Reading.refusedFor (number example 320) (place example 320) → ⊥
+    told : accepted 288 ≡ Reading.refusedFor (refusal example 320) (place example 320) → ⊥
     told e =
         let z : _≡_ {A = ℕ} 0 1 = cc in
         omega arith
@@ -180,7 +182,7 @@ threeOf =
     let image = imageOf example in
     run image (opened image .store) (opened image .record′) (1 ∷ 0 ∷ 1 ∷ []) 3 12 9
 
-three-ran : threeOf .answer ≡ ran 3 0 0
+three-ran : threeOf .answer ≡ ran 3 0 none
 unfolding computing example imageOf opened threeOf
 three-ran = refl
 
@@ -199,7 +201,7 @@ third-traced = refl
 -- Cycle k of a run that went to its end left what the first one left.
 abbrev pub Repeats : Run → ℕ → Type 0
 Repeats f k =
-    (image store record′ stimuli : List ℕ) (count scratch room conflicts : ℕ) → k < count → f image store record′ stimuli count scratch room .answer ≡ ran count conflicts 0 → traced image k (f image store record′ stimuli count scratch room .trace) ≡ traced image 0 (f image store record′ stimuli count scratch room .trace)
+    (image store record′ stimuli : List ℕ) (count scratch room conflicts : ℕ) → k < count → f image store record′ stimuli count scratch room .answer ≡ ran count conflicts none → traced image k (f image store record′ stimuli count scratch room .trace) ≡ traced image 0 (f image store record′ stimuli count scratch room .trace)
 
 repeated : (f : Run) → Runs f → (k : ℕ) → k < 3 → Repeats f k → traced (imageOf example) k (threeOf .trace) ≡ traced (imageOf example) 0 (threeOf .trace)
 unfolding threeOf
@@ -207,7 +209,7 @@ repeated f runs k h repeats =
     let i = imageOf example in
     let o = opened i in
     let e : f i (o .store) (o .record′) (1 ∷ 0 ∷ 1 ∷ []) 3 12 9 ≡ threeOf = runs i (o .store) (o .record′) (1 ∷ 0 ∷ 1 ∷ []) 3 12 9 in
-    let a : f i (o .store) (o .record′) (1 ∷ 0 ∷ 1 ∷ []) 3 12 9 .answer ≡ ran 3 0 0 = ap (λ (c : RunCall). c .answer) e ∙ three-ran in
+    let a : f i (o .store) (o .record′) (1 ∷ 0 ∷ 1 ∷ []) 3 12 9 .answer ≡ ran 3 0 none = ap (λ (c : RunCall). c .answer) e ∙ three-ran in
     let t = ap (λ (c : RunCall). traced i k (c .trace)) e in
     let u = ap (λ (c : RunCall). traced i 0 (c .trace)) e in
     sym t ∙ repeats i (o .store) (o .record′) (1 ∷ 0 ∷ 1 ∷ []) 3 12 9 0 h a ∙ u

@@ -12,6 +12,7 @@ use Rattle.language.specs.ReferenceRules as RR
 use Rattle.language.specs.ReferenceRules.{boundFaults, directionFaults, referenceJudged, subscriptsJudged}
 use Rattle.language.specs.References as R
 use Rattle.language.specs.References.{Reference, Subscripts, constantOf, part, referenceOf, rightCount, sameDirection, two, whole, wordPart}
+use Rattle.language.specs.declared.refusals.Refusal.the-variants.{BadSubscript}
 use Rattle.language.specs.Rules.{namePlaces}
 use Rattle.language.specs.Words.{Position}
 use Rattle.about_reading.specs.Standing as S
@@ -57,11 +58,11 @@ module _ (Here : Position → Type 0) (d : Description) (p : Places) (all : AllH
       where
         go : (x : Option ℕ) → Stand Here (RR.constantFaults d p t b (nodePlace p e .at) x)
         go none = S.no-fault
-        go (some n) = S.unless-stand Here (inBounds b n) (nodePlace p e .at) 6 (all .nodes e .at)
+        go (some n) = S.unless-stand Here (inBounds b n) (nodePlace p e .at) BadSubscript (all .nodes e .at)
 
     ends-stand : (b x : Bounds) (at : NodePlaces) → NodeHere Here at → Stand Here (RR.endFaults d p t b x at)
     ends-stand b x at h =
-        S.append-stand Here (S.unless-stand Here (inBounds b (x .first)) (at .first) 6 (h .first)) (S.unless-stand Here (inBounds b (x .last)) (at .last) 6 (h .last))
+        S.append-stand Here (S.unless-stand Here (inBounds b (x .first)) (at .first) BadSubscript (h .first)) (S.unless-stand Here (inBounds b (x .last)) (at .last) BadSubscript (h .last))
 
     bounds-stand : (f : Facility) (s : Subscripts) (at : NodePlaces) → NodeHere Here at → Stand Here (boundFaults d p t f s at)
     unfolding boundFaults
@@ -75,9 +76,9 @@ module _ (Here : Position → Type 0) (d : Description) (p : Places) (all : AllH
     unfolding directionFaults
     direction-stands f whole at h = S.no-fault
     direction-stands f (R.one e) at h = S.no-fault
-    direction-stands f (part b) at h = S.unless-stand Here (sameDirection (f .bits) b) (at .last) 6 (h .last)
+    direction-stands f (part b) at h = S.unless-stand Here (sameDirection (f .bits) b) (at .last) BadSubscript (h .last)
     direction-stands f (two e g) at h = S.no-fault
-    direction-stands f (wordPart e b) at h = S.unless-stand Here (sameDirection (f .bits) b) (at .last) 6 (h .last)
+    direction-stands f (wordPart e b) at h = S.unless-stand Here (sameDirection (f .bits) b) (at .last) BadSubscript (h .last)
 
     module _ (terms : (n : ℕ) → Is (t n)) (ev : ℕ → Judged) (parts : (n : ℕ) → Is (ev n)) where
       worth-of : (e : ℕ) → Is (RR.subscriptWorth d p t ev e)

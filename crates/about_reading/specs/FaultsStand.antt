@@ -12,6 +12,8 @@ use Rattle.language.specs.Description.{Action, Description, Facility, FacilityP
 use Rattle.language.specs.Expressions.{selects}
 use Rattle.language.specs.Judging.{Judged, Worth, both, refuse}
 use Rattle.language.specs.Layout.{facilityBytes}
+use Rattle.language.specs.declared.refusals.Refusal.{Refusal}
+use Rattle.language.specs.declared.refusals.Refusal.the-variants.{BadLength, BadName, BadSequencing, BadStore, BadSubscript, CeilingPassed}
 use Rattle.language.specs.Rules as L
 use Rattle.language.specs.Storing.{isPlain, mayStore}
 use Rattle.language.specs.Tree.{Name}
@@ -38,7 +40,7 @@ module _ (Here : Position → Type 0) (d : Description) (p : Places) (all : AllH
 
     stored-judges : (allowed : Bool) (at : Position) (v w : Worth) → Here at → Is (J.stored d p inState t allowed at v w)
     stored-judges allowed at v w h =
-        S.or-judges Here (S.append-stand Here (S.unless-stand Here (eqb (v .length) (w .length)) at 7 h) (S.unless-stand Here allowed at 8 h)) S.is-fine
+        S.or-judges Here (S.append-stand Here (S.unless-stand Here (eqb (v .length) (w .length)) at BadLength h) (S.unless-stand Here allowed at BadStore h)) S.is-fine
 
     only-judges : (b : Bool) (at : Position) {j : Judged} → Here at → Is j → Is (J.onlyIn d p inState t b at j)
     only-judges true at h k = k
@@ -56,7 +58,7 @@ module _ (Here : Position → Type 0) (d : Description) (p : Places) (all : AllH
         (S.both-judges Here (S.both-judges Here (side-judges l) (side-judges m) (λ v w. S.is-fine)) (right-judges r)
         (λ v w. stored-judges (both (mayStore k (kindAt d l)) (mayStore k (kindAt d m))) at v w h))
     simple-judges at (D.set l) h =
-        S.given-judges Here (side-judges l) (λ v. S.or-judges Here (S.unless-stand Here (both (isPlain (kindAt d l)) (eqb (v .length) 1)) at 8 h) S.is-fine)
+        S.given-judges Here (side-judges l) (λ v. S.or-judges Here (S.unless-stand Here (both (isPlain (kindAt d l)) (eqb (v .length) 1)) at BadStore h) S.is-fine)
     simple-judges at (D.perform o) h = S.given-judges Here (works o) (λ v. S.is-fine)
     simple-judges at (D.goto s) h = only-judges inState at h (to-state at s h)
     simple-judges at (D.call s) h = only-judges inState at h (to-state at s h)
@@ -74,7 +76,7 @@ module _ (Here : Position → Type 0) (d : Description) (p : Places) (all : AllH
     abbrev IsAll : Answers → Type 0
     IsAll f = (i : ℕ) (s : Shape) → Is (f i s)
 
-    nothing : {n : ℕ} → Is (refuse D.nowhere n)
+    nothing : {r : Refusal} → Is (refuse D.nowhere r)
     nothing = S.refuse-judges Here (all .none)
 
     module _ (ev : ℕ → Answers) (parts : (k : ℕ) → IsAll (ev k)) (m i : ℕ) where
@@ -157,7 +159,7 @@ module _ (Here : Position → Type 0) (d : Description) (p : Places) (all : AllH
   or-else (S.a-fault x h) k = S.a-fault x h
 
   bound-stands : (n : ℕ) (at : Position) → Here at → Stands (L.boundFault d p n at)
-  bound-stands n at h = S.unless-stand Here (leb n L.largestBound) at 6 h
+  bound-stands n at h = S.unless-stand Here (leb n L.largestBound) at BadSubscript h
 
   bounds-stand : (f : Facility) (at : FacilityPlaces) → FacilityHere Here at → Stands (L.boundsFaults d p f at)
   unfolding L.boundsFaults
@@ -167,14 +169,14 @@ module _ (Here : Position → Type 0) (d : Description) (p : Places) (all : AllH
       (S.append-stand Here (bound-stands (f .bits .first) (at .bitsFirst) (h .bitsFirst)) (bound-stands (f .bits .last) (at .bitsLast) (h .bitsLast))))
 
   length-stands : (l : ℕ) (at : Position) {j : Judged} → Here at → Is j → Stands (L.sameLength d p l at j)
-  length-stands l at h (S.is-fine {w = w}) = S.unless-stand Here (eqb l (w .length)) at 7 h
+  length-stands l at h (S.is-fine {w = w}) = S.unless-stand Here (eqb l (w .length)) at BadLength h
   length-stands l at h (S.is-faulty x y) = S.a-fault x y
 
   facility-stands : (n : ℕ) (another : Bool) (before : ℕ) (f : Facility) (at : FacilityPlaces) → FacilityHere Here at → Stands (L.facilityFaults d p n another before f at)
   unfolding L.facilityFaults
   facility-stands n another before f at h =
-      S.append-stand Here (S.unless-stand Here (cond (isSequencing (f .kind)) (L.sequencingRight d p another f) true) (at .name) 9 (h .name))
-      (S.append-stand Here (S.unless-stand Here (leb (before + facilityBytes f) L.largestStore) (at .name) 10 (h .name))
+      S.append-stand Here (S.unless-stand Here (cond (isSequencing (f .kind)) (L.sequencingRight d p another f) true) (at .name) BadSequencing (h .name))
+      (S.append-stand Here (S.unless-stand Here (leb (before + facilityBytes f) L.largestStore) (at .name) CeilingPassed (h .name))
       (S.cond-stand Here (isComputed (f .kind)) (length-stands (wordLength f) (at .equals) (h .equals) (terminal-judges Here d p all n)) S.no-fault))
 
   facilities-stand : (n : ℕ) (another : Bool) (before : ℕ) (fs : List Facility) → Stands (L.facilitiesFaults d p n another before fs)
@@ -192,10 +194,10 @@ module _ (Here : Position → Type 0) (d : Description) (p : Places) (all : AllH
   values-stand (some l) before at none h = S.no-fault
   values-stand (some l) before at (some n) h =
       let v = constantValue (nodeAt d n) in
-      S.unless-stand Here (both (eqb (v .length) l) (cond (L.repeated d p (v .number) before) false true)) at 9 h
+      S.unless-stand Here (both (eqb (v .length) l) (cond (L.repeated d p (v .number) before) false true)) at BadSequencing h
 
   own-stands : (l : Option ℕ) (at : Position) (s : State) {j : Judged} → Here at → Is j → Stands (L.ownFaults d p l at s j)
-  own-stands l at s h (S.is-fine {w = w}) = S.append-stand Here (S.unless-stand Here (cond (L.missing d p l (s .value)) false true) at 9 h) (S.unless-stand Here (leb (w .work) L.mostWork) at 10 h)
+  own-stands l at s h (S.is-fine {w = w}) = S.append-stand Here (S.unless-stand Here (cond (L.missing d p l (s .value)) false true) at BadSequencing h) (S.unless-stand Here (leb (w .work) L.mostWork) at CeilingPassed h)
   own-stands l at s h (S.is-faulty x y) = S.a-fault x y
 
   state-stands : (l : Option ℕ) (before : List ℕ) (at : StatePlaces) (s : State) → Here (at .at) × Here (at .value) → Stands (L.stateFaults d p l before at s)
@@ -218,8 +220,8 @@ module _ (Here : Position → Type 0) (d : Description) (p : Places) (all : AllH
   names-stand : (before ns : List Name) (ps : List Position) → EachHere Here ps → Stands (L.nameFaults before ns ps)
   unfolding L.nameFaults
   names-stand before [] ps h = S.no-fault
-  names-stand before (n ∷ ns) [] h = S.append-stand Here (S.unless-stand Here (cond (L.twice n before) false true) D.nowhere 4 (all .none)) (names-stand (n ∷ before) ns [] tt)
-  names-stand before (n ∷ ns) (x ∷ ps) h = S.append-stand Here (S.unless-stand Here (cond (L.twice n before) false true) x 4 (h .0)) (names-stand (n ∷ before) ns ps (h .1))
+  names-stand before (n ∷ ns) [] h = S.append-stand Here (S.unless-stand Here (cond (L.twice n before) false true) D.nowhere BadName (all .none)) (names-stand (n ∷ before) ns [] tt)
+  names-stand before (n ∷ ns) (x ∷ ps) h = S.append-stand Here (S.unless-stand Here (cond (L.twice n before) false true) x BadName (h .0)) (names-stand (n ∷ before) ns ps (h .1))
 
   -- ---- All faults of a description.
 

@@ -10,6 +10,7 @@ use Rattle.language.specs.Declaring.{treeSteps}
 use Rattle.language.specs.Kinds.{aName}
 use Rattle.language.specs.Machine
 use Rattle.language.specs.Machine.{Alternative, Ask, Counts, Fed, Parsed, Reading, Sym, Without, after, again, ask, bears, both, choose, countKept, ease, feed, finish, keep, keptIf, leave, leaveAtEnd, make, may, must, nested, noCounts, operand, parsed, reading, refused, run, taken, tallied, took, withinCeilings, word, wrong}
+use Rattle.language.specs.declared.refusals.Refusal.the-variants.{CeilingPassed, NoContinuation}
 use Rattle.language.specs.Scan.{same}
 use Rattle.language.specs.Sections.{parse, parseWith, ruleOf}
 use Rattle.language.specs.Words.{Fault, Position, Word, fault, kindOf, position, wordAt}
@@ -194,7 +195,7 @@ module _ (Here : Position → Type 0) where
 
   module _ (w : Word) (h : Here (wordAt w)) where
     taken-well : (K : Stack) (b : Built) (c : Counts) → Ready K (reading b c) → FedWell (taken treeSteps withinCeilings (wordAt w) K b c)
-    taken-well K b c x = tested (withinCeilings c) (took-well K (reading b c) x) (wrong-here (fault (wordAt w) 10) h)
+    taken-well K b c x = tested (withinCeilings c) (took-well K (reading b c) x) (wrong-here (fault (wordAt w) CeilingPassed) h)
 
     kept-here : (k : Bool) (b : Built) → k ≡ true → Here (lastAt (keptIf treeSteps withinCeilings k w b))
     unfolding wordNo
@@ -223,12 +224,12 @@ module _ (Here : Position → Type 0) where
         (choose-well ways (both-second (both (calm (drop 1 (a .to))) (cond (topWaits (a .to)) (a .kept) true)) (allRight ways) e) K f r o y)
 
     leave-well : (o : Without Built) (r : Reading Built) (f : Reading Built → Fed Built) → ((q : Reading Built) → FedWell (f q)) → (counts o ≡ true → Here (lastAt (r .built))) → FedWell (leave treeSteps withinCeilings o w r f)
-    leave-well must r f x k = wrong-here (fault (wordAt w) 3) h
+    leave-well must r f x k = wrong-here (fault (wordAt w) NoContinuation) h
     leave-well (may s) r f x k = x _
-    leave-well (operand s) r f x k = tested (withinCeilings (countKept treeSteps withinCeilings r)) (x _) (wrong-here (fault (lastAt (r .built)) 10) (k refl))
+    leave-well (operand s) r f x k = tested (withinCeilings (countKept treeSteps withinCeilings r)) (x _) (wrong-here (fault (lastAt (r .built)) CeilingPassed) (k refl))
 
-    stuck-here : FedWell (wrong (fault (wordAt w) 3))
-    stuck-here = wrong-here (fault (wordAt w) 3) h
+    stuck-here : FedWell (wrong (fault (wordAt w) NoContinuation))
+    stuck-here = wrong-here (fault (wordAt w) NoContinuation) h
 
     feed-well : (K : Stack) (r : Reading Built) → Ready K r → FedWell (feed treeSteps withinCeilings (ruleOf treeSteps) K w r)
     unfolding feed waits
@@ -246,12 +247,12 @@ module _ (Here : Position → Type 0) where
 
   module _ (end : ℕ) (h : Here (position end)) where
     leave-end : (o : Without Built) (r : Reading Built) (f : Reading Built → Parsed Built) → ((q : Reading Built) → EndsWell (f q)) → (counts o ≡ true → Here (lastAt (r .built))) → EndsWell (leaveAtEnd treeSteps withinCeilings o end r f)
-    leave-end must r f x k = refused-here (fault (position end) 3) h
+    leave-end must r f x k = refused-here (fault (position end) NoContinuation) h
     leave-end (may s) r f x k = x _
-    leave-end (operand s) r f x k = tested-end (withinCeilings (countKept treeSteps withinCeilings r)) (x _) (refused-here (fault (lastAt (r .built)) 10) (k refl))
+    leave-end (operand s) r f x k = tested-end (withinCeilings (countKept treeSteps withinCeilings r)) (x _) (refused-here (fault (lastAt (r .built)) CeilingPassed) (k refl))
 
-    short-here : EndsWell (refused (fault (position end) 3))
-    short-here = refused-here (fault (position end) 3) h
+    short-here : EndsWell (refused (fault (position end) NoContinuation))
+    short-here = refused-here (fault (position end) NoContinuation) h
 
     finish-well : (K : Stack) (r : Reading Built) → Ready K r → EndsWell (finish treeSteps withinCeilings (ruleOf treeSteps) K end r)
     unfolding finish waits

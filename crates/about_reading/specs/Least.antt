@@ -8,7 +8,7 @@ use Prim.Native.Nat.{ℕ, _≤_, _<_}
 use borrow.Author.Tests.{eqb-false, eqb-true, ltb-false, ltb-true}
 use lib.Dec.{eqb, ltb}
 use Rattle.language.specs.WordStage.{before, least, smaller}
-use Rattle.language.specs.Words.{Fault}
+use Rattle.language.specs.Words.{Fault, faultNumber}
 
 pub data Among (f : Fault) : List Fault → Type 0 where
   first : {fs : List Fault} → Among f (f ∷ fs)
@@ -17,7 +17,7 @@ pub data Among (f : Fault) : List Fault → Type 0 where
 -- By place, and at one place by number.
 pub record NotBefore (f g : Fault) : Type 0 where
   pub place : f .at .place ≤ g .at .place
-  pub number : f .at .place ≡ g .at .place → f .number ≤ g .number
+  pub number : f .at .place ≡ g .at .place → faultNumber f ≤ faultNumber g
 
 pub record Least (f : Fault) (fs : List Fault) : Type 0 where
   pub one-of-them : Among f fs
@@ -32,19 +32,19 @@ chain f g h x y = record { place = omega (arith, x .place, y .place); number = �
 -- The test of the definition, both ways.
 before-so : (a b : Fault) → before a b ≡ true → NotBefore a b
 unfolding before
-before-so a b e = go (ltb (a .at .place) (b .at .place)) refl (eqb (a .at .place) (b .at .place)) refl (ltb (a .number) (b .number)) refl e
+before-so a b e = go (ltb (a .at .place) (b .at .place)) refl (eqb (a .at .place) (b .at .place)) refl (ltb (faultNumber a) (faultNumber b)) refl e
   where
-    go : (l : Bool) → ltb (a .at .place) (b .at .place) ≡ l → (q : Bool) → eqb (a .at .place) (b .at .place) ≡ q → (n : Bool) → ltb (a .number) (b .number) ≡ n → (l || (q && n)) ≡ true → NotBefore a b
+    go : (l : Bool) → ltb (a .at .place) (b .at .place) ≡ l → (q : Bool) → eqb (a .at .place) (b .at .place) ≡ q → (n : Bool) → ltb (faultNumber a) (faultNumber b) ≡ n → (l || (q && n)) ≡ true → NotBefore a b
     go true x q y n z h = let l : a .at .place < b .at .place = ltb-true _ _ x in record { place = omega (arith, l); number = λ e. absurd (omega (arith, l, e)) }
-    go false x true y true z h = let p : a .at .place ≡ b .at .place = eqb-true _ _ y in let m : a .number < b .number = ltb-true _ _ z in record { place = omega (arith, p); number = λ e. omega (arith, m) }
+    go false x true y true z h = let p : a .at .place ≡ b .at .place = eqb-true _ _ y in let m : faultNumber a < faultNumber b = ltb-true _ _ z in record { place = omega (arith, p); number = λ e. omega (arith, m) }
     go false x true y false z h = absurd (let i : _≡_ {A = ℕ} 0 1 = cc in omega arith)
     go false x false y n z h = absurd (let i : _≡_ {A = ℕ} 0 1 = cc in omega arith)
 
 not-before : (a b : Fault) → before a b ≡ false → NotBefore b a
 unfolding before
-not-before a b e = go (ltb (a .at .place) (b .at .place)) refl (eqb (a .at .place) (b .at .place)) refl (ltb (a .number) (b .number)) refl e
+not-before a b e = go (ltb (a .at .place) (b .at .place)) refl (eqb (a .at .place) (b .at .place)) refl (ltb (faultNumber a) (faultNumber b)) refl e
   where
-    go : (l : Bool) → ltb (a .at .place) (b .at .place) ≡ l → (q : Bool) → eqb (a .at .place) (b .at .place) ≡ q → (n : Bool) → ltb (a .number) (b .number) ≡ n → (l || (q && n)) ≡ false → NotBefore b a
+    go : (l : Bool) → ltb (a .at .place) (b .at .place) ≡ l → (q : Bool) → eqb (a .at .place) (b .at .place) ≡ q → (n : Bool) → ltb (faultNumber a) (faultNumber b) ≡ n → (l || (q && n)) ≡ false → NotBefore b a
     go true x q y n z h = absurd (let i : _≡_ {A = ℕ} 0 1 = cc in omega arith)
     go false x true y true z h = absurd (let i : _≡_ {A = ℕ} 0 1 = cc in omega arith)
     go false x true y false z h = let l = ltb-false _ _ x in let m = ltb-false _ _ z in record { place = l; number = λ e. m }

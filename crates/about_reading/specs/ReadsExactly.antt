@@ -18,6 +18,7 @@ use Rattle.language.specs.Image as Image
 use Rattle.language.specs.Machine.{Parsed, deepest, parsed, refused}
 use Rattle.language.specs.Notions.{text, wholeText}
 use Rattle.language.specs.Reading.{afterGrammar, afterWords, legal, longestText, orLegal, readText, refusedAt, restOf}
+use Rattle.language.specs.declared.refusals.Refusal.the-variants.{TextTooLong}
 use Rattle.language.specs.Rules.{faults}
 use Rattle.language.specs.Sections.{parse}
 use Rattle.language.specs.Tree.{Text}
@@ -86,7 +87,7 @@ accepted s d e = by-length (ltb longestText (length s)) refl e
     by-words l none q k = by-grammar l q (parse (scan s .words) (length s)) refl k
     by-words l (some f) q k = refused-legal k
 
-    by-length : (b : Bool) → ltb longestText (length s) ≡ b → cond b (refusedAt (fault (position 0) 1)) (afterWords s (wordFault s)) ≡ legal d → Accepted s d
+    by-length : (b : Bool) → ltb longestText (length s) ≡ b → cond b (refusedAt (fault (position 0) TextTooLong)) (afterWords s (wordFault s)) ≡ legal d → Accepted s d
     by-length true q k = refused-legal k
     by-length false q k = by-words (ltb-false _ _ q) (wordFault s) refl k
 
@@ -94,7 +95,7 @@ accepted s d e = by-length (ltb longestText (length s)) refl e
 
 pub data Refusal (s : List ℕ) : Fault → Type 0 where
   -- too long
-  one : longestText < length s → Refusal s (fault (position 0) 1)
+  one : longestText < length s → Refusal s (fault (position 0) TextTooLong)
   -- words: the least of the faults of words and lines
   of-words : {f : Fault} → length s ≤ longestText → Least f (wordFaults s) → Refusal s f
   -- grammar: the first word with no legal continuation, or the one that passes a ceiling
@@ -125,7 +126,7 @@ refuses-least s f e = by-length (ltb longestText (length s)) refl e
     by-words l none q k = by-grammar l q (parse (scan s .words) (length s)) refl k
     by-words l (some g) q k = subst (Refusal s) (same-fault k) (of-words l (least-so (wordFaults s) g q))
 
-    by-length : (b : Bool) → ltb longestText (length s) ≡ b → cond b (refusedAt (fault (position 0) 1)) (afterWords s (least (wordFaults s))) ≡ refusedAt f → Refusal s f
+    by-length : (b : Bool) → ltb longestText (length s) ≡ b → cond b (refusedAt (fault (position 0) TextTooLong)) (afterWords s (least (wordFaults s))) ≡ refusedAt f → Refusal s f
     by-length true q k = subst (Refusal s) (same-fault k) (one (ltb-true _ _ q))
     by-length false q k = by-words (ltb-false _ _ q) (least (wordFaults s)) refl k
 

@@ -5,6 +5,7 @@ use Prim.Native.Nat.{ℕ, zero, suc}
 use lib.Dec.{eqb, leb, ltb}
 use Rattle.language.specs.Judging.{Judged, Worth, armList, faultsOf, faulty, fine, given, givenBoth, orFaulty, proper, refuse, sized, unless}
 use Rattle.language.specs.Recursion.{below}
+use Rattle.language.specs.declared.refusals.Refusal.{Refusal}
 use Rattle.language.specs.Value.{longest}
 use Rattle.language.specs.Words.{Fault, Position}
 
@@ -19,9 +20,9 @@ module _ (Here : Position → Type 0) where
 
   -- ---- Lists of faults.
 
-  pub unless-stand : (b : Bool) (p : Position) (n : ℕ) → Here p → Stand (unless b p n)
-  unless-stand true p n h = no-fault
-  unless-stand false p n h = a-fault h no-fault
+  pub unless-stand : (b : Bool) (p : Position) (r : Refusal) → Here p → Stand (unless b p r)
+  unless-stand true p r h = no-fault
+  unless-stand false p r h = a-fault h no-fault
 
   pub append-stand : {xs ys : List Fault} → Stand xs → Stand ys → Stand (xs ++ ys)
   append-stand no-fault k = k
@@ -37,7 +38,7 @@ module _ (Here : Position → Type 0) where
 
   -- ---- Judgements.
 
-  pub refuse-judges : {p : Position} {n : ℕ} → Here p → Judges (refuse p n)
+  pub refuse-judges : {p : Position} {r : Refusal} → Here p → Judges (refuse p r)
   refuse-judges h = is-faulty h no-fault
 
   pub cond-judges : (b : Bool) {i j : Judged} → Judges i → Judges j → Judges (cond b i j)

@@ -7,6 +7,7 @@ use native.Mathlib.Omega.{arith}
 use Prim.Native.Nat.{ℕ, zero, suc, _+_, _<_, _≤_}
 use lib.ListN.{drop, length, length-drop}
 use Rattle.language.specs.Lines.{longLines, passes, widthAfter}
+use Rattle.language.specs.declared.refusals.Refusal.the-variants.{BadCharacter}
 use Rattle.language.specs.Scan as S
 use Rattle.language.specs.Scan.{Item, itemAt}
 use Rattle.language.specs.WordStage.{Scanned, least, noted, scan, scanFrom, wordFault, wordFaults}
@@ -53,8 +54,8 @@ module _ (end : ℕ) where
   lines-before w at [] h = no-fault
   lines-before w at (b ∷ t) h = go (passes w (widthAfter w b t)) (lines-before (widthAfter w b t) (suc at) t (omega arith))
     where
-      go : (z : Bool) {fs : List Fault} → Stand Before fs → Stand Before (cond z (fault (position at) 2 ∷ fs) fs)
-      go true k = a-fault {f = fault (position at) 2} (omega arith) k
+      go : (z : Bool) {fs : List Fault} → Stand Before fs → Stand Before (cond z (fault (position at) BadCharacter ∷ fs) fs)
+      go true k = a-fault {f = fault (position at) BadCharacter} (omega arith) k
       go false k = k
 
 pub words-before : (text : List ℕ) (end : ℕ) → length text ≤ end → WordsHere (Before end) (scan text .words)

@@ -8,6 +8,7 @@ use lib.Dec.{eqb, eqb·suc-zero, leb, ltb}
 use lib.ListN.{length}
 use Rattle.language.specs.Judging.{Judged, Worth, armList, faultsOf, faulty, fine, given, givenBoth, orFaulty, proper, sized, unless}
 use Rattle.language.specs.Recursion.{below}
+use Rattle.language.specs.declared.refusals.Refusal.{Refusal}
 use Rattle.language.specs.Value.{longest}
 use Rattle.language.specs.Words.{Fault, Position}
 
@@ -21,9 +22,9 @@ pub data Together : List Fault → List Fault → Type 0 where
 
 -- ---- Lists of faults.
 
-pub unless-together : (b : Bool) (p q : Position) (n : ℕ) → Together (unless b p n) (unless b q n)
-unless-together true p q n = no-fault
-unless-together false p q n = some-fault
+pub unless-together : (b : Bool) (p q : Position) (r : Refusal) → Together (unless b p r) (unless b q r)
+unless-together true p q r = no-fault
+unless-together false p q r = some-fault
 
 pub append-together : {xs ys zs ws : List Fault} → Together xs ys → Together zs ws → Together (xs ++ zs) (ys ++ ws)
 append-together no-fault h = h

@@ -12,6 +12,7 @@ use Rattle.language.specs.ReferenceRules.{boundFaults, directionFaults, referen
 use Rattle.language.specs.References as R
 use Rattle.language.specs.References.{Reference, Subscripts, constantOf, part, referenceOf, rightCount, sameDirection, two, whole, wordPart}
 use Rattle.about_rules.specs.Alike.{Alike, Together, append-together, arms-alike, below-related, both-alike, both-faulty, both-fine, cond-alike, cond-together, faults-together, given-alike, no-fault, or-alike, proper-alike, sized-alike, unless-together}
+use Rattle.language.specs.declared.refusals.Refusal.the-variants.{BadSubscript}
 
 module _ (d : Description) (p q : Places) where
   -- ---- References; `t` and `u` judge computed terminals.
@@ -22,11 +23,11 @@ module _ (d : Description) (p q : Places) where
       where
         go : (x : Option ℕ) → Together (RR.constantFaults d p t b (nodePlace p e .at) x) (RR.constantFaults d q u b (nodePlace q e .at) x)
         go none = no-fault
-        go (some n) = unless-together (inBounds b n) (nodePlace p e .at) (nodePlace q e .at) 6
+        go (some n) = unless-together (inBounds b n) (nodePlace p e .at) (nodePlace q e .at) BadSubscript
 
     ends-together : (b x : Bounds) (at to : NodePlaces) → Together (RR.endFaults d p t b x at) (RR.endFaults d q u b x to)
     ends-together b x at to =
-        append-together (unless-together (inBounds b (x .first)) (at .first) (to .first) 6) (unless-together (inBounds b (x .last)) (at .last) (to .last) 6)
+        append-together (unless-together (inBounds b (x .first)) (at .first) (to .first) BadSubscript) (unless-together (inBounds b (x .last)) (at .last) (to .last) BadSubscript)
 
     bounds-together : (f : Facility) (s : Subscripts) (at to : NodePlaces) → Together (boundFaults d p t f s at) (boundFaults d q u f s to)
     unfolding boundFaults
@@ -40,9 +41,9 @@ module _ (d : Description) (p q : Places) where
     unfolding directionFaults
     direction-together f whole at to = no-fault
     direction-together f (R.one e) at to = no-fault
-    direction-together f (part b) at to = unless-together (sameDirection (f .bits) b) (at .last) (to .last) 6
+    direction-together f (part b) at to = unless-together (sameDirection (f .bits) b) (at .last) (to .last) BadSubscript
     direction-together f (two e g) at to = no-fault
-    direction-together f (wordPart e b) at to = unless-together (sameDirection (f .bits) b) (at .last) (to .last) 6
+    direction-together f (wordPart e b) at to = unless-together (sameDirection (f .bits) b) (at .last) (to .last) BadSubscript
 
     module _ (terms : (n : ℕ) → Alike (t n) (u n)) (ev on : ℕ → Judged) (parts : (n : ℕ) → Alike (ev n) (on n)) where
       worth-of : (e : ℕ) → Alike (RR.subscriptWorth d p t ev e) (RR.subscriptWorth d q u on e)

@@ -13,6 +13,7 @@ use Rattle.language.specs.Description.{Action, Description, Facility, FacilityP
 use Rattle.language.specs.Expressions.{selects}
 use Rattle.language.specs.Judging.{Judged, Worth, both}
 use Rattle.language.specs.Layout.{facilityBytes}
+use Rattle.language.specs.declared.refusals.Refusal.the-variants.{BadLength, BadName, BadSequencing, BadStore, BadSubscript, CeilingPassed}
 use Rattle.language.specs.Rules as L
 use Rattle.language.specs.Storing.{isPlain, mayStore}
 use Rattle.language.specs.Tree.{Name}
@@ -32,7 +33,7 @@ module _ (d : Description) (p q : Places) where
 
     stored-alike : (allowed : Bool) (at to : Position) (v w : Worth) → Alike (J.stored d p inState t allowed at v w) (J.stored d q inState u allowed to v w)
     stored-alike allowed at to v w =
-        or-alike (append-together (unless-together (eqb (v .length) (w .length)) at to 7) (unless-together allowed at to 8)) both-fine
+        or-alike (append-together (unless-together (eqb (v .length) (w .length)) at to BadLength) (unless-together allowed at to BadStore)) both-fine
 
     only-alike : (b : Bool) (at to : Position) {i j : Judged} → Alike i j → Alike (J.onlyIn d p inState t b at i) (J.onlyIn d q inState u b to j)
     only-alike true at to h = h
@@ -50,7 +51,7 @@ module _ (d : Description) (p q : Places) where
         (both-alike (both-alike (side-alike l) (side-alike m) (λ v w. both-fine)) (right-alike r)
         (stored-alike (both (mayStore k (kindAt d l)) (mayStore k (kindAt d m))) at to))
     simple-alike at to (D.set l) =
-        given-alike (side-alike l) (λ v. or-alike (unless-together (both (isPlain (kindAt d l)) (eqb (v .length) 1)) at to 8) both-fine)
+        given-alike (side-alike l) (λ v. or-alike (unless-together (both (isPlain (kindAt d l)) (eqb (v .length) 1)) at to BadStore) both-fine)
     simple-alike at to (D.perform o) = given-alike (works o) (λ v. both-fine)
     simple-alike at to (D.goto s) = only-alike inState at to (to-state at to s)
     simple-alike at to (D.call s) = only-alike inState at to (to-state at to s)
@@ -150,7 +151,7 @@ module _ (d : Description) (p q : Places) where
   or-else-together some-fault h = some-fault
 
   bound-together : (n : ℕ) (at to : Position) → Together (L.boundFault d p n at) (L.boundFault d q n to)
-  bound-together n at to = unless-together (leb n L.largestBound) at to 6
+  bound-together n at to = unless-together (leb n L.largestBound) at to BadSubscript
 
   bounds-together : (f : Facility) (at to : FacilityPlaces) → Together (L.boundsFaults d p f at) (L.boundsFaults d q f to)
   unfolding L.boundsFaults
@@ -160,14 +161,14 @@ module _ (d : Description) (p q : Places) where
       (append-together (bound-together (f .bits .first) (at .bitsFirst) (to .bitsFirst)) (bound-together (f .bits .last) (at .bitsLast) (to .bitsLast))))
 
   length-together : (l : ℕ) (at to : Position) {i j : Judged} → Alike i j → Together (L.sameLength d p l at i) (L.sameLength d q l to j)
-  length-together l at to (both-fine {w = w}) = unless-together (eqb l (w .length)) at to 7
+  length-together l at to (both-fine {w = w}) = unless-together (eqb l (w .length)) at to BadLength
   length-together l at to both-faulty = some-fault
 
   facility-together : (n : ℕ) (another : Bool) (before : ℕ) (f : Facility) (at to : FacilityPlaces) → Together (L.facilityFaults d p n another before f at) (L.facilityFaults d q n another before f to)
   unfolding L.facilityFaults L.sequencingRight
   facility-together n another before f at to =
-      append-together (unless-together (cond (isSequencing (f .kind)) (L.sequencingRight d p another f) true) (at .name) (to .name) 9)
-      (append-together (unless-together (leb (before + facilityBytes f) L.largestStore) (at .name) (to .name) 10)
+      append-together (unless-together (cond (isSequencing (f .kind)) (L.sequencingRight d p another f) true) (at .name) (to .name) BadSequencing)
+      (append-together (unless-together (leb (before + facilityBytes f) L.largestStore) (at .name) (to .name) CeilingPassed)
       (cond-together (isComputed (f .kind)) (length-together (wordLength f) (at .equals) (to .equals) (terminal-alike d p q n)) no-fault))
 
   facilities-together : (n : ℕ) (another : Bool) (before : ℕ) (fs : List Facility) → Together (L.facilitiesFaults d p n another before fs) (L.facilitiesFaults d q n another before fs)
@@ -190,7 +191,7 @@ module _ (d : Description) (p q : Places) where
   values-together (some l) before at to none = no-fault
   values-together (some l) before at to (some n) =
       let v = constantValue (nodeAt d n) in
-      rw (repeated-same (v .number) before) (unless-together (both (eqb (v .length) l) (cond (L.repeated d q (v .number) before) false true)) at to 9)
+      rw (repeated-same (v .number) before) (unless-together (both (eqb (v .length) l) (cond (L.repeated d q (v .number) before) false true)) at to BadSequencing)
 
   missing-same : (l v : Option ℕ) → L.missing d p l v ≡ L.missing d q l v
   missing-same none v = refl
@@ -199,7 +200,7 @@ module _ (d : Description) (p q : Places) where
 
   own-together : (l : Option ℕ) (at to : Position) (s : State) {i j : Judged} → Alike i j → Together (L.ownFaults d p l at s i) (L.ownFaults d q l to s j)
   own-together l at to s (both-fine {w = w}) =
-      rw (missing-same l (s .value)) (append-together (unless-together (cond (L.missing d q l (s .value)) false true) at to 9) (unless-together (leb (w .work) L.mostWork) at to 10))
+      rw (missing-same l (s .value)) (append-together (unless-together (cond (L.missing d q l (s .value)) false true) at to BadSequencing) (unless-together (leb (w .work) L.mostWork) at to CeilingPassed))
   own-together l at to s both-faulty = some-fault
 
   state-together : (l : Option ℕ) (before : List ℕ) (at to : StatePlaces) (s : State) → Together (L.stateFaults d p l before at s) (L.stateFaults d q l before to s)
@@ -226,10 +227,10 @@ module _ (d : Description) (p q : Places) where
   names-together : (before ns : List Name) (ps qs : List Position) → Together (L.nameFaults before ns ps) (L.nameFaults before ns qs)
   unfolding L.nameFaults
   names-together before [] ps qs = no-fault
-  names-together before (n ∷ ns) [] [] = append-together (unless-together (cond (L.twice n before) false true) D.nowhere D.nowhere 4) (names-together (n ∷ before) ns [] [])
-  names-together before (n ∷ ns) [] (y ∷ qs) = append-together (unless-together (cond (L.twice n before) false true) D.nowhere y 4) (names-together (n ∷ before) ns [] qs)
-  names-together before (n ∷ ns) (x ∷ ps) [] = append-together (unless-together (cond (L.twice n before) false true) x D.nowhere 4) (names-together (n ∷ before) ns ps [])
-  names-together before (n ∷ ns) (x ∷ ps) (y ∷ qs) = append-together (unless-together (cond (L.twice n before) false true) x y 4) (names-together (n ∷ before) ns ps qs)
+  names-together before (n ∷ ns) [] [] = append-together (unless-together (cond (L.twice n before) false true) D.nowhere D.nowhere BadName) (names-together (n ∷ before) ns [] [])
+  names-together before (n ∷ ns) [] (y ∷ qs) = append-together (unless-together (cond (L.twice n before) false true) D.nowhere y BadName) (names-together (n ∷ before) ns [] qs)
+  names-together before (n ∷ ns) (x ∷ ps) [] = append-together (unless-together (cond (L.twice n before) false true) x D.nowhere BadName) (names-together (n ∷ before) ns ps [])
+  names-together before (n ∷ ns) (x ∷ ps) (y ∷ qs) = append-together (unless-together (cond (L.twice n before) false true) x y BadName) (names-together (n ∷ before) ns ps qs)
 
   -- ---- All faults of a description.
 

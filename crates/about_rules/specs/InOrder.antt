@@ -20,6 +20,7 @@ use Rattle.language.specs.Image.{ConstantRight}
 use Rattle.language.specs.Judging.{Worth, fine, refuse}
 use Rattle.language.specs.Naming.{Scope}
 use Rattle.language.specs.Order.{facilityRoots, functionRoot, operationRoots, runRoots, startAt, stateRoots, treesEnd, valueRoot}
+use Rattle.language.specs.declared.refusals.Refusal.the-variants.{NoContinuation}
 use Rattle.language.specs.Rules.{faults}
 use Rattle.language.specs.Tree as T
 use Rattle.language.specs.Tree.{Declaration, Function, Kind, Name, StateValue}
@@ -140,7 +141,7 @@ module _ (d : Description) (faultless : faults d noPlaces ≡ []) where
   unfolding operationJudged runJudged
   body-fine o a n name {w} q j = go (eqb n 0) (rw q at j)
     where
-      go : (b : Bool) → cond b (refuse D.nowhere 3) (J.runStep d noPlaces false (operationBelow d noPlaces o) (J.runBelow d noPlaces false (operationBelow d noPlaces o) n) n a J.actions) ≡ fine w
+      go : (b : Bool) → cond b (refuse D.nowhere NoContinuation) (J.runStep d noPlaces false (operationBelow d noPlaces o) (J.runBelow d noPlaces false (operationBelow d noPlaces o) n) n a J.actions) ≡ fine w
           → J.runStep d noPlaces false (operationBelow d noPlaces o) (J.runBelow d noPlaces false (operationBelow d noPlaces o) n) n a J.actions ≡ fine w
       go true k = faulty-fine k
       go false k = k

@@ -18,6 +18,7 @@ use Rattle.language.specs.Judging.{Judged, Worth, both, fine, givenBoth, refuse
 use Rattle.language.specs.Naming.{Meaning, Scope, facility, meaning, ofOperation, ofState, operation, state, unknown}
 use Rattle.language.specs.Order.{actionRoots, runRoots, treesEnd}
 use Rattle.language.specs.Recursion.{below-lt}
+use Rattle.language.specs.declared.refusals.Refusal.the-variants.{BadLength, NoContinuation}
 use Rattle.language.specs.Tree as T
 use Rattle.language.specs.Tree.{Actions, Expression, Left}
 use Rattle.language.specs.Words.{Position}
@@ -35,7 +36,7 @@ module _ (d : Description) (p : Places) (s : Scope) (inState : Bool) (works : �
 
   judged-lt : (k a i : ℕ) (t : Shape) → a < k → J.runBelow d p inState works k a i t ≡ judged a i t
   unfolding J.runBelow
-  judged-lt k a i t h = ap (λ (f : ℕ → Shape → Judged). f i t) (below-lt (λ i t. refuse D.nowhere 3) (J.runStep d p inState works) k a h)
+  judged-lt k a i t h = ap (λ (f : ℕ → Shape → Judged). f i t) (below-lt (λ i t. refuse D.nowhere NoContinuation) (J.runStep d p inState works) k a h)
 
   -- The trees of an expression, of a left side, and what follows.
 
@@ -112,7 +113,7 @@ module _ (d : Description) (p : Places) (s : Scope) (inState : Bool) (works : �
       ev = J.runBelow d p inState works (suc m)
 
       go : (b : Bool) → leb x m ≡ b
-          → cond b (givenBoth (J.conditional d p inState works (actionPlace p i) (J.right d p inState works c) (ev x (i + 1) arms) test) (ev (m - x) (i + 1 + x) actions) (J.allWork d p inState works)) (refuse D.nowhere 3) ≡ fine w
+          → cond b (givenBoth (J.conditional d p inState works (actionPlace p i) (J.right d p inState works c) (ev x (i + 1) arms) test) (ev (m - x) (i + 1 + x) actions) (J.allWork d p inState works)) (refuse D.nowhere NoContinuation) ≡ fine w
           → Held m i c x test
       go false q k = faulty-fine k
       go true q k =
@@ -130,7 +131,7 @@ module _ (d : Description) (p : Places) (s : Scope) (inState : Bool) (works : �
             holds = tested (test (z .u) (z .v)) _ (z .own);
           }
         where
-          tested : (t : Bool) (j : Judged) {v : Worth} → cond t j (refuse (actionPlace p i) 7) ≡ fine v → t ≡ true
+          tested : (t : Bool) (j : Judged) {v : Worth} → cond t j (refuse (actionPlace p i) BadLength) ≡ fine v → t ≡ true
           tested true j e = refl
           tested false j e = faulty-fine e
 
@@ -150,7 +151,7 @@ module _ (d : Description) (p : Places) (s : Scope) (inState : Bool) (works : �
       ev : ℕ → ℕ → Shape → Judged
       ev = J.runBelow d p inState works (suc m)
 
-      go : (a : Bool) → leb 1 x ≡ a → (b : Bool) → leb x m ≡ b → cond (both a b) (givenBoth (ev x (i + 1) actions) (ev (m - x) (i + 1 + x) arms) (λ v w. worth 1 (w .arms + 1) (v .work + w .work))) (refuse D.nowhere 3) ≡ fine w → Arm m i x w
+      go : (a : Bool) → leb 1 x ≡ a → (b : Bool) → leb x m ≡ b → cond (both a b) (givenBoth (ev x (i + 1) actions) (ev (m - x) (i + 1 + x) arms) (λ v w. worth 1 (w .arms + 1) (v .work + w .work))) (refuse D.nowhere NoContinuation) ≡ fine w → Arm m i x w
       go false r b q k = faulty-fine k
       go true r false q k = faulty-fine k
       go true r true q k =

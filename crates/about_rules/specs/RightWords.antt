@@ -13,6 +13,7 @@ use Rattle.language.specs.Canonical.{isCapital, nameParts, nameRight}
 use Rattle.language.specs.Characters.{blankClass, classOf, digitClass, digitWorth, folded, isBlank, isDigit, isLetter, letterClass, member, quote, quoteClass, symbolClass, symbols, within}
 use Rattle.language.specs.Constants.{bareConstant, bareLargest, bareLength, binaryConstant, decimalConstant, digitsAfter, digitsNumber, leftJustified, rightJustified}
 use Rattle.language.specs.Image.{ConstantRight, WordsRight}
+use Rattle.language.specs.declared.refusals.Refusal.{Refusal}
 use Rattle.language.specs.Scan as S
 use Rattle.language.specs.Scan.{Found, Item, bareAt, basedItem, binaryAt, commentAt, constantAt, decimalAt, digitBits, digitsOf, isDecimalBase, isDigitOf, isNamePart, itemAt, longestName, nameAt, nameItem, reservedKind, same, span, spelledSymbols, symbolAmong, written}
 use Rattle.language.specs.Value.{Value, longest}
@@ -25,7 +26,7 @@ data RightItem : Item → Type 0 where
   a-name : {n : List ℕ} → nameRight n ≡ true → RightItem (S.named n)
   a-constant : {c : Constant} → ConstantRight c → RightItem (S.constant c)
   a-sign : {k : ℕ} → RightItem (S.sign k)
-  no-word : {n : ℕ} → RightItem (S.wrong n)
+  no-word : {n : Refusal} → RightItem (S.wrong n)
 
 record RightFound (f : Found) : Type 0 where
   item : RightItem (f .item)

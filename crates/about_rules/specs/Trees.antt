@@ -21,6 +21,7 @@ use Rattle.language.specs.ReferenceRules as RR
 use Rattle.language.specs.ReferenceRules.{boundFaults, directionFaults, referenceJudged, subscriptsJudged}
 use Rattle.language.specs.References as R
 use Rattle.language.specs.References.{Reference, part, rightCount, two, wordPart}
+use Rattle.language.specs.declared.refusals.Refusal.the-variants.{BadName, BadSubscript}
 use Rattle.language.specs.Tree as T
 use Rattle.language.specs.Tree.{Expression}
 use Rattle.about_rules.specs.Sizes.{nodes-size}
@@ -78,10 +79,10 @@ module _ (d : Description) where
         f : D.Facility
         f = facilityAt d (r .facility)
 
-        go : (a b : Bool) → cond a (cond b (RR.countedRight d p terms ev own (r .facility) f (r .subscripts) at) (RR.countedWrong d p terms ev (r .subscripts) at)) (refuse (at .at) 4) ≡ fine w
+        go : (a b : Bool) → cond a (cond b (RR.countedRight d p terms ev own (r .facility) f (r .subscripts) at) (RR.countedWrong d p terms ev (r .subscripts) at)) (refuse (at .at) BadName) ≡ fine w
             → (v : Worth) × (subscriptsJudged d p terms ev (r .subscripts) ≡ fine v)
         go false b k = faulty-fine k
-        go true false k = faulty-fine (clean-fine (faultsOf (subscriptsJudged d p terms ev (r .subscripts))) (refuse (at .at) 6) k .same)
+        go true false k = faulty-fine (clean-fine (faultsOf (subscriptsJudged d p terms ev (r .subscripts))) (refuse (at .at) BadSubscript) k .same)
         go true true k =
             let c1 = clean-fine (faultsOf (subscriptsJudged d p terms ev (r .subscripts)) ++ boundFaults d p terms f (r .subscripts) at) _ k in
             let c2 = clean-fine (directionFaults d p terms f (r .subscripts) at) _ (c1 .same) in

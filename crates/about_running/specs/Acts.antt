@@ -24,6 +24,7 @@ use Rattle.about_running.specs.LegalForm.{Legal}
 use Rattle.about_running.specs.Lists.{list-runs}
 use Rattle.about_running.specs.Ordered.{InOrder}
 use Rattle.about_running.specs.Terminals.{terminals-work}
+use Rattle.language.specs.declared.refusals.Refusal.the-variants.{NoContinuation}
 
 module _ {X : Type 0} (S : Stores X) (d : Description) (Inv : X → Type 0) (keeps : Keeps S d Inv) (L : Legal d) where
   pub terms : (x : X) (f : ℕ) (w : Worth) → f < length (d .facilities) → _≡_ {A = Bool} (isComputed (facilityAt d f .kind)) true
@@ -73,7 +74,7 @@ module _ {X : Type 0} (S : Stores X) (d : Description) (Inv : X → Type 0) (kee
       → J.runJudged d noPlaces false (J.operationBelow d noPlaces o) (operationAt d o .body) ≡ fine w
   body-fine o {w} e = go (eqb (operationAt d o .body .count) 0) e
     where
-      go : (b : Bool) → cond b (refuse D.nowhere 3) (J.runJudged d noPlaces false (J.operationBelow d noPlaces o) (operationAt d o .body)) ≡ fine w
+      go : (b : Bool) → cond b (refuse D.nowhere NoContinuation) (J.runJudged d noPlaces false (J.operationBelow d noPlaces o) (operationAt d o .body)) ≡ fine w
           → J.runJudged d noPlaces false (J.operationBelow d noPlaces o) (operationAt d o .body) ≡ fine w
       go true k = faulty-fine k
       go false k = k

@@ -8,6 +8,7 @@ use Rattle.language.specs.Decode.{decode}
 use Rattle.language.specs.Description.{Description}
 use Rattle.language.specs.Image.{passes}
 use Rattle.language.specs.Step.{Outcome, Record, completed, openRecord, step}
+use Rattle.language.specs.declared.stops.Stop.{Stop}
 use Rattle.language.specs.Store.{Words, inputsOf}
 use Rattle.about_running.specs.Cycle.{Sound, Well, completes, cycle-well, stops}
 use Rattle.about_running.specs.Fitting.{Fit}
@@ -22,7 +23,7 @@ AllFit d (i ∷ is) = Fit (inputsOf (d .facilities)) i × AllFit d is
 pub data Runs (d : Description) : Words → Record → List Words → Type 0 where
   over : {s : Words} {r : Record} → Runs d s r []
   cycled : {s t : Words} {r q : Record} {n : ℕ} {i : Words} {is : List Words} → Sound d s r → step d s r i ≡ completed t q n → Runs d t q is → Runs d s r (i ∷ is)
-  stopped : {s : Words} {r : Record} {n : ℕ} {i : Words} {is : List Words} → Sound d s r → step d s r i ≡ Outcome.stopped n → Runs d s r is → Runs d s r (i ∷ is)
+  stopped : {s : Words} {r : Record} {n : Stop} {i : Words} {is : List Words} → Sound d s r → step d s r i ≡ Outcome.stopped n → Runs d s r is → Runs d s r (i ∷ is)
 
 module _ (d : Description) (L : Legal d) where
   pub sound-runs : (is : List Words) (s : Words) (r : Record) → Sound d s r → AllFit d is → Runs d s r is

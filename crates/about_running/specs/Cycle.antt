@@ -16,7 +16,8 @@ use Rattle.language.specs.Kinds.{delayedSign}
 use Rattle.language.specs.Meaning.{Write}
 use Rattle.language.specs.RecordBytes.{agrees}
 use Rattle.language.specs.Step.{Outcome, Record, afterActions, completed, finished, landed, lastCycle, nextRecord, nothingDone, orStopped, registerValue, setRegister, stateNumber, step, stopAfter, entered}
-use Rattle.language.specs.Stops.{lastCycleReached}
+use Rattle.language.specs.declared.stops.Stop.{Stop}
+use Rattle.language.specs.declared.stops.Stop.the-variants.{LastCycleReached}
 use Rattle.language.specs.Store.{Held, Words, begin, begun, headOf, held, inputsOf, isInput, landAll, numbers, putParts, setWord, wordOf, putPart}
 use Rattle.language.specs.Tree.{Kind, computed, input, memory, plain, register, sequencing}
 use Rattle.about_running.specs.Acts.{Good, state-acts}
@@ -71,7 +72,7 @@ pub record Sound (d : Description) (s : Words) (r : Record) : Type 0 where
 -- A cycle has not been stuck; where it completed, all is sound.
 pub data Well (d : Description) : Outcome → Type 0 where
   completes : {s : Words} {r : Record} {n : ℕ} → Sound d s r → Well d (completed s r n)
-  stops : {n : ℕ} → Well d (Outcome.stopped n)
+  stops : {n : Stop} → Well d (Outcome.stopped n)
 
 -- ---- Delayed stores land.
 
@@ -141,7 +142,7 @@ module _ (d : Description) (L : Legal d) where
   unfolding finished
   finish-well s r c h i g k = go (stopAfter d r c) refl
     where
-      go : (x : Option ℕ) → stopAfter d r c ≡ x → Well d (orStopped d r c x)
+      go : (x : Option Stop) → stopAfter d r c ≡ x → Well d (orStopped d r c x)
       go none q =
           let y = next-right d r c (h .state-in) (h .returns-in) g k q in
           enter-well r c 0 (sequencingOf d) refl (y .state-there) (y .returns-there) (land-fit d (c .store .words) (c .store .waits) (i .1) (i .0))
@@ -167,6 +168,6 @@ module _ (d : Description) (L : Legal d) where
         after (went c) (E.good i g q) = finish-well s r c h i g q
         after (Ran.stopped n) E.stops-so = stops
 
-        go : (b : Bool) → Well d (cond b (Outcome.stopped lastCycleReached) (afterActions d r run))
+        go : (b : Bool) → Well d (cond b (Outcome.stopped LastCycleReached) (afterActions d r run))
         go true = stops
         go false = after run run-good

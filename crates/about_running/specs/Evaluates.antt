@@ -21,6 +21,7 @@ use Rattle.language.specs.Recursion.{below-lt}
 use Rattle.language.specs.ReferenceRules.{computedWork, subscriptWorth}
 use Rattle.language.specs.References as R
 use Rattle.language.specs.References.{Subscripts, part, takenLength, two, whole, wordPart}
+use Rattle.language.specs.declared.refusals.Refusal.the-variants.{BadLength}
 use Rattle.language.specs.Value.{Made, Value, value}
 use Rattle.language.specs.Words.{Position}
 use Rattle.about_running.specs.Finds.{Each, Finds, finds, outside, reference-fine, reference-finds}
@@ -156,7 +157,7 @@ module _ {X : Type 0} (S : Stores X) (d : Description) (p : Places) (x : X) (loa
     choice-fine : (q : Position) (m : ℕ) (c a : Worth) {w : Worth} → choiceJudged d p terminals known q m c a ≡ fine w → Chosen m c a w
     choice-fine q m c a {w} e = go (both (selects (c .length) m) (eqb (a .arms) m)) refl e
       where
-        go : (t : Bool) → both (selects (c .length) m) (eqb (a .arms) m) ≡ t → cond t (sized q (a .length) (ownWork + c .work + a .work)) (refuse q 7) ≡ fine w → Chosen m c a w
+        go : (t : Bool) → both (selects (c .length) m) (eqb (a .arms) m) ≡ t → cond t (sized q (a .length) (ownWork + c .work + a .work)) (refuse q BadLength) ≡ fine w → Chosen m c a w
         go true r k =
             let y = both-true (selects (c .length) m) (eqb (a .arms) m) r in
             let z = sized-fine q (a .length) (ownWork + c .work + a .work) k in
@@ -246,7 +247,7 @@ module _ {X : Type 0} (S : Stores X) (d : Description) (p : Places) (x : X) (loa
       choice-none : {A : Type 0} (q : Position) (m : ℕ) (c a : Worth) {w : Worth} → choiceJudged d p terminals known q m c a ≡ fine w → 0 < w .arms → A
       choice-none {A} q m c a {w} e h = go (both (selects (c .length) m) (eqb (a .arms) m)) e
         where
-          go : (t : Bool) → cond t (sized q (a .length) (ownWork + c .work + a .work)) (refuse q 7) ≡ fine w → A
+          go : (t : Bool) → cond t (sized q (a .length) (ownWork + c .work + a .work)) (refuse q BadLength) ≡ fine w → A
           go true k = no-arms (a .length) (ownWork + c .work + a .work) (sized-fine q (a .length) (ownWork + c .work + a .work) k .same) h
           go false k = faulty-fine k
 

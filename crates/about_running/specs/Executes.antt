@@ -23,7 +23,8 @@ use Rattle.language.specs.Order.{justBefore, startAt, startBelow, startNode}
 use Rattle.language.specs.ReferenceRules.{subscriptWorth}
 use Rattle.language.specs.References as R
 use Rattle.language.specs.References.{Reference, part, referenceOf, takenLength, two, whole, wordPart}
-use Rattle.language.specs.Stops.{outsideBounds}
+use Rattle.language.specs.declared.refusals.Refusal.the-variants.{BadLength, BadName, BadStore}
+use Rattle.language.specs.declared.stops.Stop.the-variants.{OutsideBounds}
 use Rattle.language.specs.Storing.{isPlain, mayStore, takesImmediate}
 use Rattle.language.specs.Tree as T
 use Rattle.language.specs.Tree.{Kind}
@@ -77,7 +78,7 @@ module _ {X : Type 0} (S : Stores X) (d : Description) (p : Places) (Inv : X →
   -- What a list comes to.
   pub data Good : Ran X → Type 0 where
     good : {c : Doing X} → Inv (c .store) → AllStates d (c .gotos) → AllStates d (c .calls) → Good (went c)
-    stops-so : Good (Ran.stopped outsideBounds)
+    stops-so : Good (Ran.stopped OutsideBounds)
 
   -- The tree of a root stands in order.
   abbrev pub Own : ℕ → Type 0
@@ -137,7 +138,7 @@ module _ {X : Type 0} (S : Stores X) (d : Description) (p : Places) (Inv : X →
     -- What a left side without fault names.
     pub data Names (l : ℕ) : Located → Type 0 where
       names : {q : Place} → There d q → q .count ≡ l → kindAt d n ≡ facilityAt d (q .facility) .kind → Names l (Located.at q)
-      outside-so : Names l (Located.stops outsideBounds)
+      outside-so : Names l (Located.stops OutsideBounds)
 
     left-names : {w : Worth} → Own n → leftAt d p terminals all n ≡ fine w → Names (w .length) (side S d x n)
     unfolding leftAt side kindAt startAt
@@ -205,10 +206,10 @@ module _ {X : Type 0} (S : Stores X) (d : Description) (p : Places) (Inv : X →
 
   stored-fine : (inState : Bool) (works : ℕ → Judged) (allowed : Bool) (at : Position) (v w : Worth) {u : Worth} → J.stored d p inState works allowed at v w ≡ fine u → Sides allowed v w
   stored-fine inState works allowed at v w e =
-      let y = clean-fine (unless (eqb (v .length) (w .length)) at 7 ++ unless allowed at 8) _ e in
+      let y = clean-fine (unless (eqb (v .length) (w .length)) at BadLength ++ unless allowed at BadStore) _ e in
       record {
-        same = eqb-true _ _ (unless-none (eqb (v .length) (w .length)) at 7 (append-none-left _ _ (y .none)));
-        may = unless-none allowed at 8 (append-none-right (unless (eqb (v .length) (w .length)) at 7) _ (y .none));
+        same = eqb-true _ _ (unless-none (eqb (v .length) (w .length)) at BadLength (append-none-left _ _ (y .none)));
+        may = unless-none allowed at BadStore (append-none-right (unless (eqb (v .length) (w .length)) at BadLength) _ (y .none));
       }
 
   only-in : (b : Bool) (at : Position) (j : Judged) (inState : Bool) (works : ℕ → Judged) {w : Worth} → J.onlyIn d p inState works b at j ≡ fine w → j ≡ fine w
@@ -257,7 +258,7 @@ module _ {X : Type 0} (S : Stores X) (d : Description) (p : Places) (Inv : X →
     set-good l at c o h e =
         let y = given-fine (leftAt d p terminals all l) _ e in
         let z = clean-fine _ _ (y .own) in
-        let b = both-true (isPlain (kindAt d l)) (eqb (y .v .length) 1) (unless-none (both (isPlain (kindAt d l)) (eqb (y .v .length) 1)) at 8 (z .none)) in
+        let b = both-true (isPlain (kindAt d l)) (eqb (y .v .length) 1) (unless-none (both (isPlain (kindAt d l)) (eqb (y .v .length) 1)) at BadStore (z .none)) in
         let one : y .v .length ≡ 1 = eqb-true _ _ (b .1) in
         on-place (λ q. setting S d q c) (left-names (c .store) l o (y .part)) (λ q t n k.
         let m : q .count ≡ 1 = n ∙ one in
@@ -321,7 +322,7 @@ module _ {X : Type 0} (S : Stores X) (d : Description) (p : Places) (Inv : X →
     to-state-in : (s : ℕ) (at : Position) {w : Worth} → J.toState d p inState works at s ≡ fine w → s < length (d .states)
     to-state-in s at {w} e = go (ltb 0 (length (stateAt d s .name))) refl e
       where
-        go : (b : Bool) → ltb 0 (length (stateAt d s .name)) ≡ b → cond b (worth 1 0 ownWork) (refuse at 4) ≡ fine w → s < length (d .states)
+        go : (b : Bool) → ltb 0 (length (stateAt d s .name)) ≡ b → cond b (worth 1 0 ownWork) (refuse at BadName) ≡ fine w → s < length (d .states)
         go true q k = named-in s (ltb-true _ _ q)
         go false q k = faulty-fine k
 

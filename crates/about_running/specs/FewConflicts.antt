@@ -14,7 +14,8 @@ use Rattle.language.specs.Description.{Description, noPlaces, sequencingOf, sta
 use Rattle.language.specs.Meaning.{Write, noState}
 use Rattle.language.specs.Rules.{mostWork}
 use Rattle.language.specs.Step.{Outcome, Record, afterActions, completed, entered, finished, landed, lastCycle, nextRecord, nothingDone, orStopped, setRegister, stateNumber, step, stopAfter}
-use Rattle.language.specs.Stops.{lastCycleReached}
+use Rattle.language.specs.declared.stops.Stop.{Stop}
+use Rattle.language.specs.declared.stops.Stop.the-variants.{LastCycleReached}
 use Rattle.language.specs.Store.{Held, Words, anyMeets, begin, conflicts, numbers}
 use Rattle.language.specs.Value.{bit}
 use Rattle.about_running.specs.FewInLists.{few-stores}
@@ -51,7 +52,7 @@ module _ (d : Description) (L : Legal d) where
   entered-count r c none e = absurd (let z : _≡_ {A = ℕ} 0 1 = cc in omega arith)
   entered-count r c (some t) e = cc
 
-  finished-count : (r : Record) (c : Doing Held) (x : Option ℕ) {s : Words} {r′ : Record} {n : ℕ} → orStopped d r c x ≡ completed s r′ n → n ≡ conflicts [] (c .store .waits)
+  finished-count : (r : Record) (c : Doing Held) (x : Option Stop) {s : Words} {r′ : Record} {n : ℕ} → orStopped d r c x ≡ completed s r′ n → n ≡ conflicts [] (c .store .waits)
   finished-count r c none e = entered-count r c (setRegister d (sequencingOf d) (stateNumber d (nextRecord d r c .state)) (landed d r c)) e
   finished-count r c (some m) e = absurd (let z : _≡_ {A = ℕ} 0 1 = cc in omega arith)
 
@@ -72,7 +73,7 @@ module _ (d : Description) (L : Legal d) where
       ran = A.runActions (numbers d) d (stateAt d (r .state) .actions) (nothingDone d (begin (d .facilities) s ins))
 
       go : (a b : Bool) → ltb (r .state) (length (d .states)) ≡ b
-          → cond a (Outcome.stopped lastCycleReached) (cond b (afterActions d r ran) (Outcome.stuck noState)) ≡ completed s′ r′ n → n ≤ mostWork
+          → cond a (Outcome.stopped LastCycleReached) (cond b (afterActions d r ran) (Outcome.stuck noState)) ≡ completed s′ r′ n → n ≤ mostWork
       go true b q k = absurd (let z : _≡_ {A = ℕ} 0 1 = cc in omega arith)
       go false false q k = absurd (let z : _≡_ {A = ℕ} 0 1 = cc in omega arith)
       go false true q k =

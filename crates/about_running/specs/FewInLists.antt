@@ -17,6 +17,7 @@ use Rattle.language.specs.Expressions.{ownWork, selects}
 use Rattle.language.specs.Judging.{Judged, Worth, both, fine, givenBoth, refuse, worth}
 use Rattle.language.specs.Meaning.{Stores, armNumber, evalAt, is, noOperation, runsOver}
 use Rattle.language.specs.Recursion.{below-ge, below-lt}
+use Rattle.language.specs.declared.refusals.Refusal.the-variants.{BadLength, NoContinuation}
 use Rattle.language.specs.Words.{Position}
 use Rattle.about_running.specs.Judged.{both-fine, faulty-fine}
 use Rattle.about_running.specs.FewStores as F
@@ -36,7 +37,7 @@ module _ {X : Type 0} (S : Stores X) (d : Description) (p : Places) (delayed : X
 
     judged-lt : (k a i : ℕ) (s : Shape) → a < k → J.runBelow d p inState works k a i s ≡ judged a i s
     unfolding J.runBelow
-    judged-lt k a i s h = ap (λ (f : ℕ → Shape → Judged). f i s) (below-lt (λ i s. refuse D.nowhere 3) (J.runStep d p inState works) k a h)
+    judged-lt k a i s h = ap (λ (f : ℕ → Shape → Judged). f i s) (below-lt (λ i s. refuse D.nowhere NoContinuation) (J.runStep d p inState works) k a h)
 
     exec-lt : (k a i : ℕ) (c : Doing X) → a < k → A.listBelow S d perform k a i c ≡ exec a i c
     unfolding A.listBelow
@@ -79,7 +80,7 @@ module _ {X : Type 0} (S : Stores X) (d : Description) (p : Places) (delayed : X
         rest-fine : ev (m - x) (i + 1 + x) actions ≡ fine rest
         no-more : inner .work + rest .work ≤ n
 
-      tested-work : (t : Bool) (at : Position) (n : ℕ) {v : Worth} → cond t (worth 1 0 n) (refuse at 7) ≡ fine v → v .work ≡ n
+      tested-work : (t : Bool) (at : Position) (n : ℕ) {v : Worth} → cond t (worth 1 0 n) (refuse at BadLength) ≡ fine v → v .work ≡ n
       tested-work true at n e = F.worth-work S d p delayed count inState works perform performs e
       tested-work false at n e = faulty-fine e
 
@@ -88,7 +89,7 @@ module _ {X : Type 0} (S : Stores X) (d : Description) (p : Places) (delayed : X
       held c x test {w} e = go (leb x m) refl e
         where
           go : (b : Bool) → leb x m ≡ b
-              → cond b (givenBoth (J.conditional d p inState works (actionPlace p i) (J.right d p inState works c) (ev x (i + 1) arms) test) (ev (m - x) (i + 1 + x) actions) (J.allWork d p inState works)) (refuse D.nowhere 3) ≡ fine w
+              → cond b (givenBoth (J.conditional d p inState works (actionPlace p i) (J.right d p inState works c) (ev x (i + 1) arms) test) (ev (m - x) (i + 1 + x) actions) (J.allWork d p inState works)) (refuse D.nowhere NoContinuation) ≡ fine w
               → Held x (w .work)
           go false q k = faulty-fine k
           go true q k =
@@ -195,7 +196,7 @@ module _ {X : Type 0} (S : Stores X) (d : Description) (p : Places) (delayed : X
           by-number own rest l g h n (suc k) t = later rest k l h (omega (arith, n)) (ltb x (suc m)) refl (rw q at t)
 
           go : (b : Bool) → both (leb 1 x) (leb x m) ≡ b
-              → cond b (givenBoth (ev x (i + 1) actions) (ev (m - x) (i + 1 + x) arms) (λ v w. worth 1 (w .arms + 1) (v .work + w .work))) (refuse D.nowhere 3) ≡ fine w
+              → cond b (givenBoth (ev x (i + 1) actions) (ev (m - x) (i + 1 + x) arms) (λ v w. worth 1 (w .arms + 1) (v .work + w .work))) (refuse D.nowhere NoContinuation) ≡ fine w
               → ArmRun (w .work) (suc m) run
           go false t k = faulty-fine k
           go true t k =
@@ -277,7 +278,7 @@ module _ {X : Type 0} (S : Stores X) (d : Description) (p : Places) (delayed : X
       → J.runJudged d p false (J.operationBelow d p o) (operationAt d o .body) ≡ fine w
   body-fine o {w} e = go (eqb (operationAt d o .body .count) 0) e
     where
-      go : (b : Bool) → cond b (refuse D.nowhere 3) (J.runJudged d p false (J.operationBelow d p o) (operationAt d o .body)) ≡ fine w
+      go : (b : Bool) → cond b (refuse D.nowhere NoContinuation) (J.runJudged d p false (J.operationBelow d p o) (operationAt d o .body)) ≡ fine w
           → J.runJudged d p false (J.operationBelow d p o) (operationAt d o .body) ≡ fine w
       go true k = faulty-fine k
       go false k = k

@@ -16,6 +16,8 @@ use Rattle.language.specs.Expressions.{ownWork}
 use Rattle.language.specs.Judging.{Judged, Worth, both, fine, givenBoth, unless, worth}
 use Rattle.language.specs.Kinds.{delayedSign}
 use Rattle.language.specs.Meaning.{Answer, Located, Place, Stores, Stuck, Write, evalAt, is, stops}
+use Rattle.language.specs.declared.refusals.Refusal.the-variants.{BadLength, BadStore}
+use Rattle.language.specs.declared.stops.Stop.{Stop}
 use Rattle.language.specs.Storing.{isPlain, mayStore}
 use Rattle.language.specs.Value.{Value}
 use Rattle.language.specs.Words.{Position}
@@ -30,7 +32,7 @@ module _ {X : Type 0} (S : Stores X) (d : Description) (p : Places) (delayed : X
   -- At most n stores have been delayed when a list has been carried out.
   pub data Few (n : ℕ) : Ran X → Type 0 where
     carried : {c : Doing X} → delayed (c .store) ≤ n → Few n (went c)
-    stopped-so : {k : ℕ} → Few n (Ran.stopped k)
+    stopped-so : {k : Stop} → Few n (Ran.stopped k)
     stuck-so : {s : Stuck} → Few n (Ran.stuck s)
 
   pub few-more : {m n : ℕ} (r : Ran X) → m ≤ n → Few m r → Few n r
@@ -111,7 +113,7 @@ module _ {X : Type 0} (S : Stores X) (d : Description) (p : Places) (delayed : X
     unfolding ownWork
     store-few i j allowed b at {w} c r e h =
         let y = both-fine i j _ (only-in b at _ e) in
-        let z = clean-fine (unless (eqb (y .u .length) (y .v .length)) at 7 ++ unless allowed at 8) (worth 1 0 (ownWork + y .u .work + y .v .work)) (y .own) in
+        let z = clean-fine (unless (eqb (y .u .length) (y .v .length)) at BadLength ++ unless allowed at BadStore) (worth 1 0 (ownWork + y .u .work + y .v .work)) (y .own) in
         let n : w .work ≡ ownWork + y .u .work + y .v .work = worth-work (z .same) in
         few-more r (rw n (some-work _ (y .u .work) (y .v .work))) h
       where

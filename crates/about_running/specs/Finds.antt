@@ -12,7 +12,8 @@ use Rattle.language.specs.Judging.{Judged, Worth, both, faultsOf, fine, refuse,
 use Rattle.language.specs.Meaning.{Answer, Located, is, located, narrow, partOf, place, placeOf, subscript}
 use Rattle.language.specs.ReferenceRules.{boundFaults, computedWork, countedRight, countedWrong, directionFaults, endFaults, referenceJudged, subscriptFaults, subscriptWorth, subscriptsJudged}
 use Rattle.language.specs.References.{Reference, Subscripts, one, part, rightCount, sameDirection, takenLength, two, whole, wordPart}
-use Rattle.language.specs.Stops.{outsideBounds}
+use Rattle.language.specs.declared.refusals.Refusal.the-variants.{BadName, BadSubscript}
+use Rattle.language.specs.declared.stops.Stop.the-variants.{OutsideBounds}
 use Rattle.language.specs.Value.{longest}
 use Rattle.about_running.specs.Gives.{Gives, gives, stopped}
 use Rattle.about_running.specs.InBounds.{from-in, part-in}
@@ -21,7 +22,7 @@ use Rattle.about_running.specs.Judged.{append-none-left, append-none-rig
 -- A part of l bits within a word of facility f, whose number is n.
 pub data Finds (f : Facility) (n l : ℕ) : Located → Type 0 where
   finds : {w a : ℕ} → w < wordCount f → a + l ≤ wordLength f → Finds f n l (Located.at (place n w a l))
-  outside : Finds f n l (Located.stops outsideBounds)
+  outside : Finds f n l (Located.stops OutsideBounds)
 
 module _ (f : Facility) (n l : ℕ) where
   narrow-finds : l ≤ longest → (w a : ℕ) → w < wordCount f → a + l ≤ wordLength f → Finds f n l (narrow (place n w a l))
@@ -31,7 +32,7 @@ module _ (f : Facility) (n l : ℕ) where
   subscript-finds b on stopped h = outside
   subscript-finds b on (gives {v = v} e r) h = go (inBounds b (v .number)) refl
     where
-      go : (t : Bool) → inBounds b (v .number) ≡ t → Finds f n l (cond t (on (fromFirst b (v .number))) (Located.stops outsideBounds))
+      go : (t : Bool) → inBounds b (v .number) ≡ t → Finds f n l (cond t (on (fromFirst b (v .number))) (Located.stops OutsideBounds))
       go true q = h _ (from-in b (v .number) q)
       go false q = outside
 
@@ -84,10 +85,10 @@ module _ (d : Description) (p : Places) (terminals : ℕ → Judged) (ev : ℕ �
   -- Both ends of a part are in bounds.
   module _ (f : Facility) (at : NodePlaces) (b : Bounds) (e : endFaults d p terminals (f .bits) b at ≡ []) where
     first-in : inBounds (f .bits) (b .first) ≡ true
-    first-in = unless-none (inBounds (f .bits) (b .first)) (at .first) 6 (append-none-left (unless (inBounds (f .bits) (b .first)) (at .first) 6) (unless (inBounds (f .bits) (b .last)) (at .last) 6) e)
+    first-in = unless-none (inBounds (f .bits) (b .first)) (at .first) BadSubscript (append-none-left (unless (inBounds (f .bits) (b .first)) (at .first) BadSubscript) (unless (inBounds (f .bits) (b .last)) (at .last) BadSubscript) e)
 
     last-in : inBounds (f .bits) (b .last) ≡ true
-    last-in = unless-none (inBounds (f .bits) (b .last)) (at .last) 6 (append-none-right (unless (inBounds (f .bits) (b .first)) (at .first) 6) (unless (inBounds (f .bits) (b .last)) (at .last) 6) e)
+    last-in = unless-none (inBounds (f .bits) (b .last)) (at .last) BadSubscript (append-none-right (unless (inBounds (f .bits) (b .first)) (at .first) BadSubscript) (unless (inBounds (f .bits) (b .last)) (at .last) BadSubscript) e)
 
   module _ (f : Facility) (n : ℕ) (at : NodePlaces) where
     place-whole : Right f whole at → Finds f n (takenLength f whole) (located EV n f whole)
@@ -127,7 +128,7 @@ module _ (d : Description) (p : Places) (terminals : ℕ → Judged) (ev : ℕ �
         let h : f .dimensions ≡ 1 = eqb-true _ _ (r .count) in
         let i1 = first-in f at b (r .bound) in
         let i2 = last-in f at b (r .bound) in
-        let i3 : sameDirection (f .bits) b ≡ true = unless-none (sameDirection (f .bits) b) (at .last) 6 (r .direction) in
+        let i3 : sameDirection (f .bits) b ≡ true = unless-none (sameDirection (f .bits) b) (at .last) BadSubscript (r .direction) in
         part-finds f n (spanOf b) (f .bits) b (λ a c. narrow (place n 0 a c)) i1 i2 i3
         (narrow-finds f n (spanOf b) (r .short) 0 (fromFirst (f .bits) (b .first)) (rw (one-word f (λ z. omega arith)) (omega arith)) (rw (bits f (λ z. omega arith)) (part-in (f .bits) b i1 i2 i3)))
 
@@ -147,7 +148,7 @@ module _ (d : Description) (p : Places) (terminals : ℕ → Judged) (ev : ℕ �
         let ends : endFaults d p terminals (f .bits) b at ≡ [] = append-none-right (subscriptFaults d p terminals (f .words) e) (endFaults d p terminals (f .bits) b at) (r .bound) in
         let i1 = first-in f at b ends in
         let i2 = last-in f at b ends in
-        let i3 : sameDirection (f .bits) b ≡ true = unless-none (sameDirection (f .bits) b) (at .last) 6 (r .direction) in
+        let i3 : sameDirection (f .bits) b ≡ true = unless-none (sameDirection (f .bits) b) (at .last) BadSubscript (r .direction) in
         subscript-finds f n (spanOf b) (f .words) _ (parts e _ o (r .worked)) (λ i l.
         part-finds f n (spanOf b) (f .bits) b (λ a c. narrow (place n i a c)) i1 i2 i3
         (narrow-finds f n (spanOf b) (r .short) i (fromFirst (f .bits) (b .first)) (rw (words f h) l) (rw (bits f (λ z. omega arith)) (part-in (f .bits) b i1 i2 i3))))
@@ -198,7 +199,7 @@ module _ (d : Description) (p : Places) (terminals : ℕ → Judged) (ev : ℕ �
         }
 
     wrong-count : {A : Type 0} {w : Worth} → countedWrong d p terminals ev (r .subscripts) at ≡ fine w → A
-    wrong-count e = faulty-fine (clean-fine (faultsOf (subscriptsJudged d p terminals ev (r .subscripts))) (refuse (at .at) 6) e .same)
+    wrong-count e = faulty-fine (clean-fine (faultsOf (subscriptsJudged d p terminals ev (r .subscripts))) (refuse (at .at) BadSubscript) e .same)
 
     pub reference-fine : {w : Worth} → referenceJudged d p terminals ev own known r at ≡ fine w → Refers known r at w
     unfolding referenceJudged
@@ -210,7 +211,7 @@ module _ (d : Description) (p : Places) (terminals : ℕ → Judged) (ev : ℕ �
         go2 h false c k = wrong-count k
 
         go : (t : Bool) → ltb (r .facility) known ≡ t
-            → cond t (cond (rightCount (f′ .dimensions) (r .subscripts)) (countedRight d p terminals ev own (r .facility) f′ (r .subscripts) at) (countedWrong d p terminals ev (r .subscripts) at)) (refuse (at .at) 4) ≡ fine w → Refers known r at w
+            → cond t (cond (rightCount (f′ .dimensions) (r .subscripts)) (countedRight d p terminals ev own (r .facility) f′ (r .subscripts) at) (countedWrong d p terminals ev (r .subscripts) at)) (refuse (at .at) BadName) ≡ fine w → Refers known r at w
         go true q k = go2 (ltb-true _ _ q) (rightCount (f′ .dimensions) (r .subscripts)) refl k
         go false q k = faulty-fine k
 

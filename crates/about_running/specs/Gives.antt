@@ -5,13 +5,13 @@ use Prim.Native.Nat.{ℕ, _%_, _^_, _≤_, _<_}
 use borrow.Author.Tests.{le-leb, lt-ltb}
 use lib.Pow.{pow-pos}
 use Rattle.language.specs.Meaning.{Answer, Stuck, after, is, stops, worthOr}
-use Rattle.language.specs.Stops.{outsideBounds}
+use Rattle.language.specs.declared.stops.Stop.the-variants.{OutsideBounds}
 use Rattle.language.specs.Value.{Made, Value, fit, longest, made, value}
 use Rattle.about_running.specs.Operators.{Fits}
 
 pub data Gives (l : ℕ) : Answer → Type 0 where
   gives : {v : Value} → v .length ≡ l → v .number < 2 ^ l → Gives l (is v)
-  stopped : Gives l (stops outsideBounds)
+  stopped : Gives l (stops OutsideBounds)
 
 -- A value of a length is one that fits it.
 pub record Normal (l : ℕ) (v : Value) : Type 0 where

@@ -7,6 +7,8 @@ use Prim.Native.Nat.{ℕ, _+_, _≤_, _<_}
 use borrow.Author.Tests.{eqb-false, eqb-true, leb-true, ltb-true}
 use lib.Dec.{eqb, leb, ltb}
 use Rattle.language.specs.Judging.{Judged, Worth, armList, faulty, fine, given, givenBoth, orFaulty, proper, refuse, sized, unless, worth}
+use Rattle.language.specs.declared.refusals.Refusal.{Refusal}
+use Rattle.language.specs.declared.refusals.Refusal.the-variants.{BadLength, NoContinuation}
 use Rattle.language.specs.Value.{longest}
 use Rattle.language.specs.Words.{Fault, Position}
 
@@ -44,7 +46,7 @@ unfolding proper
 proper-fine p (faulty f fs) e = faulty-fine e
 proper-fine p (fine v) {w} e = go (eqb (v .arms) 0) refl e
   where
-    go : (b : Bool) → eqb (v .arms) 0 ≡ b → cond b (fine v) (refuse p 3) ≡ fine w → Proper (fine v) w
+    go : (b : Bool) → eqb (v .arms) 0 ≡ b → cond b (fine v) (refuse p NoContinuation) ≡ fine w → Proper (fine v) w
     go true q r = record { same = r; arms = let z : v ≡ w = cc in rw (← z) (eqb-true _ _ q) }
     go false q r = faulty-fine r
 
@@ -60,7 +62,7 @@ arms-fine p (fine v) {w} e = go (eqb (v .arms) 0) refl e
     pos : (n : ℕ) → (n ≡ 0 → ⊥) → 0 < n
     pos n h = omega arith
 
-    go : (b : Bool) → eqb (v .arms) 0 ≡ b → cond b (refuse p 3) (fine v) ≡ fine w → Arms (fine v) w
+    go : (b : Bool) → eqb (v .arms) 0 ≡ b → cond b (refuse p NoContinuation) (fine v) ≡ fine w → Arms (fine v) w
     go true q r = faulty-fine r
     go false q r = record { same = r; some = let z : v ≡ w = cc in rw (← z) (pos _ (eqb-false _ _ q)) }
 
@@ -73,11 +75,11 @@ pub sized-fine : (p : Position) (l k : ℕ) {w : Worth} → sized p l k ≡ fine
 unfolding sized
 sized-fine p l k {w} e = go (ltb 0 l) refl e
   where
-    go2 : 0 < l → (b : Bool) → leb l longest ≡ b → cond b (worth l 0 k) (refuse p 7) ≡ fine w → Sized l k w
+    go2 : 0 < l → (b : Bool) → leb l longest ≡ b → cond b (worth l 0 k) (refuse p BadLength) ≡ fine w → Sized l k w
     go2 h true q r = record { some = h; most = leb-true _ _ q; same = cc }
     go2 h false q r = faulty-fine r
 
-    go : (b : Bool) → ltb 0 l ≡ b → cond b (cond (leb l longest) (worth l 0 k) (refuse p 7)) (refuse p 7) ≡ fine w → Sized l k w
+    go : (b : Bool) → ltb 0 l ≡ b → cond b (cond (leb l longest) (worth l 0 k) (refuse p BadLength)) (refuse p BadLength) ≡ fine w → Sized l k w
     go true q r = go2 (ltb-true _ _ q) (leb l longest) refl r
     go false q r = faulty-fine r
 
@@ -89,7 +91,7 @@ pub clean-fine : (fs : List Fault) (j : Judged) {w : Worth} → orFaulty fs j �
 clean-fine [] j e = record { none = refl; same = e }
 clean-fine (x ∷ xs) j e = faulty-fine e
 
-pub unless-none : (b : Bool) (p : Position) (n : ℕ) → unless b p n ≡ [] → b ≡ true
+pub unless-none : (b : Bool) (p : Position) (r : Refusal) → unless b p r ≡ [] → b ≡ true
 unless-none true p n e = refl
 unless-none false p n e = absurd (let z : _≡_ {A = ℕ} 0 1 = cc in omega arith)
 

@@ -17,7 +17,8 @@ use Rattle.about_running.specs.BitsKept.{NoneHas, NoneHasAny, bitOf, lan
 use Rattle.about_running.specs.SameActions as Actions
 use Rattle.about_running.specs.SameActions.{Joins}
 use Rattle.about_running.specs.SameRuns.{Alike, actions-alike}
-use Rattle.language.specs.Stops.{lastCycleReached}
+use Rattle.language.specs.declared.stops.Stop.{Stop}
+use Rattle.language.specs.declared.stops.Stop.the-variants.{LastCycleReached}
 
 -- ---- A store that also notes every write carried out at once.
 
@@ -115,7 +116,7 @@ module _ (d : Description) (s : Words) (r : Record) (ins : Words) where
           let y : setWord u g 0 x ≡ t = cc in
           ap (λ (o : Words). wordOf o f w) (sym y) ∙ other-facility u f g w 0 x (not-register g z)
 
-      finish-keeps : (e : Doing Held) (x : Option ℕ) → orStopped d r e x ≡ completed t q n → wordOf t f w ≡ wordOf (landed d r e) f w
+      finish-keeps : (e : Doing Held) (x : Option Stop) → orStopped d r e x ≡ completed t q n → wordOf t f w ≡ wordOf (landed d r e) f w
       finish-keeps e none h = set-keeps (sequencingOf d) (stateNumber d (nextRecord d r e .state)) (landed d r e) refl e h
       finish-keeps e (some m) h = absurd (let y : _≡_ {A = ℕ} 0 1 = cc in omega arith)
 
@@ -136,7 +137,7 @@ module _ (d : Description) (s : Words) (r : Record) (ins : Words) where
       unfolding step
       ran-so = go (leb lastCycle (r .cycle)) (ltb (r .state) (stateCount d)) completes
         where
-          go : (a b : Bool) → cond a (Outcome.stopped lastCycleReached) (cond b (afterActions d r run) (Outcome.stuck noState)) ≡ completed t q n → afterActions d r run ≡ completed t q n
+          go : (a b : Bool) → cond a (Outcome.stopped LastCycleReached) (cond b (afterActions d r run) (Outcome.stuck noState)) ≡ completed t q n → afterActions d r run ≡ completed t q n
           go true b h = absurd (let o : _≡_ {A = ℕ} 0 1 = cc in omega arith)
           go false true h = h
           go false false h = absurd (let o : _≡_ {A = ℕ} 0 1 = cc in omega arith)

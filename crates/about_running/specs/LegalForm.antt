@@ -18,6 +18,7 @@ use Rattle.language.specs.Judging.{Judged, Worth, both, faultsOf, faulty, fine,
 use Rattle.language.specs.Layout.{facilityBytes}
 use Rattle.language.specs.Machine.{mostFacilities, mostOperations, mostStates}
 use Rattle.language.specs.Order.{actionRoots, endsAt, facilityRoots, operationRoots, operationsEnd, runRoots, runsRight, startAt, stateRoots, statesEnd, treesEnd, treesRight, valueRoot, ending}
+use Rattle.language.specs.declared.refusals.Refusal.the-variants.{BadLength, BadSequencing, CeilingPassed}
 use Rattle.language.specs.Rules as Rules
 use Rattle.language.specs.Rules.{boundsFaults, largestStore, mostWork, sequencingRight, facilitiesFaults, facilityFaults, faults, missing, nameFaults, namePlaces, namesOf, operationsFaults, orElse, ownFaults, sameLength, sequencingLength, stateFaults, statesFaults, valueFaults}
 use Rattle.language.specs.Words.{Fault, Position}
@@ -65,7 +66,7 @@ module _ (d : Description) (p : Places) where
       (append-none-right (orElse d p (boundsFaults d p f (facilityPlace p n)) (facilityFaults d p n another before f (facilityPlace p n))) _ e) (omega arith))
 
   same-so : (l : ℕ) (at : Position) (j : Judged) → sameLength d p l at j ≡ [] → (w : Worth) × (j ≡ fine w) × (l ≡ w .length)
-  same-so l at (fine w) e = (w, refl, eqb-true _ _ (unless-none (eqb l (w .length)) at 7 e))
+  same-so l at (fine w) e = (w, refl, eqb-true _ _ (unless-none (eqb l (w .length)) at BadLength e))
   same-so l at (faulty f fs) e = absurd (let z : _≡_ {A = ℕ} 0 1 = cc in omega arith)
 
   terminal-fine : (n : ℕ) (a : Bool) (b : ℕ) (f : Facility) (at : FacilityPlaces) → facilityFaults d p n a b f at ≡ [] → isComputed (f .kind) ≡ true
@@ -73,8 +74,8 @@ module _ (d : Description) (p : Places) where
   unfolding facilityFaults
   terminal-fine n a b f at e c =
       let own : List Fault = cond (isComputed (f .kind)) (sameLength d p (wordLength f) (at .equals) (terminalJudged d p n)) [] in
-      let store : List Fault = unless (leb (b + facilityBytes f) largestStore) (at .name) 10 in
-      let e1 : store ++ own ≡ [] = append-none-right (unless (cond (isSequencing (f .kind)) (sequencingRight d p a f) true) (at .name) 9) (store ++ own) e in
+      let store : List Fault = unless (leb (b + facilityBytes f) largestStore) (at .name) CeilingPassed in
+      let e1 : store ++ own ≡ [] = append-none-right (unless (cond (isSequencing (f .kind)) (sequencingRight d p a f) true) (at .name) BadSequencing) (store ++ own) e in
       let e2 : own ≡ [] = append-none-right store own e1 in
       let e3 : cond (isComputed (f .kind)) (sameLength d p (wordLength f) (at .equals) (terminalJudged d p n)) [] ≡ [] = e2 in
       same-so (wordLength f) (at .equals) (terminalJudged d p n) (ap (λ (t : Bool). cond t (sameLength d p (wordLength f) (at .equals) (terminalJudged d p n)) []) (sym c) ∙ e3)
@@ -111,8 +112,8 @@ module _ (d : Description) (p : Places) where
       record {
         run-worth = w;
         run-fine = q;
-        little-work = leb-true (w .work) mostWork (unless-none (leb (w .work) mostWork) (at .at) 10 (append-none-right (unless (cond (missing d p l (s .value)) false true) (at .at) 9) _ e));
-        there = not-false (missing d p l (s .value)) (unless-none (cond (missing d p l (s .value)) false true) (at .at) 9 (append-none-left _ _ e));
+        little-work = leb-true (w .work) mostWork (unless-none (leb (w .work) mostWork) (at .at) CeilingPassed (append-none-right (unless (cond (missing d p l (s .value)) false true) (at .at) BadSequencing) _ e));
+        there = not-false (missing d p l (s .value)) (unless-none (cond (missing d p l (s .value)) false true) (at .at) BadSequencing (append-none-left _ _ e));
         value-right = v;
       }
   own-none l before at s (faulty f fs) q v e = absurd (let z : _≡_ {A = ℕ} 0 1 = cc in omega arith)

@@ -21,6 +21,7 @@ use Rattle.about_running.specs.Evaluates.{Terminal}
 use Rattle.about_running.specs.Executes as E
 use Rattle.about_running.specs.Executes.{Keeps, Ready, Rooted}
 use Rattle.about_running.specs.Judged.{both-fine, faulty-fine}
+use Rattle.language.specs.declared.refusals.Refusal.the-variants.{BadLength, NoContinuation}
 
 both-true : (a b : Bool) → both a b ≡ true → (a ≡ true) × (b ≡ true)
 both-true true b h = (refl, h)
@@ -62,7 +63,7 @@ module _ {X : Type 0} (S : Stores X) (d : Description) (p : Places) (Inv : X →
 
     judged-lt : (k a i : ℕ) (s : Shape) → a < k → J.runBelow d p inState works k a i s ≡ judged a i s
     unfolding J.runBelow
-    judged-lt k a i s h = ap (λ (f : ℕ → Shape → Judged). f i s) (below-lt (λ i s. refuse D.nowhere 3) (J.runStep d p inState works) k a h)
+    judged-lt k a i s h = ap (λ (f : ℕ → Shape → Judged). f i s) (below-lt (λ i s. refuse D.nowhere NoContinuation) (J.runStep d p inState works) k a h)
 
     exec-lt : (k a i : ℕ) (c : Doing X) → a < k → A.listBelow S d perform k a i c ≡ exec a i c
     unfolding A.listBelow
@@ -118,7 +119,7 @@ module _ {X : Type 0} (S : Stores X) (d : Description) (p : Places) (Inv : X →
       held c x test {w} e = go (leb x m) refl e
         where
           go : (b : Bool) → leb x m ≡ b
-              → cond b (givenBoth (J.conditional d p inState works (actionPlace p i) (J.right d p inState works c) (ev x (i + 1) arms) test) (ev (m - x) (i + 1 + x) actions) (J.allWork d p inState works)) (refuse D.nowhere 3) ≡ fine w
+              → cond b (givenBoth (J.conditional d p inState works (actionPlace p i) (J.right d p inState works c) (ev x (i + 1) arms) test) (ev (m - x) (i + 1 + x) actions) (J.allWork d p inState works)) (refuse D.nowhere NoContinuation) ≡ fine w
               → Held c x test
           go false q k = faulty-fine k
           go true q k =
@@ -135,7 +136,7 @@ module _ {X : Type 0} (S : Stores X) (d : Description) (p : Places) (Inv : X →
                 rest-fine = y .right;
               }
             where
-              tested : (t : Bool) (j : Judged) {v : Worth} → cond t j (refuse (actionPlace p i) 7) ≡ fine v → t ≡ true
+              tested : (t : Bool) (j : Judged) {v : Worth} → cond t j (refuse (actionPlace p i) BadLength) ≡ fine v → t ≡ true
               tested true j e = refl
               tested false j e = faulty-fine e
 
@@ -236,7 +237,7 @@ module _ {X : Type 0} (S : Stores X) (d : Description) (p : Places) (Inv : X →
       arm-held x {w} e = go (both (leb 1 x) (leb x m)) refl e
         where
           go : (b : Bool) → both (leb 1 x) (leb x m) ≡ b
-              → cond b (givenBoth (ev x (i + 1) actions) (ev (m - x) (i + 1 + x) arms) (λ v w. worth 1 (w .arms + 1) (v .work + w .work))) (refuse D.nowhere 3) ≡ fine w → Arm x w
+              → cond b (givenBoth (ev x (i + 1) actions) (ev (m - x) (i + 1 + x) arms) (λ v w. worth 1 (w .arms + 1) (v .work + w .work))) (refuse D.nowhere NoContinuation) ≡ fine w → Arm x w
           go false q k = faulty-fine k
           go true q k =
               let t = both-true (leb 1 x) (leb x m) q in

@@ -15,6 +15,8 @@ use Rattle.language.specs.Encode.{encode, headerSize}
 use Rattle.language.specs.Image.{legalForm, passes, totalLength}
 use Rattle.language.specs.Judging.{both}
 use Rattle.language.specs.RecordBytes.{marked, recordFrom, sound}
+use Rattle.language.specs.declared.refusals.Refusal.{Refusal}
+use Rattle.language.specs.declared.refusals.Refusal.the-variants.{BadStimulus, BufferTooShort, ImageFails, Unsound}
 use Rattle.language.specs.Scan.{same}
 use Rattle.language.specs.Step.{mostReturns, openRecord, setRegister, stateNumber, step}
 use Rattle.language.specs.Store.{Words, fromBytes, inputsOf, narrow, zeroWords}
@@ -37,9 +39,9 @@ legal-image image e =
     whole false x q = absurd (let z : _≡_ {A = ℕ} 0 1 = cc in omega arith)
 
 -- A refusal that does not come: its test was passed.
-pub not-first : (b : Bool) (n : ℕ) (later : Option ℕ) → first (not b) n later ≡ none → (b ≡ true) × (later ≡ none)
-not-first true n later e = (refl, e)
-not-first false n later e = absurd (let z : _≡_ {A = ℕ} 0 1 = cc in omega arith)
+pub not-first : (b : Bool) (r : Refusal) (later : Option Refusal) → first (not b) r later ≡ none → (b ≡ true) × (later ≡ none)
+not-first true r later e = (refl, e)
+not-first false r later e = absurd (let z : _≡_ {A = ℕ} 0 1 = cc in omega arith)
 
 -- ---- A cycle.
 
@@ -50,10 +52,10 @@ module _ (image store record′ stimulus : List ℕ) (scratch : ℕ) (none-refus
   pub never-stuck : Well (decode image) (step (decode image) (fromBytes (decode image .facilities) store) (recordFrom record′) (fromBytes (inputsOf (decode image .facilities)) stimulus))
   unfolding cycleRefusal soundBytes wellFormed
   never-stuck =
-      let passed = not-first (passes image) 13 _ none-refused in
-      let room = not-first (roomy d (length store) (length record′) scratch) 12 _ (passed .1) in
-      let sound-there = not-first (both (marked record′) (sound d (fromBytes (d .facilities) store) (recordFrom record′))) 14 _ (room .1) in
-      let form = not-first (both (eqb (length stimulus) (stimulusSize d)) (narrow (inputsOf (d .facilities)) (fromBytes (inputsOf (d .facilities)) stimulus))) 15 none (sound-there .1) in
+      let passed = not-first (passes image) ImageFails _ none-refused in
+      let room = not-first (roomy d (length store) (length record′) scratch) BufferTooShort _ (passed .1) in
+      let sound-there = not-first (both (marked record′) (sound d (fromBytes (d .facilities) store) (recordFrom record′))) Unsound _ (room .1) in
+      let form = not-first (both (eqb (length stimulus) (stimulusSize d)) (narrow (inputsOf (d .facilities)) (fromBytes (inputsOf (d .facilities)) stimulus))) BadStimulus none (sound-there .1) in
       cycle-well d (legal-image image (passed .0)) (fromBytes (d .facilities) store) (recordFrom record′) (fromBytes (inputsOf (d .facilities)) stimulus)
       (sound-so d store record′ (right-of (marked record′) _ (sound-there .0)))
       (bytes-fit (inputsOf (d .facilities)) stimulus (right-of (eqb (length stimulus) (stimulusSize d)) _ (form .0)))

@@ -13,6 +13,7 @@ use Rattle.language.specs.Acting.{Doing}
 use Rattle.language.specs.Description.{Description}
 use Rattle.language.specs.Judging.{both}
 use Rattle.language.specs.Step.{Record, bearer, bears, isNone, landed, mostReturns, nextRecord, orZero, plainCount, plainNext, popped, returnsLeft, sequencedState, stateCount, stateNumber, stopAfter}
+use Rattle.language.specs.declared.stops.Stop.{Stop}
 use Rattle.language.specs.Store.{Held}
 use Rattle.language.specs.Value.{bit}
 use Rattle.about_running.specs.Executes.{AllStates}
@@ -24,13 +25,10 @@ pub record Returns (d : Description) (held : ℕ) (rs : List ℕ) : Type 0 where
   pub states : (i : ℕ) → i < held → getD rs i 0 < length (d .states)
   pub zero-beyond : (i : ℕ) → held ≤ i → getD rs i 0 ≡ 0
 
-none-some : {A : Type 0} {n : ℕ} → some n ≡ none → A
-none-some e = absurd (let z : _≡_ {A = ℕ} 0 1 = cc in omega arith)
-
 -- A stop that does not come: its condition does not hold.
-passed : (b : Bool) (n : ℕ) (x : Option ℕ) → cond b (some n) x ≡ none → (b ≡ false) × (x ≡ none)
-passed true n x e = none-some e
-passed false n x e = (refl, e)
+passed : (b : Bool) (s : Stop) (x : Option Stop) → cond b (some s) x ≡ none → (b ≡ false) × (x ≡ none)
+passed true s x e = absurd (let z : _≡_ {A = ℕ} 0 1 = cc in omega arith)
+passed false s x e = (refl, e)
 
 not-either : (a b : Bool) → (a || b) ≡ false → (a ≡ false) × (b ≡ false)
 not-either true b e = absurd (let z : _≡_ {A = ℕ} 0 1 = cc in omega arith)

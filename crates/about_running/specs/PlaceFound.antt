@@ -16,7 +16,8 @@ use Rattle.about_running.specs.Executes.{There}
 use Rattle.about_running.specs.InBounds.{from-in, part-in}
 use Rattle.about_running.specs.LegalForm.{left-of, right-of}
 use Rattle.about_running.specs.StateValues.{some-word}
-use Rattle.language.specs.Stops.{outsideBounds}
+use Rattle.language.specs.declared.stops.Stop.{Stop}
+use Rattle.language.specs.declared.stops.Stop.the-variants.{OutsideBounds}
 
 -- A part of a facility's word, of up to 256 bits.
 record Within (f : Facility) (n : ℕ) (p : Place) : Type 0 where
@@ -24,7 +25,7 @@ record Within (f : Facility) (n : ℕ) (p : Place) : Type 0 where
   word-in : p .word < wordCount f
   part-within : p .from + p .count ≤ wordLength f
 
-pub not-at : {A : Type 0} {n : ℕ} {p : Place} → Located.stops n ≡ Located.at p → A
+pub not-at : {A : Type 0} {n : Stop} {p : Place} → Located.stops n ≡ Located.at p → A
 not-at e = absurd (let z : _≡_ {A = ℕ} 0 1 = cc in omega arith)
 
 stuck-not-at : {A : Type 0} {s : Rattle.language.specs.Meaning.Stuck} {p : Place} → Located.stuck s ≡ Located.at p → A
@@ -51,7 +52,7 @@ module _ (f : Facility) (n : ℕ) (p : Place) where
   subscripted : (a : Answer) (b : Bounds) (on : ℕ → Located) → ((m : ℕ) → m < spanOf b → on m ≡ Located.at p → Within f n p) → subscript a b on ≡ Located.at p → Within f n p
   subscripted (is v) b on k e = go (inBounds b (v .number)) refl e
     where
-      go : (t : Bool) → inBounds b (v .number) ≡ t → cond t (on (fromFirst b (v .number))) (Located.stops outsideBounds) ≡ Located.at p → Within f n p
+      go : (t : Bool) → inBounds b (v .number) ≡ t → cond t (on (fromFirst b (v .number))) (Located.stops OutsideBounds) ≡ Located.at p → Within f n p
       go true q j = k (fromFirst b (v .number)) (from-in b (v .number) q) j
       go false q j = not-at j
   subscripted (stops m) b on k e = not-at e
@@ -157,7 +158,7 @@ few-narrow p h = go (leb (p .count) 256) refl
     go false e = tt
 
 few-subscript : (a : Answer) (b : Bounds) (on : ℕ → Located) → ((m : ℕ) → Few (on m)) → Few (subscript a b on)
-few-subscript (is v) b on h = few-either (inBounds b (v .number)) (on (fromFirst b (v .number))) (Located.stops outsideBounds) (h (fromFirst b (v .number))) tt
+few-subscript (is v) b on h = few-either (inBounds b (v .number)) (on (fromFirst b (v .number))) (Located.stops OutsideBounds) (h (fromFirst b (v .number))) tt
 few-subscript (stops m) b on h = tt
 few-subscript (stuck s) b on h = tt
 

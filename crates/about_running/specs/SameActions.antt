@@ -13,6 +13,7 @@ use Rattle.language.specs.Description.{Action, Description, facilityAt, isCompu
 use Rattle.language.specs.Kinds.{delayedSign, equalSign}
 use Rattle.language.specs.Meaning.{Answer, Located, Place, Stores, Stuck, Write, evalAt, evalBelow, is, notStorable, sidesDiffer, stops, stuck, noState}
 use Rattle.language.specs.References.{Reference, referenceOf}
+use Rattle.language.specs.declared.stops.Stop.{Stop}
 use Rattle.language.specs.Storing.{isPlain, mayStore}
 use Rattle.language.specs.Tree.{Kind, computed, input, memory, plain, register, sequencing}
 use Rattle.language.specs.Value.{Value}
@@ -62,7 +63,7 @@ module _ {X Y : Type 0} (S : Stores X) (T : Stores Y) (d : Description) (R : X �
 
   pub data Alike : Ran X → Ran Y → Type 0 where
     go-on : {c : Doing X} {e : Doing Y} → Same c e → Alike (went c) (went e)
-    stop : {n : ℕ} → Alike (Ran.stopped n) (Ran.stopped n)
+    stop : {n : Stop} → Alike (Ran.stopped n) (Ran.stopped n)
     stick : {s : Stuck} → Alike (Ran.stuck s) (Ran.stuck s)
 
   pub onward-alike : {a : Ran X} {b : Ran Y} (on : Doing X → Ran X) (on′ : Doing Y → Ran Y) → Alike a b → ((c : Doing X) (e : Doing Y) → Same c e → Alike (on c) (on′ e)) → Alike (onward a on) (onward b on′)

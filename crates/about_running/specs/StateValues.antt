@@ -13,6 +13,7 @@ use Rattle.language.specs.Description as D
 use Rattle.language.specs.Description.{Description, Facility, Node, constantValue, facilityAt, isSequencing, noFacility, noPlaces, nodeAt, sequencingFrom, sequencingOf, spanOf, stateAt, wordCount, wordLength}
 use Rattle.language.specs.Judging.{both}
 use Rattle.language.specs.Order.{startAt, startBelow, startNode}
+use Rattle.language.specs.declared.refusals.Refusal.the-variants.{BadSequencing}
 use Rattle.language.specs.Rules.{missing, repeated, sequencingLength, valueFaults}
 use Rattle.language.specs.Step.{numberAt, stateNumber}
 use Rattle.language.specs.Value.{Value}
@@ -79,7 +80,7 @@ module _ (d : Description) (L : Legal d) (f : ℕ) (is-register : sequencingOf d
   there-so (some n) before at (some l) q m e =
       let v : Value = constantValue (nodeAt d n) in
       let z : l ≡ wordLength (facilityAt d f) = cc in
-      let y = unless-none (both (eqb (v .length) l) (cond (repeated d noPlaces (v .number) before) false true)) at 9 e in
+      let y = unless-none (both (eqb (v .length) l) (cond (repeated d noPlaces (v .number) before) false true)) at BadSequencing e in
       (n, refl, eqb-true (v .length) l (left-of (eqb (v .length) l) _ y) ∙ z)
 
   -- The value that state s bears.

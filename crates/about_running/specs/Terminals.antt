@@ -11,6 +11,7 @@ use Rattle.language.specs.Expressions.{judgeAt, terminalBelow, terminalJudged}
 use Rattle.language.specs.Judging.{Worth, fine}
 use Rattle.language.specs.Meaning.{Place, Stores, evalAt}
 use Rattle.language.specs.Order.{facilityRoots, functionRoot, startAt, treesEnd}
+use Rattle.language.specs.declared.refusals.Refusal.the-variants.{BadName}
 use Rattle.language.specs.Tree as T
 use Rattle.language.specs.Tree.{Kind}
 use Rattle.about_running.specs.Evaluates.{Terminal, evaluates}

@@ -24,6 +24,7 @@ use Rattle.language.specs.Machine.{mostCounted, mostFacilities, mostOperations,
 use Rattle.language.specs.Naming.{Scope}
 use Rattle.language.specs.Notions as N
 use Rattle.language.specs.Order.{ending, endsAt, facilityRoots, operationRoots, operationsEnd, runsRight, stateRoots, statesEnd, treesEnd, treesRight}
+use Rattle.language.specs.declared.refusals.Refusal.the-variants.{BadSequencing, BadSubscript}
 use Rattle.language.specs.Rules as Rules
 use Rattle.language.specs.Rules.{faults, nameFaults, namePlaces, namesOf, sequencingLength}
 use Rattle.language.specs.Tree as T
@@ -107,7 +108,7 @@ module _ (d : Description) where
   clean-one n another before f e =
       let p = D.facilityPlace noPlaces n in
       let y = or-none d (Rules.boundsFaults d noPlaces f p) _ e in
-      let bf : ℕ → Position → List Fault = λ k at. unless (leb k Rules.largestBound) at 6 in
+      let bf : ℕ → Position → List Fault = λ k at. unless (leb k Rules.largestBound) at BadSubscript in
       let b1 = append-none-left (bf (f .words .first) (p .wordsFirst)) _ (y .0) in
       let r1 = append-none-right (bf (f .words .first) (p .wordsFirst)) _ (y .0) in
       let b2 = append-none-left (bf (f .words .last) (p .wordsLast)) _ r1 in
@@ -115,9 +116,9 @@ module _ (d : Description) where
       let b3 = append-none-left (bf (f .bits .first) (p .bitsFirst)) _ r2 in
       let b4 = append-none-right (bf (f .bits .first) (p .bitsFirst)) _ r2 in
       record {
-        words = record { first = leb-true _ _ (unless-none (leb (f .words .first) Rules.largestBound) (p .wordsFirst) 6 b1); last = leb-true _ _ (unless-none (leb (f .words .last) Rules.largestBound) (p .wordsLast) 6 b2) };
-        bits = record { first = leb-true _ _ (unless-none (leb (f .bits .first) Rules.largestBound) (p .bitsFirst) 6 b3); last = leb-true _ _ (unless-none (leb (f .bits .last) Rules.largestBound) (p .bitsLast) 6 b4) };
-        register = λ q. sequenced q (unless-none (cond (isSequencing (f .kind)) (Rules.sequencingRight d noPlaces another f) true) (p .name) 9 (append-none-left _ _ (y .1)));
+        words = record { first = leb-true _ _ (unless-none (leb (f .words .first) Rules.largestBound) (p .wordsFirst) BadSubscript b1); last = leb-true _ _ (unless-none (leb (f .words .last) Rules.largestBound) (p .wordsLast) BadSubscript b2) };
+        bits = record { first = leb-true _ _ (unless-none (leb (f .bits .first) Rules.largestBound) (p .bitsFirst) BadSubscript b3); last = leb-true _ _ (unless-none (leb (f .bits .last) Rules.largestBound) (p .bitsLast) BadSubscript b4) };
+        register = λ q. sequenced q (unless-none (cond (isSequencing (f .kind)) (Rules.sequencingRight d noPlaces another f) true) (p .name) BadSequencing (append-none-left _ _ (y .1)));
       }
     where
       sequenced : isSequencing (f .kind) ≡ true → cond (isSequencing (f .kind)) (both (cond another false true) (both (leb (f .dimensions) 1) (leb (wordLength f) longest))) true ≡ true → wordLength f ≤ longest

@@ -28,6 +28,7 @@ use Rattle.language.specs.Naming.{Scope, meaning, operation, state}
 use Rattle.language.specs.Notions as N
 use Rattle.language.specs.Notions.{Section, isStore}
 use Rattle.language.specs.Order.{actionRoots, runRoots, startAt, treesEnd}
+use Rattle.language.specs.declared.refusals.Refusal.the-variants.{BadLength, BadName, BadStore}
 use Rattle.language.specs.Storing.{mayStore, takesDelayed, takesImmediate}
 use Rattle.language.specs.Tree as T
 use Rattle.language.specs.Tree.{Actions, Kind}
@@ -219,12 +220,12 @@ module _ (d : Description) (sc : Scope) (knows : Knows d sc (length (d .faciliti
   store-listed n i s m k l r ih q y g =
       let at = actionPlace noPlaces i in
       let v = both-fine (J.side d noPlaces inState works l) (J.right d noPlaces inState works r) _ (only-fine d noPlaces sc inState works (J.notInState d noPlaces inState works) at _ (y .own-fine)) in
-      let own = clean-fine (unless (eqb (v .u .length) (v .v .length)) at 7 ++ unless (mayStore k (kindAt d l)) at 8) (worth 1 0 (ownWork + v .u .work + v .v .work)) (v .own) in
+      let own = clean-fine (unless (eqb (v .u .length) (v .v .length)) at BadLength ++ unless (mayStore k (kindAt d l)) at BadStore) (worth 1 0 (ownWork + v .u .work + v .v .work)) (v .own) in
       let t1 = tree-first d s l (r ∷ runRoots d n (suc i)) m g in
       let t2 = tree-first d (l + 1) r (runRoots d n (suc i)) m (t1 .rest) in
       store-made n i s m k l r (side-built l s (v .left) (t1 .start)) (right-built r (l + 1) (v .right) (t2 .start)) (after-one n i (r + 1) m ih (y .rest-fine) (t2 .rest)) q
       (in-operation (only-there (J.notInState d noPlaces inState works) at _ (y .own-fine)))
-      (allowed-store k (kindAt d l) (unless-none (mayStore k (kindAt d l)) at 8 (append-none-right (unless (eqb (v .u .length) (v .v .length)) at 7) _ (own .none))))
+      (allowed-store k (kindAt d l) (unless-none (mayStore k (kindAt d l)) at BadStore (append-none-right (unless (eqb (v .u .length) (v .v .length)) at BadLength) _ (own .none))))
 
   pair-made : (n i s m k l p r : ℕ) (L : Side l s) (P : Side p (l + 1)) (X : Term r (p + 1)) (A : Listed actions n (suc i) (r + 1) m) → actionAt d i ≡ D.storePair k l p r → N.inOperation ≡ section → isStore k ≡ true → Listed actions (suc n) i s m
   unfolding nodesIn actionsOf actionsIn expressionsIn countedActions
@@ -256,13 +257,13 @@ module _ (d : Description) (sc : Scope) (knows : Knows d sc (length (d .faciliti
       let may = both (mayStore k (kindAt d l)) (mayStore k (kindAt d p)) in
       let v = both-fine (J.sides d noPlaces inState works l p) (J.right d noPlaces inState works r) _ (only-fine d noPlaces sc inState works (J.notInState d noPlaces inState works) at _ (y .own-fine)) in
       let u = both-fine (J.side d noPlaces inState works l) (J.side d noPlaces inState works p) _ (v .left) in
-      let own = clean-fine (unless (eqb (v .u .length) (v .v .length)) at 7 ++ unless may at 8) (worth 1 0 (ownWork + v .u .work + v .v .work)) (v .own) in
+      let own = clean-fine (unless (eqb (v .u .length) (v .v .length)) at BadLength ++ unless may at BadStore) (worth 1 0 (ownWork + v .u .work + v .v .work)) (v .own) in
       let t1 = tree-first d s l (p ∷ r ∷ runRoots d n (suc i)) m g in
       let t2 = tree-first d (l + 1) p (r ∷ runRoots d n (suc i)) m (t1 .rest) in
       let t3 = tree-first d (p + 1) r (runRoots d n (suc i)) m (t2 .rest) in
       pair-made n i s m k l p r (side-built l s (u .left) (t1 .start)) (side-built p (l + 1) (u .right) (t2 .start)) (right-built r (p + 1) (v .right) (t3 .start)) (after-one n i (r + 1) m ih (y .rest-fine) (t3 .rest)) q
       (in-operation (only-there (J.notInState d noPlaces inState works) at _ (y .own-fine)))
-      (allowed-store k (kindAt d l) (left-of _ _ (unless-none may at 8 (append-none-right (unless (eqb (v .u .length) (v .v .length)) at 7) _ (own .none)))))
+      (allowed-store k (kindAt d l) (left-of _ _ (unless-none may at BadStore (append-none-right (unless (eqb (v .u .length) (v .v .length)) at BadLength) _ (own .none)))))
 
   set-made : (n i s m l : ℕ) (L : Side l s) (A : Listed actions n (suc i) (l + 1) m) → actionAt d i ≡ D.set l → Listed actions (suc n) i s m
   unfolding nodesIn actionsOf actionsIn expressionsIn countedActions
@@ -300,7 +301,7 @@ module _ (d : Description) (sc : Scope) (knows : Knows d sc (length (d .faciliti
       named-made n i s m 0 (T.perform (operationAt d o .name) here (A .tree)) (D.perform o) A q refl (rw (name .0) refl) refl refl refl refl (W.name (operationAt d o .name) here ∷ []) (name .1, tt)
       (λ h j. G.act-perform (rest-of n (A .depth) (A .words) (A .tree) (A .derived) h j))
 
-  to-named : (b : Bool) (at : Position) {w : Worth} → cond b (worth 1 0 ownWork) (refuse at 4) ≡ fine w → b ≡ true
+  to-named : (b : Bool) (at : Position) {w : Worth} → cond b (worth 1 0 ownWork) (refuse at BadName) ≡ fine w → b ≡ true
   to-named true at e = refl
   to-named false at e = faulty-fine e
 

@@ -10,6 +10,7 @@ use lib.ListN.{getD, length, length-append, take}
 use Rattle.language.specs.Description.{nowhere}
 use Rattle.language.specs.Judging.{unless}
 use Rattle.language.specs.Naming.{Scope, facility, meaning, numberOf, operation, state}
+use Rattle.language.specs.declared.refusals.Refusal.the-variants.{BadName}
 use Rattle.language.specs.Rules.{declared, nameFaults, twice}
 use Rattle.language.specs.Scan.{same}
 use Rattle.language.specs.Tree.{Name}
@@ -53,13 +54,13 @@ named-once (c ∷ n) before l e = not-declared (c ∷ n) before (go (declared (c
 apart-at : (before ns : List Name) (ps : List Position) → nameFaults before ns ps ≡ [] → (j : ℕ) → j < length ns → 0 < length (getD ns j []) → Apart (getD ns j []) before × Apart (getD ns j []) (take j ns)
 unfolding nameFaults
 apart-at before [] ps e j l h = absurd (omega arith)
-apart-at before (n ∷ ns) [] e zero l h = (named-once n before h (unless-none (cond (twice n before) false true) _ 4 (append-none-left _ _ e)), tt)
-apart-at before (n ∷ ns) (p ∷ ps) e zero l h = (named-once n before h (unless-none (cond (twice n before) false true) _ 4 (append-none-left _ _ e)), tt)
+apart-at before (n ∷ ns) [] e zero l h = (named-once n before h (unless-none (cond (twice n before) false true) _ BadName (append-none-left _ _ e)), tt)
+apart-at before (n ∷ ns) (p ∷ ps) e zero l h = (named-once n before h (unless-none (cond (twice n before) false true) _ BadName (append-none-left _ _ e)), tt)
 apart-at before (n ∷ ns) [] e (suc j) l h =
-    let y = apart-at (n ∷ before) ns [] (append-none-right (unless (cond (twice n before) false true) nowhere 4) _ e) j (omega arith) h in
+    let y = apart-at (n ∷ before) ns [] (append-none-right (unless (cond (twice n before) false true) nowhere BadName) _ e) j (omega arith) h in
     (y .0 .1, (y .0 .0, y .1))
 apart-at before (n ∷ ns) (p ∷ ps) e (suc j) l h =
-    let y = apart-at (n ∷ before) ns ps (append-none-right (unless (cond (twice n before) false true) p 4) _ e) j (omega arith) h in
+    let y = apart-at (n ∷ before) ns ps (append-none-right (unless (cond (twice n before) false true) p BadName) _ e) j (omega arith) h in
     (y .0 .1, (y .0 .0, y .1))
 
 pub once : (ns : List Name) (ps : List Position) → nameFaults [] ns ps ≡ [] → Once ns

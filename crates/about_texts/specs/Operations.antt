@@ -27,6 +27,7 @@ use Rattle.language.specs.Notions as N
 use Rattle.language.specs.Notions.{operations}
 use Rattle.language.specs.Order.{operationRoots, operationsEnd, runRoots, treesEnd}
 use Rattle.language.specs.Recursion.{below-ge}
+use Rattle.language.specs.declared.refusals.Refusal.the-variants.{NoContinuation}
 use Rattle.language.specs.Rules.{faults}
 use Rattle.language.specs.Tree as T
 use Rattle.language.specs.Tree.{Name}
@@ -200,7 +201,7 @@ module _ (d : Description) (none-there : faults d noPlaces ≡ [])
     unfolding operationJudged runJudged
     whole n o {w} q e = go (o .body .count) refl (rw q at e)
       where
-        go : (k : ℕ) → o .body .count ≡ k → cond (eqb k 0) (refuse D.nowhere 3) (J.runStep d noPlaces false (operationBelow d noPlaces n) (J.runBelow d noPlaces false (operationBelow d noPlaces n) (o .body .count)) (o .body .count) (o .body .first) J.actions) ≡ fine w → Whole n o
+        go : (k : ℕ) → o .body .count ≡ k → cond (eqb k 0) (refuse D.nowhere NoContinuation) (J.runStep d noPlaces false (operationBelow d noPlaces n) (J.runBelow d noPlaces false (operationBelow d noPlaces n) (o .body .count)) (o .body .count) (o .body .first) J.actions) ≡ fine w → Whole n o
         go zero c k = faulty-fine k
         go (suc j) c k = record { fewer = j; count = c; worth′ = w; body-fine = rw (eqb·suc-zero j) at k }
 

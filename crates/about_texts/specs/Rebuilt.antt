@@ -30,6 +30,7 @@ use Rattle.language.specs.Recursion.{below-lt}
 use Rattle.language.specs.ReferenceRules.{boundFaults, referenceJudged, subscriptFaults, subscriptsJudged}
 use Rattle.language.specs.References as R
 use Rattle.language.specs.References.{part, referTo, two, whole, wordPart}
+use Rattle.language.specs.declared.refusals.Refusal.the-variants.{BadLength, BadSubscript}
 use Rattle.language.specs.Tree as T
 use Rattle.language.specs.Tree.{Ends, Expression, Name}
 use Rattle.language.specs.Words as W
@@ -210,11 +211,11 @@ module _ (d : Description) (sc : Scope) (known : ℕ) (knows : Knows d sc known)
     pub last : ConstantRight (small (b .last))
     pub same : boundsOf (endsOf b) ≡ b
 
-  ends-right : (f : ℕ) (b : Bounds) → f < known → unless (inBounds (facilityAt d f .bits) (b .first)) (nodePlace noPlaces 0 .first) 6 ++ unless (inBounds (facilityAt d f .bits) (b .last)) (nodePlace noPlaces 0 .last) 6 ≡ [] → EndsRight b
+  ends-right : (f : ℕ) (b : Bounds) → f < known → unless (inBounds (facilityAt d f .bits) (b .first)) (nodePlace noPlaces 0 .first) BadSubscript ++ unless (inBounds (facilityAt d f .bits) (b .last)) (nodePlace noPlaces 0 .last) BadSubscript ≡ [] → EndsRight b
   ends-right f b l e =
       let B = facilityAt d f .bits in
-      let i = in-small B (b .first) (knows .bits f l) (unless-none (inBounds B (b .first)) _ 6 (append-none-left _ _ e)) in
-      let j = in-small B (b .last) (knows .bits f l) (unless-none (inBounds B (b .last)) _ 6 (append-none-right (unless (inBounds B (b .first)) _ 6) _ e)) in
+      let i = in-small B (b .first) (knows .bits f l) (unless-none (inBounds B (b .first)) _ BadSubscript (append-none-left _ _ e)) in
+      let j = in-small B (b .last) (knows .bits f l) (unless-none (inBounds B (b .last)) _ BadSubscript (append-none-right (unless (inBounds B (b .first)) _ BadSubscript) _ e)) in
       record { first = small-right (b .first) i; last = small-right (b .last) j; same = rw (bound-same (b .first) i, bound-same (b .last) j) refl }
 
   part-built : (n s f own : ℕ) (b : Bounds) {w : Worth} → nodeAt d n ≡ D.part f b → Refer n own f (part b) w → Begins n s (D.part f b) → Referred n s
@@ -289,7 +290,7 @@ module _ (d : Description) (sc : Scope) (known : ℕ) (knows : Knows d sc known)
   reference-bit : (ev : ℕ → Judged) (at : D.NodePlaces) (f : ℕ) (s : R.Subscripts) {w : Worth} → E.operandAt d noPlaces terms known ev at (referTo f s) ≡ fine w → 1 ≤ w .length
   reference-bit ev at f s e = refers d noPlaces terms ev E.ownWork known (record { facility = f; subscripts = s }) at e .some-bits
 
-  chosen-bit : {w : Worth} (b : Bool) (p : W.Position) (l k : ℕ) → cond b (sized p l k) (refuse p 7) ≡ fine w → 1 ≤ w .length
+  chosen-bit : {w : Worth} (b : Bool) (p : W.Position) (l k : ℕ) → cond b (sized p l k) (refuse p BadLength) ≡ fine w → 1 ≤ w .length
   chosen-bit true p l k e = one-bit p l k e
   chosen-bit false p l k e = faulty-fine e
 
@@ -461,7 +462,7 @@ module _ (d : Description) (sc : Scope) (known : ℕ) (knows : Knows d sc known)
           (λ h i. shallower h i (λ g p. G.term-case here (of-term (X .derived g (deeper-left (X .depth) (Y .depth) g p))) (many-arms (v .v .arms) (Y .depth) (Y .words) (Y .tree) enough (Y .derived) g (deeper-right (X .depth) (Y .depth) g p)))) refl)
 
       go : (c : Bool) → selects (v .u .length) k ≡ c → (r : Bool) → eqb (v .v .arms) k ≡ r
-          → cond (both c r) (sized (nodePlace noPlaces n .at) (v .v .length) (E.ownWork + v .u .work + v .v .work)) (refuse (nodePlace noPlaces n .at) 7) ≡ fine w → Rebuilt n s (w .arms)
+          → cond (both c r) (sized (nodePlace noPlaces n .at) (v .v .length) (E.ownWork + v .u .work + v .v .work)) (refuse (nodePlace noPlaces n .at) BadLength) ≡ fine w → Rebuilt n s (w .arms)
       go true c true r f = made c (eqb-true _ _ r) (ap (λ (x : Worth). x .arms) (sized-fine (nodePlace noPlaces n .at) (v .v .length) _ f .same))
       go true c false r f = faulty-fine f
       go false c r′ r f = faulty-fine f

@@ -16,6 +16,7 @@ use Rattle.language.specs.Operators.{cutLengthOf}
 use Rattle.language.specs.ReferenceRules as RR
 use Rattle.language.specs.ReferenceRules.{boundFaults, directionFaults, referenceJudged, subscriptsJudged}
 use Rattle.language.specs.References.{Reference, rightCount, takenLength}
+use Rattle.language.specs.declared.refusals.Refusal.the-variants.{BadName, BadSubscript}
 use Rattle.language.specs.Value.{cutLength, longest, repeatLength, value}
 use Rattle.language.specs.Words.{Constant}
 use Rattle.about_running.specs.Judged.{append-none-right, both-fine, clean-fine, faulty-fine, sized-fine}
@@ -89,9 +90,9 @@ module _ (d : Description) (p : Places) (terms ev : ℕ → Judged) (own known :
       f = facilityAt d (r .facility)
 
       go : (a : Bool) → ltb (r .facility) known ≡ a → (b : Bool)
-          → cond a (cond b (RR.countedRight d p terms ev own (r .facility) f (r .subscripts) at) (RR.countedWrong d p terms ev (r .subscripts) at)) (refuse (at .at) 4) ≡ fine w → Refers w
+          → cond a (cond b (RR.countedRight d p terms ev own (r .facility) f (r .subscripts) at) (RR.countedWrong d p terms ev (r .subscripts) at)) (refuse (at .at) BadName) ≡ fine w → Refers w
       go false q b k = faulty-fine k
-      go true q false k = faulty-fine (clean-fine (faultsOf (subscriptsJudged d p terms ev (r .subscripts))) (refuse (at .at) 6) k .same)
+      go true q false k = faulty-fine (clean-fine (faultsOf (subscriptsJudged d p terms ev (r .subscripts))) (refuse (at .at) BadSubscript) k .same)
       go true q true k =
           let c1 = clean-fine (faultsOf (subscriptsJudged d p terms ev (r .subscripts)) ++ boundFaults d p terms f (r .subscripts) at) _ k in
           let c2 = clean-fine (directionFaults d p terms f (r .subscripts) at) _ (c1 .same) in

@@ -27,6 +27,7 @@ use Rattle.language.specs.Notions as N
 use Rattle.language.specs.Notions.{firstPlace, states}
 use Rattle.language.specs.Order.{runRoots, startAt, startNode, stateRoots, statesEnd, treesEnd, valueRoot}
 use Rattle.language.specs.Recursion.{below-ge}
+use Rattle.language.specs.declared.refusals.Refusal.the-variants.{BadSequencing}
 use Rattle.language.specs.Rules as Rules
 use Rattle.language.specs.Rules.{faults, sequencingLength, valueFaults}
 use Rattle.language.specs.Tree as T
@@ -186,7 +187,7 @@ module _ (d : Description) (none-there : faults d noPlaces ≡ [])
         go (some l) q k =
             let v = constantValue (nodeAt d n) in
             let t = tree-first d s n rs m g in
-            let y = unless-none (both (eqb (v .length) l) (cond (Rules.repeated d noPlaces (v .number) before) false true)) at 9 k in
+            let y = unless-none (both (eqb (v .length) l) (cond (Rules.repeated d noPlaces (v .number) before) false true)) at BadSequencing k in
             (n + 1, (constant-valued n l s q (eqb-true _ _ (left-of (eqb (v .length) l) _ y)) (t .start), t .rest))
 
     -- ---- A label, with or without a value.

@@ -11,28 +11,35 @@ use Rattle.call_answers.specs.declared.exported.FacilityAnswer.{Facility
 use Rattle.call_answers.specs.declared.exported.NameAnswer.{NameAnswer}
 use Rattle.call_answers.specs.declared.exported.ReadAnswer.{ReadAnswer}
 use Rattle.call_answers.specs.declared.exported.RunAnswer.{RunAnswer}
+use Rattle.language.specs.Refusals.{refusalNumber}
+use Rattle.language.specs.Stops.{stopNumber}
+use Rattle.language.specs.declared.stops.Stop.{Stop}
 
 abbrev pub readNumbers : R.ReadAnswer → ReadAnswer
 readNumbers (R.accepted n) = record { refusal = 0; place = 0; length = n }
-readNumbers (R.refusedFor n p) = record { refusal = n; place = p; length = 0 }
+readNumbers (R.refusedFor n p) = record { refusal = refusalNumber n; place = p; length = 0 }
 
 abbrev pub openNumber : C.OpenAnswer → ℕ
 openNumber C.opened = 0
-openNumber (C.refused n) = n
+openNumber (C.refused n) = refusalNumber n
 
 abbrev pub cycleNumbers : C.CycleAnswer → CycleAnswer
 cycleNumbers (C.cycled n) = record { refusal = 0; stop = 0; conflicts = n }
-cycleNumbers (C.stoppedFor n) = record { refusal = 0; stop = n; conflicts = 0 }
-cycleNumbers (C.refusedFor n) = record { refusal = n; stop = 0; conflicts = 0 }
+cycleNumbers (C.stoppedFor n) = record { refusal = 0; stop = stopNumber n; conflicts = 0 }
+cycleNumbers (C.refusedFor n) = record { refusal = refusalNumber n; stop = 0; conflicts = 0 }
+
+abbrev pub haltNumber : Option Stop → ℕ
+haltNumber none = 0
+haltNumber (some s) = stopNumber s
 
 abbrev pub runNumbers : C.RunAnswer → RunAnswer
-runNumbers (C.ran cycles conflicts stop) = record { refusal = 0; stop = stop; cycles = cycles; conflicts = conflicts }
-runNumbers (C.runRefused n) = record { refusal = n; stop = 0; cycles = 0; conflicts = 0 }
+runNumbers (C.ran cycles conflicts stop) = record { refusal = 0; stop = haltNumber stop; cycles = cycles; conflicts = conflicts }
+runNumbers (C.runRefused n) = record { refusal = refusalNumber n; stop = 0; cycles = 0; conflicts = 0 }
 
 -- Where a name stands in the image.
 abbrev pub nameNumbers : L.NameAnswer → NameAnswer
 nameNumbers (L.named p) = record { refusal = 0; offset = p .offset; length = p .length }
-nameNumbers (L.refused n) = record { refusal = n; offset = 0; length = 0 }
+nameNumbers (L.refused n) = record { refusal = refusalNumber n; offset = 0; length = 0 }
 
 -- The place fits the numbers that C gets.
 abbrev pub Short : L.NameAnswer → Type 0
@@ -65,7 +72,7 @@ shown f stored place = record {
 abbrev pub facilityNumbers : L.FacilityAnswer → FacilityAnswer
 facilityNumbers (L.declared f p) = shown f (storedNumber p) (placeNumber p)
 facilityNumbers (L.unknown n) = record {
-  refusal = n;
+  refusal = refusalNumber n;
   kind = 0;
   dimensions = 0;
   «words_first» = 0;

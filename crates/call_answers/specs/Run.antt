@@ -2,12 +2,13 @@
 use mathlib.Core.List.{List}
 use Prim.Native.Nat.{ℕ}
 use Rattle.language.specs.Calls as L
+use Rattle.language.specs.Stops.{halted}
 use Rattle.call_answers.specs.declared.ran.Answer.{Answer}
 use Rattle.call_answers.specs.declared.ran.Answer.the-variants as A
 use Rattle.call_answers.specs.declared.ran.Tally.{Tally}
 
 abbrev pub answered : Answer → L.RunAnswer
-answered (A.Ran t) = L.ran (t .completed) (t .conflicts) (t .stop)
+answered (A.Ran t) = L.ran (t .completed) (t .conflicts) (halted (t .stop))
 answered (A.Refused n) = L.runRefused n
 
 abbrev pub call : Answer → List ℕ → List ℕ → List ℕ → List ℕ → L.RunCall

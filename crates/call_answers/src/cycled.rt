@@ -1,7 +1,10 @@
 // What a cycle answers.
+use language::refusals::Refusal;
+use language::stops::Stop;
+
 pub enum Answer {
     // the conflict count
     Cycled(u32),
-    Stopped(u8),
-    Refused(u8),
+    Stopped(Stop),
+    Refused(Refusal),
 }

@@ -1,7 +1,8 @@
 // Where a name stands, in bytes of the image, or why there is none.
 use image_sections::names::Part;
+use language::refusals::Refusal;
 
 pub enum Answer {
     Named(Part),
-    Refused(u8),
+    Refused(Refusal),
 }

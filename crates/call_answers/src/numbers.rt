@@ -9,20 +9,27 @@ use crate::looked::Looked;
 use crate::named;
 use crate::opened;
 use crate::ran;
+use crate::ran::Tally;
 use crate::read;
 use image_sections::facilities;
 use image_sections::facilities::Facility;
 use image_sections::kinds;
+use language::refusals::Refusal;
+use language::refusals::refusal_number;
+use language::stops::Halt;
+use language::stops::stop_number;
 ghost use mathlib.Core.Path.{_≡_};
 ghost use Rattle.language.specs.Tree.{Name};
 ghost use Rattle.image_sections.specs.Declarations.{facilityMeant};
 ghost use Rattle.call_answers.specs.Cycle as Cycled;
 ghost use Rattle.call_answers.specs.Lookups.{answered, nameMeant};
-ghost use Rattle.call_answers.specs.Numbers.{Short, cycleNumbers, facilityNumbers, nameNumbers, openNumber, readNumbers, runNumbers, shown};
+ghost use Rattle.language.specs.Stops.{halted};
+ghost use Rattle.call_answers.specs.Numbers.{Short, cycleNumbers, facilityNumbers, haltNumber, nameNumbers, openNumber, readNumbers, runNumbers, shown};
 ghost use Rattle.call_answers.specs.Opening as Opened;
 ghost use Rattle.call_answers.specs.Reading as Reads;
 ghost use Rattle.call_answers.specs.Run as Ran;
 ghost use Rattle.call_answers.specs.declared.looked.Looked.the-variants as Looked;
+ghost use Rattle.call_answers.specs.declared.ran.Answer.the-variants as Answers;
 
 // The length of an image, or a refusal and its place; both have 32 bits.
 pub fn read_numbers(a: read::Answer) -> ReadAnswer
@@ -36,7 +43,7 @@ pub fn read_numbers(a: read::Answer) -> ReadAnswer
             length: n as u32,
         },
         read::Answer::Refused(n, p) => ReadAnswer {
-            refusal: n as u32,
+            refusal: refusal_number(n) as u32,
             place: p as u32,
             length: 0,
         },
@@ -49,7 +56,7 @@ pub fn open_number(a: opened::Answer) -> u32
 {
     match a {
         opened::Answer::Opened => 0,
-        opened::Answer::Refused(n) => n as u32,
+        opened::Answer::Refused(n) => refusal_number(n) as u32,
     }
 }
 
@@ -65,14 +72,37 @@ pub fn cycle_numbers(a: cycled::Answer) -> CycleAnswer
         },
         cycled::Answer::Stopped(n) => CycleAnswer {
             refusal: 0,
-            stop: n as u32,
+            stop: stop_number(n) as u32,
             conflicts: 0,
         },
         cycled::Answer::Refused(n) => CycleAnswer {
-            refusal: n as u32,
+            refusal: refusal_number(n) as u32,
             stop: 0,
             conflicts: 0,
         },
+    }
+}
+
+// The number of a stop, or 0.
+fn halt_number(halt: Halt) -> u32
+    ensures { λ r. ⌜ r ≡ haltNumber (halted halt) ⌝ }
+{
+    match halt {
+        Halt::None => 0,
+        Halt::At(s) => stop_number(s) as u32,
+    }
+}
+
+// What a run that was not refused came to.
+fn tally_numbers(t: Tally) -> RunAnswer
+    ensures { λ r. ⌜ r ≡ runNumbers (Ran.answered (Answers.Ran t)) ⌝ }
+{
+    let stop = t.stop;
+    RunAnswer {
+        refusal: 0,
+        stop: halt_number(stop),
+        cycles: t.completed as u64,
+        conflicts: t.conflicts,
     }
 }
 
@@ -81,14 +111,9 @@ pub fn run_numbers(a: ran::Answer) -> RunAnswer
     ensures { λ r. ⌜ r ≡ runNumbers (Ran.answered a) ⌝ }
 {
     match a {
-        ran::Answer::Ran(t) => RunAnswer {
-            refusal: 0,
-            stop: t.stop as u32,
-            cycles: t.completed as u64,
-            conflicts: t.conflicts,
-        },
+        ran::Answer::Ran(t) => tally_numbers(t),
         ran::Answer::Refused(n) => RunAnswer {
-            refusal: n as u32,
+            refusal: refusal_number(n) as u32,
             stop: 0,
             cycles: 0,
             conflicts: 0,
@@ -108,7 +133,7 @@ pub fn name_numbers(a: named::Answer) -> NameAnswer
             length: p.length as u32,
         },
         named::Answer::Refused(n) => NameAnswer {
-            refusal: n as u32,
+            refusal: refusal_number(n) as u32,
             offset: 0,
             length: 0,
         },
@@ -148,11 +173,11 @@ fn declared(f: Facility) -> FacilityAnswer
 }
 
 // No facility.
-fn unknown(n: u8) -> FacilityAnswer
+fn unknown(n: Refusal) -> FacilityAnswer
     ensures { λ r. ⌜ ((name : Name) → r ≡ facilityNumbers (answered name (Looked.Refused n))) ⌝ }
 {
     FacilityAnswer {
-        refusal: n as u32,
+        refusal: refusal_number(n) as u32,
         kind: 0,
         dimensions: 0,
         words_first: 0,

@@ -1,5 +1,7 @@
 // What opening answers.
+use language::refusals::Refusal;
+
 pub enum Answer {
     Opened,
-    Refused(u8),
+    Refused(Refusal),
 }

@@ -1,14 +1,17 @@
 // What a run answers.
+use language::refusals::Refusal;
+use language::stops::Halt;
+
 pub struct Tally {
     // cycles
     pub completed: u32,
     // the sum of conflicts
     pub conflicts: u64,
-    // that ended the run, or 0
-    pub stop: u8,
+    // that ended the run
+    pub stop: Halt,
 }
 
 pub enum Answer {
     Ran(Tally),
-    Refused(u8),
+    Refused(Refusal),
 }

@@ -1,7 +1,9 @@
 // What reading answers.
+use language::refusals::Refusal;
+
 pub enum Answer {
     // The image's length.
     Accepted(usize),
-    // The refusal's number and place.
-    Refused(u8, usize),
+    // With its place.
+    Refused(Refusal, usize),
 }

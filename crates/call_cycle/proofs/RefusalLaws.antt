@@ -14,6 +14,8 @@ use Rattle.language.specs.Description.{Description}
 use Rattle.language.specs.Image.{passes}
 use Rattle.language.specs.Layout.{storeSize}
 use Rattle.about_running.specs.LegalForm.{left-of}
+use Rattle.language.specs.declared.refusals.Refusal.{Refusal}
+use Rattle.language.specs.declared.refusals.Refusal.the-variants.{BadStimulus, BufferTooShort, ImageFails, Unsound}
 
 -- ---- Room.
 
@@ -43,22 +45,22 @@ module _ (d : Description) (store kept scratch : ℕ) where
 -- ---- The tests in their order.
 
 module _ (image store kept stimulus : List ℕ) (scratch : ℕ) where
-  pub no-image : passes image ≡ false → some 13 ≡ cycleRefusal image store kept stimulus scratch
+  pub no-image : passes image ≡ false → some ImageFails ≡ cycleRefusal image store kept stimulus scratch
   unfolding cycleRefusal
   no-image e = rw e
 
   module _ (p : passes image ≡ true) where
-    pub no-room : roomy (decode image) (length store) (length kept) scratch ≡ false → some 12 ≡ cycleRefusal image store kept stimulus scratch
+    pub no-room : roomy (decode image) (length store) (length kept) scratch ≡ false → some BufferTooShort ≡ cycleRefusal image store kept stimulus scratch
     unfolding cycleRefusal
     no-room e = rw (p, e)
 
     module _ (r : roomy (decode image) (length store) (length kept) scratch ≡ true) where
-      pub not-sound : soundBytes (decode image) store kept ≡ false → some 14 ≡ cycleRefusal image store kept stimulus scratch
+      pub not-sound : soundBytes (decode image) store kept ≡ false → some Unsound ≡ cycleRefusal image store kept stimulus scratch
       unfolding cycleRefusal
       not-sound e = rw (p, r, e)
 
       module _ (s : soundBytes (decode image) store kept ≡ true) where
-        pub ill-formed : wellFormed (decode image) stimulus ≡ false → some 15 ≡ cycleRefusal image store kept stimulus scratch
+        pub ill-formed : wellFormed (decode image) stimulus ≡ false → some BadStimulus ≡ cycleRefusal image store kept stimulus scratch
         unfolding cycleRefusal
         ill-formed e = rw (p, r, s, e)
 
@@ -67,6 +69,6 @@ module _ (image store kept stimulus : List ℕ) (scratch : ℕ) where
         no-refusal e = rw (p, r, s, e)
 
   -- What a refusal leaves.
-  pub refused-so : (n : ℕ) → some n ≡ cycleRefusal image store kept stimulus scratch → unchanged (decode image) store kept scratch (refusedFor n) ≡ cycle image store kept stimulus scratch
+  pub refused-so : (n : Refusal) → some n ≡ cycleRefusal image store kept stimulus scratch → unchanged (decode image) store kept scratch (refusedFor n) ≡ cycle image store kept stimulus scratch
   unfolding cycle
   refused-so n e = rw (← e)

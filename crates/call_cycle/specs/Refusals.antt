@@ -1,9 +1,9 @@
--- The number of a refusal, if there is one.
+-- The refusal that tests found, if there is one.
 use mathlib.Core.Option.{Option, none, some}
-use Prim.Native.Nat.{ℕ}
-use Rattle.call_cycle.specs.declared.refusal.Refusal.{Refusal}
-use Rattle.call_cycle.specs.declared.refusal.Refusal.the-variants as R
+use Rattle.language.specs.declared.refusals.Refusal.{Refusal}
+use Rattle.call_cycle.specs.declared.refusal.Tested.{Tested}
+use Rattle.call_cycle.specs.declared.refusal.Tested.the-variants as R
 
-abbrev pub refusalMeant : Refusal → Option ℕ
-refusalMeant (R.At n) = some n
-refusalMeant R.None = none
+abbrev pub refusalSeen : Tested → Option Refusal
+refusalSeen (R.Refused r) = some r
+refusalSeen R.Passed = none

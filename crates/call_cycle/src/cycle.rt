@@ -1,7 +1,7 @@
 // One cycle: all that a caller is owed, on every input, where it is known whether the image passes.
 use crate::carry;
 use crate::refusal;
-use crate::refusal::Refusal;
+use crate::refusal::Tested;
 use call_answers::cycled::Answer;
 use store_words::slices;
 ghost use mathlib.Core.Path.{_≡_};
@@ -23,10 +23,10 @@ pub fn cycle(
     ensures { λ r. ⌜ call r (now (store .exit)) (now («record» .exit)) (now (scratch .exit)) ≡ L.cycle (now (image .entry)) (now (store .entry)) (now («record» .entry)) (now (stimulus .entry)) (length (now (scratch .entry))) ⌝ }
 {
     match refusal::first_refusal(image, passed, store, record, stimulus, scratch.len()) {
-        Refusal::At(n) => {
+        Tested::Refused(n) => {
             slices::zero(scratch);
             Answer::Refused(n)
         }
-        Refusal::None => carry::carry_out(image, store, record, stimulus, scratch),
+        Tested::Passed => carry::carry_out(image, store, record, stimulus, scratch),
     }
 }

@@ -1,5 +1,6 @@
 // Why a cycle is refused: an image that does not pass, too little room, store or record not sound, a stimulus of another form.
 use image_sections::sections;
+use language::refusals::Refusal;
 use run_soundness::sizes;
 use run_soundness::soundness;
 ghost use mathlib.Core.Path.{_≡_};
@@ -8,11 +9,11 @@ ghost use Rattle.language.specs.Calls.{cycleRefusal};
 ghost use Rattle.language.specs.Description.{Description};
 ghost use Rattle.language.specs.Image.{passes};
 ghost use Rattle.language.specs.Layout.{storeSize};
-ghost use Rattle.call_cycle.specs.Refusals.{refusalMeant};
+ghost use Rattle.call_cycle.specs.Refusals.{refusalSeen};
 
-pub enum Refusal {
-    At(u8),
-    None,
+pub enum Tested {
+    Refused(Refusal),
+    Passed,
 }
 
 // Whether the buffers lent are long enough for a store of this size.
@@ -36,12 +37,12 @@ pub fn first_refusal(
     record: &[u8],
     stimulus: &[u8],
     scratch: usize,
-) -> Refusal
+) -> Tested
     requires { ⌜ passed ≡ passes (now image) ⌝ }
-    ensures { λ r. ⌜ refusalMeant r ≡ cycleRefusal (now (image .entry)) (now (store .entry)) (now («record» .entry)) (now (stimulus .entry)) scratch ⌝ }
+    ensures { λ r. ⌜ refusalSeen r ≡ cycleRefusal (now (image .entry)) (now (store .entry)) (now («record» .entry)) (now (stimulus .entry)) scratch ⌝ }
 {
     if !passed {
-        return Refusal::At(13);
+        return Tested::Refused(Refusal::ImageFails);
     }
     let facilities = sections::section(image, sections::FACILITIES);
     let expressions = sections::section(image, sections::EXPRESSIONS);
@@ -52,13 +53,13 @@ pub fn first_refusal(
         record.len(),
         scratch,
     ) {
-        return Refusal::At(12);
+        return Tested::Refused(Refusal::BufferTooShort);
     }
     if !soundness::sound(facilities, expressions, states, store, record) {
-        return Refusal::At(14);
+        return Tested::Refused(Refusal::Unsound);
     }
     if !run_begin::stimulus::well_formed(facilities, stimulus) {
-        return Refusal::At(15);
+        return Tested::Refused(Refusal::BadStimulus);
     }
-    Refusal::None
+    Tested::Passed
 }

@@ -4,6 +4,7 @@ use Prim.Native.Nat.{ℕ, zero, suc}
 use Rattle.language.specs.Calls as L
 use Rattle.language.specs.Reading.{zeroes}
 use Rattle.language.specs.RecordBytes.{recordBytes}
+use Rattle.language.specs.declared.refusals.Refusal.the-variants.{ImageFails}
 use Rattle.language.specs.Step as S
 use Rattle.store_layout.specs.Slices.{copied}
 use Rattle.run_next.specs.Seen.{recordMeant}
@@ -27,7 +28,7 @@ keptRecord (suc n) r K = L.over (recordBytes r) K
 abbrev pub calledWith : Verdict → S.Record → ℕ → List ℕ → List ℕ → ℕ → L.CycleCall
 calledWith Ends.Completed r conflicts store K n = record { answer = L.cycled conflicts; store = store; record′ = L.over (recordBytes r) K; scratch = zeroes n }
 calledWith (Ends.Stopped k) r conflicts store K n = record { answer = L.stoppedFor k; store = store; record′ = K; scratch = zeroes n }
-calledWith (Ends.Stuck x) r conflicts store K n = record { answer = L.refusedFor 13; store = store; record′ = K; scratch = zeroes n }
+calledWith (Ends.Stuck x) r conflicts store K n = record { answer = L.refusedFor ImageFails; store = store; record′ = K; scratch = zeroes n }
 
 abbrev pub called : Stepped → List ℕ → List ℕ → ℕ → L.CycleCall
 called a = calledWith (a .verdict) (recordMeant (a .record)) (a .conflicts)

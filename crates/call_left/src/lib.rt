@@ -1,5 +1,6 @@
 // What a cycle leaves of store, record and scratch, by how it ended.
 use call_answers::cycled::Answer;
+use language::refusals::Refusal;
 use run_end::outcome::Stepped;
 use run_end::outcome::Verdict;
 use run_next::record::Record;
@@ -55,7 +56,7 @@ pub fn answered(a: Stepped, record: &mut [u8], scratch: &mut [u8]) -> Answer
             Answer::Cycled(a.conflicts)
         }
         Verdict::Stopped(n) => Answer::Stopped(n),
-        Verdict::Stuck(_) => Answer::Refused(13),
+        Verdict::Stuck(_) => Answer::Refused(Refusal::ImageFails),
     }
 }
 

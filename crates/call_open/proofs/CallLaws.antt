@@ -19,6 +19,7 @@ use Rattle.language.specs.Store.{toBytes}
 use Rattle.about_running.specs.LegalForm.{left-of, right-of}
 use Rattle.call_answers.specs.Opening.{called}
 use Rattle.call_answers.specs.declared.opened.Answer.the-variants as A
+use Rattle.language.specs.declared.refusals.Refusal.the-variants.{BufferTooShort, ImageFails}
 
 -- s and t are the two buffers once they are zero.
 module _ (image s₀ t₀ : List ℕ) {s t : List ℕ} (e : s ≡ zeroes (length s₀)) (f : t ≡ zeroes (length t₀)) where
@@ -31,12 +32,12 @@ module _ (image s₀ t₀ : List ℕ) {s t : List ℕ} (e : s ≡ zeroes (length
   long-record : length t ≡ length t₀
   long-record = ap length f ∙ length-replicate (length t₀) 0
 
-  pub no-image : passes image ≡ false → called (A.Refused 13) s t ≡ open′ image (length s₀) (length t₀)
+  pub no-image : passes image ≡ false → called (A.Refused ImageFails) s t ≡ open′ image (length s₀) (length t₀)
   unfolding open′ openRefusal
   no-image p = rw (p, e, f)
 
   module _ (p : passes image ≡ true) where
-    pub no-room : enough ≡ false → called (A.Refused 12) s t ≡ open′ image (length s₀) (length t₀)
+    pub no-room : enough ≡ false → called (A.Refused BufferTooShort) s t ≡ open′ image (length s₀) (length t₀)
     unfolding open′ openRefusal
     no-room r = rw (p, rw (long-store, long-record) at r, e, f)
 

@@ -2,6 +2,7 @@
 use crate::first;
 use call_answers::opened::Answer;
 use image_sections::sections;
+use language::refusals::Refusal;
 use run_soundness::sizes;
 use store_words::slices;
 ghost use mathlib.Core.Bool.{true};
@@ -16,11 +17,7 @@ ghost use Rattle.language.specs.Layout.{storeSize};
 ghost use Rattle.language.specs.RecordBytes.{recordSize};
 ghost use Rattle.call_answers.specs.Opening.{called};
 
-// The refusals, and the bytes of a record.
-const NO_IMAGE: u8 = 13;
-
-const NO_ROOM: u8 = 12;
-
+// The bytes of a record.
 const RECORD_SIZE: usize = 80;
 
 // Whether so many bytes of store and record are enough for an image that passes.
@@ -44,10 +41,10 @@ pub fn open(image: &[u8], passed: bool, store: &mut [u8], kept: &mut [u8]) -> An
     slices::zero(store);
     slices::zero(kept);
     if !passed {
-        return Answer::Refused(NO_IMAGE);
+        return Answer::Refused(Refusal::ImageFails);
     }
     if !roomy(image, store.len(), kept.len()) {
-        return Answer::Refused(NO_ROOM);
+        return Answer::Refused(Refusal::BufferTooShort);
     }
     first::first_words(image, store);
     first::first_record(kept);

@@ -57,7 +57,7 @@ module _ {text work : List ℕ} {c : Tally} (p : Parses text work c) (short : le
       b (p .whole .few) ∙ ap (withRoom n) (image-stands (p .whole .stands))
       ∙ ap (λ (o : Option L.Fault). readCall n (orLegal (describe t .description) o)) (sym (ap judged e)) ∙ ap (readCall n) (sym (rest-judged j h))
 
-  pub rest-refused : (n : ℕ) {j : Judged} {f : Fault} {y : ReadCall} → Judges text work c j → j ≡ J.Refused f → y ≡ readRefused n (f .number) (f .at .place)
+  pub rest-refused : (n : ℕ) {j : Judged} {f : Fault} {y : ReadCall} → Judges text work c j → j ≡ J.Refused f → y ≡ readRefused n (f .refusal) (f .at .place)
       → y ≡ readCall n (restOf (describe t))
   rest-refused n {j} h e a =
       a ∙ ap (λ (o : Option L.Fault). readCall n (orLegal (describe t .description) o)) (sym (ap judged e)) ∙ ap (readCall n) (sym (rest-judged j h))
@@ -67,7 +67,7 @@ module _ {text work : List ℕ} {c : Tally} (p : Parses text work c) (short : le
 abbrev parsing : List ℕ → Parsed Built
 parsing text = parse (scan text .words) (length text)
 
-pub grammar-refused : (n : ℕ) {text work : List ℕ} {r : Outcome} {f : Fault} {y : ReadCall} → Described text work r → r ≡ Oc.Refused f → y ≡ readRefused n (f .number) (f .at .place)
+pub grammar-refused : (n : ℕ) {text work : List ℕ} {r : Outcome} {f : Fault} {y : ReadCall} → Described text work r → r ≡ Oc.Refused f → y ≡ readRefused n (f .refusal) (f .at .place)
     → y ≡ readCall n (afterGrammar (parsing text))
 grammar-refused n {f = f} d e a = a ∙ ap (λ (x : Parsed Built). readCall n (afterGrammar x)) (sym (d .refused f e))
 
@@ -77,7 +77,7 @@ grammar-done n p a = a ∙ ap (λ (x : Parsed Built). readCall n (afterGrammar x
 -- ---- The words, and the length.
 
 pub words-refused : (text : List ℕ) (n : ℕ) {j : Judged} {f : Fault} {y : ReadCall} → judged j ≡ firstFault text → j ≡ J.Refused f
-    → y ≡ readRefused n (f .number) (f .at .place) → y ≡ read text n
+    → y ≡ readRefused n (f .refusal) (f .at .place) → y ≡ read text n
 unfolding read
 words-refused text n h e a = a ∙ ap (λ (o : Option L.Fault). readCall n (afterWords text o)) (sym (ap judged e) ∙ h) ∙ ap (readCall n) (read-first text)
 

@@ -21,6 +21,7 @@ use Rattle.language.specs.Machine.{Parsed, deepest, refused}
 use Rattle.language.specs.Notions as N
 use Rattle.language.specs.Notions.{wholeText}
 use Rattle.language.specs.Reading.{accepted, afterGrammar, afterWords, filled, longestText, orLegal, read, readCall, readRefused, readText, refusedAt, restOf}
+use Rattle.language.specs.declared.refusals.Refusal.the-variants.{BufferTooShort, TextTooLong}
 use Rattle.language.specs.Rules.{faults}
 use Rattle.language.specs.Sections.{parse}
 use Rattle.language.specs.Tree.{Text}
@@ -152,7 +153,7 @@ module _ {text work : List ℕ} {c : Tally} (p : Parses text work c) (short : le
   unfolding restOf
   rest-short n = go (least (faults d (describe t .places))) refl
     where
-      by-room : (b : Bool) → Short (cond b (record { answer = accepted (length (encode d)); image = filled n (encode d) }) (readRefused n 12 0) .answer)
+      by-room : (b : Bool) → Short (cond b (record { answer = accepted (length (encode d)); image = filled n (encode d) }) (readRefused n BufferTooShort 0) .answer)
       by-room true = image-short
       by-room false = omega arith
 
@@ -189,7 +190,7 @@ read-short text n h = by-length (ltb 32768 (length text)) refl
     by-words l none e = h l e
     by-words l (some f) e = omega (arith, l, word-fault-before text f e)
 
-    by-length : (b : Bool) → ltb 32768 (length text) ≡ b → Short (readCall n (cond b (refusedAt (L.fault (L.position 0) 1)) (afterWords text (wordFault text))) .answer)
+    by-length : (b : Bool) → ltb 32768 (length text) ≡ b → Short (readCall n (cond b (refusedAt (L.fault (L.position 0) TextTooLong)) (afterWords text (wordFault text))) .answer)
     by-length true e = omega arith
     by-length false e = by-words (ltb-false 32768 (length text) e) (wordFault text) refl
 

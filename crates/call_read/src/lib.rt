@@ -25,11 +25,12 @@ mod judging;
 
 // A refusal leaves nothing in the buffer.
 fn refuse(image: &mut [u8], f: Fault) -> Answer
-    ensures { λ r. ⌜ called r (now (image .exit)) ≡ L.readRefused (length (now (image .entry))) (f .number) (f .at .place) ⌝ }
+    ensures { λ r. ⌜ called r (now (image .exit)) ≡ L.readRefused (length (now (image .entry))) (f .refusal) (f .at .place) ⌝ }
 {
     slices::zero(image);
     let at = f.at;
-    Answer::Refused(f.number, at.place)
+    let refusal = f.refusal;
+    Answer::Refused(refusal, at.place)
 }
 
 // The text that the array holds, judged and written.

@@ -15,6 +15,8 @@ use Rattle.language.specs.Description.{Description}
 use Rattle.language.specs.Image.{passes}
 use Rattle.language.specs.Layout.{storeSize}
 use Rattle.language.specs.Reading.{zeroes}
+use Rattle.language.specs.declared.refusals.Refusal.{Refusal}
+use Rattle.language.specs.declared.refusals.Refusal.the-variants.{BadStimulus, BufferTooShort, ImageFails, Unsound}
 
 -- ---- Numbers.
 
@@ -31,27 +33,27 @@ module _ (d : Description) (count trace : ℕ) where
 -- ---- The tests in their order.
 
 module _ (image store kept stimuli : List ℕ) (count scratch trace : ℕ) where
-  pub no-image : passes image ≡ false → some 13 ≡ runRefusal image store kept stimuli count scratch trace
+  pub no-image : passes image ≡ false → some ImageFails ≡ runRefusal image store kept stimuli count scratch trace
   unfolding runRefusal
   no-image e = rw e
 
   module _ (p : passes image ≡ true) where
-    pub no-room : roomy (decode image) (length store) (length kept) scratch ≡ false → some 12 ≡ runRefusal image store kept stimuli count scratch trace
+    pub no-room : roomy (decode image) (length store) (length kept) scratch ≡ false → some BufferTooShort ≡ runRefusal image store kept stimuli count scratch trace
     unfolding runRefusal
     no-room e = rw (p, e)
 
     module _ (r : roomy (decode image) (length store) (length kept) scratch ≡ true) where
-      pub no-trace-room : traceRoomy (decode image) count trace ≡ false → some 12 ≡ runRefusal image store kept stimuli count scratch trace
+      pub no-trace-room : traceRoomy (decode image) count trace ≡ false → some BufferTooShort ≡ runRefusal image store kept stimuli count scratch trace
       unfolding runRefusal
       no-trace-room e = rw (p, r, e)
 
       module _ (q : traceRoomy (decode image) count trace ≡ true) where
-        pub not-sound : soundBytes (decode image) store kept ≡ false → some 14 ≡ runRefusal image store kept stimuli count scratch trace
+        pub not-sound : soundBytes (decode image) store kept ≡ false → some Unsound ≡ runRefusal image store kept stimuli count scratch trace
         unfolding runRefusal
         not-sound e = rw (p, r, q, e)
 
         module _ (s : soundBytes (decode image) store kept ≡ true) where
-          pub not-formed : allWellFormed (decode image) count stimuli ≡ false → some 15 ≡ runRefusal image store kept stimuli count scratch trace
+          pub not-formed : allWellFormed (decode image) count stimuli ≡ false → some BadStimulus ≡ runRefusal image store kept stimuli count scratch trace
           unfolding runRefusal
           not-formed e = rw (p, r, q, s, e)
 
@@ -60,9 +62,9 @@ module _ (image store kept stimuli : List ℕ) (count scratch trace : ℕ) where
           no-refusal e = rw (p, r, q, s, e)
 
   -- What a refusal leaves.
-  abbrev refusedCall : ℕ → RunCall
+  abbrev refusedCall : Refusal → RunCall
   refusedCall n = record { answer = runRefused n; store = store; record′ = kept; scratch = zeroes scratch; trace = zeroes trace }
 
-  pub refused-so : (n : ℕ) → some n ≡ runRefusal image store kept stimuli count scratch trace → refusedCall n ≡ run image store kept stimuli count scratch trace
+  pub refused-so : (n : Refusal) → some n ≡ runRefusal image store kept stimuli count scratch trace → refusedCall n ≡ run image store kept stimuli count scratch trace
   unfolding run
   refused-so n e = rw (← e) refl

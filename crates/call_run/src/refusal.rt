@@ -1,7 +1,8 @@
 // Why a run is refused: an image that does not pass, too little room, store or record not sound, a stimulus of another form.
 use call_cycle::refusal;
-use call_cycle::refusal::Refusal;
+use call_cycle::refusal::Tested;
 use image_sections::sections;
+use language::refusals::Refusal;
 use run_begin::formed;
 use run_soundness::sizes;
 use run_soundness::soundness;
@@ -11,7 +12,7 @@ ghost use Rattle.language.specs.Calls.{runRefusal, traceRoomy};
 ghost use Rattle.language.specs.Description.{Description};
 ghost use Rattle.language.specs.Image.{passes};
 ghost use Rattle.language.specs.Layout.{storeSize};
-ghost use Rattle.call_cycle.specs.Refusals.{refusalMeant};
+ghost use Rattle.call_cycle.specs.Refusals.{refusalSeen};
 
 // Whether the trace takes a store of this size after each cycle, or is empty.
 fn trace_roomy(size: usize, cycles: u32, trace: usize) -> bool
@@ -34,28 +35,28 @@ pub fn run_refusal(
     cycles: u32,
     scratch: usize,
     trace: usize,
-) -> Refusal
+) -> Tested
     requires { ⌜ passed ≡ passes (now image) ⌝ }
-    ensures { λ r. ⌜ refusalMeant r ≡ runRefusal (now (image .entry)) (now (store .entry)) (now («record» .entry)) (now (stimuli .entry)) cycles scratch trace ⌝ }
+    ensures { λ r. ⌜ refusalSeen r ≡ runRefusal (now (image .entry)) (now (store .entry)) (now («record» .entry)) (now (stimuli .entry)) cycles scratch trace ⌝ }
 {
     if !passed {
-        return Refusal::At(13);
+        return Tested::Refused(Refusal::ImageFails);
     }
     let facilities = sections::section(image, sections::FACILITIES);
     let expressions = sections::section(image, sections::EXPRESSIONS);
     let states = sections::section(image, sections::STATES);
     let size = sizes::store_size(facilities);
     if !refusal::roomy(size, store.len(), record.len(), scratch) {
-        return Refusal::At(12);
+        return Tested::Refused(Refusal::BufferTooShort);
     }
     if !trace_roomy(size, cycles, trace) {
-        return Refusal::At(12);
+        return Tested::Refused(Refusal::BufferTooShort);
     }
     if !soundness::sound(facilities, expressions, states, store, record) {
-        return Refusal::At(14);
+        return Tested::Refused(Refusal::Unsound);
     }
     if !formed::all_well_formed(facilities, stimuli, cycles) {
-        return Refusal::At(15);
+        return Tested::Refused(Refusal::BadStimulus);
     }
-    Refusal::None
+    Tested::Passed
 }

@@ -1,7 +1,7 @@
 // Many cycles: all that a caller is owed, on every input, where it is known whether the image passes.
 use crate::refusal;
 use call_answers::ran::Answer;
-use call_cycle::refusal::Refusal;
+use call_cycle::refusal::Tested;
 use call_stimuli::carry;
 use store_words::slices;
 ghost use mathlib.Core.Path.{_≡_};
@@ -35,11 +35,11 @@ pub fn run(
         scratch.len(),
         trace.len(),
     ) {
-        Refusal::At(n) => {
+        Tested::Refused(n) => {
             slices::zero(scratch);
             Answer::Refused(n)
         }
-        Refusal::None => {
+        Tested::Passed => {
             let tally = carry::carry_out(image, store, record, stimuli, cycles, scratch, trace);
             Answer::Ran(tally)
         }

@@ -1,7 +1,7 @@
 -- A run cycle by cycle: what is left to do gives the same as the whole. Assumes nothing.
 use mathlib.Core.Bool.{Bool, true, false, cond}
 use mathlib.Core.List.{List, [], _∷_, _++_}
-use mathlib.Core.Option.{none}
+use mathlib.Core.Option.{Option, none, some}
 use mathlib.Core.Path.{_≡_, refl, sym, ap, subst, _∙_}
 use Prim.Native.Nat.{ℕ, zero, suc, _+_, _-_, _*_, _≤_, _<_}
 use native.Mathlib.Nat.{suc-mul}
@@ -16,7 +16,9 @@ use Rattle.language.specs.Description.{Description}
 use Rattle.language.specs.Layout.{storeSize}
 use Rattle.language.specs.Reading.{filled, zeroes}
 use Rattle.language.specs.RecordBytes.{recordFrom, recordSize}
+use Rattle.language.specs.declared.refusals.Refusal.{Refusal}
 use Rattle.language.specs.Step.{Outcome, completed, step}
+use Rattle.language.specs.declared.stops.Stop.{Stop}
 use Rattle.language.specs.Store.{fromBytes, inputsOf}
 use Rattle.image_records.proofs.ByteLaws.{placed-length}
 use Rattle.image_records.specs.Placed.{placed}
@@ -155,25 +157,25 @@ module _ (image S : List ℕ) (count scratch : ℕ) (B₀ K₀ : List ℕ) where
           go (Outcome.stopped m) e = (ap (λ (y : CycleCall). y .store) (sym e), ap (λ (y : CycleCall). y .record′) (sym e))
           go (Outcome.stuck x) e = (ap (λ (y : CycleCall). y .store) (sym e), ap (λ (y : CycleCall). y .record′) (sym e))
 
-      pub left-stop : (m : ℕ) → given (stoppedFor m) B′ K′ ≡ cycle image B K (take (stimulusSize (decode image)) (drop at S)) scratch
-          → (going n conflicts B′ K′ (l .traced), m) ≡ cycles image scratch (storeSize (decode image)) (stimulusSize (decode image)) count S (going 0 0 B₀ K₀ [])
+      pub left-stop : (m : Stop) → given (stoppedFor m) B′ K′ ≡ cycle image B K (take (stimulusSize (decode image)) (drop at S)) scratch
+          → (going n conflicts B′ K′ (l .traced), some m) ≡ cycles image scratch (storeSize (decode image)) (stimulusSize (decode image)) count S (going 0 0 B₀ K₀ [])
       unfolding cycles
       left-stop m q =
-          let f : (k : ℕ) → cycles image scratch (storeSize d) (stimulusSize d) (suc k) (drop at S) (going n conflicts B K (l .traced)) ≡ (going n conflicts B K (l .traced), m) = λ k. rw (← q) refl in
+          let f : (k : ℕ) → cycles image scratch (storeSize d) (stimulusSize d) (suc k) (drop at S) (going n conflicts B K (l .traced)) ≡ (going n conflicts B K (l .traced), some m) = λ k. rw (← q) refl in
           let u = stopped-here (stoppedFor m) tt q in
           rw (← u .0, ← u .1) (sym (f (count - (n + 1))) ∙ same-next)
 
-      pub left-refused : (m : ℕ) → given (refusedFor m) B′ K′ ≡ cycle image B K (take (stimulusSize (decode image)) (drop at S)) scratch
-          → (going n conflicts B′ K′ (l .traced), m) ≡ cycles image scratch (storeSize (decode image)) (stimulusSize (decode image)) count S (going 0 0 B₀ K₀ [])
+      pub left-refused : (m : Refusal) → given (refusedFor m) B′ K′ ≡ cycle image B K (take (stimulusSize (decode image)) (drop at S)) scratch
+          → (going n conflicts B′ K′ (l .traced), none) ≡ cycles image scratch (storeSize (decode image)) (stimulusSize (decode image)) count S (going 0 0 B₀ K₀ [])
       unfolding cycles
       left-refused m q =
-          let f : (k : ℕ) → cycles image scratch (storeSize d) (stimulusSize d) (suc k) (drop at S) (going n conflicts B K (l .traced)) ≡ (going n conflicts B K (l .traced), m) = λ k. rw (← q) refl in
+          let f : (k : ℕ) → cycles image scratch (storeSize d) (stimulusSize d) (suc k) (drop at S) (going n conflicts B K (l .traced)) ≡ (going n conflicts B K (l .traced), none) = λ k. rw (← q) refl in
           let u = stopped-here (refusedFor m) tt q in
           rw (← u .0, ← u .1) (sym (f (count - (n + 1))) ∙ same-next)
 
   -- No cycle is left.
   pub left-none : (B K T : List ℕ) (n conflicts at to : ℕ) → count ≤ n → (l : Left image S count scratch B₀ K₀ B K T n conflicts at to)
-      → (going n conflicts B K (l .traced), 0) ≡ cycles image scratch (storeSize (decode image)) (stimulusSize (decode image)) count S (going 0 0 B₀ K₀ [])
+      → (going n conflicts B K (l .traced), none) ≡ cycles image scratch (storeSize (decode image)) (stimulusSize (decode image)) count S (going 0 0 B₀ K₀ [])
   unfolding cycles
   left-none B K T n conflicts at to h l = let z : count - n ≡ 0 = omega arith in rw z at (l .same)
 
@@ -193,10 +195,10 @@ module _ (image S : List ℕ) (count scratch : ℕ) (B₀ K₀ : List ℕ) where
       by-test false z = let u = eqb-false t 0 z in let p : 0 < length T = positive (length T) (λ y. u (omega (arith, e, y))) in f p ∙ ap (λ (k : ℕ). filled k traced) e
 
   -- The whole.
-  abbrev done : ℕ → ℕ → ℕ → List ℕ → List ℕ → List ℕ → RunCall
+  abbrev done : ℕ → ℕ → Option Stop → List ℕ → List ℕ → List ℕ → RunCall
   done n conflicts m B K T = record { answer = ran n conflicts m; store = B; record′ = K; scratch = zeroes scratch; trace = T }
 
-  pub run-so : (B K T : List ℕ) (n conflicts m t : ℕ) (traced : List ℕ) → runRefusal image B₀ K₀ S count scratch t ≡ none → length T ≡ t → (0 < length T → T ≡ filled (length T) traced)
+  pub run-so : (B K T : List ℕ) (n conflicts : ℕ) (m : Option Stop) (t : ℕ) (traced : List ℕ) → runRefusal image B₀ K₀ S count scratch t ≡ none → length T ≡ t → (0 < length T → T ≡ filled (length T) traced)
       → (going n conflicts B K traced, m) ≡ cycles image scratch (storeSize (decode image)) (stimulusSize (decode image)) count S (going 0 0 B₀ K₀ [])
       → done n conflicts m B K T ≡ run image B₀ K₀ S count scratch t
   unfolding run

@@ -2,6 +2,7 @@
 use call_answers::ran::Tally;
 use image_records::bytes;
 use image_sections::sections;
+use language::stops::Halt;
 use run_begin::formed;
 use run_end::outcome::Verdict;
 use run_next::record::Record;
@@ -27,8 +28,8 @@ struct Run {
     record: Record,
 }
 
-// So many cycles completed, with so many conflicts, and the stop that ended them, or 0.
-fn ended(completed: u32, conflicts: u64, stop: u8, r: Record) -> Run
+// So many cycles completed, with so many conflicts, and the stop that ended them, if one did.
+fn ended(completed: u32, conflicts: u64, stop: Halt, r: Record) -> Run
     ensures { λ a. ⌜ a ≡ record { tally = record { completed = completed; conflicts = conflicts; stop = stop }; «record» = r } ⌝ }
 {
     let tally = Tally {
@@ -89,11 +90,11 @@ fn carry_on(
                 n += 1;
                 reached = a.record;
             }
-            Verdict::Stopped(stop) => return ended(n, conflicts, stop, reached),
-            Verdict::Stuck(_) => return ended(n, conflicts, 13, reached),
+            Verdict::Stopped(stop) => return ended(n, conflicts, Halt::At(stop), reached),
+            Verdict::Stuck(_) => return ended(n, conflicts, Halt::None, reached),
         }
     }
-    ended(n, conflicts, 0, reached)
+    ended(n, conflicts, Halt::None, reached)
 }
 
 // The run that is owed, where nothing is refused and the trace is zero. What the cycles work on is made once.

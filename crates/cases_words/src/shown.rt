@@ -1,4 +1,5 @@
 // What came of a text, printed.
+use language::refusals::refusal_number;
 use libc::STDOUT_FILENO;
 use text_characters::letters;
 use text_characters::parts;
@@ -100,6 +101,9 @@ fn all_words(text: &[u8]) {
 pub fn text(s: &[u8]) {
     match stage::first_fault(s) {
         Judged::Passed => all_words(s),
-        Judged::Refused(f) => refused(f.number as u64, places::place(f.at) as u64),
+        Judged::Refused(f) => {
+            let refusal = f.refusal;
+            refused(refusal_number(refusal) as u64, places::place(f.at) as u64)
+        }
     }
 }

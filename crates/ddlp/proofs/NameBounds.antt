@@ -25,6 +25,7 @@ use Rattle.about_writing.specs.Names.{names-length, namesOf}
 use Rattle.about_writing.specs.Whole.{right-header}
 use Rattle.image_lookups.proofs.PassLaws.{names-are, range-so}
 use Rattle.call_answers.specs.Numbers.{Short}
+use Rattle.language.specs.declared.refusals.Refusal.the-variants.{BadSubscript, ImageFails}
 
 -- The names before the n-th, and it, are among all.
 upto : {A : Type 0} (name : A → List ℕ) (z : A) (xs : List A) (n : ℕ) → n < length xs → namesOf name (take n xs) + length (name (getD xs n z)) ≤ namesOf name xs
@@ -72,13 +73,13 @@ pub facility-short : (image : List ℕ) (n : ℕ) → Short (facilityName image 
 unfolding facilityName L.facilityPart facilityAt
 facility-short image n = by-pass (passes image) refl
   where
-    by-count : passes image ≡ true → (b : Bool) → ltb n (length (decode image .facilities)) ≡ b → Short (cond b (L.named (L.facilityPart image n)) (L.refused 6))
+    by-count : passes image ≡ true → (b : Bool) → ltb n (length (decode image .facilities)) ≡ b → Short (cond b (L.named (L.facilityPart image n)) (L.refused BadSubscript))
     by-count h true t =
         let u = upto (λ (f : Facility). f .name) noFacility (decode image .facilities) n (ltb-true n (length (decode image .facilities)) t) in
         (omega (arith, u, names-all image h, below image h), omega (arith, u, names-all image h, below image h))
     by-count h false t = tt
 
-    by-pass : (b : Bool) → passes image ≡ b → Short (cond b (cond (ltb n (length (decode image .facilities))) (L.named (L.facilityPart image n)) (L.refused 6)) (L.refused 13))
+    by-pass : (b : Bool) → passes image ≡ b → Short (cond b (cond (ltb n (length (decode image .facilities))) (L.named (L.facilityPart image n)) (L.refused BadSubscript)) (L.refused ImageFails))
     by-pass true h = by-count h (ltb n (length (decode image .facilities))) refl
     by-pass false h = tt
 
@@ -86,12 +87,12 @@ pub state-short : (image : List ℕ) (n : ℕ) → Short (stateName image n)
 unfolding stateName L.statePart stateAt
 state-short image n = by-pass (passes image) refl
   where
-    by-count : passes image ≡ true → (b : Bool) → ltb n (length (decode image .states)) ≡ b → Short (cond b (L.named (L.statePart image n)) (L.refused 6))
+    by-count : passes image ≡ true → (b : Bool) → ltb n (length (decode image .states)) ≡ b → Short (cond b (L.named (L.statePart image n)) (L.refused BadSubscript))
     by-count h true t =
         let u = upto (λ (s : State). s .name) (record { name = []; value = none; actions = noRun }) (decode image .states) n (ltb-true n (length (decode image .states)) t) in
         (omega (arith, u, names-all image h, below image h), omega (arith, u, names-all image h, below image h))
     by-count h false t = tt
 
-    by-pass : (b : Bool) → passes image ≡ b → Short (cond b (cond (ltb n (length (decode image .states))) (L.named (L.statePart image n)) (L.refused 6)) (L.refused 13))
+    by-pass : (b : Bool) → passes image ≡ b → Short (cond b (cond (ltb n (length (decode image .states))) (L.named (L.statePart image n)) (L.refused BadSubscript)) (L.refused ImageFails))
     by-pass true h = by-count h (ltb n (length (decode image .states))) refl
     by-pass false h = tt

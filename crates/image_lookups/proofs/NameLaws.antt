@@ -24,6 +24,7 @@ use Rattle.image_sections.specs.declared.header.Counts.{Counts}
 use Rattle.about_writing.specs.Back.{all-facilities, all-operations, facility-byte, facility-names, state-byte, state-names}
 use Rattle.about_writing.specs.Names.{names-length, namesOf}
 use Rattle.image_lookups.proofs.PassLaws.{facilities-are, facilities-counted, facilities-many, names-are, names-short, operations-are, operations-counted, range-so, states-are, states-many}
+use Rattle.language.specs.declared.refusals.Refusal.the-variants.{BadSubscript, ImageFails}
 
 names-upto : {A : Type 0} (name : A → List ℕ) (z : A) (xs : List A) (n : ℕ) → n < length xs → namesOf name (take n xs) + length (name (getD xs n z)) ≤ length (concat name xs)
 unfolding total concat
@@ -38,19 +39,19 @@ inImage image p = L.named (record { offset = offsetOf namesSection image + p .of
 -- ---- Refusals.
 
 module _ (image : List ℕ) (n : ℕ) where
-  pub facility-refused : passes image ≡ false → L.refused 13 ≡ facilityName image n
+  pub facility-refused : passes image ≡ false → L.refused ImageFails ≡ facilityName image n
   unfolding facilityName
   facility-refused e = rw e
 
-  pub facility-none : passes image ≡ true → length (sectionAt facilitiesSection facilitySize image) / facilitySize ≤ n → L.refused 6 ≡ facilityName image n
+  pub facility-none : passes image ≡ true → length (sectionAt facilitiesSection facilitySize image) / facilitySize ≤ n → L.refused BadSubscript ≡ facilityName image n
   unfolding facilityName
   facility-none e h = rw (e, le-ltb n (length (decode image .facilities)) (omega (arith, facilities-many image)))
 
-  pub state-refused : passes image ≡ false → L.refused 13 ≡ stateName image n
+  pub state-refused : passes image ≡ false → L.refused ImageFails ≡ stateName image n
   unfolding stateName
   state-refused e = rw e
 
-  pub state-none : passes image ≡ true → length (sectionAt statesSection stateSize image) / stateSize ≤ n → L.refused 6 ≡ stateName image n
+  pub state-none : passes image ≡ true → length (sectionAt statesSection stateSize image) / stateSize ≤ n → L.refused BadSubscript ≡ stateName image n
   unfolding stateName
   state-none e h = rw (e, le-ltb n (length (decode image .states)) (omega (arith, states-many image)))
 

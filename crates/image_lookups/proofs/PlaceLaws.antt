@@ -15,6 +15,8 @@ use Rattle.language.specs.Image.{passes}
 use Rattle.language.specs.Judging.{unless}
 use Rattle.language.specs.Layout.{facilityBytes, placeIn}
 use Rattle.language.specs.Lookups as L
+use Rattle.language.specs.declared.refusals.Refusal.{Refusal}
+use Rattle.language.specs.declared.refusals.Refusal.the-variants.{BadSequencing, BadSubscript, CeilingPassed, ImageFails}
 use Rattle.language.specs.Rules.{boundsFaults, facilitiesFaults, facilityFaults, largestStore, orElse, sequencingRight}
 use Rattle.about_running.specs.Judged.{append-none-left, append-none-right, unless-none}
 use Rattle.about_running.specs.LegalForm.{after-names, no-faults, or-else-both}
@@ -35,8 +37,8 @@ unfolding facilityFaults largestStore
 store-fits d n another before f e =
     let at = facilityPlace noPlaces n in
     leb-true (before + facilityBytes f) 16384
-    (unless-none (leb (before + facilityBytes f) 16384) (at .name) 10
-    (append-none-left _ _ (append-none-right (unless (cond (isSequencing (f .kind)) (sequencingRight d noPlaces another f) true) (at .name) 9) _ e)))
+    (unless-none (leb (before + facilityBytes f) 16384) (at .name) CeilingPassed
+    (append-none-left _ _ (append-none-right (unless (cond (isSequencing (f .kind)) (sequencingRight d noPlaces another f) true) (at .name) BadSequencing) _ e)))
 
 -- No facility begins past the largest store.
 place-low : (d : Description) (n : ℕ) (another : Bool) (before : ℕ) (fs : List Facility) → facilitiesFaults d noPlaces n another before fs ≡ [] → before ≤ 16384
@@ -52,16 +54,16 @@ place-low d n another before (f ∷ fs) e b (suc i) h =
     omega (arith, place-low d (suc n) (another || isSequencing (f .kind)) (before + facilityBytes f) fs rest m i (omega arith))
 
 module _ (image : List ℕ) (n : ℕ) where
-  refused-so : (k : ℕ) → L.unknown k ≡ L.facility image n → Looks image n (A.Refused k)
+  refused-so : (k : Refusal) → L.unknown k ≡ L.facility image n → Looks image n (A.Refused k)
   refused-so k e = record { facility = e; name = λ f q. absurd (let z : _≡_ {A = ℕ} 0 1 = cc in omega arith) }
 
-  pub lookup-refused : passes image ≡ false → Looks image n (A.Refused 13)
+  pub lookup-refused : passes image ≡ false → Looks image n (A.Refused ImageFails)
   unfolding L.facility
-  lookup-refused e = refused-so 13 (rw e)
+  lookup-refused e = refused-so ImageFails (rw e)
 
-  pub lookup-none : passes image ≡ true → length (sectionAt facilitiesSection facilitySize image) / facilitySize ≤ n → Looks image n (A.Refused 6)
+  pub lookup-none : passes image ≡ true → length (sectionAt facilitiesSection facilitySize image) / facilitySize ≤ n → Looks image n (A.Refused BadSubscript)
   unfolding L.facility
-  lookup-none e h = refused-so 6 (rw (e, le-ltb n (length (decode image .facilities)) (omega (arith, facilities-many image))))
+  lookup-none e h = refused-so BadSubscript (rw (e, le-ltb n (length (decode image .facilities)) (omega (arith, facilities-many image))))
 
   module _ (h : passes image ≡ true) (l : n < length (sectionAt facilitiesSection facilitySize image) / facilitySize) where
     inside : n < length (decode image .facilities)

@@ -1,6 +1,4 @@
 // The names of facilities and states: where they stand in the image, and that part of it, which is empty where there is none.
-use crate::NO_IMAGE;
-use crate::NO_SUCH;
 use call_answers::named::Answer;
 use image_records::bytes;
 use image_records::numbers;
@@ -9,6 +7,7 @@ use image_sections::header;
 use image_sections::names;
 use image_sections::names::Part;
 use image_sections::sections;
+use language::refusals::Refusal;
 ghost use mathlib.Core.Path.{_≡_};
 ghost use Prim.Native.Nat.{_+_, _^_, _<_};
 ghost use Rattle.language.specs.Decode.{offsetOf};
@@ -36,11 +35,11 @@ pub fn facility_part(image: &[u8], passed: bool, n: u32) -> Answer
     ensures { λ r. ⌜ nameMeant r ≡ facilityName (now (image .entry)) n ⌝ }
 {
     if !passed {
-        return Answer::Refused(NO_IMAGE);
+        return Answer::Refused(Refusal::ImageFails);
     }
     let facilities = sections::section(image, sections::FACILITIES);
     if facilities.len() / record_sizes::FACILITY <= n as usize {
-        return Answer::Refused(NO_SUCH);
+        return Answer::Refused(Refusal::BadSubscript);
     }
     found(image, names::facility_part(facilities, n))
 }
@@ -51,11 +50,11 @@ pub fn state_part(image: &[u8], passed: bool, n: u32) -> Answer
     ensures { λ r. ⌜ nameMeant r ≡ stateName (now (image .entry)) n ⌝ }
 {
     if !passed {
-        return Answer::Refused(NO_IMAGE);
+        return Answer::Refused(Refusal::ImageFails);
     }
     let states = sections::section(image, sections::STATES);
     if states.len() / record_sizes::STATE <= n as usize {
-        return Answer::Refused(NO_SUCH);
+        return Answer::Refused(Refusal::BadSubscript);
     }
     let c = header::counts_at(image);
     let facilities = sections::section(image, sections::FACILITIES);

@@ -31,7 +31,7 @@ fn store_mark(sign: u8, mark: u8) -> u8
     requires { ⌜ mark < 255 ⌝ }
     ensures { λ r. ⌜ r ≡ storeMark sign mark ⌝ }
 {
-    if sign == text_kinds::DELAYED {
+    if sign == language::kinds::DELAYED {
         mark
     } else {
         mark + 1

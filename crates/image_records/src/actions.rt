@@ -27,10 +27,10 @@ fn action_with(mark: u8, a: u16, b: u16, c: u16) -> Action
     ensures { λ r. ⌜ meant r ≡ actionWith mark a b c ⌝ }
 {
     match mark {
-        marks::STORE => Action::Store(text_kinds::DELAYED, a, b),
-        marks::IMMEDIATE_STORE => Action::Store(text_kinds::EQUAL, a, b),
-        marks::PAIR => Action::StorePair(text_kinds::DELAYED, a, b, c),
-        marks::IMMEDIATE_PAIR => Action::StorePair(text_kinds::EQUAL, a, b, c),
+        marks::STORE => Action::Store(language::kinds::DELAYED, a, b),
+        marks::IMMEDIATE_STORE => Action::Store(language::kinds::EQUAL, a, b),
+        marks::PAIR => Action::StorePair(language::kinds::DELAYED, a, b, c),
+        marks::IMMEDIATE_PAIR => Action::StorePair(language::kinds::EQUAL, a, b, c),
         marks::SET => Action::Set(a),
         marks::PERFORM => Action::Perform(a),
         marks::GOTO => Action::Goto(a),

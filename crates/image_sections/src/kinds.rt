@@ -40,8 +40,8 @@ pub fn may_store(sign: u8, kind: Kind) -> bool
     ensures { λ r. ⌜ r ≡ mayStore sign (kindMeant kind) ⌝ }
 {
     match sign {
-        text_kinds::DELAYED => takes_delayed(kind),
-        text_kinds::EQUAL => takes_immediate(kind),
+        language::kinds::DELAYED => takes_delayed(kind),
+        language::kinds::EQUAL => takes_immediate(kind),
         _ => false,
     }
 }

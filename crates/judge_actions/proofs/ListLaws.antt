@@ -20,12 +20,13 @@ use Rattle.image_records.specs.declared.actions.Action.{Action}
 use Rattle.image_records.specs.declared.actions.Action.the-variants as N
 use Rattle.judge_actions.specs.declared.conditionals.Choices.{Choices}
 use Rattle.judge_actions.specs.Listed.{armsAt, heldAt, listAt, rightArms}
+use Rattle.language.specs.declared.refusals.Refusal.the-variants.{NoContinuation}
 
 module _ (d : Description) (p : Places) (b : Bool) (w : ℕ → Judged) where
   run-lt : (k m i : ℕ) (s : Shape) → m < k → runBelow d p b w k m i s ≡ runStep d p b w (runBelow d p b w m) m i s
   unfolding runBelow
   run-lt k m i s h =
-      ap (λ (f : ℕ → Shape → Judged). f i s) (below-lt (λ (i : ℕ) (s : Shape). refuse D.nowhere 3) (runStep d p b w) k m h)
+      ap (λ (f : ℕ → Shape → Judged). f i s) (below-lt (λ (i : ℕ) (s : Shape). refuse D.nowhere NoContinuation) (runStep d p b w) k m h)
 
   list-lt : (k m i : ℕ) → m < k → runBelow d p b w k m i actions ≡ listAt d p b w m i
   unfolding listAt
@@ -71,7 +72,7 @@ module _ (d : Description) (p : Places) (b : Bool) (w : ℕ → Judged) where
             (givenBoth
             (A.conditional d p b w (actionPlace p i) (A.right d p b w c) (armsAt d p b w x (i + 1)) (rightArms choices))
             (listAt d p b w (m - x) (i + 1 + x)) (A.allWork d p b w))
-            (refuse D.nowhere 3)
+            (refuse D.nowhere NoContinuation)
             ≡ A.holding d p b w (runBelow d p b w k) m i x
             (A.conditional d p b w (actionPlace p i) (A.right d p b w c) (runBelow d p b w k x (i + 1) arms) (rightArms choices))
         by-test true t =
@@ -79,7 +80,7 @@ module _ (d : Description) (p : Places) (b : Bool) (w : ℕ → Judged) where
             rw (t, list-lt k (m - x) (i + 1 + x) (omega arith), arms-lt k x (i + 1) (omega arith))
         by-test false t = rw t
 
-    pub held-past : m < x → refuse D.nowhere 3 ≡ heldAt d p b w m i c choices x
+    pub held-past : m < x → refuse D.nowhere NoContinuation ≡ heldAt d p b w m i c choices x
     unfolding heldAt
     held-past h = rw (lt-leb x m h)
 
@@ -123,7 +124,7 @@ module _ (d : Description) (p : Places) (b : Bool) (w : ℕ → Judged) where
   NoArm n = OneOf (0 ∷ 1 ∷ 2 ∷ 3 ∷ 4 ∷ 5 ∷ 6 ∷ 7 ∷ 8 ∷ 10 ∷ []) n
 
   pub no-arm : (ev : ℕ → ℕ → Shape → Judged) (m i : ℕ) (r : Action) → NoArm (tagOf the-type r)
-      → refuse D.nowhere 3 ≡ armsJudged d p b w ev m i (meant r)
+      → refuse D.nowhere NoContinuation ≡ armsJudged d p b w ev m i (meant r)
   unfolding armsJudged
   no-arm ev m i (N.Store s l r) h = refl
   no-arm ev m i (N.StorePair s l n r) h = refl
@@ -138,11 +139,11 @@ module _ (d : Description) (p : Places) (b : Bool) (w : ℕ → Judged) where
   no-arm ev m i N.Broken h = refl
 
   module _ (k i x : ℕ) (h : k ≡ 0 → ⊥) (e : actionAt d i ≡ D.arm x) where
-    pub arm-none : x ≡ 0 → refuse D.nowhere 3 ≡ armsAt d p b w k i
+    pub arm-none : x ≡ 0 → refuse D.nowhere NoContinuation ≡ armsAt d p b w k i
     unfolding armsJudged
     arm-none z = (let q : leb 1 x ≡ false = lt-leb 1 x (omega arith) in rw q) ∙ arms-first k i h e
 
-    pub arm-past : (x ≡ 0 → ⊥) → k - 1 < x → refuse D.nowhere 3 ≡ armsAt d p b w k i
+    pub arm-past : (x ≡ 0 → ⊥) → k - 1 < x → refuse D.nowhere NoContinuation ≡ armsAt d p b w k i
     unfolding armsJudged
     arm-past z g = (let q : leb 1 x ≡ true = le-leb 1 x (omega arith) in rw (q, lt-leb x (k - 1) g)) ∙ arms-first k i h e
 

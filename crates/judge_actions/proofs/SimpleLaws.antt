@@ -13,6 +13,7 @@ use Rattle.language.specs.Description.{Action, Description, Places, actionAt, s
 use Rattle.language.specs.Expressions.{expressionAt, leftAt, ownWork, terminalBelow}
 use Rattle.language.specs.Judging as L
 use Rattle.language.specs.Judging.{Judged, faulty, fine, given, givenBoth, refuse, worth}
+use Rattle.language.specs.declared.refusals.Refusal.the-variants.{BadName, NoContinuation}
 use Rattle.language.specs.Storing.{isPlain, mayStore}
 use Rattle.language.specs.Words as W
 use Rattle.judge_verdicts.specs.declared.Verdict.{Verdict}
@@ -91,12 +92,12 @@ module _ (d : Description) (p : Places) (b : Bool) (w : ℕ → Judged) (q : W.P
   unfolding A.simpleJudged
   perform-is o f = f
 
-  pub goto-is : (s : ℕ) {n : List ℕ} → stateAt d s .name ≡ n → v ≡ seen (inRight b q (cond (ltb 0 (length n)) (worth 1 0 ownWork) (refuse q 4)))
+  pub goto-is : (s : ℕ) {n : List ℕ} → stateAt d s .name ≡ n → v ≡ seen (inRight b q (cond (ltb 0 (length n)) (worth 1 0 ownWork) (refuse q BadName)))
       → v ≡ seen (A.simpleJudged d p b w q (D.goto s))
   unfolding A.simpleJudged
   goto-is s e f = only-told d p b w b q _ (rw e f)
 
-  pub call-is : (s : ℕ) {n : List ℕ} → stateAt d s .name ≡ n → v ≡ seen (inRight b q (cond (ltb 0 (length n)) (worth 1 0 ownWork) (refuse q 4)))
+  pub call-is : (s : ℕ) {n : List ℕ} → stateAt d s .name ≡ n → v ≡ seen (inRight b q (cond (ltb 0 (length n)) (worth 1 0 ownWork) (refuse q BadName)))
       → v ≡ seen (A.simpleJudged d p b w q (D.call s))
   unfolding A.simpleJudged
   call-is s e f = only-told d p b w b q _ (rw e f)
@@ -105,19 +106,19 @@ module _ (d : Description) (p : Places) (b : Bool) (w : ℕ → Judged) (q : W.P
   unfolding A.simpleJudged
   return-is f = only-told d p b w b q _ f
 
-  pub when-is : (c x : ℕ) → v ≡ seen (refuse q 3) → v ≡ seen (A.simpleJudged d p b w q (D.when c x))
+  pub when-is : (c x : ℕ) → v ≡ seen (refuse q NoContinuation) → v ≡ seen (A.simpleJudged d p b w q (D.when c x))
   unfolding A.simpleJudged
   when-is c x f = f
 
-  pub choose-is : (c n x : ℕ) → v ≡ seen (refuse q 3) → v ≡ seen (A.simpleJudged d p b w q (D.choose c n x))
+  pub choose-is : (c n x : ℕ) → v ≡ seen (refuse q NoContinuation) → v ≡ seen (A.simpleJudged d p b w q (D.choose c n x))
   unfolding A.simpleJudged
   choose-is c n x f = f
 
-  pub arm-is : (x : ℕ) → v ≡ seen (refuse q 3) → v ≡ seen (A.simpleJudged d p b w q (D.arm x))
+  pub arm-is : (x : ℕ) → v ≡ seen (refuse q NoContinuation) → v ≡ seen (A.simpleJudged d p b w q (D.arm x))
   unfolding A.simpleJudged
   arm-is x f = f
 
-  pub broken-is : v ≡ seen (refuse q 4) → v ≡ seen (A.simpleJudged d p b w q D.Action.broken)
+  pub broken-is : v ≡ seen (refuse q BadName) → v ≡ seen (A.simpleJudged d p b w q D.Action.broken)
   unfolding A.simpleJudged
   broken-is f = f
 

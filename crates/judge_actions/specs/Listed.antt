@@ -14,6 +14,7 @@ use Rattle.language.specs.Description.{Description, Places, actionAt, actionPla
 use Rattle.language.specs.Encode.{facilitySize, stateSize}
 use Rattle.language.specs.Expressions.{selects, terminalBelow}
 use Rattle.language.specs.Judging.{Judged, Worth, both, givenBoth, refuse}
+use Rattle.language.specs.declared.refusals.Refusal.the-variants.{BadName, NoContinuation}
 use Rattle.language.specs.Words.{Position}
 use Rattle.judge_records.specs.Read.{placeOf}
 use Rattle.judge_verdicts.specs.declared.Verdict.{Verdict}
@@ -30,7 +31,7 @@ pub record Listed (facs exprs marks places memo acts beside states labels kept :
   pub place : (n : ℕ) → actionPlace p n ≡ placeOf 1 beside n 0
   pub label : (n : ℕ) → stateAt d n .name ≡ take (nameLengthIn stateSize 0 states n) (drop (namesLength n 0 stateSize states) labels)
   pub operation : (o : ℕ) → o < 65536 → o < ops → recalled kept o ≡ seen (worked (works o))
-  pub unknown : (o : ℕ) → ops ≤ o → works o ≡ refuse D.nowhere 4
+  pub unknown : (o : ℕ) → ops ≤ o → works o ≡ refuse D.nowhere BadName
 
 -- The verdict that every description with these slices calls for.
 abbrev pub Lists : List ℕ → List ℕ → List ℕ → List ℕ → List ℕ → List ℕ → List ℕ → List ℕ → List ℕ → List ℕ → ℕ
@@ -53,7 +54,7 @@ rightArms (Several n) v w = both (selects (v .length) n) (eqb (w .arms) n)
 -- What stands only in operations or only in states, where it is right.
 abbrev pub inRight : Bool → Position → Judged → Judged
 inRight true at j = j
-inRight false at j = refuse at 3
+inRight false at j = refuse at NoContinuation
 
 -- A conditional at i, to which x of the m records after it belong, and the list after those.
 unfoldable pub heldAt : Description → Places → Bool → (ℕ → Judged) → ℕ → ℕ → ℕ → Choices → ℕ → Judged
@@ -62,4 +63,4 @@ heldAt d p inState w m i c choices x =
     (givenBoth
     (A.conditional d p inState w (actionPlace p i) (A.right d p inState w c) (armsAt d p inState w x (i + 1)) (rightArms choices))
     (listAt d p inState w (m - x) (i + 1 + x)) (A.allWork d p inState w))
-    (refuse D.nowhere 3)
+    (refuse D.nowhere NoContinuation)

@@ -5,6 +5,7 @@ use judge_verdicts::Verdict;
 use judge_verdicts::Worth;
 use judge_verdicts::faults;
 use judge_verdicts::work;
+use language::refusals::Refusal;
 use text_words::Position;
 ghost use mathlib.Core.Bool.{cond};
 ghost use mathlib.Core.Path.{_≡_};
@@ -14,6 +15,7 @@ ghost use Rattle.language.specs.Expressions.{ownWork};
 ghost use Rattle.language.specs.Judging as L;
 ghost use Rattle.language.specs.Words as W;
 ghost use Rattle.judge_verdicts.specs.Meaning.{capped, met, seen};
+ghost use Rattle.language.specs.declared.refusals.Refusal.the-variants.{BadLength};
 ghost use Rattle.text_words.specs.Meaning.{positioned};
 ghost use Rattle.judge_actions.specs.Listed.{rightArms};
 
@@ -83,14 +85,14 @@ pub fn counted(x: usize, y: usize) -> Verdict
 
 // A condition, and the arms that it chooses among.
 pub fn conditional(at: Position, c: Choices, a: Verdict, b: Verdict) -> Verdict
-    ensures { λ r. ⌜ ((q : W.Position) (j k : L.Judged) → positioned at ≡ q → a ≡ seen j → b ≡ seen k → r ≡ seen (L.givenBoth j k (λ v w. cond (rightArms c v w) (L.worth 1 0 (ownWork + v .work + w .work)) (L.refuse q 7)))) ⌝ }
+    ensures { λ r. ⌜ ((q : W.Position) (j k : L.Judged) → positioned at ≡ q → a ≡ seen j → b ≡ seen k → r ≡ seen (L.givenBoth j k (λ v w. cond (rightArms c v w) (L.worth 1 0 (ownWork + v .work + w .work)) (L.refuse q BadLength)))) ⌝ }
 {
     match faults::both(a, b) {
         Pair::Fine(v, w) => {
             if right_arms(c, v, w) {
                 return counted(v.work, w.work);
             }
-            faults::refused(at, 7)
+            faults::refused(at, Refusal::BadLength)
         }
         Pair::Faulty(f) => Verdict::Faulty(f),
     }

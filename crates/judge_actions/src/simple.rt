@@ -11,6 +11,7 @@ use judge_verdicts::Worth;
 use judge_verdicts::faults;
 use judge_verdicts::kept;
 use judge_verdicts::work;
+use language::refusals::Refusal;
 use text_words::Position;
 ghost use mathlib.Core.Bool.{cond};
 ghost use mathlib.Core.Path.{_≡_};
@@ -25,6 +26,7 @@ ghost use Rattle.language.specs.Expressions.{ownWork};
 ghost use Rattle.language.specs.Judging as L;
 ghost use Rattle.language.specs.Words as W;
 ghost use Rattle.judge_verdicts.specs.Meaning.{recalled, seen};
+ghost use Rattle.language.specs.declared.refusals.Refusal.the-variants.{BadName};
 ghost use Rattle.text_words.specs.Meaning.{positioned};
 ghost use Rattle.judge_terms.specs.Shown.{worked};
 ghost use Rattle.judge_actions.specs.Listed.{Lists, inRight};
@@ -32,17 +34,17 @@ ghost use Rattle.language.specs.Encode.{stateSize};
 
 // The work of an operation that is named: only the first `ops` may be.
 fn operation(kept: &[usize], ops: usize, o: u16) -> Verdict
-    ensures { λ r. ⌜ ((j : L.Judged) → (o < ops → recalled (now (kept .entry)) o ≡ seen (worked j)) → (ops ≤ o → j ≡ L.refuse nowhere 4) → r ≡ seen (worked j)) ⌝ }
+    ensures { λ r. ⌜ ((j : L.Judged) → (o < ops → recalled (now (kept .entry)) o ≡ seen (worked j)) → (ops ≤ o → j ≡ L.refuse nowhere BadName) → r ≡ seen (worked j)) ⌝ }
 {
     if (o as usize) < ops {
         return kept::recall(kept, o);
     }
-    faults::refused(places::nowhere(), 4)
+    faults::refused(places::nowhere(), Refusal::BadName)
 }
 
 // An operation reference.
 fn perform(kept: &[usize], ops: usize, o: u16) -> Verdict
-    ensures { λ r. ⌜ ((w : ℕ → L.Judged) → (o < ops → recalled (now (kept .entry)) o ≡ seen (worked (w o))) → (ops ≤ o → w o ≡ L.refuse nowhere 4) → r ≡ seen (L.given (w o) (λ x. L.worth 1 0 (ownWork + x .work)))) ⌝ }
+    ensures { λ r. ⌜ ((w : ℕ → L.Judged) → (o < ops → recalled (now (kept .entry)) o ≡ seen (worked (w o))) → (ops ≤ o → w o ≡ L.refuse nowhere BadName) → r ≡ seen (L.given (w o) (λ x. L.worth 1 0 (ownWork + x .work)))) ⌝ }
 {
     match operation(kept, ops, o) {
         Verdict::Fine(w) => Verdict::Fine(Worth {
@@ -78,12 +80,12 @@ fn alone() -> Verdict
 
 // A state is gone to by its name.
 fn to_state(states: &[u8], labels: &[u8], at: Position, s: u16) -> Verdict
-    ensures { λ r. ⌜ ((q : W.Position) → positioned at ≡ q → r ≡ seen (cond (ltb 0 (length (take (nameLengthIn stateSize 0 (now (states .entry)) s) (drop (namesLength s 0 stateSize (now (states .entry))) (now (labels .entry)))))) (L.worth 1 0 ownWork) (L.refuse q 4))) ⌝ }
+    ensures { λ r. ⌜ ((q : W.Position) → positioned at ≡ q → r ≡ seen (cond (ltb 0 (length (take (nameLengthIn stateSize 0 (now (states .entry)) s) (drop (namesLength s 0 stateSize (now (states .entry))) (now (labels .entry)))))) (L.worth 1 0 ownWork) (L.refuse q BadName))) ⌝ }
 {
     if labelled(states, labels, s) {
         return alone();
     }
-    faults::refused(at, 4)
+    faults::refused(at, Refusal::BadName)
 }
 
 // What stands only in operations, or only in states.
@@ -93,7 +95,7 @@ fn only_in(right: bool, at: Position, v: Verdict) -> Verdict
     if right {
         return v;
     }
-    faults::refused(at, 3)
+    faults::refused(at, Refusal::NoContinuation)
 }
 
 // The action that record i is.
@@ -129,9 +131,9 @@ pub fn simple(
         Action::Goto(s) => only_in(own.state, at, to_state(ss, labels, at, s)),
         Action::Call(s) => only_in(own.state, at, to_state(ss, labels, at, s)),
         Action::Return => only_in(own.state, at, alone()),
-        Action::When(_, _) => faults::refused(at, 3),
-        Action::Choose(_, _, _) => faults::refused(at, 3),
-        Action::Arm(_) => faults::refused(at, 3),
-        Action::Broken => faults::refused(at, 4),
+        Action::When(_, _) => faults::refused(at, Refusal::NoContinuation),
+        Action::Choose(_, _, _) => faults::refused(at, Refusal::NoContinuation),
+        Action::Arm(_) => faults::refused(at, Refusal::NoContinuation),
+        Action::Broken => faults::refused(at, Refusal::BadName),
     }
 }

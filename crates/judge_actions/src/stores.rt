@@ -11,6 +11,7 @@ use judge_verdicts::Verdict;
 use judge_verdicts::Worth;
 use judge_verdicts::faults;
 use judge_verdicts::work;
+use language::refusals::Refusal;
 use text_words::Position;
 ghost use mathlib.Core.Path.{_≡_};
 ghost use Prim.Native.Nat.{_<_};
@@ -69,8 +70,8 @@ fn stored(at: Position, allowed: bool, length: u32, a: Verdict, b: Verdict) -> V
 {
     match faults::both(a, b) {
         Pair::Fine(v, w) => {
-            let same = faults::unless(length == w.length as u32, at, 7);
-            let right = faults::also(same, faults::unless(allowed, at, 8));
+            let same = faults::unless(length == w.length as u32, at, Refusal::BadLength);
+            let right = faults::also(same, faults::unless(allowed, at, Refusal::BadStore));
             faults::or_faulty(right, conditionals::counted(v.work, w.work))
         }
         Pair::Faulty(f) => Verdict::Faulty(f),
@@ -149,7 +150,7 @@ pub fn set(
     let a = walk::left(fs, es, fp, ep, memo, known, l);
     match a {
         Verdict::Fine(v) => {
-            let right = faults::unless(may_set(kind, v.length), at, 8);
+            let right = faults::unless(may_set(kind, v.length), at, Refusal::BadStore);
             let fine = Verdict::Fine(Worth {
                 length: 1,
                 arms: 0,

@@ -11,6 +11,7 @@ use judge_records::places;
 use judge_terms::operators;
 use judge_verdicts::Verdict;
 use judge_verdicts::faults;
+use language::refusals::Refusal;
 ghost use Prim.Native.Nat.{_+_, _≤_};
 ghost use Rattle.judge_actions.specs.Listed.{Lists, armsAt, heldAt, listAt};
 
@@ -76,7 +77,7 @@ fn held(
 {
     let n = b.size as usize;
     if m < n {
-        return faults::refused(places::nowhere(), 3);
+        return faults::refused(places::nowhere(), Refusal::NoContinuation);
     }
     let i = b.number;
     let at = places::of_record(ap, i);
@@ -117,14 +118,14 @@ fn arms(
     let m = k - 1;
     let nowhere = places::nowhere();
     let Action::Arm(x) = actions::action_at(acts, i) else {
-        return faults::refused(nowhere, 3);
+        return faults::refused(nowhere, Refusal::NoContinuation);
     };
     let n = x as usize;
     if n == 0 {
-        return faults::refused(nowhere, 3);
+        return faults::refused(nowhere, Refusal::NoContinuation);
     }
     if m < n {
-        return faults::refused(nowhere, 3);
+        return faults::refused(nowhere, Refusal::NoContinuation);
     }
     let j = i + 1;
     let first = list(fs, es, fp, ep, memo, acts, ap, ss, labels, kept, own, n, j);

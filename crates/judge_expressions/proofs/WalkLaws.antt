@@ -23,13 +23,14 @@ use Rattle.image_records.specs.Nodes.{meant}
 use Rattle.image_records.specs.declared.nodes.Node.{Node}
 use Rattle.image_records.specs.declared.nodes.Node.the-variants as N
 use Rattle.judge_terms.specs.Shown.{worked}
+use Rattle.language.specs.declared.refusals.Refusal.the-variants.{BadName, BadSubscript, NoContinuation}
 
 module _ (d : Description) (p : Places) (t : ℕ → Judged) (known n : ℕ) where
   pub part-lt : (a : ℕ) → a < n → judgeBelow d p t known n a ≡ judgeAt d p t known a
   unfolding judgeBelow judgeAt
   part-lt a h = below-lt (notBefore d p t known) (judgeStep d p t known) n a h
 
-  pub part-ge : (a : ℕ) → n ≤ a → judgeBelow d p t known n a ≡ refuse D.nowhere 3
+  pub part-ge : (a : ℕ) → n ≤ a → judgeBelow d p t known n a ≡ refuse D.nowhere NoContinuation
   unfolding judgeBelow
   part-ge a h = below-ge (notBefore d p t known) (judgeStep d p t known) n a h
 
@@ -65,7 +66,7 @@ module _ (d : Description) (p : Places) (t : ℕ → Judged) (known n : ℕ) whe
   Rest k = OneOf (2 ∷ 3 ∷ 4 ∷ 5 ∷ 6 ∷ 13 ∷ []) k
 
   pub broken-is : (a b v : ℕ) (r : Node) → Rest (tagOf the-type r) → referenceOf (widenedNode a b (meant v r)) ≡ none
-      → (ev : ℕ → Judged) (at : NodePlaces) → refuse (at .at) 4 ≡ judgeNode d p t known ev at (widenedNode a b (meant v r))
+      → (ev : ℕ → Judged) (at : NodePlaces) → refuse (at .at) BadName ≡ judgeNode d p t known ev at (widenedNode a b (meant v r))
   unfolding judgeNode
   broken-is a b v (N.Constant l) k e ev at = absurd (miss (2 ∷ 3 ∷ 4 ∷ 5 ∷ 6 ∷ 13 ∷ []) 0 tt k)
   broken-is a b v (N.More m) k e ev at = absurd (miss (2 ∷ 3 ∷ 4 ∷ 5 ∷ 6 ∷ 13 ∷ []) 1 tt k)
@@ -99,12 +100,12 @@ module _ (d : Description) (p : Places) (t : ℕ → Judged) (ev : ℕ → Judge
   abbrev This : Reference
   This = record { facility = f; subscripts = s }
 
-  pub unknown-reference : known ≤ f → refuse (at .at) 4 ≡ referenceJudged d p t ev own known This at
+  pub unknown-reference : known ≤ f → refuse (at .at) BadName ≡ referenceJudged d p t ev own known This at
   unfolding referenceJudged
   unknown-reference h = rw (le-ltb f known h)
 
   pub wrong-reference : {x : Facility} → f < known → x ≡ facilityAt d f → rightCount (x .dimensions) s ≡ false
-      → orFaulty (faultsOf (subscriptsJudged d p t ev s)) (refuse (at .at) 6) ≡ referenceJudged d p t ev own known This at
+      → orFaulty (faultsOf (subscriptsJudged d p t ev s)) (refuse (at .at) BadSubscript) ≡ referenceJudged d p t ev own known This at
   unfolding referenceJudged
   wrong-reference h e c = rw (lt-ltb f known h, ← e, c)
 

@@ -11,6 +11,7 @@ use judge_verdicts::Verdict;
 use judge_verdicts::faults;
 use judge_verdicts::tests;
 use judge_verdicts::work;
+use language::refusals::Refusal;
 use store_geometry::subscripts;
 use store_geometry::subscripts::Subscripts;
 ghost use mathlib.Core.Option.{none};
@@ -41,7 +42,7 @@ fn part(
     if a < n {
         return judge(fs, es, fp, ep, memo, known, a);
     }
-    faults::refused(places::nowhere(), 3)
+    faults::refused(places::nowhere(), Refusal::NoContinuation)
 }
 
 // Operand a of record n.
@@ -103,7 +104,7 @@ fn referred(
 {
     let at = places::of_node(ep, n as usize, 0);
     if known <= f as usize {
-        return faults::refused(at, 4);
+        return faults::refused(at, Refusal::BadName);
     }
     let x = facilities::facility_at(fs, fp, f as usize);
     let subs = subscripts(fs, es, fp, ep, memo, known, n, s);
@@ -133,7 +134,7 @@ fn operator(
     let at = places::of_node(ep, n as usize, 0);
     match nodes::node_at(es, n as usize) {
         Node::Constant(l) => operators::constant(at, l),
-        Node::More(_) => faults::refused(at, 3),
+        Node::More(_) => faults::refused(at, Refusal::NoContinuation),
         Node::Binary(k, a, b) => {
             let x = operand(fs, es, fp, ep, memo, known, n, a);
             operators::binary(at, k, x, operand(fs, es, fp, ep, memo, known, n, b))
@@ -154,7 +155,7 @@ fn operator(
             let y = tests::arm_list(at, part(fs, es, fp, ep, memo, known, n, a));
             operators::choice(at, c, x, y)
         }
-        _ => faults::refused(at, 4),
+        _ => faults::refused(at, Refusal::BadName),
     }
 }
 
@@ -206,6 +207,6 @@ pub fn left(
 {
     match references::reference_at(es, ep, n) {
         Reference::To(f, s) => referred(fs, es, fp, ep, memo, known, n, 0, f, s),
-        Reference::None => faults::refused(places::of_node(ep, n as usize, 0), 4),
+        Reference::None => faults::refused(places::of_node(ep, n as usize, 0), Refusal::BadName),
     }
 }

@@ -13,6 +13,7 @@ use lib.Seq.{drop-drop, getD-drop}
 use Rattle.language.specs.Decode.{upTo}
 use Rattle.language.specs.Description as D
 use Rattle.language.specs.Judging.{unless}
+use Rattle.language.specs.declared.refusals.Refusal.the-variants.{BadName}
 use Rattle.language.specs.Rules.{declared, nameFaults, twice}
 use Rattle.language.specs.Scan.{same}
 use Rattle.language.specs.Tree.{Name}
@@ -99,10 +100,10 @@ module _ (ls names : List ℕ) (ps : List Position) where
   left m k = least (nameFaults (earlier ls names k) (upTo (nameNo ls names) k m) (drop k ps))
 
   abbrev pub own : ℕ → List W.Fault
-  own k = unless (cond (twice (nameNo ls names k) (earlier ls names k)) false true) (getD ps k D.nowhere) 4
+  own k = unless (cond (twice (nameNo ls names k) (earlier ls names k)) false true) (getD ps k D.nowhere) BadName
 
   first-fault : (before : List Name) (n : Name) (ns : List Name) (qs : List Position)
-      → nameFaults before (n ∷ ns) qs ≡ unless (cond (twice n before) false true) (getD qs 0 D.nowhere) 4 ++ nameFaults (n ∷ before) ns (drop 1 qs)
+      → nameFaults before (n ∷ ns) qs ≡ unless (cond (twice n before) false true) (getD qs 0 D.nowhere) BadName ++ nameFaults (n ∷ before) ns (drop 1 qs)
   unfolding nameFaults
   first-fault before n ns [] = refl
   first-fault before n ns (p ∷ qs) = refl
@@ -112,11 +113,11 @@ module _ (ls names : List ℕ) (ps : List Position) where
   next-name m k =
       let e : k + 0 ≡ k = omega arith in
       ap least (first-fault (earlier ls names k) (nameNo ls names k) (upTo (nameNo ls names) (suc k) m) (drop k ps))
-      ∙ least-both (unless (cond (twice (nameNo ls names k) (earlier ls names k)) false true) (getD (drop k ps) 0 D.nowhere) 4) (nameFaults (earlier ls names (suc k)) (upTo (nameNo ls names) (suc k) m) (drop 1 (drop k ps)))
+      ∙ least-both (unless (cond (twice (nameNo ls names k) (earlier ls names k)) false true) (getD (drop k ps) 0 D.nowhere) BadName) (nameFaults (earlier ls names (suc k)) (upTo (nameNo ls names) (suc k) m) (drop 1 (drop k ps)))
       ∙ rw (getD-drop k ps 0 D.nowhere, e, drop-drop 1 k ps, add-one k)
 
   pub own-fault : (k : ℕ) {name : Name} {fresh : Bool} {at : Position} {one : Option W.Fault} → name ≡ nameNo ls names k
-      → fresh ≡ cond (twice name (earlier ls names k)) false true → at ≡ getD ps k D.nowhere → one ≡ least (unless fresh at 4) → one ≡ least (own k)
+      → fresh ≡ cond (twice name (earlier ls names k)) false true → at ≡ getD ps k D.nowhere → one ≡ least (unless fresh at BadName) → one ≡ least (own k)
   own-fault k e f a h = rw (h, f, e, a)
 
   pub start-name : {N : ℕ} → N ≡ length ls → lesser none (left (N - 0) 0) ≡ least (nameFaults [] (upTo (nameNo ls names) 0 (length ls)) ps)

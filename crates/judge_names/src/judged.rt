@@ -2,6 +2,7 @@
 use crate::numbered;
 use image_records::bytes;
 use judge_verdicts::faults;
+use language::refusals::Refusal;
 use text_words::Judged;
 ghost use mathlib.Core.Bool.{cond, false, true};
 ghost use mathlib.Core.List.{[]};
@@ -47,7 +48,7 @@ pub fn names(fs: &[u8], os: &[u8], ss: &[u8], ns: &[u8], fp: &[u8], op: &[u8], s
         let name = bytes::part(ns, offset, n as usize);
         let fresh = is_new(fs, os, ss, ns, k, name);
         let at = numbered::place_of(fp, op, sp, k);
-        all = text_words::faults::earlier(all, faults::unless(fresh, at, 4));
+        all = text_words::faults::earlier(all, faults::unless(fresh, at, Refusal::BadName));
         offset = numbered::after(ns, offset, n);
         k += 1;
     }

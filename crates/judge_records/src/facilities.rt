@@ -1,7 +1,7 @@
 // A facility's record with the marks beside it: its bounds may be above 65,535.
 use crate::places;
-use image_records::record_sizes;
 use image_records::numbers;
+use image_records::record_sizes;
 use image_sections::facilities::Kind;
 use image_sections::kinds;
 use store_geometry::bounds::Bounds;

@@ -17,6 +17,7 @@ use Rattle.language.specs.Judging as L
 use Rattle.language.specs.Judging.{Judged, refuse, unless}
 use Rattle.language.specs.Layout.{facilityBytes}
 use Rattle.language.specs.Recursion.{below-lt}
+use Rattle.language.specs.declared.refusals.Refusal.the-variants.{BadName, BadSequencing, CeilingPassed}
 use Rattle.language.specs.Rules.{boundsFaults, facilitiesFaults, facilityFaults, largestStore, orElse, sameLength, sequencingRight}
 use Rattle.language.specs.Tree.{Name}
 use Rattle.language.specs.WordStage.{least}
@@ -43,7 +44,7 @@ use Rattle.language.specs.Encode.{facilitySize}
 
 pub terminal-lt : (d : Description) (p : Places) (k n : ℕ) → n < k → terminalBelow d p k n ≡ terminalJudged d p n
 unfolding terminalBelow terminalJudged
-terminal-lt d p k n h = below-lt (refuse D.nowhere 4) (terminalStep d p) k n h
+terminal-lt d p k n h = below-lt (refuse D.nowhere BadName) (terminalStep d p) k n h
 
 pub shown-of : {facs exprs marks places memo : List ℕ} {d : Description} {p : Places} (k : ℕ) → Declared facs exprs marks places d p
     → Remembered facs memo k d p → k ≤ length facs / facilitySize → Shown facs exprs marks places memo k d p (terminalBelow d p k)
@@ -66,13 +67,13 @@ module _ (d : Description) (p : Places) (n : ℕ) where
     Sequencing = cond (isSequencing (x .kind)) (sequencingRight d p another x) true
 
     pub computed-faults : isComputed (x .kind) ≡ true
-        → unless Sequencing (at .name) 9 ++ (unless (leb after largestStore) (at .name) 10 ++ sameLength d p (wordLength x) (at .equals) (terminalJudged d p n))
+        → unless Sequencing (at .name) BadSequencing ++ (unless (leb after largestStore) (at .name) CeilingPassed ++ sameLength d p (wordLength x) (at .equals) (terminalJudged d p n))
         ≡ facilityFaults d p n another before x at
     unfolding facilityFaults largestStore
     computed-faults c = rw (c, e, capped-within (before + facilityBytes x))
 
     pub other-faults : isComputed (x .kind) ≡ false
-        → unless Sequencing (at .name) 9 ++ (unless (leb after largestStore) (at .name) 10 ++ []) ≡ facilityFaults d p n another before x at
+        → unless Sequencing (at .name) BadSequencing ++ (unless (leb after largestStore) (at .name) CeilingPassed ++ []) ≡ facilityFaults d p n another before x at
     unfolding facilityFaults largestStore
     other-faults c = rw (c, e, capped-within (before + facilityBytes x))
 

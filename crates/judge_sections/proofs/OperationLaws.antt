@@ -14,6 +14,7 @@ use Rattle.language.specs.Description as D
 use Rattle.language.specs.Description.{Description, Places, Run, operationAt}
 use Rattle.language.specs.Judging.{Judged, faultsOf, refuse}
 use Rattle.language.specs.Recursion.{below-ge, below-lt}
+use Rattle.language.specs.declared.refusals.Refusal.the-variants.{BadName, NoContinuation}
 use Rattle.language.specs.Rules.{operationsFaults}
 use Rattle.language.specs.WordStage.{least}
 use Rattle.language.specs.Words as W
@@ -33,14 +34,14 @@ module _ (d : Description) (p : Places) where
   unfolding operationBelow operationJudged
   operation-lt k o h = below-lt (unknownOperation d p) (operationStep d p) k o h
 
-  operation-ge : (k o : ℕ) → k ≤ o → operationBelow d p k o ≡ refuse D.nowhere 4
+  operation-ge : (k o : ℕ) → k ≤ o → operationBelow d p k o ≡ refuse D.nowhere BadName
   unfolding operationBelow
   operation-ge k o h = below-ge (unknownOperation d p) (operationStep d p) k o h
 
   -- ---- One operation.
 
   module _ (k : ℕ) {r : Run} (e : r ≡ operationAt d k .body) where
-    pub empty-operation : r .count ≡ 0 → refuse D.nowhere 3 ≡ operationJudged d p k
+    pub empty-operation : r .count ≡ 0 → refuse D.nowhere NoContinuation ≡ operationJudged d p k
     unfolding operationJudged
     empty-operation h = rw (← e, eq-eqb (r .count) 0 h)
 

@@ -14,6 +14,7 @@ use Rattle.language.specs.Decode.{digitsBefore, nodeOf, numberAt}
 use Rattle.language.specs.Description as D
 use Rattle.language.specs.Description.{Description, Node, Places, constantValue, nodeAt, stateAt}
 use Rattle.language.specs.Judging as L
+use Rattle.language.specs.declared.refusals.Refusal.the-variants.{BadSequencing}
 use Rattle.language.specs.Rules as R
 use Rattle.language.specs.Value.{Value, value}
 use Rattle.language.specs.Words as W
@@ -125,6 +126,6 @@ module _ (d : Description) (p : Places) (before : List ℕ) (q : W.Position) whe
   no-value-faults none = refl
   no-value-faults (some l) = refl
 
-  pub value-faults-are : (l : Option ℕ) (a : ℕ) → L.unless (rightValue d p l before a) q 9 ≡ R.valueFaults d p l before q (some a)
+  pub value-faults-are : (l : Option ℕ) (a : ℕ) → L.unless (rightValue d p l before a) q BadSequencing ≡ R.valueFaults d p l before q (some a)
   value-faults-are none a = refl
   value-faults-are (some l) a = refl

@@ -4,6 +4,7 @@ use judge_records::facilities::Facility;
 use judge_records::places;
 use judge_verdicts::Verdict;
 use judge_verdicts::faults;
+use language::refusals::Refusal;
 use text_words::Judged;
 use text_words::Position;
 ghost use mathlib.Core.Bool.{cond, false, true};
@@ -18,14 +19,15 @@ ghost use Rattle.language.specs.WordStage.{least};
 ghost use Rattle.language.specs.Words as W;
 ghost use Rattle.judge_records.specs.Read.{facilityMeant};
 ghost use Rattle.judge_verdicts.specs.Meaning.{seen};
+ghost use Rattle.language.specs.declared.refusals.Refusal.the-variants.{BadSequencing, BadSubscript, CeilingPassed};
 ghost use Rattle.text_words.specs.Meaning.{judged, positioned};
 ghost use Rattle.judge_sections.specs.Declared.{facilityPlacesOf};
 
 // A bound is at most 65,535.
 fn bound_fault(n: u32, at: Position) -> Judged
-    ensures { λ r. ⌜ ((q : W.Position) → positioned at ≡ q → judged r ≡ least (L.unless (leb n largestBound) q 6)) ⌝ }
+    ensures { λ r. ⌜ ((q : W.Position) → positioned at ≡ q → judged r ≡ least (L.unless (leb n largestBound) q BadSubscript)) ⌝ }
 {
-    faults::unless(n <= 65535, at, 6)
+    faults::unless(n <= 65535, at, Refusal::BadSubscript)
 }
 
 // The bounds of facility n.
@@ -63,7 +65,7 @@ fn same_length(length: u64, at: Position, v: Verdict) -> Judged
     ensures { λ r. ⌜ ((d : Description) (p : Places) (q : W.Position) (j : L.Judged) → positioned at ≡ q → v ≡ seen j → judged r ≡ least (sameLength d p length q j)) ⌝ }
 {
     match v {
-        Verdict::Fine(w) => faults::unless(length == w.length as u64, at, 7),
+        Verdict::Fine(w) => faults::unless(length == w.length as u64, at, Refusal::BadLength),
         Verdict::Faulty(f) => Judged::Refused(f),
     }
 }
@@ -98,10 +100,10 @@ pub fn facility_faults(
     f: Facility,
     terminal: Judged,
 ) -> Judged
-    ensures { λ r. ⌜ ((d : Description) (p : Places) (name : Name) (x : List W.Fault) → facilityPlace p n ≡ facilityPlacesOf (now (fp .entry)) n → judged terminal ≡ least x → judged r ≡ least (L.unless (cond (isSequencing (facilityMeant name f .kind)) (sequencingRight d p another (facilityMeant name f)) true) (facilityPlace p n .name) 9 ++ (L.unless (leb after largestStore) (facilityPlace p n .name) 10 ++ x))) ⌝ }
+    ensures { λ r. ⌜ ((d : Description) (p : Places) (name : Name) (x : List W.Fault) → facilityPlace p n ≡ facilityPlacesOf (now (fp .entry)) n → judged terminal ≡ least x → judged r ≡ least (L.unless (cond (isSequencing (facilityMeant name f .kind)) (sequencingRight d p another (facilityMeant name f)) true) (facilityPlace p n .name) BadSequencing ++ (L.unless (leb after largestStore) (facilityPlace p n .name) CeilingPassed ++ x))) ⌝ }
 {
     let at = places::of_facility(fp, n, 0);
-    let one = faults::unless(sequencing_right(another, f), at, 9);
-    let two = faults::unless(after <= 16384, at, 10);
+    let one = faults::unless(sequencing_right(another, f), at, Refusal::BadSequencing);
+    let two = faults::unless(after <= 16384, at, Refusal::CeilingPassed);
     faults::also(one, faults::also(two, terminal))
 }

@@ -6,6 +6,7 @@ use judge_actions::Owner;
 use judge_actions::walk;
 use judge_records::places;
 use judge_verdicts::Verdict;
+use language::refusals::Refusal;
 use text_words::Judged;
 use text_words::faults;
 ghost use mathlib.Core.List.{List};
@@ -43,7 +44,7 @@ fn operation(
     let n = body.count as usize;
     let i = body.first as usize;
     if n == 0 {
-        return judge_verdicts::faults::refused(places::nowhere(), 3);
+        return judge_verdicts::faults::refused(places::nowhere(), Refusal::NoContinuation);
     }
     let own = Owner {
         state: false,

@@ -10,6 +10,7 @@ use judge_actions::walk;
 use judge_records::places;
 use judge_verdicts::Verdict;
 use judge_verdicts::faults;
+use language::refusals::Refusal;
 use text_words::Judged;
 use text_words::Position;
 ghost use mathlib.Core.Bool.{cond, false, true};
@@ -51,8 +52,8 @@ fn own_faults(there: bool, at: Position, v: Verdict) -> Judged
 {
     match v {
         Verdict::Fine(w) => {
-            let one = faults::unless(there, at, 9);
-            let two = faults::unless(w.work <= 65536, at, 10);
+            let one = faults::unless(there, at, Refusal::BadSequencing);
+            let two = faults::unless(w.work <= 65536, at, Refusal::CeilingPassed);
             faults::also(one, two)
         }
         Verdict::Faulty(f) => Judged::Refused(f),

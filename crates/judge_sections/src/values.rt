@@ -6,6 +6,7 @@ use image_records::record_sizes;
 use image_sections::states::StateValue;
 use judge_terms::constants;
 use judge_verdicts::faults;
+use language::refusals::Refusal;
 use text_words::Judged;
 use text_words::Position;
 ghost use mathlib.Core.Bool.{_||_};
@@ -119,5 +120,9 @@ pub fn value_faults(
     let StateValue::At(a) = value else {
         return Judged::Passed;
     };
-    faults::unless(right_value(es, ss, n, wanted, a), at, 9)
+    faults::unless(
+        right_value(es, ss, n, wanted, a),
+        at,
+        Refusal::BadSequencing,
+    )
 }

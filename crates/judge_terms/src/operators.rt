@@ -6,6 +6,7 @@ use judge_verdicts::Worth;
 use judge_verdicts::faults;
 use judge_verdicts::tests;
 use judge_verdicts::work;
+use language::refusals::Refusal;
 use text_words::Position;
 use value_operators::operators;
 ghost use mathlib.Core.Path.{_≡_};
@@ -99,10 +100,10 @@ pub fn choice(at: Position, count: u16, c: Verdict, a: Verdict) -> Verdict
     match faults::both(c, a) {
         Pair::Fine(v, w) => {
             if !lengths::selects(v.length, count) {
-                return faults::refused(at, 7);
+                return faults::refused(at, Refusal::BadLength);
             }
             if w.arms != count as usize {
-                return faults::refused(at, 7);
+                return faults::refused(at, Refusal::BadLength);
             }
             tests::sized(at, w.length as u64, work::with_two(v.work, w.work))
         }

@@ -15,6 +15,7 @@ use judge_verdicts::faults;
 use judge_verdicts::kept;
 use judge_verdicts::tests;
 use judge_verdicts::work;
+use language::refusals::Refusal;
 use store_geometry::bounds;
 use store_geometry::bounds::Bounds;
 use store_geometry::subscripts::Subscripts;
@@ -37,6 +38,7 @@ ghost use Rattle.store_geometry.specs.Subscripts.{subscriptsMeant};
 ghost use Rattle.image_records.specs.References.{referenceMeant};
 ghost use Rattle.judge_records.specs.Read.{facilityMeant};
 ghost use Rattle.judge_verdicts.specs.Meaning.{capped, recalled, seen};
+ghost use Rattle.language.specs.declared.refusals.Refusal.the-variants.{BadSubscript};
 ghost use Rattle.text_words.specs.Meaning.{judged, positioned};
 ghost use Rattle.judge_terms.specs.Shown.{Records};
 
@@ -57,7 +59,7 @@ fn subscript_faults(exprs: &[u8], places: &[u8], b: Bounds, e: u16) -> Judged
         return Judged::Passed;
     };
     let at = places::of_node(places, e as usize, 0);
-    faults::unless(constants::within(exprs, e, b), at, 6)
+    faults::unless(constants::within(exprs, e, b), at, Refusal::BadSubscript)
 }
 
 // The ends of a part lie within the bounds.
@@ -66,8 +68,16 @@ fn end_faults(places: &[u8], n: u16, b: Bounds, x: Bounds) -> Judged
 {
     let first = places::of_node(places, n as usize, 1);
     let last = places::of_node(places, n as usize, 2);
-    let one = faults::unless(bounds::in_bounds(b, x.first as u64), first, 6);
-    let other = faults::unless(bounds::in_bounds(b, x.last as u64), last, 6);
+    let one = faults::unless(
+        bounds::in_bounds(b, x.first as u64),
+        first,
+        Refusal::BadSubscript,
+    );
+    let other = faults::unless(
+        bounds::in_bounds(b, x.last as u64),
+        last,
+        Refusal::BadSubscript,
+    );
     faults::also(one, other)
 }
 
@@ -106,9 +116,17 @@ pub fn direction_faults(places: &[u8], n: u16, f: Facility, s: Subscripts) -> Ju
     match s {
         Subscripts::Whole => Judged::Passed,
         Subscripts::One(_) => Judged::Passed,
-        Subscripts::Part(x) => faults::unless(bounds::same_direction(b, x), last, 6),
+        Subscripts::Part(x) => faults::unless(
+            bounds::same_direction(b, x),
+            last,
+            Refusal::BadSubscript,
+        ),
         Subscripts::Two(_, _) => Judged::Passed,
-        Subscripts::WordPart(_, x) => faults::unless(bounds::same_direction(b, x), last, 6),
+        Subscripts::WordPart(_, x) => faults::unless(
+            bounds::same_direction(b, x),
+            last,
+            Refusal::BadSubscript,
+        ),
     }
 }
 
@@ -154,7 +172,10 @@ pub fn counted_right(
 
 // One with another number of them.
 pub fn counted_wrong(at: Position, subs: Verdict) -> Verdict
-    ensures { λ r. ⌜ ((q : W.Position) (j : L.Judged) → positioned at ≡ q → subs ≡ seen j → r ≡ seen (L.orFaulty (L.faultsOf j) (L.refuse q 6))) ⌝ }
+    ensures { λ r. ⌜ ((q : W.Position) (j : L.Judged) → positioned at ≡ q → subs ≡ seen j → r ≡ seen (L.orFaulty (L.faultsOf j) (L.refuse q BadSubscript))) ⌝ }
 {
-    faults::or_faulty(faults::faults_of(subs), faults::refused(at, 6))
+    faults::or_faulty(
+        faults::faults_of(subs),
+        faults::refused(at, Refusal::BadSubscript),
+    )
 }

@@ -1,16 +1,52 @@
 -- Verdicts kept in numbers.
 use mathlib.Core.List.{List}
-use mathlib.Core.Path.{_≡_, _∙_}
+use mathlib.Core.Path.{_≡_, refl, _∙_}
 use native.Mathlib.Omega.{arith}
-use Prim.Native.Nat.{ℕ, _+_, _-_, _*_, _<_}
+use Prim.Native.Nat.{ℕ, _+_, _*_, _<_}
 use borrow.Author.Tests.{ne-eqb}
 use lib.ListN.{getD, length, set, length-set}
 use lib.Seq.{getD-set-other, getD-set-same}
-use native.Mathlib.Nat.{mod-eq-of-lt}
+use Rattle.language.specs.Refusals.{refusalNumber}
+use Rattle.language.specs.declared.refusals.Refusal.{Refusal}
+use Rattle.language.specs.declared.refusals.Refusal.the-variants.{BadCharacter, BadConstant, BadLength, BadName, BadSequencing, BadStimulus, BadStore, BadSubscript, BufferTooShort, CeilingPassed, ImageFails, NoContinuation, TextTooLong, Unsound}
 use Rattle.text_words.specs.declared.Fault.{Fault}
 use Rattle.judge_verdicts.specs.declared.Verdict.the-variants.{Fine, Faulty}
 use Rattle.judge_verdicts.specs.declared.Worth.{Worth}
-use Rattle.judge_verdicts.specs.Meaning.{Kept, recalled}
+use Rattle.judge_verdicts.specs.Meaning.{Kept, numbered, recalled}
+
+-- A refusal has its number.
+numbered-back : (r : Refusal) → numbered (refusalNumber r) ≡ r
+unfolding numbered
+numbered-back TextTooLong = refl
+numbered-back BadCharacter = refl
+numbered-back NoContinuation = refl
+numbered-back BadName = refl
+numbered-back BadConstant = refl
+numbered-back BadSubscript = refl
+numbered-back BadLength = refl
+numbered-back BadStore = refl
+numbered-back BadSequencing = refl
+numbered-back CeilingPassed = refl
+numbered-back BufferTooShort = refl
+numbered-back ImageFails = refl
+numbered-back Unsound = refl
+numbered-back BadStimulus = refl
+
+some-number : (r : Refusal) → 0 < refusalNumber r
+some-number TextTooLong = omega arith
+some-number BadCharacter = omega arith
+some-number NoContinuation = omega arith
+some-number BadName = omega arith
+some-number BadConstant = omega arith
+some-number BadSubscript = omega arith
+some-number BadLength = omega arith
+some-number BadStore = omega arith
+some-number BadSequencing = omega arith
+some-number CeilingPassed = omega arith
+some-number BufferTooShort = omega arith
+some-number ImageFails = omega arith
+some-number Unsound = omega arith
+some-number BadStimulus = omega arith
 
 module _ (m : List ℕ) (k a b : ℕ) (h : 2 * k + 1 < length m) where
   first : getD (set (set m (2 * k) a) (2 * k + 1) b) (2 * k) 0 ≡ a
@@ -38,12 +74,12 @@ module _ (m : List ℕ) (k : ℕ) (h : 2 * k + 1 < length m) where
   unfolding recalled
   kept-fine w = record { size = size m k 0 (w .work) h; here = rw (first m k 0 (w .work) h, second m k 0 (w .work) h); others = others m k 0 (w .work) h }
 
-  pub kept-faulty : (f : Fault) → f .number < 256 → Kept m k (Faulty f) (set (set m (2 * k) (f .number + 1)) (2 * k + 1) (f .at .place))
+  pub kept-faulty : (f : Fault) → Kept m k (Faulty f) (set (set m (2 * k) (refusalNumber (f .refusal))) (2 * k + 1) (f .at .place))
   unfolding recalled
-  kept-faulty f l =
-      let e : f .number + 1 - 1 ≡ f .number = omega arith in
+  kept-faulty f =
+      let n = refusalNumber (f .refusal) in
       record {
-        size = size m k (f .number + 1) (f .at .place) h;
-        here = rw (first m k (f .number + 1) (f .at .place) h, second m k (f .number + 1) (f .at .place) h, ne-eqb (f .number + 1) 0 (λ z. omega arith), e, mod-eq-of-lt l);
-        others = others m k (f .number + 1) (f .at .place) h;
+        size = size m k n (f .at .place) h;
+        here = rw (first m k n (f .at .place) h, second m k n (f .at .place) h, ne-eqb n 0 (λ z. omega (arith, some-number (f .refusal))), numbered-back (f .refusal));
+        others = others m k n (f .at .place) h;
       }

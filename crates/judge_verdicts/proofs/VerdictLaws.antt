@@ -10,6 +10,8 @@ use Prim.Native.Nat.{ℕ}
 use Rattle.language.specs.Decode.{pick}
 use Rattle.language.specs.Judging as L
 use Rattle.language.specs.Judging.{Judged, fine, faulty, given, givenBoth, orFaulty}
+use Rattle.language.specs.declared.refusals.Refusal.{Refusal}
+use Rattle.language.specs.declared.refusals.Refusal.the-variants.{NoContinuation}
 use Rattle.language.specs.Words as W
 use Rattle.language.specs.WordStage.{before, least, smaller}
 use Rattle.text_words.proofs.Least.{least-both}
@@ -107,20 +109,20 @@ module _ (p : W.Position) (j : Judged) where
       q ∙ is-fine j w (λ k. Fine w ≡ seen k → Fine w ≡ seen (L.proper p k)) e
       (λ x m d. let t : eqb (x .arms) 0 ≡ true = sym (capped-eqb (x .arms) 0 (omega arith)) ∙ eq-eqb _ 0 (ap (λ (y : Worth). y .arms) (sym m) ∙ z) in rw t d) e
 
-  pub proper-arms : (w : Worth) → Fine w ≡ seen j → (w .arms ≡ 0 → ⊥) → seen (L.refuse p 3) ≡ seen (L.proper p j)
+  pub proper-arms : (w : Worth) → Fine w ≡ seen j → (w .arms ≡ 0 → ⊥) → seen (L.refuse p NoContinuation) ≡ seen (L.proper p j)
   unfolding L.proper
   proper-arms w e z =
-      is-fine j w (λ k. seen (L.refuse p 3) ≡ seen (L.proper p k)) e
+      is-fine j w (λ k. seen (L.refuse p NoContinuation) ≡ seen (L.proper p k)) e
       (λ x m. let t : eqb (x .arms) 0 ≡ false = sym (capped-eqb (x .arms) 0 (omega arith)) ∙ ne-eqb _ 0 (λ y. z (ap (λ (y : Worth). y .arms) m ∙ y)) in rw t)
 
   pub faulty-arms : (g : Fault) {v : Verdict} → Faulty g ≡ seen j → v ≡ Faulty g → v ≡ seen (L.armList p j)
   unfolding L.armList
   faulty-arms g {v} e q = q ∙ is-faulty j g (λ k. Faulty g ≡ seen k → Faulty g ≡ seen (L.armList p k)) e (λ f fs z d. d) e
 
-  pub arms-none : (w : Worth) → Fine w ≡ seen j → w .arms ≡ 0 → seen (L.refuse p 3) ≡ seen (L.armList p j)
+  pub arms-none : (w : Worth) → Fine w ≡ seen j → w .arms ≡ 0 → seen (L.refuse p NoContinuation) ≡ seen (L.armList p j)
   unfolding L.armList
   arms-none w e z =
-      is-fine j w (λ k. seen (L.refuse p 3) ≡ seen (L.armList p k)) e
+      is-fine j w (λ k. seen (L.refuse p NoContinuation) ≡ seen (L.armList p k)) e
       (λ x m. let t : eqb (x .arms) 0 ≡ true = sym (capped-eqb (x .arms) 0 (omega arith)) ∙ eq-eqb _ 0 (ap (λ (y : Worth). y .arms) (sym m) ∙ z) in rw t)
 
   pub arms-some : (w : Worth) {v : Verdict} → Fine w ≡ seen j → (w .arms ≡ 0 → ⊥) → v ≡ Fine w → v ≡ seen (L.armList p j)
@@ -145,8 +147,8 @@ one-fine j v on {r} e g = is-fine j v (λ x. r ≡ seen (given x on)) e g
 pub sized-same : (w : ℕ) {p q : W.Position} {l m : ℕ} → p ≡ q → l ≡ m → seen (L.sized p l w) ≡ seen (L.sized q m w)
 sized-same w e f = rw (e, f)
 
-pub refuse-same : (n : ℕ) {p q : W.Position} → p ≡ q → seen (L.refuse p n) ≡ seen (L.refuse q n)
-refuse-same n e = rw e
+pub refuse-same : (r : Refusal) {p q : W.Position} → p ≡ q → seen (L.refuse p r) ≡ seen (L.refuse q r)
+refuse-same r e = rw e
 
 pub worth-seen : (l a w : ℕ) {m b x : ℕ} → m ≡ l → b ≡ capped a → x ≡ capped w → Fine (record { length = m; arms = b; work = x }) ≡ seen (L.worth l a w)
 unfolding seen

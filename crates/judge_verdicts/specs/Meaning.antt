@@ -2,7 +2,7 @@
 use mathlib.Core.Bool.{cond}
 use mathlib.Core.List.{List}
 use mathlib.Core.Path.{_≡_}
-use Prim.Native.Nat.{ℕ, suc, _-_, _+_, _*_, _%_, _<_}
+use Prim.Native.Nat.{ℕ, suc, _+_, _*_, _<_}
 use lib.Dec.{eqb, leb}
 use lib.ListN.{getD, length}
 use Rattle.language.specs.Decode.{pick}
@@ -11,6 +11,8 @@ use Rattle.language.specs.Judging.{Judged, fine, faulty}
 use Rattle.language.specs.Rules.{mostWork}
 use Rattle.language.specs.Words as W
 use Rattle.language.specs.WordStage.{before, least, smaller}
+use Rattle.language.specs.declared.refusals.Refusal.{Refusal}
+use Rattle.language.specs.declared.refusals.Refusal.the-variants.{BadCharacter, BadConstant, BadLength, BadName, BadSequencing, BadStimulus, BadStore, BadSubscript, BufferTooShort, CeilingPassed, ImageFails, NoContinuation, TextTooLong, Unsound}
 use Rattle.text_words.specs.declared.Fault.{Fault}
 use Rattle.text_words.specs.Meaning.{faulted}
 use Rattle.judge_verdicts.specs.declared.Pair.{Pair}
@@ -28,7 +30,7 @@ abbrev pub met : L.Worth → Worth
 met w = record { length = w .length; arms = capped (w .arms); work = capped (w .work) }
 
 abbrev pub coded : W.Fault → Fault
-coded f = record { at = record { place = f .at .place }; number = f .number }
+coded f = record { at = record { place = f .at .place }; refusal = f .refusal }
 
 -- What judging shows of an expression.
 unfoldable pub seen : Judged → Verdict
@@ -51,11 +53,28 @@ abbrev pub workOf : Verdict → Verdict
 workOf (Fine w) = Fine (record { length = 1; arms = 0; work = w .work })
 workOf (Faulty f) = Faulty f
 
--- Verdicts kept in numbers, two for each: 0 and the work, or one more than the fault's number and its place.
+-- The refusal of a number.
+unfoldable pub numbered : ℕ → Refusal
+numbered n =
+    pick (eqb n 1) TextTooLong
+    (pick (eqb n 2) BadCharacter
+    (pick (eqb n 3) NoContinuation
+    (pick (eqb n 4) BadName
+    (pick (eqb n 5) BadConstant
+    (pick (eqb n 6) BadSubscript
+    (pick (eqb n 7) BadLength
+    (pick (eqb n 8) BadStore
+    (pick (eqb n 9) BadSequencing
+    (pick (eqb n 10) CeilingPassed
+    (pick (eqb n 12) BufferTooShort
+    (pick (eqb n 13) ImageFails
+    (pick (eqb n 14) Unsound BadStimulus))))))))))))
+
+-- Verdicts kept in numbers, two for each: 0 and the work, or the fault's number and its place.
 unfoldable pub recalled : List ℕ → ℕ → Verdict
 recalled memo k =
     pick (eqb (getD memo (2 * k) 0) 0) (Fine (record { length = 1; arms = 0; work = getD memo (2 * k + 1) 0 }))
-    (Faulty (record { at = record { place = getD memo (2 * k + 1) 0 }; number = (getD memo (2 * k) 0 - 1) % 256 }))
+    (Faulty (record { at = record { place = getD memo (2 * k + 1) 0 }; refusal = numbered (getD memo (2 * k) 0) }))
 
 -- The k-th verdict kept, and those before it left.
 pub record Kept (memo : List ℕ) (k : ℕ) (v : Verdict) (after : List ℕ) : Type 0 where

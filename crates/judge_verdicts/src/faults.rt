@@ -1,6 +1,7 @@
 // Faults of parts, in front of what comes after them.
 use crate::Pair;
 use crate::Verdict;
+use language::refusals::Refusal;
 use text_words::Fault;
 use text_words::Judged;
 use text_words::Position;
@@ -14,20 +15,20 @@ ghost use Rattle.text_words.specs.Meaning.{judged, positioned};
 ghost use Rattle.judge_verdicts.specs.Meaning.{earlierOf, paired, seen};
 
 // A refusal at a place.
-pub fn refused(at: Position, number: u8) -> Verdict
-    ensures { λ r. ⌜ r ≡ seen (L.refuse (positioned at) number) ⌝ }
+pub fn refused(at: Position, refusal: Refusal) -> Verdict
+    ensures { λ r. ⌜ r ≡ seen (L.refuse (positioned at) refusal) ⌝ }
 {
-    Verdict::Faulty(Fault { at, number })
+    Verdict::Faulty(Fault { at, refusal })
 }
 
 // One fault where a test fails.
-pub fn unless(right: bool, at: Position, number: u8) -> Judged
-    ensures { λ r. ⌜ judged r ≡ least (L.unless right (positioned at) number) ⌝ }
+pub fn unless(right: bool, at: Position, refusal: Refusal) -> Judged
+    ensures { λ r. ⌜ judged r ≡ least (L.unless right (positioned at) refusal) ⌝ }
 {
     if right {
         return Judged::Passed;
     }
-    Judged::Refused(Fault { at, number })
+    Judged::Refused(Fault { at, refusal })
 }
 
 // The faults of both.

@@ -2,6 +2,7 @@
 use crate::Verdict;
 use crate::Worth;
 use crate::faults;
+use language::refusals::Refusal;
 use text_words::Position;
 ghost use mathlib.Core.Path.{_≡_};
 ghost use Prim.Native.Nat.{ℕ};
@@ -16,10 +17,10 @@ pub fn sized(at: Position, length: u64, work: usize) -> Verdict
     ensures { λ r. ⌜ ((w : ℕ) → work ≡ capped w → r ≡ seen (L.sized (positioned at) length w)) ⌝ }
 {
     if length == 0 {
-        return faults::refused(at, 7);
+        return faults::refused(at, Refusal::BadLength);
     }
     if LONGEST < length {
-        return faults::refused(at, 7);
+        return faults::refused(at, Refusal::BadLength);
     }
     Verdict::Fine(Worth {
         length: length as u16,
@@ -38,7 +39,7 @@ pub fn proper(at: Position, v: Verdict) -> Verdict
     if w.arms == 0 {
         v
     } else {
-        faults::refused(at, 3)
+        faults::refused(at, Refusal::NoContinuation)
     }
 }
 
@@ -50,7 +51,7 @@ pub fn arm_list(at: Position, v: Verdict) -> Verdict
         return v;
     };
     if w.arms == 0 {
-        faults::refused(at, 3)
+        faults::refused(at, Refusal::NoContinuation)
     } else {
         v
     }

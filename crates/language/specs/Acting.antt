@@ -11,7 +11,8 @@ use Rattle.language.specs.Kinds.{delayedSign}
 use Rattle.language.specs.Meaning.{Answer, Located, Place, Stores, Stuck, Write, armNumber, evalAt, evalBelow, is, noOperation, noState, notOneBit, notStorable, placeOf, runsOver, sidesDiffer, stops, wrongRecord}
 use Rattle.language.specs.Recursion.{below}
 use Rattle.language.specs.References.{Reference, referenceOf}
-use Rattle.language.specs.Stops.{noArm}
+use Rattle.language.specs.declared.stops.Stop.{Stop}
+use Rattle.language.specs.declared.stops.Stop.the-variants.{NoArm}
 use Rattle.language.specs.Storing.{isPlain, mayStore}
 use Rattle.language.specs.Value.{Value}
 
@@ -25,7 +26,7 @@ pub record Doing (X : Type 0) : Type 0 where
 
 pub data Ran (X : Type 0) : Type 0 where
   went : Doing X → Ran X
-  stopped : ℕ → Ran X
+  stopped : Stop → Ran X
   stuck : Stuck → Ran X
 
 abbrev pub onward : {X : Type 0} → Ran X → (Doing X → Ran X) → Ran X
@@ -166,7 +167,7 @@ module _ {X : Type 0} (S : Stores X) (d : Description) where
       inArm x (some r) c = onward (ev (r .count) (r .first) c) (passing x)
 
       abbrev pub armChosen : ℕ → Option ℕ → Doing X → Ran X
-      armChosen x none c = stopped noArm
+      armChosen x none c = stopped NoArm
       armChosen x (some k) c = inArm x (armAt d (k - 1) (i + 1) x) c
 
       -- IF without ELSE: one takes the arm, zero takes nothing.

@@ -11,6 +11,7 @@ use Rattle.language.specs.Expressions.{expressionAt, leftAt, ownWork, se
 use Rattle.language.specs.Judging.{Judged, Worth, both, given, givenBoth, orFaulty, refuse, unless, worth}
 use Rattle.language.specs.Recursion.{below}
 use Rattle.language.specs.References.{Reference, referenceOf}
+use Rattle.language.specs.declared.refusals.Refusal.the-variants.{BadLength, BadName, BadStore, NoContinuation}
 use Rattle.language.specs.Storing.{isPlain, mayStore}
 use Rattle.language.specs.Tree.{Kind, computed}
 use Rattle.language.specs.Words.{Position}
@@ -40,7 +41,7 @@ module _ (d : Description) (p : Places) (inState : Bool) (works : ℕ → Judged
 
   abbrev pub stored : Bool → Position → Worth → Worth → Judged
   stored allowed at v w =
-      orFaulty (unless (eqb (v .length) (w .length)) at 7 ++ unless allowed at 8) (worth 1 0 (ownWork + v .work + w .work))
+      orFaulty (unless (eqb (v .length) (w .length)) at BadLength ++ unless allowed at BadStore) (worth 1 0 (ownWork + v .work + w .work))
 
   -- Two references on the left have their lengths together.
   abbrev pub sides : ℕ → ℕ → Judged
@@ -49,42 +50,42 @@ module _ (d : Description) (p : Places) (inState : Bool) (works : ℕ → Judged
   -- Stores stand only in operations, ->, => and RETURN only in states.
   abbrev pub onlyIn : Bool → Position → Judged → Judged
   onlyIn true at j = j
-  onlyIn false at j = refuse at 3
+  onlyIn false at j = refuse at NoContinuation
 
   abbrev pub notInState : Bool
   notInState = cond inState false true
 
   -- A state is gone to by its name, so an unnamed one is not.
   abbrev pub toState : Position → ℕ → Judged
-  toState at s = cond (ltb 0 (length (stateAt d s .name))) (worth 1 0 ownWork) (refuse at 4)
+  toState at s = cond (ltb 0 (length (stateAt d s .name))) (worth 1 0 ownWork) (refuse at BadName)
 
   unfoldable pub simpleJudged : Position → Action → Judged
   simpleJudged at (D.store k l r) = onlyIn notInState at (givenBoth (side l) (right r) (stored (mayStore k (kindAt d l)) at))
   simpleJudged at (D.storePair k l m r) =
       onlyIn notInState at (givenBoth (sides l m) (right r) (stored (both (mayStore k (kindAt d l)) (mayStore k (kindAt d m))) at))
   simpleJudged at (D.set l) =
-      given (side l) (λ v. orFaulty (unless (both (isPlain (kindAt d l)) (eqb (v .length) 1)) at 8) (worth 1 0 (ownWork + v .work)))
+      given (side l) (λ v. orFaulty (unless (both (isPlain (kindAt d l)) (eqb (v .length) 1)) at BadStore) (worth 1 0 (ownWork + v .work)))
   simpleJudged at (D.perform o) = given (works o) (λ v. worth 1 0 (ownWork + v .work))
   simpleJudged at (D.goto s) = onlyIn inState at (toState at s)
   simpleJudged at (D.call s) = onlyIn inState at (toState at s)
   simpleJudged at D.return = onlyIn inState at (worth 1 0 ownWork)
-  simpleJudged at (D.when c x) = refuse at 3
-  simpleJudged at (D.choose c n x) = refuse at 3
-  simpleJudged at (D.arm x) = refuse at 3
-  simpleJudged at D.Action.broken = refuse at 4
+  simpleJudged at (D.when c x) = refuse at NoContinuation
+  simpleJudged at (D.choose c n x) = refuse at NoContinuation
+  simpleJudged at (D.arm x) = refuse at NoContinuation
+  simpleJudged at D.Action.broken = refuse at BadName
 
   abbrev pub allWork : Worth → Worth → Judged
   allWork v w = worth 1 0 (v .work + w .work)
 
   -- IF without ELSE takes one bit; any other conditional as many arms as its condition selects.
   abbrev pub conditional : Position → Judged → Judged → (Worth → Worth → Bool) → Judged
-  conditional at c a right = givenBoth c a (λ v w. cond (right v w) (worth 1 0 (ownWork + v .work + w .work)) (refuse at 7))
+  conditional at c a right = givenBoth c a (λ v w. cond (right v w) (worth 1 0 (ownWork + v .work + w .work)) (refuse at BadLength))
 
   -- k records from i on, where `ev` judges fewer.
   module _ (ev : ℕ → ℕ → Shape → Judged) (m i : ℕ) where
     -- x records that belong to the record i, and the list after them.
     abbrev pub holding : ℕ → Judged → Judged
-    holding x j = cond (leb x m) (givenBoth j (ev (m - x) (i + 1 + x) actions) allWork) (refuse D.nowhere 3)
+    holding x j = cond (leb x m) (givenBoth j (ev (m - x) (i + 1 + x) actions) allWork) (refuse D.nowhere NoContinuation)
 
     abbrev pub plainly : Judged
     plainly = givenBoth (simpleJudged (actionPlace p i) (actionAt d i)) (ev m (i + 1) actions) allWork
@@ -109,20 +110,20 @@ module _ (d : Description) (p : Places) (inState : Bool) (works : ℕ → Judged
     armAfter x =
         cond (both (leb 1 x) (leb x m))
         (givenBoth (ev x (i + 1) actions) (ev (m - x) (i + 1 + x) arms) (λ v w. worth 1 (w .arms + 1) (v .work + w .work)))
-        (refuse D.nowhere 3)
+        (refuse D.nowhere NoContinuation)
 
     unfoldable pub armsJudged : Action → Judged
-    armsJudged (D.store k l r) = refuse D.nowhere 3
-    armsJudged (D.storePair k l n r) = refuse D.nowhere 3
-    armsJudged (D.set l) = refuse D.nowhere 3
-    armsJudged (D.perform o) = refuse D.nowhere 3
-    armsJudged (D.goto s) = refuse D.nowhere 3
-    armsJudged (D.call s) = refuse D.nowhere 3
-    armsJudged D.return = refuse D.nowhere 3
-    armsJudged (D.when c x) = refuse D.nowhere 3
-    armsJudged (D.choose c n x) = refuse D.nowhere 3
+    armsJudged (D.store k l r) = refuse D.nowhere NoContinuation
+    armsJudged (D.storePair k l n r) = refuse D.nowhere NoContinuation
+    armsJudged (D.set l) = refuse D.nowhere NoContinuation
+    armsJudged (D.perform o) = refuse D.nowhere NoContinuation
+    armsJudged (D.goto s) = refuse D.nowhere NoContinuation
+    armsJudged (D.call s) = refuse D.nowhere NoContinuation
+    armsJudged D.return = refuse D.nowhere NoContinuation
+    armsJudged (D.when c x) = refuse D.nowhere NoContinuation
+    armsJudged (D.choose c n x) = refuse D.nowhere NoContinuation
     armsJudged (D.arm x) = armAfter x
-    armsJudged D.Action.broken = refuse D.nowhere 3
+    armsJudged D.Action.broken = refuse D.nowhere NoContinuation
 
   abbrev pub shaped : (ℕ → ℕ → Shape → Judged) → ℕ → ℕ → Shape → Judged
   shaped ev m i actions = listJudged ev m i (actionAt d i)
@@ -132,7 +133,7 @@ module _ (d : Description) (p : Places) (inState : Bool) (works : ℕ → Judged
   runStep ev k i s = cond (eqb k 0) (worth 1 0 0) (shaped ev (k - 1) i s)
 
   unfoldable pub runBelow : ℕ → ℕ → ℕ → Shape → Judged
-  runBelow = below (λ i s. refuse D.nowhere 3) runStep
+  runBelow = below (λ i s. refuse D.nowhere NoContinuation) runStep
 
   -- A list of actions, by its run of records.
   unfoldable pub runJudged : Run → Judged
@@ -144,11 +145,11 @@ module _ (d : Description) (p : Places) where
   abbrev pub operationStep : (ℕ → Judged) → ℕ → Judged
   operationStep ev o =
       let body = operationAt d o .body in
-      cond (eqb (body .count) 0) (refuse D.nowhere 3) (runJudged d p false ev body)
+      cond (eqb (body .count) 0) (refuse D.nowhere NoContinuation) (runJudged d p false ev body)
 
   -- A name of an operation that is not known yet.
   abbrev pub unknownOperation : Judged
-  unknownOperation = refuse D.nowhere 4
+  unknownOperation = refuse D.nowhere BadName
 
   unfoldable pub operationBelow : ℕ → ℕ → Judged
   operationBelow = below unknownOperation operationStep

@@ -12,14 +12,17 @@ use Rattle.language.specs.Judging.{both}
 use Rattle.language.specs.Layout.{storeSize, storeSizeOf}
 use Rattle.language.specs.Reading.{filled, zeroes}
 use Rattle.language.specs.RecordBytes.{marked, recordBytes, recordFrom, recordSize, sound}
+use Rattle.language.specs.declared.refusals.Refusal.{Refusal}
+use Rattle.language.specs.declared.refusals.Refusal.the-variants.{BadStimulus, BufferTooShort, ImageFails, Unsound}
 use Rattle.language.specs.Step.{Outcome, completed, openRecord, setRegister, stateNumber, step}
 use Rattle.language.specs.Step as Step
+use Rattle.language.specs.declared.stops.Stop.{Stop}
 use Rattle.language.specs.Store.{Words, fromBytes, inputsOf, narrow, toBytes, zeroWords}
 
--- A refusal by its number, if there is one.
-abbrev pub first : Bool → ℕ → Option ℕ → Option ℕ
-first true n later = some n
-first false n later = later
+-- A refusal, if there is one.
+abbrev pub first : Bool → Refusal → Option Refusal → Option Refusal
+first true r later = some r
+first false r later = later
 
 abbrev pub not : Bool → Bool
 not true = false
@@ -29,7 +32,7 @@ not false = true
 
 pub data OpenAnswer : Type 0 where
   opened : OpenAnswer
-  refused : ℕ → OpenAnswer
+  refused : Refusal → OpenAnswer
 
 pub record OpenCall : Type 0 where
   pub answer : OpenAnswer
@@ -37,10 +40,10 @@ pub record OpenCall : Type 0 where
   pub record′ : List ℕ
 
 -- 13, then 12. Rooms are the lengths of the buffers lent.
-unfoldable pub openRefusal : List ℕ → ℕ → ℕ → Option ℕ
+unfoldable pub openRefusal : List ℕ → ℕ → ℕ → Option Refusal
 openRefusal image store record′ =
-    first (not (passes image)) 13
-    (first (not (both (leb (storeSize (decode image)) store) (leb recordSize record′))) 12 none)
+    first (not (passes image)) ImageFails
+    (first (not (both (leb (storeSize (decode image)) store) (leb recordSize record′))) BufferTooShort none)
 
 abbrev pub orZeroWords : Words → Option Words → Words
 orZeroWords s none = s
@@ -50,7 +53,7 @@ orZeroWords s (some t) = t
 unfoldable pub openWords : Description → Words
 openWords d = let s = zeroWords (d .facilities) in orZeroWords s (setRegister d (sequencingOf d) (stateNumber d 0) s)
 
-abbrev pub openWith : Description → ℕ → ℕ → Option ℕ → OpenCall
+abbrev pub openWith : Description → ℕ → ℕ → Option Refusal → OpenCall
 openWith d store record′ (some n) = record { answer = refused n; store = zeroes store; record′ = zeroes record′ }
 openWith d store record′ none = record {
   answer = opened;
@@ -66,8 +69,8 @@ open′ image store record′ = openWith (decode image) store record′ (openRef
 pub data CycleAnswer : Type 0 where
   -- the conflict count
   cycled : ℕ → CycleAnswer
-  stoppedFor : ℕ → CycleAnswer
-  refusedFor : ℕ → CycleAnswer
+  stoppedFor : Stop → CycleAnswer
+  refusedFor : Refusal → CycleAnswer
 
 pub record CycleCall : Type 0 where
   pub answer : CycleAnswer
@@ -92,12 +95,12 @@ wellFormed d stimulus =
     both (eqb (length stimulus) (stimulusSize d)) (narrow (inputsOf (d .facilities)) (fromBytes (inputsOf (d .facilities)) stimulus))
 
 -- 13, 12, 14, 15 in this order.
-unfoldable pub cycleRefusal : List ℕ → List ℕ → List ℕ → List ℕ → ℕ → Option ℕ
+unfoldable pub cycleRefusal : List ℕ → List ℕ → List ℕ → List ℕ → ℕ → Option Refusal
 cycleRefusal image store record′ stimulus scratch =
     let d = decode image in
-    let rest = first (not (roomy d (length store) (length record′) scratch)) 12
-    (first (not (soundBytes d store record′)) 14 (first (not (wellFormed d stimulus)) 15 none)) in
-    first (not (passes image)) 13 rest
+    let rest = first (not (roomy d (length store) (length record′) scratch)) BufferTooShort
+    (first (not (soundBytes d store record′)) Unsound (first (not (wellFormed d stimulus)) BadStimulus none)) in
+    first (not (passes image)) ImageFails rest
 
 -- The bytes bs in front of what lies beyond them.
 abbrev pub over : List ℕ → List ℕ → List ℕ
@@ -116,9 +119,9 @@ module _ (d : Description) (store record′ : List ℕ) (scratch : ℕ) where
     scratch = zeroes scratch;
   }
   afterStep (Step.stopped n) = unchanged (stoppedFor n)
-  afterStep (Step.stuck s) = unchanged (refusedFor 13)
+  afterStep (Step.stuck s) = unchanged (refusedFor ImageFails)
 
-  abbrev pub cycleWith : List ℕ → Option ℕ → CycleCall
+  abbrev pub cycleWith : List ℕ → Option Refusal → CycleCall
   cycleWith stimulus (some n) = unchanged (refusedFor n)
   cycleWith stimulus none =
       afterStep (step d (fromBytes (d .facilities) store) (recordFrom record′) (fromBytes (inputsOf (d .facilities)) stimulus))
@@ -130,9 +133,9 @@ cycle image store record′ stimulus scratch =
 -- ---- Many cycles after one check: the stimuli one after the other; the trace is empty or takes the store after each completed cycle.
 
 pub data RunAnswer : Type 0 where
-  -- completed cycles, the sum of conflicts, and the stop that ended them, 0 where none did
-  ran : ℕ → ℕ → ℕ → RunAnswer
-  runRefused : ℕ → RunAnswer
+  -- completed cycles, the sum of conflicts, and the stop that ended them, if one did
+  ran : ℕ → ℕ → Option Stop → RunAnswer
+  runRefused : Refusal → RunAnswer
 
 pub record RunCall : Type 0 where
   pub answer : RunAnswer
@@ -149,12 +152,12 @@ unfoldable pub allWellFormed : Description → ℕ → List ℕ → Bool
 allWellFormed d zero stimuli = eqb (length stimuli) 0
 allWellFormed d (suc k) stimuli = both (wellFormed d (take (stimulusSize d) stimuli)) (allWellFormed d k (drop (stimulusSize d) stimuli))
 
-unfoldable pub runRefusal : List ℕ → List ℕ → List ℕ → List ℕ → ℕ → ℕ → ℕ → Option ℕ
+unfoldable pub runRefusal : List ℕ → List ℕ → List ℕ → List ℕ → ℕ → ℕ → ℕ → Option Refusal
 runRefusal image store record′ stimuli cycles scratch trace =
     let d = decode image in
-    let rest = first (not (both (roomy d (length store) (length record′) scratch) (traceRoomy d cycles trace))) 12
-    (first (not (soundBytes d store record′)) 14 (first (not (allWellFormed d cycles stimuli)) 15 none)) in
-    first (not (passes image)) 13 rest
+    let rest = first (not (both (roomy d (length store) (length record′) scratch) (traceRoomy d cycles trace))) BufferTooShort
+    (first (not (soundBytes d store record′)) Unsound (first (not (allWellFormed d cycles stimuli)) BadStimulus none)) in
+    first (not (passes image)) ImageFails rest
 
 -- What has been carried out so far; the trace without the zeroes beyond it.
 pub record Running : Type 0 where
@@ -165,10 +168,10 @@ pub record Running : Type 0 where
   pub trace : List ℕ
 
 module _ (image : List ℕ) (scratch : ℕ) (size : ℕ) (stimulus : ℕ) where
-  abbrev pub afterCycle : CycleCall → Running → (Running → Running × ℕ) → Running × ℕ
+  abbrev pub afterCycle : CycleCall → Running → (Running → Running × Option Stop) → Running × Option Stop
   afterCycle c r on = byAnswer (c .answer)
     where
-      byAnswer : CycleAnswer → Running × ℕ
+      byAnswer : CycleAnswer → Running × Option Stop
       byAnswer (cycled n) = on (record {
         completed′ = suc (r .completed′);
         conflicts = r .conflicts + n;
@@ -176,12 +179,13 @@ module _ (image : List ℕ) (scratch : ℕ) (size : ℕ) (stimulus : ℕ) where
         record′ = c .record′;
         trace = r .trace ++ take size (c .store);
       })
-      byAnswer (stoppedFor n) = (r, n)
-      byAnswer (refusedFor n) = (r, n)
+      byAnswer (stoppedFor s) = (r, some s)
+      -- no cycle is refused once the run was not
+      byAnswer (refusedFor q) = (r, none)
 
-  -- k cycles more: what they come to, and the stop that ended them.
-  unfoldable pub cycles : ℕ → List ℕ → Running → Running × ℕ
-  cycles zero stimuli r = (r, 0)
+  -- k cycles more: what they come to, and the stop that ended them, if one did.
+  unfoldable pub cycles : ℕ → List ℕ → Running → Running × Option Stop
+  cycles zero stimuli r = (r, none)
   cycles (suc k) stimuli r =
       afterCycle (cycle image (r .store) (r .record′) (take stimulus stimuli) scratch) r (cycles k (drop stimulus stimuli))
 
@@ -189,7 +193,7 @@ unfoldable pub run : List ℕ → List ℕ → List ℕ → List ℕ → ℕ →
 run image store record′ stimuli count scratch trace =
     let d = decode image in
     let start : Running = record { completed′ = 0; conflicts = 0; store = store; record′ = record′; trace = [] } in
-    let end : Running × ℕ = cycles image scratch (storeSize d) (stimulusSize d) count stimuli start in
+    let end : Running × Option Stop = cycles image scratch (storeSize d) (stimulusSize d) count stimuli start in
     let done : RunCall = record {
       answer = ran (end .0 .completed′) (end .0 .conflicts) (end .1);
       store = end .0 .store;
@@ -199,6 +203,6 @@ run image store record′ stimuli count scratch trace =
     } in
     byRefusal done (runRefusal image store record′ stimuli count scratch trace)
   where
-    byRefusal : RunCall → Option ℕ → RunCall
+    byRefusal : RunCall → Option Refusal → RunCall
     byRefusal done none = done
     byRefusal done (some n) = record { answer = runRefused n; store = store; record′ = record′; scratch = zeroes scratch; trace = zeroes trace }

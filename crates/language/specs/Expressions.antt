@@ -11,6 +11,7 @@ use Rattle.language.specs.Recursion.{below}
 use Rattle.language.specs.ReferenceRules.{referenceJudged}
 use Rattle.language.specs.References.{Reference, part, referenceOf, two, whole, wordPart}
 use Rattle.language.specs.References as R
+use Rattle.language.specs.declared.refusals.Refusal.the-variants.{BadLength, BadName, NoContinuation}
 use Rattle.language.specs.Words.{Position}
 
 -- CASE takes up to 6 bits.
@@ -36,17 +37,17 @@ module _ (d : Description) (p : Places) (terminals : ℕ → Judged) (known : �
   properAt ev a = proper (nodePlace p a .at) (ev a)
 
   abbrev pub operandAt : (ℕ → Judged) → NodePlaces → Option Reference → Judged
-  operandAt ev at none = refuse (at .at) 4
+  operandAt ev at none = refuse (at .at) BadName
   operandAt ev at (some r) = referenceJudged d p terminals ev ownWork known r at
 
   abbrev pub choiceJudged : Position → ℕ → Worth → Worth → Judged
   choiceJudged at n c a =
-      cond (both (selects (c .length) n) (eqb (a .arms) n)) (sized at (a .length) (ownWork + c .work + a .work)) (refuse at 7)
+      cond (both (selects (c .length) n) (eqb (a .arms) n)) (sized at (a .length) (ownWork + c .work + a .work)) (refuse at BadLength)
 
   -- The record n, from the judgements of those before it.
   unfoldable pub judgeNode : (ℕ → Judged) → NodePlaces → Node → Judged
   judgeNode ev at (D.constant v) = sized (at .at) (v .length) ownWork
-  judgeNode ev at (D.more n) = refuse (at .at) 3
+  judgeNode ev at (D.more n) = refuse (at .at) NoContinuation
   judgeNode ev at (D.whole f) = operandAt ev at (R.referTo f whole)
   judgeNode ev at (D.one f e) = operandAt ev at (R.referTo f (R.one e))
   judgeNode ev at (D.part f b) = operandAt ev at (R.referTo f (part b))
@@ -60,14 +61,14 @@ module _ (d : Description) (p : Places) (terminals : ℕ → Judged) (known : �
   judgeNode ev at (D.nextArm a e) =
       givenBoth (armList (at .at) (ev a)) (properAt ev e) (λ v w. worth (evenly (v .length) (w .length)) (suc (v .arms)) (v .work + w .work))
   judgeNode ev at (D.choice e a n) = givenBoth (properAt ev e) (armList (at .at) (ev a)) (choiceJudged (at .at) n)
-  judgeNode ev at D.Node.broken = refuse (at .at) 4
+  judgeNode ev at D.Node.broken = refuse (at .at) BadName
 
   abbrev pub judgeStep : (ℕ → Judged) → ℕ → Judged
   judgeStep ev n = judgeNode ev (nodePlace p n) (nodeAt d n)
 
   -- A part must stand before its owner.
   abbrev pub notBefore : Judged
-  notBefore = refuse D.nowhere 3
+  notBefore = refuse D.nowhere NoContinuation
 
   unfoldable pub judgeBelow : ℕ → ℕ → Judged
   judgeBelow = below notBefore judgeStep
@@ -80,7 +81,7 @@ module _ (d : Description) (p : Places) (terminals : ℕ → Judged) (known : �
   expressionAt n = proper (nodePlace p n .at) (judgeAt n)
 
   abbrev pub leftOf : ℕ → Option Reference → Judged
-  leftOf n none = refuse (nodePlace p n .at) 4
+  leftOf n none = refuse (nodePlace p n .at) BadName
   leftOf n (some r) = referenceJudged d p terminals (judgeBelow n) 0 known r (nodePlace p n)
 
   unfoldable pub leftAt : ℕ → Judged
@@ -93,7 +94,7 @@ module _ (d : Description) (p : Places) where
   terminalStep ev n = expressionAt d p ev n (facilityAt d n .expression)
 
   unfoldable pub terminalBelow : ℕ → ℕ → Judged
-  terminalBelow = below (refuse D.nowhere 4) terminalStep
+  terminalBelow = below (refuse D.nowhere BadName) terminalStep
 
   unfoldable pub terminalJudged : ℕ → Judged
   terminalJudged n = terminalStep (terminalBelow n) n

@@ -5,6 +5,7 @@ use Prim.Native.String.{String}
 use lib.ListN.{length}
 use Rattle.language.specs.Building.{Built, expressionNo, joined, listNo, wordNo}
 use Rattle.language.specs.Machine.{Parsed, choose, deepest, feed, finish, mostCounted, mostFacilities, mostOperations, mostStates, parsed, refused, run, tallied, withinCeilings}
+use Rattle.language.specs.declared.refusals.Refusal.the-variants.{NoContinuation}
 use Rattle.language.specs.Scan.{bytes}
 use Rattle.language.specs.Sections.{parse, parseWith, ruleOf}
 use Rattle.language.specs.WordExamples.{words-open}
@@ -27,6 +28,6 @@ example : grammarFault "REGISTER A[4], B[4].\nTERMINAL GO = INPUT(1,GO).\nOPERAT
 unfolding grammar-open grammarFault
 example = refl
 
-cut-then-sum : grammarFault "REGISTER A[4],B[4]. OPERATION X=[A <- A HEAD 4 (+) B]. CONTROL X/." ≡ some (fault (position 47) 3)
+cut-then-sum : grammarFault "REGISTER A[4],B[4]. OPERATION X=[A <- A HEAD 4 (+) B]. CONTROL X/." ≡ some (fault (position 47) NoContinuation)
 unfolding grammar-open grammarFault
 cut-then-sum = refl

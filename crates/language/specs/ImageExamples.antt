@@ -10,6 +10,7 @@ use Rattle.language.specs.Image.{passes}
 use Rattle.language.specs.Lookups.{facilityName, partOf, refused, stateName}
 use Rattle.language.specs.Reading.{accepted, read}
 use Rattle.language.specs.Reading as Reading
+use Rattle.language.specs.declared.refusals.Refusal.the-variants.{BadStimulus, BadSubscript, BufferTooShort, Unsound}
 use Rattle.language.specs.Scan.{bytes}
 
 -- 01, "Cases".
@@ -38,7 +39,7 @@ unfolding computing example image
 answered = refl
 
 -- A buffer of one byte less is too short, and is left zero.
-short : read example 287 .answer ≡ Reading.refusedFor 12 0
+short : read example 287 .answer ≡ Reading.refusedFor BufferTooShort 0
 unfolding computing example
 short = refl
 
@@ -81,19 +82,19 @@ second-state : partOf image (stateName image 1) ≡ bytes "Q"
 unfolding computing image
 second-state = refl
 
-absent : facilityName image 3 ≡ refused 6
+absent : facilityName image 3 ≡ refused BadSubscript
 unfolding computing image
 absent = refl
 
 -- A cycle tests 13, 12, 14, 15 in this order: a spoiled record, and a stimulus with a spare bit set.
-spoiled : cycle image (open′ image 3 80 .store) (set (open′ image 3 80 .record′) 4 2) (0 ∷ []) 12 .answer ≡ refusedFor 14
+spoiled : cycle image (open′ image 3 80 .store) (set (open′ image 3 80 .record′) 4 2) (0 ∷ []) 12 .answer ≡ refusedFor Unsound
 unfolding computing image
 spoiled = refl
 
-spare-bit : cycle image (open′ image 3 80 .store) (open′ image 3 80 .record′) (2 ∷ []) 12 .answer ≡ refusedFor 15
+spare-bit : cycle image (open′ image 3 80 .store) (open′ image 3 80 .record′) (2 ∷ []) 12 .answer ≡ refusedFor BadStimulus
 unfolding computing image
 spare-bit = refl
 
-little-scratch : cycle image (open′ image 3 80 .store) (open′ image 3 80 .record′) (0 ∷ []) 11 .answer ≡ refusedFor 12
+little-scratch : cycle image (open′ image 3 80 .store) (open′ image 3 80 .record′) (0 ∷ []) 11 .answer ≡ refusedFor BufferTooShort
 unfolding computing image
 little-scratch = refl

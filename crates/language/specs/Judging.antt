@@ -3,6 +3,8 @@ use mathlib.Core.Bool.{Bool, true, false, cond}
 use mathlib.Core.List.{List, [], _∷_, _++_}
 use Prim.Native.Nat.{ℕ}
 use lib.Dec.{eqb, leb, ltb}
+use Rattle.language.specs.declared.refusals.Refusal.{Refusal}
+use Rattle.language.specs.declared.refusals.Refusal.the-variants.{BadLength, NoContinuation}
 use Rattle.language.specs.Value.{longest}
 use Rattle.language.specs.Words.{Fault, Position, fault}
 
@@ -24,8 +26,8 @@ abbrev pub faultsOf : Judged → List Fault
 faultsOf (fine w) = []
 faultsOf (faulty f fs) = f ∷ fs
 
-abbrev pub refuse : Position → ℕ → Judged
-refuse p n = faulty (fault p n) []
+abbrev pub refuse : Position → Refusal → Judged
+refuse p r = faulty (fault p r) []
 
 -- With one part, and with two.
 abbrev pub given : Judged → (Worth → Judged) → Judged
@@ -40,22 +42,22 @@ givenBoth (faulty f fs) (faulty g gs) on = faulty f (fs ++ g ∷ gs)
 
 -- An expression proper, and not a list of arms; the other way round. No text has the one where the other belongs.
 unfoldable pub proper : Position → Judged → Judged
-proper p (fine w) = cond (eqb (w .arms) 0) (fine w) (refuse p 3)
+proper p (fine w) = cond (eqb (w .arms) 0) (fine w) (refuse p NoContinuation)
 proper p (faulty f fs) = faulty f fs
 
 unfoldable pub armList : Position → Judged → Judged
-armList p (fine w) = cond (eqb (w .arms) 0) (refuse p 3) (fine w)
+armList p (fine w) = cond (eqb (w .arms) 0) (refuse p NoContinuation) (fine w)
 armList p (faulty f fs) = faulty f fs
 
 -- A length from 1 to 256, or refusal 7 at a place.
 unfoldable pub sized : Position → ℕ → ℕ → Judged
 unfolding longest
-sized p l w = cond (ltb 0 l) (cond (leb l longest) (worth l 0 w) (refuse p 7)) (refuse p 7)
+sized p l w = cond (ltb 0 l) (cond (leb l longest) (worth l 0 w) (refuse p BadLength)) (refuse p BadLength)
 
 -- One fault where a test fails.
-abbrev pub unless : Bool → Position → ℕ → List Fault
-unless true p n = []
-unless false p n = fault p n ∷ []
+abbrev pub unless : Bool → Position → Refusal → List Fault
+unless true p r = []
+unless false p r = fault p r ∷ []
 
 abbrev pub both : Bool → Bool → Bool
 both true b = b

@@ -6,6 +6,7 @@ pub mod ValueExamples
 -- From bytes to words (the manual, 2).
 pub mod Characters
 pub mod Kinds
+pub mod Refusals
 pub mod Words
 pub mod Scan
 pub mod Lines

@@ -5,6 +5,7 @@ use Prim.Native.Nat.{ℕ, suc, _+_, _*_, _/_}
 use lib.Dec.{eqb, leb, ltb}
 use lib.ListN.{getD}
 use Rattle.language.specs.Characters.{carriageReturn, lineFeed, tab}
+use Rattle.language.specs.declared.refusals.Refusal.the-variants.{BadCharacter}
 use Rattle.language.specs.Words.{Fault, fault, position}
 
 unfoldable pub longestLine : ℕ
@@ -28,4 +29,4 @@ longLines w at [] = []
 longLines w at (b ∷ t) =
     let v = widthAfter w b t in
     let rest = longLines v (suc at) t in
-    cond (passes w v) (fault (position at) 2 ∷ rest) rest
+    cond (passes w v) (fault (position at) BadCharacter ∷ rest) rest

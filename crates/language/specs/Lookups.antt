@@ -10,6 +10,8 @@ use Rattle.language.specs.Decode.{decode, offsetOf}
 use Rattle.language.specs.Description.{Facility, facilityAt, isComputed, stateAt}
 use Rattle.language.specs.Image.{passes}
 use Rattle.language.specs.Layout.{placeIn}
+use Rattle.language.specs.declared.refusals.Refusal.{Refusal}
+use Rattle.language.specs.declared.refusals.Refusal.the-variants.{BadSubscript, ImageFails}
 
 -- A part of the image.
 pub record Part : Type 0 where
@@ -18,7 +20,7 @@ pub record Part : Type 0 where
 
 pub data NameAnswer : Type 0 where
   named : Part → NameAnswer
-  refused : ℕ → NameAnswer
+  refused : Refusal → NameAnswer
 
 abbrev pub nameLengths : List Facility → ℕ
 nameLengths fs = total (λ f. length (f .name)) fs
@@ -38,8 +40,8 @@ statePart image n =
     }
 
 -- 13 where the image does not pass, 6 where there is no such number.
-abbrev pub lookup : {A : Type 0} → List ℕ → ℕ → ℕ → (ℕ → A) → A → A
-lookup image count n refuse found = cond (passes image) (cond (ltb n count) found (refuse 6)) (refuse 13)
+abbrev pub lookup : {A : Type 0} → List ℕ → ℕ → ℕ → (Refusal → A) → A → A
+lookup image count n refuse found = cond (passes image) (cond (ltb n count) found (refuse BadSubscript)) (refuse ImageFails)
 
 unfoldable pub facilityName : List ℕ → ℕ → NameAnswer
 facilityName image n = lookup image (length (decode image .facilities)) n refused (named (facilityPart image n))
@@ -56,7 +58,7 @@ partOf image (refused n) = []
 pub data FacilityAnswer : Type 0 where
   -- the declaration, and the place in the store, which a computed terminal has not
   declared : Facility → Option ℕ → FacilityAnswer
-  unknown : ℕ → FacilityAnswer
+  unknown : Refusal → FacilityAnswer
 
 unfoldable pub facility : List ℕ → ℕ → FacilityAnswer
 facility image n =

@@ -6,6 +6,7 @@ use lib.Dec.{eqb, leb}
 use lib.ListN.{drop}
 use Rattle.language.specs.Building.{nameOf}
 use Rattle.language.specs.Kinds.{aName}
+use Rattle.language.specs.declared.refusals.Refusal.the-variants.{CeilingPassed, NoContinuation}
 use Rattle.language.specs.Scan.{same}
 use Rattle.language.specs.Steps.{Step, Steps}
 use Rattle.language.specs.Words.{Fault, Position, Word, fault, kindOf, position, wordAt}
@@ -149,7 +150,7 @@ reading b c = record { built = b; counts = c }
 module _ {B : Type 0} (S : Steps B) (fits : Counts → Bool) where
   -- The word at p is taken with these counts, unless one passes its ceiling.
   abbrev pub taken : Position → List (Sym B) → B → Counts → Fed B
-  taken p K b c = cond (fits c) (took K (reading b c)) (wrong (fault p 10))
+  taken p K b c = cond (fits c) (took K (reading b c)) (wrong (fault p CeilingPassed))
 
   abbrev pub keptIf : Bool → Word → B → B
   keptIf true w b = S .keepWord w b
@@ -169,7 +170,7 @@ module _ {B : Type 0} (S : Steps B) (fits : Counts → Bool) where
       cond (eqb (kindOf w) (a .on)) here next
 
   abbrev pub stuck : Word → Fed B
-  stuck w = wrong (fault (wordAt w) 3)
+  stuck w = wrong (fault (wordAt w) NoContinuation)
 
   -- The word kept last counts.
   abbrev pub countKept : Reading B → Counts
@@ -184,15 +185,15 @@ module _ {B : Type 0} (S : Steps B) (fits : Counts → Bool) where
   leave (may f) w r on = on (reading (f (wordAt w) (r .built)) (r .counts))
   leave (operand f) w r on =
       let here = on (reading (f (wordAt w) (r .built)) (countKept r)) in
-      cond (fits (countKept r)) here (wrong (fault (keptAt r) 10))
+      cond (fits (countKept r)) here (wrong (fault (keptAt r) CeilingPassed))
 
   -- The same where the text ended.
   abbrev pub leaveAtEnd : Without B → ℕ → Reading B → (Reading B → Parsed B) → Parsed B
-  leaveAtEnd must end r on = refused (fault (position end) 3)
+  leaveAtEnd must end r on = refused (fault (position end) NoContinuation)
   leaveAtEnd (may f) end r on = on (reading (f (position end) (r .built)) (r .counts))
   leaveAtEnd (operand f) end r on =
       let here = on (reading (f (position end) (r .built)) (countKept r)) in
-      cond (fits (countKept r)) here (refused (fault (keptAt r) 10))
+      cond (fits (countKept r)) here (refused (fault (keptAt r) CeilingPassed))
 
   module _ (rules : Ask → Rule B) where
     unfoldable pub feed : List (Sym B) → Word → Reading B → Fed B
@@ -212,9 +213,9 @@ module _ {B : Type 0} (S : Steps B) (fits : Counts → Bool) where
 
     unfoldable pub finish : List (Sym B) → ℕ → Reading B → Parsed B
     finish [] end r = parsed (r .built)
-    finish (word k b ∷ K) end r = refused (fault (position end) 3)
-    finish (keep k ∷ K) end r = refused (fault (position end) 3)
-    finish (again ∷ K) end r = refused (fault (position end) 3)
+    finish (word k b ∷ K) end r = refused (fault (position end) NoContinuation)
+    finish (keep k ∷ K) end r = refused (fault (position end) NoContinuation)
+    finish (again ∷ K) end r = refused (fault (position end) NoContinuation)
     finish (make f ∷ K) end r = finish K end (reading (f (position end) (r .built)) (r .counts))
     finish (ease ∷ K) end r = finish K end (reading (r .built) (nested (r .counts .nesting - 1) (r .counts)))
     finish (ask n ∷ K) end r = leaveAtEnd (rules n .without) end r (λ q. finish K end q)

@@ -12,7 +12,8 @@ use Rattle.language.specs.Operators.{binaryOf, cutOf, prefixOf}
 use Rattle.language.specs.Recursion.{below}
 use Rattle.language.specs.References as R
 use Rattle.language.specs.References.{Reference, Subscripts, part, rightCount, sameDirection, two, whole, wordPart}
-use Rattle.language.specs.Stops.{noArm, outsideBounds}
+use Rattle.language.specs.declared.stops.Stop.{Stop}
+use Rattle.language.specs.declared.stops.Stop.the-variants.{NoArm, OutsideBounds}
 use Rattle.language.specs.Value as Value
 use Rattle.language.specs.Value.{Made, Value, longest, made, value}
 
@@ -54,10 +55,10 @@ pub data Stuck : Type 0 where
   -- actions that run past what holds them; a state without the value that the sequencing register wants
   runsOver noStateValue : Stuck
 
--- What an expression gives: a value, a stop by its number, or nothing.
+-- What an expression gives: a value, a stop, or nothing.
 pub data Answer : Type 0 where
   is : Value → Answer
-  stops : ℕ → Answer
+  stops : Stop → Answer
   stuck : Stuck → Answer
 
 abbrev pub after : Answer → (Value → Answer) → Answer
@@ -72,12 +73,12 @@ worthOr s Value.none = stuck s
 -- A part found, or why it is not.
 pub data Located : Type 0 where
   at : Place → Located
-  stops : ℕ → Located
+  stops : Stop → Located
   stuck : Stuck → Located
 
 -- S1: a computed subscript outside its bounds. `on` goes on with how far it is from the first bound.
 abbrev pub subscript : Answer → Bounds → (ℕ → Located) → Located
-subscript (is v) b on = cond (inBounds b (v .number)) (on (fromFirst b (v .number))) (Located.stops outsideBounds)
+subscript (is v) b on = cond (inBounds b (v .number)) (on (fromFirst b (v .number))) (Located.stops OutsideBounds)
 subscript (stops n) b on = Located.stops n
 subscript (stuck s) b on = Located.stuck s
 
@@ -166,7 +167,7 @@ module _ {X : Type 0} (S : Stores X) (d : Description) (x : X) where
 
   -- S8: a CASE value without an arm.
   abbrev pub chosen : (ℕ → Answer) → ℕ → ℕ → Option ℕ → Answer
-  chosen ev a n none = stops noArm
+  chosen ev a n none = stops NoArm
   chosen ev a n (some k) = armWorth ev (armBack d (n - k) a)
 
   unfoldable pub evalNode : (ℕ → Answer) → Node → Answer

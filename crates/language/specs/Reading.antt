@@ -10,6 +10,8 @@ use Rattle.language.specs.DescribeText.{Described, describe}
 use Rattle.language.specs.Description.{Description}
 use Rattle.language.specs.Encode.{encode}
 use Rattle.language.specs.Machine.{Parsed, parsed, refused}
+use Rattle.language.specs.declared.refusals.Refusal.{Refusal}
+use Rattle.language.specs.declared.refusals.Refusal.the-variants.{BufferTooShort, TextTooLong}
 use Rattle.language.specs.Rules.{faults}
 use Rattle.language.specs.Sections.{parse}
 use Rattle.language.specs.WordStage.{least, scan, wordFault}
@@ -50,31 +52,31 @@ afterWords text (some f) = refusedAt f
 unfoldable pub readText : List ℕ → Read
 readText text =
     let rest = afterWords text (wordFault text) in
-    cond (ltb longestText (length text)) (refusedAt (fault (position 0) 1)) rest
+    cond (ltb longestText (length text)) (refusedAt (fault (position 0) TextTooLong)) rest
 
 -- ---- The call: its answer, and the image buffer of `room` bytes afterwards.
 
 pub data ReadAnswer : Type 0 where
   -- the image's length
   accepted : ℕ → ReadAnswer
-  -- number and place
-  refusedFor : ℕ → ℕ → ReadAnswer
+  -- with its place
+  refusedFor : Refusal → ℕ → ReadAnswer
 
 pub record ReadCall : Type 0 where
   pub answer : ReadAnswer
   pub image : List ℕ
 
-abbrev pub readRefused : ℕ → ℕ → ℕ → ReadCall
-readRefused room n p = record { answer = refusedFor n p; image = zeroes room }
+abbrev pub readRefused : ℕ → Refusal → ℕ → ReadCall
+readRefused room r p = record { answer = refusedFor r p; image = zeroes room }
 
 -- 12 comes last.
 abbrev pub withRoom : ℕ → List ℕ → ReadCall
 withRoom room image =
-    cond (leb (length image) room) (record { answer = accepted (length image); image = filled room image }) (readRefused room 12 0)
+    cond (leb (length image) room) (record { answer = accepted (length image); image = filled room image }) (readRefused room BufferTooShort 0)
 
 abbrev pub readCall : ℕ → Read → ReadCall
 readCall room (legal d) = withRoom room (encode d)
-readCall room (refusedAt f) = readRefused room (f .number) (f .at .place)
+readCall room (refusedAt f) = readRefused room (f .refusal) (f .at .place)
 
 unfoldable pub read : List ℕ → ℕ → ReadCall
 read text room = readCall room (readText text)

@@ -7,6 +7,7 @@ use lib.Dec.{eqb, ltb}
 use Rattle.language.specs.Description.{Bounds, Description, Facility, NodePlaces, Places, facilityAt, inBounds, isComputed, nodeAt, nodePlace}
 use Rattle.language.specs.Judging.{Judged, Worth, faultsOf, givenBoth, orFaulty, proper, refuse, sized, unless, worth}
 use Rattle.language.specs.References.{Reference, Subscripts, constantOf, one, part, rightCount, sameDirection, takenLength, two, whole, wordPart}
+use Rattle.language.specs.declared.refusals.Refusal.the-variants.{BadName, BadSubscript}
 use Rattle.language.specs.Words.{Fault, Position}
 
 -- `terminals` judges the expression of a computed terminal that may be named.
@@ -14,13 +15,13 @@ module _ (d : Description) (p : Places) (terminals : ℕ → Judged) where
   -- A subscript that is one constant lies within the bounds.
   abbrev pub constantFaults : Bounds → Position → Option ℕ → List Fault
   constantFaults b at none = []
-  constantFaults b at (some n) = unless (inBounds b n) at 6
+  constantFaults b at (some n) = unless (inBounds b n) at BadSubscript
 
   abbrev pub subscriptFaults : Bounds → ℕ → List Fault
   subscriptFaults b e = constantFaults b (nodePlace p e .at) (constantOf (nodeAt d e))
 
   abbrev pub endFaults : Bounds → Bounds → NodePlaces → List Fault
-  endFaults b x at = unless (inBounds b (x .first)) (at .first) 6 ++ unless (inBounds b (x .last)) (at .last) 6
+  endFaults b x at = unless (inBounds b (x .first)) (at .first) BadSubscript ++ unless (inBounds b (x .last)) (at .last) BadSubscript
 
   -- The constants of a reference with the right number of subscripts.
   unfoldable pub boundFaults : Facility → Subscripts → NodePlaces → List Fault
@@ -34,9 +35,9 @@ module _ (d : Description) (p : Places) (terminals : ℕ → Judged) where
   unfoldable pub directionFaults : Facility → Subscripts → NodePlaces → List Fault
   directionFaults f whole at = []
   directionFaults f (one e) at = []
-  directionFaults f (part b) at = unless (sameDirection (f .bits) b) (at .last) 6
+  directionFaults f (part b) at = unless (sameDirection (f .bits) b) (at .last) BadSubscript
   directionFaults f (two e g) at = []
-  directionFaults f (wordPart e b) at = unless (sameDirection (f .bits) b) (at .last) 6
+  directionFaults f (wordPart e b) at = unless (sameDirection (f .bits) b) (at .last) BadSubscript
 
   -- `ev` judges a part; all subscripts together, with their work.
   abbrev pub subscriptWorth : (ℕ → Judged) → ℕ → Judged
@@ -64,7 +65,7 @@ module _ (d : Description) (p : Places) (terminals : ℕ → Judged) where
       (givenBoth (subscriptsJudged ev s) (computedWork n f) (λ v w. sized (at .at) (takenLength f s) (own + v .work + w .work))))
 
   abbrev pub countedWrong : (ℕ → Judged) → Subscripts → NodePlaces → Judged
-  countedWrong ev s at = orFaulty (faultsOf (subscriptsJudged ev s)) (refuse (at .at) 6)
+  countedWrong ev s at = orFaulty (faultsOf (subscriptsJudged ev s)) (refuse (at .at) BadSubscript)
 
   -- Only facilities below `known` may be named.
   unfoldable pub referenceJudged : (ℕ → Judged) → ℕ → ℕ → Reference → NodePlaces → Judged
@@ -72,4 +73,4 @@ module _ (d : Description) (p : Places) (terminals : ℕ → Judged) where
       let f = facilityAt d (r .facility) in
       cond (ltb (r .facility) known)
       (cond (rightCount (f .dimensions) (r .subscripts)) (countedRight ev own (r .facility) f (r .subscripts) at) (countedWrong ev (r .subscripts) at))
-      (refuse (at .at) 4)
+      (refuse (at .at) BadName)

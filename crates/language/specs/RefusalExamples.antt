@@ -8,24 +8,25 @@ use lib.Dec.{eqb}
 use Rattle.language.specs.Computing.{computing}
 use Rattle.language.specs.Reading.{Read, legal, readText, refusedAt}
 use Rattle.language.specs.Scan.{bytes}
+use Rattle.language.specs.Words.{faultNumber}
 
-pub record Refusal : Type 0 where
+pub record Case : Type 0 where
   pub number : ℕ
   pub place : ℕ
   pub text : String
 
-abbrev refusal : ℕ → ℕ → String → Refusal
+abbrev refusal : ℕ → ℕ → String → Case
 refusal n p t = record { number = n; place = p; text = t }
 
 abbrev is : ℕ → ℕ → Read → Bool
 is n p (legal d) = false
-is n p (refusedAt f) = eqb (f .number) n && eqb (f .at .place) p
+is n p (refusedAt f) = eqb (faultNumber f) n && eqb (f .at .place) p
 
-unfoldable pub refusesAll : List Refusal → Bool
+unfoldable pub refusesAll : List Case → Bool
 refusesAll [] = true
 refusesAll (r ∷ rs) = is (r .number) (r .place) (readText (bytes (r .text))) && refusesAll rs
 
-abbrev pub refusals : List Refusal
+abbrev pub refusals : List Case
 refusals =
     refusal 2 12 "REGISTER A. ! CONTROL /."
     ∷ refusal 2 132 "\"xxxxxxxxxxxxxxxxxxxxxxxxxxxxxxxxxxxxxxxxxxxxxxxxxxxxxxxxxxxxxxxxxxxxxxxxxxxxxxxxxxxxxxxxxxxxxxxxxxxxxxxxxxxxxxxxxxxxxxxxxxxxxxxxxxxy\nREGISTER A. CONTROL P: ->P/."

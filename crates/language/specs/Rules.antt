@@ -11,6 +11,7 @@ use Rattle.language.specs.Description.{Description, Facility, FacilityPl
 use Rattle.language.specs.Expressions.{terminalJudged}
 use Rattle.language.specs.Judging.{Judged, both, faultsOf, faulty, fine, unless}
 use Rattle.language.specs.Layout.{facilityBytes}
+use Rattle.language.specs.declared.refusals.Refusal.the-variants.{BadLength, BadName, BadSequencing, BadSubscript, CeilingPassed}
 use Rattle.language.specs.Scan.{same}
 use Rattle.language.specs.Tree.{Name}
 use Rattle.language.specs.Value.{longest, value}
@@ -40,8 +41,8 @@ twice (c ∷ n) before = declared (c ∷ n) before
 
 unfoldable pub nameFaults : List Name → List Name → List Position → List Fault
 nameFaults before [] ps = []
-nameFaults before (n ∷ ns) [] = unless (cond (twice n before) false true) D.nowhere 4 ++ nameFaults (n ∷ before) ns []
-nameFaults before (n ∷ ns) (p ∷ ps) = unless (cond (twice n before) false true) p 4 ++ nameFaults (n ∷ before) ns ps
+nameFaults before (n ∷ ns) [] = unless (cond (twice n before) false true) D.nowhere BadName ++ nameFaults (n ∷ before) ns []
+nameFaults before (n ∷ ns) (p ∷ ps) = unless (cond (twice n before) false true) p BadName ++ nameFaults (n ∷ before) ns ps
 
 abbrev pub namesOf : Description → List Name
 namesOf d = map (λ f. f .name) (d .facilities) ++ (map (λ o. o .name) (d .operations) ++ map (λ s. s .name) (d .states))
@@ -53,7 +54,7 @@ module _ (d : Description) (p : Places) where
   -- ---- Facilities.
 
   abbrev pub boundFault : ℕ → Position → List Fault
-  boundFault n at = unless (leb n largestBound) at 6
+  boundFault n at = unless (leb n largestBound) at BadSubscript
 
   unfoldable pub boundsFaults : Facility → FacilityPlaces → List Fault
   boundsFaults f at =
@@ -66,14 +67,14 @@ module _ (d : Description) (p : Places) where
 
   -- A computed terminal and its expression are equally long (7).
   abbrev pub sameLength : ℕ → Position → Judged → List Fault
-  sameLength l at (fine w) = unless (eqb l (w .length)) at 7
+  sameLength l at (fine w) = unless (eqb l (w .length)) at BadLength
   sameLength l at (faulty f fs) = f ∷ fs
 
   -- Facility n; `another` sequencing register came before, and `before` bytes of the store.
   unfoldable pub facilityFaults : ℕ → Bool → ℕ → Facility → FacilityPlaces → List Fault
   facilityFaults n another before f at =
-      unless (cond (isSequencing (f .kind)) (sequencingRight another f) true) (at .name) 9
-      ++ (unless (leb (before + facilityBytes f) largestStore) (at .name) 10
+      unless (cond (isSequencing (f .kind)) (sequencingRight another f) true) (at .name) BadSequencing
+      ++ (unless (leb (before + facilityBytes f) largestStore) (at .name) CeilingPassed
       ++ cond (isComputed (f .kind)) (sameLength (wordLength f) (at .equals) (terminalJudged d p n)) [])
 
   -- A declaration with a bound too large has no further fault.
@@ -109,11 +110,11 @@ module _ (d : Description) (p : Places) where
   -- A value that is there: unwanted, of another length, or repeated.
   abbrev pub valueFaults : Option ℕ → List ℕ → Position → Option ℕ → List Fault
   valueFaults none before at none = []
-  valueFaults none before at (some n) = fault at 9 ∷ []
+  valueFaults none before at (some n) = fault at BadSequencing ∷ []
   valueFaults (some l) before at none = []
   valueFaults (some l) before at (some n) =
       let v = constantValue (nodeAt d n) in
-      unless (both (eqb (v .length) l) (cond (repeated (v .number) before) false true)) at 9
+      unless (both (eqb (v .length) l) (cond (repeated (v .number) before) false true)) at BadSequencing
 
   abbrev pub missing : Option ℕ → Option ℕ → Bool
   missing none v = false
@@ -122,7 +123,7 @@ module _ (d : Description) (p : Places) where
 
   -- The state's own faults: a value that is missing, work that is too much.
   abbrev pub ownFaults : Option ℕ → Position → State → Judged → List Fault
-  ownFaults l at s (fine w) = unless (cond (missing l (s .value)) false true) at 9 ++ unless (leb (w .work) mostWork) at 10
+  ownFaults l at s (fine w) = unless (cond (missing l (s .value)) false true) at BadSequencing ++ unless (leb (w .work) mostWork) at CeilingPassed
   ownFaults l at s (faulty f fs) = f ∷ fs
 
   abbrev pub operationCount : ℕ

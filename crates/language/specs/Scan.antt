@@ -10,6 +10,8 @@ use lib.ListN.{drop, getD, length, take}
 use Rattle.language.specs.Characters.{blankClass, classOf, digitClass, digitWorth, folded, isDigit, isLetter, letterClass, lineFeed, quote, quoteClass, symbolClass}
 use Rattle.language.specs.Constants.{bareConstant, bareLargest, binaryConstant, decimalConstant, digitsNumber}
 use Rattle.language.specs.Kinds.{atLeastSign, atMostSign, atSign, callSign, caseWord, closeBracket, closeParen, colon, comma, conWord, controlWord, delayedSign, differenceSign, doWord, dollar, elseWord, endCaseWord, endIfWord, endWord, equalSign, equalsSign, exclusiveSign, extWord, gotoSign, greaterSign, hash, headWord, ifWord, inputWord, lessSign, levelWord, memoryWord, minus, openBracket, openParen, operationWord, outputWord, period, plus, redWord, registerWord, returnWord, semicolon, slash, star, sumSign, tailWord, terminalWord, thenWord, timeWord}
+use Rattle.language.specs.declared.refusals.Refusal.{Refusal}
+use Rattle.language.specs.declared.refusals.Refusal.the-variants.{BadCharacter, BadConstant, BadName}
 use Rattle.language.specs.Value.{Value, longest}
 use Rattle.language.specs.Words.{Constant}
 
@@ -91,8 +93,8 @@ pub data Item : Type 0 where
   named : List ℕ → Item
   constant : Constant → Item
   sign : ℕ → Item
-  -- what is refused, with its number
-  wrong : ℕ → Item
+  -- what is refused
+  wrong : Refusal → Item
 
 -- An item and how many bytes it takes.
 pub record Found : Type 0 where
@@ -105,7 +107,7 @@ found i n = record { item = i; size = n }
 abbrev pub nameItem : List ℕ → Item
 nameItem s =
     cond (eqb (reservedKind s) 0)
-    (cond (leb (length s) longestName) (named s) (wrong 4))
+    (cond (leb (length s) longestName) (named s) (wrong BadName))
     (sign (reservedKind s))
 
 unfoldable pub nameAt : List ℕ → Found
@@ -133,7 +135,7 @@ digitsOf base s = map digitWorth (take (span (isDigitOf base) s) s)
 
 -- The length given, in 1 to 256, and at least one digit.
 abbrev pub basedItem : ℕ → List ℕ → Constant → Item
-basedItem l ds c = cond (ltb 0 (length ds)) (cond (ltb 0 l) (cond (leb l longest) (constant c) (wrong 5)) (wrong 5)) (wrong 5)
+basedItem l ds c = cond (ltb 0 (length ds)) (cond (ltb 0 l) (cond (leb l longest) (constant c) (wrong BadConstant)) (wrong BadConstant)) (wrong BadConstant)
 
 abbrev pub based : ℕ → List ℕ → Constant → ℕ → Found
 based l ds c start = found (basedItem l ds c) (start + length ds)
@@ -152,7 +154,7 @@ unfoldable pub decimalAt : ℕ → ℕ → List ℕ → Found
 decimalAt l n s = let ds = digitsOf 10 s in based l ds (written false (decimalConstant l ds)) (n + 1)
 
 unfoldable pub bareAt : List ℕ → Found
-bareAt ds = found (cond (leb (digitsNumber 10 ds) bareLargest) (constant (written true (bareConstant ds))) (wrong 5)) (length ds)
+bareAt ds = found (cond (leb (digitsNumber 10 ds) bareLargest) (constant (written true (bareConstant ds))) (wrong BadConstant)) (length ds)
 
 -- A constant starts at a digit; a base's letter right after its decimal digits makes them its length.
 unfoldable pub constantAt : List ℕ → Found
@@ -210,7 +212,7 @@ spelledSymbols =
 
 -- The first of the symbols with which s begins.
 unfoldable pub symbolAmong : List Spelled → List ℕ → Found
-symbolAmong [] s = found (wrong 2) 1
+symbolAmong [] s = found (wrong BadCharacter) 1
 symbolAmong (x ∷ xs) s =
     let other = symbolAmong xs s in
     cond (same (x .spelling) (take (length (x .spelling)) s)) (found (sign (x .kind)) (length (x .spelling))) other
@@ -234,4 +236,4 @@ itemAt b s =
     (cond (eqb c digitClass) (constantAt (b ∷ s))
     (cond (eqb c blankClass) (found gap 1)
     (cond (eqb c quoteClass) (commentAt s)
-    (cond (eqb c symbolClass) (symbolAt (b ∷ s)) (found (wrong 2) 1)))))
+    (cond (eqb c symbolClass) (symbolAt (b ∷ s)) (found (wrong BadCharacter) 1)))))

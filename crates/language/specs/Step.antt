@@ -9,7 +9,8 @@ use Rattle.language.specs.Acting.{Doing, Ran, runActions, went}
 use Rattle.language.specs.Description.{Description, State, constantValue, nodeAt, sequencingOf, stateAt}
 use Rattle.language.specs.Judging.{both}
 use Rattle.language.specs.Meaning.{Stuck, noState, noStateValue}
-use Rattle.language.specs.Stops.{lastCycleReached, noNextState, nothingToReturn, tooManyCalls, twoNextStates, valueUnborne}
+use Rattle.language.specs.declared.stops.Stop.{Stop}
+use Rattle.language.specs.declared.stops.Stop.the-variants.{LastCycleReached, NoNextState, NothingToReturn, TooManyCalls, TwoNextStates, ValueUnborne}
 use Rattle.language.specs.Store.{Held, Words, begin, conflicts, held, landAll, numbers, setWord, wordOf}
 use Rattle.language.specs.Value.{bit}
 
@@ -30,7 +31,7 @@ lastCycle = 4294967295
 -- What a cycle gives: the words and the record after it with the conflict count; a stop; or nothing.
 pub data Outcome : Type 0 where
   completed : Words → Record → ℕ → Outcome
-  stopped : ℕ → Outcome
+  stopped : Stop → Outcome
   stuck : Stuck → Outcome
 
 module _ (d : Description) where
@@ -105,13 +106,13 @@ module _ (d : Description) where
     isNone (some n) = false
 
     -- The first stop after the actions, if any.
-    unfoldable pub stopAfter : Option ℕ
+    unfoldable pub stopAfter : Option Stop
     stopAfter =
-        cond (leb 2 plainCount || leb 2 (length (c .calls))) (some twoNextStates)
-        (cond (both (ltb 0 (c .returns)) (eqb (r .held) 0)) (some nothingToReturn)
-        (cond (both (c .sequenced) (isNone (sequencedState landed))) (some valueUnborne)
-        (cond (both (eqb plainCount 0) (leb stateCount (r .state + 1))) (some noNextState)
-        (cond (both (ltb 0 (length (c .calls))) (leb mostReturns returnsLeft)) (some tooManyCalls) none))))
+        cond (leb 2 plainCount || leb 2 (length (c .calls))) (some TwoNextStates)
+        (cond (both (ltb 0 (c .returns)) (eqb (r .held) 0)) (some NothingToReturn)
+        (cond (both (c .sequenced) (isNone (sequencedState landed))) (some ValueUnborne)
+        (cond (both (eqb plainCount 0) (leb stateCount (r .state + 1))) (some NoNextState)
+        (cond (both (ltb 0 (length (c .calls))) (leb mostReturns returnsLeft)) (some TooManyCalls) none))))
 
     -- => T puts the plain next state on the returns and goes to T.
     unfoldable pub nextRecord : Record
@@ -124,7 +125,7 @@ module _ (d : Description) where
     entered none = stuck noStateValue
     entered (some s) = completed s nextRecord (conflicts [] (c .store .waits))
 
-    abbrev pub orStopped : Option ℕ → Outcome
+    abbrev pub orStopped : Option Stop → Outcome
     orStopped none = entered (setRegister (sequencingOf d) (stateNumber (nextRecord .state)) landed)
     orStopped (some n) = stopped n
 
@@ -144,7 +145,7 @@ module _ (d : Description) where
   step s r ins =
       let run = runActions (numbers d) d (stateAt d (r .state) .actions) (nothingDone (begin (d .facilities) s ins)) in
       let done = afterActions r run in
-      cond (leb lastCycle (r .cycle)) (stopped lastCycleReached)
+      cond (leb lastCycle (r .cycle)) (stopped LastCycleReached)
       (cond (ltb (r .state) stateCount) done (stuck noState))
 
   -- ---- Opening: everything zero, the first state, cycle 0, and the sequencing register set.

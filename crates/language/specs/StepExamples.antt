@@ -8,7 +8,9 @@ use Rattle.language.specs.Calls.{CycleCall, OpenCall, cycle, cycled, ope
 use Rattle.language.specs.Computing.{computing}
 use Rattle.language.specs.Encode.{encode}
 use Rattle.language.specs.Reading.{Read, legal, readText, refusedAt}
+use Rattle.language.specs.declared.refusals.Refusal.the-variants.{Unsound}
 use Rattle.language.specs.Scan.{bytes}
+use Rattle.language.specs.declared.stops.Stop.the-variants.{LastCycleReached}
 
 abbrev imageOf : Read → List ℕ
 imageOf (legal d) = encode d
@@ -72,15 +74,15 @@ stopped-store = refl
 last-cycle :
     (let image : List ℕ = imageOf (readText (bytes "REGISTER A. CONTROL P: ->P/.")) in
     let o : OpenCall = open′ image 1 80 in
-    cycle image (o .store) (set (set (set (set (o .record′) 8 255) 9 255) 10 255) 11 255) [] 4 .answer) ≡ stoppedFor 7
+    cycle image (o .store) (set (set (set (set (o .record′) 8 255) 9 255) 10 255) 11 255) [] 4 .answer) ≡ stoppedFor LastCycleReached
 unfolding computing
 last-cycle = refl
 
--- A sequencing register that is not the state's value is unsound.
+-- A sequencing register that is not the state's value is Unsound.
 other-value :
     (let image : List ℕ = imageOf (readText (bytes "REGISTER #Q[2]. CONTROL P(2): ->P/.")) in
     let o : OpenCall = open′ image 1 80 in
-    cycle image (1 ∷ []) (o .record′) [] 4 .answer) ≡ refusedFor 14
+    cycle image (1 ∷ []) (o .record′) [] 4 .answer) ≡ refusedFor Unsound
 unfolding computing
 other-value = refl
 

@@ -12,9 +12,15 @@ use Rattle.language.specs.Layout.{storeSize}
 use Rattle.language.specs.Encode.{encode}
 use Rattle.language.specs.Reading.{Read, legal, readText, refusedAt}
 use Rattle.language.specs.RecordBytes.{recordFrom, recordSize}
+use Rattle.language.specs.Refusals.{refusalNumber}
+use Rattle.language.specs.declared.refusals.Refusal.{Refusal}
+use Rattle.language.specs.declared.refusals.Refusal.the-variants.{BadStimulus}
 use Rattle.language.specs.Scan.{bytes}
+use Rattle.language.specs.Stops.{stopNumber}
+use Rattle.language.specs.declared.stops.Stop.{Stop}
 use Rattle.language.specs.Store.{Words, fromBytes, inputsOf, toBytes}
 use Rattle.language.specs.Tree.{Name}
+use Rattle.language.specs.Words.{faultNumber}
 
 -- ---- Numbers and bits in print.
 
@@ -83,11 +89,11 @@ lineWords (f ∷ fs) bs = consWord (bitsNumber (wordLength f) 0 bs) (lineWords f
 
 -- ---- The run. A stop or refusal is the last line printed.
 
-abbrev pub stopLine : ℕ → List ℕ
-stopLine n = bytes "stop " ++ (decimal n ++ lineEnd)
+abbrev pub stopLine : Stop → List ℕ
+stopLine s = bytes "stop " ++ (decimal (stopNumber s) ++ lineEnd)
 
-abbrev pub refusedLine : ℕ → List ℕ
-refusedLine n = bytes "refused " ++ (decimal n ++ lineEnd)
+abbrev pub refusedLine : Refusal → List ℕ
+refusedLine r = bytes "refused " ++ (decimal (refusalNumber r) ++ lineEnd)
 
 abbrev pub endLine : ℕ → List ℕ
 endLine n = bytes "end " ++ (decimal n ++ lineEnd)
@@ -102,7 +108,7 @@ module _ (image : List ℕ) (d : Description) where
       byAnswer (refusedFor n) = refusedLine n
 
   abbrev pub withInput : Option Words → (List ℕ → List ℕ) → List ℕ
-  withInput none on = refusedLine 15
+  withInput none on = refusedLine BadStimulus
   withInput (some s) on = on (toBytes (inputsOf (d .facilities)) s)
 
   -- The lines that are left, after `done` cycles.
@@ -121,7 +127,7 @@ traceImage image lines =
 -- Reading is given the room it asks for.
 abbrev pub afterRead : List (List ℕ) → Read → List ℕ
 afterRead lines (legal d) = traceImage (encode d) lines
-afterRead lines (refusedAt f) = bytes "refused " ++ (decimal (f .number) ++ (bytes " " ++ (decimal (f .at .place) ++ lineEnd)))
+afterRead lines (refusedAt f) = bytes "refused " ++ (decimal (faultNumber f) ++ (bytes " " ++ (decimal (f .at .place) ++ lineEnd)))
 
 -- The whole output for a text and its lines of input.
 unfoldable pub trace : List ℕ → List (List ℕ) → List ℕ

@@ -8,6 +8,7 @@ use Rattle.language.specs.Characters.{classOf, digitWorth, folded, membe
 use Rattle.language.specs.Constants.{bareConstant, bareLargest, bareLength, binaryConstant, decimalConstant, digitsAfter, leftJustified, rightJustified}
 use Rattle.language.specs.Kinds.{delayedSign, registerWord, sumSign}
 use Rattle.language.specs.Lines.{longLines, longestLine, passes, widthAfter}
+use Rattle.language.specs.declared.refusals.Refusal.the-variants.{BadCharacter, BadConstant, BadName}
 use Rattle.language.specs.Scan.{bareAt, binaryAt, bytes, commentAt, constantAt, decimalAt, digitBits, digitsOf, itemAt, longestName, nameAt, reservedAmong, reservedWords, same, span, spelledSymbols, symbolAmong, written}
 use Rattle.language.specs.Value.{longest, value}
 use Rattle.language.specs.WordStage.{before, least, scan, scanFrom, wordFault, wordFaults}
@@ -36,33 +37,33 @@ unfolding words-open
 split-digits = refl
 
 -- Refusal 5: no digit after the base, length 0 or above 256, a bare value above 65,535.
-no-digit : wordFault (bytes "A 1DO") ≡ some (fault (position 2) 5)
+no-digit : wordFault (bytes "A 1DO") ≡ some (fault (position 2) BadConstant)
 unfolding words-open
 no-digit = refl
 
-no-period : wordFault (bytes "8D.5") ≡ some (fault (position 0) 5)
+no-period : wordFault (bytes "8D.5") ≡ some (fault (position 0) BadConstant)
 unfolding words-open
 no-period = refl
 
-length-zero : wordFault (bytes " 0D1") ≡ some (fault (position 1) 5)
+length-zero : wordFault (bytes " 0D1") ≡ some (fault (position 1) BadConstant)
 unfolding words-open
 length-zero = refl
 
-length-257 : wordFault (bytes "256D1 257D1") ≡ some (fault (position 6) 5)
+length-257 : wordFault (bytes "256D1 257D1") ≡ some (fault (position 6) BadConstant)
 unfolding words-open
 length-257 = refl
 
-bare-65536 : wordFault (bytes "65535 65536") ≡ some (fault (position 6) 5)
+bare-65536 : wordFault (bytes "65535 65536") ≡ some (fault (position 6) BadConstant)
 unfolding words-open
 bare-65536 = refl
 
 -- Refusal 2: a character that is not allowed; inside a comment every byte is.
-not-allowed : wordFault (bytes "A \"!\"\n!") ≡ some (fault (position 6) 2)
+not-allowed : wordFault (bytes "A \"!\"\n!") ≡ some (fault (position 6) BadCharacter)
 unfolding words-open
 not-allowed = refl
 
 -- A tab at column 129 passes column 132, one at column 128 does not.
-tab-129 : longLines 128 7 (9 ∷ []) ≡ fault (position 7) 2 ∷ []
+tab-129 : longLines 128 7 (9 ∷ []) ≡ fault (position 7) BadCharacter ∷ []
 unfolding words-open
 tab-129 = refl
 
@@ -75,7 +76,7 @@ line-end : longLines 132 7 (13 ∷ 10 ∷ []) ≡ []
 unfolding words-open
 line-end = refl
 
-lone-return : longLines 132 7 (13 ∷ 32 ∷ []) ≡ fault (position 7) 2 ∷ []
+lone-return : longLines 132 7 (13 ∷ 32 ∷ []) ≡ fault (position 7) BadCharacter ∷ []
 unfolding words-open
 lone-return = refl
 
@@ -84,6 +85,6 @@ name-133 : wordFault (replicate 132 65) ≡ none
 unfolding words-open
 name-133 = refl
 
-name-132 : wordFault (32 ∷ replicate 133 65) ≡ some (fault (position 1) 4)
+name-132 : wordFault (32 ∷ replicate 133 65) ≡ some (fault (position 1) BadName)
 unfolding words-open
 name-132 = refl

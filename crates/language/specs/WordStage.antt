@@ -8,13 +8,13 @@ use lib.ListN.{drop, length}
 use Rattle.language.specs.Lines.{longLines}
 use Rattle.language.specs.Scan.{Item, constant, gap, itemAt, named, sign, wrong}
 use Rattle.language.specs.Words as W
-use Rattle.language.specs.Words.{Fault, Position, Word, fault, position}
+use Rattle.language.specs.Words.{Fault, Position, Word, fault, faultNumber, position}
 
 -- The smaller of two faults: by place, and at one place by number.
 unfoldable pub before : Fault → Fault → Bool
 before a b =
     ltb (a .at .place) (b .at .place)
-    || (eqb (a .at .place) (b .at .place) && ltb (a .number) (b .number))
+    || (eqb (a .at .place) (b .at .place) && ltb (faultNumber a) (faultNumber b))
 
 abbrev pub smaller : Fault → Option Fault → Fault
 smaller a none = a
@@ -35,7 +35,7 @@ noted p gap r = r
 noted p (named n) r = record { words = W.name n p ∷ r .words; faults = r .faults }
 noted p (constant c) r = record { words = W.constant c p ∷ r .words; faults = r .faults }
 noted p (sign k) r = record { words = W.sign k p ∷ r .words; faults = r .faults }
-noted p (wrong n) r = record { words = r .words; faults = fault p n ∷ r .faults }
+noted p (wrong q) r = record { words = r .words; faults = fault p q ∷ r .faults }
 
 -- The items of a text that stands at a place; every item takes a byte or more, so there are no more than k of them where the text has k bytes.
 unfoldable pub scanFrom : ℕ → ℕ → List ℕ → Scanned

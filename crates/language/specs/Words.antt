@@ -2,6 +2,8 @@
 use mathlib.Core.Bool.{Bool}
 use mathlib.Core.List.{List}
 use Prim.Native.Nat.{ℕ}
+use Rattle.language.specs.Refusals.{refusalNumber}
+use Rattle.language.specs.declared.refusals.Refusal.{Refusal}
 use Rattle.language.specs.Value.{Value}
 use Rattle.language.specs.Kinds.{aName, aConstant}
 
@@ -12,13 +14,17 @@ pub record Position : Type 0 where
 abbrev pub position : ℕ → Position
 position p = record { place = p }
 
--- A fault: the place, and the refusal's number.
+-- A fault: the place, and the refusal.
 pub record Fault : Type 0 where
   pub at : Position
-  pub number : ℕ
+  pub refusal : Refusal
 
-abbrev pub fault : Position → ℕ → Fault
-fault p n = record { at = p; number = n }
+abbrev pub fault : Position → Refusal → Fault
+fault p r = record { at = p; refusal = r }
+
+-- Its number in 01.
+abbrev pub faultNumber : Fault → ℕ
+faultNumber f = refusalNumber (f .refusal)
 
 -- A constant: its value, and whether it was written without a length.
 pub record Constant : Type 0 where

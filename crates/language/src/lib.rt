@@ -1,1 +1,4 @@
-// The meaning of DDL-P: definitions only, in specs/, in the order of the manual. No code stands here.
+// What definitions and code share: the kinds of words, and the refusals and stops of document 01.
+pub mod kinds;
+pub mod refusals;
+pub mod stops;

@@ -5,6 +5,7 @@ use mathlib.Core.Path.{_≡_}
 use Prim.Native.Nat.{ℕ, suc}
 use native.Mathlib.Omega.{arith}
 use borrow.Author.Tests.{ne-eqb}
+use Rattle.language.specs.declared.refusals.Refusal.the-variants.{NoContinuation}
 use Rattle.parse_step.proofs.Looking.{View, begun, ended, name-ahead, nameWord, sign-ahead, view}
 use Rattle.parse_step.proofs.TakenWords.{onTaken, taken-on}
 use Rattle.parse_step.specs.Course.{Seen, Stack, ahead, behind, kindNo, runsOn}
@@ -103,22 +104,22 @@ module _ (text : List ℕ) (w : Word) (z : Seen text w) (b : Built) (c : Counts)
   name-comes e false K = rw (name-ahead text w z e) (taken-on text at _ (behind text w) _ _)
   name-comes e true K = rw (name-ahead text w z e) (taken-on text at _ (behind text w) _ _)
 
-  pub no-operation : (k ≡ aName → ⊥) → (k ≡ ifWord → ⊥) → (k ≡ caseWord → ⊥) → (K : Stack) → on (ask (actionAsk false) ∷ K) ≡ refused (fault at 3)
+  pub no-operation : (k ≡ aName → ⊥) → (k ≡ ifWord → ⊥) → (k ≡ caseWord → ⊥) → (K : Stack) → on (ask (actionAsk false) ∷ K) ≡ refused (fault at NoContinuation)
   unfolding runsOn run feed finish choose ruleOf
   no-operation n₁ n₂ n₃ K = go (view text w z)
     where
-      go : View text w → on (ask (actionAsk false) ∷ K) ≡ refused (fault at 3)
+      go : View text w → on (ask (actionAsk false) ∷ K) ≡ refused (fault at NoContinuation)
       go (ended x y e) = rw (x, y)
       go (begun v x e y) = rw (x, e, ne-eqb k aName n₁, ne-eqb k ifWord n₂, ne-eqb k caseWord n₃, y)
 
-  pub no-control : (k ≡ aName → ⊥) → among k (gotoSign ∷ callSign ∷ returnWord ∷ []) ≡ false → (k ≡ ifWord → ⊥) → (k ≡ caseWord → ⊥) → (K : Stack) → on (ask (actionAsk true) ∷ K) ≡ refused (fault at 3)
+  pub no-control : (k ≡ aName → ⊥) → among k (gotoSign ∷ callSign ∷ returnWord ∷ []) ≡ false → (k ≡ ifWord → ⊥) → (k ≡ caseWord → ⊥) → (K : Stack) → on (ask (actionAsk true) ∷ K) ≡ refused (fault at NoContinuation)
   unfolding runsOn run feed finish choose ruleOf
   no-control n₁ a n₂ n₃ K = go (view text w z)
     where
       a₁ : among k (callSign ∷ returnWord ∷ []) ≡ false
       a₁ = among-rest k gotoSign (callSign ∷ returnWord ∷ []) a
 
-      go : View text w → on (ask (actionAsk true) ∷ K) ≡ refused (fault at 3)
+      go : View text w → on (ask (actionAsk true) ∷ K) ≡ refused (fault at NoContinuation)
       go (ended x y e) = rw (x, y)
       go (begun v x e y) =
           rw (x, e, ne-eqb k aName n₁, among-first k gotoSign (callSign ∷ returnWord ∷ []) a, among-first k callSign (returnWord ∷ []) a₁, among-first k returnWord [] (among-rest k callSign (returnWord ∷ []) a₁), ne-eqb k ifWord n₂, ne-eqb k caseWord n₃, y)

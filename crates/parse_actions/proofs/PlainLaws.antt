@@ -3,6 +3,7 @@ use mathlib.Core.Bool.{Bool, true, false}
 use mathlib.Core.List.{List, [], _∷_, _++_}
 use mathlib.Core.Path.{_≡_, sym, ap, _∙_}
 use Prim.Native.Nat.{ℕ}
+use Rattle.language.specs.declared.refusals.Refusal.the-variants.{NoContinuation}
 use Rattle.parse_step.proofs.Answers.{done-refused, refused-full, same-fault}
 use Rattle.parse_step.proofs.TakenWords.{took-done, took-refused}
 use Rattle.parse_step.specs.declared.Answer.{Answer}
@@ -59,7 +60,7 @@ module _ (q : Bool) {text : List ℕ} {n : Counts} {w : Word} {s : State} {work 
 
 -- ---- What begins no action.
 
-refuses : {text : List ℕ} {sc : Scope} {n : Counts} {P : Stack} {w : Word} {s : State} {work work′ : List ℕ} {a : Answer} → Refuses w 3 a → ((K : Stack) (b : Built) → runs text (P ++ K) w b s ≡ refused (fault (positioned (w .at)) 3))
+refuses : {text : List ℕ} {sc : Scope} {n : Counts} {P : Stack} {w : Word} {s : State} {work work′ : List ℕ} {a : Answer} → Refuses w NoContinuation a → ((K : Stack) (b : Built) → runs text (P ++ K) w b s ≡ refused (fault (positioned (w .at)) NoContinuation))
     → Reads text sc n P [] (same text) w s work work′ a
 refuses x g = record {
   done = λ d. done-refused (sym d ∙ x .verdict);
@@ -67,7 +68,7 @@ refuses x g = record {
   full = λ d. refused-full (sym (x .verdict) ∙ d);
 }
 
-module _ {text : List ℕ} {n : Counts} {w : Word} {s : State} {work work′ : List ℕ} {a : Answer} (x : Refuses w 3 a) {k : ℕ} (e : k ≡ kindNo (w .kind)) where
+module _ {text : List ℕ} {n : Counts} {w : Word} {s : State} {work work′ : List ℕ} {a : Answer} (x : Refuses w NoContinuation a) {k : ℕ} (e : k ≡ kindNo (w .kind)) where
   pub signed-not : {z : Bool} → z ≡ among k (gotoSign ∷ callSign ∷ returnWord ∷ []) → z ≡ false → Signed text n w s work work′ a
   signed-not f g m₁ m₂ m₃ sc st = refuses x (λ K b. no-control text w (st .seen) b (countsOf s) m₁ (ap (λ (v : ℕ). among v (gotoSign ∷ callSign ∷ returnWord ∷ [])) (sym e) ∙ sym f ∙ g) m₂ m₃ K)
 

@@ -39,13 +39,13 @@ pub fn is(w: Word, kind: u8) -> bool
 pub fn signs(kind: u8) -> bool
     ensures { λ r. ⌜ r ≡ among kind (gotoSign ∷ callSign ∷ returnWord ∷ []) ⌝ }
 {
-    if kind == text_kinds::GOTO {
+    if kind == language::kinds::GOTO {
         return true;
     }
-    if kind == text_kinds::CALL {
+    if kind == language::kinds::CALL {
         return true;
     }
-    kind == text_kinds::RETURN
+    kind == language::kinds::RETURN
 }
 
 // How many of `count` records stand behind record n.
@@ -85,5 +85,11 @@ pub fn when_again(work: &mut Work, acts: u16, arm: u16, nodes: u16, count: u16, 
 pub fn end_if(text: &[u8], a: Answer) -> Answer
     ensures { λ r. ⌜ Expected (now (text .entry)) endIfWord Closes (a .next) (a .state) r ⌝ }
 {
-    taking::expect(text, a.next, a.state, text_kinds::END_IF, Bearing::Closes)
+    taking::expect(
+        text,
+        a.next,
+        a.state,
+        language::kinds::END_IF,
+        Bearing::Closes,
+    )
 }

@@ -1,5 +1,6 @@
 // Lists of actions and conditionals (the manual, 7.1 and 8.2), read as the machine of the grammar reads them.
 use image_records::actions::Action;
+use language::refusals::Refusal;
 use parse_array::Work;
 use parse_levels::Level;
 use parse_names::Counts;
@@ -35,7 +36,7 @@ pub fn list(s: State, in_state: bool, text: &[u8], w: Word, work: &mut Work, n: 
         if parse_step::unread(read) {
             return read;
         }
-        if leaves::is(read.next, text_kinds::COMMA) {
+        if leaves::is(read.next, language::kinds::COMMA) {
             let state = parse_expressions::pieces::at(read.state, s.nesting);
             read = another(state, in_state, text, read.next, work, n);
             count += 1;
@@ -64,10 +65,10 @@ pub fn action(s: State, in_state: bool, text: &[u8], w: Word, work: &mut Work, n
 {
     let found = w.kind;
     let kind = kinds::number(found);
-    if kind == text_kinds::IF {
+    if kind == language::kinds::IF {
         return when(s, in_state, text, w, work, n);
     }
-    if kind == text_kinds::CASE {
+    if kind == language::kinds::CASE {
         return cases(s, in_state, text, w, work, n);
     }
     plain(s, in_state, text, w, work, n)
@@ -107,7 +108,7 @@ fn when(s: State, in_state: bool, text: &[u8], w: Word, work: &mut Work, n: Coun
     if parse_step::unread(first) {
         return first;
     }
-    if leaves::is(first.next, text_kinds::END_IF) {
+    if leaves::is(first.next, language::kinds::END_IF) {
         let end = leaves::end_if(text, first);
         leaves::when_again(
             work,
@@ -133,7 +134,7 @@ fn when(s: State, in_state: bool, text: &[u8], w: Word, work: &mut Work, n: Coun
 fn otherwise(s: State, in_state: bool, text: &[u8], w: Word, work: &mut Work, n: Counts) -> Answer
     ensures { λ r. ⌜ Else in_state (now (text .entry)) n w s (now (work .entry)) (now (work .exit)) r ⌝ }
 {
-    let word = taking::expect(text, w, s, text_kinds::ELSE, Bearing::Level);
+    let word = taking::expect(text, w, s, language::kinds::ELSE, Bearing::Level);
     if parse_step::unread(word) {
         return word;
     }
@@ -158,7 +159,7 @@ fn cases(s: State, in_state: bool, text: &[u8], w: Word, work: &mut Work, n: Cou
         text,
         last.next,
         last.state,
-        text_kinds::END_CASE,
+        language::kinds::END_CASE,
         Bearing::Closes,
     );
     leaves::choose_again(
@@ -184,7 +185,7 @@ fn arms(s: State, in_state: bool, text: &[u8], w: Word, work: &mut Work, n: Coun
                 count,
             };
         }
-        if leaves::is(read.next, text_kinds::DO) {
+        if leaves::is(read.next, language::kinds::DO) {
             let state = parse_expressions::pieces::at(read.state, s.nesting);
             read = next_arm(state, in_state, text, read.next, work, n);
             count += 1;
@@ -235,13 +236,13 @@ fn plain(s: State, in_state: bool, text: &[u8], w: Word, work: &mut Work, n: Cou
     ensures { λ r. ⌜ Plain in_state (now (text .entry)) n w s (now (work .entry)) (now (work .exit)) r ⌝ }
 {
     let found = w.kind;
-    if kinds::number(found) == text_kinds::NAME {
+    if kinds::number(found) == language::kinds::NAME {
         return named(s, in_state, text, w, work, n);
     }
     if in_state {
         return signed(s, text, w, work, n);
     }
-    taking::refuse(w, s, 3)
+    taking::refuse(w, s, Refusal::NoContinuation)
 }
 
 // An action that begins with a name.
@@ -266,5 +267,5 @@ fn signed(s: State, text: &[u8], w: Word, work: &mut Work, n: Counts) -> Answer
     if leaves::signs(kinds::number(found)) {
         return parse_stores::signed(s, text, w, work, n);
     }
-    taking::refuse(w, s, 3)
+    taking::refuse(w, s, Refusal::NoContinuation)
 }

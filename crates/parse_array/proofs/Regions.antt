@@ -7,9 +7,9 @@ use lib.ListN.{length, take, drop, length-append}
 use lib.Seq.{drop-at, drop-drop, length-take-le, take-add, take-append-le, take-at, take-take}
 use Rattle.image_records.proofs.ByteLaws.{placed-length, placed-whole}
 use Rattle.image_records.specs.Placed.{placed}
-use Rattle.language.specs.Encode.{nodeSize}
 use Rattle.parse_array.specs.Held.{Held, held, otherIn, withBytes}
 use Rattle.parse_array.specs.Layout.{mostNodes, otherFrom, placesFrom, workSize}
+use Rattle.language.specs.Encode.{nodeSize}
 
 pub same-held : {x x′ y y′ z z′ : List ℕ} → x ≡ x′ → y ≡ y′ → z ≡ z′ → _≡_ {A = Held} (record { nodes = x; places = y; other = z }) (record { nodes = x′; places = y′; other = z′ })
 same-held p q r = rw (p, q, r)

@@ -4,6 +4,7 @@ use mathlib.Core.List.{List, [], _∷_, _++_}
 use mathlib.Core.Path.{_≡_, refl, ap, _∙_}
 use Prim.Native.Nat.{ℕ, suc, _-_}
 use native.Mathlib.Omega.{arith}
+use Rattle.language.specs.declared.refusals.Refusal.the-variants.{NoContinuation}
 use Rattle.parse_step.proofs.Answers.{done-full, done-refused}
 use Rattle.parse_step.proofs.Saying.{makes-it}
 use Rattle.parse_step.proofs.TakenWords.{onTaken, took-done}
@@ -69,8 +70,8 @@ module _ {text : List ℕ} {w : Word} {s : State} where
         seen = p .seen;
       }
 
-  pub neither : {f : Ends} {e : Extent} {a : Answer} → (kindNo (w .kind) ≡ closeBracket → ⊥) → (kindNo (w .kind) ≡ comma → ⊥) → Refuses w 3 a → Follows text w s f (record { answer = a; extent = e })
-  neither n m r o z x b = refuses 3 r (λ K c. extent-stuck text w K (withRange x c) s o z n m)
+  pub neither : {f : Ends} {e : Extent} {a : Answer} → (kindNo (w .kind) ≡ closeBracket → ⊥) → (kindNo (w .kind) ≡ comma → ⊥) → Refuses w NoContinuation a → Follows text w s f (record { answer = a; extent = e })
+  neither n m r o z x b = refuses NoContinuation r (λ K c. extent-stuck text w K (withRange x c) s o z n m)
 
   module _ (k : kindNo (w .kind) ≡ comma) {a : Answer} (t : Took text w (countsOf s) s a) where
     by-comma : (o : Whose) (x y : T.Ends) (K : Stack) (c : Built) → runs text (ask (restOf o) ∷ K) w (withRange x c) s

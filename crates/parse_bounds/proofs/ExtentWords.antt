@@ -4,6 +4,7 @@ use mathlib.Core.Path.{_≡_, refl}
 use Prim.Native.Nat.{ℕ, suc, _+_, _-_}
 use native.Mathlib.Omega.{arith}
 use borrow.Author.Tests.{ne-eqb}
+use Rattle.language.specs.declared.refusals.Refusal.the-variants.{NoContinuation}
 use Rattle.parse_step.proofs.Looking.{View, begun, ended, sign-ahead, view}
 use Rattle.parse_step.proofs.Omitted.{omitted}
 use Rattle.parse_step.proofs.TakenWords.{onTaken, taken-on}
@@ -54,11 +55,11 @@ module _ (text : List ℕ) (w : Word) (K : Stack) (b : Built) (s : State) where
   extent-comma ofOther x y e = rw (sign-ahead text w comma e (omega arith)) (taken-on text (positioned (w .at)) (keep aConstant ∷ ask rangeRest ∷ closing closeBracket ∷ make makeTable ∷ K) (behind text w) b (countsOf s))
   extent-comma ofTerminal x y e = rw (sign-ahead text w comma e (omega arith)) (taken-on text (positioned (w .at)) (keep aConstant ∷ ask rangeRest ∷ closing closeBracket ∷ make makeTable ∷ make makePlain ∷ K) (behind text w) b (countsOf s))
 
-  pub extent-stuck : (o : Whose) → Seen text w → (kindNo (w .kind) ≡ closeBracket → ⊥) → (kindNo (w .kind) ≡ comma → ⊥) → runs text (ask (restOf o) ∷ K) w b s ≡ refused (fault (positioned (w .at)) 3)
+  pub extent-stuck : (o : Whose) → Seen text w → (kindNo (w .kind) ≡ closeBracket → ⊥) → (kindNo (w .kind) ≡ comma → ⊥) → runs text (ask (restOf o) ∷ K) w b s ≡ refused (fault (positioned (w .at)) NoContinuation)
   unfolding runsOn run feed finish choose ruleOf
   extent-stuck o z n m = by-view o (view text w z)
     where
-      by-view : (o : Whose) → View text w → runs text (ask (restOf o) ∷ K) w b s ≡ refused (fault (positioned (w .at)) 3)
+      by-view : (o : Whose) → View text w → runs text (ask (restOf o) ∷ K) w b s ≡ refused (fault (positioned (w .at)) NoContinuation)
       by-view ofOther (ended e p q) = rw (e, p)
       by-view ofOther (begun v e q p) = rw (e, q, ne-eqb (kindNo (w .kind)) closeBracket n, ne-eqb (kindNo (w .kind)) comma m, p)
       by-view ofTerminal (ended e p q) = rw (e, p)

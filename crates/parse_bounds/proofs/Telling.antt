@@ -2,6 +2,7 @@
 use mathlib.Core.List.{List, _∷_, _++_}
 use mathlib.Core.Path.{_≡_, sym, ap, _∙_}
 use Prim.Native.Nat.{ℕ, _≤_}
+use Rattle.language.specs.declared.refusals.Refusal.{Refusal}
 use Rattle.parse_step.proofs.Answers.{done-refused, refused-full, same-fault}
 use Rattle.parse_step.proofs.TakenWords.{onTaken, took-refused}
 use Rattle.parse_step.specs.declared.Answer.{Answer}
@@ -40,7 +41,7 @@ module _ {text : List ℕ} {P : Stack} {pre : Built → Built} {w : Word} {s : S
   constant-kept t n z M mid g = record { done = n; refused = λ f d K b. g K b ∙ t .refused f d z (M K) (mid b); full = λ d. absurd (t .full d) }
 
   -- A word refused.
-  pub refuses : {w₁ : Word} (n : ℕ) → Refuses w₁ n a → ((K : Stack) (b : Built) → runs text (P ++ K) w (pre b) s ≡ refused (fault (positioned (w₁ .at)) n)) → Tells text P pre w s a Read
+  pub refuses : {w₁ : Word} (n : Refusal) → Refuses w₁ n a → ((K : Stack) (b : Built) → runs text (P ++ K) w (pre b) s ≡ refused (fault (positioned (w₁ .at)) n)) → Tells text P pre w s a Read
   refuses n x g = record {
     done = λ d. done-refused (sym d ∙ x .verdict);
     refused = λ f d K b. g K b ∙ ap refused (sym (ap faulted (same-fault (sym d ∙ x .verdict)) ∙ x .is));

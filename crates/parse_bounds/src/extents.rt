@@ -1,5 +1,6 @@
 // Dimensions behind a name: none, one range, or two, in brackets.
 use crate::ranges;
+use language::refusals::Refusal;
 use parse_step::Answer;
 use parse_step::Bearing;
 use parse_step::State;
@@ -75,7 +76,7 @@ pub fn dimensions(text: &[u8], w: Word, s: State) -> Measured
 {
     let extent = single();
     let kind = w.kind;
-    if kinds::number(kind) != text_kinds::OPEN_BRACKET {
+    if kinds::number(kind) != language::kinds::OPEN_BRACKET {
         let answer = Answer {
             verdict: Verdict::Done,
             next: w,
@@ -106,12 +107,12 @@ fn behind_range(text: &[u8], w: Word, s: State, first: Ends) -> Measured
     let kind = w.kind;
     let k = kinds::number(kind);
     let extent = row(first);
-    if k == text_kinds::CLOSE_BRACKET {
+    if k == language::kinds::CLOSE_BRACKET {
         let answer = taking::take(text, w, s, false, Bearing::Closes);
         return Measured { answer, extent };
     }
-    if k != text_kinds::COMMA {
-        let answer = taking::refuse(w, s, 3);
+    if k != language::kinds::COMMA {
+        let answer = taking::refuse(w, s, Refusal::NoContinuation);
         return Measured { answer, extent };
     }
     let answer = taking::take(text, w, s, false, Bearing::Level);
@@ -127,7 +128,7 @@ fn behind_range(text: &[u8], w: Word, s: State, first: Ends) -> Measured
         text,
         second.answer.next,
         second.answer.state,
-        text_kinds::CLOSE_BRACKET,
+        language::kinds::CLOSE_BRACKET,
         Bearing::Closes,
     );
     let ends = second.ends;

@@ -62,7 +62,7 @@ pub fn range(text: &[u8], w: Word, s: State) -> Ranged
     }
     let next = first.next;
     let kind = next.kind;
-    if kinds::number(kind) != text_kinds::COLON {
+    if kinds::number(kind) != language::kinds::COLON {
         return Ranged {
             answer: first,
             ends,

@@ -12,6 +12,7 @@ use Rattle.language.specs.Description as D
 use Rattle.language.specs.Kinds.{aConstant, closeBracket, colon, comma, openBracket}
 use Rattle.language.specs.Machine.{Counts, afterSubscript, ask, closes, make, second, secondEnd, secondOption, subscript, refused, withinCeilings, word}
 use Rattle.language.specs.Naming.{Scope, meaning, ofFacility}
+use Rattle.language.specs.declared.refusals.Refusal.the-variants.{CeilingPassed}
 use Rattle.language.specs.Scan.{written}
 use Rattle.language.specs.Tree as T
 use Rattle.language.specs.Tree.{Expression}
@@ -74,7 +75,7 @@ module _ {text : List ℕ} {w : Word} {s : State} {work : List ℕ} (later : Boo
 
       waiting : {sc : Scope} → Here text sc w s work → endsAhead (ahead text w) ≡ false → (K : Stack) (b : Built)
           → runs text (ask (bracketAsk later) ∷ K) w b s
-          ≡ cond (withinCeilings counts) (runsOn text (ask (bracketRest later) ∷ K) (ahead text (t .next)) (pushed (T.constant (written (w .bare) (valued (w .value))) (positioned (w .at))) b) counts) (refused (fault (positioned (w .at)) 10))
+          ≡ cond (withinCeilings counts) (runsOn text (ask (bracketRest later) ∷ K) (ahead text (t .next)) (pushed (T.constant (written (w .bare) (valued (w .value))) (positioned (w .at))) b) counts) (refused (fault (positioned (w .at)) CeilingPassed))
       waiting h e K b =
           let p = x .done d₁ in
           constant-first text w (h .seen) b (countsOf s) k later K ∙ took-done p (h .seen) (ask (bracketWaits later) ∷ ask (bracketRest later) ∷ K) (keepWord (constantWord w) b)

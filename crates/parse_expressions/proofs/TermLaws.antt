@@ -10,6 +10,7 @@ use Rattle.language.specs.Description as D
 use Rattle.language.specs.Kinds.{aConstant, aName, caseWord, closeParen, ifWord, openBracket, openParen}
 use Rattle.language.specs.Machine.{Counts, ask, closes, expression, subscript, subscripts, term, word}
 use Rattle.language.specs.Naming.{Scope, meaning, ofFacility}
+use Rattle.language.specs.declared.refusals.Refusal.the-variants.{NoContinuation}
 use Rattle.language.specs.Tree as T
 use Rattle.language.specs.Tree.{Expression}
 use Rattle.text_words.specs.declared.Word.{Word}
@@ -87,10 +88,10 @@ module _ {text : List ℕ} {w : Word} {s : State} {work : List ℕ} (e : kindNo 
       through (from-kept work (t .state .nodes) (s .nodes) (t .state .nesting) (s .nesting) (p .kept .nodes) (ap (λ (c : Counts). c .nesting) (p .counts)) (y sc (here-passed h p)))
       (λ K b. name-term text w (h .seen) b (countsOf s) e K ∙ took-done p (h .seen) (ask subscripts ∷ K) (afterName w text b))
 
-pub term-not : {text : List ℕ} {w : Word} {s : State} {work : List ℕ} {k : ℕ} {r : Answer} → k ≡ kindNo (w .kind) → (k ≡ aConstant → ⊥) → (k ≡ aName → ⊥) → (k ≡ openParen → ⊥) → (k ≡ ifWord → ⊥) → (k ≡ caseWord → ⊥) → Refuses w 3 r
+pub term-not : {text : List ℕ} {w : Word} {s : State} {work : List ℕ} {k : ℕ} {r : Answer} → k ≡ kindNo (w .kind) → (k ≡ aConstant → ⊥) → (k ≡ aName → ⊥) → (k ≡ openParen → ⊥) → (k ≡ ifWord → ⊥) → (k ≡ caseWord → ⊥) → Refuses w NoContinuation r
     → Parses (ask term ∷ []) same (s .nesting) text w s work work r
 term-not {text} {w} {s} e n₁ n₂ n₃ n₄ n₅ x sc h =
-    refuses 3 x (λ K b. no-term text w (h .seen) b (countsOf s) (λ q. n₁ (e ∙ q)) (λ q. n₂ (e ∙ q)) (λ q. n₃ (e ∙ q)) (λ q. n₄ (e ∙ q)) (λ q. n₅ (e ∙ q)) K)
+    refuses NoContinuation x (λ K b. no-term text w (h .seen) b (countsOf s) (λ q. n₁ (e ∙ q)) (λ q. n₂ (e ∙ q)) (λ q. n₃ (e ∙ q)) (λ q. n₄ (e ∙ q)) (λ q. n₅ (e ∙ q)) K)
 
 -- ---- A reference.
 

@@ -1,5 +1,6 @@
 // Expressions and references (the manual, 5.1 and 5.2): a recursive descent that writes their records, against the machine of the grammar.
 use crate::pieces::Armed;
+use language::refusals::Refusal;
 use parse_array::Work;
 use parse_array::layout::MOST_NODES;
 use parse_levels::Head;
@@ -132,22 +133,22 @@ fn term(s: State, text: &[u8], w: Word, work: &mut Work) -> Answer
     ensures { λ r. ⌜ Parses (ask L.term ∷ []) same (s .nesting) (now (text .entry)) w s (now (work .entry)) (now (work .exit)) r × Spends (now (text .entry)) 0 w s r ⌝ }
 {
     let kind = kinds::kind_of(w);
-    if kind == text_kinds::CONSTANT {
+    if kind == language::kinds::CONSTANT {
         return constants::constant(s, text, w, work);
     }
-    if kind == text_kinds::NAME {
+    if kind == language::kinds::NAME {
         return named(s, text, w, work);
     }
-    if kind == text_kinds::OPEN_PAREN {
+    if kind == language::kinds::OPEN_PAREN {
         return group(s, text, w, work);
     }
-    if kind == text_kinds::IF {
+    if kind == language::kinds::IF {
         return choice(s, false, text, w, work);
     }
-    if kind == text_kinds::CASE {
+    if kind == language::kinds::CASE {
         return choice(s, true, text, w, work);
     }
-    taking::refuse(w, s, 3)
+    taking::refuse(w, s, Refusal::NoContinuation)
 }
 
 // An expression in parentheses.
@@ -166,7 +167,7 @@ fn group(s: State, text: &[u8], w: Word, work: &mut Work) -> Answer
         text,
         inner.next,
         inner.state,
-        text_kinds::CLOSE_PAREN,
+        language::kinds::CLOSE_PAREN,
         Bearing::Closes,
     )
 }
@@ -186,7 +187,7 @@ fn named(s: State, text: &[u8], w: Word, work: &mut Work) -> Answer
 pub fn reference(s: State, name: Word, text: &[u8], w: Word, work: &mut Work) -> Answer
     ensures { λ r. ⌜ Parses (ask L.subscripts ∷ []) (afterName name) (s .nesting) (now (text .entry)) w s (now (work .entry)) (now (work .exit)) r × Spends (now (text .entry)) 2 w s r ⌝ }
 {
-    if kinds::kind_of(w) == text_kinds::OPEN_BRACKET {
+    if kinds::kind_of(w) == language::kinds::OPEN_BRACKET {
         let opened = taking::take(text, w, s, false, Bearing::Opens);
         if parse_step::unread(opened) {
             return opened;
@@ -207,7 +208,7 @@ pub fn subscript(s: State, name: Word, text: &[u8], w: Word, work: &mut Work) ->
     if parse_step::unread(first) {
         return first;
     }
-    if kinds::kind_of(first.next) == text_kinds::COMMA {
+    if kinds::kind_of(first.next) == language::kinds::COMMA {
         let comma = taking::take(text, first.next, first.state, false, Bearing::Level);
         if parse_step::unread(comma) {
             return comma;
@@ -219,7 +220,7 @@ pub fn subscript(s: State, name: Word, text: &[u8], w: Word, work: &mut Work) ->
         text,
         first.next,
         first.state,
-        text_kinds::CLOSE_BRACKET,
+        language::kinds::CLOSE_BRACKET,
         Bearing::Closes,
     );
     if parse_step::unread(closed) {
@@ -233,7 +234,7 @@ pub fn subscript(s: State, name: Word, text: &[u8], w: Word, work: &mut Work) ->
 fn single(s: State, name: Word, text: &[u8], w: Word, work: &mut Work) -> Answer
     ensures { λ r. ⌜ Second L.secondOption name (s .nesting) (now (text .entry)) w s (now (work .entry)) (now (work .exit)) r × Spends (now (text .entry)) 2 w s r ⌝ }
 {
-    if kinds::kind_of(w) == text_kinds::OPEN_BRACKET {
+    if kinds::kind_of(w) == language::kinds::OPEN_BRACKET {
         let opened = taking::take(text, w, s, false, Bearing::Opens);
         if parse_step::unread(opened) {
             return opened;
@@ -258,7 +259,7 @@ fn second(s: State, name: Word, text: &[u8], w: Word, work: &mut Work) -> Answer
         text,
         other.next,
         other.state,
-        text_kinds::CLOSE_BRACKET,
+        language::kinds::CLOSE_BRACKET,
         Bearing::Closes,
     );
     if parse_step::unread(closed) {
@@ -279,7 +280,7 @@ fn second(s: State, name: Word, text: &[u8], w: Word, work: &mut Work) -> Answer
 fn inside(s: State, later: bool, text: &[u8], w: Word, work: &mut Work) -> Answer
     ensures { λ r. ⌜ Inside later (now (text .entry)) w s (now (work .entry)) (now (work .exit)) r × Spends (now (text .entry)) 0 w s r ⌝ }
 {
-    if kinds::kind_of(w) == text_kinds::CONSTANT {
+    if kinds::kind_of(w) == language::kinds::CONSTANT {
         let kept = taking::take(text, w, s, false, Bearing::Level);
         if parse_step::unread(kept) {
             return kept;
@@ -399,7 +400,7 @@ fn more_arms(s: State, case: bool, n: u16, text: &[u8], w: Word, work: &mut Work
         if pieces::another(case, next) {
             let one = next_arm(
                 pieces::at(state, s.nesting),
-                text_kinds::DO,
+                language::kinds::DO,
                 text,
                 next,
                 work,

@@ -66,9 +66,9 @@ pub fn first_word(case: bool) -> u8
     ensures { λ r. ⌜ r ≡ firstWord case ⌝ }
 {
     if case {
-        text_kinds::DO
+        language::kinds::DO
     } else {
-        text_kinds::THEN
+        language::kinds::THEN
     }
 }
 
@@ -76,9 +76,9 @@ pub fn other_word(case: bool) -> u8
     ensures { λ r. ⌜ r ≡ otherWord case ⌝ }
 {
     if case {
-        text_kinds::DO
+        language::kinds::DO
     } else {
-        text_kinds::ELSE
+        language::kinds::ELSE
     }
 }
 
@@ -86,9 +86,9 @@ pub fn last_word(case: bool) -> u8
     ensures { λ r. ⌜ r ≡ lastWord case ⌝ }
 {
     if case {
-        text_kinds::END_CASE
+        language::kinds::END_CASE
     } else {
-        text_kinds::END_IF
+        language::kinds::END_IF
     }
 }
 
@@ -98,7 +98,7 @@ pub fn another(case: bool, w: Word) -> bool
 {
     if case {
         let kind = w.kind;
-        return kinds::number(kind) == text_kinds::DO;
+        return kinds::number(kind) == language::kinds::DO;
     }
     false
 }
@@ -133,7 +133,7 @@ pub fn reducing(s: State, head: Head, text: &[u8], w: Word) -> Answer
     match head {
         Head::Plain => stay(s, w),
         Head::Negation => stay(s, w),
-        Head::Reduction => taking::expect(text, w, s, text_kinds::RED, Bearing::Level),
+        Head::Reduction => taking::expect(text, w, s, language::kinds::RED, Bearing::Level),
         Head::Complement => stay(s, w),
     }
 }

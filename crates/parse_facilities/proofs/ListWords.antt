@@ -4,6 +4,7 @@ use mathlib.Core.Path.{_≡_, refl, _∙_}
 use Prim.Native.Nat.{ℕ}
 use native.Mathlib.Omega.{arith}
 use borrow.Author.Tests.{ne-eqb}
+use Rattle.language.specs.declared.refusals.Refusal.the-variants.{NoContinuation}
 use Rattle.parse_step.proofs.Looking.{View, begun, ended, sign-ahead, view}
 use Rattle.parse_step.proofs.TakenWords.{onTaken, taken-on, took-done}
 use Rattle.parse_step.specs.declared.Answer.{Answer}
@@ -41,11 +42,11 @@ module _ (text : List ℕ) (w : Word) (K : Stack) (b : Built) (s : State) where
   end-taken memories e = rw (sign-ahead text w endWord e (omega arith)) (taken-on text (positioned (w .at)) K (behind text w) b (countsOf s))
   end-taken terminals e = rw (sign-ahead text w endWord e (omega arith)) (taken-on text (positioned (w .at)) K (behind text w) b (countsOf s))
 
-  pub more-stuck : (l : Listing) → Seen text w → (kindNo (w .kind) ≡ comma → ⊥) → (kindNo (w .kind) ≡ period → ⊥) → (kindNo (w .kind) ≡ endWord → ⊥) → runs text (ask (moreIn l) ∷ K) w b s ≡ refused (fault (positioned (w .at)) 3)
+  pub more-stuck : (l : Listing) → Seen text w → (kindNo (w .kind) ≡ comma → ⊥) → (kindNo (w .kind) ≡ period → ⊥) → (kindNo (w .kind) ≡ endWord → ⊥) → runs text (ask (moreIn l) ∷ K) w b s ≡ refused (fault (positioned (w .at)) NoContinuation)
   unfolding runsOn run feed finish choose ruleOf
   more-stuck l z n m o = by-view l (view text w z)
     where
-      by-view : (l : Listing) → View text w → runs text (ask (moreIn l) ∷ K) w b s ≡ refused (fault (positioned (w .at)) 3)
+      by-view : (l : Listing) → View text w → runs text (ask (moreIn l) ∷ K) w b s ≡ refused (fault (positioned (w .at)) NoContinuation)
       by-view registers (ended e p q) = rw (e, p)
       by-view registers (begun v e q p) = rw (e, q, ne-eqb (kindNo (w .kind)) comma n, ne-eqb (kindNo (w .kind)) period m, ne-eqb (kindNo (w .kind)) endWord o, p)
       by-view memories (ended e p q) = rw (e, p)
@@ -66,5 +67,5 @@ module _ {text : List ℕ} {w : Word} {s : State} {place : ℕ} {a : Answer} whe
   pub by-end : kindNo (w .kind) ≡ endWord → Took text w (countsOf s) s a → Ends text w s place (record { answer = a; place = place })
   by-end e t l z n = word-taken t (λ d. end-read l z (λ K b. end-taken text w K b s l e) (t .done d)) (λ K. K) same (λ K b. end-taken text w K b s l e)
 
-  pub by-neither : (kindNo (w .kind) ≡ period → ⊥) → (kindNo (w .kind) ≡ endWord → ⊥) → Refuses w 3 a → Ends text w s place (record { answer = a; place = place })
-  by-neither m o r l z n = refuses 3 r (λ K b. more-stuck text w K b s l z n m o)
+  pub by-neither : (kindNo (w .kind) ≡ period → ⊥) → (kindNo (w .kind) ≡ endWord → ⊥) → Refuses w NoContinuation a → Ends text w s place (record { answer = a; place = place })
+  by-neither m o r l z n = refuses NoContinuation r (λ K b. more-stuck text w K b s l z n m o)

@@ -4,6 +4,7 @@ use mathlib.Core.List.{List, _∷_, _++_}
 use mathlib.Core.Path.{_≡_, _∙_, subst}
 use Prim.Native.Nat.{ℕ, _+_, _≤_}
 use borrow.Author.Tests.{leb-true, ne-eqb}
+use Rattle.language.specs.declared.refusals.Refusal.the-variants.{NoContinuation}
 use Rattle.parse_step.proofs.Looking.{View, begun, ended, name-ahead, view}
 use Rattle.parse_step.proofs.TakenWords.{onTaken, taken-on, took-done}
 use Rattle.parse_step.specs.declared.Answer.{Answer}
@@ -39,11 +40,11 @@ module _ (text : List ℕ) (w : Word) (K : Stack) (b : Built) (s : State) (z : S
   name-taken F.Computed e = rw (name-ahead text w z e) (taken-on text (positioned (w .at)) (ask (askOf (whoseOf F.Computed)) ∷ K) (behind text w) (keepWord (namedWord text w) b) (countsOf (moreState s)))
 
   -- Another word is refused.
-  pub name-stuck : (k : Kind) → Plainly k w → (kindNo (w .kind) ≡ aName → ⊥) → runs text (ask (specOf k) ∷ K) w b s ≡ refused (fault (positioned (w .at)) 3)
+  pub name-stuck : (k : Kind) → Plainly k w → (kindNo (w .kind) ≡ aName → ⊥) → runs text (ask (specOf k) ∷ K) w b s ≡ refused (fault (positioned (w .at)) NoContinuation)
   unfolding runsOn run feed finish choose ruleOf
   name-stuck k h n = by-view k h (view text w z)
     where
-      by-view : (k : Kind) → Plainly k w → View text w → runs text (ask (specOf k) ∷ K) w b s ≡ refused (fault (positioned (w .at)) 3)
+      by-view : (k : Kind) → Plainly k w → View text w → runs text (ask (specOf k) ∷ K) w b s ≡ refused (fault (positioned (w .at)) NoContinuation)
       by-view F.Register h (ended e p q) = rw (e, p)
       by-view F.Register h (begun v e q p) = rw (e, q, ne-eqb (kindNo (w .kind)) aName n, ne-eqb (kindNo (w .kind)) hash h, p)
       by-view F.Sequencing h (ended e p q) = rw (e, p)
@@ -65,8 +66,8 @@ few-facilities c e = leb-true (c .facilities) 256 (both-first _ _ e)
 
 -- ---- As the code takes it.
 
-pub not-named : {text : List ℕ} {w : Word} {s : State} {r : Answer} → (kindNo (w .kind) ≡ aName → ⊥) → Refuses w 3 r → Names text w s r
-not-named {text} {w} {s} n x k h z f = refuses 3 x (λ K b. name-stuck text w K b s z k h n)
+pub not-named : {text : List ℕ} {w : Word} {s : State} {r : Answer} → (kindNo (w .kind) ≡ aName → ⊥) → Refuses w NoContinuation r → Names text w s r
+not-named {text} {w} {s} n x k h z f = refuses NoContinuation x (λ K b. name-stuck text w K b s z k h n)
 
 pub named : {text : List ℕ} {w : Word} {s s′ : State} {r : Answer} → kindNo (w .kind) ≡ aName → (s .facilities ≤ 256 → s′ ≡ moreState s) → Took text w (countsOf s′) s′ r → Names text w s r
 named {text} {w} {s} {s′} {r} e g t k h z f = word-taken taken (λ d. read (taken .done d)) (λ K. ask (askOf (whoseOf k)) ∷ (endOf k ++ K)) (keepWord (namedWord text w)) (λ K b. name-taken text w K b s z k e)

@@ -3,6 +3,7 @@ use crate::List;
 use crate::Progress;
 use crate::stored;
 use image_sections::facilities::Kind;
+use language::refusals::Refusal;
 use parse_array::Work;
 use parse_step::Bearing;
 use parse_step::State;
@@ -27,15 +28,15 @@ pub fn ended(text: &[u8], w: Word, s: State, place: u16) -> Progress
 {
     let kind = w.kind;
     let k = kinds::number(kind);
-    if k == text_kinds::PERIOD {
+    if k == language::kinds::PERIOD {
         let answer = taking::take(text, w, s, false, Bearing::Level);
         return Progress { answer, place };
     }
-    if k == text_kinds::END {
+    if k == language::kinds::END {
         let answer = taking::take(text, w, s, false, Bearing::Level);
         return Progress { answer, place };
     }
-    let answer = taking::refuse(w, s, 3);
+    let answer = taking::refuse(w, s, Refusal::NoContinuation);
     Progress { answer, place }
 }
 
@@ -75,7 +76,7 @@ fn more(text: &[u8], w: Word, work: &mut Work, s: State, place: u16, list: List)
     let mut after = place;
     loop {
         let kind = next.kind;
-        if kinds::number(kind) != text_kinds::COMMA {
+        if kinds::number(kind) != language::kinds::COMMA {
             return ended(text, next, state, after);
         }
         let comma = taking::take(text, next, state, false, Bearing::Level);

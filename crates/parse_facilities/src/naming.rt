@@ -1,4 +1,5 @@
 // The name that a declaration begins with.
+use language::refusals::Refusal;
 use parse_step::Answer;
 use parse_step::Bearing;
 use parse_step::State;
@@ -35,8 +36,8 @@ pub fn facility_name(text: &[u8], w: Word, s: State) -> Answer
     ensures { λ r. ⌜ Names (now (text .entry)) w s r ⌝ }
 {
     let kind = w.kind;
-    if kinds::number(kind) != text_kinds::NAME {
-        return taking::refuse(w, s, 3);
+    if kinds::number(kind) != language::kinds::NAME {
+        return taking::refuse(w, s, Refusal::NoContinuation);
     }
     let more = one_more(s);
     taking::take(text, w, more, false, Bearing::Level)

@@ -46,7 +46,7 @@ pub fn register(text: &[u8], w: Word, work: &mut Work, s: State, place: u16) -> 
     ensures { λ r. ⌜ Registers (now (text .entry)) w s place (now (work .entry)) (now (work .exit)) r ⌝ }
 {
     let kind = w.kind;
-    if kinds::number(kind) != text_kinds::HASH {
+    if kinds::number(kind) != language::kinds::HASH {
         return stored(text, w, work, s, place, Kind::Register);
     }
     let hash = taking::take(text, w, s, false, Bearing::Level);

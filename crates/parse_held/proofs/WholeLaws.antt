@@ -13,6 +13,7 @@ use Rattle.language.specs.Encode.{imageOf}
 use Rattle.language.specs.Reading.{filled, withRoom}
 use Rattle.language.specs.RecordBytes.{fours}
 use Rattle.image_records.specs.Placed.{placed}
+use Rattle.language.specs.declared.refusals.Refusal.the-variants.{BufferTooShort}
 use Rattle.parse_tables.specs.declared.Table.the-variants as T
 use Rattle.parse_array.specs.Layout.{workSize}
 use Rattle.parse_held.proofs.BodyLaws.{node-length, records-length, row-length}
@@ -85,7 +86,7 @@ module _ (text w : List ℕ) (c : Tally) (l : length w ≡ workSize) (few : Few 
       ap length whole ∙ omega (arith, a, b, header-bytes counted, records-length w c l few)
 
   module _ {n from : ℕ} {i₁ : List ℕ} (i₀ : List ℕ) (e : n ≡ length (namesHeld text w c)) (f : from ≡ namesFrom (countsHeld c 0)) (z : i₁ ≡ replicate (length i₀) 0) where
-    pub no-room : length i₁ < from + n → called (Refused 12 0) i₁ ≡ withRoom (length i₀) (imageOf (sectionsHeld text w c))
+    pub no-room : length i₁ < from + n → called (Refused BufferTooShort 0) i₁ ≡ withRoom (length i₀) (imageOf (sectionsHeld text w c))
     no-room h =
         let m : length i₁ ≡ length i₀ = ap length (z ∙ filled-none (length i₀)) ∙ filled-length (length i₀) [] (omega arith) in
         rw (lt-leb (length (imageOf (sectionsHeld text w c))) (length i₀) (omega (arith, whole-length)), z)

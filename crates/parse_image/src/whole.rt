@@ -1,6 +1,7 @@
 // The image of what the working array holds.
 use call_answers::read::Answer;
 use image_sections::header;
+use language::refusals::Refusal;
 use parse_array::Work;
 use parse_held::Tally;
 use parse_held::body;
@@ -24,7 +25,7 @@ pub fn write_image(text: &[u8], work: &Work, c: Tally, image: &mut [u8]) -> Answ
     let from = counts::names_from(few);
     let n = names::count(text, work, few);
     if image.len() < from + n {
-        return Answer::Refused(12, 0);
+        return Answer::Refused(Refusal::BufferTooShort, 0);
     }
     header::write_header(image, counts::header_counts(few, n as u32));
     body::put(image, s, few);

@@ -36,13 +36,13 @@ pub fn head_of(level: Level, kind: u8) -> Head
     ensures { λ r. ⌜ r ≡ headOf level kind ⌝ }
 {
     let n = level_number(level);
-    if both(5 <= n, kind == text_kinds::MINUS) {
+    if both(5 <= n, kind == language::kinds::MINUS) {
         return Head::Complement;
     }
     if both(3 <= n, member(kind, &operators::REDUCTION_SIGNS)) {
         return Head::Reduction;
     }
-    if both(1 <= n, kind == text_kinds::DIFFERENCE) {
+    if both(1 <= n, kind == language::kinds::DIFFERENCE) {
         return Head::Negation;
     }
     Head::Plain

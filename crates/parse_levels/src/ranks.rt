@@ -16,10 +16,10 @@ pub fn operates(rank: Rank, kind: u8) -> bool
         Rank::Sum => member(kind, &operators::SUM_SIGNS),
         Rank::Relation => member(kind, &operators::RELATION_SIGNS),
         Rank::Cut => member(kind, &operators::CUT_WORDS),
-        Rank::Con => member(kind, &[text_kinds::CON]),
-        Rank::And => member(kind, &[text_kinds::STAR]),
-        Rank::Exclusive => member(kind, &[text_kinds::EXCLUSIVE]),
-        Rank::Or => member(kind, &[text_kinds::PLUS]),
+        Rank::Con => member(kind, &[language::kinds::CON]),
+        Rank::And => member(kind, &[language::kinds::STAR]),
+        Rank::Exclusive => member(kind, &[language::kinds::EXCLUSIVE]),
+        Rank::Or => member(kind, &[language::kinds::PLUS]),
         Rank::Beyond => false,
     }
 }

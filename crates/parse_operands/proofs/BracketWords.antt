@@ -10,6 +10,7 @@ use Rattle.language.specs.Building.{Built, keepWord, wordNo}
 use Rattle.language.specs.Declaring.{treeSteps}
 use Rattle.language.specs.Kinds.{aConstant, closeBracket, colon, comma}
 use Rattle.language.specs.Machine.{Counts, Fed, Parsed, after, afterSubscript, ask, choose, closes, expression, feed, finish, keep, make, refused, run, second, secondEnd, secondOption, tallied, withinCeilings, word, wrong}
+use Rattle.language.specs.declared.refusals.Refusal.the-variants.{CeilingPassed}
 use Rattle.language.specs.Sections.{ruleOf}
 use Rattle.language.specs.Tree as T
 use Rattle.language.specs.Words as L
@@ -104,12 +105,12 @@ module _ (text : List ℕ) (w : Word) (z : Seen text w) (a : Constant) (p : Posi
   abbrev begins-so : Bool → Stack → Type 0
   begins-so q K =
       runsOn text (ask (bracketWaits q) ∷ ask (bracketRest q) ∷ K) (ahead text w) (keepWord (L.constant a p) b) c
-      ≡ cond (withinCeilings counted) (runsOn text (ask (bracketRest q) ∷ K) (ahead text w) (pushed (T.constant a p) b) counted) (refused (fault p 10))
+      ≡ cond (withinCeilings counted) (runsOn text (ask (bracketRest q) ∷ K) (ahead text w) (pushed (T.constant a p) b) counted) (refused (fault p CeilingPassed))
 
   abbrev done : Fed Built → List L.Word → Parsed Built
   done x vs = after treeSteps withinCeilings (ruleOf treeSteps) x (λ M r. run treeSteps withinCeilings (ruleOf treeSteps) M vs (length text) r)
 
-  either : (x : Fed Built) (vs : List L.Word) (t : Bool) → done (cond t x (wrong (fault p 10))) vs ≡ cond t (done x vs) (refused (fault p 10))
+  either : (x : Fed Built) (vs : List L.Word) (t : Bool) → done (cond t x (wrong (fault p CeilingPassed))) vs ≡ cond t (done x vs) (refused (fault p CeilingPassed))
   either x vs true = refl
   either x vs false = refl
 

@@ -4,6 +4,7 @@ use mathlib.Core.Path.{_≡_, refl}
 use Prim.Native.Nat.{ℕ, suc}
 use native.Mathlib.Omega.{arith}
 use borrow.Author.Tests.{ne-eqb}
+use Rattle.language.specs.declared.refusals.Refusal.the-variants.{NoContinuation}
 use Rattle.parse_step.proofs.Omitted.{omitted}
 use Rattle.about_grammar.specs.Following.{among}
 use Rattle.language.specs.Building.{Built, expressionNo, keepWord, wordNo}
@@ -67,11 +68,11 @@ module _ (text : List ℕ) (w : Word) (z : Seen text w) (b : Built) (c : Counts)
   unfolding runsOn run feed choose ruleOf tallied
   case-term e K = rw (sign-ahead text w caseWord e (omega arith)) (taken-on text at _ (behind text w) _ _)
 
-  pub no-term : (k ≡ aConstant → ⊥) → (k ≡ aName → ⊥) → (k ≡ openParen → ⊥) → (k ≡ ifWord → ⊥) → (k ≡ caseWord → ⊥) → (K : Stack) → on (ask term ∷ K) ≡ refused (fault at 3)
+  pub no-term : (k ≡ aConstant → ⊥) → (k ≡ aName → ⊥) → (k ≡ openParen → ⊥) → (k ≡ ifWord → ⊥) → (k ≡ caseWord → ⊥) → (K : Stack) → on (ask term ∷ K) ≡ refused (fault at NoContinuation)
   unfolding runsOn run feed finish choose ruleOf
   no-term n₁ n₂ n₃ n₄ n₅ K = go (view text w z)
     where
-      go : View text w → on (ask term ∷ K) ≡ refused (fault at 3)
+      go : View text w → on (ask term ∷ K) ≡ refused (fault at NoContinuation)
       go (ended x y q) = rw (x, y)
       go (begun v x q y) = rw (x, q, ne-eqb k aConstant n₁, ne-eqb k aName n₂, ne-eqb k openParen n₃, ne-eqb k ifWord n₄, ne-eqb k caseWord n₅, y)
 

@@ -9,6 +9,7 @@ use Rattle.language.specs.Describe.{constantNodes, constantSize}
 use Rattle.language.specs.Kinds.{aConstant, closeBracket}
 use Rattle.language.specs.Machine.{ask, closes, keep, make, refused, withinCeilings, word}
 use Rattle.language.specs.Naming.{Scope}
+use Rattle.language.specs.declared.refusals.Refusal.the-variants.{CeilingPassed}
 use Rattle.language.specs.Tree.{Expression}
 use Rattle.language.specs.Words as L
 use Rattle.value_operators.specs.Meaning.{valued}
@@ -34,7 +35,7 @@ oneMore s = record { facilities = s .facilities; operations = s .operations; sta
 -- A constant that was kept counts, and its records are written.
 pub record Counting (w next : Word) (s : State) (work work′ : List ℕ) (r : Answer) : Type 0 where
   pub done : r .verdict ≡ Done → (withinCeilings (countsOf (oneMore s)) ≡ true) × Written (constantNodes (valued (w .value)) (positioned (w .at))) (constantSize (valued (w .value))) next (oneMore s) work work′ r
-  pub refused : (f : Fault) → r .verdict ≡ Refused f → (withinCeilings (countsOf (oneMore s)) ≡ false) × (faulted f ≡ L.fault (positioned (w .at)) 10)
+  pub refused : (f : Fault) → r .verdict ≡ Refused f → (withinCeilings (countsOf (oneMore s)) ≡ false) × (faulted f ≡ L.fault (positioned (w .at)) CeilingPassed)
   pub full : r .verdict ≡ Full → mostNodes ≤ r .state .nodes
 
 -- The ends of a part are read with their bracket.

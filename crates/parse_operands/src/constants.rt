@@ -80,7 +80,7 @@ fn closed(s: State, text: &[u8], w: Word) -> Ends
         text,
         kept.next,
         kept.state,
-        text_kinds::CLOSE_BRACKET,
+        language::kinds::CLOSE_BRACKET,
         Bearing::Closes,
     );
     Ends {

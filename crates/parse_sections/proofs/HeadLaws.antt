@@ -4,6 +4,7 @@ use mathlib.Core.List.{List, [], _∷_, _++_}
 use mathlib.Core.Path.{_≡_, refl, ap, _∙_, subst}
 use Prim.Native.Nat.{ℕ, _≤_}
 use native.Mathlib.Omega.{arith}
+use Rattle.language.specs.declared.refusals.Refusal.the-variants.{NoContinuation}
 use Rattle.parse_actions.specs.Lists.{Told, listStack}
 use Rattle.parse_step.proofs.Saying.{makes-it}
 use Rattle.parse_step.proofs.TakenWords.{onTaken, took-done}
@@ -32,8 +33,8 @@ use Rattle.parse_sections.specs.Heads.{Body, BodyRead, ControlRead, Cont
 -- ---- The name.
 
 module _ {text : List ℕ} {w : Word} {s : State} {r : Answer} where
-  pub not-named : (kindNo (w .kind) ≡ aName → ⊥) → Refuses w 3 r → Names text w s r
-  not-named n x z f = refuses 3 x (λ K b. name-stuck text w K b s z n)
+  pub not-named : (kindNo (w .kind) ≡ aName → ⊥) → Refuses w NoContinuation r → Names text w s r
+  not-named n x z f = refuses NoContinuation x (λ K b. name-stuck text w K b s z n)
 
   pub named : {s′ : State} → kindNo (w .kind) ≡ aName → (s .operations ≤ 128 → s′ ≡ moreState s) → Took text w (countsOf s′) s′ r → Names text w s r
   named {s′} e g t z f = told (D.word-taken taken (λ d. read (taken .done d)) (λ K. nameStack ++ K) (keepWord (namedWord text w)) (λ K b. name-taken text w K b s z e)) (t .full)
@@ -131,8 +132,8 @@ module _ {text : List ℕ} {w : Word} {s : State} {r : Answer} where
   pub controls : kindNo (w .kind) ≡ controlWord → Took text w (countsOf s) s r → Controls text w s r
   controls e t z = by-control (ask control ∷ []) z (λ K b. control-taken text w K b s e) t
 
-  pub no-control : (kindNo (w .kind) ≡ controlWord → ⊥) → Refuses w 3 r → Controls text w s r
-  no-control n x z = refuses 3 x (λ K b. control-stuck text w K b s z n)
+  pub no-control : (kindNo (w .kind) ≡ controlWord → ⊥) → Refuses w NoContinuation r → Controls text w s r
+  no-control n x z = refuses NoContinuation x (λ K b. control-stuck text w K b s z n)
 
   pub ends-at-once : kindNo (w .kind) ≡ controlWord → Took text w (countsOf s) s r → Ends text w s r
   ends-at-once e t z n = by-control (ask operationsMore ∷ []) z (λ K b. more-control text w K b s e) t
@@ -140,8 +141,8 @@ module _ {text : List ℕ} {w : Word} {s : State} {r : Answer} where
   pub ends-shut : {k : ℕ} → Ending k → kindNo (w .kind) ≡ k → Shuts text w s r → Ends text w s r
   ends-shut {k} q e x z n = x z k q e
 
-  pub no-end : (kindNo (w .kind) ≡ controlWord → ⊥) → (kindNo (w .kind) ≡ period → ⊥) → (kindNo (w .kind) ≡ endWord → ⊥) → Refuses w 3 r → Ends text w s r
-  no-end c m o x z n = refuses 3 x (λ K b. more-stuck text w K b s z n c m o)
+  pub no-end : (kindNo (w .kind) ≡ controlWord → ⊥) → (kindNo (w .kind) ≡ period → ⊥) → (kindNo (w .kind) ≡ endWord → ⊥) → Refuses w NoContinuation r → Ends text w s r
+  no-end c m o x z n = refuses NoContinuation x (λ K b. more-stuck text w K b s z n c m o)
 
 module _ {text : List ℕ} {w : Word} {s : State} {a : Answer} (t : Took text w (countsOf s) s a) where
   pub shut-not : (a .verdict ≡ Done → ⊥) → Shuts text w s a

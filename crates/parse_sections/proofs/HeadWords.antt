@@ -4,6 +4,7 @@ use mathlib.Core.Path.{_≡_}
 use Prim.Native.Nat.{ℕ}
 use native.Mathlib.Omega.{arith}
 use borrow.Author.Tests.{ne-eqb}
+use Rattle.language.specs.declared.refusals.Refusal.the-variants.{NoContinuation}
 use Rattle.parse_step.proofs.Looking.{View, begun, ended, name-ahead, sign-ahead, view}
 use Rattle.parse_step.proofs.TakenWords.{onTaken, taken-on}
 use Rattle.parse_step.specs.declared.State.{State}
@@ -26,11 +27,11 @@ module _ (text : List ℕ) (w : Word) (K : Stack) (b : Built) (s : State) where
   unfolding runsOn run feed choose ruleOf tallied letters
   name-taken z e = rw (name-ahead text w z e) (taken-on text (positioned (w .at)) (nameStack ++ K) (behind text w) (keepWord (namedWord text w) b) (countsOf (moreState s)))
 
-  pub name-stuck : Seen text w → (kindNo (w .kind) ≡ aName → ⊥) → runs text (ask operationSpec ∷ K) w b s ≡ refused (fault (positioned (w .at)) 3)
+  pub name-stuck : Seen text w → (kindNo (w .kind) ≡ aName → ⊥) → runs text (ask operationSpec ∷ K) w b s ≡ refused (fault (positioned (w .at)) NoContinuation)
   unfolding runsOn run feed finish choose ruleOf
   name-stuck z n = by-view (view text w z)
     where
-      by-view : View text w → runs text (ask operationSpec ∷ K) w b s ≡ refused (fault (positioned (w .at)) 3)
+      by-view : View text w → runs text (ask operationSpec ∷ K) w b s ≡ refused (fault (positioned (w .at)) NoContinuation)
       by-view (ended e p q) = rw (e, p)
       by-view (begun v e q p) = rw (e, q, ne-eqb (kindNo (w .kind)) aName n, p)
 
@@ -40,11 +41,11 @@ module _ (text : List ℕ) (w : Word) (K : Stack) (b : Built) (s : State) where
   unfolding runsOn run feed choose ruleOf tallied
   control-taken e = rw (sign-ahead text w controlWord e (omega arith)) (taken-on text (positioned (w .at)) (controlStack ++ K) (behind text w) b (countsOf s))
 
-  pub control-stuck : Seen text w → (kindNo (w .kind) ≡ controlWord → ⊥) → runs text (ask control ∷ K) w b s ≡ refused (fault (positioned (w .at)) 3)
+  pub control-stuck : Seen text w → (kindNo (w .kind) ≡ controlWord → ⊥) → runs text (ask control ∷ K) w b s ≡ refused (fault (positioned (w .at)) NoContinuation)
   unfolding runsOn run feed finish choose ruleOf
   control-stuck z n = by-view (view text w z)
     where
-      by-view : View text w → runs text (ask control ∷ K) w b s ≡ refused (fault (positioned (w .at)) 3)
+      by-view : View text w → runs text (ask control ∷ K) w b s ≡ refused (fault (positioned (w .at)) NoContinuation)
       by-view (ended e p q) = rw (e, p)
       by-view (begun v e q p) = rw (e, q, ne-eqb (kindNo (w .kind)) controlWord n, p)
 
@@ -64,10 +65,10 @@ module _ (text : List ℕ) (w : Word) (K : Stack) (b : Built) (s : State) where
   more-ending k atEnd e = rw (sign-ahead text w endWord e (omega arith)) (taken-on text (positioned (w .at)) (ask control ∷ K) (behind text w) b (countsOf s))
 
   pub more-stuck : Seen text w → (kindNo (w .kind) ≡ comma → ⊥) → (kindNo (w .kind) ≡ controlWord → ⊥) → (kindNo (w .kind) ≡ period → ⊥) → (kindNo (w .kind) ≡ endWord → ⊥)
-      → runs text (ask operationsMore ∷ K) w b s ≡ refused (fault (positioned (w .at)) 3)
+      → runs text (ask operationsMore ∷ K) w b s ≡ refused (fault (positioned (w .at)) NoContinuation)
   unfolding runsOn run feed finish choose ruleOf
   more-stuck z n c m o = by-view (view text w z)
     where
-      by-view : View text w → runs text (ask operationsMore ∷ K) w b s ≡ refused (fault (positioned (w .at)) 3)
+      by-view : View text w → runs text (ask operationsMore ∷ K) w b s ≡ refused (fault (positioned (w .at)) NoContinuation)
       by-view (ended e p q) = rw (e, p)
       by-view (begun v e q p) = rw (e, q, ne-eqb (kindNo (w .kind)) comma n, ne-eqb (kindNo (w .kind)) controlWord c, ne-eqb (kindNo (w .kind)) period m, ne-eqb (kindNo (w .kind)) endWord o, p)

@@ -4,6 +4,7 @@ use mathlib.Core.Path.{_≡_, refl, sym, ap, _∙_, subst}
 use Prim.Native.Nat.{ℕ, _%_, _≤_}
 use native.Mathlib.Omega.{arith}
 use lib.ListN.{length}
+use Rattle.language.specs.declared.refusals.Refusal.the-variants.{NoContinuation}
 use Rattle.parse_step.proofs.TakenWords.{took-done}
 use Rattle.parse_step.specs.declared.Answer.{Answer}
 use Rattle.parse_step.specs.declared.State.{State}
@@ -147,5 +148,5 @@ module _ {text : List ℕ} {w : Word} {s : State} {place : ℕ} {work : List ℕ
         ready = subst (λ (v : List Declaration). Ready text v [] (a .next) (a .state) work) (sym (append-nil ds)) (ready-at (between-passed x (t .done d)) l);
       }
 
-  pub no-section : (kindNo (w .kind) ≡ operationWord → ⊥) → (kindNo (w .kind) ≡ controlWord → ⊥) → Refuses w 3 a → Goes terminals afterTerminals text w s place work work a
-  no-section o c f ds x = refuses 3 f (λ K b. nothing-behind text w K b s (x .standing .seen) o c)
+  pub no-section : (kindNo (w .kind) ≡ operationWord → ⊥) → (kindNo (w .kind) ≡ controlWord → ⊥) → Refuses w NoContinuation a → Goes terminals afterTerminals text w s place work work a
+  no-section o c f ds x = refuses NoContinuation f (λ K b. nothing-behind text w K b s (x .standing .seen) o c)

@@ -4,6 +4,7 @@ use mathlib.Core.Path.{_≡_}
 use Prim.Native.Nat.{ℕ}
 use native.Mathlib.Omega.{arith}
 use borrow.Author.Tests.{ne-eqb}
+use Rattle.language.specs.declared.refusals.Refusal.the-variants.{NoContinuation}
 use Rattle.parse_step.proofs.Looking.{View, begun, ended, sign-ahead, view}
 use Rattle.parse_step.proofs.TakenWords.{onTaken, taken-on}
 use Rattle.parse_step.specs.declared.State.{State}
@@ -59,18 +60,18 @@ module _ (text : List ℕ) (w : Word) (K : Stack) (b : Built) (s : State) where
       by-view (ended e p q) = rw (e, p)
       by-view (begun v e q p) = rw (e, q, ne-eqb (kindNo (w .kind)) terminalWord n)
 
-  pub nothing-behind : Seen text w → (kindNo (w .kind) ≡ operationWord → ⊥) → (kindNo (w .kind) ≡ controlWord → ⊥) → runs text (ask afterTerminals ∷ K) w b s ≡ refused (fault (positioned (w .at)) 3)
+  pub nothing-behind : Seen text w → (kindNo (w .kind) ≡ operationWord → ⊥) → (kindNo (w .kind) ≡ controlWord → ⊥) → runs text (ask afterTerminals ∷ K) w b s ≡ refused (fault (positioned (w .at)) NoContinuation)
   unfolding runsOn run feed finish choose ruleOf
   nothing-behind z o c = by-view (view text w z)
     where
-      by-view : View text w → runs text (ask afterTerminals ∷ K) w b s ≡ refused (fault (positioned (w .at)) 3)
+      by-view : View text w → runs text (ask afterTerminals ∷ K) w b s ≡ refused (fault (positioned (w .at)) NoContinuation)
       by-view (ended e p q) = rw (e, p)
       by-view (begun v e q p) = rw (e, q, ne-eqb (kindNo (w .kind)) operationWord o, ne-eqb (kindNo (w .kind)) controlWord c, p)
 
-  pub nothing-first : Seen text w → (kindNo (w .kind) ≡ registerWord → ⊥) → (kindNo (w .kind) ≡ memoryWord → ⊥) → (kindNo (w .kind) ≡ terminalWord → ⊥) → runs text (ask sections ∷ K) w b s ≡ refused (fault (positioned (w .at)) 3)
+  pub nothing-first : Seen text w → (kindNo (w .kind) ≡ registerWord → ⊥) → (kindNo (w .kind) ≡ memoryWord → ⊥) → (kindNo (w .kind) ≡ terminalWord → ⊥) → runs text (ask sections ∷ K) w b s ≡ refused (fault (positioned (w .at)) NoContinuation)
   unfolding runsOn run feed finish choose ruleOf
   nothing-first z r m t = by-view (view text w z)
     where
-      by-view : View text w → runs text (ask sections ∷ K) w b s ≡ refused (fault (positioned (w .at)) 3)
+      by-view : View text w → runs text (ask sections ∷ K) w b s ≡ refused (fault (positioned (w .at)) NoContinuation)
       by-view (ended e p q) = rw (e, p)
       by-view (begun v e q p) = rw (e, q, ne-eqb (kindNo (w .kind)) registerWord r, ne-eqb (kindNo (w .kind)) memoryWord m, ne-eqb (kindNo (w .kind)) terminalWord t, p)

@@ -4,6 +4,7 @@ use mathlib.Core.Path.{_≡_, refl, sym, ap, _∙_, subst}
 use Prim.Native.Nat.{ℕ, _<_}
 use native.Mathlib.Omega.{arith}
 use lib.ListN.{length}
+use Rattle.language.specs.declared.refusals.Refusal.the-variants.{NoContinuation}
 use Rattle.parse_actions.specs.Lists.{Told}
 use Rattle.parse_step.proofs.Looking.{next-seen}
 use Rattle.parse_step.specs.declared.Answer.{Answer}
@@ -82,8 +83,8 @@ module _ {text : List ℕ} {w : Word} {s : State} (n : Next text 0 w) (e : s ≡
         ready = y .ready;
       }
 
-  pub not-opened : (kindNo (w .kind) ≡ registerWord → ⊥) → (kindNo (w .kind) ≡ memoryWord → ⊥) → (kindNo (w .kind) ≡ terminalWord → ⊥) → {a : Answer} → Refuses w 3 a → {work : List ℕ} → Preamble text work a
+  pub not-opened : (kindNo (w .kind) ≡ registerWord → ⊥) → (kindNo (w .kind) ≡ memoryWord → ⊥) → (kindNo (w .kind) ≡ terminalWord → ⊥) → {a : Answer} → Refuses w NoContinuation a → {work : List ℕ} → Preamble text work a
   not-opened i j k {a} x {work} = record { done = t .done; refused = λ f d. to-start ∙ t .refused f d [] nothingBuilt; full = t .full }
     where
       t : Told text (ask sections ∷ []) w s a (Opened text work a)
-      t = refuses 3 x (λ K b. nothing-first text w K b s (next-seen 0 n) i j k)
+      t = refuses NoContinuation x (λ K b. nothing-first text w K b s (next-seen 0 n) i j k)

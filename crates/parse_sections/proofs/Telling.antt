@@ -2,6 +2,7 @@
 use mathlib.Core.List.{List, _++_}
 use mathlib.Core.Path.{_≡_, sym, _∙_}
 use Prim.Native.Nat.{ℕ}
+use Rattle.language.specs.declared.refusals.Refusal.{Refusal}
 use Rattle.parse_actions.specs.Lists.{Told}
 use Rattle.parse_step.proofs.Answers.{refused-full}
 use Rattle.parse_step.specs.declared.Answer.{Answer}
@@ -22,7 +23,7 @@ module _ {text : List ℕ} {P : Stack} {w : Word} {s : State} {a : Answer} {Read
   told x n = record { done = x .done; refused = x .refused; full = n }
 
   -- A word refused.
-  pub refuses : {w₁ : Word} (n : ℕ) → Refuses w₁ n a → ((K : Stack) (b : Built) → runs text (P ++ K) w b s ≡ refused (fault (positioned (w₁ .at)) n)) → Told text P w s a Read
+  pub refuses : {w₁ : Word} (n : Refusal) → Refuses w₁ n a → ((K : Stack) (b : Built) → runs text (P ++ K) w b s ≡ refused (fault (positioned (w₁ .at)) n)) → Told text P w s a Read
   refuses n x g = told (D.refuses n x g) (λ d. refused-full (sym (x .verdict) ∙ d))
 
   module _ {P₁ : Stack} {w₁ : Word} {s₁ : State} {Read₁ : Type 0} (x : Told text P₁ w₁ s₁ a Read₁) (M : Stack → Stack) (mid : Built → Built) (g : (K : Stack) (b : Built) → runs text (P ++ K) w b s ≡ runs text (P₁ ++ M K) w₁ (mid b) s₁) where

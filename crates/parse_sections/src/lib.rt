@@ -1,4 +1,5 @@
 // The sections of a text up to CONTROL (the manual, 4, 6 and 7), read as the machine of the grammar reads them.
+use language::refusals::Refusal;
 use parse_array::Work;
 use parse_step::Answer;
 use parse_step::State;
@@ -39,14 +40,14 @@ pub fn preamble(text: &[u8], work: &mut Work) -> Answer
     let s = start();
     let kind = w.kind;
     let k = kinds::number(kind);
-    if k == text_kinds::REGISTER {
+    if k == language::kinds::REGISTER {
         return sections::registers(text, w, work, s, 0);
     }
-    if k == text_kinds::MEMORY {
+    if k == language::kinds::MEMORY {
         return sections::memories(text, w, work, s, 0);
     }
-    if k == text_kinds::TERMINAL {
+    if k == language::kinds::TERMINAL {
         return sections::terminals(text, w, work, s, 0);
     }
-    taking::refuse(w, s, 3)
+    taking::refuse(w, s, Refusal::NoContinuation)
 }

@@ -1,6 +1,7 @@
 // The sections in their order; each word decides what may follow.
 use crate::lists;
 use crate::operations::lists as operations;
+use language::refusals::Refusal;
 use parse_array::Work;
 use parse_facilities::List;
 use parse_step::Answer;
@@ -33,14 +34,14 @@ fn behind_terminals(text: &[u8], w: Word, work: &mut Work, s: State, place: u16)
 {
     let kind = w.kind;
     let k = kinds::number(kind);
-    if k == text_kinds::OPERATION {
+    if k == language::kinds::OPERATION {
         return operations(text, w, work, s, place);
     }
     parse_array::whole(work);
-    if k == text_kinds::CONTROL {
+    if k == language::kinds::CONTROL {
         return taking::take(text, w, s, false, Bearing::Level);
     }
-    taking::refuse(w, s, 3)
+    taking::refuse(w, s, Refusal::NoContinuation)
 }
 
 // Terminals, whose word has been seen, and what follows.
@@ -61,7 +62,7 @@ fn behind_memories(text: &[u8], w: Word, work: &mut Work, s: State, place: u16) 
     ensures { λ r. ⌜ Goes memories afterMemories (now (text .entry)) w s place (now (work .entry)) (now (work .exit)) r ⌝ }
 {
     let kind = w.kind;
-    if kinds::number(kind) == text_kinds::TERMINAL {
+    if kinds::number(kind) == language::kinds::TERMINAL {
         return terminals(text, w, work, s, place);
     }
     behind_terminals(text, w, work, s, place)
@@ -85,7 +86,7 @@ fn behind_registers(text: &[u8], w: Word, work: &mut Work, s: State, place: u16)
     ensures { λ r. ⌜ Goes registers afterRegisters (now (text .entry)) w s place (now (work .entry)) (now (work .exit)) r ⌝ }
 {
     let kind = w.kind;
-    if kinds::number(kind) == text_kinds::MEMORY {
+    if kinds::number(kind) == language::kinds::MEMORY {
         return memories(text, w, work, s, place);
     }
     behind_memories(text, w, work, s, place)

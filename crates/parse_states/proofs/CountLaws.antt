@@ -5,6 +5,8 @@ use mathlib.Core.Path.{_≡_, refl, sym, ap, _∙_}
 use Prim.Native.Nat.{ℕ, suc, _+_, _<_, _≤_}
 use native.Mathlib.Omega.{arith}
 use borrow.Author.Tests.{ne-eqb}
+use Rattle.language.specs.declared.refusals.Refusal.{Refusal}
+use Rattle.language.specs.declared.refusals.Refusal.the-variants.{CeilingPassed, NoContinuation}
 use Rattle.parse_step.proofs.Answers.{done-full, done-refused, refused-full, same-fault}
 use Rattle.parse_step.proofs.Looking.{View, begun, ended, sign-ahead, view}
 use Rattle.parse_step.proofs.TakenWords.{onTaken, taken-on}
@@ -38,10 +40,10 @@ module _ (text : List ℕ) (w : Word) (z : Seen text w) (s : State) (K : Stack) 
   abbrev k : ℕ
   k = kindNo (w .kind)
 
-  abbrev Stops : ℕ → Type 0
+  abbrev Stops : Refusal → Type 0
   Stops n = runs text (ask stateStart ∷ K) w b s ≡ refused (fault (positioned (w .at)) n)
 
-  stops : (M : Stack) (d : Built) (c : Counts) → 256 < c .states → onTaken text w M d c ≡ refused (fault (positioned (w .at)) 10)
+  stops : (M : Stack) (d : Built) (c : Counts) → 256 < c .states → onTaken text w M d c ≡ refused (fault (positioned (w .at)) CeilingPassed)
   stops M d c h = rw (over c h)
 
   abbrev after : ℕ → ℕ → Counts
@@ -52,7 +54,7 @@ module _ (text : List ℕ) (w : Word) (z : Seen text w) (s : State) (K : Stack) 
     more = omega arith
 
     -- A word that begins a state begins one too many.
-    pub begins-over : among k stateKinds ≡ true → Stops 10
+    pub begins-over : among k stateKinds ≡ true → Stops CeilingPassed
     unfolding runsOn run feed choose ruleOf tallied
     begins-over e =
         let at = positioned (w .at) in
@@ -67,7 +69,7 @@ module _ (text : List ℕ) (w : Word) (z : Seen text w) (s : State) (K : Stack) 
         among-first-or k caseWord [] e₆ (λ q. rw (sign-ahead text w caseWord q (omega arith)) (taken-on text at _ (behind text w) _ _ ∙ stops _ _ (after m (suc j)) more)) (among-none k)
 
   -- Another word begins none.
-  pub begins-none : among k stateKinds ≡ false → Stops 3
+  pub begins-none : among k stateKinds ≡ false → Stops NoContinuation
   unfolding runsOn run feed finish choose ruleOf
   begins-none e = go (view text w z)
     where
@@ -89,7 +91,7 @@ module _ (text : List ℕ) (w : Word) (z : Seen text w) (s : State) (K : Stack) 
       e₆ : among k (caseWord ∷ []) ≡ false
       e₆ = among-rest k ifWord (caseWord ∷ []) e₅
 
-      go : View text w → Stops 3
+      go : View text w → Stops NoContinuation
       go (ended x y q) = rw (x, y)
       go (begun v x q y) =
           rw (x, q, among-first k aName _ e, among-first k slash _ e₁, among-first k gotoSign _ e₂, among-first k callSign _ e₃, among-first k returnWord _ e₄, among-first k ifWord _ e₅, among-first k caseWord _ e₆, y)
@@ -101,14 +103,14 @@ unfolding among
 none-of k n₁ n₂ n₃ n₄ n₅ n₆ n₇ = rw (ne-eqb k aName n₁, ne-eqb k slash n₂, ne-eqb k gotoSign n₃, ne-eqb k callSign n₄, ne-eqb k returnWord n₅, ne-eqb k ifWord n₆, ne-eqb k caseWord n₇)
 
 module _ {w : Word} {s : State} {r : Answer} where
-  pub one-over : 256 ≤ s .states → among (kindNo (w .kind)) stateKinds ≡ true → Refuses w 10 r → Counted w s r
+  pub one-over : 256 ≤ s .states → among (kindNo (w .kind)) stateKinds ≡ true → Refuses w CeilingPassed r → Counted w s r
   one-over h e x = record {
     done = λ d. done-refused (sym d ∙ x .verdict);
     refused = λ f d text z i K b. begins-over text w z s K b h e ∙ ap refused (sym (ap faulted (same-fault (sym d ∙ x .verdict)) ∙ x .is));
     full = λ d. refused-full (sym (x .verdict) ∙ d);
   }
 
-  pub none-begins : among (kindNo (w .kind)) stateKinds ≡ false → Refuses w 3 r → Counted w s r
+  pub none-begins : among (kindNo (w .kind)) stateKinds ≡ false → Refuses w NoContinuation r → Counted w s r
   none-begins e x = record {
     done = λ d. done-refused (sym d ∙ x .verdict);
     refused = λ f d text z i K b. begins-none text w z s K b e ∙ ap refused (sym (ap faulted (same-fault (sym d ∙ x .verdict)) ∙ x .is));

@@ -4,6 +4,7 @@ use mathlib.Core.List.{List, [], _∷_}
 use mathlib.Core.Logic.{⊎-elim}
 use mathlib.Core.Path.{_≡_, refl, sym, ap, _∙_}
 use Prim.Native.Nat.{ℕ}
+use Rattle.language.specs.declared.refusals.Refusal.the-variants.{NoContinuation}
 use Rattle.parse_actions.proofs.ListLaws.{level-same}
 use Rattle.parse_step.proofs.Answers.{done-full, done-refused, refused-full, same-fault}
 use Rattle.parse_step.proofs.TakenWords.{onTaken, took-done, took-refused}
@@ -31,7 +32,7 @@ module _ {w : Word} {s : State} where
     full = λ d. done-full d;
   }
 
-  pub word-left : isEnd (w .kind) ≡ false → {a : Answer} → Refuses w 3 a → (text : List ℕ) → Finish [] text w s a
+  pub word-left : isEnd (w .kind) ≡ false → {a : Answer} → Refuses w NoContinuation a → (text : List ℕ) → Finish [] text w s a
   word-left e x text sc n work st = record {
     done = λ d. done-refused (sym d ∙ x .verdict);
     refused = λ f d b. text-goes-on text w (st .seen) s [] b e ∙ ap refused (sym (ap faulted (same-fault (sym d ∙ x .verdict)) ∙ x .is));

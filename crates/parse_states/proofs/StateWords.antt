@@ -5,6 +5,7 @@ use mathlib.Core.Path.{_≡_, refl, sym, ap, _∙_}
 use Prim.Native.Nat.{ℕ}
 use native.Mathlib.Omega.{arith}
 use borrow.Author.Tests.{ne-eqb}
+use Rattle.language.specs.declared.refusals.Refusal.the-variants.{NoContinuation}
 use Rattle.parse_actions.proofs.Starts.{name-acts}
 use Rattle.parse_step.proofs.Looking.{View, begun, ended, name-ahead, sign-ahead, view}
 use Rattle.parse_step.proofs.TakenWords.{onTaken, taken-on}
@@ -129,11 +130,11 @@ module _ (text : List ℕ) (w : Word) (z : Seen text w) (s : State) (M : Stack) 
       go K.Constant d = absurd (true≢false (sym e ∙ ap isEnd d))
       go (K.Sign j) d = absurd (true≢false (sym e ∙ ap isEnd d))
 
-  pub text-goes-on : isEnd (w .kind) ≡ false → runs text [] w b s ≡ refused (fault (positioned (w .at)) 3)
+  pub text-goes-on : isEnd (w .kind) ≡ false → runs text [] w b s ≡ refused (fault (positioned (w .at)) NoContinuation)
   unfolding runsOn run feed ahead
   text-goes-on e = go (w .kind) refl
     where
-      go : (q : Kind) → w .kind ≡ q → runs text [] w b s ≡ refused (fault (positioned (w .at)) 3)
+      go : (q : Kind) → w .kind ≡ q → runs text [] w b s ≡ refused (fault (positioned (w .at)) NoContinuation)
       go K.End d = absurd (true≢false (sym (ap isEnd d) ∙ e))
       go K.Name d = rw d
       go K.Constant d = rw d

@@ -36,8 +36,8 @@ fn rest(s: State, text: &[u8], w: Word, work: &mut Work, n: Counts) -> Answer
     let mut state = s;
     loop {
         let kind = next.kind;
-        if kinds::number(kind) != text_kinds::COMMA {
-            return taking::expect(text, next, state, text_kinds::SLASH, Bearing::Level);
+        if kinds::number(kind) != language::kinds::COMMA {
+            return taking::expect(text, next, state, language::kinds::SLASH, Bearing::Level);
         }
         let comma = taking::take(text, next, state, false, Bearing::Level);
         if parse_step::unread(comma) {
@@ -89,7 +89,7 @@ pub fn body(
         return list(s, true, name, text, w, work, n);
     }
     let kind = w.kind;
-    if kinds::number(kind) == text_kinds::SLASH {
+    if kinds::number(kind) == language::kinds::SLASH {
         return taking::take(text, w, s, false, Bearing::Level);
     }
     list(s, false, name, text, w, work, n)

@@ -1,4 +1,5 @@
 // The end of the text: a period or END, then `$` or nothing.
+use language::refusals::Refusal;
 use parse_step::Answer;
 use parse_step::Bearing;
 use parse_step::State;
@@ -24,7 +25,7 @@ fn nothing(w: Word, s: State) -> Answer
             state: s,
         };
     }
-    taking::refuse(w, s, 3)
+    taking::refuse(w, s, Refusal::NoContinuation)
 }
 
 // A `$` or nothing, and no word behind it.
@@ -32,7 +33,7 @@ fn dollar(text: &[u8], w: Word, s: State) -> Answer
     ensures { λ r. ⌜ Finish (L.ask L.dollarOption ∷ []) (now (text .entry)) w s r ⌝ }
 {
     let kind = w.kind;
-    if kinds::number(kind) != text_kinds::DOLLAR {
+    if kinds::number(kind) != language::kinds::DOLLAR {
         return nothing(w, s);
     }
     let answer = taking::take(text, w, s, false, Bearing::Level);

@@ -3,6 +3,7 @@ use crate::Begun;
 use crate::Head;
 use crate::values;
 use image_sections::states::StateValue;
+use language::refusals::Refusal;
 use parse_array::Work;
 use parse_step::Answer;
 use parse_step::Bearing;
@@ -29,13 +30,13 @@ fn begins(kind: u8) -> bool
     ensures { λ r. ⌜ r ≡ among kind stateKinds ⌝ }
 {
     match kind {
-        text_kinds::NAME => true,
-        text_kinds::SLASH => true,
-        text_kinds::GOTO => true,
-        text_kinds::CALL => true,
-        text_kinds::RETURN => true,
-        text_kinds::IF => true,
-        text_kinds::CASE => true,
+        language::kinds::NAME => true,
+        language::kinds::SLASH => true,
+        language::kinds::GOTO => true,
+        language::kinds::CALL => true,
+        language::kinds::RETURN => true,
+        language::kinds::IF => true,
+        language::kinds::CASE => true,
         _ => false,
     }
 }
@@ -63,9 +64,9 @@ fn count(w: Word, s: State) -> Answer
     }
     let kind = w.kind;
     if begins(kinds::number(kind)) {
-        return taking::refuse(w, s, 10);
+        return taking::refuse(w, s, Refusal::CeilingPassed);
     }
-    taking::refuse(w, s, 3)
+    taking::refuse(w, s, Refusal::NoContinuation)
 }
 
 // A state without a value; its label's word is at its place.
@@ -104,7 +105,7 @@ fn in_brackets(text: &[u8], w: Word, s: State) -> Bracketed
         text,
         kept.next,
         kept.state,
-        text_kinds::CLOSE_PAREN,
+        language::kinds::CLOSE_PAREN,
         Bearing::Closes,
     );
     if parse_step::unread(close) {
@@ -117,7 +118,7 @@ fn in_brackets(text: &[u8], w: Word, s: State) -> Bracketed
         text,
         close.next,
         close.state,
-        text_kinds::COLON,
+        language::kinds::COLON,
         Bearing::Level,
     );
     Bracketed { answer, constant }
@@ -162,11 +163,11 @@ fn after_name(text: &[u8], name: Word, w: Word, work: &mut Work, s: State, l: u1
 {
     let kind = w.kind;
     let k = kinds::number(kind);
-    if k == text_kinds::OPEN_PAREN {
+    if k == language::kinds::OPEN_PAREN {
         return valued(text, name, w, work, s, l);
     }
     let at = name.at;
-    if k == text_kinds::COLON {
+    if k == language::kinds::COLON {
         let answer = taking::take(text, w, s, false, Bearing::Level);
         let head = plain(at, name.size);
         return Begun {
@@ -203,7 +204,7 @@ pub fn head(text: &[u8], w: Word, work: &mut Work, s: State, l: u16) -> Begun
         };
     }
     let kind = w.kind;
-    if kinds::number(kind) != text_kinds::NAME {
+    if kinds::number(kind) != language::kinds::NAME {
         return Begun {
             answer: counted,
             head,

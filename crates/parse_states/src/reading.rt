@@ -49,10 +49,10 @@ fn more(s: State, text: &[u8], w: Word, work: &mut Work, n: Counts, l: u16) -> A
     loop {
         let kind = next.kind;
         let k = kinds::number(kind);
-        if k == text_kinds::PERIOD {
+        if k == language::kinds::PERIOD {
             return ends::ended(text, next, state);
         }
-        if k == text_kinds::END {
+        if k == language::kinds::END {
             return ends::ended(text, next, state);
         }
         let another = one(state, text, next, work, n, l);

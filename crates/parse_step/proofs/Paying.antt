@@ -6,6 +6,7 @@ use Prim.Native.Nat.{ℕ, suc, _+_, _*_, _≤_}
 use native.Mathlib.Omega.{arith}
 use Rattle.language.specs.Describe.{Noted}
 use Rattle.language.specs.Machine.{Counts, withinCeilings}
+use Rattle.language.specs.declared.refusals.Refusal.{Refusal}
 use Rattle.text_words.specs.declared.Word.{Word}
 use Rattle.parse_step.specs.declared.Answer.{Answer}
 use Rattle.parse_step.specs.declared.Bearing.{Bearing}
@@ -77,7 +78,7 @@ module _ {text : List ℕ} {p : ℕ} {w : Word} {s : State} {r : Answer} where
   pub unspent : (r .verdict ≡ Done → ⊥) → (r .verdict ≡ Full → ⊥) → Spends text p w s r
   unspent n m = record { done = λ d. absurd (n d); full = λ d. absurd (m d) }
 
-  pub refusal-unspent : {n : ℕ} {w₁ : Word} → Refuses w₁ n r → Spends text p w s r
+  pub refusal-unspent : {n : Refusal} {w₁ : Word} → Refuses w₁ n r → Spends text p w s r
   refusal-unspent x = unspent (λ d. done-refused (sym d ∙ x .verdict)) (λ d. refused-full (sym (x .verdict) ∙ d))
 
   pub not-took : {c : Counts} {w₁ : Word} {s₁ : State} → Took text w₁ c s₁ r → (r .verdict ≡ Done → ⊥) → Spends text p w s r

@@ -17,6 +17,7 @@ use Rattle.language.specs.Tree.{Expression}
 use Rattle.language.specs.Words as L
 use Rattle.language.specs.Words.{fault}
 use Rattle.judge_records.specs.Noted.{nodeBesideBytes}
+use Rattle.language.specs.declared.refusals.Refusal.{Refusal}
 use Rattle.text_words.specs.declared.Word.{Word}
 use Rattle.text_words.specs.Meaning.{faulted, positioned}
 use Rattle.parse_tables.proofs.NamesGrown.{facilities-other}
@@ -99,7 +100,7 @@ module _ {text : List ℕ} {sc : Scope} {P Q : Stack} {pre : Built → Built} {h
   }
 
   -- A word refused.
-  pub refuses : {w₁ : Word} (n : ℕ) → Refuses w₁ n r → ((K : Stack) (b : Built) → runs text (P ++ K) w (pre b) s ≡ refused (fault (positioned (w₁ .at)) n)) → Says text sc P Q pre h base depth w s r work
+  pub refuses : {w₁ : Word} (n : Refusal) → Refuses w₁ n r → ((K : Stack) (b : Built) → runs text (P ++ K) w (pre b) s ≡ refused (fault (positioned (w₁ .at)) n)) → Says text sc P Q pre h base depth w s r work
   refuses n x g = record {
     done = λ d. done-refused (sym d ∙ x .verdict);
     refused = λ f d K b. g K b ∙ ap refused (sym (ap faulted (same-fault (sym d ∙ x .verdict)) ∙ x .is));

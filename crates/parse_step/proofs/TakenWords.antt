@@ -10,6 +10,7 @@ use Rattle.language.specs.Building.{Built, keepWord}
 use Rattle.language.specs.Declaring.{treeSteps}
 use Rattle.language.specs.Kinds.{aConstant, colon}
 use Rattle.language.specs.Machine.{Bearing, Counts, Parsed, after, bears, feed, finish, keep, nested, reading, refused, run, taken, took, withinCeilings, word, wrong}
+use Rattle.language.specs.declared.refusals.Refusal.the-variants.{CeilingPassed, NoContinuation}
 use Rattle.language.specs.Sections.{ruleOf}
 use Rattle.language.specs.Words as L
 use Rattle.language.specs.Words.{fault}
@@ -27,16 +28,16 @@ use Rattle.parse_step.proofs.Looking.{View, begun, constant-ahead, ende
 
 -- The machine has taken the word with these counts, unless they pass a ceiling.
 abbrev pub onTaken : List ℕ → Word → Stack → Built → Counts → Parsed Built
-onTaken text w K b c = cond (withinCeilings c) (runsOn text K (behind text w) b c) (refused (fault (positioned (w .at)) 10))
+onTaken text w K b c = cond (withinCeilings c) (runsOn text K (behind text w) b c) (refused (fault (positioned (w .at)) CeilingPassed))
 
 pub taken-on : (text : List ℕ) (p : L.Position) (K : Stack) (vs : List L.Word) (b : Built) (c : Counts)
     → after treeSteps withinCeilings (ruleOf treeSteps) (taken treeSteps withinCeilings p K b c) (λ M q. run treeSteps withinCeilings (ruleOf treeSteps) M vs (length text) q)
-    ≡ cond (withinCeilings c) (runsOn text K vs b c) (refused (fault p 10))
+    ≡ cond (withinCeilings c) (runsOn text K vs b c) (refused (fault p CeilingPassed))
 unfolding runsOn
 taken-on text p K vs b c = go (withinCeilings c)
   where
-    go : (z : Bool) → after treeSteps withinCeilings (ruleOf treeSteps) (cond z (took K (reading b c)) (wrong (fault p 10))) (λ M q. run treeSteps withinCeilings (ruleOf treeSteps) M vs (length text) q)
-        ≡ cond z (run treeSteps withinCeilings (ruleOf treeSteps) K vs (length text) (reading b c)) (refused (fault p 10))
+    go : (z : Bool) → after treeSteps withinCeilings (ruleOf treeSteps) (cond z (took K (reading b c)) (wrong (fault p CeilingPassed))) (λ M q. run treeSteps withinCeilings (ruleOf treeSteps) M vs (length text) q)
+        ≡ cond z (run treeSteps withinCeilings (ruleOf treeSteps) K vs (length text) (reading b c)) (refused (fault p CeilingPassed))
     go true = refl
     go false = refl
 
@@ -56,11 +57,11 @@ word-taken text w k g e h K b c =
     rw (sign-ahead text w k e h, eq-eqb k k refl) (taken-on text (positioned (w .at)) K (behind text w) b (nested (bears g (c .nesting)) c))
 
 pub word-stuck : (text : List ℕ) (w : Word) (k : ℕ) (g : Bearing) → Seen text w → (kindNo (w .kind) ≡ k → ⊥) → (K : Stack) (b : Built) (c : Counts)
-    → runsOn text (word k g ∷ K) (ahead text w) b c ≡ refused (fault (positioned (w .at)) 3)
+    → runsOn text (word k g ∷ K) (ahead text w) b c ≡ refused (fault (positioned (w .at)) NoContinuation)
 unfolding runsOn run feed finish
 word-stuck text w k g z h K b c = go (view text w z)
   where
-    go : View text w → runsOn text (word k g ∷ K) (ahead text w) b c ≡ refused (fault (positioned (w .at)) 3)
+    go : View text w → runsOn text (word k g ∷ K) (ahead text w) b c ≡ refused (fault (positioned (w .at)) NoContinuation)
     go (ended e p q) = rw (e, p)
     go (begun v e q p) = rw (e, q, ne-eqb (kindNo (w .kind)) k h, p)
 
@@ -77,7 +78,7 @@ went-on counted nesting f e d = record {
   full = λ q. done-full q;
 }
 
-pub went-not : {w n : Word} {c : Counts} {s : State} {r : Answer} → Refuses w 10 r → withinCeilings c ≡ false → Went w n c s r
+pub went-not : {w n : Word} {c : Counts} {s : State} {r : Answer} → Refuses w CeilingPassed r → withinCeilings c ≡ false → Went w n c s r
 went-not x e = record {
   done = λ d. done-refused (sym d ∙ x .verdict);
   refused = λ f d. (e, ap faulted (same-fault (sym d ∙ x .verdict)) ∙ x .is);
@@ -104,7 +105,7 @@ expected-taken {text} {w} {s} kind g e t = record {
   full = t .full;
 }
 
-pub expected-not : {text : List ℕ} {w : Word} {s : State} {r : Answer} (kind : ℕ) (g : B.Bearing) → (kindNo (w .kind) ≡ kind → ⊥) → Refuses w 3 r → Expected text kind g w s r
+pub expected-not : {text : List ℕ} {w : Word} {s : State} {r : Answer} (kind : ℕ) (g : B.Bearing) → (kindNo (w .kind) ≡ kind → ⊥) → Refuses w NoContinuation r → Expected text kind g w s r
 expected-not {text} {w} {s} kind g h x = record {
   done = λ d z l. done-refused (sym d ∙ x .verdict);
   refused = λ f d z l K b. word-stuck text w kind (bearingOf g) z h K b (countsOf s) ∙ ap refused (sym (ap faulted (same-fault (sym d ∙ x .verdict)) ∙ x .is));
@@ -117,11 +118,11 @@ same-counts s p q = rw (p, q)
 -- ---- A constant that is kept.
 
 keep-stuck : (text : List ℕ) (w : Word) → Seen text w → (kindNo (w .kind) ≡ aConstant → ⊥) → (K : Stack) (b : Built) (c : Counts)
-    → runsOn text (keep aConstant ∷ K) (ahead text w) b c ≡ refused (fault (positioned (w .at)) 3)
+    → runsOn text (keep aConstant ∷ K) (ahead text w) b c ≡ refused (fault (positioned (w .at)) NoContinuation)
 unfolding runsOn run feed finish
 keep-stuck text w z h K b c = go (view text w z)
   where
-    go : View text w → runsOn text (keep aConstant ∷ K) (ahead text w) b c ≡ refused (fault (positioned (w .at)) 3)
+    go : View text w → runsOn text (keep aConstant ∷ K) (ahead text w) b c ≡ refused (fault (positioned (w .at)) NoContinuation)
     go (ended e p q) = rw (e, p)
     go (begun v e q p) = rw (e, q, ne-eqb (kindNo (w .kind)) aConstant h, p)
 
@@ -136,7 +137,7 @@ keeps {text} {w} {n} {s} e x = record {
     course : Seen text w → (K : Stack) (b : Built) → runs text (keep aConstant ∷ K) w b s ≡ runs text K n (keepWord (constantWord w) b) s
     course z K b = rw (constant-ahead text w z e, x .words z)
 
-pub keeps-not : {text : List ℕ} {w : Word} {s : State} {r : Answer} → (kindNo (w .kind) ≡ aConstant → ⊥) → Refuses w 3 r → Keeps text w s r
+pub keeps-not : {text : List ℕ} {w : Word} {s : State} {r : Answer} → (kindNo (w .kind) ≡ aConstant → ⊥) → Refuses w NoContinuation r → Keeps text w s r
 keeps-not {text} {w} {s} {r} h x = record {
   done = λ d z. done-refused (sym d ∙ x .verdict);
   refused = λ f d z K b. keep-stuck text w z h K b (countsOf s) ∙ ap refused (sym (ap faulted (same-fault (sym d ∙ x .verdict)) ∙ x .is));

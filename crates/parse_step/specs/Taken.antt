@@ -7,6 +7,8 @@ use lib.Dec.{eqb}
 use Rattle.language.specs.Building.{Built, keepWord}
 use Rattle.language.specs.Kinds.{aConstant, colon}
 use Rattle.language.specs.Machine.{Counts, both, keep, refused, withinCeilings, word}
+use Rattle.language.specs.declared.refusals.Refusal.{Refusal}
+use Rattle.language.specs.declared.refusals.Refusal.the-variants.{CeilingPassed}
 use Rattle.language.specs.Scan.{written}
 use Rattle.language.specs.Words as L
 use Rattle.value_operators.specs.Meaning.{valued}
@@ -27,7 +29,7 @@ tallyOf n false = n
 abbrev pub afterWord : Bool → Bearing → State → Counts
 afterWord counts b s = counts5 s (tallyOf (s .counted) counts) (borne b (s .nesting))
 
-pub record Refuses (w : Word) (n : ℕ) (r : Answer) : Type 0 where
+pub record Refuses (w : Word) (n : Refusal) (r : Answer) : Type 0 where
   pub fault : Fault
   pub verdict : r .verdict ≡ Refused fault
   pub is : faulted fault ≡ L.fault (positioned (w .at)) n
@@ -53,7 +55,7 @@ pub record WentOn (w next : Word) (c : Counts) (s : State) (r : Answer) : Type 0
 
 pub record Went (w next : Word) (c : Counts) (s : State) (r : Answer) : Type 0 where
   pub done : r .verdict ≡ Done → WentOn w next c s r
-  pub refused : (f : Fault) → r .verdict ≡ Refused f → (withinCeilings c ≡ false) × (faulted f ≡ L.fault (positioned (w .at)) 10)
+  pub refused : (f : Fault) → r .verdict ≡ Refused f → (withinCeilings c ≡ false) × (faulted f ≡ L.fault (positioned (w .at)) CeilingPassed)
   pub full : r .verdict ≡ Full → ⊥
 
 -- The word w was taken with the counts c.
@@ -67,7 +69,7 @@ pub record Passed (text : List ℕ) (w : Word) (c : Counts) (s : State) (r : Ans
 
 pub record Took (text : List ℕ) (w : Word) (c : Counts) (s : State) (r : Answer) : Type 0 where
   pub done : r .verdict ≡ Done → Passed text w c s r
-  pub refused : (f : Fault) → r .verdict ≡ Refused f → (withinCeilings c ≡ false) × (faulted f ≡ L.fault (positioned (w .at)) 10)
+  pub refused : (f : Fault) → r .verdict ≡ Refused f → (withinCeilings c ≡ false) × (faulted f ≡ L.fault (positioned (w .at)) CeilingPassed)
   pub full : r .verdict ≡ Full → ⊥
 
 -- A word of a kind that must come.

@@ -10,8 +10,8 @@ pub fn number(kind: Kind) -> u8
 {
     match kind {
         Kind::End => 0,
-        Kind::Name => text_kinds::NAME,
-        Kind::Constant => text_kinds::CONSTANT,
+        Kind::Name => language::kinds::NAME,
+        Kind::Constant => language::kinds::CONSTANT,
         Kind::Sign(k) => k,
     }
 }

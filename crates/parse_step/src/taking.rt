@@ -4,6 +4,7 @@ use crate::Bearing;
 use crate::State;
 use crate::Verdict;
 use crate::kinds;
+use language::refusals::Refusal;
 use text_words::Fault;
 use text_words::Word;
 use text_words::next;
@@ -16,11 +17,11 @@ ghost use Rattle.parse_step.specs.Course.{Seen, ahead, borne, counts5};
 ghost use Rattle.parse_step.specs.Taken.{Expected, Follows, Keeps, Refuses, Took, Went, afterWord, endsAhead, tallyOf};
 
 // A refusal of a word.
-pub fn refuse(w: Word, s: State, number: u8) -> Answer
-    ensures { λ r. ⌜ Refuses w number r ⌝ }
+pub fn refuse(w: Word, s: State, refusal: Refusal) -> Answer
+    ensures { λ r. ⌜ Refuses w refusal r ⌝ }
 {
     let at = w.at;
-    let f = Fault { at, number };
+    let f = Fault { at, refusal };
     Answer {
         verdict: Verdict::Refused(f),
         next: w,
@@ -115,7 +116,7 @@ pub fn pass(w: Word, next: Word, s: State, counts: bool, bearing: Bearing) -> An
             state,
         };
     }
-    refuse(w, s, 10)
+    refuse(w, s, Refusal::CeilingPassed)
 }
 
 // Takes a word, unless its counts pass a ceiling.
@@ -133,7 +134,7 @@ pub fn expect(text: &[u8], w: Word, s: State, kind: u8, bearing: Bearing) -> Ans
     if kinds::number(found) == kind {
         return take(text, w, s, false, bearing);
     }
-    refuse(w, s, 3)
+    refuse(w, s, Refusal::NoContinuation)
 }
 
 // Keeps a constant that must come; it is not counted.
@@ -141,7 +142,7 @@ pub fn keep_constant(text: &[u8], w: Word, s: State) -> Answer
     ensures { λ r. ⌜ Keeps (now (text .entry)) w s r ⌝ }
 {
     let kind = w.kind;
-    if kinds::number(kind) == text_kinds::CONSTANT {
+    if kinds::number(kind) == language::kinds::CONSTANT {
         let next = following(text, w);
         return Answer {
             verdict: Verdict::Done,
@@ -149,7 +150,7 @@ pub fn keep_constant(text: &[u8], w: Word, s: State) -> Answer
             state: s,
         };
     }
-    refuse(w, s, 3)
+    refuse(w, s, Refusal::NoContinuation)
 }
 
 // Whether a constant and a colon come: the ends of a part.
@@ -157,10 +158,10 @@ pub fn ends_ahead(text: &[u8], w: Word) -> bool
     ensures { λ r. ⌜ (Seen (now (text .entry)) w → r ≡ endsAhead (ahead (now (text .entry)) w)) ⌝ }
 {
     let kind = w.kind;
-    if kinds::number(kind) == text_kinds::CONSTANT {
+    if kinds::number(kind) == language::kinds::CONSTANT {
         let next = following(text, w);
         let then = next.kind;
-        return kinds::number(then) == text_kinds::COLON;
+        return kinds::number(then) == language::kinds::COLON;
     }
     false
 }

@@ -6,6 +6,7 @@ use Prim.Native.Nat.{ℕ, suc}
 use native.Mathlib.Omega.{arith}
 use borrow.Author.Tests.{ne-eqb}
 use lib.ListN.{length}
+use Rattle.language.specs.declared.refusals.Refusal.the-variants.{CeilingPassed, NoContinuation}
 use Rattle.parse_step.proofs.Looking.{View, begun, ended, name-ahead, nameWord, sign-ahead, view}
 use Rattle.parse_step.proofs.TakenWords.{onTaken, taken-on}
 use Rattle.parse_step.specs.Course.{Seen, Stack, ahead, behind, kindNo, runsOn}
@@ -47,11 +48,11 @@ module _ (text : List ℕ) (w : Word) (z : Seen text w) (b : Built) (c : Counts)
   unfolding runsOn run feed
   name-kept e K = rw (name-ahead text w z e)
 
-  pub no-name : (k ≡ aName → ⊥) → (K : Stack) → on (keep aName ∷ K) ≡ refused (fault at 3)
+  pub no-name : (k ≡ aName → ⊥) → (K : Stack) → on (keep aName ∷ K) ≡ refused (fault at NoContinuation)
   unfolding runsOn run feed finish
   no-name n K = go (view text w z)
     where
-      go : View text w → on (keep aName ∷ K) ≡ refused (fault at 3)
+      go : View text w → on (keep aName ∷ K) ≡ refused (fault at NoContinuation)
       go (ended x y q) = rw (x, y)
       go (begun v x q y) = rw (x, q, ne-eqb k aName n, y)
 
@@ -75,11 +76,11 @@ module _ (text : List ℕ) (w : Word) (z : Seen text w) (b : Built) (c : Counts)
   unfolding runsOn run feed choose ruleOf tallied
   set-comes e K = rw (sign-ahead text w atSign e (omega arith)) (taken-on text at _ (behind text w) _ _)
 
-  pub no-set : (k ≡ atSign → ⊥) → (K : Stack) → on (ask setSign ∷ K) ≡ refused (fault at 3)
+  pub no-set : (k ≡ atSign → ⊥) → (K : Stack) → on (ask setSign ∷ K) ≡ refused (fault at NoContinuation)
   unfolding runsOn run feed finish choose ruleOf
   no-set n K = go (view text w z)
     where
-      go : View text w → on (ask setSign ∷ K) ≡ refused (fault at 3)
+      go : View text w → on (ask setSign ∷ K) ≡ refused (fault at NoContinuation)
       go (ended x y q) = rw (x, y)
       go (begun v x q y) = rw (x, q, ne-eqb k atSign n, y)
 
@@ -102,11 +103,11 @@ module _ (text : List ℕ) (w : Word) (z : Seen text w) (b : Built) (c : Counts)
       among-first-or k delayedSign (equalSign ∷ []) e (λ q. delayed-comes q K ∙ kept delayedSign q) λ e₁.
       among-first-or k equalSign [] e₁ (λ q. equal-comes q K ∙ kept equalSign q) (among-none k)
 
-  pub no-store : among k (delayedSign ∷ equalSign ∷ []) ≡ false → (K : Stack) → on (ask storeSign ∷ K) ≡ refused (fault at 3)
+  pub no-store : among k (delayedSign ∷ equalSign ∷ []) ≡ false → (K : Stack) → on (ask storeSign ∷ K) ≡ refused (fault at NoContinuation)
   unfolding runsOn run feed finish choose ruleOf
   no-store h K = go (view text w z)
     where
-      go : View text w → on (ask storeSign ∷ K) ≡ refused (fault at 3)
+      go : View text w → on (ask storeSign ∷ K) ≡ refused (fault at NoContinuation)
       go (ended x y q) = rw (x, y)
       go (begun v x q y) = rw (x, q, among-first k delayedSign (equalSign ∷ []) h, among-first k equalSign [] (among-rest k delayedSign (equalSign ∷ []) h), y)
 
@@ -150,10 +151,10 @@ store-left text w z c n m e b K = go (view text w z)
 
 module _ (text : List ℕ) (w : Word) (z : Seen text w) (c : Counts) (n : Name) (p : L.Position) (b : Built) (K : Stack) where
   abbrev performed : Parsed Built
-  performed = cond (withinCeilings (more counted c)) (runsOn text K (ahead text w) (grown (T.perform n p T.done) b) (more counted c)) (refused (fault p 10))
+  performed = cond (withinCeilings (more counted c)) (runsOn text K (ahead text w) (grown (T.perform n p T.done) b) (more counted c)) (refused (fault p CeilingPassed))
 
   by-test : (q : Bool) (f : Fed Built) (on : Stack → Reading Built → Parsed Built)
-      → after treeSteps withinCeilings (ruleOf treeSteps) (cond q f (wrong (fault p 10))) on ≡ cond q (after treeSteps withinCeilings (ruleOf treeSteps) f on) (refused (fault p 10))
+      → after treeSteps withinCeilings (ruleOf treeSteps) (cond q f (wrong (fault p CeilingPassed))) on ≡ cond q (after treeSteps withinCeilings (ruleOf treeSteps) f on) (refused (fault p CeilingPassed))
   by-test true f on = refl
   by-test false f on = refl
 

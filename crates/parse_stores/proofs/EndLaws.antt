@@ -3,6 +3,7 @@ use mathlib.Core.Bool.{true}
 use mathlib.Core.List.{List, [], _∷_, _++_}
 use mathlib.Core.Path.{_≡_, sym, ap, _∙_}
 use Prim.Native.Nat.{ℕ, _+_, _≤_}
+use Rattle.language.specs.declared.refusals.Refusal.{Refusal}
 use Rattle.parse_step.proofs.Answers.{done-refused, refused-full, same-fault}
 use Rattle.parse_step.proofs.TakenWords.{onTaken, took-refused}
 use Rattle.parse_step.specs.declared.Answer.{Answer}
@@ -66,7 +67,7 @@ module _ {text : List ℕ} {sc : Scope} {n : M.Counts} {P : Stack} {pre : Built 
     }
 
     -- A word refused.
-    pub ends-refused : {w₁ : Word} (m : ℕ) → Refuses w₁ m a → ((K : Stack) (b : Built) → runs text (P ++ K) w (pre b) s ≡ refused (fault (positioned (w₁ .at)) m))
+    pub ends-refused : {w₁ : Word} (m : Refusal) → Refuses w₁ m a → ((K : Stack) (b : Built) → runs text (P ++ K) w (pre b) s ≡ refused (fault (positioned (w₁ .at)) m))
         → Ends text sc n P pre w s s₀ work work′ a
     ends-refused m x g = record {
       done = λ d. done-refused (sym d ∙ x .verdict);

@@ -4,6 +4,7 @@ use mathlib.Core.List.{List}
 use mathlib.Core.Path.{_≡_, refl, sym, ap, _∙_}
 use Prim.Native.Nat.{ℕ, _+_}
 use lib.ListN.{length}
+use Rattle.language.specs.declared.refusals.Refusal.the-variants.{NoContinuation}
 use Rattle.parse_step.proofs.Answers.{done-full, done-refused, refused-full, same-fault}
 use Rattle.parse_step.specs.declared.Answer.{Answer}
 use Rattle.parse_step.specs.declared.Bearing.the-variants.{Level}
@@ -31,7 +32,7 @@ module _ {text : List ℕ} {w : Word} {s : State} {r : Answer} where
     full = t .full;
   }
 
-  pub keeps-no-name : (kindNo (w .kind) ≡ aName → ⊥) → Refuses w 3 r → KeepsName text w s r
+  pub keeps-no-name : (kindNo (w .kind) ≡ aName → ⊥) → Refuses w NoContinuation r → KeepsName text w s r
   keeps-no-name n x = record {
     done = λ d z. done-refused (sym d ∙ x .verdict);
     refused = λ f d z h K b. no-name text w z b (countsOf s) n K ∙ ap refused (sym (ap faulted (same-fault (sym d ∙ x .verdict)) ∙ x .is));

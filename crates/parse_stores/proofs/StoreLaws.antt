@@ -4,6 +4,7 @@ use mathlib.Core.List.{List, [], _∷_, _++_, append-nil}
 use mathlib.Core.Path.{_≡_, refl, sym, ap, _∙_}
 use Prim.Native.Nat.{ℕ, _+_, _-_}
 use native.Mathlib.Omega.{arith}
+use Rattle.language.specs.declared.refusals.Refusal.the-variants.{NoContinuation}
 use Rattle.parse_step.proofs.Saying.{makes-it}
 use Rattle.parse_step.proofs.TakenWords.{took-done}
 use Rattle.parse_step.specs.declared.Answer.{Answer}
@@ -54,8 +55,8 @@ behindCon K = ask subscripts ∷ make (treeSteps .makePair) ∷ ask storeSign �
 -- ---- `@`.
 
 module _ {text : List ℕ} {w₁ : Word} {s₁ : State} {work₁ : List ℕ} where
-  pub unset : {a : Answer} {work′ : List ℕ} → (kindNo (w₁ .kind) ≡ atSign → ⊥) → Refuses w₁ 3 a → AfterLeft setSign text w₁ s₁ work₁ work′ a
-  unset m t sc n w s work u st x = ends-refused 3 t (λ K b. no-set text w₁ (x .seen) (pushed u b) (countsOf s₁) m K)
+  pub unset : {a : Answer} {work′ : List ℕ} → (kindNo (w₁ .kind) ≡ atSign → ⊥) → Refuses w₁ NoContinuation a → AfterLeft setSign text w₁ s₁ work₁ work′ a
+  unset m t sc n w s work u st x = ends-refused NoContinuation t (λ K b. no-set text w₁ (x .seen) (pushed u b) (countsOf s₁) m K)
 
   module _ (e : kindNo (w₁ .kind) ≡ atSign) {a : Answer} (t : Took text w₁ (afterWord true Level s₁) s₁ a) where
     pub set-untaken : (a .verdict ≡ Done → ⊥) → AfterLeft setSign text w₁ s₁ work₁ work₁ a
@@ -83,8 +84,8 @@ to-right : {text : List ℕ} {w₁ : Word} {s₁ : State} {a : Answer} → among
 to-right {text} {w₁} {s₁} e t d l z K b = store-comes text w₁ z (withLeft l b) (countsOf s₁) e K ∙ took-done (t .done d) z (right K) (signKept w₁ l b)
 
 module _ {text : List ℕ} {w₁ : Word} {s₁ : State} {work₁ : List ℕ} (left : Sides) where
-  pub unstored : {a : Answer} {work′ : List ℕ} → among (kindNo (w₁ .kind)) (delayedSign ∷ equalSign ∷ []) ≡ false → Refuses w₁ 3 a → Stores left text w₁ s₁ work₁ work′ a
-  unstored e t sc n w s work l st q x = ends-refused 3 t (λ K b. no-store text w₁ (x .seen) (withLeft l b) (countsOf s₁) e K)
+  pub unstored : {a : Answer} {work′ : List ℕ} → among (kindNo (w₁ .kind)) (delayedSign ∷ equalSign ∷ []) ≡ false → Refuses w₁ NoContinuation a → Stores left text w₁ s₁ work₁ work′ a
+  unstored e t sc n w s work l st q x = ends-refused NoContinuation t (λ K b. no-store text w₁ (x .seen) (withLeft l b) (countsOf s₁) e K)
 
   module _ (e : among (kindNo (w₁ .kind)) (delayedSign ∷ equalSign ∷ []) ≡ true) {a : Answer} (t : Took text w₁ (afterWord true Level s₁) s₁ a) where
     pub sign-untaken : (a .verdict ≡ Done → ⊥) → Stores left text w₁ s₁ work₁ work₁ a

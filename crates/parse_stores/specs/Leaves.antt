@@ -4,6 +4,7 @@ use mathlib.Core.List.{List, [], _∷_}
 use mathlib.Core.Path.{_≡_}
 use Prim.Native.Nat.{ℕ, _+_, _≤_}
 use lib.ListN.{length}
+use Rattle.language.specs.declared.refusals.Refusal.the-variants.{CeilingPassed}
 use Rattle.parse_step.specs.declared.Answer.{Answer}
 use Rattle.parse_step.specs.declared.Bearing.the-variants.{Level}
 use Rattle.parse_step.specs.declared.State.{State}
@@ -63,7 +64,7 @@ abbrev pub alone : List ℕ → Word → Word → State → Stack → Built → 
 alone text name w s K b =
     cond (withinCeilings (afterWord true Level s))
     (runsOn text K (ahead text w) (grown (T.perform (lettersOf text name) (positioned (name .at)) T.done) b) (afterWord true Level s))
-    (refused (fault (positioned (name .at)) 10))
+    (refused (fault (positioned (name .at)) CeilingPassed))
 
 abbrev pub Performs : Word → List ℕ → Counts → Word → State → List ℕ → List ℕ → Answer → Type 0
 Performs name text n w s work work′ r =

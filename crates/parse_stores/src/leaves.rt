@@ -1,5 +1,6 @@
 // What simple actions are made of: names, and the records of actions.
 use image_records::actions::Action;
+use language::refusals::Refusal;
 use parse_array::Work;
 use parse_names::Counts;
 use parse_names::Meaning;
@@ -27,10 +28,10 @@ pub fn keep_name(text: &[u8], w: Word, s: State) -> Answer
     ensures { λ r. ⌜ KeepsName (now (text .entry)) w s r ⌝ }
 {
     let kind = w.kind;
-    if kinds::number(kind) == text_kinds::NAME {
+    if kinds::number(kind) == language::kinds::NAME {
         return taking::take(text, w, s, false, Bearing::Level);
     }
-    taking::refuse(w, s, 3)
+    taking::refuse(w, s, Refusal::NoContinuation)
 }
 
 // Adds an action's record, whose word is at; the word behind the action has been seen.

@@ -60,24 +60,31 @@ pub fn signed(s: State, text: &[u8], w: Word, work: &mut Work, n: Counts) -> Ans
     }
     let found = w.kind;
     let kind = kinds::number(found);
-    if kind == text_kinds::RETURN {
+    if kind == language::kinds::RETURN {
         let at = w.at;
         return leaves::put(taken.state, Action::Return, at, taken.next, work);
     }
-    arrow(taken.state, kind == text_kinds::CALL, text, taken.next, work, n)
+    arrow(
+        taken.state,
+        kind == language::kinds::CALL,
+        text,
+        taken.next,
+        work,
+        n,
+    )
 }
 
 // Whether a reference goes on behind a name in an operation: `[`, CON, `@`, `<-` or `=` comes.
 fn refers(kind: u8) -> bool
     ensures { λ r. ⌜ r ≡ among kind (openBracket ∷ conWord ∷ atSign ∷ delayedSign ∷ equalSign ∷ []) ⌝ }
 {
-    if kind == text_kinds::OPEN_BRACKET {
+    if kind == language::kinds::OPEN_BRACKET {
         return true;
     }
-    if kind == text_kinds::CON {
+    if kind == language::kinds::CON {
         return true;
     }
-    if kind == text_kinds::AT {
+    if kind == language::kinds::AT {
         return true;
     }
     stores::signs(kind)
@@ -87,10 +94,10 @@ fn refers(kind: u8) -> bool
 fn sets(kind: u8) -> bool
     ensures { λ r. ⌜ r ≡ among kind (openBracket ∷ atSign ∷ []) ⌝ }
 {
-    if kind == text_kinds::OPEN_BRACKET {
+    if kind == language::kinds::OPEN_BRACKET {
         return true;
     }
-    kind == text_kinds::AT
+    kind == language::kinds::AT
 }
 
 // An action of an operation, behind its first name.

@@ -1,6 +1,7 @@
 // What follows a reference on the left: `@`, a store's sign, or CON and a second reference.
 use crate::leaves;
 use image_records::actions::Action;
+use language::refusals::Refusal;
 use parse_array::Work;
 use parse_levels::Level;
 use parse_step::Answer;
@@ -29,10 +30,10 @@ pub enum Sides {
 pub fn signs(kind: u8) -> bool
     ensures { λ r. ⌜ r ≡ among kind (delayedSign ∷ equalSign ∷ []) ⌝ }
 {
-    if kind == text_kinds::DELAYED {
+    if kind == language::kinds::DELAYED {
         return true;
     }
-    kind == text_kinds::EQUAL
+    kind == language::kinds::EQUAL
 }
 
 // A store's record.
@@ -50,7 +51,7 @@ pub fn set(s: State, text: &[u8], w: Word, work: &mut Work) -> Answer
     ensures { λ r. ⌜ AfterLeft L.setSign (now (text .entry)) w s (now (work .entry)) (now (work .exit)) r ⌝ }
 {
     let found = w.kind;
-    if kinds::number(found) == text_kinds::AT {
+    if kinds::number(found) == language::kinds::AT {
         let taken = taking::take(text, w, s, true, Bearing::Level);
         if parse_step::unread(taken) {
             return taken;
@@ -59,7 +60,7 @@ pub fn set(s: State, text: &[u8], w: Word, work: &mut Work) -> Answer
         let action = Action::Set(adding::last(taken.state.nodes));
         return leaves::put(taken.state, action, at, taken.next, work);
     }
-    taking::refuse(w, s, 3)
+    taking::refuse(w, s, Refusal::NoContinuation)
 }
 
 // A store, from its sign on.
@@ -87,7 +88,7 @@ fn store(s: State, left: Sides, text: &[u8], w: Word, work: &mut Work) -> Answer
         let action = storing(kind, left, adding::last(right.state.nodes));
         return leaves::put(right.state, action, at, right.next, work);
     }
-    taking::refuse(w, s, 3)
+    taking::refuse(w, s, Refusal::NoContinuation)
 }
 
 // CON, a second reference, and the store.
@@ -116,10 +117,10 @@ pub fn rest(s: State, text: &[u8], w: Word, work: &mut Work) -> Answer
 {
     let found = w.kind;
     let kind = kinds::number(found);
-    if kind == text_kinds::CON {
+    if kind == language::kinds::CON {
         return second(s, text, w, work);
     }
-    if kind == text_kinds::AT {
+    if kind == language::kinds::AT {
         return set(s, text, w, work);
     }
     let left = Sides::One(adding::last(s.nodes));

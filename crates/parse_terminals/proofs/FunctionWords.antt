@@ -5,6 +5,7 @@ use mathlib.Core.Path.{_≡_, refl}
 use Prim.Native.Nat.{ℕ}
 use native.Mathlib.Omega.{arith}
 use borrow.Author.Tests.{ne-eqb}
+use Rattle.language.specs.declared.refusals.Refusal.the-variants.{NoContinuation}
 use Rattle.parse_step.proofs.Looking.{View, begun, constant-ahead, ended, name-ahead, sign-ahead, view}
 use Rattle.parse_step.proofs.Omitted.{omitted}
 use Rattle.parse_step.proofs.TakenWords.{onTaken, taken-on}
@@ -64,14 +65,14 @@ module _ (text : List ℕ) (w : Word) (K : Stack) (b : Built) (s : State) where
     unfolding runsOn run feed
     name-same e h = rw (name-ahead text w z e, h)
 
-    pub name-different : kindNo (w .kind) ≡ aName → same (lettersOf text w) (nameOf (wordNo 1 b)) ≡ false → runs text (again ∷ K) w b s ≡ refused (fault (positioned (w .at)) 3)
+    pub name-different : kindNo (w .kind) ≡ aName → same (lettersOf text w) (nameOf (wordNo 1 b)) ≡ false → runs text (again ∷ K) w b s ≡ refused (fault (positioned (w .at)) NoContinuation)
     unfolding runsOn run feed
     name-different e h = rw (name-ahead text w z e, h)
 
-    pub no-name : (kindNo (w .kind) ≡ aName → ⊥) → runs text (again ∷ K) w b s ≡ refused (fault (positioned (w .at)) 3)
+    pub no-name : (kindNo (w .kind) ≡ aName → ⊥) → runs text (again ∷ K) w b s ≡ refused (fault (positioned (w .at)) NoContinuation)
     unfolding runsOn run feed finish
     no-name n = go (view text w z)
       where
-        go : View text w → runs text (again ∷ K) w b s ≡ refused (fault (positioned (w .at)) 3)
+        go : View text w → runs text (again ∷ K) w b s ≡ refused (fault (positioned (w .at)) NoContinuation)
         go (ended e p q) = rw (e, p)
         go (begun v e q p) = rw (e, q, ne-eqb (kindNo (w .kind)) aName n, p)

@@ -5,6 +5,7 @@ use mathlib.Core.Path.{_≡_, refl, sym, ap, _∙_}
 use Prim.Native.Nat.{ℕ, suc, _-_}
 use native.Mathlib.Omega.{arith}
 use lib.ListN.{drop, take}
+use Rattle.language.specs.declared.refusals.Refusal.the-variants.{NoContinuation}
 use Rattle.parse_step.proofs.Saying.{makes-it}
 use Rattle.parse_step.proofs.TakenWords.{took-done, word-stuck}
 use Rattle.parse_step.specs.declared.Answer.{Answer}
@@ -44,8 +45,8 @@ module _ {text : List ℕ} {w : Word} {s : State} {a : Answer} where
       read : Passed text w (countsOf s) s a → Moved text (plainWord aConstant ∷ []) same w s a
       read p = record { course = λ K b. constant-taken text w K b s z e ∙ took-done p z K b; state = state-of (p .counts) (p .kept); seen = p .seen }
 
-  pub constant-not : (kindNo (w .kind) ≡ aConstant → ⊥) → Refuses w 3 a → Constants text w s a
-  constant-not n r z = refuses 3 r (λ K b. word-stuck text w 2 level z n K b (countsOf s))
+  pub constant-not : (kindNo (w .kind) ≡ aConstant → ⊥) → Refuses w NoContinuation a → Constants text w s a
+  constant-not n r z = refuses NoContinuation r (λ K b. word-stuck text w 2 level z n K b (countsOf s))
 
 -- ---- The declared name once more.
 
@@ -67,12 +68,12 @@ module _ {text : List ℕ} (name : Word) {w : Word} {s : State} {a : Answer} whe
       read : Passed text w (countsOf s) s a → Moved text (again ∷ []) (atFunction text name x equal) w s a
       read p = record { course = λ K b. step K b ∙ rw (p .words z, p .counts); state = state-of (p .counts) (p .kept); seen = p .seen }
 
-  pub different : kindNo (w .kind) ≡ aName → L.same (lettersOf text w) (lettersOf text name) ≡ false → Refuses w 3 a → Repeats text name w s a
+  pub different : kindNo (w .kind) ≡ aName → L.same (lettersOf text w) (lettersOf text name) ≡ false → Refuses w NoContinuation a → Repeats text name w s a
   unfolding wordNo letters
-  different e h r x equal z f = refuses 3 r (λ K b. name-different text w K (atFunction text name x equal b) s z e h)
+  different e h r x equal z f = refuses NoContinuation r (λ K b. name-different text w K (atFunction text name x equal b) s z e h)
 
-  pub unnamed : (kindNo (w .kind) ≡ aName → ⊥) → Refuses w 3 a → Repeats text name w s a
-  unnamed n r x equal z f = refuses 3 r (λ K b. no-name text w K (atFunction text name x equal b) s z n)
+  pub unnamed : (kindNo (w .kind) ≡ aName → ⊥) → Refuses w NoContinuation a → Repeats text name w s a
+  unnamed n r x equal z f = refuses NoContinuation r (λ K b. no-name text w K (atFunction text name x equal b) s z n)
 
   module _ (t : Repeats text name w s a) where
     pub closed-not : (a .verdict ≡ Done → ⊥) → Closing text name w s a

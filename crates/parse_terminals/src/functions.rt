@@ -54,7 +54,7 @@ fn behind_equal(text: &[u8], name: Word, equal: Word, w: Word, work: &mut Work, 
     ensures { λ r. ⌜ Follows (now (text .entry)) name equal w s (now (work .entry)) (now (work .exit)) r ⌝ }
 {
     let kind = w.kind;
-    if kinds::number(kind) != text_kinds::INPUT {
+    if kinds::number(kind) != language::kinds::INPUT {
         return computed(text, equal, w, work, s);
     }
     let equals = places::position(0);
@@ -82,7 +82,7 @@ pub fn function(
         return plain(w, s);
     }
     let kind = w.kind;
-    if kinds::number(kind) != text_kinds::EQUAL {
+    if kinds::number(kind) != language::kinds::EQUAL {
         return plain(w, s);
     }
     let equal = taking::take(text, w, s, false, Bearing::Level);

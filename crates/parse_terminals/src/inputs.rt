@@ -1,5 +1,6 @@
 // The input of a terminal: INPUT, and in parentheses a constant and the terminal's name once more.
 use image_records::bytes;
+use language::refusals::Refusal;
 use parse_step::Answer;
 use parse_step::Bearing;
 use parse_step::State;
@@ -18,10 +19,10 @@ fn constant(text: &[u8], w: Word, s: State) -> Answer
     ensures { λ r. ⌜ Constants (now (text .entry)) w s r ⌝ }
 {
     let kind = w.kind;
-    if kinds::number(kind) == text_kinds::CONSTANT {
+    if kinds::number(kind) == language::kinds::CONSTANT {
         return taking::take(text, w, s, false, Bearing::Level);
     }
-    taking::refuse(w, s, 3)
+    taking::refuse(w, s, Refusal::NoContinuation)
 }
 
 // Whether two words have the same letters, without regard to case.
@@ -40,13 +41,13 @@ fn again(text: &[u8], name: Word, w: Word, s: State) -> Answer
     ensures { λ r. ⌜ Repeats (now (text .entry)) name w s r ⌝ }
 {
     let kind = w.kind;
-    if kinds::number(kind) != text_kinds::NAME {
-        return taking::refuse(w, s, 3);
+    if kinds::number(kind) != language::kinds::NAME {
+        return taking::refuse(w, s, Refusal::NoContinuation);
     }
     if alike(text, name, w) {
         return taking::take(text, w, s, false, Bearing::Level);
     }
-    taking::refuse(w, s, 3)
+    taking::refuse(w, s, Refusal::NoContinuation)
 }
 
 // The name once more, and the parenthesis.
@@ -61,7 +62,7 @@ fn closed(text: &[u8], name: Word, w: Word, s: State) -> Answer
         text,
         repeated.next,
         repeated.state,
-        text_kinds::CLOSE_PAREN,
+        language::kinds::CLOSE_PAREN,
         Bearing::Closes,
     )
 }
@@ -78,7 +79,7 @@ pub fn input(text: &[u8], name: Word, w: Word, s: State) -> Answer
         text,
         first.next,
         first.state,
-        text_kinds::OPEN_PAREN,
+        language::kinds::OPEN_PAREN,
         Bearing::Opens,
     );
     if parse_step::unread(open) {
@@ -92,7 +93,7 @@ pub fn input(text: &[u8], name: Word, w: Word, s: State) -> Answer
         text,
         value.next,
         value.state,
-        text_kinds::COMMA,
+        language::kinds::COMMA,
         Bearing::Level,
     );
     if parse_step::unread(comma) {

@@ -38,7 +38,7 @@ fn more(text: &[u8], w: Word, work: &mut Work, s: State, place: u16) -> Progress
     let mut after = place;
     loop {
         let kind = next.kind;
-        if kinds::number(kind) != text_kinds::COMMA {
+        if kinds::number(kind) != language::kinds::COMMA {
             return lists::ended(text, next, state, after);
         }
         let comma = taking::take(text, next, state, false, Bearing::Level);

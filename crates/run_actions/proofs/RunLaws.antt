@@ -14,6 +14,7 @@ use Rattle.language.specs.Description as D
 use Rattle.language.specs.Description.{Description, actionAt, operationAt}
 use Rattle.language.specs.Meaning as M
 use Rattle.language.specs.Recursion.{below-ge, below-lt}
+use Rattle.language.specs.declared.stops.Stop.{Stop}
 use Rattle.language.specs.Value.{Value}
 use Rattle.image_records.proofs.actions.Action.{the-type}
 use Rattle.image_records.specs.Actions.{meant}
@@ -150,7 +151,7 @@ gone (T.went c) v e = record { doing = c; is = refl; seen = cc }
 gone (T.stopped n) v e = absurd (let z : _≡_ {A = ℕ} 0 1 = cc in omega arith)
 gone (T.stuck s) v e = absurd (let z : _≡_ {A = ℕ} 0 1 = cc in omega arith)
 
-pub stays-stopped : (r : T.Ran InBytes) (on : T.Doing InBytes → T.Ran InBytes) (n : ℕ) → stopped n ≡ ranSeen r → stopped n ≡ ranSeen (T.onward r on)
+pub stays-stopped : (r : T.Ran InBytes) (on : T.Doing InBytes → T.Ran InBytes) (n : Stop) → stopped n ≡ ranSeen r → stopped n ≡ ranSeen (T.onward r on)
 stays-stopped (T.went c) on n e = absurd (let z : _≡_ {A = ℕ} 0 1 = cc in omega arith)
 stays-stopped (T.stopped m) on n e = e
 stays-stopped (T.stuck s) on n e = e

@@ -4,6 +4,7 @@ use crate::arms::Arm;
 use crate::simple;
 use image_records::actions::Action;
 use image_records::record_sizes;
+use language::stops::Stop;
 use run_expressions::eval;
 use run_references::arms::Found;
 use run_references::bounds;
@@ -21,9 +22,6 @@ ghost use Rattle.language.specs.Encode.{actionSize, operationSize};
 ghost use Rattle.store_layout.specs.InBytes.{bytes};
 ghost use Rattle.run_stores.specs.Seen.{did, ranSeen, viewed};
 ghost use Rattle.run_actions.specs.Acts.{ForActs, armDone, armMeant, chosenDone, oneDone, runOf, whenDone};
-
-// A CASE value without an arm.
-const NO_ARM: u8 = 8;
 
 // The actions of an arm; m records stand after the conditional's own.
 fn arm(
@@ -143,7 +141,7 @@ fn choose(
         Outcome::Is => {
             let v = w.value;
             let Found::At(k) = run_references::arms::arm_number(n, v) else {
-                return Did::Stopped(NO_ARM);
+                return Did::Stopped(Stop::NoArm);
             };
             let a = arms::arm_at(actions, arms::before(k), i + 1, x);
             arm(

@@ -10,6 +10,7 @@ use Rattle.language.specs.Description.{Description, sequencingOf}
 use Rattle.language.specs.Meaning.{noStateValue}
 use Rattle.language.specs.Step as S
 use Rattle.language.specs.Store.{Held, Words, fromBytes}
+use Rattle.language.specs.declared.stops.Stop.{Stop}
 use Rattle.run_stores.specs.declared.doing.Doing.{Doing}
 use Rattle.run_next.proofs.NextLaws.{next-seen, record-seen, stop-seen}
 use Rattle.run_next.specs.Seen.{nextSeen, recordSeen, stopSeen}
@@ -27,7 +28,7 @@ module _ (d : Description) (r : S.Record) (c : T.Doing Held) (g : Doing) (B : Li
     pub record-so : (next : ℕ) → next ≡ nextSeen r g q → {after : S.Record} → after ≡ recordSeen r g next → after ≡ S.nextRecord d r c
     record-so next e f = f ∙ record-seen d r c g (l .sees) next (e ∙ next-seen d r c g (l .sees) q borne-so)
 
-  pub finished-so : {x : Option ℕ} → x ≡ S.stopAfter d r c → S.finished d r c ≡ S.orStopped d r c x
+  pub finished-so : {x : Option Stop} → x ≡ S.stopAfter d r c → S.finished d r c ≡ S.orStopped d r c x
   unfolding S.finished
   finished-so e = ap (S.orStopped d r c) (sym e)
 

@@ -4,11 +4,11 @@ use crate::outcome::Stepped;
 use crate::outcome::Verdict;
 use crate::register;
 use image_records::record_sizes;
+use language::stops::Halt;
 use run_next::bearer;
 use run_next::record;
 use run_next::record::Record;
 use run_next::stops;
-use run_next::stops::Stop;
 use run_references::arms::Found;
 use run_references::worth::Stuck;
 use run_stores::doing::Doing;
@@ -91,7 +91,7 @@ pub fn finish(
     let found = borne(facilities, expressions, states, store, g.sequenced);
     let count = (states.len() / record_sizes::STATE) as u32;
     match stops::stop_after(count, r, g, found) {
-        Stop::At(n) => outcome::without(Verdict::Stopped(n), r),
-        Stop::None => enter(facilities, expressions, states, r, g, found, store),
+        Halt::At(n) => outcome::without(Verdict::Stopped(n), r),
+        Halt::None => enter(facilities, expressions, states, r, g, found, store),
     }
 }

@@ -1,11 +1,12 @@
 // What a cycle comes to.
+use language::stops::Stop;
 use run_next::record::Record;
 use run_references::worth::Stuck;
 ghost use mathlib.Core.Path.{_≡_};
 
 pub enum Verdict {
     Completed,
-    Stopped(u8),
+    Stopped(Stop),
     Stuck(Stuck),
 }
 

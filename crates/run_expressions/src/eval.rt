@@ -7,6 +7,7 @@ use image_sections::facilities;
 use image_sections::facilities::Facility;
 use image_sections::facilities::ShortBounds;
 use image_sections::kinds;
+use language::stops::Stop;
 use run_references::arms;
 use run_references::arms::Found;
 use run_references::bounds;
@@ -21,9 +22,9 @@ use run_references::worth;
 use run_references::worth::Outcome;
 use run_references::worth::Stuck;
 use run_references::worth::Worth;
-use value_operators::lengths;
 use store_geometry::subscripts;
 use store_geometry::subscripts::Subscripts;
+use value_operators::lengths;
 ghost use mathlib.Core.Path.{_≡_};
 ghost use Rattle.language.specs.Acting.{side};
 ghost use Rattle.language.specs.Meaning as M;
@@ -40,13 +41,10 @@ ghost use Rattle.run_references.specs.Places.{foundMeant, locatedMeant, onDista
 ghost use Rattle.run_expressions.specs.Sides.{SideRead, SideThere, sideMeant};
 ghost use Rattle.run_references.specs.Worth.{answered};
 
-// A CASE value without an arm.
-const NO_ARM: u8 = 8;
-
 // The facility that a reference names and the place in it, or why there is none.
 pub enum Side {
     At(Facility, Place),
-    Stops(u8),
+    Stops(Stop),
     Stuck(Stuck),
 }
 
@@ -172,7 +170,7 @@ fn arm(
     ensures { λ r. ⌜ ForEach (now (section .entry)) (now (expressions .entry)) (now (store .entry)) (λ d x. answered r ≡ M.chosen (bytes d) d x (evalBelow (bytes d) d x n) last count (foundMeant number)) ⌝ }
 {
     let Found::At(k) = number else {
-        return worth::stops(NO_ARM);
+        return worth::stops(Stop::NoArm);
     };
     let back = lengths::minus(count as u32, k as u32);
     match arms::arm_back(expressions, last, back) {

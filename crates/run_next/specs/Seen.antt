@@ -8,21 +8,16 @@ use lib.ListN.{getD, set}
 use Rattle.language.specs.Acting as T
 use Rattle.language.specs.Judging.{both}
 use Rattle.language.specs.Step as S
-use Rattle.language.specs.Stops.{noNextState, nothingToReturn, tooManyCalls, twoNextStates, valueUnborne}
+use Rattle.language.specs.declared.stops.Stop.{Stop}
+use Rattle.language.specs.declared.stops.Stop.the-variants.{NoNextState, NothingToReturn, TooManyCalls, TwoNextStates, ValueUnborne}
 use Rattle.language.specs.Store.{Held}
 use Rattle.language.specs.Value.{bit}
 use Rattle.run_stores.specs.Seen.{named, statesSeen}
 use Rattle.run_stores.specs.declared.doing.Doing.{Doing}
 use Rattle.run_next.specs.declared.record.Record.{Record}
-use Rattle.run_next.specs.declared.stops.Stop.{Stop}
-use Rattle.run_next.specs.declared.stops.Stop.the-variants as P
 
 abbrev pub recordMeant : Record → S.Record
 recordMeant r = record { state = r .state; cycle = r .cycle; held = r .held; returns = r .returns }
-
-abbrev pub stopMeant : Stop → Option ℕ
-stopMeant (P.At n) = some n
-stopMeant P.None = none
 
 abbrev pub orZero : Option ℕ → ℕ
 orZero none = 0
@@ -52,13 +47,13 @@ nextSeen r g q =
     (cond (g .sequenced) (orZero q) (r .state + 1)))
 
 -- `states` is how many there are, and q the state whose value the sequencing register has.
-unfoldable pub stopSeen : ℕ → S.Record → Doing → Option ℕ → Option ℕ
+unfoldable pub stopSeen : ℕ → S.Record → Doing → Option ℕ → Option Stop
 stopSeen states r g q =
-    cond (leb 2 (plainSeen g) || leb 2 (g .calls .count)) (some twoNextStates)
-    (cond (both (ltb 0 (g .returns)) (eqb (r .held) 0)) (some nothingToReturn)
-    (cond (both (g .sequenced) (isNone q)) (some valueUnborne)
-    (cond (both (eqb (plainSeen g) 0) (leb states (r .state + 1))) (some noNextState)
-    (cond (both (ltb 0 (g .calls .count)) (leb 16 (leftSeen (r .held) (g .returns)))) (some tooManyCalls) none))))
+    cond (leb 2 (plainSeen g) || leb 2 (g .calls .count)) (some TwoNextStates)
+    (cond (both (ltb 0 (g .returns)) (eqb (r .held) 0)) (some NothingToReturn)
+    (cond (both (g .sequenced) (isNone q)) (some ValueUnborne)
+    (cond (both (eqb (plainSeen g) 0) (leb states (r .state + 1))) (some NoNextState)
+    (cond (both (ltb 0 (g .calls .count)) (leb 16 (leftSeen (r .held) (g .returns)))) (some TooManyCalls) none))))
 
 unfoldable pub recordSeen : S.Record → Doing → ℕ → S.Record
 recordSeen r g next =

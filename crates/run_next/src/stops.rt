@@ -1,19 +1,17 @@
 // The first stop after the actions: S2, S4, S3, S6, S5.
 use crate::record;
 use crate::record::Record;
+use language::stops::Halt;
+use language::stops::Stop;
 use run_references::arms::Found;
 use run_stores::doing::Doing;
 ghost use mathlib.Core.Bool.{_||_};
 ghost use mathlib.Core.Path.{_≡_};
 ghost use Prim.Native.Nat.{_<_};
 ghost use Rattle.language.specs.Judging as J;
+ghost use Rattle.language.specs.Stops.{halted};
 ghost use Rattle.run_references.specs.Places.{foundMeant};
-ghost use Rattle.run_next.specs.Seen.{isNone, plainSeen, recordMeant, stopMeant, stopSeen};
-
-pub enum Stop {
-    At(u8),
-    None,
-}
+ghost use Rattle.run_next.specs.Seen.{isNone, plainSeen, recordMeant, stopSeen};
 
 // How many plain next states are named, as far as it matters.
 fn plain_count(g: Doing) -> u32
@@ -46,29 +44,29 @@ fn nowhere(n: Found) -> bool
 }
 
 // The first stop, if any; `borne` is the state whose value the sequencing register has.
-pub fn stop_after(states: u32, r: Record, g: Doing, borne: Found) -> Stop
+pub fn stop_after(states: u32, r: Record, g: Doing, borne: Found) -> Halt
     requires { ⌜ r .state < 4294967295 ⌝ }
-    ensures { λ s. ⌜ stopMeant s ≡ stopSeen states (recordMeant r) g (foundMeant borne) ⌝ }
+    ensures { λ s. ⌜ halted s ≡ stopSeen states (recordMeant r) g (foundMeant borne) ⌝ }
 {
     let calls = g.calls;
     let plain = plain_count(g);
     if either(2 <= plain, 2 <= calls.count) {
-        return Stop::At(2);
+        return Halt::At(Stop::TwoNextStates);
     }
     if both(0 < g.returns, r.held == 0) {
-        return Stop::At(4);
+        return Halt::At(Stop::NothingToReturn);
     }
     if both(g.sequenced, nowhere(borne)) {
-        return Stop::At(3);
+        return Halt::At(Stop::ValueUnborne);
     }
     if both(plain == 0, states <= r.state + 1) {
-        return Stop::At(6);
+        return Halt::At(Stop::NoNextState);
     }
     if both(
         0 < calls.count,
         16 <= record::returns_left(r.held, g.returns),
     ) {
-        return Stop::At(5);
+        return Halt::At(Stop::TooManyCalls);
     }
-    Stop::None
+    Halt::None
 }

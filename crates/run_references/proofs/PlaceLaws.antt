@@ -15,6 +15,7 @@ use Rattle.language.specs.Meaning as M
 use Rattle.language.specs.Meaning.{Answer, Located, Place, located, narrow, placeOf, readAt}
 use Rattle.language.specs.References as R
 use Rattle.language.specs.References.{Reference, rightCount, sameDirection}
+use Rattle.language.specs.declared.stops.Stop.the-variants.{OutsideBounds}
 use Rattle.language.specs.Tree.{Name}
 use Rattle.language.specs.Value as L
 use Rattle.language.specs.Value.{longest}
@@ -56,7 +57,7 @@ module _ (n : ℕ) where
   of-narrow w a c = of-either (leb c longest) (Located.at (M.place n w a c)) (Located.stuck M.wrongLength) refl tt
 
   of-subscript : (a : Answer) (b : D.Bounds) (on : ℕ → Located) → ((k : ℕ) → Of (on k)) → Of (M.subscript a b on)
-  of-subscript (Answer.is v) b on h = of-either (inBounds b (v .number)) (on (fromFirst b (v .number))) (Located.stops 1) (h (fromFirst b (v .number))) tt
+  of-subscript (Answer.is v) b on h = of-either (inBounds b (v .number)) (on (fromFirst b (v .number))) (Located.stops OutsideBounds) (h (fromFirst b (v .number))) tt
   of-subscript (Answer.stops k) b on h = tt
   of-subscript (Answer.stuck s) b on h = tt
 

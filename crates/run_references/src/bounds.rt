@@ -1,8 +1,8 @@
 // Numbers as far as bounds go, and what a facility's record says of its words: its bounds are below 65,536.
 use image_sections::facilities::Facility;
+use image_sections::shapes;
 use value_operators::Value;
 use value_operators::numbers;
-use image_sections::shapes;
 ghost use mathlib.Core.Path.{_≡_};
 ghost use Prim.Native.Nat.{_≤_, min};
 ghost use Rattle.language.specs.Description.{wordCount, wordLength};

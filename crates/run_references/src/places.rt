@@ -3,25 +3,23 @@ use crate::bounds;
 use crate::worth::Outcome;
 use crate::worth::Stuck;
 use crate::worth::Worth;
-use value_operators::Value;
 use image_sections::facilities::ShortBounds;
 use image_sections::shapes;
+use language::stops::Stop;
 use store_geometry::bounds as geometry;
 use store_geometry::bounds::Bounds;
+use value_operators::Value;
 ghost use mathlib.Core.Bool.{cond};
 ghost use mathlib.Core.Path.{_≡_};
 ghost use Prim.Native.Nat.{ℕ};
 ghost use Rattle.language.specs.Description.{fromFirst, inBounds};
 ghost use Rattle.language.specs.Meaning as M;
-ghost use Rattle.language.specs.Stops.{outsideBounds};
+ghost use Rattle.language.specs.declared.stops.Stop.the-variants.{OutsideBounds};
 ghost use Rattle.value_limbs.specs.Limbs.{number};
 ghost use Rattle.image_sections.specs.Declarations.{shortMeant};
 ghost use Rattle.store_geometry.specs.Shapes.{boundsMeant};
 ghost use Rattle.run_references.specs.Places.{locatedMeant, onDistance};
 ghost use Rattle.run_references.specs.Worth.{answered};
-
-// A computed subscript outside its bounds.
-const OUTSIDE_BOUNDS: u8 = 1;
 
 // Facility, word, first bit from the left, number of bits.
 pub struct Place {
@@ -33,27 +31,27 @@ pub struct Place {
 
 pub enum Located {
     At(Place),
-    Stops(u8),
+    Stops(Stop),
     Stuck(Stuck),
 }
 
 // How far a subscript is from the first bound, or why it is nowhere.
 pub enum Distance {
     At(u16),
-    Stops(u8),
+    Stops(Stop),
     Stuck(Stuck),
 }
 
 // The distance of a number that a subscript has.
 fn distance_of(v: Value, b: ShortBounds) -> Distance
-    ensures { λ r. ⌜ ((on : ℕ → M.Located) → onDistance r on ≡ cond (inBounds (shortMeant b) (number (v .limbs))) (on (fromFirst (shortMeant b) (number (v .limbs)))) (M.Located.stops outsideBounds)) ⌝ }
+    ensures { λ r. ⌜ ((on : ℕ → M.Located) → onDistance r on ≡ cond (inBounds (shortMeant b) (number (v .limbs))) (on (fromFirst (shortMeant b) (number (v .limbs)))) (M.Located.stops OutsideBounds)) ⌝ }
 {
     let n = bounds::small(v) as u64;
     let x = shapes::bounds_of(b);
     if geometry::in_bounds(x, n) {
         return Distance::At(geometry::from_first(x, n) as u16);
     }
-    Distance::Stops(OUTSIDE_BOUNDS)
+    Distance::Stops(Stop::OutsideBounds)
 }
 
 // A subscript by what it is worth.

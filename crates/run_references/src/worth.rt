@@ -1,4 +1,5 @@
 // What an expression gives, and what an operator makes of its operands' worth.
+use language::stops::Stop;
 use value_operators::Made;
 use value_operators::Value;
 use value_operators::operators;
@@ -29,7 +30,7 @@ pub enum Stuck {
 
 pub enum Outcome {
     Is,
-    Stops(u8),
+    Stops(Stop),
     Stuck(Stuck),
 }
 
@@ -50,15 +51,15 @@ pub fn is(value: Value) -> Worth
 }
 
 // No value: a stop.
-pub fn stops(n: u8) -> Worth
-    ensures { λ r. ⌜ answered r ≡ M.Answer.stops n ⌝ }
+pub fn stops(s: Stop) -> Worth
+    ensures { λ r. ⌜ answered r ≡ M.Answer.stops s ⌝ }
 {
     let none = Value {
         limbs: [0u64; 4],
         length: 0,
     };
     Worth {
-        outcome: Outcome::Stops(n),
+        outcome: Outcome::Stops(s),
         value: none,
     }
 }

@@ -16,6 +16,7 @@ use Rattle.language.specs.Description.{Description, Facility, Node, constantVal
 use Rattle.language.specs.Encode.{expressionsSection, facilitiesSection, facilityRecord, facilitySize, little, nodeSize, stateSize, statesSection}
 use Rattle.language.specs.Image.{passes}
 use Rattle.language.specs.Layout.{facilityBytes, placeIn, storeSizeOf}
+use Rattle.language.specs.declared.refusals.Refusal.the-variants.{BadSequencing}
 use Rattle.language.specs.Rules.{boundsFaults, facilitiesFaults, facilityFaults, orElse, sequencingRight}
 use Rattle.language.specs.Step.{stateNumber}
 use Rattle.language.specs.Value.{longest}
@@ -44,7 +45,7 @@ module _ (d : Description) (n : ℕ) (another : Bool) (before : ℕ) (f : Facili
   register-short : isSequencing (f .kind) ≡ true → wordLength f ≤ 256
   unfolding facilityFaults sequencingRight longest
   register-short k =
-      let s : cond (isSequencing (f .kind)) (sequencingRight d noPlaces another f) true ≡ true = unless-none _ (facilityPlace noPlaces n .name) 9 (append-none-left _ _ e) in
+      let s : cond (isSequencing (f .kind)) (sequencingRight d noPlaces another f) true ≡ true = unless-none _ (facilityPlace noPlaces n .name) BadSequencing (append-none-left _ _ e) in
       leb-true (wordLength f) 256 (right-of (leb (f .dimensions) 1) _ (right-of (cond another false true) _ (rw k at s)))
 
 store-small : (d : Description) (n : ℕ) (another : Bool) (before : ℕ) (fs : List Facility) → facilitiesFaults d noPlaces n another before fs ≡ [] → before ≤ 16384 → before + storeSizeOf fs ≤ 16384

@@ -12,6 +12,8 @@ use Rattle.language.specs.Layout.{storeSizeOf}
 use Rattle.language.specs.Meaning.{noState}
 use Rattle.language.specs.Step as S
 use Rattle.language.specs.Step.{lastCycle, nothingDone}
+use Rattle.language.specs.declared.stops.Stop.{Stop}
+use Rattle.language.specs.declared.stops.Stop.the-variants.{LastCycleReached}
 use Rattle.language.specs.Store.{Held, Words, begin, fromBytes, inputsOf, numbers, toBytes}
 use Rattle.store_layout.proofs.Zeros.{Zeros}
 use Rattle.store_layout.specs.InBytes.{bytes}
@@ -30,7 +32,7 @@ use Rattle.run_alike.proofs.Joined.{actions-joined}
 use Rattle.run_end.specs.Stepped.{Clear, Landed, counted, nothingIn}
 
 module _ (d : Description) (s : Words) (r : S.Record) (ins : Words) where
-  pub step-last : 4294967295 ≤ r .cycle → S.stopped 7 ≡ counted (S.step d s r ins)
+  pub step-last : 4294967295 ≤ r .cycle → S.stopped LastCycleReached ≡ counted (S.step d s r ins)
   unfolding S.step lastCycle
   step-last h = rw (le-leb 4294967295 (r .cycle) h)
 
@@ -102,7 +104,7 @@ module _ (d : Description) (B P M I : List ℕ) (bytes-B : Bytes B) (bytes-P : B
           is = after (w .is);
         }
 
-    pub stopped-so : (n : ℕ) → Sees (G.Stopped n) → outcome ≡ S.stopped n
+    pub stopped-so : (n : Stop) → Sees (G.Stopped n) → outcome ≡ S.stopped n
     stopped-so n e = after (ended (G.Stopped n) e)
 
     pub stuck-so : (x : Stuck) → Sees (G.Stuck x) → outcome ≡ S.stuck (stuckMeant x)

@@ -7,6 +7,7 @@ use lib.ListN.{getD, length}
 use Rattle.language.specs.Acting as T
 use Rattle.language.specs.Description.{Description}
 use Rattle.language.specs.Meaning as M
+use Rattle.language.specs.declared.stops.Stop.{Stop}
 use Rattle.run_references.specs.Worth.{stuckMeant}
 use Rattle.run_references.specs.Described.{Describes}
 use Rattle.store_layout.specs.InBytes.{InBytes}
@@ -46,7 +47,7 @@ seen c = record {
 
 pub data Ran : Type 0 where
   went : View → Ran
-  stopped : ℕ → Ran
+  stopped : Stop → Ran
   stuck : M.Stuck → Ran
 
 abbrev pub ranSeen : T.Ran InBytes → Ran

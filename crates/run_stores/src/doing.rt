@@ -1,4 +1,5 @@
 // What a cycle has done so far, beside the store. Only what the next state asks for is kept.
+use language::stops::Stop;
 use run_references::worth::Stuck;
 ghost use mathlib.Core.Bool.{_||_};
 ghost use mathlib.Core.List.{List, [], _∷_, _++_};
@@ -26,7 +27,7 @@ pub struct Doing {
 
 pub enum Did {
     Went(Doing),
-    Stopped(u8),
+    Stopped(Stop),
     Stuck(Stuck),
 }
 

@@ -41,7 +41,7 @@ pub fn store_one(
         return Did::Stuck(Stuck::NotStorable);
     }
     let s = spots::spot_of(f, p);
-    if sign == text_kinds::DELAYED {
+    if sign == language::kinds::DELAYED {
         let hit = spots::marked(mask, s);
         spots::delay(pending, mask, s, v);
         return Did::Went(doing::delaying(g, hit, kinds::is_sequencing(kind)));
@@ -99,7 +99,7 @@ pub fn store_pair(
     }
     let s = spots::spot_of(f, p);
     let t = spots::spot_of(h, q);
-    if sign == text_kinds::DELAYED {
+    if sign == language::kinds::DELAYED {
         let hit = spots::marked(mask, s) | spots::marked(mask, t);
         spots::delay(pending, mask, s, high(v, q.count));
         spots::delay(pending, mask, t, low(v, q.count));

@@ -1,8 +1,8 @@
 // A part of a word, loaded as a value and saved from one. What lies outside its word or the slice is the value of no bits, and is not written.
 use crate::bits;
 use crate::bytes;
-use value_operators::Value;
 use store_geometry::shapes;
+use value_operators::Value;
 ghost use mathlib.Core.Path.{_≡_};
 ghost use Prim.Native.Nat.{_+_, _*_, _^_, _≤_, _<_};
 ghost use lib.ListN.{length as size};

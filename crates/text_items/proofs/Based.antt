@@ -15,6 +15,7 @@ use borrow.Rule.Slice.PartAt.{part-to-end}
 use borrow.Author.Tests.{eq-eqb, ne-eqb, le-leb, lt-leb, lt-ltb}
 use Rattle.language.specs.Characters.{digitWorth, folded}
 use Rattle.language.specs.Constants.{bareConstant, bareLargest, binaryConstant, decimalConstant, digitsNumber}
+use Rattle.language.specs.declared.refusals.Refusal.the-variants.{BadConstant}
 use Rattle.language.specs.Scan as L
 use Rattle.language.specs.Scan.{based, basedItem, bareAt, binaryAt, constantAt, decimalAt, digitBits, digitsOf, found, isDigitOf, span, written, wrong}
 use Rattle.language.specs.Value.{Value, fit, longest, made, none}
@@ -37,22 +38,22 @@ module _ (m : Made) (b : Bool) (n : ℕ) (s : List ℕ) where
   made-means v e = go (m .fits) (Meaning.valued (m .value)) e
     where
       go : (t : Bool) (x : Value) → cond t (made x) none ≡ made v
-          → found (itemOf (map folded (take n s)) (written b x) (cond t K.Constant (K.Wrong 5))) n ≡ found (L.constant (written b v)) n
+          → found (itemOf (map folded (take n s)) (written b x) (cond t K.Constant (K.Wrong BadConstant))) n ≡ found (L.constant (written b v)) n
       go true x e = cc
       go false x e = let z : _≡_ {A = ℕ} 0 1 = cc in absurd (omega arith)
 
-  pub none-means : Meaning.meant m ≡ none → meant s (madeItem m b n) ≡ found (wrong 5) n
+  pub none-means : Meaning.meant m ≡ none → meant s (madeItem m b n) ≡ found (wrong BadConstant) n
   none-means e = go (m .fits) (Meaning.valued (m .value)) e
     where
       go : (t : Bool) (x : Value) → cond t (made x) none ≡ none
-          → found (itemOf (map folded (take n s)) (written b x) (cond t K.Constant (K.Wrong 5))) n ≡ found (wrong 5) n
+          → found (itemOf (map folded (take n s)) (written b x) (cond t K.Constant (K.Wrong BadConstant))) n ≡ found (wrong BadConstant) n
       go true x e = let z : _≡_ {A = ℕ} 0 1 = cc in absurd (omega arith)
       go false x e = refl
 
 -- ---- A based constant, with a length of l.
 
 module _ (l start : ℕ) (ds : List ℕ) (s : List ℕ) where
-  pub no-digit : (c : Constant) → length ds ≡ 0 → meant s (plainItem (K.Wrong 5) (start + length ds)) ≡ based l ds c start
+  pub no-digit : (c : Constant) → length ds ≡ 0 → meant s (plainItem (K.Wrong BadConstant) (start + length ds)) ≡ based l ds c start
   no-digit c e = simp e
 
   pub based-fit : (m : Made) (v : Value) (n : ℕ) → 0 < length ds → Meaning.meant m ≡ fit l n → (allowed l ≡ true → fit l n ≡ made v)
@@ -60,11 +61,11 @@ module _ (l start : ℕ) (ds : List ℕ) (s : List ℕ) where
   unfolding allowed
   based-fit m v n h e f = go (allowed l) refl
     where
-      both : (a b : Bool) → cond a (cond b (L.constant (written false v)) (wrong 5)) (wrong 5) ≡ cond (cond a b false) (L.constant (written false v)) (wrong 5)
+      both : (a b : Bool) → cond a (cond b (L.constant (written false v)) (wrong BadConstant)) (wrong BadConstant) ≡ cond (cond a b false) (L.constant (written false v)) (wrong BadConstant)
       both true b = refl
       both false b = refl
 
-      item : basedItem l ds (written false v) ≡ cond (allowed l) (L.constant (written false v)) (wrong 5)
+      item : basedItem l ds (written false v) ≡ cond (allowed l) (L.constant (written false v)) (wrong BadConstant)
       item = simp (lt-ltb 0 (length ds) h) (both (ltb 0 l) (leb l longest))
 
       go : (a : Bool) → allowed l ≡ a → meant s (madeItem m false (start + length ds)) ≡ based l ds (written false v) start
@@ -102,10 +103,10 @@ module _ (l start k : ℕ) (t s d : List ℕ) (taken : Taken (2 ^ k) t d) where
   abbrev ds : List ℕ
   ds = digitsOf (2 ^ k) t
 
-  pub binary-none : (left : Bool) → length d ≡ 0 → meant s (plainItem (K.Wrong 5) (start + length d)) ≡ binaryFrom k left l start t
+  pub binary-none : (left : Bool) → length d ≡ 0 → meant s (plainItem (K.Wrong BadConstant) (start + length d)) ≡ binaryFrom k left l start t
   unfolding binaryFrom
   binary-none left h =
-      ap (λ (n : ℕ). meant s (plainItem (K.Wrong 5) (start + n))) (count (2 ^ k) t taken)
+      ap (λ (n : ℕ). meant s (plainItem (K.Wrong BadConstant) (start + n))) (count (2 ^ k) t taken)
       ∙ no-digit l start ds s (written false (binaryConstant k left l ds)) (sym (count (2 ^ k) t taken) ∙ h)
 
   left-made-here : (m : Made) (w : Written) → w ≡ eachDigit (binaryMore k true) (onRight 0 0) (map digitWorth d) → (length d ≡ 0 → ⊥)
@@ -150,10 +151,10 @@ pub decimal-held : (t : List ℕ) {d : List ℕ} → Taken 10 t d → (w : Held)
 decimal-held t taken w e = e ∙ ap (eachDigit decimalMore (holding 0)) (worth 10 t taken) ∙ decimal-all 0 (digitsOf 10 t)
 
 module _ (l n : ℕ) (t s d : List ℕ) (taken : Taken 10 t d) where
-  pub decimal-none : length d ≡ 0 → meant s (plainItem (K.Wrong 5) (n + 1 + length d)) ≡ decimalAt l n t
+  pub decimal-none : length d ≡ 0 → meant s (plainItem (K.Wrong BadConstant) (n + 1 + length d)) ≡ decimalAt l n t
   unfolding decimalAt
   decimal-none h =
-      ap (λ (i : ℕ). meant s (plainItem (K.Wrong 5) (n + 1 + i))) (count 10 t taken)
+      ap (λ (i : ℕ). meant s (plainItem (K.Wrong BadConstant) (n + 1 + i))) (count 10 t taken)
       ∙ no-digit l (n + 1) (digitsOf 10 t) s (written false (decimalConstant l (digitsOf 10 t))) (sym (count 10 t taken) ∙ h)
 
   pub decimal-here : (m : Made) (w : Held) → w ≡ eachDigit decimalMore (holding 0) (map digitWorth d) → (length d ≡ 0 → ⊥)
@@ -188,7 +189,7 @@ based-length : (l start : ℕ) (ds : List ℕ) (c : ℕ → Constant) → based 
 unfolding lengthOf longest
 based-length l start ds c = go (leb l 256) refl
   where
-    never : (x a : Bool) → _≡_ {A = L.Item} (cond x (wrong 5) (wrong 5)) (cond x (cond a (wrong 5) (wrong 5)) (wrong 5))
+    never : (x a : Bool) → _≡_ {A = L.Item} (cond x (wrong BadConstant) (wrong BadConstant)) (cond x (cond a (wrong BadConstant) (wrong BadConstant)) (wrong BadConstant))
     never true true = refl
     never true false = refl
     never false a = refl
@@ -245,7 +246,7 @@ module _ (s d : List ℕ) (taken : Taken 10 s d) (w : Held) (ew : w ≡ eachDigi
   number = digitsNumber 10 (digitsOf 10 s)
 
   abbrev bareItem : L.Item
-  bareItem = cond (leb number bareLargest) (L.constant (written true (bareConstant (digitsOf 10 s)))) (wrong 5)
+  bareItem = cond (leb number bareLargest) (L.constant (written true (bareConstant (digitsOf 10 s)))) (wrong BadConstant)
 
   held : w ≡ holding number
   held = decimal-held s taken w ew

@@ -9,6 +9,7 @@ use lib.ListN.{length, getD, drop, take, length-map}
 use lib.Seq.{length-take-le}
 use borrow.Author.Tests.{eq-eqb, ne-eqb, le-leb, lt-leb}
 use Rattle.language.specs.Characters.{classOf, folded}
+use Rattle.language.specs.declared.refusals.Refusal.the-variants.{BadCharacter, BadName}
 use Rattle.language.specs.Scan.{Found, commentAt, constantAt, found, gap, inComment, isNamePart, itemAt, longestName, nameAt, named, reservedKind, sign, span, symbolAt, wrong}
 use Rattle.text_characters.proofs.Counting.{span-le}
 use Rattle.text_items.specs.Meaning.{itemStart}
@@ -25,7 +26,7 @@ byClass c s =
     (cond (eqb c 4) (constantAt s)
     (cond (eqb c 1) (found gap 1)
     (cond (eqb c 2) (commentAt (drop 1 s))
-    (cond (eqb c 5) (symbolAt s) (found (wrong 2) 1)))))
+    (cond (eqb c 5) (symbolAt s) (found (wrong BadCharacter) 1)))))
 
 pub item-class : (s : List ℕ) (c : ℕ) → 0 < length s → c ≡ classOf (getD s 0 0) → byClass c s ≡ itemStart s
 unfolding itemStart itemAt
@@ -46,7 +47,7 @@ module _ (s : List ℕ) (n k : ℕ) (en : n ≡ span isNamePart s) (ek : k ≡ r
   unfolding nameAt longestName
   name-short h l = sym (simp (← en, ← ek, h, letters, le-leb _ _ l))
 
-  pub name-long : k ≡ 0 → 132 < n → found (wrong 4) n ≡ nameAt s
+  pub name-long : k ≡ 0 → 132 < n → found (wrong BadName) n ≡ nameAt s
   unfolding nameAt longestName
   name-long h l = sym (simp (← en, ← ek, h, letters, lt-leb _ _ l))
 

@@ -9,6 +9,7 @@ use lib.Dec.{eqb}
 use lib.ListN.{length, getD, take}
 use borrow.Author.Tests.{eqb-true}
 use Rattle.language.specs.Characters.{folded}
+use Rattle.language.specs.declared.refusals.Refusal.the-variants.{BadCharacter}
 use Rattle.language.specs.Scan.{bytes, found, reservedAmong, reservedKind, reservedWords, same, sign, span, spelledSymbols, symbolAmong, symbolAt, wrong}
 use Rattle.text_characters.proofs.Table.{allFrom, first, passed, second}
 use Rattle.text_items.specs.Tables.{beginsAlike, reservedFrom, reservedLetters, reservedRow, spellings, symbolKinds, symbolRow, symbolSize, symbolsFrom}
@@ -107,7 +108,7 @@ module _ (s : List ℕ) (row : ℕ) (left : SymbolsLeft s row) where
   unfolding symbolsFrom symbolAmong
   symbol-next h t = left ∙ rw (more h) (simp (test h ∙ t, add-one))
 
-  pub symbol-none : 28 ≤ row → found (wrong 2) 1 ≡ symbolAt s
+  pub symbol-none : 28 ≤ row → found (wrong BadCharacter) 1 ≡ symbolAt s
   unfolding symbolsFrom symbolAmong
   symbol-none h = sym (left ∙ rw none-left)
     where

@@ -4,6 +4,7 @@ use mathlib.Core.List.{List, [], _∷_, map}
 use Prim.Native.Nat.{ℕ}
 use lib.ListN.{take}
 use Rattle.language.specs.Characters.{folded}
+use Rattle.language.specs.declared.refusals.Refusal.the-variants.{BadConstant}
 use Rattle.language.specs.Scan as L
 use Rattle.language.specs.Scan.{Found, found, gap, itemAt, written}
 use Rattle.language.specs.Words.{Constant}
@@ -31,7 +32,7 @@ plainItem k n = record { kind = k; size = n; bare = false; value = blank }
 
 -- A constant, or what is wrong where no value was made.
 abbrev pub madeItem : Made → Bool → ℕ → Item
-madeItem m b n = record { kind = cond (m .fits) K.Constant (K.Wrong 5); size = n; bare = b; value = m .value }
+madeItem m b n = record { kind = cond (m .fits) K.Constant (K.Wrong BadConstant); size = n; bare = b; value = m .value }
 
 -- The item at the start of a text, and an empty gap where it ends.
 unfoldable pub itemStart : List ℕ → Found

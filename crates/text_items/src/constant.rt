@@ -4,6 +4,7 @@ use crate::Kind;
 use crate::digits;
 use crate::made;
 use crate::plain;
+use language::refusals::Refusal;
 use text_characters::letters;
 use text_characters::parts;
 use value_constants::Decimal;
@@ -53,7 +54,7 @@ fn binary_from(text: &[u8], start: usize, k: u16, l: u16, left: bool) -> Item
     let ds = digits::digits_at(&text[start..], 1 << k);
     let size = start + ds.len();
     if ds.len() == 0 {
-        return plain(Kind::Wrong(5), size);
+        return plain(Kind::Wrong(Refusal::BadConstant), size);
     }
     let x = digits::binary(ds, k, left);
     if left {
@@ -84,7 +85,7 @@ fn decimal_at(text: &[u8], n: usize, l: u16) -> Item
     let ds = digits::digits_at(&text[start..], 10);
     let size = start + ds.len();
     if ds.len() == 0 {
-        return plain(Kind::Wrong(5), size);
+        return plain(Kind::Wrong(Refusal::BadConstant), size);
     }
     made(
         value_constants::decimal_constant(digits::decimal(ds), l),

@@ -5,6 +5,7 @@ use crate::constant;
 use crate::plain;
 use crate::reserved;
 use crate::symbols;
+use language::refusals::Refusal;
 use text_characters::classes;
 use text_characters::parts;
 use text_characters::runs;
@@ -28,7 +29,7 @@ fn name(text: &[u8]) -> Item
     if size <= LONGEST_NAME {
         plain(Kind::Name, size)
     } else {
-        plain(Kind::Wrong(4), size)
+        plain(Kind::Wrong(Refusal::BadName), size)
     }
 }
 
@@ -68,5 +69,5 @@ pub fn item_at(text: &[u8]) -> Item
     if class == classes::SYMBOL {
         return symbols::symbol(text);
     }
-    plain(Kind::Wrong(2), 1)
+    plain(Kind::Wrong(Refusal::BadCharacter), 1)
 }

@@ -1,4 +1,5 @@
 // The item at the start of a text (the manual, 2.1 to 2.4): blanks, a comment, a name, a constant or a symbol.
+use language::refusals::Refusal;
 use value_operators::Made;
 use value_operators::Value;
 use value_operators::fitting;
@@ -11,13 +12,13 @@ pub mod items;
 pub mod reserved;
 pub mod symbols;
 
-// What an item is: a gap is blanks or a comment, a sign a symbol or a reserved word by its kind, and what is wrong has its refusal's number.
+// What an item is: a gap is blanks or a comment, a sign a symbol or a reserved word by its kind, and what is wrong has its refusal.
 pub enum Kind {
     Gap,
     Name,
     Constant,
     Sign(u8),
-    Wrong(u8),
+    Wrong(Refusal),
 }
 
 // An item, how many bytes it takes, and for a constant its value and whether it was written without a length.
@@ -56,7 +57,7 @@ pub fn made(m: Made, bare: bool, size: usize) -> Item
         };
     }
     Item {
-        kind: Kind::Wrong(5),
+        kind: Kind::Wrong(Refusal::BadConstant),
         size,
         bare,
         value,

@@ -14,7 +14,7 @@ ghost use Rattle.text_items.specs.Tables.{beginsAlike, reservedLetters, 
 const COUNT: u8 = 23;
 
 // The kind of the first, the others' following it.
-const FIRST: u8 = text_kinds::CASE;
+const FIRST: u8 = language::kinds::CASE;
 
 // Each word in ten columns.
 const WORDS: [u8; 230] = *b"\

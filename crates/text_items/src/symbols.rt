@@ -2,6 +2,7 @@
 use crate::Item;
 use crate::Kind;
 use crate::plain;
+use language::refusals::Refusal;
 use text_characters::names;
 use text_characters::parts;
 ghost use mathlib.Core.List.{map};
@@ -23,34 +24,34 @@ const SPELLINGS: [u8; 84] = *b"\
 
 // The kind of each.
 const KINDS: [u8; 28] = [
-    text_kinds::EXCLUSIVE,
-    text_kinds::SUM,
-    text_kinds::DIFFERENCE,
-    text_kinds::EQUALS,
-    text_kinds::AT_LEAST,
-    text_kinds::AT_MOST,
-    text_kinds::GOTO,
-    text_kinds::CALL,
-    text_kinds::DELAYED,
-    text_kinds::DELAYED,
-    text_kinds::HASH,
-    text_kinds::DOLLAR,
-    text_kinds::OPEN_PAREN,
-    text_kinds::CLOSE_PAREN,
-    text_kinds::STAR,
-    text_kinds::PLUS,
-    text_kinds::COMMA,
-    text_kinds::MINUS,
-    text_kinds::PERIOD,
-    text_kinds::SLASH,
-    text_kinds::COLON,
-    text_kinds::SEMICOLON,
-    text_kinds::LESS,
-    text_kinds::EQUAL,
-    text_kinds::GREATER,
-    text_kinds::AT,
-    text_kinds::OPEN_BRACKET,
-    text_kinds::CLOSE_BRACKET,
+    language::kinds::EXCLUSIVE,
+    language::kinds::SUM,
+    language::kinds::DIFFERENCE,
+    language::kinds::EQUALS,
+    language::kinds::AT_LEAST,
+    language::kinds::AT_MOST,
+    language::kinds::GOTO,
+    language::kinds::CALL,
+    language::kinds::DELAYED,
+    language::kinds::DELAYED,
+    language::kinds::HASH,
+    language::kinds::DOLLAR,
+    language::kinds::OPEN_PAREN,
+    language::kinds::CLOSE_PAREN,
+    language::kinds::STAR,
+    language::kinds::PLUS,
+    language::kinds::COMMA,
+    language::kinds::MINUS,
+    language::kinds::PERIOD,
+    language::kinds::SLASH,
+    language::kinds::COLON,
+    language::kinds::SEMICOLON,
+    language::kinds::LESS,
+    language::kinds::EQUAL,
+    language::kinds::GREATER,
+    language::kinds::AT,
+    language::kinds::OPEN_BRACKET,
+    language::kinds::CLOSE_BRACKET,
 ];
 
 // How many bytes the symbol of a row has.
@@ -84,5 +85,5 @@ pub fn symbol(text: &[u8]) -> Item
         }
         row += 1;
     }
-    plain(Kind::Wrong(2), 1)
+    plain(Kind::Wrong(Refusal::BadCharacter), 1)
 }

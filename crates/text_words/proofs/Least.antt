@@ -8,27 +8,27 @@ use Prim.Native.Nat.{ℕ, suc, _<_, _≤_}
 use native.Mathlib.Omega.{arith}
 use lib.Dec.{eqb, ltb}
 use borrow.Author.Tests.{eqb-true, eqb-false, ltb-true, ltb-false}
-use Rattle.language.specs.Words.{Fault}
+use Rattle.language.specs.Words.{Fault, faultNumber}
 use Rattle.language.specs.WordStage.{before, least, smaller}
 use Rattle.text_words.specs.Meaning.{lesser}
 
 -- ---- The order of faults.
 
 Earlier : Fault → Fault → Type 0
-Earlier a b = (a .at .place < b .at .place) ⊎ ((a .at .place ≡ b .at .place) × (a .number < b .number))
+Earlier a b = (a .at .place < b .at .place) ⊎ ((a .at .place ≡ b .at .place) × (faultNumber a < faultNumber b))
 
 Later : Fault → Fault → Type 0
-Later a b = (b .at .place ≤ a .at .place) × (a .at .place ≡ b .at .place → b .number ≤ a .number)
+Later a b = (b .at .place ≤ a .at .place) × (a .at .place ≡ b .at .place → faultNumber b ≤ faultNumber a)
 
 module _ (a b : Fault) where
   abbrev ByTests : Bool → Type 0 → Type 0
   ByTests t A =
-      (x y z : Bool) → ltb (a .at .place) (b .at .place) ≡ x → eqb (a .at .place) (b .at .place) ≡ y → ltb (a .number) (b .number) ≡ z
+      (x y z : Bool) → ltb (a .at .place) (b .at .place) ≡ x → eqb (a .at .place) (b .at .place) ≡ y → ltb (faultNumber a) (faultNumber b) ≡ z
       → (x || (y && z)) ≡ t → A
 
   by-tests : {A : Type 0} (t : Bool) → ByTests t A → before a b ≡ t → A
   unfolding before
-  by-tests t f e = f (ltb (a .at .place) (b .at .place)) (eqb (a .at .place) (b .at .place)) (ltb (a .number) (b .number)) refl refl refl e
+  by-tests t f e = f (ltb (a .at .place) (b .at .place)) (eqb (a .at .place) (b .at .place)) (ltb (faultNumber a) (faultNumber b)) refl refl refl e
 
   earlier : before a b ≡ true → Earlier a b
   unfolding Earlier
@@ -53,7 +53,7 @@ module _ (a b : Fault) where
   not-both : Earlier a b → Later a b → ⊥
   unfolding Earlier Later
   not-both (inl h) l = omega arith
-  not-both (inr h) l = let k : b .number ≤ a .number = l .1 (h .0) in omega arith
+  not-both (inr h) l = let k : faultNumber b ≤ faultNumber a = l .1 (h .0) in omega arith
 
   is-earlier : Earlier a b → before a b ≡ true
   is-earlier h = go (before a b) refl
@@ -82,8 +82,8 @@ module _ (a b c : Fault) where
   later-trans h k = (
     omega arith,
     λ e.
-        let x : b .number ≤ a .number = h .1 (omega arith) in
-        let y : c .number ≤ b .number = k .1 (omega arith) in
+        let x : faultNumber b ≤ faultNumber a = h .1 (omega arith) in
+        let y : faultNumber c ≤ faultNumber b = k .1 (omega arith) in
         omega arith,
   )
 

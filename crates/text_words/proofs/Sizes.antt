@@ -12,6 +12,7 @@ use lib.Seq.{length-take-le}
 use borrow.Author.Tests.{eqb-true, leb-true, lt-ltb, ltb-true}
 use Rattle.language.specs.Characters.{classOf, digitClass, digitWorth, folded, isBlank, isDigit, isLetter, letterClass, member, quote, symbols}
 use Rattle.language.specs.Constants.{digitsNumber}
+use Rattle.language.specs.declared.refusals.Refusal.the-variants.{BadCharacter}
 use Rattle.language.specs.Scan.{Found, Item, Spelled, bareAt, binaryAt, bytes, commentAt, constantAt, decimalAt, digitBits, digitsOf, found, gap, inComment, isDecimalBase, isDigitOf, isNamePart, itemAt, nameAt, same, span, spelledSymbols, symbolAmong, wrong}
 use Rattle.text_characters.proofs.ByClass.{letter-part}
 use Rattle.text_characters.proofs.Counting.{span-le}
@@ -163,7 +164,7 @@ item-sized b t =
     (λ e. cond-sized (eqb (classOf b) 4) (λ e. constant-sized (b ∷ t) (digits-some b t (eqb-true _ _ e)))
     (λ e. cond-sized (eqb (classOf b) 1) (λ e. one-sized gap)
     (λ e. cond-sized (eqb (classOf b) 2) (λ e. comment-sized t)
-    (λ e. cond-sized (eqb (classOf b) 5) (λ e. among-sized spelledSymbols (b ∷ t) all-spelled (omega arith)) (λ e. one-sized (wrong 2))))))
+    (λ e. cond-sized (eqb (classOf b) 5) (λ e. among-sized spelledSymbols (b ∷ t) all-spelled (omega arith)) (λ e. one-sized (wrong BadCharacter))))))
   where
     one-sized : (i : Item) → Sized (suc (length t)) (found i 1)
     one-sized i = record { some = omega arith; within = omega arith }

@@ -10,6 +10,7 @@ use lib.ListN.{length, getD, drop, drop-of-length-le}
 use lib.Seq.{drop-cons, getD-drop}
 use borrow.Author.Tests.{le-leb, le-ltb, lt-ltb}
 use Rattle.language.specs.Lines.{longLines, longestLine, passes, widthAfter}
+use Rattle.language.specs.declared.refusals.Refusal.the-variants.{BadCharacter}
 use Rattle.language.specs.Words.{Fault, fault, position}
 use Rattle.language.specs.WordStage.{least}
 use Rattle.text_words.proofs.Least.{From, first-least, from-less}
@@ -24,8 +25,8 @@ lines-from w at (b ∷ t) = go (passes w v) (lines-from v (suc at) t)
     v = widthAfter w b t
 
     go : (p : Bool) → From (suc at) (least (longLines v (suc at) t))
-        → From at (least (cond p (fault (position at) 2 ∷ longLines v (suc at) t) (longLines v (suc at) t)))
-    go true h = subst (From at) (sym (first-least (fault (position at) 2) (longLines v (suc at) t) h)) (omega arith)
+        → From at (least (cond p (fault (position at) BadCharacter ∷ longLines v (suc at) t) (longLines v (suc at) t)))
+    go true h = subst (From at) (sym (first-least (fault (position at) BadCharacter) (longLines v (suc at) t) h)) (omega arith)
     go false h = from-less at (suc at) (least (longLines v (suc at) t)) (omega arith) h
 
 pub lines-end : (w at : ℕ) (text : List ℕ) → length text ≤ at → none ≡ least (longLines w at (drop at text))
@@ -40,16 +41,16 @@ module _ (text : List ℕ) (w at v : ℕ) (h : at < length text) (hw : w ≤ 132
   unfolding widthAfter
   width = simp (getD-drop (suc at) text 0 0 ∙ ap (λ (i : ℕ). getD text i 0) {x = suc at + 0} {y = at + 1} (omega arith)) (sym e)
 
-  line-step : longLines w at (drop at text) ≡ cond (passes w v) (fault (position at) 2 ∷ rest) rest
+  line-step : longLines w at (drop at text) ≡ cond (passes w v) (fault (position at) BadCharacter ∷ rest) rest
   unfolding longLines
   line-step = rw (drop-cons text at 0 h) (simp width)
 
-  pub line-long : 132 < v → some (fault (position at) 2) ≡ least (longLines w at (drop at text))
+  pub line-long : 132 < v → some (fault (position at) BadCharacter) ≡ least (longLines w at (drop at text))
   unfolding passes longestLine
   line-long l =
       sym
       (ap least (line-step ∙ simp (le-leb w 132 hw, lt-ltb 132 v l))
-      ∙ first-least (fault (position at) 2) rest (lines-from v (suc at) (drop (suc at) text)))
+      ∙ first-least (fault (position at) BadCharacter) rest (lines-from v (suc at) (drop (suc at) text)))
 
   pub line-next : v ≤ 132 → least (longLines w at (drop at text)) ≡ least (longLines v (at + 1) (drop (at + 1) text))
   unfolding passes longestLine

@@ -8,6 +8,8 @@ use lib.Dec.{ltb}
 use lib.ListN.{drop, length, take}
 use Rattle.language.specs.Characters.{folded}
 use Rattle.language.specs.Reading.{longestText}
+use Rattle.language.specs.declared.refusals.Refusal.{Refusal}
+use Rattle.language.specs.declared.refusals.Refusal.the-variants.{TextTooLong}
 use Rattle.language.specs.Scan.{written}
 use Rattle.language.specs.Words as L
 use Rattle.language.specs.Words.{fault, position}
@@ -55,7 +57,7 @@ wordKind I.Gap = K.End
 wordKind I.Name = K.Name
 wordKind I.Constant = K.Constant
 wordKind (I.Sign k) = K.Sign k
-wordKind (I.Wrong n) = K.End
+wordKind (I.Wrong r) = K.End
 
 abbrev pub wordItem : Item → ℕ → Word
 wordItem i p = record { kind = wordKind (i .kind); at = record { place = p }; size = i .size; bare = i .bare; value = i .value }
@@ -73,25 +75,25 @@ pub record Next (text : List ℕ) (from : ℕ) (w : Word) : Type 0 where
 -- ---- Faults.
 
 abbrev pub faulted : Fault → L.Fault
-faulted f = fault (positioned (f .at)) (f .number)
+faulted f = fault (positioned (f .at)) (f .refusal)
 
 abbrev pub judged : Judged → Option L.Fault
 judged Passed = none
 judged (Refused f) = some (faulted f)
 
-abbrev pub refusedAt : ℕ → ℕ → Option L.Fault
-refusedAt p n = some (fault (position p) n)
+abbrev pub refusedAt : ℕ → Refusal → Option L.Fault
+refusedAt p r = some (fault (position p) r)
 
 abbrev pub kindFault : S.Kind → ℕ → Option L.Fault
 kindFault I.Gap p = none
 kindFault I.Name p = none
 kindFault I.Constant p = none
 kindFault (I.Sign k) p = none
-kindFault (I.Wrong n) p = refusedAt p n
+kindFault (I.Wrong r) p = refusedAt p r
 
 -- The length of a text answers first, then its words.
 abbrev pub firstFault : List ℕ → Option L.Fault
-firstFault text = cond (ltb longestText (length text)) (refusedAt 0 1) (wordFault text)
+firstFault text = cond (ltb longestText (length text)) (refusedAt 0 TextTooLong) (wordFault text)
 
 -- The smaller of two faults, where there are.
 abbrev pub lesser : Option L.Fault → Option L.Fault → Option L.Fault

@@ -2,16 +2,18 @@
 use crate::Fault;
 use crate::Judged;
 use crate::places;
+use language::refusals;
+use language::refusals::Refusal;
 ghost use mathlib.Core.Path.{_≡_};
 ghost use Rattle.language.specs.WordStage as L;
 ghost use Rattle.text_words.specs.Meaning.{faulted, judged, lesser, refusedAt};
 
 // A refusal at a place.
-pub fn refused(place: usize, number: u8) -> Judged
-    ensures { λ r. ⌜ judged r ≡ refusedAt place number ⌝ }
+pub fn refused(place: usize, refusal: Refusal) -> Judged
+    ensures { λ r. ⌜ judged r ≡ refusedAt place refusal ⌝ }
 {
     let at = places::position(place);
-    Judged::Refused(Fault { at, number })
+    Judged::Refused(Fault { at, refusal })
 }
 
 // Whether one fault answers before another.
@@ -24,7 +26,9 @@ pub fn before(a: Fault, b: Fault) -> bool
         return true;
     }
     if p == q {
-        return a.number < b.number;
+        let one = a.refusal;
+        let other = b.refusal;
+        return refusals::refusal_number(one) < refusals::refusal_number(other);
     }
     false
 }

@@ -1,4 +1,5 @@
 // From bytes to words (01, "Words" and "Refusal numbers"): the next word from a place on, and the stage that judges a whole text.
+use language::refusals::Refusal;
 use value_operators::Value;
 
 pub mod faults;
@@ -29,10 +30,10 @@ pub struct Word {
     pub value: Value,
 }
 
-// What is at fault, by its refusal's number.
+// What is at fault, and how.
 pub struct Fault {
     pub at: Position,
-    pub number: u8,
+    pub refusal: Refusal,
 }
 
 // What comes of judging.

@@ -1,6 +1,7 @@
 // Lines and columns (01, "Words" and refusal 2).
 use crate::Judged;
 use crate::faults;
+use language::refusals::Refusal;
 use text_characters::parts;
 ghost use mathlib.Core.List.{[], _∷_};
 ghost use mathlib.Core.Path.{_≡_};
@@ -37,7 +38,7 @@ pub fn first_long(text: &[u8]) -> Judged
     while at < text.len() {
         width = width_after(width, text[at], parts::byte(text, at + 1));
         if LONGEST_LINE < width {
-            return faults::refused(at, 2);
+            return faults::refused(at, Refusal::BadCharacter);
         }
         at += 1;
     }

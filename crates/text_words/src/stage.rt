@@ -2,6 +2,7 @@
 use crate::Judged;
 use crate::faults;
 use crate::lines;
+use language::refusals::Refusal;
 use text_items::Kind;
 use text_items::items;
 ghost use mathlib.Core.Path.{_≡_};
@@ -29,7 +30,7 @@ fn fault_of(kind: Kind, place: usize) -> Judged
         Kind::Name => Judged::Passed,
         Kind::Constant => Judged::Passed,
         Kind::Sign(_) => Judged::Passed,
-        Kind::Wrong(number) => faults::refused(place, number),
+        Kind::Wrong(refusal) => faults::refused(place, refusal),
     }
 }
 
@@ -62,7 +63,7 @@ pub fn first_fault(text: &[u8]) -> Judged
     ensures { λ r. ⌜ judged r ≡ firstFault (now (text .entry)) ⌝ }
 {
     if too_long(text) {
-        return faults::refused(0, 1);
+        return faults::refused(0, Refusal::TextTooLong);
     }
     word_fault(text)
 }

@@ -9,11 +9,15 @@ use Rattle.language.specs.Calls.{CycleCall}
 use Rattle.language.specs.Decode.{decode, numberAt}
 use Rattle.language.specs.Description.{Description}
 use Rattle.language.specs.RecordBytes.{recordFrom}
+use Rattle.language.specs.Refusals.{refusalNumber}
 use Rattle.language.specs.Scan.{bytes}
+use Rattle.language.specs.Stops.{stopNumber}
 use Rattle.language.specs.Trace.{afterCall, cycleLine, decimal, lineEnd, refusedLine, stopLine}
 use Rattle.call_answers.specs.Cycle.{call}
 use Rattle.call_answers.specs.declared.cycled.Answer.{Answer}
 use Rattle.call_answers.specs.declared.cycled.Answer.the-variants as A
+use Rattle.language.specs.declared.refusals.Refusal.{Refusal}
+use Rattle.language.specs.declared.stops.Stop.{Stop}
 use Rattle.trace_output.proofs.AddsLaws.{adds-as}
 use Rattle.trace_output.proofs.LineRoom.{cycle-short, decimal-short}
 use Rattle.trace_output.specs.Adds.{Adds}
@@ -25,13 +29,13 @@ numbered-short : (word : List ℕ) (n : ℕ) → length (word ++ (decimal n ++ l
 numbered-short word n = omega (arith, length-append word (decimal n ++ lineEnd), length-append (decimal n) lineEnd, decimal-short 20 n [])
 
 module _ (d : Description) (state : ℕ) where
-  short-stop : (n : ℕ) → length (stopLine n) ≤ turnRoom d state
+  short-stop : (n : Stop) → length (stopLine n) ≤ turnRoom d state
   unfolding turnRoom bytes
-  short-stop n = omega (arith, numbered-short (bytes "stop ") n)
+  short-stop n = omega (arith, numbered-short (bytes "stop ") (stopNumber n))
 
-  pub short-refused : (n : ℕ) → length (refusedLine n) ≤ turnRoom d state
+  pub short-refused : (n : Refusal) → length (refusedLine n) ≤ turnRoom d state
   unfolding turnRoom bytes
-  short-refused n = omega (arith, numbered-short (bytes "refused ") n)
+  short-refused n = omega (arith, numbered-short (bytes "refused ") (refusalNumber n))
 
   short-cycle : (number : ℕ) (B : List ℕ) → length (cycleLine d number state B) ≤ turnRoom d state
   unfolding turnRoom
@@ -52,7 +56,7 @@ module _ {image : List ℕ} {number : ℕ} {R : List ℕ} {c : CycleCall} {S′ 
     same = λ rest. ap (after image number R rest) (sym is ∙ ap (λ (b : Answer). call b S′ R′ scratch) e);
   }
 
-  pub carried-stop : (n : ℕ) → a ≡ A.Stopped n → Adds (stopLine n) B at C end → Carried image number R c false S′ R′ B at C end
+  pub carried-stop : (n : Stop) → a ≡ A.Stopped n → Adds (stopLine n) B at C end → Carried image number R c false S′ R′ B at C end
   carried-stop n e x = record {
     text = stopLine n;
     adds = x;
@@ -60,7 +64,7 @@ module _ {image : List ℕ} {number : ℕ} {R : List ℕ} {c : CycleCall} {S′ 
     same = λ rest. ap (after image number R rest) (sym is ∙ ap (λ (b : Answer). call b S′ R′ scratch) e) ∙ sym (append-nil (stopLine n));
   }
 
-  pub carried-refused : (n : ℕ) → a ≡ A.Refused n → Adds (refusedLine n) B at C end → Carried image number R c false S′ R′ B at C end
+  pub carried-refused : (n : Refusal) → a ≡ A.Refused n → Adds (refusedLine n) B at C end → Carried image number R c false S′ R′ B at C end
   carried-refused n e x = record {
     text = refusedLine n;
     adds = x;

@@ -2,6 +2,9 @@
 use call_answers::cycled::Answer;
 use image_lookups::named;
 use image_sections::sections;
+use language::refusals::Refusal;
+use language::refusals::refusal_number;
+use language::stops::stop_number;
 use trace_output::line;
 ghost use mathlib.Core.Bool.{false, true};
 ghost use mathlib.Core.List.{List};
@@ -13,6 +16,7 @@ ghost use Rattle.language.specs.Decode.{decode, numberAt};
 ghost use Rattle.language.specs.Image.{passes};
 ghost use Rattle.language.specs.Layout.{storeSize};
 ghost use Rattle.language.specs.Trace.{cycleLine, refusedLine};
+ghost use Rattle.language.specs.declared.refusals.Refusal.the-variants.{BadStimulus};
 ghost use Rattle.call_answers.specs.Cycle.{call};
 ghost use Rattle.trace_output.specs.Adds.{Adds};
 ghost use Rattle.trace_line.specs.Turns.{Carried};
@@ -54,21 +58,26 @@ pub fn told(
         },
         Answer::Stopped(n) => Turn {
             on: false,
-            end: line::numbered(out, at, b"stop ", n as u64),
+            end: line::numbered(out, at, b"stop ", stop_number(n) as u64),
         },
         Answer::Refused(n) => Turn {
             on: false,
-            end: line::numbered(out, at, b"refused ", n as u64),
+            end: line::numbered(out, at, b"refused ", refusal_number(n) as u64),
         },
     }
 }
 
 // A line that is no stimulus is refused as 15.
 pub fn not_taken(out: &mut [u8], at: usize) -> Turn
-    ensures { λ r. ⌜ (r .on ≡ false) × Adds (refusedLine 15) (now (out .entry)) at (now (out .exit)) (r .end) ⌝ }
+    ensures { λ r. ⌜ (r .on ≡ false) × Adds (refusedLine BadStimulus) (now (out .entry)) at (now (out .exit)) (r .end) ⌝ }
 {
     Turn {
         on: false,
-        end: line::numbered(out, at, b"refused ", 15),
+        end: line::numbered(
+            out,
+            at,
+            b"refused ",
+            refusal_number(Refusal::BadStimulus) as u64,
+        ),
     }
 }

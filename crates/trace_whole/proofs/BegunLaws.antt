@@ -17,6 +17,9 @@ use Rattle.language.specs.Layout.{storeSize}
 use Rattle.language.specs.Reading as R
 use Rattle.language.specs.Reading.{Read, ReadCall, filled, legal, readCall, readRefused, readText, refusedAt, withRoom, zeroes}
 use Rattle.language.specs.RecordBytes.{recordSize}
+use Rattle.language.specs.Refusals.{refusalNumber}
+use Rattle.language.specs.declared.refusals.Refusal.{Refusal}
+use Rattle.language.specs.declared.refusals.Refusal.the-variants.{BufferTooShort}
 use Rattle.language.specs.Scan.{bytes}
 use Rattle.language.specs.Trace.{afterRead, decimal, lineEnd, runLines, trace, traceImage}
 use Rattle.about_passing.specs.PassesExactly.{reads-pass}
@@ -45,7 +48,7 @@ unfolding R.read filled
 found text I a n room q e = go (readText text) refl (ap (λ (b : Answer). called b I) (sym q) ∙ e)
   where
     fill : (d : Description) → readText text ≡ legal d → (b : Bool) → leb (length (encode d)) room ≡ b
-        → called (A.Accepted n) I ≡ cond b (record { answer = R.accepted (length (encode d)); image = encode d ++ zeroes (room - length (encode d)) }) (readRefused room 12 0) → Found text n I
+        → called (A.Accepted n) I ≡ cond b (record { answer = R.accepted (length (encode d)); image = encode d ++ zeroes (room - length (encode d)) }) (readRefused room BufferTooShort 0) → Found text n I
     fill d t true l f =
         let a : R.accepted n ≡ R.accepted (length (encode d)) = ap (λ (c : ReadCall). c .answer) f in
         let k : n ≡ length (encode d) = cc in
@@ -56,11 +59,11 @@ found text I a n room q e = go (readText text) refl (ap (λ (b : Answer). called
           image = ap (λ (m : ℕ). take m I) k ∙ (ap (take (length (encode d))) i ∙ take-append-seam (encode d) (zeroes (room - length (encode d))));
           inside = omega (arith, k, ap length i, length-append (encode d) (zeroes (room - length (encode d))));
         }
-    fill d t false l f = let a : R.accepted n ≡ R.refusedFor 12 0 = ap (λ (c : ReadCall). c .answer) f in absurd (let z : _≡_ {A = ℕ} 0 1 = cc in omega arith)
+    fill d t false l f = let a : R.accepted n ≡ R.refusedFor BufferTooShort 0 = ap (λ (c : ReadCall). c .answer) f in absurd (let z : _≡_ {A = ℕ} 0 1 = cc in omega arith)
 
     go : (x : Read) → readText text ≡ x → called (A.Accepted n) I ≡ readCall room x → Found text n I
     go (legal d) t f = fill d t (leb (length (encode d)) room) refl f
-    go (refusedAt g) t f = let a : R.accepted n ≡ R.refusedFor (g .number) (g .at .place) = ap (λ (c : ReadCall). c .answer) f in absurd (let z : _≡_ {A = ℕ} 0 1 = cc in omega arith)
+    go (refusedAt g) t f = let a : R.accepted n ≡ R.refusedFor (g .refusal) (g .at .place) = ap (λ (c : ReadCall). c .answer) f in absurd (let z : _≡_ {A = ℕ} 0 1 = cc in omega arith)
 
 pub found-passes : {text : List ℕ} {n : ℕ} {I : List ℕ} → Found text n I → passes (take n I) ≡ true
 found-passes {text} {n} {I} f =
@@ -109,11 +112,11 @@ unfolding bytes
 refused-short n place =
     omega (arith, length-append (bytes "refused ") (decimal n ++ (bytes " " ++ (decimal place ++ lineEnd))), length-append (decimal n) (bytes " " ++ (decimal place ++ lineEnd)), length-append (bytes " ") (decimal place ++ lineEnd), length-append (decimal place) lineEnd, decimal-short 20 n [], decimal-short 20 place [])
 
-pub refuses : (text I : List ℕ) (a : Answer) (n place room : ℕ) {B C : List ℕ} {end : ℕ} → a ≡ A.Refused n place → called a I ≡ R.read text room → Adds (refusedText n place) B 0 C end
+pub refuses : (text I : List ℕ) (a : Answer) (n : Refusal) (place room : ℕ) {B C : List ℕ} {end : ℕ} → a ≡ A.Refused n place → called a I ≡ R.read text room → Adds (refusedText (refusalNumber n) place) B 0 C end
     → ((d : Description) → readText text ≡ legal d → length (encode d) ≤ room) → Refuses text B C end
 unfolding R.read filled trace
 refuses text I a n place room {B} {C} {end} q e x h =
-    record { out = refusedText n place; adds = x; short = refused-short n place; same = λ lines. go lines (readText text) refl (ap (λ (b : Answer). called b I) (sym q) ∙ e) }
+    record { out = refusedText (refusalNumber n) place; adds = x; short = refused-short (refusalNumber n) place; same = λ lines. go lines (readText text) refl (ap (λ (b : Answer). called b I) (sym q) ∙ e) }
   where
     no-room : (d : Description) → readText text ≡ legal d → called (A.Refused n place) I ≡ withRoom room (encode d) → ⊥
     no-room d t f =
@@ -121,10 +124,10 @@ refuses text I a n place room {B} {C} {end} q e x h =
         let a : R.refusedFor n place ≡ R.accepted (length (encode d)) = ap (λ (c : ReadCall). c .answer) g in
         let z : _≡_ {A = ℕ} 0 1 = cc in omega arith
 
-    go : (lines : List (List ℕ)) (y : Read) → readText text ≡ y → called (A.Refused n place) I ≡ readCall room y → afterRead lines y ≡ refusedText n place
+    go : (lines : List (List ℕ)) (y : Read) → readText text ≡ y → called (A.Refused n place) I ≡ readCall room y → afterRead lines y ≡ refusedText (refusalNumber n) place
     go lines (legal d) t f = absurd (no-room d t f)
     go lines (refusedAt g) t f =
-        let a : R.refusedFor n place ≡ R.refusedFor (g .number) (g .at .place) = ap (λ (c : ReadCall). c .answer) f in
-        let m : g .number ≡ n = cc in
+        let a : R.refusedFor n place ≡ R.refusedFor (g .refusal) (g .at .place) = ap (λ (c : ReadCall). c .answer) f in
+        let m : g .refusal ≡ n = cc in
         let p : g .at .place ≡ place = cc in
         rw (m, p) refl

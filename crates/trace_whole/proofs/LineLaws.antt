@@ -14,6 +14,7 @@ use Rattle.language.specs.Description.{Description, Facility}
 use Rattle.language.specs.Image.{passes}
 use Rattle.language.specs.Layout.{facilityBytes, storeSize, storeSizeOf}
 use Rattle.language.specs.RecordBytes.{recordFrom}
+use Rattle.language.specs.declared.refusals.Refusal.the-variants.{BadStimulus}
 use Rattle.language.specs.Store.{Words, inputsOf, isInput, toBytes}
 use Rattle.language.specs.Trace.{afterCall, lineWords, refusedLine, runLines, withInput}
 use Rattle.run_soundness.proofs.PassedLaws.{passed-size}
@@ -27,11 +28,11 @@ use Rattle.trace_line.proofs.TurnLaws.{short-refused}
 -- ---- By what a line is taken for.
 
 module _ (image : List ℕ) (d : Description) (fs : List Facility) (line : List ℕ) (on : List ℕ → List ℕ) where
-  taken-none : lineBytes fs line ≡ none → fs ≡ inputsOf (d .facilities) → withInput image d (lineWords fs line) on ≡ refusedLine 15
+  taken-none : lineBytes fs line ≡ none → fs ≡ inputsOf (d .facilities) → withInput image d (lineWords fs line) on ≡ refusedLine BadStimulus
   unfolding lineBytes
   taken-none e q = go (lineWords fs line) e
     where
-      go : (o : Option Words) → bytesFor fs o ≡ none → withInput image d o on ≡ refusedLine 15
+      go : (o : Option Words) → bytesFor fs o ≡ none → withInput image d o on ≡ refusedLine BadStimulus
       go none f = refl
       go (some s) f = absurd (let z : _≡_ {A = ℕ} 0 1 = cc in omega arith)
 
@@ -60,13 +61,13 @@ abbrev inputs : List ℕ → List Facility
 inputs image = inputsOf (decode image .facilities)
 
 module _ {image line : List ℕ} {number : ℕ} {S R S′ R′ B : List ℕ} {at : ℕ} {C : List ℕ} {end : ℕ} (P P′ : List ℕ) where
-  pub turned-none : {on : Bool} (t : Taken) → t ≡ T.None → tookMeant t P′ ≡ took (lineBytes (inputs image) line) P → on ≡ false → Adds (refusedLine 15) B at C end → Turned image line number S R on S′ R′ B at C end
+  pub turned-none : {on : Bool} (t : Taken) → t ≡ T.None → tookMeant t P′ ≡ took (lineBytes (inputs image) line) P → on ≡ false → Adds (refusedLine BadStimulus) B at C end → Turned image line number S R on S′ R′ B at C end
   unfolding runLines
   turned-none t q e off x = record {
-    text = refusedLine 15;
+    text = refusedLine BadStimulus;
     adds = x;
-    short = short-refused (decode image) (recordFrom R .state) 15;
-    same = λ done ls h. rw (off) (taken-none image (decode image) (inputs image) line _ (took-nothing (lineBytes (inputs image) line) P P′ (ap (λ (u : Taken). tookMeant u P′) (sym q) ∙ e)) refl ∙ sym (append-nil (refusedLine 15)));
+    short = short-refused (decode image) (recordFrom R .state) BadStimulus;
+    same = λ done ls h. rw (off) (taken-none image (decode image) (inputs image) line _ (took-nothing (lineBytes (inputs image) line) P P′ (ap (λ (u : Taken). tookMeant u P′) (sym q) ∙ e)) refl ∙ sym (append-nil (refusedLine BadStimulus)));
   }
 
   pub turned-taken : {on : Bool} (t : Taken) (n : ℕ) → t ≡ T.Bytes n → tookMeant t P′ ≡ took (lineBytes (inputs image) line) P → (scratch : ℕ) → scratch ≡ 4 * storeSize (decode image) → (X : List ℕ) → X ≡ take n P′

@@ -14,25 +14,29 @@ ghost use Rattle.value_operators.specs.Meaning.{Means, valued};
 
 // ---- The operators of which a level has several.
 
-pub const SUM_SIGNS: [u8; 2] = [text_kinds::SUM, text_kinds::DIFFERENCE];
+pub const SUM_SIGNS: [u8; 2] = [language::kinds::SUM, language::kinds::DIFFERENCE];
 
 pub const RELATION_SIGNS: [u8; 6] = [
-    text_kinds::EQUALS,
-    text_kinds::HASH,
-    text_kinds::LESS,
-    text_kinds::GREATER,
-    text_kinds::AT_MOST,
-    text_kinds::AT_LEAST,
+    language::kinds::EQUALS,
+    language::kinds::HASH,
+    language::kinds::LESS,
+    language::kinds::GREATER,
+    language::kinds::AT_MOST,
+    language::kinds::AT_LEAST,
 ];
 
-pub const CUT_WORDS: [u8; 3] = [text_kinds::HEAD, text_kinds::TAIL, text_kinds::EXT];
+pub const CUT_WORDS: [u8; 3] = [
+    language::kinds::HEAD,
+    language::kinds::TAIL,
+    language::kinds::EXT,
+];
 
 // The signs that stand before RED.
 pub const REDUCTION_SIGNS: [u8; 4] = [
-    text_kinds::PLUS,
-    text_kinds::STAR,
-    text_kinds::EXCLUSIVE,
-    text_kinds::SUM,
+    language::kinds::PLUS,
+    language::kinds::STAR,
+    language::kinds::EXCLUSIVE,
+    language::kinds::SUM,
 ];
 
 // ---- How long a result is; 0 stands for a broken rule.
@@ -42,12 +46,12 @@ fn is_relation(kind: u8) -> bool
     ensures { λ r. ⌜ r ≡ isRelation kind ⌝ }
 {
     match kind {
-        text_kinds::EQUALS => true,
-        text_kinds::HASH => true,
-        text_kinds::LESS => true,
-        text_kinds::GREATER => true,
-        text_kinds::AT_MOST => true,
-        text_kinds::AT_LEAST => true,
+        language::kinds::EQUALS => true,
+        language::kinds::HASH => true,
+        language::kinds::LESS => true,
+        language::kinds::GREATER => true,
+        language::kinds::AT_MOST => true,
+        language::kinds::AT_LEAST => true,
         _ => false,
     }
 }
@@ -57,12 +61,12 @@ pub fn binary_length(kind: u8, m: u16, n: u16) -> u32
     ensures { λ r. ⌜ r ≡ binaryLength kind m n ⌝ }
 {
     match kind {
-        text_kinds::SUM => lengths::sum_length(m, n),
-        text_kinds::DIFFERENCE => lengths::difference_length(m, n),
-        text_kinds::CON => lengths::join_length(m, n),
-        text_kinds::PLUS => lengths::logical_length(m, n),
-        text_kinds::STAR => lengths::logical_length(m, n),
-        text_kinds::EXCLUSIVE => lengths::logical_length(m, n),
+        language::kinds::SUM => lengths::sum_length(m, n),
+        language::kinds::DIFFERENCE => lengths::difference_length(m, n),
+        language::kinds::CON => lengths::join_length(m, n),
+        language::kinds::PLUS => lengths::logical_length(m, n),
+        language::kinds::STAR => lengths::logical_length(m, n),
+        language::kinds::EXCLUSIVE => lengths::logical_length(m, n),
         _ => {
             if is_relation(kind) {
                 return lengths::relation_length();
@@ -77,12 +81,12 @@ pub fn prefix_length(kind: u8, m: u16) -> u32
     ensures { λ r. ⌜ r ≡ prefixLength kind m ⌝ }
 {
     match kind {
-        text_kinds::MINUS => lengths::complement_length(m),
-        text_kinds::DIFFERENCE => lengths::negation_length(m),
-        text_kinds::SUM => lengths::count_length(),
-        text_kinds::PLUS => lengths::reduction_length(),
-        text_kinds::STAR => lengths::reduction_length(),
-        text_kinds::EXCLUSIVE => lengths::reduction_length(),
+        language::kinds::MINUS => lengths::complement_length(m),
+        language::kinds::DIFFERENCE => lengths::negation_length(m),
+        language::kinds::SUM => lengths::count_length(),
+        language::kinds::PLUS => lengths::reduction_length(),
+        language::kinds::STAR => lengths::reduction_length(),
+        language::kinds::EXCLUSIVE => lengths::reduction_length(),
         _ => 0,
     }
 }
@@ -92,9 +96,9 @@ pub fn cut_length(kind: u8, m: u16, c: u16) -> u32
     ensures { λ r. ⌜ r ≡ cutLengthOf kind m c ⌝ }
 {
     match kind {
-        text_kinds::HEAD => lengths::cut_length(m, c),
-        text_kinds::TAIL => lengths::cut_length(m, c),
-        text_kinds::EXT => lengths::repeat_length(m, c),
+        language::kinds::HEAD => lengths::cut_length(m, c),
+        language::kinds::TAIL => lengths::cut_length(m, c),
+        language::kinds::EXT => lengths::repeat_length(m, c),
         _ => 0,
     }
 }
@@ -106,18 +110,18 @@ pub fn binary(kind: u8, x: Value, y: Value) -> Made
     ensures { λ r. ⌜ Means r (binaryOf kind (valued x) (valued y)) ⌝ }
 {
     match kind {
-        text_kinds::SUM => arithmetic::sum(x, y),
-        text_kinds::DIFFERENCE => arithmetic::difference(x, y),
-        text_kinds::CON => substrings::join(x, y),
-        text_kinds::PLUS => logical::disjunction(x, y),
-        text_kinds::STAR => logical::conjunction(x, y),
-        text_kinds::EXCLUSIVE => logical::exclusive(x, y),
-        text_kinds::EQUALS => relations::equal(x, y),
-        text_kinds::HASH => relations::unequal(x, y),
-        text_kinds::LESS => relations::less(x, y),
-        text_kinds::GREATER => relations::greater(x, y),
-        text_kinds::AT_MOST => relations::at_most(x, y),
-        text_kinds::AT_LEAST => relations::at_least(x, y),
+        language::kinds::SUM => arithmetic::sum(x, y),
+        language::kinds::DIFFERENCE => arithmetic::difference(x, y),
+        language::kinds::CON => substrings::join(x, y),
+        language::kinds::PLUS => logical::disjunction(x, y),
+        language::kinds::STAR => logical::conjunction(x, y),
+        language::kinds::EXCLUSIVE => logical::exclusive(x, y),
+        language::kinds::EQUALS => relations::equal(x, y),
+        language::kinds::HASH => relations::unequal(x, y),
+        language::kinds::LESS => relations::less(x, y),
+        language::kinds::GREATER => relations::greater(x, y),
+        language::kinds::AT_MOST => relations::at_most(x, y),
+        language::kinds::AT_LEAST => relations::at_least(x, y),
         _ => fitting::none(),
     }
 }
@@ -127,12 +131,12 @@ pub fn prefix(kind: u8, x: Value) -> Made
     ensures { λ r. ⌜ Means r (prefixOf kind (valued x)) ⌝ }
 {
     match kind {
-        text_kinds::MINUS => logical::complement(x),
-        text_kinds::DIFFERENCE => arithmetic::negation(x),
-        text_kinds::PLUS => reductions::or_reduction(x),
-        text_kinds::STAR => reductions::and_reduction(x),
-        text_kinds::EXCLUSIVE => reductions::exclusive_reduction(x),
-        text_kinds::SUM => reductions::sum_reduction(x),
+        language::kinds::MINUS => logical::complement(x),
+        language::kinds::DIFFERENCE => arithmetic::negation(x),
+        language::kinds::PLUS => reductions::or_reduction(x),
+        language::kinds::STAR => reductions::and_reduction(x),
+        language::kinds::EXCLUSIVE => reductions::exclusive_reduction(x),
+        language::kinds::SUM => reductions::sum_reduction(x),
         _ => fitting::none(),
     }
 }
@@ -142,9 +146,9 @@ pub fn cut(kind: u8, x: Value, c: u16) -> Made
     ensures { λ r. ⌜ Means r (cutOf kind (valued x) c) ⌝ }
 {
     match kind {
-        text_kinds::HEAD => substrings::head(x, c),
-        text_kinds::TAIL => substrings::tail(x, c),
-        text_kinds::EXT => substrings::extended(x, c),
+        language::kinds::HEAD => substrings::head(x, c),
+        language::kinds::TAIL => substrings::tail(x, c),
+        language::kinds::EXT => substrings::extended(x, c),
         _ => fitting::none(),
     }
 }

@@ -13,7 +13,7 @@ same-length c = search needs
 
 returns : tie.Need-returns
 returns c =
-    ap (called (A.Refused (c .before .before .before .before .before .before .args .f .number) (c .before .before .before .before .before .before .args .f .at .place))) (c .before .before .before .zero .ensures)
+    ap (called (A.Refused (c .before .before .before .before .before .before .args .f .refusal) (c .before .before .before .before .before .before .args .f .at .place))) (c .before .before .before .zero .ensures)
 
 pub refuse-spec : {M : Type 1} → statement M
 refuse-spec = tie.close (tie.spec zero-requires same-length returns)

@@ -2,6 +2,7 @@
 use crate::described::Outcome;
 use crate::described::lengths;
 use crate::described::twice;
+use language::refusals::Refusal;
 use parse_array::Work;
 use parse_held::Tally;
 use parse_step::Verdict;
@@ -17,7 +18,7 @@ fn stopped(verdict: Verdict) -> Outcome
 {
     let none = Fault {
         at: Position { place: 0 },
-        number: 0,
+        refusal: Refusal::NoContinuation,
     };
     match verdict {
         Verdict::Refused(f) => Outcome::Refused(f),

@@ -1,4 +1,5 @@
 // The end of the section: CONTROL, alone or behind a period or END.
+use language::refusals::Refusal;
 use parse_step::Answer;
 use parse_step::Bearing;
 use parse_step::State;
@@ -12,8 +13,8 @@ fn control(text: &[u8], w: Word, s: State) -> Answer
     ensures { λ r. ⌜ Controls (now (text .entry)) w s r ⌝ }
 {
     let kind = w.kind;
-    if kinds::number(kind) != text_kinds::CONTROL {
-        return taking::refuse(w, s, 3);
+    if kinds::number(kind) != language::kinds::CONTROL {
+        return taking::refuse(w, s, Refusal::NoContinuation);
     }
     taking::take(text, w, s, false, Bearing::Level)
 }
@@ -35,14 +36,14 @@ pub fn ended(text: &[u8], w: Word, s: State) -> Answer
 {
     let kind = w.kind;
     let k = kinds::number(kind);
-    if k == text_kinds::CONTROL {
+    if k == language::kinds::CONTROL {
         return taking::take(text, w, s, false, Bearing::Level);
     }
-    if k == text_kinds::PERIOD {
+    if k == language::kinds::PERIOD {
         return closed(text, w, s);
     }
-    if k == text_kinds::END {
+    if k == language::kinds::END {
         return closed(text, w, s);
     }
-    taking::refuse(w, s, 3)
+    taking::refuse(w, s, Refusal::NoContinuation)
 }

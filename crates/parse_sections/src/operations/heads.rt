@@ -1,4 +1,5 @@
 // What an operation begins with: its name, `=` and `[`.
+use language::refusals::Refusal;
 use parse_step::Answer;
 use parse_step::Bearing;
 use parse_step::State;
@@ -35,8 +36,8 @@ fn name(text: &[u8], w: Word, s: State) -> Answer
     ensures { λ r. ⌜ Names (now (text .entry)) w s r ⌝ }
 {
     let kind = w.kind;
-    if kinds::number(kind) != text_kinds::NAME {
-        return taking::refuse(w, s, 3);
+    if kinds::number(kind) != language::kinds::NAME {
+        return taking::refuse(w, s, Refusal::NoContinuation);
     }
     let more = one_more(s);
     taking::take(text, w, more, false, Bearing::Level)
@@ -54,7 +55,7 @@ pub fn head(text: &[u8], w: Word, s: State) -> Answer
         text,
         named.next,
         named.state,
-        text_kinds::EQUAL,
+        language::kinds::EQUAL,
         Bearing::Level,
     );
     if parse_step::unread(equal) {
@@ -64,7 +65,7 @@ pub fn head(text: &[u8], w: Word, s: State) -> Answer
         text,
         equal.next,
         equal.state,
-        text_kinds::OPEN_BRACKET,
+        language::kinds::OPEN_BRACKET,
         Bearing::Opens,
     )
 }

@@ -31,7 +31,7 @@ fn more(text: &[u8], w: Word, work: &mut Work, s: State) -> Answer
     let mut state = s;
     loop {
         let kind = next.kind;
-        if kinds::number(kind) != text_kinds::COMMA {
+        if kinds::number(kind) != language::kinds::COMMA {
             return ends::ended(text, next, state);
         }
         let comma = taking::take(text, next, state, false, Bearing::Level);

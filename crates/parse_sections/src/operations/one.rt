@@ -26,7 +26,7 @@ fn body(s: State, text: &[u8], w: Word, work: &mut Work, n: Counts) -> Answer
         text,
         list.next,
         list.state,
-        text_kinds::CLOSE_BRACKET,
+        language::kinds::CLOSE_BRACKET,
         Bearing::Closes,
     )
 }

@@ -5,6 +5,7 @@ use native.Mathlib.Omega.{arith}
 use borrow.Author.Needs.{needs}
 use lib.ListN.{drop, length, length-drop, take}
 use Rattle.language.specs.Step.{Record}
+use Rattle.language.specs.declared.refusals.Refusal.the-variants.{ImageFails}
 use Rattle.run_next.specs.Seen.{recordMeant}
 use Rattle.run_soundness.proofs.PassedLaws.{passed-facilities, passed-states}
 use Rattle.call_carried.proofs.CarryLaws.{few-held}
@@ -15,6 +16,7 @@ use Rattle.call_stimuli.proofs.RunLaws.{each-so, left-none, left-refuse
 use Rattle.call_stimuli.proofs.SoFarLaws.{SoFar, so-far-more, so-far-none}
 use Rattle.call_stimuli.proofs.carry.carry_on.Statement.{statement}
 use Rattle.call_stimuli.proofs.carry.carry_on.Tie as tie
+use mathlib.Core.Option.{none, some}
 
 abbrev Inv-loop : tie.InvT-loop
 Inv-loop facilities operations expressions actions states store₀ stimuli cycles work₀ pending₀ mask₀ trace₀ size each n₀ conflicts₀ at₀ to₀ reached₀ store work pending mask trace n conflicts at to reached =
@@ -186,7 +188,7 @@ returns c =
     let free = next-free i S (a .cycles) m B₀ K (l .store) _ (l .trace) (l .n) (l .conflicts) (l .at) (l .to) (c .before .before .before .before .before .before .before .before .before .before .before .before .before .before .before .before .before .before .loop-test .taken) (so .left) in
     let q = rw (st, c .before .before .verdict .given .1) at (c .before .before .before .before .before .before .before .before .before .before .before .before .carried .ensures i (keptRecord (l .n) (recordMeant (l .reached)) K) m (e .sliced) (so .read) (l .inv .5 ∙ e .copy) (l .inv .6 ∙ e .waiting) (l .inv .7 ∙ e .masked) (rw st free)) in
     rw (c .ended .ensures)
-    (run-so i S (a .cycles) m B₀ K _ _ (l .trace) (l .n) (l .conflicts) (c .before .before .verdict .given .0 .0) t (so .left .traced) (e .free) (l .inv .8) (so .left .noted)
+    (run-so i S (a .cycles) m B₀ K _ _ (l .trace) (l .n) (l .conflicts) (some (c .before .before .verdict .given .0 .0)) t (so .left .traced) (e .free) (l .inv .8) (so .left .noted)
     (left-stop i S (a .cycles) m B₀ K (l .store) _ (l .trace) (l .n) (l .conflicts) (l .at) (l .to) (c .before .before .before .before .before .before .before .before .before .before .before .before .before .before .before .before .before .before .loop-test .taken) (so .left) _ _ (c .before .before .verdict .given .0 .0) (q .0)))
 
 enum-told-2 : tie.Need-enum-told-2 Inv-loop μ-loop
@@ -231,8 +233,8 @@ returns-2 c =
     let free = next-free i S (a .cycles) m B₀ K (l .store) _ (l .trace) (l .n) (l .conflicts) (l .at) (l .to) (c .before .before .before .before .before .before .before .before .before .before .before .before .before .before .before .before .before .loop-test .taken) (so .left) in
     let q = rw (st, c .before .enum-told2 .given .1) at (c .before .before .before .before .before .before .before .before .before .before .before .carried .ensures i (keptRecord (l .n) (recordMeant (l .reached)) K) m (e .sliced) (so .read) (l .inv .5 ∙ e .copy) (l .inv .6 ∙ e .waiting) (l .inv .7 ∙ e .masked) (rw st free)) in
     rw (c .ended2 .ensures)
-    (run-so i S (a .cycles) m B₀ K _ _ (l .trace) (l .n) (l .conflicts) 13 t (so .left .traced) (e .free) (l .inv .8) (so .left .noted)
-    (left-refused i S (a .cycles) m B₀ K (l .store) _ (l .trace) (l .n) (l .conflicts) (l .at) (l .to) (c .before .before .before .before .before .before .before .before .before .before .before .before .before .before .before .before .before .loop-test .taken) (so .left) _ _ 13 (q .0)))
+    (run-so i S (a .cycles) m B₀ K _ _ (l .trace) (l .n) (l .conflicts) none t (so .left .traced) (e .free) (l .inv .8) (so .left .noted)
+    (left-refused i S (a .cycles) m B₀ K (l .store) _ (l .trace) (l .n) (l .conflicts) (l .at) (l .to) (c .before .before .before .before .before .before .before .before .before .before .before .before .before .before .before .before .before .loop-test .taken) (so .left) _ _ ImageFails (q .0)))
 
 ended-requires-3 : tie.Need-ended-requires-3 Inv-loop μ-loop
 ended-requires-3 c κs =
@@ -268,7 +270,7 @@ returns-3 c =
     let l = c .before .before .loop in
     let so = l .inv .9 i K m e in
     rw (c .ended3 .ensures)
-    (run-so i S (a .cycles) m B₀ K (l .store) _ (l .trace) (l .n) (l .conflicts) 0 t (so .left .traced) (e .free) (l .inv .8) (so .left .noted)
+    (run-so i S (a .cycles) m B₀ K (l .store) _ (l .trace) (l .n) (l .conflicts) none t (so .left .traced) (e .free) (l .inv .8) (so .left .noted)
     (left-none i S (a .cycles) m B₀ K (l .store) _ (l .trace) (l .n) (l .conflicts) (l .at) (l .to) (c .before .loop-test .left) (so .left)))
 
 pub carry-on-spec : {M : Type 1} → statement M

@@ -4,6 +4,7 @@ use mathlib.Core.Path.{sym, ap, _∙_}
 use borrow.Author.Needs.{needs}
 use Rattle.judge_actions.proofs.conditionals.conditional.Statement.{statement}
 use Rattle.judge_actions.proofs.conditionals.conditional.Tie as tie
+use Rattle.language.specs.declared.refusals.Refusal.the-variants.{BadLength}
 
 both-requires : tie.Need-both-requires
 both-requires c κs = search needs
@@ -31,7 +32,7 @@ enum-known-f c = search needs
 returns-2 : tie.Need-returns-2
 returns-2 c =
     λ q j k z e f. both-fine j k _ _ _ (pair-known j k (c .before .before .before .before .before .before .both .ensures) (c .before .before .before .before .v .given .1) e f)
-    (λ x y m n. rw (sym (c .before .before .right-arms .ensures x y m n) ∙ c .before .if1 .left) (c .refused .ensures ∙ refuse-same 7 z))
+    (λ x y m n. rw (sym (c .before .before .right-arms .ensures x y m n) ∙ c .before .if1 .left) (c .refused .ensures ∙ refuse-same BadLength z))
 
 returns-3 : tie.Need-returns-3
 returns-3 c =

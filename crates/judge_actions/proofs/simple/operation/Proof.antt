@@ -3,6 +3,7 @@ use mathlib.Core.Path.{_∙_}
 use borrow.Author.Needs.{needs}
 use Rattle.judge_actions.proofs.simple.operation.Statement.{statement}
 use Rattle.judge_actions.proofs.simple.operation.Tie as tie
+use Rattle.language.specs.declared.refusals.Refusal.the-variants.{BadName}
 
 recall-requires : tie.Need-recall-requires
 recall-requires c κs = search needs
@@ -19,7 +20,7 @@ refused-requires c κs = search needs
 
 returns-2 : tie.Need-returns-2
 returns-2 c =
-    λ j e f. rw (f (c .before .before .if1 .left)) (c .refused .ensures ∙ refuse-same 4 (c .before .nowhere .ensures))
+    λ j e f. rw (f (c .before .before .if1 .left)) (c .refused .ensures ∙ refuse-same BadName (c .before .nowhere .ensures))
 
 pub operation-spec : {M : Type 1} → statement M
 operation-spec =

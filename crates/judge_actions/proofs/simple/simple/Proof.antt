@@ -6,6 +6,7 @@ use mathlib.Core.Path.{sym, ap, _∙_}
 use borrow.Author.Needs.{needs}
 use Rattle.judge_actions.proofs.simple.simple.Statement.{statement}
 use Rattle.judge_actions.proofs.simple.simple.Tie as tie
+use Rattle.language.specs.declared.refusals.Refusal.the-variants.{BadName, NoContinuation}
 
 of-record-requires : tie.Need-of-record-requires
 of-record-requires c κs = search needs
@@ -124,19 +125,19 @@ returns-7 c =
 
 returns-8 : tie.Need-returns-8
 returns-8 c =
-    λ d p w l. simple-is d p (c .before .before .before .before .before .before .before .before .before .before .before .before .before .before .before .args .own .state) w (actionPlace p (c .before .before .before .before .before .before .before .before .before .before .before .before .before .before .before .args .i)) (c .before .before .before .before .before .before .before .before .before .before .before .before .before .before .before .args .i) (l .action (c .before .before .before .before .before .before .before .before .before .before .before .before .before .before .before .args .i) ∙ sym (c .before .before .before .action-at .ensures) ∙ ap meant (c .before .enum-told2 .given .1)) (when-is d p (c .before .before .before .before .before .before .before .before .before .before .before .before .before .before .before .args .own .state) w (actionPlace p (c .before .before .before .before .before .before .before .before .before .before .before .before .before .before .before .args .i)) _ _ (c .refused .ensures ∙ refuse-same 3 (c .before .before .before .before .of-record .ensures ∙ sym (l .place (c .before .before .before .before .before .before .before .before .before .before .before .before .before .before .before .args .i)))))
+    λ d p w l. simple-is d p (c .before .before .before .before .before .before .before .before .before .before .before .before .before .before .before .args .own .state) w (actionPlace p (c .before .before .before .before .before .before .before .before .before .before .before .before .before .before .before .args .i)) (c .before .before .before .before .before .before .before .before .before .before .before .before .before .before .before .args .i) (l .action (c .before .before .before .before .before .before .before .before .before .before .before .before .before .before .before .args .i) ∙ sym (c .before .before .before .action-at .ensures) ∙ ap meant (c .before .enum-told2 .given .1)) (when-is d p (c .before .before .before .before .before .before .before .before .before .before .before .before .before .before .before .args .own .state) w (actionPlace p (c .before .before .before .before .before .before .before .before .before .before .before .before .before .before .before .args .i)) _ _ (c .refused .ensures ∙ refuse-same NoContinuation (c .before .before .before .before .of-record .ensures ∙ sym (l .place (c .before .before .before .before .before .before .before .before .before .before .before .before .before .before .before .args .i)))))
 
 returns-9 : tie.Need-returns-9
 returns-9 c =
-    λ d p w l. simple-is d p (c .before .before .before .before .before .before .before .before .before .before .before .before .before .before .before .args .own .state) w (actionPlace p (c .before .before .before .before .before .before .before .before .before .before .before .before .before .before .before .args .i)) (c .before .before .before .before .before .before .before .before .before .before .before .before .before .before .before .args .i) (l .action (c .before .before .before .before .before .before .before .before .before .before .before .before .before .before .before .args .i) ∙ sym (c .before .before .before .action-at .ensures) ∙ ap meant (c .before .enum-told3 .given .1)) (choose-is d p (c .before .before .before .before .before .before .before .before .before .before .before .before .before .before .before .args .own .state) w (actionPlace p (c .before .before .before .before .before .before .before .before .before .before .before .before .before .before .before .args .i)) _ _ _ (c .refused2 .ensures ∙ refuse-same 3 (c .before .before .before .before .of-record .ensures ∙ sym (l .place (c .before .before .before .before .before .before .before .before .before .before .before .before .before .before .before .args .i)))))
+    λ d p w l. simple-is d p (c .before .before .before .before .before .before .before .before .before .before .before .before .before .before .before .args .own .state) w (actionPlace p (c .before .before .before .before .before .before .before .before .before .before .before .before .before .before .before .args .i)) (c .before .before .before .before .before .before .before .before .before .before .before .before .before .before .before .args .i) (l .action (c .before .before .before .before .before .before .before .before .before .before .before .before .before .before .before .args .i) ∙ sym (c .before .before .before .action-at .ensures) ∙ ap meant (c .before .enum-told3 .given .1)) (choose-is d p (c .before .before .before .before .before .before .before .before .before .before .before .before .before .before .before .args .own .state) w (actionPlace p (c .before .before .before .before .before .before .before .before .before .before .before .before .before .before .before .args .i)) _ _ _ (c .refused2 .ensures ∙ refuse-same NoContinuation (c .before .before .before .before .of-record .ensures ∙ sym (l .place (c .before .before .before .before .before .before .before .before .before .before .before .before .before .before .before .args .i)))))
 
 returns-10 : tie.Need-returns-10
 returns-10 c =
-    λ d p w l. simple-is d p (c .before .before .before .before .before .before .before .before .before .before .before .before .before .before .before .args .own .state) w (actionPlace p (c .before .before .before .before .before .before .before .before .before .before .before .before .before .before .before .args .i)) (c .before .before .before .before .before .before .before .before .before .before .before .before .before .before .before .args .i) (l .action (c .before .before .before .before .before .before .before .before .before .before .before .before .before .before .before .args .i) ∙ sym (c .before .before .before .action-at .ensures) ∙ ap meant (c .before .enum-told4 .given .1)) (arm-is d p (c .before .before .before .before .before .before .before .before .before .before .before .before .before .before .before .args .own .state) w (actionPlace p (c .before .before .before .before .before .before .before .before .before .before .before .before .before .before .before .args .i)) _ (c .refused3 .ensures ∙ refuse-same 3 (c .before .before .before .before .of-record .ensures ∙ sym (l .place (c .before .before .before .before .before .before .before .before .before .before .before .before .before .before .before .args .i)))))
+    λ d p w l. simple-is d p (c .before .before .before .before .before .before .before .before .before .before .before .before .before .before .before .args .own .state) w (actionPlace p (c .before .before .before .before .before .before .before .before .before .before .before .before .before .before .before .args .i)) (c .before .before .before .before .before .before .before .before .before .before .before .before .before .before .before .args .i) (l .action (c .before .before .before .before .before .before .before .before .before .before .before .before .before .before .before .args .i) ∙ sym (c .before .before .before .action-at .ensures) ∙ ap meant (c .before .enum-told4 .given .1)) (arm-is d p (c .before .before .before .before .before .before .before .before .before .before .before .before .before .before .before .args .own .state) w (actionPlace p (c .before .before .before .before .before .before .before .before .before .before .before .before .before .before .before .args .i)) _ (c .refused3 .ensures ∙ refuse-same NoContinuation (c .before .before .before .before .of-record .ensures ∙ sym (l .place (c .before .before .before .before .before .before .before .before .before .before .before .before .before .before .before .args .i)))))
 
 returns-11 : tie.Need-returns-11
 returns-11 c =
-    λ d p w l. simple-is d p (c .before .before .before .before .before .before .before .before .before .before .before .before .before .before .before .args .own .state) w (actionPlace p (c .before .before .before .before .before .before .before .before .before .before .before .before .before .before .before .args .i)) (c .before .before .before .before .before .before .before .before .before .before .before .before .before .before .before .args .i) (l .action (c .before .before .before .before .before .before .before .before .before .before .before .before .before .before .before .args .i) ∙ sym (c .before .before .before .action-at .ensures) ∙ ap meant (c .before .enum-told5 .given .1)) (broken-is d p (c .before .before .before .before .before .before .before .before .before .before .before .before .before .before .before .args .own .state) w (actionPlace p (c .before .before .before .before .before .before .before .before .before .before .before .before .before .before .before .args .i)) (c .refused4 .ensures ∙ refuse-same 4 (c .before .before .before .before .of-record .ensures ∙ sym (l .place (c .before .before .before .before .before .before .before .before .before .before .before .before .before .before .before .args .i)))))
+    λ d p w l. simple-is d p (c .before .before .before .before .before .before .before .before .before .before .before .before .before .before .before .args .own .state) w (actionPlace p (c .before .before .before .before .before .before .before .before .before .before .before .before .before .before .before .args .i)) (c .before .before .before .before .before .before .before .before .before .before .before .before .before .before .before .args .i) (l .action (c .before .before .before .before .before .before .before .before .before .before .before .before .before .before .before .args .i) ∙ sym (c .before .before .before .action-at .ensures) ∙ ap meant (c .before .enum-told5 .given .1)) (broken-is d p (c .before .before .before .before .before .before .before .before .before .before .before .before .before .before .before .args .own .state) w (actionPlace p (c .before .before .before .before .before .before .before .before .before .before .before .before .before .before .before .args .i)) (c .refused4 .ensures ∙ refuse-same BadName (c .before .before .before .before .of-record .ensures ∙ sym (l .place (c .before .before .before .before .before .before .before .before .before .before .before .before .before .before .before .args .i)))))
 
 pub simple-spec : {M : Type 1} → statement M
 simple-spec =

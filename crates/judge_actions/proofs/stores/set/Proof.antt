@@ -1,6 +1,7 @@
 use Rattle.judge_verdicts.specs.declared.Worth.{Worth}
 use Rattle.judge_verdicts.proofs.VerdictLaws.{given-faulty, one-fine, worth-seen}
 use Rattle.judge_verdicts.proofs.CappedLaws.{capped-small}
+use Rattle.language.specs.declared.refusals.Refusal.the-variants.{BadStore}
 use Rattle.language.specs.WordStage.{least}
 use Rattle.language.specs.Words as W
 use Rattle.language.specs.Tree.{Kind}
@@ -43,7 +44,7 @@ returns : tie.Need-returns
 returns c =
     λ q z d p t sh. one-fine _ _ _ (sym (c .before .before .before .before .before .a .given .1) ∙ c .before .before .before .before .before .before .before .left .ensures d p t sh)
     (λ x m. c .or-faulty .ensures _ _
-    (c .before .before .unless .ensures ∙ ap₂ (λ (b : Bool) (u : W.Position). least (L.unless b u 8))
+    (c .before .before .unless .ensures ∙ ap₂ (λ (b : Bool) (u : W.Position). least (L.unless b u BadStore))
     (c .before .before .before .may-set .ensures ∙ ap₂ (λ (k : Kind) (l : ℕ). L.both (isPlain k) (eqb l 1)) (c .before .before .before .before .before .before .before .before .kind-at .ensures .kind d p t _ _ _ sh) (ap (λ (v : Worth). v .length) m)) z)
     (worth-seen 1 0 _ refl (sym (capped-small 0 (omega arith))) (c .before .with-one .ensures _ (ap (λ (v : Worth). v .work) m))))
 

@@ -2,6 +2,7 @@ use Rattle.judge_actions.proofs.StoreLaws.{worked-faulty, worked-fine}
 use Rattle.judge_terms.specs.Shown.{worked}
 use Rattle.judge_verdicts.specs.declared.Worth.{Worth}
 use Rattle.judge_verdicts.proofs.VerdictLaws.{pair-known}
+use Rattle.language.specs.declared.refusals.Refusal.the-variants.{BadLength, BadStore}
 use Rattle.language.specs.WordStage.{least}
 use Rattle.language.specs.Words as W
 use Rattle.language.specs.Judging as L
@@ -44,8 +45,8 @@ returns c =
     λ q j k z h e f. worked-fine j k _ _ _ (pair-known (worked j) k (c .before .before .before .before .before .before .before .before .before .both .ensures) (c .before .before .before .before .before .before .before .v .given .1) e f)
     (λ x y i m n. c .or-faulty .ensures _ _
     (c .before .before .also .ensures _ _
-    (c .before .before .before .before .unless .ensures ∙ ap₂ (λ (b : Bool) (u : W.Position). least (L.unless b u 7)) (ap₂ eqb (h x i) (ap (λ (v : Worth). v .length) n)) z)
-    (c .before .before .before .unless2 .ensures ∙ ap (λ (u : W.Position). least (L.unless (c .before .before .before .before .before .before .before .before .before .before .args .allowed) u 8)) z))
+    (c .before .before .before .before .unless .ensures ∙ ap₂ (λ (b : Bool) (u : W.Position). least (L.unless b u BadLength)) (ap₂ eqb (h x i) (ap (λ (v : Worth). v .length) n)) z)
+    (c .before .before .before .unless2 .ensures ∙ ap (λ (u : W.Position). least (L.unless (c .before .before .before .before .before .before .before .before .before .before .args .allowed) u BadStore)) z))
     (c .before .counted .ensures _ _ m (ap (λ (v : Worth). v .work) n)))
 
 returns-2 : tie.Need-returns-2

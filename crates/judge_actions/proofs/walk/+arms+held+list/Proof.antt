@@ -32,6 +32,7 @@ use Rattle.image_records.proofs.actions.action_at.Reads as action-at-reads
 use Rattle.judge_verdicts.proofs.faults.refused.Reads as refused-reads
 use Rattle.judge_actions.proofs.walk.+arms+held+list.{statement}
 use Rattle.judge_actions.proofs.walk.+arms+held+list.Tie.{close}
+use Rattle.language.specs.declared.refusals.Refusal.the-variants.{NoContinuation}
 
 abbrev μ-arms : Measures 10 arms-kinds.ps ℕ
 μ-arms κs a = 2 * (a .1 .1 .1 .1 .1 .1 .1 .1 .1 .1 .1 .0) + 1
@@ -93,7 +94,7 @@ arms-refused-requires t c κs = search needs
 
 arms-returns-2 : (t : ℕ) → arms-lts.Need-returns-2 (arms-calls t) (arms-at t) arms.Post
 arms-returns-2 t c =
-    λ d p w l. c .refused .ensures ∙ refuse-same 3 (c .before .before .before .nowhere .ensures) ∙ ap seen (no-arm d p _ w _ _ (c .before .before .before .before .before .before .before .before .before .before .before .before .before .before .before .args .i) (c .before .before .action-at .result) (c .before .match .keys2) ∙ arms-first d p _ w _ _ (c .before .before .before .before .if1 .left) (l .action _ ∙ sym (c .before .before .action-at .ensures)))
+    λ d p w l. c .refused .ensures ∙ refuse-same NoContinuation (c .before .before .before .nowhere .ensures) ∙ ap seen (no-arm d p _ w _ _ (c .before .before .before .before .before .before .before .before .before .before .before .before .before .before .before .args .i) (c .before .before .action-at .result) (c .before .match .keys2) ∙ arms-first d p _ w _ _ (c .before .before .before .before .if1 .left) (l .action _ ∙ sym (c .before .before .action-at .ensures)))
 
 arms-cast-n : (t : ℕ) → arms-lts.Need-cast-n (arms-calls t) (arms-at t) arms.Post
 arms-cast-n t c = search needs
@@ -103,14 +104,14 @@ arms-refused-requires-2 t c κs = search needs
 
 arms-returns-3 : (t : ℕ) → arms-lts.Need-returns-3 (arms-calls t) (arms-at t) arms.Post
 arms-returns-3 t c =
-    λ d p w l. c .refused2 .ensures ∙ refuse-same 3 (c .before .before .before .before .before .before .nowhere .ensures) ∙ ap seen (arm-none d p _ w _ _ _ (c .before .before .before .before .before .before .before .if1 .left) (l .action _ ∙ sym (c .before .before .before .before .before .action-at .ensures) ∙ ap meant (c .before .before .before .x .given .1)) (c .before .if2 .taken))
+    λ d p w l. c .refused2 .ensures ∙ refuse-same NoContinuation (c .before .before .before .before .before .before .nowhere .ensures) ∙ ap seen (arm-none d p _ w _ _ _ (c .before .before .before .before .before .before .before .if1 .left) (l .action _ ∙ sym (c .before .before .before .before .before .action-at .ensures) ∙ ap meant (c .before .before .before .x .given .1)) (c .before .if2 .taken))
 
 arms-refused-requires-3 : (t : ℕ) → arms-lts.Need-refused-requires-3 (arms-calls t) (arms-at t) arms.Post
 arms-refused-requires-3 t c κs = search needs
 
 arms-returns-4 : (t : ℕ) → arms-lts.Need-returns-4 (arms-calls t) (arms-at t) arms.Post
 arms-returns-4 t c =
-    λ d p w l. c .refused3 .ensures ∙ refuse-same 3 (c .before .before .before .before .before .before .before .nowhere .ensures) ∙ ap seen (arm-past d p _ w _ _ _ (c .before .before .before .before .before .before .before .before .if1 .left) (l .action _ ∙ sym (c .before .before .before .before .before .before .action-at .ensures) ∙ ap meant (c .before .before .before .before .x .given .1)) (c .before .before .if2 .left) (c .before .if3 .taken))
+    λ d p w l. c .refused3 .ensures ∙ refuse-same NoContinuation (c .before .before .before .before .before .before .before .nowhere .ensures) ∙ ap seen (arm-past d p _ w _ _ _ (c .before .before .before .before .before .before .before .before .if1 .left) (l .action _ ∙ sym (c .before .before .before .before .before .before .action-at .ensures) ∙ ap meant (c .before .before .before .before .x .given .1)) (c .before .before .if2 .left) (c .before .if3 .taken))
 
 arms-add-j : (t : ℕ) → arms-lts.Need-add-j (arms-calls t) (arms-at t) arms.Post
 arms-add-j t c = search needs
@@ -142,7 +143,7 @@ held-refused-requires t c κs = search needs
 
 held-returns : (t : ℕ) → held-lts.Need-returns (held-calls t) (held-at t) held.Post
 held-returns t c =
-    λ d p w l. c .refused .ensures ∙ refuse-same 3 (c .before .nowhere .ensures) ∙ ap seen (held-past d p _ w (c .before .before .before .before .before .before .before .before .before .before .before .before .before .before .args .m + 1) _ _ _ _ _ (c .before .before .if1 .taken))
+    λ d p w l. c .refused .ensures ∙ refuse-same NoContinuation (c .before .nowhere .ensures) ∙ ap seen (held-past d p _ w (c .before .before .before .before .before .before .before .before .before .before .before .before .before .before .args .m + 1) _ _ _ _ _ (c .before .before .if1 .taken))
 
 held-of-record-requires : (t : ℕ) → held-lts.Need-of-record-requires (held-calls t) (held-at t) held.Post
 held-of-record-requires t c κs = search needs

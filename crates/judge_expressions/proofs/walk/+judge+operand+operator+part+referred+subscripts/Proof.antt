@@ -3,6 +3,7 @@ use Rattle.image_records.specs.References.{referenceMeant}
 use Rattle.judge_terms.specs.Shown as Shown
 use Rattle.judge_expressions.proofs.WalkLaws.{broken-is, judge-is, part-ge, part-lt, reference-is, right-reference, unknown-reference, wrong-reference}
 use Rattle.judge_terms.proofs.RecordLaws.{at-is, node-is}
+use Rattle.language.specs.declared.refusals.Refusal.the-variants.{BadName, NoContinuation}
 use Rattle.judge_verdicts.specs.Meaning.{seen}
 use Rattle.judge_verdicts.proofs.VerdictLaws.{arms-same, proper-same, refuse-same}
 use Rattle.language.specs.ReferenceRules.{subscriptsJudged}
@@ -277,7 +278,7 @@ operator-returns t c =
 operator-returns-2 : (t : ℕ) → operator-lts.Need-returns-2 (operator-calls t) (operator-at t) operator.Post
 unfolding judgeNode
 operator-returns-2 t c =
-    λ d p w z sh. c .refused .ensures ∙ refuse-same 3 (at-is (sh .records) _ (c .before .before .before .before .of-node .ensures)) ∙ ap seen (judge-is d p w _ _ (node-is (sh .records) _ (c .before .before .before .node-at .result) (c .before .before .before .node-at .ensures) (c .before .enum-told .given .1)))
+    λ d p w z sh. c .refused .ensures ∙ refuse-same NoContinuation (at-is (sh .records) _ (c .before .before .before .before .of-node .ensures)) ∙ ap seen (judge-is d p w _ _ (node-is (sh .records) _ (c .before .before .before .node-at .result) (c .before .before .before .node-at .ensures) (c .before .enum-told .given .1)))
 
 operator-returns-3 : (t : ℕ) → operator-lts.Need-returns-3 (operator-calls t) (operator-at t) operator.Post
 unfolding judgeNode
@@ -311,7 +312,7 @@ operator-returns-8 t c =
 
 operator-returns-9 : (t : ℕ) → operator-lts.Need-returns-9 (operator-calls t) (operator-at t) operator.Post
 operator-returns-9 t c =
-    λ d p w z sh. c .refused2 .ensures ∙ refuse-same 4 (at-is (sh .records) _ (c .before .before .before .of-node .ensures))
+    λ d p w z sh. c .refused2 .ensures ∙ refuse-same BadName (at-is (sh .records) _ (c .before .before .before .of-node .ensures))
     ∙ ap seen (broken-is d p w _ (c .before .before .before .before .before .before .before .before .before .args .n) _ _ _ (c .before .before .node-at .result) (c .before .match .keys9) (ap referenceOf (sym (node-is (sh .records) (c .before .before .before .before .before .before .before .before .before .args .n) (c .before .before .node-at .result) (c .before .before .node-at .ensures) refl)) ∙ z) _ _)
     ∙ ap seen (judge-is d p w _ _ (node-is (sh .records) _ (c .before .before .node-at .result) (c .before .before .node-at .ensures) (refl)))
 
@@ -330,7 +331,7 @@ part-refused-requires t c κs = search needs
 
 part-returns-2 : (t : ℕ) → part-lts.Need-returns-2 (part-calls t) (part-at t) part.Post
 part-returns-2 t c =
-    λ d p w sh. c .refused .ensures ∙ refuse-same 3 (c .before .nowhere .ensures) ∙ ap seen (sym (part-ge d p w _ _ _ (c .before .before .if1 .left)))
+    λ d p w sh. c .refused .ensures ∙ refuse-same NoContinuation (c .before .nowhere .ensures) ∙ ap seen (sym (part-ge d p w _ _ _ (c .before .before .if1 .left)))
 
 referred-of-node-requires : (t : ℕ) → referred-lts.Need-of-node-requires (referred-calls t) (referred-at t) referred.Post
 referred-of-node-requires t c κs = search needs
@@ -340,7 +341,7 @@ referred-refused-requires t c κs = search needs
 
 referred-returns : (t : ℕ) → referred-lts.Need-returns (referred-calls t) (referred-at t) referred.Post
 referred-returns t c =
-    λ o u d p w sh. c .refused .ensures ∙ refuse-same 4 (at-is (sh .records) _ (c .before .before .of-node .ensures)) ∙ ap seen (unknown-reference d p w _ o _ _ _ _ (c .before .if1 .taken))
+    λ o u d p w sh. c .refused .ensures ∙ refuse-same BadName (at-is (sh .records) _ (c .before .before .of-node .ensures)) ∙ ap seen (unknown-reference d p w _ o _ _ _ _ (c .before .if1 .taken))
 
 referred-facility-at-requires : (t : ℕ) → referred-lts.Need-facility-at-requires (referred-calls t) (referred-at t) referred.Post
 referred-facility-at-requires t c κs = search needs

@@ -8,6 +8,7 @@ use mathlib.Core.Path.{ap, sym, _∙_}
 use borrow.Author.Needs.{needs}
 use Rattle.judge_expressions.proofs.walk.left.Statement.{statement}
 use Rattle.judge_expressions.proofs.walk.left.Tie as tie
+use Rattle.language.specs.declared.refusals.Refusal.the-variants.{BadName}
 
 reference-at-requires : tie.Need-reference-at-requires
 reference-at-requires c κs = search needs
@@ -35,7 +36,7 @@ returns c =
 returns-2 : tie.Need-returns-2
 unfolding leftAt
 returns-2 c =
-    λ d p w sh. rw (sym (ap referenceMeant (sym (c .before .before .enum-told .given .1)) ∙ c .before .before .before .before .reference-at .ensures d p (sh .records))) (c .refused .ensures ∙ refuse-same 4 (at-is (sh .records) _ (c .before .of-node .ensures)))
+    λ d p w sh. rw (sym (ap referenceMeant (sym (c .before .before .enum-told .given .1)) ∙ c .before .before .before .before .reference-at .ensures d p (sh .records))) (c .refused .ensures ∙ refuse-same BadName (at-is (sh .records) _ (c .before .of-node .ensures)))
 
 pub left-spec : {M : Type 1} → statement M
 left-spec =

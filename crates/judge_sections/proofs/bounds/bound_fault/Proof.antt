@@ -1,3 +1,4 @@
+use Rattle.language.specs.declared.refusals.Refusal.the-variants.{BadSubscript}
 use Rattle.language.specs.WordStage.{least}
 use Rattle.language.specs.Words as W
 use Rattle.language.specs.Judging as L
@@ -14,7 +15,7 @@ unless-requires c κs = search needs
 returns : tie.Need-returns
 unfolding largestBound
 returns c =
-    λ q e. c .unless .ensures ∙ ap (λ (u : W.Position). least (L.unless (leb (c .before .args .n) 65535) u 6)) e
+    λ q e. c .unless .ensures ∙ ap (λ (u : W.Position). least (L.unless (leb (c .before .args .n) 65535) u BadSubscript)) e
 
 pub bound-fault-spec : {M : Type 1} → statement M
 bound-fault-spec = tie.close (tie.spec unless-requires returns)

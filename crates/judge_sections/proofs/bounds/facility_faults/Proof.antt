@@ -1,4 +1,5 @@
 use lib.Dec.{leb}
+use Rattle.language.specs.declared.refusals.Refusal.the-variants.{BadSequencing, CeilingPassed}
 use Rattle.language.specs.WordStage.{least}
 use Rattle.language.specs.Words as W
 use Rattle.language.specs.Rules.{largestStore}
@@ -32,8 +33,8 @@ returns : tie.Need-returns
 unfolding largestStore
 returns c =
     λ d p name x e f. c .also2 .ensures _ _
-    (c .before .before .before .unless .ensures ∙ ap₂ (λ (b : Bool) (q : W.Position). least (L.unless b q 9)) (c .before .before .before .before .sequencing-right .ensures d p name) (c .before .before .before .before .before .of-facility .ensures ∙ sym (ap (λ (y : FacilityPlaces). y .name) e)))
-    (c .before .also .ensures _ _ (c .before .before .unless2 .ensures ∙ ap (λ (q : W.Position). least (L.unless (leb (c .before .before .before .before .before .before .before .args .after) 16384) q 10)) (c .before .before .before .before .before .of-facility .ensures ∙ sym (ap (λ (y : FacilityPlaces). y .name) e))) f)
+    (c .before .before .before .unless .ensures ∙ ap₂ (λ (b : Bool) (q : W.Position). least (L.unless b q BadSequencing)) (c .before .before .before .before .sequencing-right .ensures d p name) (c .before .before .before .before .before .of-facility .ensures ∙ sym (ap (λ (y : FacilityPlaces). y .name) e)))
+    (c .before .also .ensures _ _ (c .before .before .unless2 .ensures ∙ ap (λ (q : W.Position). least (L.unless (leb (c .before .before .before .before .before .before .before .args .after) 16384) q CeilingPassed)) (c .before .before .before .before .before .of-facility .ensures ∙ sym (ap (λ (y : FacilityPlaces). y .name) e))) f)
 
 pub facility-faults-spec : {M : Type 1} → statement M
 facility-faults-spec =

@@ -1,6 +1,7 @@
 use Rattle.judge_sections.proofs.FacilityLaws.{same-faulty}
 use Rattle.judge_verdicts.proofs.VerdictLaws.{is-fine}
 use mathlib.Core.Path.{_≡_, ap, ap₂, sym, _∙_}
+use Rattle.language.specs.declared.refusals.Refusal.the-variants.{BadLength}
 use Rattle.text_words.specs.Meaning.{judged}
 use Rattle.judge_verdicts.specs.declared.Worth.{Worth}
 use Rattle.language.specs.WordStage.{least}
@@ -28,7 +29,7 @@ enum-known-v-2 c = search needs
 returns : tie.Need-returns
 returns c =
     λ d p q j z e. is-fine j _ (λ k. judged (c .unless .result) ≡ least (sameLength d p (c .before .before .before .before .before .args .length) q k)) (sym (c .before .before .before .v .given .1) ∙ e)
-    (λ x m. c .unless .ensures ∙ ap₂ (λ (l : ℕ) (u : W.Position). least (L.unless (eqb (c .before .before .before .before .before .args .length) l) u 7)) (ap (λ (v : Worth). v .length) m) z)
+    (λ x m. c .unless .ensures ∙ ap₂ (λ (l : ℕ) (u : W.Position). least (L.unless (eqb (c .before .before .before .before .before .args .length) l) u BadLength)) (ap (λ (v : Worth). v .length) m) z)
 
 returns-2 : tie.Need-returns-2
 returns-2 c =

@@ -5,6 +5,7 @@ use mathlib.Core.Path.{ap, _∙_}
 use borrow.Author.Needs.{needs}
 use Rattle.judge_sections.proofs.operations.operation.Statement.{statement}
 use Rattle.judge_sections.proofs.operations.operation.Tie as tie
+use Rattle.language.specs.declared.refusals.Refusal.the-variants.{NoContinuation}
 
 cast-n : tie.Need-cast-n
 cast-n c = search needs
@@ -20,7 +21,7 @@ refused-requires c κs = search needs
 
 returns : tie.Need-returns
 returns c =
-    λ d p os s r e. c .refused .ensures ∙ refuse-same 3 (c .before .nowhere .ensures) ∙ ap seen (empty-operation d p (c .before .before .before .before .before .before .before .before .before .before .before .before .before .before .before .args .k) e (c .before .before .if1 .taken))
+    λ d p os s r e. c .refused .ensures ∙ refuse-same NoContinuation (c .before .nowhere .ensures) ∙ ap seen (empty-operation d p (c .before .before .before .before .before .before .before .before .before .before .before .before .before .before .before .args .k) e (c .before .before .if1 .taken))
 
 list-requires : tie.Need-list-requires
 list-requires c κs = search needs

@@ -4,6 +4,7 @@ use Rattle.judge_verdicts.proofs.CappedLaws.{capped-leb}
 use Rattle.judge_verdicts.proofs.VerdictLaws.{is-fine}
 use Rattle.judge_verdicts.specs.declared.Worth.{Worth}
 use Rattle.language.specs.Judging as L
+use Rattle.language.specs.declared.refusals.Refusal.the-variants.{BadSequencing, CeilingPassed}
 use Rattle.language.specs.Rules.{mostWork, ownFaults}
 use Rattle.language.specs.Words as W
 use Rattle.language.specs.WordStage.{least}
@@ -33,8 +34,8 @@ returns : tie.Need-returns
 unfolding mostWork
 returns c =
     λ d p l q s j e t m. is-fine j _ (λ k. judged (c .also .result) ≡ least (ownFaults d p l q s k)) (sym (c .before .before .before .before .before .v .given .1) ∙ m)
-    (λ x w. c .also .ensures _ _ (c .before .before .before .unless .ensures ∙ ap₂ (λ (b : Bool) (u : W.Position). least (L.unless b u 9)) t e)
-    (c .before .unless2 .ensures ∙ ap₂ (λ (b : Bool) (u : W.Position). least (L.unless b u 10)) (ap (λ (y : Worth). leb (y .work) 65536) w ∙ capped-leb (x .work)) e))
+    (λ x w. c .also .ensures _ _ (c .before .before .before .unless .ensures ∙ ap₂ (λ (b : Bool) (u : W.Position). least (L.unless b u BadSequencing)) t e)
+    (c .before .unless2 .ensures ∙ ap₂ (λ (b : Bool) (u : W.Position). least (L.unless b u CeilingPassed)) (ap (λ (y : Worth). leb (y .work) 65536) w ∙ capped-leb (x .work)) e))
 
 returns-2 : tie.Need-returns-2
 returns-2 c =

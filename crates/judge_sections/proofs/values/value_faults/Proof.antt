@@ -4,6 +4,7 @@ use Rattle.judge_sections.proofs.ValueLaws.{no-value-faults, value-faul
 use Rattle.judge_sections.specs.Stated.{valuesBefore, wantedLength}
 use Rattle.image_sections.specs.Declarations.{valueMeant}
 use Rattle.language.specs.Judging as L
+use Rattle.language.specs.declared.refusals.Refusal.the-variants.{BadSequencing}
 use Rattle.language.specs.Rules as R
 use Rattle.language.specs.Words as W
 use Rattle.language.specs.WordStage.{least}
@@ -32,7 +33,7 @@ unless-requires c κs = search needs
 
 returns-2 : tie.Need-returns-2
 returns-2 c =
-    λ d p q s e. c .unless .ensures ∙ ap₂ (λ (b : Bool) (u : W.Position). least (L.unless b u 9)) (c .before .right-value .ensures d p s) e ∙ ap least (value-faults-are d p (valuesBefore d p (c .before .before .before .before .before .before .before .args .n)) q (wantedLength (c .before .before .before .before .before .before .before .args .wanted)) _) ∙ ap (λ (x : Option ℕ). least (R.valueFaults d p (wantedLength (c .before .before .before .before .before .before .before .args .wanted)) (valuesBefore d p (c .before .before .before .before .before .before .before .args .n)) q x)) (ap valueMeant (sym (c .before .before .before .value .given .1)))
+    λ d p q s e. c .unless .ensures ∙ ap₂ (λ (b : Bool) (u : W.Position). least (L.unless b u BadSequencing)) (c .before .right-value .ensures d p s) e ∙ ap least (value-faults-are d p (valuesBefore d p (c .before .before .before .before .before .before .before .args .n)) q (wantedLength (c .before .before .before .before .before .before .before .args .wanted)) _) ∙ ap (λ (x : Option ℕ). least (R.valueFaults d p (wantedLength (c .before .before .before .before .before .before .before .args .wanted)) (valuesBefore d p (c .before .before .before .before .before .before .before .args .n)) q x)) (ap valueMeant (sym (c .before .before .before .value .given .1)))
 
 pub value-faults-spec : {M : Type 1} → statement M
 value-faults-spec =

@@ -10,6 +10,7 @@ use mathlib.Core.Path.{_≡_, ap, sym, _∙_}
 use borrow.Author.Needs.{needs}
 use Rattle.judge_terms.proofs.operators.choice.Statement.{statement}
 use Rattle.judge_terms.proofs.operators.choice.Tie as tie
+use Rattle.language.specs.declared.refusals.Refusal.the-variants.{BadLength}
 
 both-requires : tie.Need-both-requires
 both-requires c κs = search needs
@@ -28,7 +29,7 @@ returns c =
     λ d p t known q j k z e f. both-fine j k _ _ _ (pair-known j k (c .before .before .before .before .before .before .both .ensures) (c .before .before .before .before .v .given .1) e f)
     (λ x y m n.
     let a : selects (x .length) (c .before .before .before .before .before .before .before .args .count) ≡ false = ap (λ (l : ℕ). selects l (c .before .before .before .before .before .before .before .args .count)) (ap (λ (v : Worth). v .length) (sym m)) ∙ sym (c .before .before .selects .ensures) ∙ not-true _ (c .before .if1 .taken) in
-    rw a (c .refused .ensures ∙ refuse-same 7 z))
+    rw a (c .refused .ensures ∙ refuse-same BadLength z))
 
 refused-requires-2 : tie.Need-refused-requires-2
 refused-requires-2 c κs = search needs
@@ -39,7 +40,7 @@ returns-2 c =
     (λ x y m n.
     let a : selects (x .length) (c .before .before .before .before .before .before .before .before .before .args .count) ≡ true = ap (λ (l : ℕ). selects l (c .before .before .before .before .before .before .before .before .before .args .count)) (ap (λ (v : Worth). v .length) (sym m)) ∙ sym (c .before .before .before .before .selects .ensures) ∙ not-false _ (c .before .before .before .if1 .left) in
     let b : eqb (y .arms) (c .before .before .before .before .before .before .before .before .before .args .count) ≡ false = sym (capped-eqb (y .arms) (c .before .before .before .before .before .before .before .before .before .args .count) (search needs)) ∙ ne-eqb _ _ (λ u. c .before .if2 .taken (ap (λ (v : Worth). v .arms) n ∙ u)) in
-    rw (a, b) (c .refused2 .ensures ∙ refuse-same 7 z))
+    rw (a, b) (c .refused2 .ensures ∙ refuse-same BadLength z))
 
 cast-sized : tie.Need-cast-sized
 cast-sized c = search needs

@@ -3,6 +3,7 @@ use mathlib.Core.Path.{_∙_}
 use borrow.Author.Needs.{needs}
 use Rattle.judge_terms.proofs.references.counted_wrong.Statement.{statement}
 use Rattle.judge_terms.proofs.references.counted_wrong.Tie as tie
+use Rattle.language.specs.declared.refusals.Refusal.the-variants.{BadSubscript}
 
 faults-of-requires : tie.Need-faults-of-requires
 faults-of-requires c κs = search needs
@@ -15,7 +16,7 @@ or-faulty-requires c κs = search needs
 
 returns : tie.Need-returns
 returns c =
-    λ q j z e. c .or-faulty .ensures _ _ (c .before .before .faults-of .ensures j e) (c .before .refused .ensures ∙ refuse-same 6 z)
+    λ q j z e. c .or-faulty .ensures _ _ (c .before .before .faults-of .ensures j e) (c .before .refused .ensures ∙ refuse-same BadSubscript z)
 
 pub counted-wrong-spec : {M : Type 1} → statement M
 counted-wrong-spec =

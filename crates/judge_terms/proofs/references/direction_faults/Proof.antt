@@ -1,4 +1,5 @@
 use Rattle.judge_terms.proofs.RecordLaws.{last-is}
+use Rattle.language.specs.declared.refusals.Refusal.the-variants.{BadSubscript}
 use Rattle.language.specs.WordStage.{least}
 use Rattle.language.specs.Words as W
 use Rattle.language.specs.ReferenceRules.{directionFaults}
@@ -52,7 +53,7 @@ returns-2 c =
 returns-3 : tie.Need-returns-3
 unfolding directionFaults
 returns-3 c =
-    λ d p t exprs name s. rw (c .before .before .before .s .given .1) (c .unless .ensures ∙ ap₂ (λ (b : Bool) (q : W.Position). least (L.unless b q 6)) (c .before .same-direction .ensures) (last-is s _ (c .before .before .before .before .before .before .of-node .ensures)))
+    λ d p t exprs name s. rw (c .before .before .before .s .given .1) (c .unless .ensures ∙ ap₂ (λ (b : Bool) (q : W.Position). least (L.unless b q BadSubscript)) (c .before .same-direction .ensures) (last-is s _ (c .before .before .before .before .before .before .of-node .ensures)))
 
 returns-4 : tie.Need-returns-4
 unfolding directionFaults least
@@ -62,7 +63,7 @@ returns-4 c =
 returns-5 : tie.Need-returns-5
 unfolding directionFaults
 returns-5 c =
-    λ d p t exprs name s. rw (c .before .before .before .s2 .given .1) (c .unless2 .ensures ∙ ap₂ (λ (b : Bool) (q : W.Position). least (L.unless b q 6)) (c .before .same-direction2 .ensures) (last-is s _ (c .before .before .before .before .before .before .of-node .ensures)))
+    λ d p t exprs name s. rw (c .before .before .before .s2 .given .1) (c .unless2 .ensures ∙ ap₂ (λ (b : Bool) (q : W.Position). least (L.unless b q BadSubscript)) (c .before .same-direction2 .ensures) (last-is s _ (c .before .before .before .before .before .before .of-node .ensures)))
 
 pub direction-faults-spec : {M : Type 1} → statement M
 direction-faults-spec =

@@ -1,4 +1,5 @@
 use Rattle.judge_terms.proofs.RecordLaws.{first-is, last-is}
+use Rattle.language.specs.declared.refusals.Refusal.the-variants.{BadSubscript}
 use Rattle.language.specs.WordStage.{least}
 use Rattle.language.specs.Words as W
 use Rattle.language.specs.Judging as L
@@ -38,8 +39,8 @@ also-requires c κs = search needs
 returns : tie.Need-returns
 returns c =
     λ d p t exprs s. c .also .ensures _ _
-    (c .before .before .before .before .unless .ensures ∙ ap₂ (λ (b : Bool) (q : W.Position). least (L.unless b q 6)) (c .before .before .before .before .before .in-bounds .ensures) (first-is s _ (c .before .before .before .before .before .before .before .before .of-node .ensures)))
-    (c .before .unless2 .ensures ∙ ap₂ (λ (b : Bool) (q : W.Position). least (L.unless b q 6)) (c .before .before .in-bounds2 .ensures) (last-is s _ (c .before .before .before .before .before .before .before .of-node2 .ensures)))
+    (c .before .before .before .before .unless .ensures ∙ ap₂ (λ (b : Bool) (q : W.Position). least (L.unless b q BadSubscript)) (c .before .before .before .before .before .in-bounds .ensures) (first-is s _ (c .before .before .before .before .before .before .before .before .of-node .ensures)))
+    (c .before .unless2 .ensures ∙ ap₂ (λ (b : Bool) (q : W.Position). least (L.unless b q BadSubscript)) (c .before .before .in-bounds2 .ensures) (last-is s _ (c .before .before .before .before .before .before .before .of-node2 .ensures)))
 
 pub end-faults-spec : {M : Type 1} → statement M
 end-faults-spec =

@@ -1,5 +1,6 @@
 use Rattle.judge_terms.proofs.RecordLaws.{at-is, no-constant, node-is}
 use Rattle.image_records.specs.Nodes.{meant}
+use Rattle.language.specs.declared.refusals.Refusal.the-variants.{BadSubscript}
 use Rattle.language.specs.WordStage.{least}
 use Rattle.language.specs.Words as W
 use Rattle.language.specs.References.{constantOf}
@@ -33,7 +34,7 @@ unless-requires c κs = search needs
 returns-2 : tie.Need-returns-2
 returns-2 c =
     λ d p t s. rw (ap constantOf (node-is s _ (c .before .before .before .before .before .node-at .result) (c .before .before .before .before .before .node-at .ensures) (c .before .before .before .enum-told .given .1)))
-    (c .unless .ensures ∙ ap₂ (λ (b : Bool) (q : W.Position). least (L.unless b q 6))
+    (c .unless .ensures ∙ ap₂ (λ (b : Bool) (q : W.Position). least (L.unless b q BadSubscript))
     (c .before .within .ensures _ (sym (c .before .before .before .before .before .node-at .ensures) ∙ ap (meant _) (c .before .before .before .enum-told .given .1))) (at-is s _ (c .before .before .of-node .ensures)))
 
 pub subscript-faults-spec : {M : Type 1} → statement M

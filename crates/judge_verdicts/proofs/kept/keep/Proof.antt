@@ -14,11 +14,11 @@ put-requires c κs = search needs
 enum-known-v-2 : tie.Need-enum-known-v-2
 enum-known-v-2 c = search needs
 
-cast-put : tie.Need-cast-put
-cast-put c = search needs
+refusal-number-requires : tie.Need-refusal-number-requires
+refusal-number-requires c κs = search needs
 
-add-put : tie.Need-add-put
-add-put c = search needs
+cast-mark : tie.Need-cast-mark
+cast-mark c = search needs
 
 place-requires : tie.Need-place-requires
 place-requires c κs = search needs
@@ -38,7 +38,7 @@ same-length-2 c = search needs
 
 returns-2 : tie.Need-returns-2
 returns-2 c =
-    rw (c .before .before .before .before .before .before .before .v2 .given .1, c .before .before .put2 .ensures, ap (λ (p : Position). p .place) (c .before .before .before .place .ensures)) (kept-faulty _ _ (c .before .before .before .before .before .before .before .before .before .before .pre) _ (search needs))
+    rw (c .before .before .before .before .before .before .before .v2 .given .1, c .before .before .put2 .ensures, ap (λ (p : Position). p .place) (c .before .before .before .place .ensures), c .before .before .before .before .before .refusal-number .ensures) (kept-faulty _ _ (c .before .before .before .before .before .before .before .before .before .before .pre) _)
 
 pub keep-spec : {M : Type 1} → statement M
 keep-spec =
@@ -47,8 +47,8 @@ keep-spec =
     enum-known-v
     put-requires
     enum-known-v-2
-    cast-put
-    add-put
+    refusal-number-requires
+    cast-mark
     place-requires
     put-requires-2
     same-length

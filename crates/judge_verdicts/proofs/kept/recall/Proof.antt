@@ -1,6 +1,6 @@
 use Rattle.judge_verdicts.specs.declared.Verdict.the-variants.{Faulty}
 use Rattle.language.specs.Words.{Position}
-use Prim.Native.Nat.{ℕ, _-_, _%_}
+use Prim.Native.Nat.{ℕ}
 use Rattle.judge_verdicts.specs.Meaning.{recalled}
 use borrow.Author.Tests.{eq-eqb, ne-eqb}
 use mathlib.Core.Path.{ap}
@@ -28,17 +28,14 @@ returns c =
 position-requires : tie.Need-position-requires
 position-requires c κs = search needs
 
-sub-t7 : tie.Need-sub-t7
-sub-t7 c = search needs
-
-cast-t11 : tie.Need-cast-t11
-cast-t11 c = search needs
+numbered-requires : tie.Need-numbered-requires
+numbered-requires c κs = search needs
 
 returns-2 : tie.Need-returns-2
 unfolding recalled
 returns-2 c =
-    rw (← c .before .before .before .number .ensures, ne-eqb _ 0 (c .before .if1 .left), ← c .before .before .number2 .ensures)
-    (ap (λ (x : ℕ). Faulty (record { at = record { place = x }; number = (c .before .before .before .number .result - 1) % 256 })) (ap (λ (p : Position). p .place) (c .position .ensures)))
+    rw (← c .before .before .before .before .number .ensures, ne-eqb _ 0 (c .before .before .if1 .left), ← c .before .before .before .number2 .ensures, ← c .numbered .ensures)
+    (ap (λ (x : ℕ). Faulty (record { at = record { place = x }; refusal = c .numbered .result })) (ap (λ (p : Position). p .place) (c .before .position .ensures)))
 
 pub recall-spec : {M : Type 1} → statement M
 recall-spec =
@@ -50,6 +47,5 @@ recall-spec =
     number-requires-2
     returns
     position-requires
-    sub-t7
-    cast-t11
+    numbered-requires
     returns-2)

@@ -24,8 +24,8 @@ unfolding sized longest
 returns-2 c =
     λ w e. rw (lt-ltb 0 (c .before .before .before .args .length) (omega arith), lt-leb _ 256 (c .before .if2 .taken)) (c .refused2 .ensures)
 
-cast-t5 : tie.Need-cast-t5
-cast-t5 c = search needs
+cast-t7 : tie.Need-cast-t7
+cast-t7 c = search needs
 
 returns-3 : tie.Need-returns-3
 unfolding sized longest seen capped mostWork
@@ -34,4 +34,4 @@ returns-3 c =
 
 pub sized-spec : {M : Type 1} → statement M
 sized-spec =
-    tie.close (tie.spec refused-requires returns refused-requires-2 returns-2 cast-t5 returns-3)
+    tie.close (tie.spec refused-requires returns refused-requires-2 returns-2 cast-t7 returns-3)

@@ -5,6 +5,7 @@ use Rattle.call_answers.specs.declared.read.Answer.the-variants.{Accepted, Refu
 use Rattle.call_answers.specs.Reading.{called}
 use Rattle.language.specs.Encode.{imageOf}
 use Rattle.language.specs.Reading.{withRoom}
+use Rattle.language.specs.declared.refusals.Refusal.the-variants.{BufferTooShort}
 use Rattle.parse_held.proofs.BodyLaws.{within-few}
 use Rattle.parse_held.proofs.WholeLaws.{no-room, room}
 use Rattle.parse_held.specs.declared.Tally.{Tally}
@@ -33,7 +34,7 @@ same-length c = search needs
 
 returns : tie.Need-returns
 returns c =
-    λ f. subst (λ (x : Tally). called (Refused 12 0) (c .before .before .before .before .before .before .zero .last .0) ≡ withRoom (length (c .before .before .before .before .before .before .before .before .before .before .before .args .image .now)) (imageOf (sectionsHeld (c .before .before .before .before .before .before .before .before .before .before .before .args .text .now) (c .before .before .before .before .before .before .before .before .before .before .before .args .work .now) x))) (c .before .before .before .within .ensures .0 ∙ within-few (c .before .before .before .before .before .before .before .before .before .before .before .args .c) f) (no-room (c .before .before .before .before .before .before .before .before .before .before .before .args .text .now) (c .before .before .before .before .before .before .before .before .before .before .before .args .work .now) (c .before .before .before .within .result) (c .before .before .before .before .before .before .before .before .s .given .0) (c .before .before .before .within .ensures .1) (c .before .before .before .before .before .before .before .before .before .before .before .args .image .now) (c .before .count .ensures .0) (c .before .before .names-from .ensures .0) (c .before .before .before .before .before .before .zero .ensures) (c .if1 .taken))
+    λ f. subst (λ (x : Tally). called (Refused BufferTooShort 0) (c .before .before .before .before .before .before .zero .last .0) ≡ withRoom (length (c .before .before .before .before .before .before .before .before .before .before .before .args .image .now)) (imageOf (sectionsHeld (c .before .before .before .before .before .before .before .before .before .before .before .args .text .now) (c .before .before .before .before .before .before .before .before .before .before .before .args .work .now) x))) (c .before .before .before .within .ensures .0 ∙ within-few (c .before .before .before .before .before .before .before .before .before .before .before .args .c) f) (no-room (c .before .before .before .before .before .before .before .before .before .before .before .args .text .now) (c .before .before .before .before .before .before .before .before .before .before .before .args .work .now) (c .before .before .before .within .result) (c .before .before .before .before .before .before .before .before .s .given .0) (c .before .before .before .within .ensures .1) (c .before .before .before .before .before .before .before .before .before .before .before .args .image .now) (c .before .count .ensures .0) (c .before .before .names-from .ensures .0) (c .before .before .before .before .before .before .zero .ensures) (c .if1 .taken))
 
 cast-header-counts : tie.Need-cast-header-counts
 cast-header-counts c = search needs

@@ -22,6 +22,12 @@ returns c =
     let q : c .before .place2 .result ≡ b .at .place = ap (λ (q : Position). q .place) (c .before .place2 .ensures) in
     simp (lt-ltb (a .at .place) (b .at .place) (omega arith))
 
+refusal-number-requires : tie.Need-refusal-number-requires
+refusal-number-requires c κs = search needs
+
+refusal-number-requires-2 : tie.Need-refusal-number-requires-2
+refusal-number-requires-2 c κs = search needs
+
 returns-2 : tie.Need-returns-2
 unfolding before
 returns-2 c =
@@ -29,7 +35,7 @@ returns-2 c =
     let b = c .before .before .before .before .before .before .args .b in
     let p : c .before .before .before .before .before .place .result ≡ a .at .place = ap (λ (q : Position). q .place) (c .before .before .before .before .before .place .ensures) in
     let q : c .before .before .before .before .place2 .result ≡ b .at .place = ap (λ (q : Position). q .place) (c .before .before .before .before .place2 .ensures) in
-    simp (le-ltb (a .at .place) (b .at .place) (omega arith), eq-eqb (a .at .place) (b .at .place) (omega arith))
+    simp (c .before .refusal-number .ensures, c .refusal-number2 .ensures, le-ltb (a .at .place) (b .at .place) (omega arith), eq-eqb (a .at .place) (b .at .place) (omega arith))
 
 returns-3 : tie.Need-returns-3
 unfolding before
@@ -41,4 +47,4 @@ returns-3 c =
     simp (le-ltb (a .at .place) (b .at .place) (omega arith), ne-eqb (a .at .place) (b .at .place) (λ e. c .if2 .left (omega arith)))
 
 pub before-spec : {M : Type 1} → statement M
-before-spec = tie.close (tie.spec place-requires place-requires-2 returns returns-2 returns-3)
+before-spec = tie.close (tie.spec place-requires place-requires-2 returns refusal-number-requires refusal-number-requires-2 returns-2 returns-3)

@@ -10,7 +10,7 @@ position-requires : tie.Need-position-requires
 position-requires c κs = search needs
 
 returns : tie.Need-returns
-returns c = ap (λ (p : L.Position). some (fault p (c .before .args .number))) (c .position .ensures)
+returns c = ap (λ (p : L.Position). some (fault p (c .before .args .refusal))) (c .position .ensures)
 
 pub refused-spec : {M : Type 1} → statement M
 refused-spec = tie.close (tie.spec position-requires returns)

@@ -1,3 +1,4 @@
+use mathlib.Core.Path.{refl}
 use Rattle.language.specs.Scan.{bytes}
 use borrow.Author.Needs.{needs}
 use Rattle.trace_line.proofs.told.not_taken.Statement.{statement}
@@ -5,6 +6,12 @@ use Rattle.trace_line.proofs.told.not_taken.Tie as tie
 
 slice-aggregate-numbered : tie.Need-slice-aggregate-numbered
 slice-aggregate-numbered c = search needs
+
+refusal-number-requires : tie.Need-refusal-number-requires
+refusal-number-requires c κs = search needs
+
+cast-numbered : tie.Need-cast-numbered
+cast-numbered c = search needs
 
 numbered-requires : tie.Need-numbered-requires
 numbered-requires c κs = search needs
@@ -14,8 +21,9 @@ same-length c = search needs
 
 returns : tie.Need-returns
 unfolding bytes
-returns c = search needs
+returns c =
+    (refl, rw (c .before .before .before .refusal-number .ensures) at (c .before .before .numbered .ensures))
 
 pub not-taken-spec : {M : Type 1} → statement M
 not-taken-spec =
-    tie.close (tie.spec slice-aggregate-numbered numbered-requires same-length returns)
+    tie.close (tie.spec slice-aggregate-numbered refusal-number-requires cast-numbered numbered-requires same-length returns)

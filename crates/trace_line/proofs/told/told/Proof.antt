@@ -16,6 +16,9 @@ enum-known-answer c = search needs
 slice-aggregate-numbered : tie.Need-slice-aggregate-numbered
 slice-aggregate-numbered c = search needs
 
+stop-number-requires : tie.Need-stop-number-requires
+stop-number-requires c κs = search needs
+
 cast-numbered : tie.Need-cast-numbered
 cast-numbered c = search needs
 
@@ -27,6 +30,9 @@ enum-known-answer-2 c = search needs
 
 slice-aggregate-numbered-2 : tie.Need-slice-aggregate-numbered-2
 slice-aggregate-numbered-2 c = search needs
+
+refusal-number-requires : tie.Need-refusal-number-requires
+refusal-number-requires c κs = search needs
 
 cast-numbered-2 : tie.Need-cast-numbered-2
 cast-numbered-2 c = search needs
@@ -47,7 +53,7 @@ same-length-2 c = search needs
 returns-2 : tie.Need-returns-2
 unfolding bytes
 returns-2 c =
-    λ R R′ scratch k q is. carried-stop (c .before .before .before .before .before .before .before .before .before .before .before .args .answer) scratch is _ (c .before .before .before .before .before .before .answer .given .1) (c .before .before .numbered .ensures)
+    λ R R′ scratch k q is. carried-stop (c .before .before .before .before .before .before .before .before .before .before .before .before .args .answer) scratch is _ (c .before .before .before .before .before .before .before .answer .given .1) (rw (c .before .before .before .stop-number .ensures) at (c .before .before .numbered .ensures))
 
 same-length-3 : tie.Need-same-length-3
 same-length-3 c = search needs
@@ -55,7 +61,7 @@ same-length-3 c = search needs
 returns-3 : tie.Need-returns-3
 unfolding bytes
 returns-3 c =
-    λ R R′ scratch k q is. carried-refused (c .before .before .before .before .before .before .before .before .before .before .before .args .answer) scratch is _ (c .before .before .before .before .before .before .answer2 .given .1) (c .before .before .numbered2 .ensures)
+    λ R R′ scratch k q is. carried-refused (c .before .before .before .before .before .before .before .before .before .before .before .before .args .answer) scratch is _ (c .before .before .before .before .before .before .before .answer2 .given .1) (rw (c .before .before .before .refusal-number .ensures) at (c .before .before .numbered2 .ensures))
 
 pub told-spec : {M : Type 1} → statement M
 told-spec =
@@ -65,10 +71,12 @@ told-spec =
     shown-requires
     enum-known-answer
     slice-aggregate-numbered
+    stop-number-requires
     cast-numbered
     numbered-requires
     enum-known-answer-2
     slice-aggregate-numbered-2
+    refusal-number-requires
     cast-numbered-2
     numbered-requires-2
     same-length

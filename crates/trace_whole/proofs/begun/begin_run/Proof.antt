@@ -14,6 +14,9 @@ read-requires c κs = search needs
 enum-known-n : tie.Need-enum-known-n
 enum-known-n c = search needs
 
+refusal-number-requires : tie.Need-refusal-number-requires
+refusal-number-requires c κs = search needs
+
 cast-refusal : tie.Need-cast-refusal
 cast-refusal c = search needs
 
@@ -49,7 +52,7 @@ same-length-2 c = search needs
 
 returns : tie.Need-returns
 returns c =
-    λ h. refuses (c .before .before .before .before .before .before .before .before .before .before .before .before .before .before .before .before .args .text .now) (c .before .before .before .before .before .before .before .before .before .read .last .1 .0) (c .before .before .before .before .before .before .before .before .before .read .result) _ _ _ (c .before .before .before .before .before .n .given .1) (c .before .before .before .before .before .before .before .before .before .read .ensures .0) (c .before .before .refusal .ensures) h
+    λ h. refuses (c .before .before .before .before .before .before .before .before .before .before .before .before .before .before .before .before .before .args .text .now) (c .before .before .before .before .before .before .before .before .before .before .read .last .1 .0) (c .before .before .before .before .before .before .before .before .before .before .read .result) _ _ _ (c .before .before .before .before .before .before .n .given .1) (c .before .before .before .before .before .before .before .before .before .before .read .ensures .0) (rw (c .before .before .before .refusal-number .ensures) at (c .before .before .refusal .ensures)) h
 
 same-length-3 : tie.Need-same-length-3
 same-length-3 c = search needs
@@ -72,6 +75,7 @@ begin-run-spec =
     (tie.spec
     read-requires
     enum-known-n
+    refusal-number-requires
     cast-refusal
     refusal-requires
     enum-known-n-2

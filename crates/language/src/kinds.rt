@@ -1,4 +1,4 @@
-// The kinds of words, a number for each symbol and each reserved word, by the names of `Kinds` in language.
+// The kinds of words (the manual, 2.1), a number for each symbol and each reserved word, as specs/Kinds.antt names them.
 
 // A name and a constant have kinds of their own.
 pub const NAME: u8 = 1;
