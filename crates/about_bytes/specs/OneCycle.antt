@@ -5,24 +5,27 @@ use mathlib.Core.Option.{Option, none, some}
 use mathlib.Core.Path.{_≡_, refl, sym, _∙_}
 use native.Mathlib.Nat.{zero-add}
 use native.Mathlib.Omega.{arith}
-use Prim.Native.Nat.{ℕ}
+use Prim.Native.Nat.{ℕ, _<_, _^_}
 use borrow.Author.Tests.{eq-eqb, eqb-true}
 use lib.Dec.{eqb}
 use lib.ListN.{drop, length, length-drop, length-take, take}
 use lib.Seq.{take-all}
+use Rattle.about_running.specs.FewConflicts.{few-conflicts}
 use Rattle.language.specs.Calls.{CycleAnswer, CycleCall, RunAnswer, RunCall, Running, afterCycle, afterStep, allWellFormed, cycle, cycleRefusal, cycled, cycles, ran, refusedFor, roomy, run, runRefusal, runRefused, stimulusSize, stoppedFor, wellFormed}
 use Rattle.language.specs.Decode.{decode}
 use Rattle.language.specs.Description.{Description}
+use Rattle.language.specs.Image.{passes}
 use Rattle.language.specs.Judging.{both}
 use Rattle.language.specs.Layout.{storeSize}
 use Rattle.language.specs.Reading.{zeroes}
 use Rattle.language.specs.RecordBytes.{recordFrom}
+use Rattle.language.specs.Rules.{mostWork}
 use Rattle.language.specs.Step.{Outcome, completed, step}
 use Rattle.language.specs.Store.{fromBytes, inputsOf}
 use Rattle.language.specs.declared.refusals.Refusal.{Refusal}
 use Rattle.language.specs.declared.stops.Stop.{Stop}
 use Rattle.about_running.specs.Cycle.{Well}
-use Rattle.about_running.specs.NeverStuck.{never-stuck}
+use Rattle.about_running.specs.NeverStuck.{legal-image, never-stuck}
 use Rattle.about_bytes.specs.ManyCycles.{one-long}
 use Rattle.about_bytes.specs.StaysSound.{unrefused}
 
@@ -31,6 +34,11 @@ abbrev pub told : RunAnswer → CycleAnswer
 told (ran n conflicts none) = cycled conflicts
 told (ran n conflicts (some s)) = stoppedFor s
 told (runRefused r) = refusedFor r
+
+-- Its conflicts have 32 bits.
+abbrev pub Counted : RunAnswer → Type 0
+Counted (ran n conflicts stop) = conflicts < 2 ^ 32
+Counted (runRefused r) = Unit {0}
 
 abbrev pub single : RunCall → CycleCall
 single c = record { answer = told (c .answer); store = c .store; record′ = c .record′; scratch = c .scratch }
@@ -108,3 +116,23 @@ module _ (image store record′ stimulus : List ℕ) (scratch : ℕ) where
       go none e =
           let u = unrefused image store record′ stimulus scratch e in
           rw (sym one-refusal ∙ e, all-there d stimulus (one-long d stimulus (u .form)), e) (by-outcome outcome (never-stuck image store record′ stimulus scratch e))
+
+  few-by : (o : Outcome) → step (decode image) (fromBytes (decode image .facilities) store) (recordFrom record′) (fromBytes (inputsOf (decode image .facilities)) stimulus) ≡ o → passes image ≡ true
+      → Well (decode image) o → Counted (whole (afterStep (decode image) store record′ scratch o) .answer)
+  unfolding mostWork
+  few-by (completed s r n) q p h = let m = few-conflicts d (legal-image image p) (fromBytes (d .facilities) store) (recordFrom record′) (fromBytes (inputsOf (d .facilities)) stimulus) q in omega (arith, m)
+  few-by (Outcome.stopped n) q p h = omega arith
+
+  -- At most 65,536 conflicts.
+  pub one-counted : Counted (run image store record′ stimulus 1 scratch 0 .answer)
+  unfolding cycle run cycles
+  one-counted = go (cycleRefusal image store record′ stimulus scratch) refl
+    where
+      outcome : Outcome
+      outcome = step d (fromBytes (d .facilities) store) (recordFrom record′) (fromBytes (inputsOf (d .facilities)) stimulus)
+
+      go : (x : Option Refusal) → cycleRefusal image store record′ stimulus scratch ≡ x → Counted (run image store record′ stimulus 1 scratch 0 .answer)
+      go (some r) e = rw (sym one-refusal ∙ e) tt
+      go none e =
+          let u = unrefused image store record′ stimulus scratch e in
+          rw (sym one-refusal ∙ e, all-there d stimulus (one-long d stimulus (u .form)), e) (few-by outcome refl (u .passing) (never-stuck image store record′ stimulus scratch e))

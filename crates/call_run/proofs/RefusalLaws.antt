@@ -1,14 +1,15 @@
 -- The tests of a run, each where those before it were passed. Assumes nothing.
-use mathlib.Core.Bool.{true, false}
+use mathlib.Core.Bool.{Bool, true, false}
 use mathlib.Core.List.{List}
 use mathlib.Core.Option.{none, some}
-use mathlib.Core.Path.{_≡_, refl}
-use Prim.Native.Nat.{ℕ, _*_, _≤_, _<_}
+use mathlib.Core.Path.{_≡_, refl, sym}
+use Prim.Native.Nat.{ℕ, _*_, _/_, _≤_, _<_}
 use native.Mathlib.Nat.{mul-le-mul}
 use native.Mathlib.Omega.{arith}
-use borrow.Author.Tests.{eq-eqb, ne-eqb}
+use borrow.Author.Tests.{eq-eqb, le-leb, leb-false, leb-true, lt-leb, ne-eqb}
 use lib.Dec.{leb}
 use lib.ListN.{length}
+use Rattle.about_running.specs.LegalForm.{left-of}
 use Rattle.language.specs.Calls.{RunCall, allWellFormed, roomy, run, runRefusal, runRefused, soundBytes, traceRoomy}
 use Rattle.language.specs.Decode.{decode}
 use Rattle.language.specs.Description.{Description}
@@ -29,6 +30,31 @@ module _ (d : Description) (count trace : ℕ) where
 
   pub some-trace : (trace ≡ 0 → ⊥) → (size : ℕ) → size ≡ storeSize d → leb (count * size) trace ≡ traceRoomy d count trace
   some-trace h size e = rw (ne-eqb trace 0 h, e) refl
+
+-- ---- Room.
+
+module _ (d : Description) (store kept scratch : ℕ) where
+  pub small-store : store < storeSize d → false ≡ roomy d store kept scratch
+  unfolding roomy
+  small-store h = rw (lt-leb (storeSize d) store h)
+
+  pub room-store : roomy d store kept scratch ≡ true → storeSize d ≤ store
+  unfolding roomy
+  room-store e = leb-true (storeSize d) store (left-of (leb (storeSize d) store) _ e)
+
+  module _ (h : storeSize d ≤ store) where
+    pub small-record : kept < 80 → false ≡ roomy d store kept scratch
+    unfolding roomy
+    small-record k = rw (le-leb (storeSize d) store h, lt-leb 80 kept k)
+
+    -- Four times the store, without a product.
+    pub rest-of-room : 80 ≤ kept → (size : ℕ) → size ≡ storeSize d → leb size (scratch / 4) ≡ roomy d store kept scratch
+    unfolding roomy
+    rest-of-room k size e = rw (le-leb (storeSize d) store h, le-leb 80 kept k) (by-test (leb size (scratch / 4)) refl)
+      where
+        by-test : (b : Bool) → leb size (scratch / 4) ≡ b → b ≡ leb (4 * storeSize d) scratch
+        by-test true t = let l = leb-true size (scratch / 4) t in sym (le-leb (4 * storeSize d) scratch (omega (arith, l, e)))
+        by-test false t = let l = leb-false size (scratch / 4) t in sym (lt-leb (4 * storeSize d) scratch (omega (arith, l, e)))
 
 -- ---- The tests in their order.
 

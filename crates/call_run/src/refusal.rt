@@ -1,6 +1,4 @@
-// Why a run is refused: an image that does not pass, too little room, store or record not sound, a stimulus of another form.
-use call_cycle::refusal;
-use call_cycle::refusal::Tested;
+// Why a run is refused, and a cycle, which is a run of one stimulus: an image that does not pass, too little room, store or record not sound, a stimulus of another form.
 use image_sections::sections;
 use language::refusals::Refusal;
 use run_begin::formed;
@@ -8,11 +6,30 @@ use run_soundness::sizes;
 use run_soundness::soundness;
 ghost use mathlib.Core.Path.{_≡_};
 ghost use Prim.Native.Nat.{_≤_};
+ghost use Rattle.language.specs.Calls as L;
 ghost use Rattle.language.specs.Calls.{runRefusal, traceRoomy};
 ghost use Rattle.language.specs.Description.{Description};
 ghost use Rattle.language.specs.Image.{passes};
 ghost use Rattle.language.specs.Layout.{storeSize};
-ghost use Rattle.call_cycle.specs.Refusals.{refusalSeen};
+ghost use Rattle.call_run.specs.Refusals.{refusalSeen};
+
+pub enum Tested {
+    Refused(Refusal),
+    Passed,
+}
+
+// Whether the buffers lent are long enough for a store of this size.
+fn roomy(size: usize, store: usize, record: usize, scratch: usize) -> bool
+    ensures { λ r. ⌜ ((d : Description) → size ≡ storeSize d → r ≡ L.roomy d store «record» scratch) ⌝ }
+{
+    if store < size {
+        return false;
+    }
+    if record < 80 {
+        return false;
+    }
+    size <= scratch / 4
+}
 
 // Whether the trace takes a store of this size after each cycle, or is empty.
 fn trace_roomy(size: usize, cycles: u32, trace: usize) -> bool
@@ -46,7 +63,7 @@ pub fn run_refusal(
     let expressions = sections::section(image, sections::EXPRESSIONS);
     let states = sections::section(image, sections::STATES);
     let size = sizes::store_size(facilities);
-    if !refusal::roomy(size, store.len(), record.len(), scratch) {
+    if !roomy(size, store.len(), record.len(), scratch) {
         return Tested::Refused(Refusal::BufferTooShort);
     }
     if !trace_roomy(size, cycles, trace) {

@@ -1,7 +1,7 @@
 // Many cycles: all that a caller is owed, on every input, where it is known whether the image passes.
 use crate::refusal;
+use crate::refusal::Tested;
 use call_answers::ran::Answer;
-use call_cycle::refusal::Tested;
 use call_stimuli::carry;
 use store_words::slices;
 ghost use mathlib.Core.Path.{_≡_};

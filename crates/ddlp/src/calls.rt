@@ -44,7 +44,7 @@ pub extern "C" fn ddlp_cycle(
     ensures { λ _. ⌜ now («record» .exit) ≡ L.cycle (now (image .entry)) (now (store .entry)) (now («record» .entry)) (now (stimulus .entry)) (length (now (scratch .entry))) .record′ ⌝ }
     ensures { λ _. ⌜ now (scratch .exit) ≡ L.cycle (now (image .entry)) (now (store .entry)) (now («record» .entry)) (now (stimulus .entry)) (length (now (scratch .entry))) .scratch ⌝ }
 {
-    let answer = call_cycle::cycle::cycle(
+    let answer = call_run::cycle::cycle(
         image,
         call_check::passes(image),
         store,

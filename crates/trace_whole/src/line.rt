@@ -32,7 +32,7 @@ fn carried(
     ensures { λ r. ⌜ Carried (now (image .entry)) number (now («record» .entry)) (L.cycle (now (image .entry)) (now (store .entry)) (now («record» .entry)) (now (stimulus .entry)) (length (now (scratch .entry)))) (r .on) (now (store .exit)) (now («record» .exit)) (now (out .entry)) at (now (out .exit)) (r .end) ⌝ }
 {
     let state = numbers::four(record, 4);
-    let answer = call_cycle::cycle::cycle(image, true, store, record, stimulus, scratch);
+    let answer = call_run::cycle::cycle(image, true, store, record, stimulus, scratch);
     told::told(image, answer, state, number, store, out, at)
 }
 

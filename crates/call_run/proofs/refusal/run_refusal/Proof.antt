@@ -6,8 +6,7 @@ use lib.ListN.{length}
 use Rattle.language.specs.Decode.{decode, sectionAt}
 use Rattle.language.specs.Layout.{storeSize}
 use Rattle.run_soundness.proofs.PassedLaws.{passed-described, passed-facilities, passed-size, passed-testable}
-use Rattle.call_cycle.proofs.RefusalLaws.{room-store}
-use Rattle.call_run.proofs.RefusalLaws.{no-image, no-refusal, no-room, no-trace-room, not-formed, not-sound}
+use Rattle.call_run.proofs.RefusalLaws.{no-image, no-refusal, no-room, no-trace-room, not-formed, not-sound, room-store}
 use Rattle.call_run.proofs.refusal.run_refusal.Statement.{statement}
 use Rattle.call_run.proofs.refusal.run_refusal.Tie as tie
 use Rattle.language.specs.Encode.{expressionsSection, nodeSize}

@@ -1,7 +1,7 @@
 use native.Mathlib.Omega.{arith}
-use Rattle.call_cycle.proofs.RefusalLaws.{rest-of-room, small-record, small-store}
-use Rattle.call_cycle.proofs.refusal.roomy.Statement.{statement}
-use Rattle.call_cycle.proofs.refusal.roomy.Tie as tie
+use Rattle.call_run.proofs.RefusalLaws.{rest-of-room, small-record, small-store}
+use Rattle.call_run.proofs.refusal.roomy.Statement.{statement}
+use Rattle.call_run.proofs.refusal.roomy.Tie as tie
 
 returns : tie.Need-returns
 returns c =
