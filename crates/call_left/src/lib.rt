@@ -1,18 +1,14 @@
 // What a cycle leaves of store, record and scratch, by how it ended.
-use call_answers::cycled::Answer;
-use language::refusals::Refusal;
 use run_end::outcome::Stepped;
 use run_end::outcome::Verdict;
 use run_next::record::Record;
 use run_soundness::record;
 use store_words::slices;
-ghost use mathlib.Core.List.{List};
 ghost use mathlib.Core.Path.{_≡_};
-ghost use Prim.Native.Nat.{ℕ, _≤_};
+ghost use Prim.Native.Nat.{_≤_};
 ghost use lib.ListN.{length};
-ghost use Rattle.call_answers.specs.Cycle.{call};
 ghost use Rattle.run_next.specs.Seen.{recordMeant};
-ghost use Rattle.call_left.specs.Kept.{called, kept, keptRecord, keptStore};
+ghost use Rattle.call_left.specs.Kept.{kept, keptRecord, keptStore};
 
 // A completed cycle's working copy, kept; of any other cycle nothing is.
 pub fn keep_store(verdict: Verdict, work: &[u8], store: &mut [u8])
@@ -40,23 +36,6 @@ pub fn keep_record(r: Record, s: Stepped) -> Stepped
         verdict,
         record: left,
         conflicts: s.conflicts,
-    }
-}
-
-// The answer of a cycle; its record is written where it completed, and scratch is zero however it ended.
-pub fn answered(a: Stepped, record: &mut [u8], scratch: &mut [u8]) -> Answer
-    ensures { λ r. ⌜ ((s : List ℕ) → 80 ≤ length (now («record» .entry)) → call r s (now («record» .exit)) (now (scratch .exit)) ≡ called a s (now («record» .entry)) (length (now (scratch .entry)))) ⌝ }
-{
-    slices::zero(scratch);
-    let verdict = a.verdict;
-    match verdict {
-        Verdict::Completed => {
-            let after = a.record;
-            record::write_record(record, after);
-            Answer::Cycled(a.conflicts)
-        }
-        Verdict::Stopped(n) => Answer::Stopped(n),
-        Verdict::Stuck(_) => Answer::Refused(Refusal::ImageFails),
     }
 }
 

@@ -16,6 +16,8 @@ ghost use Prim.Native.Nat.{ℕ, _≤_};
 ghost use lib.ListN.{length};
 ghost use Rattle.language.specs.Calls as L;
 ghost use Rattle.language.specs.Calls.{runRefusal};
+ghost use Rattle.language.specs.Decode.{decode};
+ghost use Rattle.language.specs.Layout.{storeSize};
 ghost use Rattle.language.specs.Reading.{zeroes};
 ghost use Rattle.run_next.specs.Seen.{recordMeant};
 ghost use Rattle.call_answers.specs.Run.{tallied};
@@ -97,8 +99,8 @@ fn carry_on(
     ended(n, conflicts, Halt::None, reached)
 }
 
-// The run that is owed, where nothing is refused and the trace is zero. What the cycles work on is made once.
-pub fn carry_out(
+// The run that is owed, where nothing is refused and the trace is zero. Delayed stores wait in arrays that have n bytes, as the store has, or more.
+fn carry_in(
     image: &[u8],
     store: &mut [u8],
     record: &mut [u8],
@@ -106,16 +108,15 @@ pub fn carry_out(
     cycles: u32,
     scratch: &mut [u8],
     trace: &mut [u8],
+    n: usize,
+    pending: &mut [u8],
+    mask: &mut [u8],
 ) -> Tally
-    requires { ⌜ (runRefusal (now image) (now store) (now «record») (now stimuli) cycles (length (now scratch)) (length (now trace)) ≡ none) × (now trace ≡ zeroes (length (now trace))) ⌝ }
+    requires { ⌜ (runRefusal (now image) (now store) (now «record») (now stimuli) cycles (length (now scratch)) (length (now trace)) ≡ none) × (now trace ≡ zeroes (length (now trace))) × (n ≡ storeSize (decode (now image))) × (n ≤ length (now pending)) × (n ≤ length (now mask)) ⌝ }
     ensures { λ r. ⌜ tallied r (now (store .exit)) (now («record» .exit)) (now (scratch .exit)) (now (trace .exit)) ≡ L.run (now (image .entry)) (now (store .entry)) (now («record» .entry)) (now (stimuli .entry)) cycles (length (now (scratch .entry))) (length (now (trace .entry))) ⌝ }
 {
-    let facilities = sections::section(image, sections::FACILITIES);
-    let n = sizes::store_size(facilities);
-    let mut pending = [0u8; 16384];
-    let mut mask = [0u8; 16384];
     let a = carry_on(
-        facilities,
+        sections::section(image, sections::FACILITIES),
         sections::section(image, sections::OPERATIONS),
         sections::section(image, sections::EXPRESSIONS),
         sections::section(image, sections::ACTIONS),
@@ -133,4 +134,50 @@ pub fn carry_out(
     let tally = a.tally;
     call_left::note(record, tally.completed, a.record);
     tally
+}
+
+// For most stores small arrays do; the large ones have the largest store's size. One slice cannot be lent in three parts at once, so they do not stand in scratch.
+pub fn carry_out(
+    image: &[u8],
+    store: &mut [u8],
+    record: &mut [u8],
+    stimuli: &[u8],
+    cycles: u32,
+    scratch: &mut [u8],
+    trace: &mut [u8],
+) -> Tally
+    requires { ⌜ (runRefusal (now image) (now store) (now «record») (now stimuli) cycles (length (now scratch)) (length (now trace)) ≡ none) × (now trace ≡ zeroes (length (now trace))) ⌝ }
+    ensures { λ r. ⌜ tallied r (now (store .exit)) (now («record» .exit)) (now (scratch .exit)) (now (trace .exit)) ≡ L.run (now (image .entry)) (now (store .entry)) (now («record» .entry)) (now (stimuli .entry)) cycles (length (now (scratch .entry))) (length (now (trace .entry))) ⌝ }
+{
+    let n = sizes::store_size(sections::section(image, sections::FACILITIES));
+    if n <= 1024 {
+        let mut pending = [0u8; 1024];
+        let mut mask = [0u8; 1024];
+        return carry_in(
+            image,
+            store,
+            record,
+            stimuli,
+            cycles,
+            scratch,
+            trace,
+            n,
+            &mut pending,
+            &mut mask,
+        );
+    }
+    let mut pending = [0u8; 16384];
+    let mut mask = [0u8; 16384];
+    carry_in(
+        image,
+        store,
+        record,
+        stimuli,
+        cycles,
+        scratch,
+        trace,
+        n,
+        &mut pending,
+        &mut mask,
+    )
 }
