@@ -20,7 +20,7 @@ use Rattle.store_layout.specs.Slices.{copied}
 use Rattle.run_end.specs.Stepped.{ended}
 use Rattle.run_end.specs.declared.outcome.Verdict.{Verdict}
 use Rattle.run_end.specs.declared.outcome.Verdict.the-variants as Ends
-use Rattle.call_left.specs.Kept.{calledWith, keptStore}
+use Rattle.run_left.specs.Kept.{calledWith, keptStore}
 use Rattle.call_carried.specs.Carried.{completedBack}
 
 pub copied-over : (B X : List ℕ) → length X ≤ length B → copied B X ≡ over X B

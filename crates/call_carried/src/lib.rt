@@ -12,7 +12,7 @@ ghost use Rattle.language.specs.Decode.{decode};
 ghost use Rattle.language.specs.Layout.{storeSize};
 ghost use Rattle.language.specs.RecordBytes.{recordFrom};
 ghost use Rattle.run_next.specs.Seen.{recordMeant};
-ghost use Rattle.call_left.specs.Kept.{called};
+ghost use Rattle.run_left.specs.Kept.{called};
 ghost use Rattle.call_carried.specs.Carried.{Sliced, completedBack};
 ghost use Rattle.language.specs.Encode.{facilitySize, stateSize};
 
@@ -48,6 +48,6 @@ pub fn carried(
         mask,
     );
     let verdict = a.verdict;
-    call_left::keep_store(verdict, work, store);
+    run_left::keep_store(verdict, work, store);
     a
 }

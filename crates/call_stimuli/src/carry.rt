@@ -21,7 +21,7 @@ ghost use Rattle.language.specs.Layout.{storeSize};
 ghost use Rattle.language.specs.Reading.{zeroes};
 ghost use Rattle.run_next.specs.Seen.{recordMeant};
 ghost use Rattle.call_answers.specs.Run.{tallied};
-ghost use Rattle.call_left.specs.Kept.{keptRecord};
+ghost use Rattle.run_left.specs.Kept.{keptRecord};
 ghost use Rattle.call_stimuli.specs.Lent.{Lent, SomeLent};
 
 // A run so far, and the record that it has come to.
@@ -132,7 +132,7 @@ fn carry_in(
     );
     slices::zero(scratch);
     let tally = a.tally;
-    call_left::note(record, tally.completed, a.record);
+    run_left::note(record, tally.completed, a.record);
     tally
 }
 

@@ -10,7 +10,7 @@ use Rattle.run_end.specs.Stepped.{ended, stepped}
 use Rattle.run_end.specs.declared.outcome.Stepped.{Stepped}
 use Rattle.run_end.specs.declared.outcome.Verdict.{Verdict}
 use Rattle.run_end.specs.declared.outcome.Verdict.the-variants as Ends
-use Rattle.call_left.specs.Kept.{kept}
+use Rattle.run_left.specs.Kept.{kept}
 
 pub kept-again : (v : Verdict) (r t : Record) → kept v r t ≡ kept v r (kept v r t)
 kept-again Ends.Completed r t = refl

@@ -13,7 +13,7 @@ ghost use Rattle.run_actions.specs.Acts.{Acts};
 ghost use Rattle.run_next.specs.Seen.{recordMeant};
 ghost use Rattle.run_end.specs.Register.{Enters};
 ghost use Rattle.run_end.specs.Stepped.{Clear, counted, stepped};
-ghost use Rattle.call_left.specs.Kept.{kept};
+ghost use Rattle.run_left.specs.Kept.{kept};
 ghost use Rattle.language.specs.Encode.{facilitySize, operationSize, stateSize};
 
 // A cycle by value: where it does not complete, the answer has the record before it.
@@ -44,7 +44,7 @@ fn settle(
         pending,
         mask,
     );
-    call_left::keep_record(r, s)
+    run_left::keep_record(r, s)
 }
 
 // A cycle from the record lent, which is advanced where it stands, or left as found if the cycle does not complete.

@@ -54,7 +54,7 @@ use Rattle.run_end.specs.Stepped.{Clear, counted, stepped}
 use Rattle.run_end.specs.declared.outcome.Stepped.{Stepped}
 use Rattle.run_end.proofs.outcome.Stepped as O
 use Rattle.run_end.proofs.outcome.Stepped.Laws as O′
-use Rattle.call_left.specs.Kept.{kept}
+use Rattle.run_left.specs.Kept.{kept}
 use Rattle.language.specs.Encode.{facilitySize, operationSize, stateSize}
 use Rattle.run_advance.proofs.settle as settle
 use Rattle.run_advance.proofs.settle.Symbol as settle-def

@@ -10,7 +10,7 @@ use Rattle.run_next.specs.Seen.{recordMeant}
 use Rattle.run_soundness.proofs.PassedLaws.{passed-facilities, passed-states}
 use Rattle.call_carried.proofs.CarryLaws.{few-held}
 use Rattle.about_bytes.specs.ManyCycles.{run-free}
-use Rattle.call_left.specs.Kept.{keptRecord}
+use Rattle.run_left.specs.Kept.{keptRecord}
 use Rattle.call_stimuli.specs.Lent.{Lent}
 use Rattle.call_stimuli.proofs.RunLaws.{each-so, left-none, left-refused, left-stop, next-free, next-there, run-small, run-so}
 use Rattle.call_stimuli.proofs.SoFarLaws.{SoFar, so-far-more, so-far-none}

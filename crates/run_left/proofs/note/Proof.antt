@@ -1,9 +1,9 @@
 use mathlib.Core.Path.{_∙_}
 use Rattle.run_next.specs.Seen.{recordMeant}
-use Rattle.call_left.proofs.KeptLaws.{kept-none, kept-some}
+use Rattle.run_left.proofs.KeptLaws.{kept-none, kept-some}
 use borrow.Author.Needs.{needs}
-use Rattle.call_left.proofs.note.Statement.{statement}
-use Rattle.call_left.proofs.note.Tie as tie
+use Rattle.run_left.proofs.note.Statement.{statement}
+use Rattle.run_left.proofs.note.Tie as tie
 
 write-record-requires : tie.Need-write-record-requires
 write-record-requires c κs = search needs

@@ -6,7 +6,7 @@ use native.Mathlib.Omega.{arith}
 use Rattle.language.specs.Calls.{over}
 use Rattle.language.specs.RecordBytes.{recordBytes}
 use Rattle.language.specs.Step as S
-use Rattle.call_left.specs.Kept.{keptRecord}
+use Rattle.run_left.specs.Kept.{keptRecord}
 
 -- The record is written where a cycle has completed.
 pub kept-some : (n : ℕ) (r : S.Record) (K : List ℕ) → 0 < n → over (recordBytes r) K ≡ keptRecord n r K

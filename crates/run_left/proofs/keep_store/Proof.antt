@@ -1,7 +1,7 @@
 use mathlib.Core.Path.{refl}
 use borrow.Author.Needs.{needs}
-use Rattle.call_left.proofs.keep_store.Statement.{statement}
-use Rattle.call_left.proofs.keep_store.Tie as tie
+use Rattle.run_left.proofs.keep_store.Statement.{statement}
+use Rattle.run_left.proofs.keep_store.Tie as tie
 
 enum-told : tie.Need-enum-told
 enum-told c = search needs

@@ -8,7 +8,7 @@ ghost use mathlib.Core.Path.{_≡_};
 ghost use Prim.Native.Nat.{_≤_};
 ghost use lib.ListN.{length};
 ghost use Rattle.run_next.specs.Seen.{recordMeant};
-ghost use Rattle.call_left.specs.Kept.{kept, keptRecord, keptStore};
+ghost use Rattle.run_left.specs.Kept.{kept, keptRecord, keptStore};
 
 // A completed cycle's working copy, kept; of any other cycle nothing is.
 pub fn keep_store(verdict: Verdict, work: &[u8], store: &mut [u8])
