@@ -1,4 +1,5 @@
 // A line of input bits becomes a stimulus: the input terminals' words one after the other.
+use image_records::record_sizes;
 use image_sections::facilities;
 use image_sections::facilities::Facility;
 use image_sections::kinds;
@@ -96,7 +97,7 @@ fn input_bits(f: Facility) -> u32
 pub fn stimulus_of(section: &[u8], line: &[u8], stimulus: &mut [u8]) -> Taken
     ensures { λ r. ⌜ ((d : Description) (E : List ℕ) → Describes d (now (section .entry)) E → stimulusSize d ≤ size (now (stimulus .entry)) → tookMeant r (now (stimulus .exit)) ≡ took (lineBytes (inputsOf (d .facilities)) (now (line .entry))) (now (stimulus .entry))) ⌝ }
 {
-    let count = section.len() / 13;
+    let count = section.len() / record_sizes::FACILITY;
     let mut n: usize = 0;
     let mut at: usize = 0;
     let mut place: usize = 0;

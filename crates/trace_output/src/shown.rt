@@ -1,6 +1,7 @@
 // The facilities of the store in print.
 use crate::out;
 use image_records::bytes;
+use image_records::record_sizes;
 use image_sections::facilities;
 use image_sections::facilities::Facility;
 use image_sections::kinds;
@@ -88,7 +89,7 @@ pub fn facilities_line(
     requires { ⌜ size (now section) / facilitySize ≤ 65536 ⌝ }
     ensures { λ r. ⌜ (size (now (out .exit)) ≡ size (now (out .entry))) × ((d : Description) (E : List ℕ) → Describes d (now (section .entry)) E → Named d (now (section .entry)) (now (names .entry)) → storeSizeOf (d .facilities) ≤ size (now (store .entry)) → Adds (T.facilitiesLine (d .facilities) (fromBytes (d .facilities) (now (store .entry)))) (now (out .entry)) at (now (out .exit)) r) ⌝ }
 {
-    let count = section.len() / 13;
+    let count = section.len() / record_sizes::FACILITY;
     let mut end = at;
     let mut offset: usize = 0;
     let mut n: usize = 0;
