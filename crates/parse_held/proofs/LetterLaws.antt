@@ -1,22 +1,21 @@
 -- Names in capitals, one behind the other.
 use mathlib.Core.List.{List, [], _∷_, _++_, append-nil, map}
 use mathlib.Core.Path.{_≡_, refl, sym, ap, _∙_}
-use Prim.Native.Nat.{ℕ, zero, suc, _+_, _-_, _*_, _<_, _≤_}
+use Prim.Native.Nat.{ℕ, zero, suc, _+_, _-_, _<_, _≤_}
 use native.Mathlib.Nat.{zero-add}
 use native.Mathlib.Omega.{arith}
-use lib.ListN.{List·getD-map, drop, getD, length, length-append, length-map, length-take, set, take, take-append-drop}
+use lib.ListN.{List·getD-map, getD, length, length-append, length-map, set, take, take-append-drop}
 use lib.Seq.{paste}
 use Rattle.language.specs.Characters.{folded}
-use Rattle.language.specs.Decode.{numberAt, upTo}
+use Rattle.language.specs.Decode.{upTo}
 use Rattle.language.specs.Encode.{concat}
 use Rattle.image_records.proofs.ByteLaws.{pasted-all, pasted-length, pasted-more, placed-more, placed-whole}
 use Rattle.image_records.specs.Placed.{placed}
-use Rattle.parse_tables.proofs.NamesGrown.{part-number, up-to-last}
+use Rattle.parse_tables.proofs.NamesGrown.{up-to-last}
 use Rattle.parse_tables.specs.declared.Table.{Table}
 use Rattle.parse_tables.specs.Names.{nameAt, namesOf}
-use Rattle.parse_tables.specs.Rows.{from, rows, size}
+use Rattle.parse_tables.specs.Rows.{rows}
 use Rattle.parse_array.proofs.NodesAdded.{concat-append}
-use Rattle.parse_array.specs.Names.{letters}
 use Rattle.parse_held.specs.Sections.{lettersOf}
 
 placed-none : (s : List ℕ) (at : ℕ) → at ≤ length s → s ≡ placed s at []
@@ -43,20 +42,6 @@ pub folded-all : {s : List ℕ} (s₀ bs : List ℕ) (at i : ℕ) → s ≡ past
 folded-all s₀ bs at i e h g =
     let l : length (map folded bs) ≡ length bs = length-map bs folded in
     pasted-all s₀ (map folded bs) at i e (omega arith) (omega arith)
-
--- The word that a table of names gives is the name.
-pub word-there : (text w : List ℕ) (t : Table) (k n : ℕ) {base p l : ℕ} {r : List ℕ} → size t ≡ 4 → k < n → base ≡ from t
-    → p ≡ numberAt 2 (base + 4 * k) w → l ≡ numberAt 2 (base + 4 * k + 2) w → r ≡ take l (drop p text) → map folded r ≡ nameAt text (rows t n w) k
-unfolding nameAt letters rows
-word-there text w t k n {base} {p} {l} {r} e h o a b d =
-    let z : 4 * k + 4 ≤ size t * n = omega (arith, ap (λ (m : ℕ). m * n) e) in
-    let c : from t + (4 * k + 2) ≡ from t + 4 * k + 2 = omega arith in
-    let x : p ≡ numberAt 2 (from t + 4 * k) w = a ∙ ap (λ (m : ℕ). numberAt 2 (m + 4 * k) w) o in
-    let y : l ≡ numberAt 2 (from t + 4 * k + 2) w = b ∙ ap (λ (m : ℕ). numberAt 2 (m + 4 * k + 2) w) o in
-    rw (part-number w (from t) (size t * n) (4 * k) (omega arith), part-number w (from t) (size t * n) (4 * k + 2) (omega arith), c, ← x, ← y, ← d)
-
-pub word-short : (s : List ℕ) (p l : ℕ) {r : List ℕ} → r ≡ take l (drop p s) → l < 65536 → length r ≤ 65535
-word-short s p l e h = omega (arith, ap length e, length-take l (drop p s))
 
 -- ---- The first of them.
 

@@ -1,18 +1,14 @@
 // Names in capitals, from the places and sizes of their words in the text.
-use image_records::bytes;
-use image_records::numbers;
 use parse_array::Work;
 use parse_tables::Table;
-use parse_tables::rows;
+use parse_tables::names;
 use text_characters::letters;
 ghost use mathlib.Core.List.{map};
 ghost use mathlib.Core.Path.{_≡_};
-ghost use Prim.Native.Nat.{ℕ, _+_, _*_, _<_, _≤_};
+ghost use Prim.Native.Nat.{_+_, _*_, _<_, _≤_};
 ghost use lib.ListN.{length};
 ghost use Rattle.language.specs.Characters.{folded};
 ghost use Rattle.image_records.specs.Placed.{placed};
-ghost use Rattle.parse_tables.specs.Names.{nameAt};
-ghost use Rattle.parse_tables.specs.Rows as R;
 ghost use Rattle.parse_tables.specs.Rows.{size};
 ghost use Rattle.parse_held.specs.Sections.{lettersOf};
 
@@ -33,17 +29,6 @@ fn put_word(s: &mut [u8], at: usize, word: &[u8])
     }
 }
 
-// The word of name k in a table of names.
-fn word_of<'a>(text: &'a [u8], work: &Work, table: Table, k: u16) -> &'a [u8]
-    ensures { λ r. ⌜ ((n : ℕ) → size table ≡ 4 → k < n → map folded (now r) ≡ nameAt (now (text .entry)) (R.rows table n (now (work .entry))) k) × (length (now r) ≤ 65535) ⌝ }
-{
-    let s: &[u8] = work;
-    let at = rows::begin(table) + 4 * k as usize;
-    let place = numbers::two(s, at) as usize;
-    let length = numbers::two(s, at + 2) as usize;
-    bytes::part(text, place, length)
-}
-
 // How many letters the first n names of a table have.
 pub fn count(text: &[u8], work: &Work, table: Table, n: u16) -> usize
     ensures { λ r. ⌜ (size table ≡ 4 → r ≡ length (lettersOf (now (text .entry)) table n (now (work .entry)))) × (r ≤ 65535 * n) ⌝ }
@@ -51,7 +36,7 @@ pub fn count(text: &[u8], work: &Work, table: Table, n: u16) -> usize
     let mut sum: usize = 0;
     let mut k: u16 = 0;
     while k < n {
-        let word = word_of(text, work, table, k);
+        let word = names::word(text, work, table, k);
         sum += word.len();
         k += 1;
     }
@@ -66,7 +51,7 @@ pub fn put(s: &mut [u8], at: usize, text: &[u8], work: &Work, table: Table, n: u
     let mut to = at;
     let mut k: u16 = 0;
     while k < n {
-        let word = word_of(text, work, table, k);
+        let word = names::word(text, work, table, k);
         put_word(s, to, word);
         to += word.len();
         k += 1;

@@ -1,21 +1,23 @@
 -- The names of a table, when one is added, and where the table stays.
-use mathlib.Core.List.{List, [], _∷_, _++_}
+use mathlib.Core.List.{List, [], _∷_, _++_, map}
 use mathlib.Core.Path.{_≡_, refl, sym, ap, _∙_}
 use Prim.Native.Nat.{ℕ, zero, suc, _+_, _*_, _<_, _≤_, min}
 use native.Mathlib.Nat.{min-eq-left, zero-add}
 use native.Mathlib.Omega.{arith}
-use lib.ListN.{drop, getD, length, take, List·getD-append}
+use lib.ListN.{drop, getD, length, length-take, take, List·getD-append}
 use lib.Seq.{getD-append-add, getD-drop, getD-take}
+use Rattle.language.specs.Characters.{folded}
 use Rattle.language.specs.Decode.{numberAt, upTo}
 use Rattle.language.specs.Encode.{little, two}
 use Rattle.image_records.proofs.NumberLaws.{number-back, number-two}
 use Rattle.parse_array.specs.Held.{otherIn}
+use Rattle.parse_array.specs.Layout.{nameSize}
 use Rattle.parse_array.specs.Names.{letters}
 use Rattle.parse_tables.proofs.RowLaws.{rows-other}
 use Rattle.parse_tables.specs.declared.Table.{Table}
 use Rattle.parse_tables.specs.declared.Table.the-variants as T
 use Rattle.parse_tables.specs.Names.{facilityNames, nameAt, nameRow, namesIn, namesOf}
-use Rattle.parse_tables.specs.Rows.{most, rows}
+use Rattle.parse_tables.specs.Rows.{from, most, rows, size}
 
 -- ---- Lists by numbers.
 
@@ -102,6 +104,20 @@ module _ (text : List ℕ) where
       )
 
 -- ---- The names that a table holds.
+
+-- The word that a table of names gives is the name.
+pub word-there : (text w : List ℕ) (t : Table) (k n : ℕ) {base p l : ℕ} {r : List ℕ} → size t ≡ nameSize → k < n → base ≡ from t
+    → p ≡ numberAt 2 (base + 4 * k) w → l ≡ numberAt 2 (base + 4 * k + 2) w → r ≡ take l (drop p text) → map folded r ≡ nameAt text (rows t n w) k
+unfolding nameAt letters rows
+word-there text w t k n {base} {p} {l} {r} e h o a b d =
+    let z : 4 * k + 4 ≤ size t * n = omega (arith, ap (λ (m : ℕ). m * n) e) in
+    let c : from t + (4 * k + 2) ≡ from t + 4 * k + 2 = omega arith in
+    let x : p ≡ numberAt 2 (from t + 4 * k) w = a ∙ ap (λ (m : ℕ). numberAt 2 (m + 4 * k) w) o in
+    let y : l ≡ numberAt 2 (from t + 4 * k + 2) w = b ∙ ap (λ (m : ℕ). numberAt 2 (m + 4 * k + 2) w) o in
+    rw (part-number w (from t) (size t * n) (4 * k) (omega arith), part-number w (from t) (size t * n) (4 * k + 2) (omega arith), c, ← x, ← y, ← d)
+
+pub word-short : (s : List ℕ) (p l : ℕ) {r : List ℕ} → r ≡ take l (drop p s) → l < 65536 → length r ≤ 65535
+word-short s p l e h = omega (arith, ap length e, length-take l (drop p s))
 
 module _ (text : List ℕ) (t : Table) where
   pub names-few : (w : List ℕ) (n : ℕ) → n ≤ most t → namesIn text t w n ≡ namesOf text (rows t n w) n

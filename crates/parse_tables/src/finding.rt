@@ -1,11 +1,10 @@
 // A name looked for in a table of names: its first declaration.
 use crate::Table;
+use crate::names;
 use crate::rows;
 use image_records::bytes;
-use image_records::numbers;
 use parse_array::Work;
-use parse_array::layout::NAME_SIZE;
-use text_characters::names;
+use text_characters::names::matches;
 ghost use mathlib.Core.Path.{_≡_};
 ghost use Rattle.language.specs.Naming.{numberOf};
 ghost use Rattle.parse_array.specs.Layout.{nameSize};
@@ -23,16 +22,11 @@ pub fn find(text: &[u8], work: &Work, table: Table, n: u16, place: usize, length
     requires { ⌜ size table ≡ nameSize ⌝ }
     ensures { λ r. ⌜ found r ≡ numberOf (letters (now (text .entry)) place length) 0 (namesIn (now (text .entry)) table (now (work .entry)) n) ⌝ }
 {
-    let s: &[u8] = work;
     let name = bytes::part(text, place, length);
-    let base = rows::begin(table);
     let count = rows::held(table, n);
     let mut k: u16 = 0;
     while k < count {
-        let at = base + NAME_SIZE * k as usize;
-        let p = numbers::two(s, at) as usize;
-        let l = numbers::two(s, at + 2) as usize;
-        if names::matches(name, bytes::part(text, p, l)) {
+        if matches(name, names::word(text, work, table, k)) {
             return Found::At(k as u8);
         }
         k += 1;

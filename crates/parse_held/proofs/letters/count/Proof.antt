@@ -20,8 +20,8 @@ loop-holds : tie.Need-loop-holds Inv-loop μ-loop
 loop-holds c =
     (omega arith, omega arith, λ e. sym (ap length (letters-none (c .before .args .text .now) (c .before .args .table) (c .before .args .n) (c .before .args .work .now))))
 
-word-of-requires : tie.Need-word-of-requires Inv-loop μ-loop
-word-of-requires c κs = search needs
+word-requires : tie.Need-word-requires Inv-loop μ-loop
+word-requires c κs = search needs
 
 add-sum : tie.Need-add-sum Inv-loop μ-loop
 add-sum c = search needs
@@ -36,7 +36,7 @@ loop-again : tie.Need-loop-again Inv-loop μ-loop
 loop-again c =
     let args = c .before .before .before .before .args in
     let loop = c .before .before .loop in
-    (omega arith, omega (arith, c .word-of .ensures .1), λ e. omega (arith, loop .inv .2 e, counted-more (args .text .now) (args .table) (args .n) (args .work .now) (loop .k) (c .word-of .result .now) (c .word-of .ensures .0 (args .n) e (c .before .loop-test .taken))))
+    (omega arith, omega (arith, c .word .ensures .1), λ e. omega (arith, loop .inv .2 e, counted-more (args .text .now) (args .table) (args .n) (args .work .now) (loop .k) (c .word .result .now) (c .word .ensures .0 (args .n) e (c .before .loop-test .taken))))
 
 returns : tie.Need-returns Inv-loop μ-loop
 returns c =
@@ -52,7 +52,7 @@ count-spec =
     Inv-loop
     μ-loop
     loop-holds
-    word-of-requires
+    word-requires
     add-sum
     add-k
     loop-less

@@ -25,8 +25,8 @@ loop-holds : tie.Need-loop-holds Inv-loop μ-loop
 loop-holds c =
     let a = c .before .before .args in (omega arith, refl, omega arith, λ e. omega (arith, ap length (letters-none (a .text .now) (a .table) (a .n) (a .work .now))), λ e h. put-none (a .text .now) (a .table) (a .n) (a .work .now) (a .s .now) (a .at) (omega arith))
 
-word-of-requires : tie.Need-word-of-requires Inv-loop μ-loop
-word-of-requires c κs = search needs
+word-requires : tie.Need-word-requires Inv-loop μ-loop
+word-requires c κs = search needs
 
 put-word-requires : tie.Need-put-word-requires Inv-loop μ-loop
 put-word-requires c κs = search needs
@@ -42,7 +42,7 @@ loop-less c = search needs
 
 loop-again : tie.Need-loop-again Inv-loop μ-loop
 loop-again c =
-    let a = c .before .before .before .before .before .before .before .before .before .args in let l = c .before .before .before .before .before .before .loop in let w = c .before .before .before .before .word-of in (omega arith, ap length (c .before .before .put-word .ensures) ∙ placed-length (l .s) (map folded (w .result .now)) (l .to) ∙ l .inv .1, omega (arith, w .ensures .1), λ e. omega (arith, l .inv .3 e, counted-more (a .text .now) (a .table) (a .n) (a .work .now) (l .k) (w .result .now) (w .ensures .0 (a .n) e (c .before .before .before .before .before .loop-test .taken))), λ e h. put-more (a .text .now) (a .table) (a .n) (a .work .now) (a .s .now) (a .at) (l .k) (w .result .now) (c .before .before .before .before .before .loop-test .taken) h (l .inv .3 e) (l .inv .4 e h) (w .ensures .0 (a .n) e (c .before .before .before .before .before .loop-test .taken)) (c .before .before .put-word .ensures))
+    let a = c .before .before .before .before .before .before .before .before .before .args in let l = c .before .before .before .before .before .before .loop in let w = c .before .before .before .before .word in (omega arith, ap length (c .before .before .put-word .ensures) ∙ placed-length (l .s) (map folded (w .result .now)) (l .to) ∙ l .inv .1, omega (arith, w .ensures .1), λ e. omega (arith, l .inv .3 e, counted-more (a .text .now) (a .table) (a .n) (a .work .now) (l .k) (w .result .now) (w .ensures .0 (a .n) e (c .before .before .before .before .before .loop-test .taken))), λ e h. put-more (a .text .now) (a .table) (a .n) (a .work .now) (a .s .now) (a .at) (l .k) (w .result .now) (c .before .before .before .before .before .loop-test .taken) h (l .inv .3 e) (l .inv .4 e h) (w .ensures .0 (a .n) e (c .before .before .before .before .before .loop-test .taken)) (c .before .before .put-word .ensures))
 
 same-length : tie.Need-same-length Inv-loop μ-loop
 same-length c = search needs
@@ -58,7 +58,7 @@ put-spec =
     Inv-loop
     μ-loop
     loop-holds
-    word-of-requires
+    word-requires
     put-word-requires
     add-to
     add-k

@@ -1,8 +1,8 @@
-use Rattle.parse_held.proofs.LetterLaws.{word-short, word-there}
+use Rattle.parse_tables.proofs.NamesGrown.{word-short, word-there}
 use native.Mathlib.Omega.{arith}
 use borrow.Author.Needs.{needs}
-use Rattle.parse_held.proofs.letters.word_of.Statement.{statement}
-use Rattle.parse_held.proofs.letters.word_of.Tie as tie
+use Rattle.parse_tables.proofs.names.word.Statement.{statement}
+use Rattle.parse_tables.proofs.names.word.Tie as tie
 
 begin-requires : tie.Need-begin-requires
 begin-requires c κs = search needs
@@ -25,8 +25,8 @@ add-two c = search needs
 two-requires-2 : tie.Need-two-requires-2
 two-requires-2 c κs = search needs
 
-cast-length : tie.Need-cast-length
-cast-length c = search needs
+cast-size : tie.Need-cast-size
+cast-size c = search needs
 
 part-requires : tie.Need-part-requires
 part-requires c κs = search needs
@@ -36,8 +36,8 @@ returns c =
     let args = c .before .before .before .before .before .before .args in
     (λ n e h. word-there (args .text .now) (args .work .now) (args .table) (args .k) n e h (c .before .before .before .begin .ensures .0) (c .before .before .two .ensures) (c .before .two2 .ensures) (c .part .ensures), word-short (args .text .now) (c .before .before .two .result) (c .before .two2 .result) (c .part .ensures) (omega arith))
 
-pub word-of-spec : {M : Type 1} → statement M
-word-of-spec =
+pub word-spec : {M : Type 1} → statement M
+word-spec =
     tie.close
     (tie.spec
     begin-requires
@@ -47,6 +47,6 @@ word-of-spec =
     cast-place
     add-two
     two-requires-2
-    cast-length
+    cast-size
     part-requires
     returns)
