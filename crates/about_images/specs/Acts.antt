@@ -25,7 +25,7 @@ use Rattle.language.specs.Words.{Position}
 use Rattle.about_running.specs.Judged.{append-none-right, both-fine, clean-fine, faulty-fine, given-fine, unless-none}
 use Rattle.image_records.proofs.ActionBack.{Sign}
 use Rattle.image_records.proofs.NodeBack.{Half}
-use Rattle.about_writing.specs.Whole.{both-left, both-right}
+use Rattle.about_images.specs.Whole.{both-left, both-right}
 use Rattle.about_images.specs.Counted.{count, count-add, count-one}
 use Rattle.about_images.specs.Trees.{Tree, selects-few}
 use Rattle.language.specs.Kinds.{delayedSign, equalSign}

@@ -13,8 +13,8 @@ use Rattle.language.specs.Tree.{Name}
 use Rattle.image_sections.proofs.DescribedLaws.{facility-described}
 use Rattle.image_sections.specs.Declarations.{facilityIn}
 use Rattle.image_sections.specs.Names.{facilityPart, named}
-use Rattle.about_writing.specs.Begins.{begins-passes, begins-read, passes-begins}
-use Rattle.about_writing.specs.Whole.{decode-encode}
+use Rattle.about_images.specs.Begins.{begins-passes, begins-read, passes-begins}
+use Rattle.about_images.specs.Whole.{decode-encode}
 use Rattle.about_images.specs.Depth.{bounded}
 use Rattle.about_images.specs.Legal.{Plain, bounded-so}
 use Rattle.about_images.specs.Ranges.{in-range}

@@ -26,7 +26,7 @@ use Rattle.about_running.specs.Finds.{Refers, reference-fine}
 use Rattle.about_running.specs.Judged.{append-none-left, append-none-right, arms-fine, both-fine, faulty-fine, given-fine, proper-fine, sized-fine, unless-none}
 use Rattle.about_running.specs.Starts.{none-some, one-before, start-le, start-lt, two-before}
 use Rattle.image_records.proofs.NodeBack.{Half}
-use Rattle.about_writing.specs.Whole.{both-left, both-right}
+use Rattle.about_images.specs.Whole.{both-left, both-right}
 use Rattle.about_images.specs.Counted.{count-more}
 use Rattle.about_images.specs.Depth.{depth-leaf, depth-one, depth-two}
 use Rattle.about_images.specs.Trees.{Digit, Sane, Tree, binary-kind, counts, cut-count, cut-kind, digits-sane, leaf, over-arm, over-next, over-one, over-two, prefix-kind, selects-few, within-bounds}

@@ -20,9 +20,9 @@ use Rattle.about_running.specs.Ordered.{InOrder, in-order}
 use Rattle.image_records.proofs.ActionBack as A
 use Rattle.image_records.proofs.NodeBack.{Half}
 use Rattle.image_sections.proofs.DeclarationBack.{FacilityFits, ValueFits}
-use Rattle.about_writing.specs.Back.{InRange, NodeInRange}
-use Rattle.about_writing.specs.Names.{names-length}
-use Rattle.about_writing.specs.Whole.{encode-long}
+use Rattle.about_images.specs.Back.{InRange, NodeInRange}
+use Rattle.about_images.specs.Names.{names-length}
+use Rattle.about_images.specs.Whole.{encode-long}
 use Rattle.about_images.specs.Acts.{SaneAct}
 use Rattle.about_images.specs.Covered.{Each, Inside, each-at}
 use Rattle.about_images.specs.Legal.{Plain, all-at, before-end, end, facility-names-so, few-facilities, few-operations, few-records, few-states, label-short, labels-so, middle, name-short, operation-names-so, operations-all, roomy, roots, shapes-at, shapes-so, states-all, total-few, trees-all}

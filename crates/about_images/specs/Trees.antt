@@ -15,8 +15,8 @@ use Rattle.language.specs.Expressions.{longestSelector, selects}
 use Rattle.language.specs.Operators.{binaryLength, cutLengthOf, prefixLength}
 use Rattle.language.specs.Order.{digitsStand, isDigit48}
 use Rattle.language.specs.Value.{cutLength, repeatLength}
-use Rattle.about_writing.specs.Back.{is-digit}
-use Rattle.about_writing.specs.Whole.{both-left, both-right}
+use Rattle.about_images.specs.Back.{is-digit}
+use Rattle.about_images.specs.Whole.{both-left, both-right}
 use Rattle.image_records.proofs.NodeBack.{Half}
 use Rattle.about_images.specs.Counted.{count, count-add, count-more, count-one}
 use Rattle.about_images.specs.Depth.{depth-leaf, depthAt}

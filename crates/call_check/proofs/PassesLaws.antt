@@ -21,7 +21,7 @@ use Rattle.language.specs.WordStage.{least}
 use Rattle.image_sections.proofs.DescribedLaws.{facilities-count, operations-count}
 use Rattle.judge_records.proofs.NotedLaws.{noted-none}
 use Rattle.judge_records.specs.Noted.{noted, notedDescription, nothingBeside, placesIn}
-use Rattle.about_writing.specs.Whole.{both-left, both-right, bytesRight}
+use Rattle.about_images.specs.Whole.{both-left, both-right, bytesRight}
 use Rattle.image_order.proofs.HoldsLaws.{actions-held, nodes-held}
 use Rattle.image_order.specs.Holds.{Actions, Nodes}
 use Rattle.image_form.specs.Form.{formRight, passes-form}

@@ -46,7 +46,7 @@ use Rattle.parse_held.proofs.StandingLaws.{sections-stand}
 use Rattle.parse_held.proofs.TextsStand.{names-room, text-judged}
 use Rattle.parse_held.specs.declared.Tally.{Tally}
 use Rattle.parse_held.specs.Sections.{besideHeld, sectionsHeld}
-use Rattle.about_writing.specs.Whole.{encode-long, sized}
+use Rattle.about_images.specs.Whole.{encode-long, sized}
 use Rattle.call_answers.specs.Reading.{Short}
 
 -- ---- Places beside records have fifteen bits.

@@ -20,9 +20,9 @@ use Rattle.language.specs.RecordBytes.{fours}
 use Rattle.image_sections.proofs.ImageLaws.{Right, header-sized, right-parts, total-below}
 use Rattle.image_sections.specs.Header.{countsIn, headerNumbers, headerRight, namesFrom}
 use Rattle.image_sections.specs.declared.header.Counts.{Counts}
-use Rattle.about_writing.specs.Begins.{passes-begins}
-use Rattle.about_writing.specs.Names.{names-length, namesOf}
-use Rattle.about_writing.specs.Whole.{right-header}
+use Rattle.about_images.specs.Begins.{passes-begins}
+use Rattle.about_images.specs.Names.{names-length, namesOf}
+use Rattle.about_images.specs.Whole.{right-header}
 use Rattle.image_lookups.proofs.PassLaws.{names-are, range-so}
 use Rattle.call_answers.specs.Numbers.{Short}
 use Rattle.language.specs.declared.refusals.Refusal.the-variants.{BadSubscript, ImageFails}

@@ -18,8 +18,8 @@ use Rattle.image_records.proofs.ByteLaws.{same-of}
 use Rattle.image_sections.proofs.ImageLaws.{Sized, header-sized}
 use Rattle.image_sections.specs.Header.{countsIn, headerRight}
 use Rattle.image_sections.specs.declared.header.Counts.{Counts}
-use Rattle.about_writing.specs.Again.{Bytes, allNames, facility-long, names-again, names-exact, operations-again, states-again}
-use Rattle.about_writing.specs.Whole.{bytes-right, same-sections, sectionsSame}
+use Rattle.about_images.specs.Again.{Bytes, allNames, facility-long, names-again, names-exact, operations-again, states-again}
+use Rattle.about_images.specs.Whole.{bytes-right, same-sections, sectionsSame}
 use Rattle.image_order.proofs.HoldsLaws.{facility-named}
 use Rattle.image_form.proofs.LabelLaws.{facilities-named, operations-named}
 use Rattle.image_form.specs.Form.{NamesLong, formRight, sectioned}

@@ -17,7 +17,7 @@ use Rattle.image_records.proofs.ActionLaws.{action-length}
 use Rattle.image_records.proofs.ByteLaws.{same-of, same-true}
 use Rattle.image_records.proofs.WrittenNodes.{node-length}
 use Rattle.image_sections.specs.Declarations.{facilityIn, nameLengthIn}
-use Rattle.about_writing.specs.Rows.{facilities-are, facilities-at, row-at, row-is}
+use Rattle.about_images.specs.Rows.{facilities-are, facilities-at, row-at, row-is}
 use Rattle.image_order.specs.Holds.{Actions, Facilities, Nodes}
 use Rattle.image_form.specs.Form.{NamesLong}
 

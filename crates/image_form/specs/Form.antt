@@ -13,7 +13,7 @@ use Rattle.language.specs.Image.{legalForm, passes}
 use Rattle.language.specs.Judging.{both}
 use Rattle.language.specs.Rules.{faults}
 use Rattle.image_sections.specs.Declarations.{nameLengthIn}
-use Rattle.about_writing.specs.Whole.{bytesRight, passes-parts}
+use Rattle.about_images.specs.Whole.{bytesRight, passes-parts}
 
 -- The bytes are those of what they describe, and that is in the form that reading gives.
 unfoldable pub formRight : List ℕ → Bool

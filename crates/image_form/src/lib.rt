@@ -17,7 +17,7 @@ ghost use lib.ListN.{length};
 ghost use Rattle.language.specs.Canonical.{canonical};
 ghost use Rattle.language.specs.Decode.{described};
 ghost use Rattle.image_sections.proofs.ImageLaws.{Sized};
-ghost use Rattle.about_writing.specs.Whole.{sectionsSame};
+ghost use Rattle.about_images.specs.Whole.{sectionsSame};
 ghost use Rattle.image_form.specs.Form.{formRight, sectioned};
 ghost use Rattle.image_form.specs.Names.{namedRight};
 

@@ -21,8 +21,8 @@ use Rattle.image_sections.specs.Names as I
 use Rattle.image_sections.specs.Names.{partMeant}
 use Rattle.image_sections.specs.declared.names.Part.{Part}
 use Rattle.image_sections.specs.declared.header.Counts.{Counts}
-use Rattle.about_writing.specs.Back.{all-facilities, all-operations, facility-byte, facility-names, state-byte, state-names}
-use Rattle.about_writing.specs.Names.{names-length, namesOf}
+use Rattle.about_images.specs.Back.{all-facilities, all-operations, facility-byte, facility-names, state-byte, state-names}
+use Rattle.about_images.specs.Names.{names-length, namesOf}
 use Rattle.image_lookups.proofs.PassLaws.{facilities-are, facilities-counted, facilities-many, names-are, names-short, operations-are, operations-counted, range-so, states-are, states-many}
 use Rattle.language.specs.declared.refusals.Refusal.the-variants.{BadSubscript, ImageFails}
 

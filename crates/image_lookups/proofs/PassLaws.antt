@@ -11,9 +11,9 @@ use Rattle.language.specs.Image.{legalForm, passes}
 use Rattle.image_sections.proofs.DescribedLaws.{facilities-count, states-count}
 use Rattle.image_sections.proofs.ImageLaws.{Sized, header-sized, image-header}
 use Rattle.image_sections.specs.Header.{countsIn}
-use Rattle.about_writing.specs.Back.{InRange}
-use Rattle.about_writing.specs.Begins.{passes-begins}
-use Rattle.about_writing.specs.Whole.{found, right-header}
+use Rattle.about_images.specs.Back.{InRange}
+use Rattle.about_images.specs.Begins.{passes-begins}
+use Rattle.about_images.specs.Whole.{found, right-header}
 use Rattle.image_order.proofs.HoldsLaws.{facilities-held}
 use Rattle.image_order.specs.Holds.{Facilities}
 use Rattle.about_images.specs.CheckExact.{decoded-plain}

@@ -25,7 +25,7 @@ use Rattle.about_rules.specs.Runs.{stateRecords}
 use Rattle.about_rules.specs.Tidy.{DeclarationsTidy, FunctionTidy, LabelTidy, OperationsTidy, StatesTidy, Suits}
 use Rattle.image_records.proofs.NodeBack.{Half}
 use Rattle.about_running.specs.LegalForm.{left-of, right-of}
-use Rattle.about_writing.specs.Back.{FacilityInRange, OperationInRange, StateInRange}
+use Rattle.about_images.specs.Back.{FacilityInRange, OperationInRange, StateInRange}
 use Rattle.parse_held.specs.NearTexts.{DeclarationsNear, ExtentNear, FunctionNear, OperationsNear, StatesNear, ValueNear}
 use Rattle.parse_held.specs.Standing.{FacilityNear, Marked, Near, narrowFacility}
 

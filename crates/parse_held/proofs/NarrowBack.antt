@@ -18,11 +18,11 @@ use Rattle.language.specs.Description.{Description, Facility, Node, facilityAt,
 use Rattle.language.specs.Encode.{concat, facilityRecord, facilityRecords, facilitySize, nameBytes, nodeBytes, nodeSize, operationRecord, operationSize, sectionsOf, stateRecord, stateSize}
 use Rattle.language.specs.Layout.{placeIn}
 use Rattle.parse_tables.proofs.TwoBytes.{two-low}
-use Rattle.about_writing.specs.Back as B
-use Rattle.about_writing.specs.Back.{FacilityInRange, InRange, sections-back}
-use Rattle.about_writing.specs.Names.{lengths-say, name-cut, names-length, namesOf}
-use Rattle.about_writing.specs.Rows.{facilities-at, facilities-length}
-use Rattle.about_writing.specs.Running.{stands}
+use Rattle.about_images.specs.Back as B
+use Rattle.about_images.specs.Back.{FacilityInRange, InRange, sections-back}
+use Rattle.about_images.specs.Names.{lengths-say, name-cut, names-length, namesOf}
+use Rattle.about_images.specs.Rows.{facilities-at, facilities-length}
+use Rattle.about_images.specs.Running.{stands}
 use Rattle.parse_held.specs.Standing.{narrowFacility, narrowNode, narrowed}
 
 -- ---- Narrower bounds have the same bytes.

@@ -22,7 +22,7 @@ use Rattle.language.specs.Words.{Position}
 use Rattle.about_rules.specs.Sizes.{nodes-size}
 use Rattle.about_rules.specs.Starts.{Stand, constant-starts}
 use Rattle.about_rules.specs.Tidy.{ExpressionTidy}
-use Rattle.about_writing.specs.Back.{NodeInRange}
+use Rattle.about_images.specs.Back.{NodeInRange}
 use Rattle.parse_held.specs.NearTexts.{EndsNear, ExpressionNear}
 use Rattle.parse_held.specs.Standing.{Marked, Near, endsOf, narrowNode}
 

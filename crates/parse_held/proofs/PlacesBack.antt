@@ -16,8 +16,8 @@ use Rattle.language.specs.Words.{Position}
 use Rattle.judge_records.proofs.NotedLaws.{up-to-pick}
 use Rattle.judge_records.specs.Noted.{facilityBesideBytes, facilityPlacesNo, largeNo, nodeBesideBytes, nodePlacesNo, placeBytes, placeNo, stateBesideBytes, statePlacesNo}
 use Rattle.image_records.proofs.NodeBack.{half-back}
-use Rattle.about_writing.specs.Rows.{row-at, row-length}
-use Rattle.about_writing.specs.Running.{stands}
+use Rattle.about_images.specs.Rows.{row-at, row-length}
+use Rattle.about_images.specs.Running.{stands}
 use Rattle.parse_held.specs.Standing.{FacilityNear, Near, endsOf, zipped}
 
 -- ---- One place.

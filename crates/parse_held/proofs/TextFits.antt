@@ -25,8 +25,8 @@ use Rattle.about_rules.specs.Sizes.{facilities-count, operations-count, states-
 use Rattle.about_rules.specs.Tidy.{TextTidy}
 use Rattle.about_rules.specs.WithinCounts.{declarationsOf, namesIn}
 use Rattle.image_records.proofs.ActionBack as A
-use Rattle.about_writing.specs.Back.{FacilityInRange, InRange, NodeInRange, OperationInRange, StateInRange}
-use Rattle.about_writing.specs.Whole.{encode-long}
+use Rattle.about_images.specs.Back.{FacilityInRange, InRange, NodeInRange, OperationInRange, StateInRange}
+use Rattle.about_images.specs.Whole.{encode-long}
 use Rattle.parse_held.proofs.ActionsFit.{ActsFit, acts-append}
 use Rattle.parse_held.proofs.DeclarationsFit.{DeclarationFits, Each, FacilityFit, LengthFits, declarations-fit, each-append, each-at, facilities-fit, facility-names, facility-places, operation-names, operation-places, operations-fit, state-names, state-places, states-fit}
 use Rattle.parse_held.proofs.NarrowBack.{names-narrow}

@@ -22,7 +22,7 @@ use Rattle.image_records.proofs.ActionLaws.{action-length}
 use Rattle.image_records.proofs.WrittenNodes.{node-length}
 use Rattle.parse_tables.specs.declared.Table.the-variants as T
 use Rattle.parse_array.specs.Held.{held}
-use Rattle.about_writing.specs.Rows.{facilities-length, row-length}
+use Rattle.about_images.specs.Rows.{facilities-length, row-length}
 use Rattle.parse_held.proofs.BodyLaws.{row-most}
 use Rattle.parse_held.proofs.NearTrees.{text-near}
 use Rattle.parse_held.proofs.NotedBack.{faults-stand}

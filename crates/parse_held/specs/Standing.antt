@@ -12,7 +12,7 @@ use Rattle.parse_tables.specs.declared.Table.the-variants as T
 use Rattle.parse_tables.specs.Names.{namesOf}
 use Rattle.parse_tables.specs.Rows.{rows}
 use Rattle.parse_array.specs.Held.{held}
-use Rattle.about_writing.specs.Back.{InRange}
+use Rattle.about_images.specs.Back.{InRange}
 use Rattle.parse_held.specs.declared.Tally.{Tally}
 
 -- What is written of the elements of two lists, pair by pair.

@@ -28,7 +28,7 @@ use Rattle.image_records.proofs.NodeBack.{half-back}
 use Rattle.image_sections.proofs.DeclarationLaws.{place-whole}
 use Rattle.image_sections.proofs.DescribedLaws.{state-described}
 use Rattle.image_sections.specs.Declarations.{placeFieldIn}
-use Rattle.about_writing.specs.Back.{NodeInRange, facility-stands}
+use Rattle.about_images.specs.Back.{NodeInRange, facility-stands}
 use Rattle.about_images.specs.Legal.{few-facilities, few-states}
 use Rattle.run_references.proofs.SectionLaws.{sections-describe}
 use Rattle.run_references.specs.Described.{Describes}

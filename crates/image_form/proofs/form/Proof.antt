@@ -3,7 +3,7 @@ use borrow.Author.Tests.{not-false, not-true}
 use Rattle.language.specs.Canonical.{canonical}
 use Rattle.language.specs.Decode.{described}
 use Rattle.language.specs.Encode.{Sections}
-use Rattle.about_writing.specs.Whole.{sectionsSame}
+use Rattle.about_images.specs.Whole.{sectionsSame}
 use Rattle.image_form.proofs.FormLaws.{form-left, header-not, sections-are, sections-sized, written-not}
 use borrow.Author.Needs.{needs}
 use Rattle.image_form.proofs.form.Statement.{statement}

@@ -9,8 +9,8 @@ use Rattle.language.specs.Decode.{decode}
 use Rattle.language.specs.Description.{Description}
 use Rattle.language.specs.Encode.{encode}
 use Rattle.language.specs.Image.{legalForm, passes, totalLength}
-use Rattle.about_writing.specs.Back.{InRange}
-use Rattle.about_writing.specs.Whole.{both-left, both-right, bytes-of, bytes-parts, bytesRight, decode-written, encode-long, long-enough, passes-parts, total-written, whole-right}
+use Rattle.about_images.specs.Back.{InRange}
+use Rattle.about_images.specs.Whole.{both-left, both-right, bytes-of, bytes-parts, bytesRight, decode-written, encode-long, long-enough, passes-parts, total-written, whole-right}
 
 -- An image begins with what is written of a description.
 pub record Begins (image : List ℕ) (d : Description) : Type 0 where

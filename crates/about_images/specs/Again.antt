@@ -21,9 +21,9 @@ use Rattle.image_sections.proofs.DescribedLaws.{action-described, actions-count
 use Rattle.image_sections.proofs.WrittenDeclarations.{operation-length, state-length}
 use Rattle.image_sections.specs.Declarations.{nameLengthIn}
 use Rattle.image_sections.specs.Names.{facilityPart, named, operationPart, statePart}
-use Rattle.about_writing.specs.Names.{bytes-most, facilities-names, lengths-say, operations-names, states-names}
-use Rattle.about_writing.specs.Rows.{facilities-are, facilities-at, row-at, row-is}
-use Rattle.about_writing.specs.Running.{stands}
+use Rattle.about_images.specs.Names.{bytes-most, facilities-names, lengths-say, operations-names, states-names}
+use Rattle.about_images.specs.Rows.{facilities-are, facilities-at, row-at, row-is}
+use Rattle.about_images.specs.Running.{stands}
 
 -- The bytes of a slice.
 abbrev pub Bytes : List ℕ → Type 0

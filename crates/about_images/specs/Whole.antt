@@ -24,9 +24,9 @@ use Rattle.image_sections.proofs.ImageLaws.{Sized, bodyOf, header-complete, hea
 use Rattle.image_sections.proofs.WrittenDeclarations.{operation-length, state-length}
 use Rattle.image_sections.specs.Header.{countsIn, headerNumbers, headerRight, totalOf}
 use Rattle.image_sections.specs.declared.header.Counts.{Counts}
-use Rattle.about_writing.specs.Again.{Bytes, actions-again, allNames, expressions-again, facilities-again, names-again, operations-again, states-again}
-use Rattle.about_writing.specs.Back.{InRange, sections-back}
-use Rattle.about_writing.specs.Rows.{facilities-length, row-length}
+use Rattle.about_images.specs.Again.{Bytes, actions-again, allNames, expressions-again, facilities-again, names-again, operations-again, states-again}
+use Rattle.about_images.specs.Back.{InRange, sections-back}
+use Rattle.about_images.specs.Rows.{facilities-length, row-length}
 
 -- ---- The size of an image.
 

@@ -29,9 +29,9 @@ use Rattle.image_sections.proofs.DescribedLaws.{action-described, actions-count
 use Rattle.image_sections.proofs.WrittenDeclarations.{facility-length, operation-length, state-length}
 use Rattle.image_sections.specs.Declarations.{facilityIn, operationIn, stateIn}
 use Rattle.image_sections.specs.Names.{facilityPart, named, operationPart, statePart}
-use Rattle.about_writing.specs.Names.{lengths-say, name-cut, names-length, namesOf}
-use Rattle.about_writing.specs.Rows.{facilities-at, facilities-length, row-at, row-length}
-use Rattle.about_writing.specs.Running.{stands}
+use Rattle.about_images.specs.Names.{lengths-say, name-cut, names-length, namesOf}
+use Rattle.about_images.specs.Rows.{facilities-at, facilities-length, row-at, row-length}
+use Rattle.about_images.specs.Running.{stands}
 
 -- ---- In range.
 

@@ -8,7 +8,7 @@ use Rattle.language.specs.Description.{Facility, noFacility}
 use Rattle.language.specs.Encode.{concat, facilityRecord, facilityRecords, facilitySize}
 use Rattle.language.specs.Layout.{facilityBytes, placeIn}
 use Rattle.image_sections.proofs.WrittenDeclarations.{facility-length}
-use Rattle.about_writing.specs.Running.{placeAt, running, running-at, running-is, running-length}
+use Rattle.about_images.specs.Running.{placeAt, running, running-at, running-is, running-length}
 
 -- ---- Records that stand for themselves.
 
