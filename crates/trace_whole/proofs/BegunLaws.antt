@@ -22,7 +22,7 @@ use Rattle.language.specs.declared.refusals.Refusal.{Refusal}
 use Rattle.language.specs.declared.refusals.Refusal.the-variants.{BufferTooShort}
 use Rattle.language.specs.Scan.{bytes}
 use Rattle.language.specs.Trace.{afterRead, decimal, lineEnd, runLines, trace, traceImage}
-use Rattle.about_passing.specs.PassesExactly.{reads-pass}
+use Rattle.about_calls.specs.PassesExactly.{reads-pass}
 use Rattle.call_answers.specs.Reading.{called}
 use Rattle.call_answers.specs.declared.read.Answer.{Answer}
 use Rattle.call_answers.specs.declared.read.Answer.the-variants as A

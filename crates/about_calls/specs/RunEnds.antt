@@ -13,9 +13,9 @@ use Rattle.language.specs.Layout.{storeSize}
 use Rattle.language.specs.Reading.{accepted, read}
 use Rattle.language.specs.RecordBytes.{recordSize}
 use Rattle.language.specs.Rules.{mostWork}
-use Rattle.about_cycles.specs.EachCycle.{ready-again}
-use Rattle.about_cycles.specs.EndToEnd.{not-refused}
-use Rattle.about_cycles.specs.StopsFirst.{Ends, firstStop, goes-on, halts-for, stops-first}
+use Rattle.about_calls.specs.EachCycle.{ready-again}
+use Rattle.about_calls.specs.EndToEnd.{not-refused}
+use Rattle.about_calls.specs.StopsFirst.{Ends, firstStop, goes-on, halts-for, stops-first}
 use Rattle.about_bytes.specs.AnyRun.{Ready, opens-ready}
 use Rattle.about_bytes.specs.ManyCycles.{all-first, all-rest, going, run-free}
 use Rattle.about_bytes.specs.StaysSound.{no-refusal, unrefused}

@@ -28,7 +28,7 @@ use Rattle.about_running.specs.LegalForm.{Legal, right-of}
 use Rattle.about_running.specs.NeverStuck.{legal-image, never-stuck}
 use Rattle.about_running.specs.Soundness.{bytes-fit, sound-so}
 use Rattle.about_running.specs.StopOrder.{Condition, conditions, firstOf, met, stop-one, stopOf, stops-in-order}
-use Rattle.about_cycles.specs.OutsideMet.{From, Outside, Stopped, halts, here, outside-met}
+use Rattle.about_calls.specs.OutsideMet.{From, Outside, Stopped, halts, here, outside-met}
 use Rattle.about_bytes.specs.StaysSound.{Unrefused, unrefused}
 
 -- What holds of the stop of every condition that holds itself.

@@ -1,4 +1,7 @@
--- What the definitions promise of every cycle, in bytes and in full.
+-- What the definitions promise of every call, in bytes and in full; and what follows from the contracts of the public calls.
+-- ---- What passes the check, in terms of texts. Read PassesExactly.
+pub mod PlainTexts
+pub mod PassesExactly
 -- ---- A cycle that is not refused completes, or stops for the first of 01's conditions that holds.
 pub mod OutsideMet
 pub mod StopsFirst
@@ -12,3 +15,10 @@ pub mod Beyond
 pub mod Tail
 -- ---- From a text to its cycles.
 pub mod EndToEnd
+-- ---- Each call has one outcome, and so has each exported one; former contents have no bearing.
+pub mod OneOutcome
+pub mod Exported
+-- ---- A run goes on to its end or to a stop.
+pub mod RunEnds
+-- ---- No wrong module meets them.
+pub mod ShutOut

@@ -17,7 +17,7 @@ use Rattle.about_reading.specs.ReadsExactly.{Accepted, accepted, as-legal}
 use Rattle.about_texts.specs.FromDescriptions.{text-of}
 use Rattle.about_images.specs.CheckExact.{Written, legal-back, passes-written, written-passes, written-read}
 use Rattle.about_images.specs.Legal.{Plain}
-use Rattle.about_passing.specs.PlainTexts.{plain-text}
+use Rattle.about_calls.specs.PlainTexts.{plain-text}
 
 -- ---- Both ways.
 

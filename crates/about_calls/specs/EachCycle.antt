@@ -15,7 +15,7 @@ use Rattle.language.specs.declared.stops.Stop.{Stop}
 use Rattle.language.specs.Store.{fromBytes, inputsOf}
 use Rattle.about_bytes.specs.AnyRun.{AllFormed, Answered, Ready, answered, completed-so, opens-ready, stopped-so}
 use Rattle.about_bytes.specs.StaysSound.{stays-sound}
-use Rattle.about_cycles.specs.StopsFirst.{Ends, firstStop, stops-first}
+use Rattle.about_calls.specs.StopsFirst.{Ends, firstStop, stops-first}
 use mathlib.Core.Bool.{true}
 
 -- ---- A cycle that does not complete leaves store and record as found.

@@ -16,8 +16,8 @@ use Rattle.language.specs.Image.{Passes, passes, totalLength}
 use Rattle.language.specs.Judging.{both}
 use Rattle.language.specs.Layout.{storeSize}
 use Rattle.language.specs.Lookups.{facility, facilityName, facilityPart, stateName, statePart}
-use Rattle.about_passing.specs.PassesExactly.{passed, passing, passing-read}
-use Rattle.about_cycles.specs.Beyond.{number-front}
+use Rattle.about_calls.specs.PassesExactly.{passed, passing, passing-read}
+use Rattle.about_calls.specs.Beyond.{number-front}
 use Rattle.language.specs.declared.stops.Stop.{Stop}
 use mathlib.Core.Option.{Option}
 

@@ -16,9 +16,9 @@ use Rattle.language.specs.Image.{passes}
 use Rattle.language.specs.Layout.{storeSize}
 use Rattle.language.specs.Reading.{Read, ReadCall, accepted, filled, legal, read, readCall, readRefused, readText, refusedAt, zeroes}
 use Rattle.language.specs.RecordBytes.{recordSize}
-use Rattle.about_passing.specs.PassesExactly.{reads-back, reads-pass}
+use Rattle.about_calls.specs.PassesExactly.{reads-back, reads-pass}
 use Rattle.about_bytes.specs.AnyRun.{AllFormed}
-use Rattle.about_cycles.specs.EachCycle.{Follows, from-opening}
+use Rattle.about_calls.specs.EachCycle.{Follows, from-opening}
 use Rattle.language.specs.declared.refusals.Refusal.the-variants.{BufferTooShort}
 
 module _ (text : List ℕ) (room n : ℕ) where

@@ -1,0 +1,1 @@
+// What the definitions promise of every call, and what follows from the contracts: theorems, and no code.

@@ -1,1 +1,0 @@
-// What the definitions promise of every cycle, in bytes: theorems, and no code.

@@ -1,1 +1,0 @@
-// What follows from the contracts of the public calls: theorems over what they cite, and no code.
