@@ -33,7 +33,7 @@ pub fn passes(image: &[u8]) -> bool
 {
     let exprs = sections::section(image, sections::EXPRESSIONS);
     let acts = sections::section(image, sections::ACTIONS);
-    if !image_depth::bounded(exprs, acts) {
+    if !image_form::nesting::bounded(exprs, acts) {
         return false;
     }
     if !image_form::form(image) {

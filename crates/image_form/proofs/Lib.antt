@@ -3,3 +3,4 @@ pub mod FormLaws
 pub mod LabelLaws
 pub mod RowLaws
 pub mod ShapeLaws
+pub mod DepthLaws

@@ -1,3 +1,4 @@
 pub mod Form
 pub mod Names
 pub mod Values
+pub mod Depths

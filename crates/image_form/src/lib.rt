@@ -1,6 +1,7 @@
 // The form of an image: its bytes are those of what they describe, in the layout that reading writes. Of the check all but the rules.
 pub mod counts;
 pub mod labels;
+pub mod nesting;
 pub mod rows;
 pub mod shapes;
 

@@ -9,7 +9,7 @@ ghost use lib.ListN.{length};
 ghost use Rattle.language.specs.Description.{Description};
 ghost use Rattle.about_images.specs.Depth as L;
 ghost use Rattle.image_order.specs.Holds.{Actions, Nodes};
-ghost use Rattle.image_depth.specs.Depths.{noted, depthParts};
+ghost use Rattle.image_form.specs.Depths.{noted, depthParts};
 ghost use Rattle.language.specs.Encode.{nodeSize};
 
 const MOST_EXPRESSIONS: usize = 34816;

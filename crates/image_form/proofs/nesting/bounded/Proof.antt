@@ -1,8 +1,8 @@
 use mathlib.Core.Path.{_∙_}
-use Rattle.image_depth.proofs.DepthLaws.{few, few-shallow, many-actions, many-expressions}
+use Rattle.image_form.proofs.DepthLaws.{few, few-shallow, many-actions, many-expressions}
 use borrow.Author.Needs.{needs}
-use Rattle.image_depth.proofs.bounded.Statement.{statement}
-use Rattle.image_depth.proofs.bounded.Tie as tie
+use Rattle.image_form.proofs.nesting.bounded.Statement.{statement}
+use Rattle.image_form.proofs.nesting.bounded.Tie as tie
 
 returns : tie.Need-returns
 returns c d h k = many-expressions d (c .before .before .before .args .exprs .now) h (c .if1 .taken)

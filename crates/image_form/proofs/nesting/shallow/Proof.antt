@@ -5,10 +5,10 @@ use mathlib.Core.Path.{_≡_, sym, ap, _∙_}
 use lib.ListN.{length, length-replicate, length-set}
 use Rattle.language.specs.Description.{Description}
 use Rattle.image_order.specs.Holds.{Nodes}
-use Rattle.image_depth.specs.Depths.{depthParts, noted}
-use Rattle.image_depth.proofs.DepthLaws.{Noted, all-noted, none-noted, nothing, one-more, refused, small-next}
-use Rattle.image_depth.proofs.shallow.Statement.{statement}
-use Rattle.image_depth.proofs.shallow.Tie as tie
+use Rattle.image_form.specs.Depths.{depthParts, noted}
+use Rattle.image_form.proofs.DepthLaws.{Noted, all-noted, none-noted, nothing, one-more, refused, small-next}
+use Rattle.image_form.proofs.nesting.shallow.Statement.{statement}
+use Rattle.image_form.proofs.nesting.shallow.Tie as tie
 use Rattle.language.specs.Encode.{nodeSize}
 
 abbrev Inv-loop : tie.InvT-loop

@@ -1,8 +1,8 @@
 use mathlib.Core.Path.{sym}
 use lib.ListN.{List·getD-eq-default}
 use borrow.Author.Needs.{needs}
-use Rattle.image_depth.proofs.noted_at.Statement.{statement}
-use Rattle.image_depth.proofs.noted_at.Tie as tie
+use Rattle.image_form.proofs.nesting.noted_at.Statement.{statement}
+use Rattle.image_form.proofs.nesting.noted_at.Tie as tie
 
 mul-result : tie.Need-mul-result
 mul-result c = search needs

@@ -22,7 +22,7 @@ use Rattle.image_order.specs.Parts.{partsOf}
 use Rattle.image_order.specs.declared.starts.Parts.{Parts}
 use Rattle.image_order.specs.declared.starts.Parts.the-variants as S
 use Rattle.about_images.specs.Depth.{bounded, deepest, depthAt, depthBelow, depthNode, depthStep, mostActions, mostExpressions, shallow, shallow-so, shallowTo}
-use Rattle.image_depth.specs.Depths.{depthParts, noted}
+use Rattle.image_form.specs.Depths.{depthParts, noted}
 use Rattle.language.specs.Encode.{actionSize, nodeSize}
 
 -- ---- Depths by parts.

@@ -1,8 +1,8 @@
 use Prim.Native.Nat.{_≤_}
 use native.Mathlib.Omega.{arith}
 use borrow.Author.Needs.{needs}
-use Rattle.image_depth.proofs.depth.Statement.{statement}
-use Rattle.image_depth.proofs.depth.Tie as tie
+use Rattle.image_form.proofs.nesting.depth.Statement.{statement}
+use Rattle.image_form.proofs.nesting.depth.Tie as tie
 
 enum-told : tie.Need-enum-told
 enum-told c = search needs
