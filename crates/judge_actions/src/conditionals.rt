@@ -1,5 +1,5 @@
 // What a conditional makes of the verdicts on its condition and its arms.
-use judge_rules::lengths;
+use judge_terms::lengths;
 use judge_verdicts::Pair;
 use judge_verdicts::Verdict;
 use judge_verdicts::Worth;

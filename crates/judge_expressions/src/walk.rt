@@ -4,7 +4,7 @@ use image_records::nodes::Node;
 use image_records::references::Reference;
 use judge_records::facilities;
 use judge_records::places;
-use judge_rules::bounds;
+use judge_terms::bounds;
 use judge_terms::operators;
 use judge_terms::references;
 use judge_verdicts::Verdict;

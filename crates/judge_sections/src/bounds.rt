@@ -57,7 +57,7 @@ fn sequencing_right(another: bool, f: Facility) -> bool
     if 1 < f.dimensions {
         return false;
     }
-    judge_rules::bounds::word_length(f) <= 256
+    judge_terms::bounds::word_length(f) <= 256
 }
 
 // A computed terminal and its expression are equally long.
@@ -85,7 +85,7 @@ pub fn terminal_faults(fp: &[u8], n: usize, f: Facility, v: Verdict) -> Judged
     ensures { λ r. ⌜ ((d : Description) (p : Places) (name : Name) (j : L.Judged) → facilityPlace p n ≡ facilityPlacesOf (now (fp .entry)) n → v ≡ seen j → judged r ≡ least (sameLength d p (wordLength (facilityMeant name f)) (facilityPlace p n .equals) j)) ⌝ }
 {
     same_length(
-        judge_rules::bounds::word_length(f),
+        judge_terms::bounds::word_length(f),
         places::of_facility(fp, n, 5),
         v,
     )

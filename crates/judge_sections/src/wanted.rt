@@ -2,7 +2,7 @@
 use image_records::record_sizes;
 use image_sections::kinds;
 use judge_records::facilities;
-use judge_rules::bounds;
+use judge_terms::bounds;
 ghost use mathlib.Core.List.{List};
 ghost use mathlib.Core.Path.{_≡_};
 ghost use Prim.Native.Nat.{ℕ};

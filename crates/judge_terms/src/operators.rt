@@ -1,5 +1,5 @@
 // What an operator makes of the verdicts on its operands.
-use judge_rules::lengths;
+use crate::lengths;
 use judge_verdicts::Pair;
 use judge_verdicts::Verdict;
 use judge_verdicts::Worth;

@@ -53,7 +53,7 @@ use Rattle.judge_records.proofs.places.nowhere.Reads as nowhere-reads
 use Rattle.judge_records.proofs.places.of_node.Reads as of-node-reads
 use Rattle.image_records.proofs.nodes.node_at.Reads as node-at-reads
 use Rattle.store_geometry.proofs.subscripts.right_count.Reads as right-count-reads
-use Rattle.judge_rules.proofs.bounds.taken_length.Reads as taken-length-reads
+use Rattle.judge_terms.proofs.bounds.taken_length.Reads as taken-length-reads
 use Rattle.judge_verdicts.proofs.faults.refused.Reads as refused-reads
 use Rattle.judge_verdicts.proofs.tests.arm_list.Reads as arm-list-reads
 use Rattle.judge_verdicts.proofs.tests.proper.Reads as proper-reads

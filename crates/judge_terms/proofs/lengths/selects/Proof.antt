@@ -3,8 +3,8 @@ use mathlib.Core.Path.{_≡_}
 use Rattle.language.specs.Expressions.{longestSelector, selects}
 use native.Mathlib.Omega.{arith}
 use borrow.Author.Tests.{lt-leb}
-use Rattle.judge_rules.proofs.lengths.selects.Statement.{statement}
-use Rattle.judge_rules.proofs.lengths.selects.Tie as tie
+use Rattle.judge_terms.proofs.lengths.selects.Statement.{statement}
+use Rattle.judge_terms.proofs.lengths.selects.Tie as tie
 
 any : (n : ℕ) → 0 ≤ n
 any n = omega arith

@@ -1,6 +1,6 @@
 use borrow.Author.Needs.{needs}
-use Rattle.judge_rules.proofs.bounds.taken_length.Statement.{statement}
-use Rattle.judge_rules.proofs.bounds.taken_length.Tie as tie
+use Rattle.judge_terms.proofs.bounds.taken_length.Statement.{statement}
+use Rattle.judge_terms.proofs.bounds.taken_length.Tie as tie
 
 shape-of-requires : tie.Need-shape-of-requires
 shape-of-requires c κs = search needs

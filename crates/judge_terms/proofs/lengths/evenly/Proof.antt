@@ -1,7 +1,7 @@
 use Rattle.language.specs.Expressions.{evenly}
 use borrow.Author.Tests.{eq-eqb, ne-eqb}
-use Rattle.judge_rules.proofs.lengths.evenly.Statement.{statement}
-use Rattle.judge_rules.proofs.lengths.evenly.Tie as tie
+use Rattle.judge_terms.proofs.lengths.evenly.Statement.{statement}
+use Rattle.judge_terms.proofs.lengths.evenly.Tie as tie
 
 returns : tie.Need-returns
 unfolding evenly

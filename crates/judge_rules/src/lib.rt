@@ -1,3 +1,0 @@
-// The rules that go by lengths, bounds and kinds alone, one function each.
-pub mod bounds;
-pub mod lengths;
