@@ -7,8 +7,8 @@ use Prim.Native.Nat.{ℕ, zero, suc, _<_, _≤_}
 use native.Mathlib.Omega.{arith}
 use borrow.Author.Tests.{lt-leb, lt-ltb}
 use lib.Dec.{leb}
-use Rattle.judge_sections.specs.Declared.{Declared}
-use Rattle.judge_sections.specs.Stated.{wantedLength}
+use Rattle.judge_all.specs.Declared.{Declared}
+use Rattle.judge_all.specs.Stated.{wantedLength}
 use Rattle.language.specs.Description.{Description, Places}
 use Rattle.language.specs.Rules.{sequencingLength}
 use Rattle.language.specs.Value.{longest}

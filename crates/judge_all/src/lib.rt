@@ -1,11 +1,11 @@
 // All the rules over sections, with or without places: the least of all faults.
+use crate::facilities;
+use crate::operations;
+use crate::states;
 use image_records::bytes;
 use image_records::record_sizes;
 use image_sections::names as parts;
 use judge_names::judged;
-use judge_sections::facilities;
-use judge_sections::operations;
-use judge_sections::states;
 use judge_verdicts::faults;
 use text_words::Judged;
 ghost use mathlib.Core.Path.{_≡_};
@@ -64,3 +64,11 @@ pub fn least_fault(
     let four = states::states(fs, es, fp, ep, &memo, acts, ap, ss, labels, os, &kept, sp);
     faults::also(one, faults::also(two, faults::also(three, four)))
 }
+
+pub mod bounds;
+pub mod facilities;
+pub mod memory;
+pub mod operations;
+pub mod states;
+pub mod values;
+pub mod wanted;

@@ -1,12 +1,12 @@
 // The length that the bare values of states take.
-use judge_sections::wanted;
+use judge_all::wanted;
 use parse_array::Work;
 use parse_held::body;
 use parse_tables::Table;
 ghost use mathlib.Core.List.{List};
 ghost use mathlib.Core.Path.{_≡_};
 ghost use Prim.Native.Nat.{ℕ};
-ghost use Rattle.judge_sections.specs.Declared.{Declared};
+ghost use Rattle.judge_all.specs.Declared.{Declared};
 ghost use Rattle.language.specs.Description.{Description, Places};
 ghost use Rattle.language.specs.Rules.{sequencingLength};
 ghost use Rattle.parse_states.specs.Begins.{lengthOf};

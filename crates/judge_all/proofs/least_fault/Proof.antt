@@ -1,5 +1,5 @@
 use Rattle.judge_all.proofs.FaultLaws.{all-faults}
-use Rattle.judge_sections.proofs.NotedLaws.{acting-noted, declared-noted, stated-noted}
+use Rattle.judge_all.proofs.NotedLaws.{acting-noted, declared-noted, stated-noted}
 use Rattle.language.specs.WordStage.{least}
 use Rattle.judge_records.specs.Noted.{notedDescription, placesIn}
 use mathlib.Core.List.{List}
