@@ -1,5 +1,6 @@
 // The first state is entered, in a store and a record that are zero.
 use image_sections::sections;
+use language::ceilings;
 use run_end::register;
 use run_next::record::Record;
 use run_soundness::record;
@@ -35,7 +36,7 @@ pub fn first_words(image: &[u8], store: &mut [u8])
 fn at_first() -> Record
     ensures { λ r. ⌜ ((d : Description) → recordMeant r ≡ openRecord d) ⌝ }
 {
-    let none = [0u32; 16];
+    let none = [0u32; ceilings::RETURNS];
     Record {
         state: 0,
         cycle: 0,

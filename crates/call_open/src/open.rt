@@ -2,6 +2,7 @@
 use crate::first;
 use call_answers::opened::Answer;
 use image_sections::sections;
+use language::ceilings;
 use language::refusals::Refusal;
 use run_soundness::sizes;
 use store_words::slices;
@@ -17,9 +18,6 @@ ghost use Rattle.language.specs.Layout.{storeSize};
 ghost use Rattle.language.specs.RecordBytes.{recordSize};
 ghost use Rattle.call_answers.specs.Opening.{called};
 
-// The bytes of a record.
-const RECORD_SIZE: usize = 80;
-
 // Whether so many bytes of store and record are enough for an image that passes.
 fn roomy(image: &[u8], store: usize, kept: usize) -> bool
     requires { ⌜ L.passes (now image) ≡ true ⌝ }
@@ -27,7 +25,7 @@ fn roomy(image: &[u8], store: usize, kept: usize) -> bool
 {
     let size = sizes::store_size(sections::section(image, sections::FACILITIES));
     if size <= store {
-        RECORD_SIZE <= kept
+        ceilings::RECORD <= kept
     } else {
         false
     }

@@ -1,6 +1,7 @@
 // What the working array holds, judged by all the rules.
 use image_records::bytes;
 use judge_all::least_fault;
+use language::ceilings;
 use parse_array::Work;
 use parse_array::layout::MOST_FACILITIES;
 use parse_array::layout::MOST_OPERATIONS;
@@ -21,7 +22,8 @@ ghost use Rattle.text_words.specs.Meaning.{judged};
 ghost use Rattle.parse_held.specs.Sections.{Few, besideHeld, mostLetters, namesHeld, sectionsHeld};
 
 // Letters of all names: at most a line's for each.
-const MOST_LETTERS: usize = 132 * (MOST_FACILITIES + MOST_OPERATIONS + MOST_STATES) as usize;
+const MOST_LETTERS: usize = ceilings::NAME
+    * (MOST_FACILITIES + MOST_OPERATIONS + MOST_STATES) as usize;
 
 // The least of all faults.
 pub fn judge(text: &[u8], work: &Work, c: Tally) -> Judged

@@ -1,5 +1,6 @@
 // Why a run is refused, and a cycle, which is a run of one stimulus: an image that does not pass, too little room, store or record not sound, a stimulus of another form.
 use image_sections::sections;
+use language::ceilings;
 use language::refusals::Refusal;
 use run_begin::formed;
 use run_soundness::sizes;
@@ -25,7 +26,7 @@ fn roomy(size: usize, store: usize, record: usize, scratch: usize) -> bool
     if store < size {
         return false;
     }
-    if record < 80 {
+    if record < ceilings::RECORD {
         return false;
     }
     size <= scratch / 4

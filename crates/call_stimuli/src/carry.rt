@@ -2,6 +2,7 @@
 use call_answers::ran::Tally;
 use image_records::bytes;
 use image_sections::sections;
+use language::ceilings;
 use language::stops::Halt;
 use run_begin::formed;
 use run_end::outcome::Verdict;
@@ -23,6 +24,9 @@ ghost use Rattle.run_next.specs.Seen.{recordMeant};
 ghost use Rattle.call_answers.specs.Run.{tallied};
 ghost use Rattle.run_left.specs.Kept.{keptRecord};
 ghost use Rattle.call_stimuli.specs.Lent.{Lent, SomeLent};
+
+// Bytes of a store for which small arrays do.
+const SMALL: usize = 1024;
 
 // A run so far, and the record that it has come to.
 struct Run {
@@ -150,9 +154,9 @@ pub fn carry_out(
     ensures { λ r. ⌜ tallied r (now (store .exit)) (now («record» .exit)) (now (scratch .exit)) (now (trace .exit)) ≡ L.run (now (image .entry)) (now (store .entry)) (now («record» .entry)) (now (stimuli .entry)) cycles (length (now (scratch .entry))) (length (now (trace .entry))) ⌝ }
 {
     let n = sizes::store_size(sections::section(image, sections::FACILITIES));
-    if n <= 1024 {
-        let mut pending = [0u8; 1024];
-        let mut mask = [0u8; 1024];
+    if n <= SMALL {
+        let mut pending = [0u8; SMALL];
+        let mut mask = [0u8; SMALL];
         return carry_in(
             image,
             store,
@@ -166,8 +170,8 @@ pub fn carry_out(
             &mut mask,
         );
     }
-    let mut pending = [0u8; 16384];
-    let mut mask = [0u8; 16384];
+    let mut pending = [0u8; ceilings::STORE];
+    let mut mask = [0u8; ceilings::STORE];
     carry_in(
         image,
         store,

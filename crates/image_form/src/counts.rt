@@ -6,6 +6,7 @@ use image_records::nodes::Node;
 use image_records::record_sizes;
 use image_sections::states;
 use image_sections::states::StateValue;
+use language::ceilings;
 ghost use mathlib.Core.Path.{_≡_};
 ghost use Prim.Native.Nat.{ℕ, _*_, _/_, _≤_};
 ghost use lib.Dec.{leb};
@@ -21,13 +22,13 @@ ghost use Rattle.image_form.specs.Values.{valuesIn};
 ghost use Rattle.language.specs.Encode.{actionSize, nodeSize, stateSize};
 
 // The ceilings.
-const MOST_FACILITIES: usize = 256;
+const MOST_FACILITIES: usize = ceilings::FACILITIES as usize;
 
-const MOST_OPERATIONS: usize = 128;
+const MOST_OPERATIONS: usize = ceilings::OPERATIONS as usize;
 
-const MOST_STATES: usize = 256;
+const MOST_STATES: usize = ceilings::STATES as usize;
 
-const MOST_COUNTED: usize = 2048;
+const MOST_COUNTED: usize = ceilings::COUNTED as usize;
 
 // An operator or operand.
 fn node_count(node: Node) -> usize

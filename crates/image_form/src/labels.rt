@@ -6,6 +6,7 @@ use image_sections::header::Counts;
 use image_sections::names;
 use image_sections::states;
 use image_sections::states::StateValue;
+use language::ceilings;
 use text_items::reserved;
 ghost use mathlib.Core.Bool.{true, cond};
 ghost use mathlib.Core.Path.{_≡_};
@@ -19,9 +20,6 @@ ghost use Rattle.language.specs.Decode.{namesLength};
 ghost use Rattle.image_sections.specs.Declarations.{valueMeant};
 ghost use Rattle.image_form.specs.Names.{labelsRight, namesRight};
 ghost use Rattle.language.specs.Encode.{facilitySize, operationSize, stateSize};
-
-// The longest name.
-const LONGEST: usize = 132;
 
 fn within(lo: u8, b: u8, hi: u8) -> bool
     ensures { λ r. ⌜ r ≡ L.within lo b hi ⌝ }
@@ -62,7 +60,7 @@ pub fn name_right(name: &[u8]) -> bool
     if name.len() == 0 {
         return false;
     }
-    if LONGEST < name.len() {
+    if ceilings::NAME < name.len() {
         return false;
     }
     if !within(b'A', name[0], b'Z') {

@@ -57,7 +57,7 @@ fn shallow(exprs: &[u8]) -> bool
     requires { ⌜ length (now exprs) / nodeSize ≤ 34816 ⌝ }
     ensures { λ r. ⌜ ((d : Description) → Nodes d (now (exprs .entry)) → r ≡ L.shallow d) ⌝ }
 {
-    let mut depths: [u16; 34816] = [0; 34816];
+    let mut depths: [u16; MOST_EXPRESSIONS] = [0; MOST_EXPRESSIONS];
     let mut n = 0;
     while n < exprs.len() / record_sizes::NODE {
         let own = depth(&depths, starts::parts_of(nodes::node_at(exprs, n)));

@@ -23,11 +23,14 @@ pub struct State {
     pub actions: Run,
 }
 
+// The field of a state without a value.
+const NO_VALUE: u16 = 65535;
+
 // The value that a field stands for.
 fn value_of(n: u16) -> StateValue
     ensures { λ r. ⌜ valueMeant r ≡ valueOf n ⌝ }
 {
-    if n == 65535 {
+    if n == NO_VALUE {
         StateValue::None
     } else {
         StateValue::At(n)
@@ -62,7 +65,7 @@ fn value_field(value: StateValue) -> u16
 {
     match value {
         StateValue::At(n) => n,
-        StateValue::None => 65535,
+        StateValue::None => NO_VALUE,
     }
 }
 

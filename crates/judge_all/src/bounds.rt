@@ -4,6 +4,7 @@ use judge_records::facilities::Facility;
 use judge_records::places;
 use judge_verdicts::Verdict;
 use judge_verdicts::faults;
+use language::ceilings;
 use language::refusals::Refusal;
 use text_words::Judged;
 use text_words::Position;
@@ -23,11 +24,14 @@ ghost use Rattle.language.specs.declared.refusals.Refusal.the-variants.{BadSequ
 ghost use Rattle.text_words.specs.Meaning.{judged, positioned};
 ghost use Rattle.judge_all.specs.Declared.{facilityPlacesOf};
 
+// Bits of a sequencing register, whose value is one.
+const LONGEST: u64 = ceilings::VALUE as u64;
+
 // A bound is at most 65,535.
 fn bound_fault(n: u32, at: Position) -> Judged
     ensures { λ r. ⌜ ((q : W.Position) → positioned at ≡ q → judged r ≡ least (L.unless (leb n largestBound) q BadSubscript)) ⌝ }
 {
-    faults::unless(n <= 65535, at, Refusal::BadSubscript)
+    faults::unless(n <= ceilings::BOUND, at, Refusal::BadSubscript)
 }
 
 // The bounds of facility n.
@@ -57,7 +61,7 @@ fn sequencing_right(another: bool, f: Facility) -> bool
     if 1 < f.dimensions {
         return false;
     }
-    judge_terms::bounds::word_length(f) <= 256
+    judge_terms::bounds::word_length(f) <= LONGEST
 }
 
 // A computed terminal and its expression are equally long.
@@ -104,6 +108,6 @@ pub fn facility_faults(
 {
     let at = places::of_facility(fp, n, 0);
     let one = faults::unless(sequencing_right(another, f), at, Refusal::BadSequencing);
-    let two = faults::unless(after <= 16384, at, Refusal::CeilingPassed);
+    let two = faults::unless(after <= ceilings::STORE, at, Refusal::CeilingPassed);
     faults::also(one, faults::also(two, terminal))
 }

@@ -10,6 +10,7 @@ use judge_actions::walk;
 use judge_records::places;
 use judge_verdicts::Verdict;
 use judge_verdicts::faults;
+use language::ceilings;
 use language::refusals::Refusal;
 use text_words::Judged;
 use text_words::Position;
@@ -53,7 +54,7 @@ fn own_faults(there: bool, at: Position, v: Verdict) -> Judged
     match v {
         Verdict::Fine(w) => {
             let one = faults::unless(there, at, Refusal::BadSequencing);
-            let two = faults::unless(w.work <= 65536, at, Refusal::CeilingPassed);
+            let two = faults::unless(w.work <= ceilings::WORK, at, Refusal::CeilingPassed);
             faults::also(one, two)
         }
         Verdict::Faulty(f) => Judged::Refused(f),

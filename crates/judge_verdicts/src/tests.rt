@@ -2,6 +2,7 @@
 use crate::Verdict;
 use crate::Worth;
 use crate::faults;
+use language::ceilings;
 use language::refusals::Refusal;
 use text_words::Position;
 ghost use mathlib.Core.Path.{_≡_};
@@ -10,7 +11,7 @@ ghost use Rattle.language.specs.Judging as L;
 ghost use Rattle.text_words.specs.Meaning.{positioned};
 ghost use Rattle.judge_verdicts.specs.Meaning.{capped, seen};
 
-const LONGEST: u64 = 256;
+const LONGEST: u64 = ceilings::VALUE as u64;
 
 // A length from 1 to 256, or a refusal.
 pub fn sized(at: Position, length: u64, work: usize) -> Verdict

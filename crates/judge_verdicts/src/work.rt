@@ -1,10 +1,11 @@
 // Work, added up to 65,537.
+use language::ceilings;
 ghost use mathlib.Core.Path.{_≡_};
 ghost use Prim.Native.Nat.{ℕ, _+_};
 ghost use Rattle.language.specs.Expressions.{ownWork};
 ghost use Rattle.judge_verdicts.specs.Meaning.{capped};
 
-const MOST: usize = 65536;
+const MOST: usize = ceilings::WORK;
 
 // Two works together.
 pub fn added(x: usize, y: usize) -> usize

@@ -1,5 +1,6 @@
 // Lists of actions and conditionals (the manual, 7.1 and 8.2), read as the machine of the grammar reads them.
 use image_records::actions::Action;
+use language::ceilings;
 use language::refusals::Refusal;
 use parse_array::Work;
 use parse_levels::Level;
@@ -20,6 +21,9 @@ ghost use Rattle.parse_actions.specs.Lists.{Another, Arm, Arms, Conditio
 
 mod leaves;
 
+// One turn more than words are counted.
+const TURNS: u16 = ceilings::COUNTED + 1;
+
 // What became of the arms of CASE, and how many there are.
 pub struct Armed {
     pub answer: Answer,
@@ -32,7 +36,7 @@ pub fn list(s: State, in_state: bool, text: &[u8], w: Word, work: &mut Work, n: 
 {
     let mut read = action(s, in_state, text, w, work, n);
     let mut count: u16 = 1;
-    while count < 2049 {
+    while count < TURNS {
         if parse_step::unread(read) {
             return read;
         }
@@ -178,7 +182,7 @@ fn arms(s: State, in_state: bool, text: &[u8], w: Word, work: &mut Work, n: Coun
 {
     let mut read = arm(s, in_state, text, w, work, n);
     let mut count: u16 = 1;
-    while count < 2049 {
+    while count < TURNS {
         if parse_step::unread(read) {
             return Armed {
                 answer: read,

@@ -1,36 +1,39 @@
 // Where everything stands in the working array: the records of the expressions, the places of their words, and the tables of the other sections, one behind the other.
+use image_records::record_sizes;
+use judge_records::places;
+use language::ceilings;
 
 // How many of each there is room for.
 pub const MOST_NODES: u16 = 15888;
 
 pub const MOST_ACTIONS: u16 = 4352;
 
-pub const MOST_FACILITIES: u16 = 256;
+pub const MOST_FACILITIES: u16 = ceilings::FACILITIES;
 
-pub const MOST_OPERATIONS: u16 = 128;
+pub const MOST_OPERATIONS: u16 = ceilings::OPERATIONS;
 
-pub const MOST_STATES: u16 = 256;
+pub const MOST_STATES: u16 = ceilings::STATES;
 
 // Bytes of a record, and of the places beside it.
-pub const NODE_SIZE: usize = 8;
+pub const NODE_SIZE: usize = record_sizes::NODE;
 
-pub const NODE_BESIDE: usize = 6;
+pub const NODE_BESIDE: usize = places::NODE;
 
-pub const ACTION_SIZE: usize = 7;
+pub const ACTION_SIZE: usize = record_sizes::ACTION;
 
-pub const ACTION_BESIDE: usize = 2;
+pub const ACTION_BESIDE: usize = places::WORD;
 
-pub const FACILITY_SIZE: usize = 13;
+pub const FACILITY_SIZE: usize = record_sizes::FACILITY;
 
-pub const FACILITY_BESIDE: usize = 12;
+pub const FACILITY_BESIDE: usize = places::FACILITY;
 
-pub const OPERATION_SIZE: usize = 5;
+pub const OPERATION_SIZE: usize = record_sizes::OPERATION;
 
-pub const OPERATION_BESIDE: usize = 2;
+pub const OPERATION_BESIDE: usize = places::WORD;
 
-pub const STATE_SIZE: usize = 7;
+pub const STATE_SIZE: usize = record_sizes::STATE;
 
-pub const STATE_BESIDE: usize = 4;
+pub const STATE_BESIDE: usize = places::STATE;
 
 // Bytes of a name: the place and the size of the word that declares it.
 pub const NAME_SIZE: usize = 4;

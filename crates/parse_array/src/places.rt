@@ -1,5 +1,7 @@
 // The places beside a record, as they are written: a bound above 65,535 leaves its mark.
 use crate::nodes::Beside;
+use judge_records::places::LARGE;
+use language::ceilings;
 use text_words::Position;
 use text_words::places;
 ghost use mathlib.Core.Path.{_≡_};
@@ -9,13 +11,16 @@ ghost use Rattle.judge_records.specs.Noted.{endPlaces, placeBytes, plainPlaces}
 ghost use Rattle.text_words.specs.Meaning.{positioned};
 ghost use Rattle.parse_array.specs.Held.{fields};
 
+// What stands for every bound that is too large.
+const PAST: u32 = ceilings::BOUND + 1;
+
 // A place, and the mark of a bound.
 fn field(p: Position, bound: u32) -> u16
     ensures { λ r. ⌜ L.two r ≡ placeBytes bound (positioned p) ⌝ }
 {
-    let place = (places::place(p) % 32768) as u16;
-    if bound / 65536 % 2 == 1 {
-        place + 32768
+    let place = (places::place(p) % ceilings::TEXT) as u16;
+    if bound / PAST % 2 == 1 {
+        place + LARGE
     } else {
         place
     }

@@ -1,5 +1,6 @@
 // A facility added to those declared.
 use crate::Progress;
+use language::ceilings;
 use parse_array::Work;
 use parse_step::Answer;
 use parse_step::State;
@@ -16,7 +17,11 @@ ghost use Rattle.parse_facilities.specs.Listed.{Adds, knownState};
 fn one_known(s: State) -> State
     ensures { λ r. ⌜ (s .known < 256 → r ≡ knownState s) ⌝ }
 {
-    let known = if s.known < 256 { s.known + 1 } else { s.known };
+    let known = if s.known < ceilings::FACILITIES {
+        s.known + 1
+    } else {
+        s.known
+    };
     State {
         facilities: s.facilities,
         operations: s.operations,

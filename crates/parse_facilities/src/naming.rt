@@ -1,4 +1,5 @@
 // The name that a declaration begins with.
+use language::ceilings;
 use language::refusals::Refusal;
 use parse_step::Answer;
 use parse_step::Bearing;
@@ -14,7 +15,7 @@ ghost use Rattle.parse_facilities.specs.Specs.{Names, moreState};
 fn one_more(s: State) -> State
     ensures { λ r. ⌜ (s .facilities ≤ 256 → r ≡ moreState s) ⌝ }
 {
-    let facilities = if s.facilities > 256 {
+    let facilities = if s.facilities > ceilings::FACILITIES {
         s.facilities
     } else {
         s.facilities + 1

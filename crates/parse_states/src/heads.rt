@@ -3,6 +3,7 @@ use crate::Begun;
 use crate::Head;
 use crate::values;
 use image_sections::states::StateValue;
+use language::ceilings;
 use language::refusals::Refusal;
 use parse_array::Work;
 use parse_step::Answer;
@@ -45,7 +46,7 @@ fn begins(kind: u8) -> bool
 fn count(w: Word, s: State) -> Answer
     ensures { λ r. ⌜ Counted w s r ⌝ }
 {
-    if s.states < 256 {
+    if s.states < ceilings::STATES {
         let state = State {
             facilities: s.facilities,
             operations: s.operations,

@@ -4,6 +4,7 @@ use crate::Bearing;
 use crate::State;
 use crate::Verdict;
 use crate::kinds;
+use language::ceilings;
 use language::refusals::Refusal;
 use text_words::Fault;
 use text_words::Word;
@@ -29,23 +30,28 @@ pub fn refuse(w: Word, s: State, refusal: Refusal) -> Answer
     }
 }
 
+// With one more there may be 65,536 counted or open, so that they are compared in 32 bits.
+const MOST_COUNTED: u32 = ceilings::COUNTED as u32;
+
+const DEEPEST: u32 = ceilings::NESTING as u32;
+
 // Whether counts are within the ceilings.
 fn fits(s: State, counted: u32, nesting: u32) -> bool
     ensures { λ r. ⌜ r ≡ L.withinCeilings (counts5 s counted nesting) ⌝ }
 {
-    if s.facilities > 256 {
+    if s.facilities > ceilings::FACILITIES {
         return false;
     }
-    if s.operations > 128 {
+    if s.operations > ceilings::OPERATIONS {
         return false;
     }
-    if s.states > 256 {
+    if s.states > ceilings::STATES {
         return false;
     }
-    if counted > 2048 {
+    if counted > MOST_COUNTED {
         return false;
     }
-    nesting <= 24
+    nesting <= DEEPEST
 }
 
 // How many are counted with a word that counts, or with one that does not.

@@ -1,4 +1,5 @@
 // The run record by value, and what it is after a cycle.
+use language::ceilings;
 use run_references::arms::Found;
 use run_stores::doing::Doing;
 ghost use mathlib.Core.Bool.{cond};
@@ -9,27 +10,34 @@ ghost use lib.ListN.{getD, set};
 ghost use Rattle.run_references.specs.Places.{foundMeant};
 ghost use Rattle.run_next.specs.Seen.{leftSeen, nextSeen, orZero, recordMeant, recordSeen};
 
+// Returns that a record holds, as it counts them.
+pub const MOST_RETURNS: u32 = ceilings::RETURNS as u32;
+
 // State, cycle number, and the return states held, unused ones zero.
 pub struct Record {
     pub state: u32,
     pub cycle: u32,
     pub held: u32,
-    pub returns: [u32; 16],
+    pub returns: [u32; ceilings::RETURNS],
 }
 
 // The return state at i, or 0.
-fn returned(returns: [u32; 16], i: u32) -> u32
+fn returned(returns: [u32; ceilings::RETURNS], i: u32) -> u32
     ensures { λ r. ⌜ r ≡ getD returns i 0 ⌝ }
 {
-    if i < 16 { returns[i as usize] } else { 0 }
+    if i < MOST_RETURNS {
+        returns[i as usize]
+    } else {
+        0
+    }
 }
 
 // The return states with x at i, where there is such a place.
-fn with_return(returns: [u32; 16], i: u32, x: u32) -> [u32; 16]
+fn with_return(returns: [u32; ceilings::RETURNS], i: u32, x: u32) -> [u32; ceilings::RETURNS]
     ensures { λ r. ⌜ r ≡ set returns i x ⌝ }
 {
     let mut a = returns;
-    if i < 16 {
+    if i < MOST_RETURNS {
         a[i as usize] = x;
     }
     a
@@ -79,7 +87,7 @@ pub fn plain_next(r: Record, g: Doing, borne: Found) -> u32
 }
 
 // The return states after any RETURN has taken its own off.
-fn popped(r: Record, returns: u8) -> [u32; 16]
+fn popped(r: Record, returns: u8) -> [u32; ceilings::RETURNS]
     ensures { λ a. ⌜ a ≡ cond (ltb 0 returns) (set (r .returns) (r .held - 1) 0) (r .returns) ⌝ }
 {
     let before = r.returns;

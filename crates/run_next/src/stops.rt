@@ -64,7 +64,7 @@ pub fn stop_after(states: u32, r: Record, g: Doing, borne: Found) -> Halt
     }
     if both(
         0 < calls.count,
-        16 <= record::returns_left(r.held, g.returns),
+        record::MOST_RETURNS <= record::returns_left(r.held, g.returns),
     ) {
         return Halt::At(Stop::TooManyCalls);
     }

@@ -1,6 +1,7 @@
 // Numbers as far as bounds go, and what a facility's record says of its words: its bounds are below 65,536.
 use image_sections::facilities::Facility;
 use image_sections::shapes;
+use language::ceilings;
 use value_operators::Value;
 use value_operators::numbers;
 ghost use mathlib.Core.Path.{_≡_};
@@ -11,7 +12,9 @@ ghost use Rattle.value_limbs.specs.Limbs.{number};
 ghost use Rattle.image_sections.specs.Declarations.{facilityMeant};
 
 // What stands for every number that no bound reaches.
-const BEYOND: u32 = 65536;
+const BEYOND: u32 = ceilings::BOUND + 1;
+
+const BEYOND_64: u64 = BEYOND as u64;
 
 // A value's number, as far as bounds go.
 pub fn small(v: Value) -> u32
@@ -19,7 +22,7 @@ pub fn small(v: Value) -> u32
 {
     if numbers::fits64(v) {
         let n = numbers::low64(v);
-        if n < 65536 {
+        if n < BEYOND_64 {
             return n as u32;
         }
     }

@@ -1,4 +1,6 @@
 // The numbers of a record: its state and the returns held are states, unused returns zero.
+use language::ceilings;
+use run_next::record::MOST_RETURNS;
 use run_next::record::Record;
 ghost use mathlib.Core.Bool.{cond};
 ghost use mathlib.Core.Path.{_≡_};
@@ -6,9 +8,6 @@ ghost use lib.Dec.{eqb, ltb};
 ghost use Rattle.language.specs.RecordBytes.{returnsSound};
 ghost use Rattle.run_next.specs.Seen.{recordMeant};
 ghost use Rattle.run_soundness.specs.Tested.{recordSound};
-
-// The most returns held.
-const MOST_RETURNS: u32 = 16;
 
 // Return state i, where there are so many states and so many returns held.
 fn return_sound(states: usize, held: u32, i: usize, x: u32) -> bool
@@ -22,11 +21,11 @@ fn return_sound(states: usize, held: u32, i: usize, x: u32) -> bool
 }
 
 // All sixteen.
-fn returns_sound(states: usize, held: u32, returns: [u32; 16]) -> bool
+fn returns_sound(states: usize, held: u32, returns: [u32; ceilings::RETURNS]) -> bool
     ensures { λ r. ⌜ r ≡ returnsSound states held returns ⌝ }
 {
     let mut i: usize = 0;
-    while i < 16 {
+    while i < ceilings::RETURNS {
         if !return_sound(states, held, i, returns[i]) {
             return false;
         }

@@ -1,5 +1,6 @@
 // The run record in its bytes: read, and written.
 use image_records::numbers;
+use language::ceilings;
 use run_next::record::Record;
 ghost use mathlib.Core.Path.{_≡_};
 ghost use Prim.Native.Nat.{_≤_};
@@ -21,12 +22,12 @@ pub fn marked(bytes: &[u8]) -> bool
 }
 
 // The sixteen return states.
-fn returns_at(bytes: &[u8]) -> [u32; 16]
+fn returns_at(bytes: &[u8]) -> [u32; ceilings::RETURNS]
     ensures { λ r. ⌜ r ≡ returnsFrom 16 16 (now (bytes .entry)) ⌝ }
 {
-    let mut returns = [0u32; 16];
+    let mut returns = [0u32; ceilings::RETURNS];
     let mut i: usize = 0;
-    while i < 16 {
+    while i < ceilings::RETURNS {
         returns[i] = numbers::four(bytes, 16 + 4 * i);
         i += 1;
     }
@@ -50,11 +51,11 @@ pub fn record_at(bytes: &[u8]) -> Record
 }
 
 // Writes the return states, where there is room.
-fn write_returns(bytes: &mut [u8], returns: [u32; 16])
+fn write_returns(bytes: &mut [u8], returns: [u32; ceilings::RETURNS])
     ensures { λ _. ⌜ (80 ≤ length (now (bytes .entry)) → now (bytes .exit) ≡ placed (now (bytes .entry)) 16 (fours returns)) ⌝ }
 {
     let mut i: usize = 0;
-    while i < 16 {
+    while i < ceilings::RETURNS {
         numbers::write_four(bytes, 16 + 4 * i, returns[i]);
         i += 1;
     }

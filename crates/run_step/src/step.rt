@@ -1,6 +1,7 @@
 // A cycle: the actions of its state, and what follows them.
 use crate::acted;
 use image_records::record_sizes;
+use language::ceilings;
 use language::stops::Stop;
 use run_end::finish;
 use run_end::outcome;
@@ -23,9 +24,6 @@ ghost use Rattle.run_next.specs.Seen.{recordMeant};
 ghost use Rattle.run_end.specs.Register.{Enters};
 ghost use Rattle.run_end.specs.Stepped.{Clear, counted, stepped};
 
-// The cycle number from which on no cycle is carried out.
-const LAST_CYCLE: u32 = 4294967295;
-
 // The store is a working copy: where the cycle does not complete it is of no use.
 pub fn step(
     facilities: &[u8],
@@ -42,7 +40,7 @@ pub fn step(
     requires { ⌜ (length (now facilities) / facilitySize ≤ 65536) × (length (now states) / stateSize ≤ 65536) × (r .held ≤ 16) ⌝ }
     ensures { λ a. ⌜ ((d : Description) → Enters d (now (facilities .entry)) (now (expressions .entry)) (now (states .entry)) → Acts d (now (facilities .entry)) (now (operations .entry)) (now (expressions .entry)) (now (actions .entry)) (length (now (states .entry)) / 7) → length (d .operations) ≡ length (now (operations .entry)) / operationSize → storeSizeOf (d .facilities) ≤ length (now (store .entry)) → stimulusSize d ≤ length (now (stimulus .entry)) → Clear (now (store .entry)) (now (pending .entry)) (now (mask .entry)) → stepped (d .facilities) a (now (store .exit)) ≡ counted (S.step d (fromBytes (d .facilities) (now (store .entry))) (recordMeant r) (fromBytes (inputsOf (d .facilities)) (now (stimulus .entry))))) ⌝ }
 {
-    if LAST_CYCLE <= r.cycle {
+    if ceilings::CYCLE <= r.cycle {
         return outcome::without(Verdict::Stopped(Stop::LastCycleReached), r);
     }
     let number = r.state as usize;

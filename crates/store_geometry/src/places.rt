@@ -1,6 +1,7 @@
 // Where facilities and their words lie in the store.
 use crate::shapes;
 use crate::shapes::Shape;
+use language::ceilings;
 ghost use mathlib.Core.Path.{_≡_};
 ghost use Prim.Native.Nat.{_+_, _*_};
 ghost use Rattle.language.specs.Description.{Facility};
@@ -9,7 +10,7 @@ ghost use Rattle.store_geometry.specs.Places.{capped};
 ghost use Rattle.store_geometry.specs.Shapes.{Shaped};
 
 // The largest store; one byte more stands for every larger one.
-const LARGEST: usize = 16384;
+const LARGEST: usize = ceilings::STORE;
 
 // The place after that of a facility: facility by facility it gives each one's place, and at last the size of the store.
 pub fn place_after(place: u32, s: Shape) -> usize

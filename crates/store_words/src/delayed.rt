@@ -1,6 +1,7 @@
 // Delayed stores wait in a slice like the store, beside a mask of the bits that they name.
 use crate::bytes;
 use crate::parts;
+use language::ceilings;
 use value_operators::Value;
 ghost use mathlib.Core.Path.{_≡_};
 ghost use Prim.Native.Nat.{_-_, _^_};
@@ -24,7 +25,7 @@ pub fn mark(mask: &mut [u8], at: usize, length: u32, from: u32, count: u32)
     let ones = value_limbs::full();
     let v = Value {
         limbs: ones,
-        length: 256,
+        length: ceilings::VALUE,
     };
     parts::save(mask, at, length, from, count, v);
 }

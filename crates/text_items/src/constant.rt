@@ -4,6 +4,7 @@ use crate::Kind;
 use crate::digits;
 use crate::made;
 use crate::plain;
+use language::ceilings;
 use language::refusals::Refusal;
 use text_characters::letters;
 use text_characters::parts;
@@ -16,7 +17,7 @@ ghost use Rattle.value_constants.specs.Digits.{counting, held};
 ghost use Rattle.text_items.specs.Meaning.{meant};
 ghost use Rattle.text_items.specs.Digits.{binaryFrom, lengthOf};
 
-const LONGEST: u32 = 256;
+const LONGEST: u32 = ceilings::VALUE as u32;
 
 // Bits of a digit after the letter of a base, B Q @ H; 0 where it is none.
 fn digit_bits(b: u8) -> u16

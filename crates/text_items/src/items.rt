@@ -5,6 +5,7 @@ use crate::constant;
 use crate::plain;
 use crate::reserved;
 use crate::symbols;
+use language::ceilings;
 use language::refusals::Refusal;
 use text_characters::classes;
 use text_characters::parts;
@@ -15,8 +16,6 @@ ghost use lib.ListN.{drop};
 ghost use Rattle.language.specs.Scan.{commentAt, nameAt};
 ghost use Rattle.text_items.specs.Meaning.{itemStart, meant};
 
-const LONGEST_NAME: usize = 132;
-
 // The name or reserved word at the start of a text.
 fn name(text: &[u8]) -> Item
     ensures { λ r. ⌜ meant (now (text .entry)) r ≡ nameAt (now (text .entry)) ⌝ }
@@ -26,7 +25,7 @@ fn name(text: &[u8]) -> Item
     if kind != 0 {
         return plain(Kind::Sign(kind), size);
     }
-    if size <= LONGEST_NAME {
+    if size <= ceilings::NAME {
         plain(Kind::Name, size)
     } else {
         plain(Kind::Wrong(Refusal::BadName), size)

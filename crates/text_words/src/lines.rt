@@ -1,6 +1,7 @@
 // Lines and columns (01, "Words" and refusal 2).
 use crate::Judged;
 use crate::faults;
+use language::ceilings;
 use language::refusals::Refusal;
 use text_characters::parts;
 ghost use mathlib.Core.List.{[], _∷_};
@@ -9,8 +10,6 @@ ghost use Prim.Native.Nat.{_≤_};
 ghost use Rattle.language.specs.Lines.{longLines, widthAfter};
 ghost use Rattle.language.specs.WordStage.{least};
 ghost use Rattle.text_words.specs.Meaning.{judged};
-
-const LONGEST_LINE: usize = 132;
 
 // How wide a line of that width is after a byte, which another follows.
 fn width_after(width: usize, b: u8, next: u8) -> usize
@@ -37,7 +36,7 @@ pub fn first_long(text: &[u8]) -> Judged
     let mut at = 0;
     while at < text.len() {
         width = width_after(width, text[at], parts::byte(text, at + 1));
-        if LONGEST_LINE < width {
+        if ceilings::LINE < width {
             return faults::refused(at, Refusal::BadCharacter);
         }
         at += 1;

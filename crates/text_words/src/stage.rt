@@ -2,6 +2,7 @@
 use crate::Judged;
 use crate::faults;
 use crate::lines;
+use language::ceilings;
 use language::refusals::Refusal;
 use text_items::Kind;
 use text_items::items;
@@ -12,13 +13,11 @@ ghost use Rattle.language.specs.Reading.{longestText};
 ghost use Rattle.language.specs.WordStage as L;
 ghost use Rattle.text_words.specs.Meaning.{firstFault, judged, kindFault};
 
-const LONGEST_TEXT: usize = 32768;
-
 // Whether a text is too long.
 fn too_long(text: &[u8]) -> bool
     ensures { λ r. ⌜ r ≡ ltb longestText (length (now (text .entry))) ⌝ }
 {
-    LONGEST_TEXT < text.len()
+    ceilings::TEXT < text.len()
 }
 
 // What an item at a place has wrong.

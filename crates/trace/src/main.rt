@@ -2,6 +2,7 @@
 mod input;
 
 use image_records::bytes;
+use language::ceilings;
 use libc::STDOUT_FILENO;
 use trace_whole::begun;
 use trace_whole::begun::Begun;
@@ -9,8 +10,8 @@ use trace_whole::begun::Begun;
 // Reads the text, and runs it or says why it is refused.
 fn run(text: &[u8]) {
     let mut image = [0u8; 165556];
-    let mut store = [0u8; 16384];
-    let mut record = [0u8; 80];
+    let mut store = [0u8; ceilings::STORE];
+    let mut record = [0u8; ceilings::RECORD];
     let mut out = [0u8; 64];
     match begun::begin_run(text, &mut image, &mut store, &mut record, &mut out) {
         Begun::Refused(end) => {
@@ -30,7 +31,7 @@ fn main() {
         os::fail(path);
         return;
     }
-    let mut text = [0u8; 32769];
+    let mut text = [0u8; ceilings::TEXT + 1];
     let n = io::read_full(file, &mut text);
     libc::close(file);
     run(&text[..n]);

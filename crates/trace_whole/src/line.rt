@@ -2,6 +2,7 @@
 use image_records::bytes;
 use image_records::numbers;
 use image_sections::sections;
+use language::ceilings;
 use trace_input::stimulus;
 use trace_input::stimulus::Taken;
 use trace_line::told;
@@ -74,8 +75,8 @@ pub fn turned(
     requires { ⌜ Ready (now image) (now store) ⌝ }
     ensures { λ r. ⌜ Turned (now (image .entry)) (now (line .entry)) number (now (store .entry)) (now («record» .entry)) (r .on) (now (store .exit)) (now («record» .exit)) (now (out .entry)) at (now (out .exit)) (r .end) ⌝ }
 {
-    let mut scratch = [0u8; 65536];
-    let mut stimulus = [0u8; 16384];
+    let mut scratch = [0u8; 4 * ceilings::STORE];
+    let mut stimulus = [0u8; ceilings::STORE];
     let size = 4 * store.len();
     line_done(
         image,

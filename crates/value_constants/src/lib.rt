@@ -1,4 +1,5 @@
 // Constants (the manual, 2.3): their digits, one by one, and the value once they end.
+use language::ceilings;
 use value_limbs::Limb;
 use value_limbs::Wide;
 use value_operators::Made;
@@ -28,9 +29,9 @@ pub struct Binary {
 const HALF: u64 = 4294967296;
 
 // The largest bare constant, and one more.
-const BARE_LARGEST: u32 = 65535;
+const BARE_LARGEST: u32 = ceilings::BARE;
 
-const BARE_PAST: u32 = 65536;
+const BARE_PAST: u32 = BARE_LARGEST + 1;
 
 // No decimal digit yet.
 pub fn no_decimal() -> Decimal

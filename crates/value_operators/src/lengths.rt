@@ -1,4 +1,5 @@
 // The rules for lengths, one function each. A length is a u16, and what a rule gives is a u32, where nothing overflows.
+use language::ceilings;
 ghost use mathlib.Core.Path.{_≡_};
 ghost use Prim.Native.Nat.{max, _-_, _<_};
 ghost use Rattle.language.specs.Value.{sumLength, differenceLength, negationLength, relationLength, complementLength, logicalLength, joinLength, repeatLength, cutLength, reductionLength, countLength, partLength};
@@ -6,7 +7,7 @@ ghost use Rattle.language.specs.Constants.{bareLength};
 ghost use Rattle.value_operators.specs.Meaning.{allowed as Allowed};
 
 // The longest value.
-pub const LONGEST: u32 = 256;
+pub const LONGEST: u32 = ceilings::VALUE as u32;
 
 // Whether a value may have this length.
 pub fn allowed(length: u32) -> bool

@@ -1,5 +1,6 @@
 // The length that the bare values of states take.
 use judge_all::wanted;
+use language::ceilings;
 use parse_array::Work;
 use parse_held::body;
 use parse_tables::Table;
@@ -14,6 +15,9 @@ ghost use Rattle.parse_tables.specs.declared.Table.the-variants as T;
 ghost use Rattle.parse_tables.specs.Rows as R;
 ghost use Rattle.call_read.specs.Lengths.{lending};
 
+// Bits of the longest value.
+const LONGEST: u64 = ceilings::VALUE as u64;
+
 // The length of the sequencing register among the first n facilities; 0 where there is none, or where it is longer than values are.
 pub fn sequencing_length(work: &Work, n: u16) -> u16
     ensures { λ r. ⌜ ((es ep : List ℕ) (d : Description) (p : Places) → Declared (R.rows T.Facilities n (now (work .entry))) es (R.rows T.FacilityPlaces n (now (work .entry))) ep d p → lengthOf r ≡ lending (sequencingLength d p)) ⌝ }
@@ -22,7 +26,7 @@ pub fn sequencing_length(work: &Work, n: u16) -> u16
     let fs = body::rows_of(s, Table::Facilities, n);
     let fp = body::rows_of(s, Table::FacilityPlaces, n);
     let l = wanted::sequencing_length(fs, fp);
-    if 256 < l {
+    if LONGEST < l {
         return 0;
     }
     l as u16

@@ -1,4 +1,5 @@
 // What an operation begins with: its name, `=` and `[`.
+use language::ceilings;
 use language::refusals::Refusal;
 use parse_step::Answer;
 use parse_step::Bearing;
@@ -14,7 +15,7 @@ ghost use Rattle.parse_sections.specs.Heads.{Heads, Names, moreState};
 fn one_more(s: State) -> State
     ensures { λ r. ⌜ (s .operations ≤ 128 → r ≡ moreState s) ⌝ }
 {
-    let operations = if s.operations > 128 {
+    let operations = if s.operations > ceilings::OPERATIONS {
         s.operations
     } else {
         s.operations + 1
