@@ -1,4 +1,4 @@
-// What definitions and code share: the kinds of words, and the refusals and stops of document 01.
+// What definitions and code share: the kinds of words, and the refusals, stops and ceilings of document 01.
 pub mod ceilings;
 pub mod kinds;
 pub mod refusals;
