@@ -27,6 +27,9 @@ ghost use Rattle.judge_all.specs.Declared.{facilityPlacesOf};
 // Bits of a sequencing register, whose value is one.
 const LONGEST: u64 = ceilings::VALUE as u64;
 
+// Bytes of a store.
+const LARGEST_STORE: u32 = ceilings::STORE as u32;
+
 // A bound is at most 65,535.
 fn bound_fault(n: u32, at: Position) -> Judged
     ensures { λ r. ⌜ ((q : W.Position) → positioned at ≡ q → judged r ≡ least (L.unless (leb n largestBound) q BadSubscript)) ⌝ }
@@ -108,6 +111,6 @@ pub fn facility_faults(
 {
     let at = places::of_facility(fp, n, 0);
     let one = faults::unless(sequencing_right(another, f), at, Refusal::BadSequencing);
-    let two = faults::unless(after <= ceilings::STORE, at, Refusal::CeilingPassed);
+    let two = faults::unless(after <= LARGEST_STORE, at, Refusal::CeilingPassed);
     faults::also(one, faults::also(two, terminal))
 }

@@ -4,13 +4,14 @@ use mathlib.Core.List.{List, [], _∷_, _++_}
 use mathlib.Core.Path.{_≡_, refl}
 use Prim.Native.Nat.{ℕ}
 use lib.ListN.{set, take}
+use Rattle.language.specs.Calls as Calls
 use Rattle.language.specs.Calls.{cycle, open′, refusedFor}
 use Rattle.language.specs.Computing.{computing}
 use Rattle.language.specs.Image.{passes}
 use Rattle.language.specs.Lookups.{facilityName, partOf, refused, stateName}
 use Rattle.language.specs.Reading.{accepted, read}
 use Rattle.language.specs.Reading as Reading
-use Rattle.language.specs.declared.refusals.Refusal.the-variants.{BadStimulus, BadSubscript, BufferTooShort, Unsound}
+use Rattle.language.specs.declared.refusals.Refusal.the-variants.{BadStimulus, BadSubscript, BufferTooShort, ImageFails, Unsound}
 use Rattle.language.specs.Scan.{bytes}
 
 -- 01, "Cases".
@@ -86,7 +87,7 @@ absent : facilityName image 3 ≡ refused BadSubscript
 unfolding computing image
 absent = refl
 
--- A cycle tests 13, 12, 14, 15 in this order: a spoiled record, and a stimulus with a spare bit set.
+-- A cycle tests 13, 12, 14, 15: a spoiled record, a stimulus with a spare bit set, and a scratch that is too short.
 spoiled : cycle image (open′ image 3 80 .store) (set (open′ image 3 80 .record′) 4 2) (0 ∷ []) 12 .answer ≡ refusedFor Unsound
 unfolding computing image
 spoiled = refl
@@ -98,3 +99,25 @@ spare-bit = refl
 little-scratch : cycle image (open′ image 3 80 .store) (open′ image 3 80 .record′) (0 ∷ []) 11 .answer ≡ refusedFor BufferTooShort
 unfolding computing image
 little-scratch = refl
+
+-- In this order: a spoiled record before a wrong stimulus, a scratch that is too short before both, and an image that does not pass before all.
+spoiled-first : cycle image (open′ image 3 80 .store) (set (open′ image 3 80 .record′) 4 2) (2 ∷ []) 12 .answer ≡ refusedFor Unsound
+unfolding computing image
+spoiled-first = refl
+
+short-first : cycle image (open′ image 3 80 .store) (set (open′ image 3 80 .record′) 4 2) (2 ∷ []) 11 .answer ≡ refusedFor BufferTooShort
+unfolding computing image
+short-first = refl
+
+image-first : cycle (take 287 image) (open′ image 3 80 .store) (set (open′ image 3 80 .record′) 4 2) (2 ∷ []) 11 .answer ≡ refusedFor ImageFails
+unfolding computing image
+image-first = refl
+
+-- Opening tests 13 before 12, a lookup 13 before 6.
+opened-first : open′ (take 287 image) 2 80 .answer ≡ Calls.refused ImageFails
+unfolding computing image
+opened-first = refl
+
+looked-first : facilityName (take 287 image) 3 ≡ refused ImageFails
+unfolding computing image
+looked-first = refl

@@ -12,7 +12,8 @@ use Rattle.language.specs.declared.refusals.Refusal.the-variants.{Unsoun
 use Rattle.language.specs.Scan.{bytes}
 use Rattle.language.specs.declared.stops.Stop.the-variants.{LastCycleReached}
 
-abbrev imageOf : Read → List ℕ
+-- The image of a text that is read, and nothing of any other.
+abbrev pub imageOf : Read → List ℕ
 imageOf (legal d) = encode d
 imageOf (refusedAt f) = []
 
@@ -50,12 +51,18 @@ two-words : first "REGISTER A[2,4]. OPERATION X=[A[1]<-4D9,A[2]<-4D5]. CONTROL P
 unfolding computing first
 two-words = refl
 
--- Bytes beyond the store are not touched by a cycle; opening zeroed them.
-beyond : first "REGISTER A[12]. OPERATION X=[A<-12H.ABC]. CONTROL P: X,->P/." 3 .store ≡ 0x0a ∷ 0xbc ∷ 0 ∷ []
-unfolding computing first
+-- Bytes beyond the store are not touched by a cycle; opening zeroes them.
+beyond-opened : open′ (imageOf (readText (bytes "REGISTER A[12]. OPERATION X=[A<-12H.ABC]. CONTROL P: X,->P/."))) 3 80 .store ≡ 0 ∷ 0 ∷ 0 ∷ []
+unfolding computing
+beyond-opened = refl
+
+beyond :
+    (let image : List ℕ = imageOf (readText (bytes "REGISTER A[12]. OPERATION X=[A<-12H.ABC]. CONTROL P: X,->P/.")) in
+    cycle image (0 ∷ 0 ∷ 7 ∷ []) (open′ image 2 80 .record′) [] 8 .store) ≡ 0x0a ∷ 0xbc ∷ 7 ∷ []
+unfolding computing
 beyond = refl
 
--- The record after the first cycle: mark, state 1, cycle 1, one return held, state 1 as the return.
+-- The record after the first cycle: mark, state 2, cycle 1, one return held, state 1 as the return.
 called : first "REGISTER A. CONTROL P: =>R/ Q: / R: RETURN/." 1 .record′
     ≡ 0x44 ∷ 0x44 ∷ 0x4c ∷ 0x50 ∷ 2 ∷ 0 ∷ 0 ∷ 0 ∷ 1 ∷ 0 ∷ 0 ∷ 0 ∷ 1 ∷ 0 ∷ 0 ∷ 0 ∷ 1 ∷ 0 ∷ 0 ∷ 0 ∷ replicate 60 0
 unfolding computing first
@@ -69,6 +76,14 @@ stopped-scratch = refl
 stopped-store : first "REGISTER A. OPERATION X=[A=1B1]. CONTROL P: X,RETURN/." 1 .store ≡ 0 ∷ []
 unfolding computing first
 stopped-store = refl
+
+-- A stop lands nothing: of two cycles the second sets A at once and then stops, and A is as the first one left it.
+second-stops :
+    (let image : List ℕ = imageOf (readText (bytes "REGISTER A[4]. OPERATION X=[A=4D5], Y=[A=4D9]. CONTROL P: X/ Y,RETURN/.")) in
+    let o : OpenCall = open′ image 1 80 in
+    run image (o .store) (o .record′) [] 2 4 0 .store) ≡ 5 ∷ []
+unfolding computing
+second-stops = refl
 
 -- S7: the last cycle number.
 last-cycle :

@@ -1,6 +1,6 @@
 -- Words, columns and their faults, computed.
 use mathlib.Core.Bool.{true, false}
-use mathlib.Core.List.{[], _∷_}
+use mathlib.Core.List.{[], _∷_, _++_}
 use mathlib.Core.Option.{none, some}
 use mathlib.Core.Path.{_≡_, refl}
 use lib.ListN.{replicate}
@@ -80,11 +80,21 @@ lone-return : longLines 132 7 (13 ∷ 32 ∷ []) ≡ fault (position 7) BadChara
 unfolding words-open
 lone-return = refl
 
--- A name of 133 letters is refused as 4, one of 132 is not; the least place answers, and at one place the least number.
-name-133 : wordFault (replicate 132 65) ≡ none
+-- A name of 132 letters is allowed, one of 133 is refused as 4.
+name-132 : wordFault (replicate 132 65) ≡ none
+unfolding words-open
+name-132 = refl
+
+name-133 : wordFault (32 ∷ replicate 133 65) ≡ some (fault (position 1) BadName)
 unfolding words-open
 name-133 = refl
 
-name-132 : wordFault (32 ∷ replicate 133 65) ≡ some (fault (position 1) BadName)
+-- The least place answers: a character that is not allowed, before a name that is too long.
+least-place : wordFault (33 ∷ replicate 133 65) ≡ some (fault (position 0) BadCharacter)
 unfolding words-open
-name-132 = refl
+least-place = refl
+
+-- At one place the least number: behind 132 blanks a long name begins where the line grows too long, and 2 goes before 4.
+least-number : wordFault (replicate 132 32 ++ replicate 133 65) ≡ some (fault (position 132) BadCharacter)
+unfolding words-open
+least-number = refl
