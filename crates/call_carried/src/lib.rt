@@ -35,7 +35,7 @@ pub fn carried(
 {
     slices::copy(work, store);
     slices::zero(mask);
-    let a = run_step::step::step(
+    let a = run_advance::lent(
         facilities,
         operations,
         expressions,

@@ -4,17 +4,8 @@ use run_next::record::Record;
 ghost use mathlib.Core.Path.{_≡_};
 ghost use Prim.Native.Nat.{_/_, _≤_};
 ghost use lib.ListN.{length};
-ghost use Rattle.language.specs.Calls.{stimulusSize};
-ghost use Rattle.language.specs.Description.{Description};
-ghost use Rattle.language.specs.Layout.{storeSizeOf};
-ghost use Rattle.language.specs.Step as S;
-ghost use Rattle.language.specs.Store.{fromBytes, inputsOf};
-ghost use Rattle.run_actions.specs.Acts.{Acts};
-ghost use Rattle.run_next.specs.Seen.{recordMeant};
-ghost use Rattle.run_end.specs.Register.{Enters};
-ghost use Rattle.run_end.specs.Stepped.{Clear, counted, stepped};
-ghost use Rattle.run_left.specs.Kept.{kept};
-ghost use Rattle.language.specs.Encode.{facilitySize, operationSize, stateSize};
+ghost use Rattle.language.specs.Encode.{facilitySize, stateSize};
+ghost use Rattle.run_advance.specs.Settled.{Settled};
 
 // A cycle by value: where it does not complete, the answer has the record before it.
 fn settle(
@@ -30,7 +21,7 @@ fn settle(
     mask: &mut [u8],
 ) -> Stepped
     requires { ⌜ (length (now facilities) / facilitySize ≤ 65536) × (length (now states) / stateSize ≤ 65536) × (r .held ≤ 16) ⌝ }
-    ensures { λ a. ⌜ ((d : Description) → Enters d (now (facilities .entry)) (now (expressions .entry)) (now (states .entry)) → Acts d (now (facilities .entry)) (now (operations .entry)) (now (expressions .entry)) (now (actions .entry)) (length (now (states .entry)) / 7) → length (d .operations) ≡ length (now (operations .entry)) / operationSize → storeSizeOf (d .facilities) ≤ length (now (store .entry)) → stimulusSize d ≤ length (now (stimulus .entry)) → Clear (now (store .entry)) (now (pending .entry)) (now (mask .entry)) → stepped (d .facilities) a (now (store .exit)) ≡ counted (S.step d (fromBytes (d .facilities) (now (store .entry))) (recordMeant r) (fromBytes (inputsOf (d .facilities)) (now (stimulus .entry))))) × (a .record ≡ kept (a .verdict) r (a .record)) ⌝ }
+    ensures { λ a. ⌜ Settled (now (facilities .entry)) (now (operations .entry)) (now (expressions .entry)) (now (actions .entry)) (now (states .entry)) r (now (stimulus .entry)) (now (store .entry)) (now (pending .entry)) (now (mask .entry)) a (now (store .exit)) ⌝ }
 {
     let s = run_step::step::step(
         facilities,
@@ -61,7 +52,7 @@ pub fn advance(
     mask: &mut [u8],
 ) -> Stepped
     requires { ⌜ (length (now facilities) / facilitySize ≤ 65536) × (length (now states) / stateSize ≤ 65536) × (now r .held ≤ 16) ⌝ }
-    ensures { λ a. ⌜ ((d : Description) → Enters d (now (facilities .entry)) (now (expressions .entry)) (now (states .entry)) → Acts d (now (facilities .entry)) (now (operations .entry)) (now (expressions .entry)) (now (actions .entry)) (length (now (states .entry)) / 7) → length (d .operations) ≡ length (now (operations .entry)) / operationSize → storeSizeOf (d .facilities) ≤ length (now (store .entry)) → stimulusSize d ≤ length (now (stimulus .entry)) → Clear (now (store .entry)) (now (pending .entry)) (now (mask .entry)) → stepped (d .facilities) a (now (store .exit)) ≡ counted (S.step d (fromBytes (d .facilities) (now (store .entry))) (recordMeant (now (r .entry))) (fromBytes (inputsOf (d .facilities)) (now (stimulus .entry))))) × (a .record ≡ kept (a .verdict) (now (r .entry)) (a .record)) × (now (r .exit) ≡ a .record) ⌝ }
+    ensures { λ a. ⌜ Settled (now (facilities .entry)) (now (operations .entry)) (now (expressions .entry)) (now (actions .entry)) (now (states .entry)) (now (r .entry)) (now (stimulus .entry)) (now (store .entry)) (now (pending .entry)) (now (mask .entry)) a (now (store .exit)) × (now (r .exit) ≡ a .record) ⌝ }
 {
     let s = settle(
         facilities,
@@ -77,4 +68,40 @@ pub fn advance(
     );
     *r = s.record;
     s
+}
+
+// A cycle from a record by value, which is lent to be advanced where it stands; the answer has what then stands there.
+pub fn lent(
+    facilities: &[u8],
+    operations: &[u8],
+    expressions: &[u8],
+    actions: &[u8],
+    states: &[u8],
+    r: Record,
+    stimulus: &[u8],
+    store: &mut [u8],
+    pending: &mut [u8],
+    mask: &mut [u8],
+) -> Stepped
+    requires { ⌜ (length (now facilities) / facilitySize ≤ 65536) × (length (now states) / stateSize ≤ 65536) × (r .held ≤ 16) ⌝ }
+    ensures { λ a. ⌜ Settled (now (facilities .entry)) (now (operations .entry)) (now (expressions .entry)) (now (actions .entry)) (now (states .entry)) r (now (stimulus .entry)) (now (store .entry)) (now (pending .entry)) (now (mask .entry)) a (now (store .exit)) ⌝ }
+{
+    let mut record = r;
+    let s = advance(
+        facilities,
+        operations,
+        expressions,
+        actions,
+        states,
+        &mut record,
+        stimulus,
+        store,
+        pending,
+        mask,
+    );
+    Stepped {
+        verdict: s.verdict,
+        record,
+        conflicts: s.conflicts,
+    }
 }

@@ -22,7 +22,10 @@ returns : tie.Need-returns
 returns c =
     let e = c .keep-record .ensures in
     let s = c .before .before .before .before .before .before .before .step .ensures in
-    (λ d h acts k room enough clear. rw (stepped-kept (d .facilities) _ _ _ _ e) (s d h acts k room enough clear), record-kept _ _ _ e)
+    record {
+      means = λ d h acts k room enough clear. rw (stepped-kept (d .facilities) _ _ _ _ e) (s d h acts k room enough clear);
+      keeps = record-kept _ _ _ e;
+    }
 
 pub settle-spec : {M : Type 1} → statement M
 settle-spec = tie.close (tie.spec step-requires keep-record-requires same-length same-length-2 same-length-3 returns)
