@@ -3,6 +3,7 @@ use call_answers::ran::Tally;
 use image_records::bytes;
 use image_sections::sections;
 use language::stops::Halt;
+use run_advance::carried;
 use run_begin::formed;
 use run_end::outcome::Verdict;
 use run_next::record::Record;
@@ -69,7 +70,7 @@ fn carry_on(
     let mut to: usize = 0;
     let mut reached = r;
     while n < cycles {
-        let a = call_carried::carried(
+        let a = carried::carried(
             facilities,
             operations,
             expressions,

@@ -1,7 +1,7 @@
-use Rattle.run_advance.proofs.KeptLaws.{record-kept, stepped-kept}
+use Rattle.run_advance.proofs.RecordLaws.{record-kept, stepped-kept}
 use borrow.Author.Needs.{needs}
-use Rattle.run_advance.proofs.settle.Statement.{statement}
-use Rattle.run_advance.proofs.settle.Tie as tie
+use Rattle.run_advance.proofs.advance.settle.Statement.{statement}
+use Rattle.run_advance.proofs.advance.settle.Tie as tie
 
 step-requires : tie.Need-step-requires
 step-requires c κs = search needs

@@ -48,14 +48,14 @@ use Rattle.run_end.proofs.outcome.Stepped.Laws as O′
 use Rattle.language.specs.Encode.{facilitySize, stateSize}
 use Rattle.run_advance.specs.Settled.{Settled}
 use Rattle.run_advance.proofs.Machine.{held, mach, out, v}
-use Rattle.run_advance.proofs.settle as settle
-use Rattle.run_advance.proofs.settle.Symbol as settle-def
-use Rattle.run_advance.proofs.settle.Symbol.{name as #settle}
-use Rattle.run_advance.proofs.settle.Met as settle-thm
-use Rattle.run_advance.proofs.advance.Key.{name as #advance}
-use Rattle.run_advance.proofs.advance as f
-use Rattle.run_advance.proofs.advance.Statement as stated
-use Rattle.run_advance.proofs.advance.Code as code
+use Rattle.run_advance.proofs.advance.settle as settle
+use Rattle.run_advance.proofs.advance.settle.Symbol as settle-def
+use Rattle.run_advance.proofs.advance.settle.Symbol.{name as #settle}
+use Rattle.run_advance.proofs.advance.settle.Met as settle-thm
+use Rattle.run_advance.proofs.advance.advance.Key.{name as #advance}
+use Rattle.run_advance.proofs.advance.advance as f
+use Rattle.run_advance.proofs.advance.advance.Statement as stated
+use Rattle.run_advance.proofs.advance.advance.Code as code
 
 abbrev Arg : Type 0
 Arg = RefT (List ℕ) × (RefT (List ℕ) × (RefT (List ℕ) × (RefT (List ℕ) × (RefT (List ℕ) × (RefT Record × (RefT (List ℕ) × (RefT (List ℕ) × (RefT (List ℕ) × (RefT (List ℕ) × Unit {0})))))))))
@@ -228,4 +228,4 @@ advance-spec 𝓤 H 𝓜 𝓖 𝓡 =
     entered 𝓤 H (tripleOf 𝓤 H (𝓖 .A) f.signature (f.spec 𝓤 H (𝓖 .A) (𝓜 .mem) (𝓡 .run)))
     (tables 𝓤 H 𝓜 𝓡 code.env .C) (tables 𝓤 H 𝓜 𝓡 code.env .Λ) #advance code.function (code.unfolded 𝓤 H 𝓜 𝓡)
     (advance-meets 𝓤 H (𝓖 .A) (givenOf 𝓤 H 𝓜 𝓖) (𝓜 .mem) (𝓡 .run) (tablesOf 𝓤 H 𝓜 (tables 𝓤 H 𝓜 𝓡 code.env))
-    (cited 𝓤 H (Settle 𝓤 H (𝓖 .A) (𝓜 .mem) (𝓡 .run)) 𝓜 𝓡 code.env #settle settle-def.routine code.calls-run-advance·settle (settle-thm.met 𝓤 H 𝓜 𝓖 𝓡)))
+    (cited 𝓤 H (Settle 𝓤 H (𝓖 .A) (𝓜 .mem) (𝓡 .run)) 𝓜 𝓡 code.env #settle settle-def.routine code.calls-run-advance·advance·settle (settle-thm.met 𝓤 H 𝓜 𝓖 𝓡)))

@@ -8,12 +8,12 @@ use Rattle.language.specs.Layout.{storeSize}
 use Rattle.language.specs.Store.{fromBytes}
 use Rattle.run_next.specs.Seen.{recordMeant}
 use Rattle.run_end.specs.Stepped.{Clear}
-use Rattle.call_carried.proofs.CarryLaws.{copy-means, cycle-is, free-passes, stimulus-there, store-there}
-use Rattle.call_carried.proofs.KeptLaws.{back-so, copied-front, kept-so}
-use Rattle.call_carried.proofs.WorkLaws.{all-counted, operations-many, passed-acts, passed-enters}
+use Rattle.run_advance.proofs.CarryLaws.{copy-means, cycle-is, free-passes, stimulus-there, store-there}
+use Rattle.run_advance.proofs.CopyLaws.{back-so, copied-front, kept-so}
+use Rattle.run_advance.proofs.WorkLaws.{all-counted, operations-many, passed-acts, passed-enters}
 use borrow.Author.Needs.{needs}
-use Rattle.call_carried.proofs.carried.Statement.{statement}
-use Rattle.call_carried.proofs.carried.Tie as tie
+use Rattle.run_advance.proofs.carried.carried.Statement.{statement}
+use Rattle.run_advance.proofs.carried.carried.Tie as tie
 
 copy-requires : tie.Need-copy-requires
 copy-requires c κs = search needs

@@ -50,14 +50,14 @@ use Rattle.run_end.proofs.outcome.Stepped as O
 use Rattle.run_end.proofs.outcome.Stepped.Laws as O′
 use Rattle.run_advance.specs.Settled.{Settled}
 use Rattle.run_advance.proofs.Machine.{held, mach, out, v}
-use Rattle.run_advance.proofs.advance as advance
-use Rattle.run_advance.proofs.advance.Symbol as advance-def
-use Rattle.run_advance.proofs.advance.Symbol.{name as #advance}
-use Rattle.run_advance.proofs.advance.Met as advance-thm
-use Rattle.run_advance.proofs.lent.Key.{name as #lent}
-use Rattle.run_advance.proofs.lent as f
-use Rattle.run_advance.proofs.lent.Statement as stated
-use Rattle.run_advance.proofs.lent.Code as code
+use Rattle.run_advance.proofs.advance.advance as advance
+use Rattle.run_advance.proofs.advance.advance.Symbol as advance-def
+use Rattle.run_advance.proofs.advance.advance.Symbol.{name as #advance}
+use Rattle.run_advance.proofs.advance.advance.Met as advance-thm
+use Rattle.run_advance.proofs.advance.lent.Key.{name as #lent}
+use Rattle.run_advance.proofs.advance.lent as f
+use Rattle.run_advance.proofs.advance.lent.Statement as stated
+use Rattle.run_advance.proofs.advance.lent.Code as code
 
 -- The last values that the call tells: of the record that is lent, and of the three slices that it writes.
 abbrev Ws : Type 0
@@ -245,4 +245,4 @@ lent-spec 𝓤 H 𝓜 𝓖 𝓡 =
     entered 𝓤 H (tripleOf 𝓤 H (𝓖 .A) f.signature (f.spec 𝓤 H (𝓖 .A) (𝓜 .mem) (𝓡 .run)))
     (tables 𝓤 H 𝓜 𝓡 code.env .C) (tables 𝓤 H 𝓜 𝓡 code.env .Λ) #lent code.function (code.unfolded 𝓤 H 𝓜 𝓡)
     (lent-meets 𝓤 H (𝓖 .A) (givenOf 𝓤 H 𝓜 𝓖) (𝓜 .mem) (𝓡 .run) (tablesOf 𝓤 H 𝓜 (tables 𝓤 H 𝓜 𝓡 code.env))
-    (cited 𝓤 H (Advance 𝓤 H (𝓖 .A) (𝓜 .mem) (𝓡 .run)) 𝓜 𝓡 code.env #advance advance-def.routine code.calls-run-advance·advance (advance-thm.met 𝓤 H 𝓜 𝓖 𝓡)))
+    (cited 𝓤 H (Advance 𝓤 H (𝓖 .A) (𝓜 .mem) (𝓡 .run)) 𝓜 𝓡 code.env #advance advance-def.routine code.calls-run-advance·advance·advance (advance-thm.met 𝓤 H 𝓜 𝓖 𝓡)))
