@@ -26,7 +26,7 @@ use Rattle.about_running.specs.LegalForm.{left-of, right-of}
 use Rattle.about_bytes.specs.AnyRun.{Ready}
 use Rattle.about_bytes.specs.StaysSound.{no-refusal, stays-sound}
 use Rattle.run_soundness.proofs.PassedLaws.{passed-size}
-use Rattle.call_carried.proofs.CarryLaws.{cycle-is}
+use Rattle.run_advance.proofs.CarryLaws.{cycle-is}
 use Rattle.image_records.proofs.FilledLaws.{filled-more, filled-none}
 use Rattle.about_bytes.specs.ManyCycles.{all-first, all-long, all-rest, first-there, going, run-free}
 

@@ -13,7 +13,7 @@ use Rattle.language.specs.RecordBytes.{recordBytes, recordFrom, recordSize}
 use Rattle.language.specs.Step.{Record}
 use Rattle.image_records.specs.Placed.{placed}
 use Rattle.run_left.specs.Kept.{keptRecord}
-use Rattle.call_carried.specs.Carried.{ReadBack}
+use Rattle.run_advance.specs.Carried.{ReadBack}
 use Rattle.call_stimuli.proofs.RunLaws.{Left, left-all, left-more}
 use Rattle.call_stimuli.specs.Lent.{Lent}
 

@@ -10,7 +10,7 @@ use Rattle.language.specs.Layout.{storeSize}
 use Rattle.language.specs.Reading.{zeroes}
 use Rattle.language.specs.RecordBytes.{recordFrom}
 use Rattle.language.specs.Step as S
-use Rattle.call_carried.specs.Carried.{Sliced}
+use Rattle.run_advance.specs.Carried.{Sliced}
 
 -- What the cycles of a run are carried out on: the sections of an image and the record in K, which a scratch of n bytes does not refuse; as many bytes as the store has for the working copy, for delayed stores that wait, and for their mask; a trace of zeroes.
 pub record Lent (image K : List ℕ) (n : ℕ) (facilities operations expressions actions states : List ℕ) (r : S.Record) (store stimuli : List ℕ) (cycles : ℕ) (work pending mask trace : List ℕ) : Type 0 where

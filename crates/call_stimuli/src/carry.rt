@@ -4,6 +4,7 @@ use image_records::bytes;
 use image_sections::sections;
 use language::ceilings;
 use language::stops::Halt;
+use run_advance::carried;
 use run_begin::formed;
 use run_end::outcome::Verdict;
 use run_next::record::Record;
@@ -73,7 +74,7 @@ fn carry_on(
     let mut to: usize = 0;
     let mut reached = r;
     while n < cycles {
-        let a = call_carried::carried(
+        let a = carried::carried(
             facilities,
             operations,
             expressions,

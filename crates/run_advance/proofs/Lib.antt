@@ -1,1 +1,5 @@
-pub mod KeptLaws
+pub mod CarryLaws
+pub mod CopyLaws
+pub mod Machine
+pub mod RecordLaws
+pub mod WorkLaws

@@ -3,10 +3,10 @@ use mathlib.Core.Bool.{Bool, true, false, cond}
 use mathlib.Core.List.{List, [], _∷_, append-nil}
 use mathlib.Core.Option.{Option, none, some}
 use mathlib.Core.Path.{_≡_, refl, sym, ap, ap₂, _∙_}
-use Prim.Native.Nat.{ℕ, _+_, _*_, _≤_}
+use Prim.Native.Nat.{ℕ, _+_, _*_, _-_, _≤_}
 use native.Mathlib.Omega.{arith}
-use lib.ListN.{drop, length, take}
-use lib.Seq.{take-at}
+use lib.ListN.{drop, length, length-replicate, replicate, take}
+use lib.Seq.{length-take-le, take-at}
 use Rattle.language.specs.Calls as L
 use Rattle.language.specs.Calls.{over, stimulusSize}
 use Rattle.language.specs.Decode.{decode}
@@ -85,6 +85,10 @@ module _ {image line : List ℕ} {number : ℕ} {S R S′ R′ B : List ℕ} {at
   }
 
 -- ---- Buffers that are large enough.
+
+-- The first bytes of an array of zeroes.
+pub first-zeroes : (N n : ℕ) → n ≤ N → length (take {A = ℕ} (n - 0) (replicate N 0)) ≡ n
+first-zeroes N n h = length-take-le (n - 0) (replicate N 0) (omega (arith, length-replicate {A = ℕ} N 0)) ∙ omega arith
 
 inputs-fewer : (fs : List Facility) → storeSizeOf (inputsOf fs) ≤ storeSizeOf fs
 unfolding storeSizeOf inputsOf

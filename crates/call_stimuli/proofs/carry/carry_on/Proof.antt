@@ -8,7 +8,7 @@ use Rattle.language.specs.Step.{Record}
 use Rattle.language.specs.declared.refusals.Refusal.the-variants.{ImageFails}
 use Rattle.run_next.specs.Seen.{recordMeant}
 use Rattle.run_soundness.proofs.PassedLaws.{passed-facilities, passed-states}
-use Rattle.call_carried.proofs.CarryLaws.{few-held}
+use Rattle.run_advance.proofs.CarryLaws.{few-held}
 use Rattle.about_bytes.specs.ManyCycles.{run-free}
 use Rattle.run_left.specs.Kept.{keptRecord}
 use Rattle.call_stimuli.specs.Lent.{Lent}

@@ -2,8 +2,7 @@ use mathlib.Core.Path.{_∙_}
 use Prim.Native.Nat.{ℕ, _*_}
 use native.Mathlib.Omega.{arith}
 use lib.ListN.{length, length-replicate}
-use Rattle.call_carried.proofs.KeptLaws.{first-zeroes}
-use Rattle.trace_whole.proofs.LineLaws.{small-stimulus, small-store}
+use Rattle.trace_whole.proofs.LineLaws.{first-zeroes, small-stimulus, small-store}
 use borrow.Author.Needs.{needs}
 use Rattle.trace_whole.proofs.line.turned.Statement.{statement}
 use Rattle.trace_whole.proofs.line.turned.Tie as tie

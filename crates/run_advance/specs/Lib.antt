@@ -1,1 +1,2 @@
 pub mod Carried
+pub mod Settled

@@ -1,4 +1,5 @@
 // A cycle that is not refused: on the caller's store, from sections of the image and a record by value.
+use crate::advance;
 use run_end::outcome::Stepped;
 use run_next::record::Record;
 use store_words::slices;
@@ -13,7 +14,7 @@ ghost use Rattle.language.specs.Layout.{storeSize};
 ghost use Rattle.language.specs.RecordBytes.{recordFrom};
 ghost use Rattle.run_next.specs.Seen.{recordMeant};
 ghost use Rattle.run_left.specs.Kept.{called};
-ghost use Rattle.call_carried.specs.Carried.{Sliced, completedBack};
+ghost use Rattle.run_advance.specs.Carried.{Sliced, completedBack};
 ghost use Rattle.language.specs.Encode.{facilitySize, stateSize};
 
 // The cycle on a working copy, with as many bytes as the store has for the copy, for delayed stores that wait, and for their mask.
@@ -35,7 +36,7 @@ pub fn carried(
 {
     slices::copy(work, store);
     slices::zero(mask);
-    let a = run_step::step::step(
+    let a = advance::lent(
         facilities,
         operations,
         expressions,

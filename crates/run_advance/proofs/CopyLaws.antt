@@ -4,8 +4,8 @@ use mathlib.Core.Option.{none}
 use mathlib.Core.Path.{_≡_, refl, sym, ap, _∙_}
 use Prim.Native.Nat.{ℕ, _-_, _≤_}
 use native.Mathlib.Omega.{arith}
-use lib.ListN.{length, length-replicate, replicate, take}
-use lib.Seq.{length-take-le, take-length}
+use lib.ListN.{length, take}
+use lib.Seq.{take-length}
 use Rattle.language.specs.Calls.{afterStep, cycleRefusal, over}
 use Rattle.language.specs.Description.{Description, Facility}
 use Rattle.language.specs.Layout.{storeSizeOf}
@@ -21,7 +21,7 @@ use Rattle.run_end.specs.Stepped.{ended}
 use Rattle.run_end.specs.declared.outcome.Verdict.{Verdict}
 use Rattle.run_end.specs.declared.outcome.Verdict.the-variants as Ends
 use Rattle.run_left.specs.Kept.{calledWith, keptStore}
-use Rattle.call_carried.specs.Carried.{completedBack}
+use Rattle.run_advance.specs.Carried.{completedBack}
 
 pub copied-over : (B X : List ℕ) → length X ≤ length B → copied B X ≡ over X B
 unfolding copied
@@ -29,10 +29,6 @@ copied-over [] [] h = refl
 copied-over [] (x ∷ xs) h = absurd (omega arith)
 copied-over (b ∷ bs) [] h = refl
 copied-over (b ∷ bs) (x ∷ xs) h = ap (λ (l : List ℕ). x ∷ l) (copied-over bs xs (omega arith))
-
--- The first bytes of an array of zeroes.
-pub first-zeroes : (N n : ℕ) → n ≤ N → length (take {A = ℕ} (n - 0) (replicate N 0)) ≡ n
-first-zeroes N n h = length-take-le (n - 0) (replicate N 0) (omega (arith, length-replicate {A = ℕ} N 0)) ∙ omega arith
 
 -- A shorter copy has the first bytes.
 pub copied-front : (W B : List ℕ) → length W ≤ length B → copied W B ≡ take (length W) B

@@ -26,7 +26,7 @@ use denote.Laws.{Is, shows}
 use denote.Memory.{mem, cellAt}
 use denote.Builtin.{u8}
 use denote.Ref.{RefT, MutRef, ptr-vals, mut-tells}
-use denote.Slice.{sliceVal, finally, ShrSlice, MutSlice, slice-vals, shr-slice-tells, shr-slice-lawful, mut-slice-tells, mut-slice-lawful}
+use denote.Slice.{finally, ShrSlice, MutSlice, slice-vals, shr-slice-tells, shr-slice-lawful, mut-slice-tells, mut-slice-lawful}
 use denote.Signature.{plain, shrSliceOf}
 use denote.Steps.{only, opens, closes, owned, peeks, heard, nothing}
 use denote.Struct.Steps.{spelt}
@@ -39,31 +39,23 @@ use denote.Triple.Clauses.{ensured, lasts}
 use denote.Triple.Table.{entered, cited}
 use denote.Triple.Walked.{says, needs, Stays, stay-ref, stay-dropped, gave-slice, walkOf, AllGo, goes-dropped, goes-gave-slice, goes-ref, Walks, ends-at, walked, walk-meets}
 use denote.Exit.{yes}
-use Rattle.language.specs.Calls.{stimulusSize}
-use Rattle.language.specs.Description.{Description}
-use Rattle.language.specs.Layout.{storeSizeOf}
-use Rattle.language.specs.Step as S
-use Rattle.language.specs.Store.{fromBytes, inputsOf}
-use Rattle.run_actions.specs.Acts.{Acts}
-use Rattle.run_next.specs.Seen.{recordMeant}
 use Rattle.run_next.specs.declared.record.Record.{Record}
 use Rattle.run_next.proofs.record.Record as T
 use Rattle.run_next.proofs.record.Record.Laws as T′
-use Rattle.run_end.specs.Register.{Enters}
-use Rattle.run_end.specs.Stepped.{Clear, counted, stepped}
 use Rattle.run_end.specs.declared.outcome.Stepped.{Stepped}
 use Rattle.run_end.proofs.outcome.Stepped as O
 use Rattle.run_end.proofs.outcome.Stepped.Laws as O′
-use Rattle.run_left.specs.Kept.{kept}
-use Rattle.language.specs.Encode.{facilitySize, operationSize, stateSize}
-use Rattle.run_advance.proofs.settle as settle
-use Rattle.run_advance.proofs.settle.Symbol as settle-def
-use Rattle.run_advance.proofs.settle.Symbol.{name as #settle}
-use Rattle.run_advance.proofs.settle.Met as settle-thm
-use Rattle.run_advance.proofs.advance.Key.{name as #advance}
-use Rattle.run_advance.proofs.advance as f
-use Rattle.run_advance.proofs.advance.Statement as stated
-use Rattle.run_advance.proofs.advance.Code as code
+use Rattle.language.specs.Encode.{facilitySize, stateSize}
+use Rattle.run_advance.specs.Settled.{Settled}
+use Rattle.run_advance.proofs.Machine.{held, mach, out, v}
+use Rattle.run_advance.proofs.advance.settle as settle
+use Rattle.run_advance.proofs.advance.settle.Symbol as settle-def
+use Rattle.run_advance.proofs.advance.settle.Symbol.{name as #settle}
+use Rattle.run_advance.proofs.advance.settle.Met as settle-thm
+use Rattle.run_advance.proofs.advance.advance.Key.{name as #advance}
+use Rattle.run_advance.proofs.advance.advance as f
+use Rattle.run_advance.proofs.advance.advance.Statement as stated
+use Rattle.run_advance.proofs.advance.advance.Code as code
 
 abbrev Arg : Type 0
 Arg = RefT (List ℕ) × (RefT (List ℕ) × (RefT (List ℕ) × (RefT (List ℕ) × (RefT (List ℕ) × (RefT Record × (RefT (List ℕ) × (RefT (List ℕ) × (RefT (List ℕ) × (RefT (List ℕ) × Unit {0})))))))))
@@ -75,10 +67,6 @@ Ws = Unit {0} × (Unit {0} × (Unit {0} × (Unit {0} × (Unit {0} × (Unit {0} �
 -- At exit the record's borrow is still had; the slices were given to the call, which tells the last bytes of those it writes.
 abbrev stayed : Stays (f.ended .signature .params) (f.ended .kept)
 stayed = (stay-dropped (shrSliceOf (0 ∷ []) tt (plain (λ _. u8))) yes, (stay-dropped (shrSliceOf (1 ∷ []) tt (plain (λ _. u8))) yes, (stay-dropped (shrSliceOf (2 ∷ []) tt (plain (λ _. u8))) yes, (stay-dropped (shrSliceOf (3 ∷ []) tt (plain (λ _. u8))) yes, (stay-dropped (shrSliceOf (4 ∷ []) tt (plain (λ _. u8))) yes, (stay-ref (5 ∷ []) tt (plain (λ _. T.the-row)), (stay-dropped (shrSliceOf (6 ∷ []) tt (plain (λ _. u8))) yes, (gave-slice (7 ∷ []) tt (plain (λ _. u8)), (gave-slice (8 ∷ []) tt (plain (λ _. u8)), (gave-slice (9 ∷ []) tt (plain (λ _. u8)), tt))))))))))
-
--- What the call ensures of its answer a and the store C that it leaves.
-abbrev Ensured : (F O E A T : List ℕ) (h : Record) (G B P M : List ℕ) (a : Stepped) (C : List ℕ) → Type 0
-Ensured F O E A T h G B P M a C = ((d : Description) → Enters d F E T → Acts d F O E A (length T / 7) → length (d .operations) ≡ length O / operationSize → storeSizeOf (d .facilities) ≤ length B → stimulusSize d ≤ length G → Clear B P M → stepped (d .facilities) a C ≡ counted (S.step d (fromBytes (d .facilities) B) (recordMeant h) (fromBytes (inputsOf (d .facilities)) G))) × (a .record ≡ kept (a .verdict) h (a .record))
 
 module _ {M : Type 1} (𝓤 : URA M) (H : Heap 𝓤) (A : Atoms 𝓤) (mem : Memory → SProp 𝓤) (run : Routine → Fun 𝓤) where
   -- The contract that the proof cites.
@@ -105,16 +93,6 @@ module _ {M : Type 1} (𝓤 : URA M) (H : Heap 𝓤) (A : Atoms 𝓤) (W : Given
   abbrev x′ : RefT (List ℕ) × (RefT (List ℕ) × (RefT (List ℕ) × (RefT (List ℕ) × (RefT (List ℕ) × (Record × (RefT (List ℕ) × (RefT (List ℕ) × (RefT (List ℕ) × (RefT (List ℕ) × Unit {0})))))))))
   x′ = (s0, (s1, (s2, (s3, (s4, (h, (s6, (s7, (s8, (s9, tt))))))))))
 
-  -- The machine values: of the slices, of a record and of an answer.
-  abbrev v : RefT (List ℕ) → Val
-  v s = sliceVal (s .ptr) (length (s .now))
-
-  abbrev mach : Record → Val
-  mach r = LL.tuple-val T.the-type T′.the-laws (T.the-type .to r)
-
-  abbrev out : Stepped → Val
-  out a = LL.tuple-val O.the-type O′.the-laws (O.the-type .to a)
-
   abbrev at : List Val × (List Val × (List Val × (List Val × (List Val × (List Val × (List Val × (List Val × (List Val × (List Val × Unit {0})))))))))
   at = (v s0 ∷ [], (v s1 ∷ [], (v s2 ∷ [], (v s3 ∷ [], (v s4 ∷ [], (vptr b o ∷ [], (v s6 ∷ [], (v s7 ∷ [], (v s8 ∷ [], (v s9 ∷ [], tt))))))))))
 
@@ -130,15 +108,11 @@ module _ {M : Type 1} (𝓤 : URA M) (H : Heap 𝓤) (A : Atoms 𝓤) (W : Given
 
   -- What the call ensures, at the parameters.
   abbrev Told : Stepped → List ℕ → Type 0
-  Told = Ensured (s0 .now) (s1 .now) (s2 .now) (s3 .now) (s4 .now) h (s6 .now) (s7 .now) (s8 .now) (s9 .now)
+  Told = Settled (s0 .now) (s1 .now) (s2 .now) (s3 .now) (s4 .now) h (s6 .now) (s7 .now) (s8 .now) (s9 .now)
 
   -- What is left at the end, at the answer a and the last bytes of the three slices.
   abbrev Left : Stepped → List ℕ → List ℕ → List ℕ → List (Item 𝓤)
   Left a B P M′ = ‵ (fobs γ (T.the-row .coded .code (a .record))) ∷ ‵ (fbor κ5 (Body (mem T.the-row) b o γ)) ∷ ‵ (flft κ5 q5) ∷ Tokens ∷ ‵ (finally u8 (s7 .name) B) ∷ ‵ (finally u8 (s8 .name) P) ∷ ‵ (finally u8 (s9 .name) M′) ∷ ‵ (O.the-row .own a (out a ∷ [])) ∷ []
-
-  -- What whoever holds an answer knows of the record in it.
-  held : (a : Stepped) (vs : List Val) → Is O.the-row a vs → Is T.the-row (a .record) (mach (a .record) ∷ [])
-  held a vs is = LL.owed O.the-type O′.the-laws a vs is .1 .0
 
   -- How the walk ends.
   exits : (a : Stepped) (B P M′ : List ℕ) → Told a B → length B ≡ length (s7 .now) → length P ≡ length (s8 .now) → length M′ ≡ length (s9 .now)
@@ -146,7 +120,7 @@ module _ {M : Type 1} (𝓤 : URA M) (H : Heap 𝓤) (A : Atoms 𝓤) (W : Given
   exits a B P M′ e e7 e8 e9 =
       qed W (Left a B P M′) ∵
       suffices ! _ (ends-at 𝓤 H A f.ended stayed (f.clauses 𝓤 H A at-mem run) W ((κs, qs, tt, x, at), tt) (out a) a (tt, (tt, (tt, (tt, (tt, (a .record, (tt, (B, (P, (M′, tt)))))))))) (tt, (tt, (tt, (tt, (tt, (tt, (tt, (e7, (e8, (e9, tt))))))))))) $
-      says ! (e .0, e .1, refl) $ move ! (3 ∷ []) $ split ! $ move ! (1 ∷ []) $ split ! $ move ! (1 ∷ []) $ split ! $ move ! (1 ∷ []) $ split ! $
+      says ! (e, refl) $ move ! (3 ∷ []) $ split ! $ move ! (1 ∷ []) $ split ! $ move ! (1 ∷ []) $ split ! $ move ! (1 ∷ []) $ split ! $
       move ! (1 ∷ []) $ split ! $ move ! (1 ∷ []) $ split ! $ move ! (1 ∷ []) $ split ! $ move ! (1 ∷ []) $ split ! $ move ! (1 ∷ []) $ split ! $
       join ! $ move ! (1 ∷ 0 ∷ []) $ join ! $ move ! (1 ∷ 0 ∷ []) $ join ! $ move ! (1 ∷ 0 ∷ []) $ join ! $ move ! (8 ∷ 0 ∷ []) $ join ! $
       move ! (1 ∷ 0 ∷ []) $ join ! $ move ! (1 ∷ 0 ∷ []) $ join ! $ move ! (1 ∷ 0 ∷ []) $ join ! $ move ! (1 ∷ 0 ∷ []) $ join ! $
@@ -254,4 +228,4 @@ advance-spec 𝓤 H 𝓜 𝓖 𝓡 =
     entered 𝓤 H (tripleOf 𝓤 H (𝓖 .A) f.signature (f.spec 𝓤 H (𝓖 .A) (𝓜 .mem) (𝓡 .run)))
     (tables 𝓤 H 𝓜 𝓡 code.env .C) (tables 𝓤 H 𝓜 𝓡 code.env .Λ) #advance code.function (code.unfolded 𝓤 H 𝓜 𝓡)
     (advance-meets 𝓤 H (𝓖 .A) (givenOf 𝓤 H 𝓜 𝓖) (𝓜 .mem) (𝓡 .run) (tablesOf 𝓤 H 𝓜 (tables 𝓤 H 𝓜 𝓡 code.env))
-    (cited 𝓤 H (Settle 𝓤 H (𝓖 .A) (𝓜 .mem) (𝓡 .run)) 𝓜 𝓡 code.env #settle settle-def.routine code.calls-run-advance·settle (settle-thm.met 𝓤 H 𝓜 𝓖 𝓡)))
+    (cited 𝓤 H (Settle 𝓤 H (𝓖 .A) (𝓜 .mem) (𝓡 .run)) 𝓜 𝓡 code.env #settle settle-def.routine code.calls-run-advance·advance·settle (settle-thm.met 𝓤 H 𝓜 𝓖 𝓡)))

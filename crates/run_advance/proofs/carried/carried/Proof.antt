@@ -8,12 +8,12 @@ use Rattle.language.specs.Layout.{storeSize}
 use Rattle.language.specs.Store.{fromBytes}
 use Rattle.run_next.specs.Seen.{recordMeant}
 use Rattle.run_end.specs.Stepped.{Clear}
-use Rattle.call_carried.proofs.CarryLaws.{copy-means, cycle-is, free-passes, stimulus-there, store-there}
-use Rattle.call_carried.proofs.KeptLaws.{back-so, copied-front, kept-so}
-use Rattle.call_carried.proofs.WorkLaws.{all-counted, operations-many, passed-acts, passed-enters}
+use Rattle.run_advance.proofs.CarryLaws.{copy-means, cycle-is, free-passes, stimulus-there, store-there}
+use Rattle.run_advance.proofs.CopyLaws.{back-so, copied-front, kept-so}
+use Rattle.run_advance.proofs.WorkLaws.{all-counted, operations-many, passed-acts, passed-enters}
 use borrow.Author.Needs.{needs}
-use Rattle.call_carried.proofs.carried.Statement.{statement}
-use Rattle.call_carried.proofs.carried.Tie as tie
+use Rattle.run_advance.proofs.carried.carried.Statement.{statement}
+use Rattle.run_advance.proofs.carried.carried.Tie as tie
 
 copy-requires : tie.Need-copy-requires
 copy-requires c κs = search needs
@@ -21,8 +21,8 @@ copy-requires c κs = search needs
 zero-requires : tie.Need-zero-requires
 zero-requires c κs = search needs
 
-step-requires : tie.Need-step-requires
-step-requires c κs =
+lent-requires : tie.Need-lent-requires
+lent-requires c κs =
     (c .before .before .before .before .before .before .before .before .before .before .before .before .before .before .before .before .before .before .before .before .before .before .pre .0, c .before .before .before .before .before .before .before .before .before .before .before .before .before .before .before .before .before .before .before .before .before .before .pre .1, c .before .before .before .before .before .before .before .before .before .before .before .before .before .before .before .before .before .before .before .before .before .before .pre .2)
 
 keep-store-requires : tie.Need-keep-store-requires
@@ -45,7 +45,7 @@ unfolding storeSize
 returns c =
     λ i K n sliced read lw lp lm free.
     let a = c .before .before .before .before .before .before .before .before .before .before .before .before .before .before .before .before .before .before .before .before .before .before .before .before .before .before .before .before .before .before .before .before .before .before .args in
-    let s = c .before .before .before .before .before .before .before .before .before .before .before .step .result in
+    let s = c .before .before .before .before .before .before .before .before .before .before .before .lent .result in
     let B = a .store .now in
     let t = a .stimulus .now in
     let p = free-passes i B K t n free in
@@ -55,7 +55,7 @@ returns c =
     let means = ap (fromBytes (decode i .facilities)) made ∙ copy-means i B K t n free (λ j. c .before .before .before .before .before .before .before .before .before .before .before .before .before .before .before .before .before .before .before .before .before .before .before .before .before .before .before .before .slice-known .given j .fits) in
     let alike : length (a .mask .now) ≡ length (c .before .before .before .before .before .before .before .before .before .before .before .before .before .before .before .before .before .before .before .before .before .copy .last .0) = omega (arith, lm, long) in
     let clear : Clear (c .before .before .before .before .before .before .before .before .before .before .before .before .before .before .before .before .before .before .before .before .before .copy .last .0) (a .pending .now) (c .before .before .before .before .before .before .before .before .before .before .before .before .before .before .before .before .before .zero .last .0) = record { pending = omega (arith, lp, long); mask = c .before .before .before .before .before .before .before .before .before .before .before .before .before .before .before .before .before .zero .ensures ∙ ap (λ (m : ℕ). replicate m 0) alike } in
-    let ran = c .before .before .before .before .before .before .before .before .before .before .before .step .ensures (decode i)
+    let ran = c .before .before .before .before .before .before .before .before .before .before .before .lent .ensures .means (decode i)
     (rw (sliced .facilities-are, sliced .expressions-are, sliced .states-are) (passed-enters i p))
     (rw (sliced .facilities-are, sliced .operations-are, sliced .expressions-are, sliced .actions-are, sliced .states-are) (passed-acts i p))
     (rw (sliced .operations-are) (operations-many i p))
@@ -76,7 +76,7 @@ carried-spec =
     (tie.spec
     copy-requires
     zero-requires
-    step-requires
+    lent-requires
     keep-store-requires
     same-length
     same-length-2

@@ -1,3 +1,0 @@
-pub mod CarryLaws
-pub mod KeptLaws
-pub mod WorkLaws
