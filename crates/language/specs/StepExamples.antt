@@ -4,11 +4,11 @@ use mathlib.Core.Path.{_≡_, refl}
 use Prim.Native.Nat.{ℕ}
 use Prim.Native.String.{String}
 use lib.ListN.{replicate, set}
-use Rattle.language.specs.Calls.{CycleCall, OpenCall, cycle, cycled, open′, refusedFor, run, stoppedFor}
+use Rattle.language.specs.Calls.{CycleCall, OpenCall, cycle, cycled, open′, refusedFor, run, runRefused, stoppedFor}
 use Rattle.language.specs.Computing.{computing}
 use Rattle.language.specs.Encode.{encode}
 use Rattle.language.specs.Reading.{Read, legal, readText, refusedAt}
-use Rattle.language.specs.declared.refusals.Refusal.the-variants.{Unsound}
+use Rattle.language.specs.declared.refusals.Refusal.the-variants.{BadStimulus, Unsound}
 use Rattle.language.specs.Scan.{bytes}
 use Rattle.language.specs.declared.stops.Stop.the-variants.{LastCycleReached}
 
@@ -100,6 +100,29 @@ other-value :
     cycle image (1 ∷ []) (o .record′) [] 4 .answer) ≡ refusedFor Unsound
 unfolding computing
 other-value = refl
+
+-- A record without the open mark, and a store with a spare bit set, are unsound too.
+unmarked :
+    (let image : List ℕ = imageOf (readText (bytes "REGISTER A[4]. CONTROL P: ->P/.")) in
+    let o : OpenCall = open′ image 1 80 in
+    cycle image (o .store) (set (o .record′) 0 0x45) [] 4 .answer) ≡ refusedFor Unsound
+unfolding computing
+unmarked = refl
+
+spare-bit :
+    (let image : List ℕ = imageOf (readText (bytes "REGISTER A[4]. CONTROL P: ->P/.")) in
+    let o : OpenCall = open′ image 1 80 in
+    cycle image (0x10 ∷ []) (o .record′) [] 4 .answer) ≡ refusedFor Unsound
+unfolding computing
+spare-bit = refl
+
+-- A run is refused for any of its stimuli, and then none of its cycles is carried out.
+late-stimulus :
+    (let image : List ℕ = imageOf (readText (bytes "REGISTER A. TERMINAL T=INPUT(1,T). OPERATION X=[A<-T]. CONTROL P: X,->P/.")) in
+    let o : OpenCall = open′ image 2 80 in
+    run image (o .store) (o .record′) (1 ∷ 2 ∷ []) 2 8 0 .answer) ≡ runRefused BadStimulus
+unfolding computing
+late-stimulus = refl
 
 -- Three cycles in one call, the store after each in the trace, zeroes beyond.
 three-cycles :
