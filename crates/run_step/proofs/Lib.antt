@@ -1,1 +1,3 @@
+pub mod Finished
+pub mod Joined
 pub mod StepLaws

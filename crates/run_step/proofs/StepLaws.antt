@@ -27,9 +27,9 @@ use Rattle.run_stores.specs.declared.doing.Did.the-variants as G
 use Rattle.run_stores.specs.declared.doing.Doing.{Doing}
 use Rattle.run_begin.proofs.BeginLaws.{zeros}
 use Rattle.run_begin.proofs.BegunWords.{Rooms, begun-are-bytes, begun-as-long, begun-means}
-use Rattle.run_alike.proofs.Finished.{Ended, run-ended}
-use Rattle.run_alike.proofs.Joined.{actions-joined}
 use Rattle.run_end.specs.Stepped.{Clear, Landed, counted, nothingIn}
+use Rattle.run_step.proofs.Finished.{Ended, run-ended}
+use Rattle.run_step.proofs.Joined.{actions-joined}
 
 module _ (d : Description) (s : Words) (r : S.Record) (ins : Words) where
   pub step-last : 4294967295 ≤ r .cycle → S.stopped LastCycleReached ≡ counted (S.step d s r ins)

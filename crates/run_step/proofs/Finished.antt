@@ -21,7 +21,7 @@ use Rattle.run_stores.specs.declared.doing.Did.{Did}
 use Rattle.run_stores.specs.declared.doing.Did.the-variants as G
 use Rattle.run_stores.specs.declared.doing.Doing.{Doing}
 use Rattle.run_next.specs.Seen.{Sees}
-use Rattle.run_alike.proofs.Joined.{joined}
+use Rattle.run_step.proofs.Joined.{joined}
 
 module _ (d : Description) (P M : List ℕ) (room : storeSizeOf (d .facilities) ≤ length P) (bytes-P : Bytes P) (bytes-M : Bytes M) (size-M : length M ≡ length P) (clear : Zeros M) where
   -- The code's g, with the bytes it has left, stands for the doing c: its landing and its conflicts too.

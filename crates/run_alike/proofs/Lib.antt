@@ -1,2 +1,0 @@
-pub mod Finished
-pub mod Joined
