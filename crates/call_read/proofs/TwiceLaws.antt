@@ -15,7 +15,7 @@ use Rattle.language.specs.Building.{Built, nothingBuilt, withText}
 use Rattle.language.specs.Machine.{Parsed, parsed, refused}
 use Rattle.language.specs.Tree as T
 use Rattle.language.specs.Tree.{Declaration, Operation}
-use Rattle.parse_names.specs.declared.Counts.{Counts}
+use Rattle.parse_tables.specs.declared.meaning.Counts.{Counts}
 use Rattle.parse_sections.specs.Sections.{Ready}
 use Rattle.parse_stores.proofs.Keeping.{front-kept}
 use Rattle.parse_tables.proofs.NamesGrown.{names-few, names-kept, no-names}

@@ -19,8 +19,8 @@ use Rattle.language.specs.DescribeText.{operationScope}
 use Rattle.language.specs.Machine.{ask, make, operationSpec}
 use Rattle.language.specs.Naming.{Scope}
 use Rattle.language.specs.Tree.{Name, Operation}
-use Rattle.parse_names.specs.declared.Counts.{Counts}
-use Rattle.parse_names.specs.Known.{Known}
+use Rattle.parse_tables.specs.declared.meaning.Counts.{Counts}
+use Rattle.parse_tables.specs.Known.{Known}
 use Rattle.parse_stores.proofs.Keeping.{front-kept}
 use Rattle.parse_tables.proofs.NamesGrown.{names-few, names-kept, no-names}
 use Rattle.parse_stores.proofs.Standings.{few-operations}

@@ -18,7 +18,7 @@ use Rattle.language.specs.DescribeText.{labelOf, stateActions, stateNodes, stat
 use Rattle.language.specs.Encode.{concat, stateRecord}
 use Rattle.language.specs.Naming.{Scope}
 use Rattle.language.specs.Tree as T
-use Rattle.parse_names.specs.declared.Counts.{Counts}
+use Rattle.parse_tables.specs.declared.meaning.Counts.{Counts}
 use Rattle.parse_stores.proofs.Keeping.{front-kept, known-by}
 use Rattle.parse_stores.proofs.Standings.{few-states}
 use Rattle.parse_stores.specs.Actions.{Standing, actionBesides, actionRecords, frontOf}

@@ -7,8 +7,8 @@ use lib.ListN.{drop, length, length-drop, take}
 use lib.Seq.{drop-at, length-take-le, take-add, take-take}
 use Rattle.language.specs.Encode.{nodeSize}
 use Rattle.language.specs.Naming.{Scope}
-use Rattle.parse_names.specs.declared.Counts.{Counts}
-use Rattle.parse_names.specs.Known.{Known}
+use Rattle.parse_tables.specs.declared.meaning.Counts.{Counts}
+use Rattle.parse_tables.specs.Known.{Known}
 use Rattle.parse_tables.proofs.NamesGrown.{names-kept}
 use Rattle.parse_tables.proofs.RowLaws.{rows-other}
 use Rattle.parse_tables.specs.declared.Table.the-variants as T

@@ -27,9 +27,9 @@ use Rattle.language.specs.Tree as T
 use Rattle.language.specs.Tree.{Actions, Name}
 use Rattle.language.specs.Words as L
 use Rattle.parse_levels.proofs.HeadWords.{among-first-or, among-none}
-use Rattle.parse_names.specs.declared.Counts as M
-use Rattle.parse_names.specs.declared.Meaning.{Meaning}
-use Rattle.parse_names.specs.Known.{meant}
+use Rattle.parse_tables.specs.declared.meaning.Counts as M
+use Rattle.parse_tables.specs.declared.meaning.Meaning.{Meaning}
+use Rattle.parse_tables.specs.Known.{meant}
 use Rattle.parse_operands.specs.References.{lettersOf}
 use Rattle.parse_expressions.specs.Phrases.{afterName, same}
 use Rattle.text_words.specs.declared.Word.{Word}

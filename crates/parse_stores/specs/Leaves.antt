@@ -19,9 +19,9 @@ use Rattle.language.specs.Machine.{Ask, Parsed, ask, keep, refused, withinCeili
 use Rattle.language.specs.Tree as T
 use Rattle.language.specs.Words.{fault}
 use Rattle.language.specs.Naming.{Scope, meaning}
-use Rattle.parse_names.specs.declared.Counts.{Counts}
-use Rattle.parse_names.specs.declared.Meaning.{Meaning}
-use Rattle.parse_names.specs.Known.{Known, meant}
+use Rattle.parse_tables.specs.declared.meaning.Counts.{Counts}
+use Rattle.parse_tables.specs.declared.meaning.Meaning.{Meaning}
+use Rattle.parse_tables.specs.Known.{Known, meant}
 use Rattle.parse_operands.specs.References.{lettersOf}
 use Rattle.parse_expressions.specs.Phrases.{afterName}
 use Rattle.parse_tables.specs.Actions.{ActionAdded}

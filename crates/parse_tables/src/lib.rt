@@ -3,6 +3,7 @@ pub mod actions;
 pub mod extents;
 pub mod facilities;
 pub mod finding;
+pub mod meaning;
 pub mod names;
 pub mod operations;
 pub mod places;

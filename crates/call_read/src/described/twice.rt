@@ -1,10 +1,10 @@
 // The states of a text, read a first time for their labels and a second time with them as names.
 use crate::described::labels;
 use parse_array::Work;
-use parse_names::Counts;
 use parse_states::reading;
 use parse_step::Answer;
 use parse_step::State;
+use parse_tables::meaning::Counts;
 use text_words::Word;
 ghost use Rattle.call_read.specs.Ready.{Behind, Twice};
 

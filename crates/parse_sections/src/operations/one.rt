@@ -2,11 +2,11 @@
 use crate::operations::heads;
 use image_sections::runs::Run;
 use parse_array::Work;
-use parse_names::Counts;
 use parse_step::Answer;
 use parse_step::Bearing;
 use parse_step::State;
 use parse_step::taking;
+use parse_tables::meaning::Counts;
 use parse_tables::operations;
 use text_words::Word;
 ghost use mathlib.Core.Path.{_≡_};

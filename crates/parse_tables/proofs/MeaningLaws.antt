@@ -4,13 +4,13 @@ use mathlib.Core.Path.{_≡_, sym, ap, _∙_}
 use Prim.Native.Nat.{ℕ}
 use Rattle.language.specs.Naming as L
 use Rattle.language.specs.Naming.{Scope, meaning, numberOf, orElse}
 use Rattle.parse_tables.specs.declared.Table.the-variants as T
 use Rattle.parse_tables.specs.Names.{facilityNames, found, namesIn}
 use Rattle.parse_tables.specs.declared.finding.Found.{Found}
 use Rattle.parse_tables.specs.declared.finding.Found.the-variants.{At, Nothing}
 use Rattle.parse_array.specs.Names.{letters}
-use Rattle.parse_names.specs.declared.Counts.{Counts}
-use Rattle.parse_names.specs.Known.{Known}
+use Rattle.parse_tables.specs.declared.meaning.Counts.{Counts}
+use Rattle.parse_tables.specs.Known.{Known}
 
 -- The first of the three that is found.
 abbrev pub chosen : Found → Found → Found → L.Meaning

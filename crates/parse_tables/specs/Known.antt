@@ -4,12 +4,12 @@ use mathlib.Core.Path.{_≡_}
 use Prim.Native.Nat.{ℕ}
 use Rattle.language.specs.Naming as L
 use Rattle.language.specs.Naming.{Scope, meaning}
 use Rattle.parse_tables.specs.declared.Table.the-variants as T
 use Rattle.parse_tables.specs.Names.{facilityNames, namesIn}
 use Rattle.parse_array.specs.Names.{letters}
-use Rattle.parse_names.specs.declared.Counts.{Counts}
-use Rattle.parse_names.specs.declared.Meaning.{Meaning}
-use Rattle.parse_names.specs.declared.Meaning.the-variants as M
+use Rattle.parse_tables.specs.declared.meaning.Counts.{Counts}
+use Rattle.parse_tables.specs.declared.meaning.Meaning.{Meaning}
+use Rattle.parse_tables.specs.declared.meaning.Meaning.the-variants as M
 
 -- The names of a scope stand in their tables.
 pub record Known (text : List ℕ) (sc : Scope) (n : Counts) (work : List ℕ) : Type 0 where

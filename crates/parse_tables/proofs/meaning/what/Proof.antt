@@ -1,8 +1,8 @@
 use mathlib.Core.Path.{_∙_}
-use Rattle.parse_names.proofs.MeaningLaws.{as-facility, as-operation, as-state, as-unknown, by-tables}
+use Rattle.parse_tables.proofs.MeaningLaws.{as-facility, as-operation, as-state, as-unknown, by-tables}
 use borrow.Author.Needs.{needs}
-use Rattle.parse_names.proofs.what.Statement.{statement}
-use Rattle.parse_names.proofs.what.Tie as tie
+use Rattle.parse_tables.proofs.meaning.what.Statement.{statement}
+use Rattle.parse_tables.proofs.meaning.what.Tie as tie
 
 find-requires : tie.Need-find-requires
 find-requires c κs = search needs

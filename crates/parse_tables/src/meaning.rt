@@ -1,9 +1,9 @@
 // What a name means: a facility, or else an operation, or else a state, the first that was declared.
+use crate::Table;
+use crate::finding;
+use crate::finding::Found;
 use parse_array::Work;
-use parse_tables::Table;
-use parse_tables::finding;
-use parse_tables::finding::Found;
-ghost use Rattle.parse_names.specs.Known.{Means};
+ghost use Rattle.parse_tables.specs.Known.{Means};
 
 pub enum Meaning {
     Facility(u8),
