@@ -192,7 +192,7 @@ module _ {text : List ℕ} {sc : Scope} {n : Counts} {l : ℕ} {name : Word} {P 
     short = st .short;
     whole = c .whole;
     within = y .standing .within;
-    known = known-by work₃ (c .kept .tables Tb.FacilityNames refl) (c .kept .tables Tb.OperationNames refl) (c .kept .tables Tb.StateNames refl) (y .standing .known);
+    known = known-by work₃ (c .kept .tables Tb.FacilityNames refl) (c .kept .tables Tb.OperationNames refl) (y .standing .known);
     facilities = y .standing .facilities;
     nodes = y .standing .nodes;
     actions = y .standing .actions;

@@ -68,13 +68,13 @@ pub fn performing(m: Meaning) -> Action
 }
 
 // The record of `=>` or `->` with a state.
-fn leading(call: bool, k: u8) -> Action
+fn leading(call: bool, k: u16) -> Action
     ensures { λ r. ⌜ meant r ≡ arrowAction call k ⌝ }
 {
     if call {
-        Action::Call(k as u16)
+        Action::Call(k)
     } else {
-        Action::Goto(k as u16)
+        Action::Goto(k)
     }
 }
 

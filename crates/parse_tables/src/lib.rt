@@ -23,6 +23,5 @@ pub enum Table {
     StatePlaces,
     FacilityNames,
     OperationNames,
-    StateNames,
     Labels,
 }

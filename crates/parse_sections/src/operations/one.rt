@@ -49,7 +49,7 @@ pub fn operation(text: &[u8], w: Word, work: &mut Work, s: State) -> Answer
     let n = Counts {
         facilities: s.known,
         operations: s.operations,
-        states: 0,
+        waiting: false,
     };
     let read = body(head.state, text, head.next, work, n);
     if parse_step::unread(read) {
