@@ -18,7 +18,7 @@ use Rattle.language.specs.Description.{Description, Facility, Operation, State,
 use Rattle.language.specs.Expressions.{judgeAt, terminalBelow, terminalJudged}
 use Rattle.language.specs.Image.{ConstantRight}
 use Rattle.language.specs.Judging.{Worth, fine, refuse}
-use Rattle.language.specs.Naming.{Scope}
+use Rattle.language.specs.Naming.{Scope, noState}
 use Rattle.language.specs.Order.{facilityRoots, functionRoot, operationRoots, runRoots, startAt, stateRoots, treesEnd, valueRoot}
 use Rattle.language.specs.declared.refusals.Refusal.the-variants.{NoContinuation}
 use Rattle.language.specs.Rules.{faults}
@@ -75,13 +75,13 @@ module _ (d : Description) (faultless : faults d noPlaces ≡ []) where
 
   terminal-starts : (n base : ℕ) (before : List Name) (f : Facility) (e : T.Expression) → ExpressionTidy e → facilityAt d n ≡ f → n < length (d .facilities)
       → D.isComputed (f .kind) ≡ true → f .expression ≡ lastOf base (expressionSize e)
-      → Stand d base (nodesOf (record { facilities = before; operations = []; states = [] }) base e) → startAt d (lastOf base (expressionSize e)) ≡ some base
+      → Stand d base (nodesOf (record { facilities = before; operations = []; stateNamed = noState }) base e) → startAt d (lastOf base (expressionSize e)) ≡ some base
   unfolding terminalJudged
   terminal-starts n base before f e h q l c x k =
       let y = terminals-fine d faultless n l (rw q c) in
       let z : facilityAt d n .expression ≡ lastOf base (expressionSize e) = rw q x in
       let j = rw z at (y .1) in
-      expression-starts d noPlaces (terminalBelow d noPlaces n) n (record { facilities = before; operations = []; states = [] }) base e h k _
+      expression-starts d noPlaces (terminalBelow d noPlaces n) n (record { facilities = before; operations = []; stateNamed = noState }) base e h k _
       (proper-fine (nodePlace noPlaces (lastOf base (expressionSize e)) .at) (judgeAt d noPlaces (terminalBelow d noPlaces n) n (lastOf base (expressionSize e))) j .same)
 
   one-root : (base n : ℕ) (rs : List ℕ) → 0 < n → base + n ≤ length (d .expressions) → startAt d (lastOf base n) ≡ some base → treesEnd d base (lastOf base n ∷ rs) ≡ treesEnd d (base + n) rs
@@ -91,7 +91,7 @@ module _ (d : Description) (faultless : faults d noPlaces ≡ []) where
 
   function-roots : (n base : ℕ) (before : List Name) (x : Declaration) (rs : List ℕ) → Suits (x .kind) (x .extent) (x .function) → FunctionTidy (x .function)
       → facilityAt d n ≡ facilityOf base x → n < length (d .facilities) → base + functionSize (x .function) ≤ length (d .expressions)
-      → Stand d base (functionNodes (record { facilities = before; operations = []; states = [] }) base (x .function))
+      → Stand d base (functionNodes (record { facilities = before; operations = []; stateNamed = noState }) base (x .function))
       → treesEnd d base (functionRoot d (facilityOf base x) (x .kind) ++ rs) ≡ treesEnd d (base + functionSize (x .function)) rs
   function-roots n base before x rs h t q l b k = go (x .kind) (x .function) h t refl refl b k
     where
@@ -99,7 +99,7 @@ module _ (d : Description) (faultless : faults d noPlaces ≡ []) where
       none-more = let z : base ≡ base + 0 = omega arith in ap (λ (m : ℕ). treesEnd d m rs) z
 
       go : (c : Kind) (f : Function) → Suits c (x .extent) f → FunctionTidy f → x .kind ≡ c → x .function ≡ f → base + functionSize f ≤ length (d .expressions)
-          → Stand d base (functionNodes (record { facilities = before; operations = []; states = [] }) base f)
+          → Stand d base (functionNodes (record { facilities = before; operations = []; stateNamed = noState }) base f)
           → treesEnd d base (functionRoot d (facilityOf base x) c ++ rs) ≡ treesEnd d (base + functionSize f) rs
       go T.register T.unspecified s u i j b k = none-more
       go T.register T.fromInput s u i j b k = absurd s
@@ -127,7 +127,7 @@ module _ (d : Description) (faultless : faults d noPlaces ≡ []) where
   unfolding facilitiesOf facilityNodes facilitySize facilityRoots treesEnd
   facilities-end n base before [] h f l k = let z : base ≡ base + 0 = omega arith in ap some z
   facilities-end n base before (x ∷ ds) h f l k =
-      let s : Scope = record { facilities = before; operations = []; states = [] } in
+      let s : Scope = record { facilities = before; operations = []; stateNamed = noState } in
       let next = base + functionSize (x .function) in
       let z : next + facilitySize ds ≡ base + (functionSize (x .function) + facilitySize ds) = omega arith in
       function-roots n base before x (facilityRoots d (facilitiesOf next ds)) (h .0 .0) (h .0 .1) (f .0 .0) (f .0 .1) (omega arith) (stand-left d base (functionNodes s base (x .function)) _ k)

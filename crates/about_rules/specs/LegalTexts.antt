@@ -15,7 +15,7 @@ use Rattle.language.specs.Description as D
 use Rattle.language.specs.Description.{Description, Facility, Operation, State, actionAt, facilityAt, nodeAt, noPlaces, operationAt, stateAt}
 use Rattle.language.specs.Image as Image
 use Rattle.language.specs.Image.{legalForm}
-use Rattle.language.specs.Naming.{Scope}
+use Rattle.language.specs.Naming.{Scope, noState}
 use Rattle.language.specs.Order.{facilityRoots, operationRoots, stateRoots, treesEnd, treesRight}
 use Rattle.language.specs.Rules.{faults}
 use Rattle.language.specs.Tree as T
@@ -71,7 +71,7 @@ pub facilities-nodes : (before : List Name) (base : ℕ) (ds : List Declaration)
 unfolding facilityNodes facilitySize
 facilities-nodes before base [] = refl
 facilities-nodes before base (d ∷ ds) =
-    let s : Scope = record { facilities = before; operations = []; states = [] } in
+    let s : Scope = record { facilities = before; operations = []; stateNamed = noState } in
     let next = base + functionSize (d .function) in
     omega (arith, length-append (X.functionNodes s base (d .function)) (facilityNodes (before ++ d .name ∷ []) next ds), function-size s base (d .function), facilities-nodes (before ++ d .name ∷ []) next ds)
 

@@ -14,7 +14,7 @@ use Rattle.language.specs.DescribeText as X
 use Rattle.language.specs.DescribeText.{describe, facilitiesOf, facilityNodes, functionNodes, functionSize, operationActions, operationNodes, operationScope, operationsOf, stateActions, stateConstant, stateNodes, stateSize, statesOf, valueNodes, valueNumber, valueSize}
 use Rattle.language.specs.Description.{Description}
 use Rattle.language.specs.Machine.{mostCounted, mostFacilities, mostOperations, mostStates}
-use Rattle.language.specs.Naming.{Scope}
+use Rattle.language.specs.Naming.{Scope, noState}
 use Rattle.language.specs.Tree as T
 use Rattle.language.specs.Tree.{Declaration, Extent, Function, Kind, Name, Operation, State, StateValue, Text}
 use Rattle.about_rules.specs.Counted.{Within, actions-counted, acts, acts-append, constant-count, counted, lefts, lefts-append, nodes, nodes-append}
@@ -34,7 +34,7 @@ facilities-counted : (before : List Name) (base : ℕ) (ds : List Declaration) �
 unfolding facilityNodes countedTerminals total
 facilities-counted before base [] = omega arith
 facilities-counted before base (d ∷ ds) =
-    let s : Scope = record { facilities = before; operations = []; states = [] } in
+    let s : Scope = record { facilities = before; operations = []; stateNamed = noState } in
     let rest = facilityNodes (before ++ d .name ∷ []) (base + functionSize (d .function)) ds in
     omega (arith, function-count s base (d .function), facilities-counted (before ++ d .name ∷ []) (base + functionSize (d .function)) ds, nodes-append (functionNodes s base (d .function)) rest)
 
@@ -179,7 +179,7 @@ pub counts-right : (t : Text) → TextTidy t → WithinCeilings t → countsRigh
 unfolding describe countedRecords
 counts-right t h w =
     let f : length (facilitiesOf 0 (declarationsOf t)) ≡ length (t .registers) + length (t .memories) + length (t .terminals) =
-    facilities-number t h w none (record { facilities = []; operations = []; states = [] }) 0 0 0 in
+    facilities-number t h w none (record { facilities = []; operations = []; stateNamed = noState }) 0 0 0 in
     let g : length (facilitiesOf 0 (declarationsOf t)) ≡ length (declarationsOf t) = facilities-count 0 (declarationsOf t) in
     let o : length (operationsOf 0 (t .operations)) ≡ length (t .operations) = operations-count 0 (t .operations) in
     let d : Description = describe t .description in

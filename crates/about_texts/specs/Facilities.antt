@@ -19,7 +19,7 @@ use Rattle.language.specs.Grammar as G
 use Rattle.language.specs.Grammar.{Is}
 use Rattle.language.specs.Image.{WordsRight}
 use Rattle.language.specs.Kinds.{comma, hash}
-use Rattle.language.specs.Naming.{Scope}
+use Rattle.language.specs.Naming.{Scope, noState}
 use Rattle.language.specs.Notions as N
 use Rattle.language.specs.Notions.{Notion, facilities}
 use Rattle.language.specs.Order.{facilityRoots, functionRoot, startAt, treesEnd}
@@ -121,7 +121,7 @@ module _ (d : Description) (none-there : faults d noPlaces ≡ [])
     (plain : (f : ℕ) → f < length (d .facilities) → isComputed (facilityAt d f .kind) ≡ false → facilityAt d f .expression ≡ 0)
     (right-names : (f : ℕ) → f < length (d .facilities) → nameRight (facilityAt d f .name) ≡ true) where
   abbrev scopeOf : List Name → Scope
-  scopeOf before = record { facilities = before; operations = []; states = [] }
+  scopeOf before = record { facilities = before; operations = []; stateNamed = noState }
 
   -- The names before are those of the facilities below n.
   pub record Before (before : List Name) (n : ℕ) : Type 0 where

@@ -21,7 +21,7 @@ use Rattle.language.specs.Image.{legalForm}
 use Rattle.language.specs.Judging.{both, unless}
 use Rattle.language.specs.Layout.{facilityBytes}
 use Rattle.language.specs.Machine.{mostCounted, mostFacilities, mostOperations, mostStates}
-use Rattle.language.specs.Naming.{Scope}
+use Rattle.language.specs.Naming.{Scope, byLabels}
 use Rattle.language.specs.Notions as N
 use Rattle.language.specs.Order.{ending, endsAt, facilityRoots, operationRoots, operationsEnd, runsRight, stateRoots, statesEnd, treesEnd, treesRight}
 use Rattle.language.specs.declared.refusals.Refusal.the-variants.{BadSequencing, BadSubscript}
@@ -341,10 +341,10 @@ module _ (d : Description) (form : legalForm d ≡ true) (plain : (f : ℕ) → 
   -- What the text's pieces make, for these names, lengths and numbers.
   abbrev expressionsOf : List Name → List Name → List Name → Option ℕ → ℕ → ℕ → List Noted
   expressionsOf ns os ls l x y =
-      facilityNodes [] 0 declarations ++ (operationNodes ns [] x (defined .tree) ++ stateNodes l (record { facilities = ns; operations = os; states = ls }) y (stated .tree))
+      facilityNodes [] 0 declarations ++ (operationNodes ns [] x (defined .tree) ++ stateNodes l (record { facilities = ns; operations = os; stateNamed = byLabels ls }) y (stated .tree))
 
   abbrev actionsOf′ : List Name → List Name → List Name → Option ℕ → ℕ → ℕ → List NotedAction
-  actionsOf′ ns os ls l x y = operationActions ns [] x (defined .tree) ++ stateActions l (record { facilities = ns; operations = os; states = ls }) y (stated .tree)
+  actionsOf′ ns os ls l x y = operationActions ns [] x (defined .tree) ++ stateActions l (record { facilities = ns; operations = os; stateNamed = byLabels ls }) y (stated .tree)
 
   assembled : List Facility → List Name → List Name → List Name → Option ℕ → ℕ → ℕ → ℕ → Description
   assembled fs ns os ls l x y a = record {
@@ -370,7 +370,7 @@ module _ (d : Description) (form : legalForm d ≡ true) (plain : (f : ℕ) → 
   allActions = actionsOf′ facilityNames operationNames stateNames register (ends .first) (ends .second)
 
   abbrev scope : Scope
-  scope = record { facilities = facilityNames; operations = operationNames; states = stateNames }
+  scope = record { facilities = facilityNames; operations = operationNames; stateNamed = byLabels stateNames }
 
   nodes-stand : Stand d 0 allNodes
   nodes-stand =

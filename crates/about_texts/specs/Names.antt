@@ -9,7 +9,7 @@ use borrow.Author.Tests.{eq-eqb}
 use lib.ListN.{getD, length, length-append, take}
 use Rattle.language.specs.Description.{nowhere}
 use Rattle.language.specs.Judging.{unless}
-use Rattle.language.specs.Naming.{Scope, facility, meaning, numberOf, operation, state}
+use Rattle.language.specs.Naming.{Scope, byLabels, facility, meaning, numberOf, operation, state}
 use Rattle.language.specs.declared.refusals.Refusal.the-variants.{BadName}
 use Rattle.language.specs.Rules.{declared, nameFaults, twice}
 use Rattle.language.specs.Scan.{same}
@@ -98,11 +98,10 @@ pub means-operation : (sc : Scope) (i : ℕ) → i < length (sc .operations) →
 unfolding meaning
 means-operation sc i l f h = rw (number-none (getD (sc .operations) i []) 0 (sc .facilities) f, number-first 0 (sc .operations) i l h ∙ ap some (zero-and i)) refl
 
-pub means-state : (sc : Scope) (i : ℕ) → i < length (sc .states) → Apart (getD (sc .states) i []) (sc .facilities) → Apart (getD (sc .states) i []) (sc .operations) → Apart (getD (sc .states) i []) (take i (sc .states))
-    → meaning sc (getD (sc .states) i []) ≡ state i
+pub means-state : (fs os labels : List Name) (i : ℕ) → i < length labels → Apart (getD labels i []) fs → Apart (getD labels i []) os → Apart (getD labels i []) (take i labels)
+    → meaning (record { facilities = fs; operations = os; stateNamed = byLabels labels }) (getD labels i []) ≡ state i
 unfolding meaning
-means-state sc i l f o h =
-    rw (number-none (getD (sc .states) i []) 0 (sc .facilities) f, number-none (getD (sc .states) i []) 0 (sc .operations) o, number-first 0 (sc .states) i l h ∙ ap some (zero-and i)) refl
+means-state fs os labels i l f o h = rw (number-none (getD labels i []) 0 fs f, number-none (getD labels i []) 0 os o, number-first 0 labels i l h ∙ ap some (zero-and i)) refl
 
 -- ---- Names of three sections one after the other.
 

@@ -22,7 +22,7 @@ use Rattle.language.specs.Grammar.{Is}
 use Rattle.language.specs.Image.{WordsRight}
 use Rattle.language.specs.Judging.{Worth, fine, refuse}
 use Rattle.language.specs.Kinds.{closeBracket, comma, equalSign, openBracket}
-use Rattle.language.specs.Naming.{Scope, meaning, operation}
+use Rattle.language.specs.Naming.{Scope, meaning, noState, operation}
 use Rattle.language.specs.Notions as N
 use Rattle.language.specs.Notions.{operations}
 use Rattle.language.specs.Order.{operationRoots, operationsEnd, runRoots, treesEnd}
@@ -73,12 +73,12 @@ module _ (d : Description) (none-there : faults d noPlaces ≡ [])
 
   module _ (once : Once (facilityNames ++ (operationNames ++ later))) where
     -- What facilities mean where all of them are known.
-    pub knows-all : (os ss : List Name) → Knows d (record { facilities = facilityNames; operations = os; states = ss }) (length (d .facilities))
+    pub knows-all : (os : List Name) (named : Name → Option ℕ) → Knows d (record { facilities = facilityNames; operations = os; stateNamed = named }) (length (d .facilities))
     unfolding Once
-    knows-all os ss = record {
+    knows-all os named = record {
       means = λ f l. let n = length-map (d .facilities) (λ (x : Facility). x .name) in
           let o = once-front facilityNames (operationNames ++ later) once f (omega (arith, n, l)) (rw (facility-name f) (some-letters (facilityAt d f .name) (facility-names f l))) in
-          let y = means-facility (record { facilities = facilityNames; operations = os; states = ss }) f (omega (arith, n, l)) o in rw (facility-name f) at y;
+          let y = means-facility (record { facilities = facilityNames; operations = os; stateNamed = named }) f (omega (arith, n, l)) o in rw (facility-name f) at y;
       right = facility-names;
       bits = bits;
     }
@@ -136,7 +136,7 @@ module _ (d : Description) (none-there : faults d noPlaces ≡ [])
     none-defined n s m a e = record { tree = []; same = refl; stands = tt; acting = tt; size = omega (arith, e); counted = refl; words = []; right = tt; depth = 0; derived = λ some h l. absurd (some refl) }
 
     abbrev Body : (n : ℕ) → n ≤ length (d .operations) → ℕ → ℕ → ℕ → ℕ → Type 0
-    Body n l k a s o = Listed d (scope n) (knows-all (take n operationNames) []) false (operationBelow d noPlaces n) (names-in n l) J.actions k a s o
+    Body n l k a s o = Listed d (scope n) (knows-all (take n operationNames) noState) false (operationBelow d noPlaces n) (names-in n l) J.actions k a s o
 
     -- The words of a definition, and of those after it.
     abbrev defWords : Name → List Word → List T.Operation → List Word → List Word
@@ -181,7 +181,7 @@ module _ (d : Description) (none-there : faults d noPlaces ≡ [])
           tree = record { name = x; at = here; body = B .tree } ∷ S .tree;
           same = rw (bc, S .same) refl;
           stands = rw (more, bs) (stand-append d (scope n) s o us vs (B .stands) (let z = in-size (scope n) s (B .tree) in omega (arith, z, bs)) (S .stands));
-          acting = rw (more, bs) (acting-append d (scope n) (knows-all (take n operationNames) []) false (operationBelow d noPlaces n) (names-in n (omega (arith, l))) a (a + suc k) ks ls (B .acting) (let z = actions-size (scope n) s (B .tree) in omega (arith, z, bc)) (S .acting));
+          acting = rw (more, bs) (acting-append d (scope n) (knows-all (take n operationNames) noState) false (operationBelow d noPlaces n) (names-in n (omega (arith, l))) a (a + suc k) ks ls (B .acting) (let z = actions-size (scope n) s (B .tree) in omega (arith, z, bc)) (S .acting));
           size = let z = S .size in omega (arith, bs, z);
           counted = rw (more, bs) (let e = nodes-append us vs in let f = acts-append ks ls in let g = lefts-append ks ls in let h = B .counted in let i = S .counted in omega (arith, e, f, g, h, i));
           words = defWords x (B .words) (S .tree) (S .words);
@@ -217,7 +217,7 @@ module _ (d : Description) (none-there : faults d noPlaces ≡ [])
             let y = whole n o q (operations-fine d none-there n l .1) in
             let sp = trees-split d s (runRoots d (o .body .count) (o .body .first)) (operationRoots d os) m g in
             let same : record { name = o .name; body = X.runOf a (suc (y .fewer)) } ≡ o = rw (← at, ← y .count) refl in
-            let B = listed d (scope n) (knows-all (take n operationNames) []) false (operationBelow d noPlaces n) (names-in n (omega (arith, l))) (suc (y .fewer)) a s (sp .middle) (moved-fine n (o .body .count) (suc (y .fewer)) (o .body .first) a (y .count) at (y .body-fine)) (moved-end (o .body .count) (suc (y .fewer)) (o .body .first) a s (sp .middle) (y .count) at (sp .left)) in
+            let B = listed d (scope n) (knows-all (take n operationNames) noState) false (operationBelow d noPlaces n) (names-in n (omega (arith, l))) (suc (y .fewer)) a s (sp .middle) (moved-fine n (o .body .count) (suc (y .fewer)) (o .body .first) a (y .count) at (y .body-fine)) (moved-end (o .body .count) (suc (y .fewer)) (o .body .first) a s (sp .middle) (y .count) at (sp .left)) in
             let S = subst (λ (z : ℕ). Defined (suc n) (sp .middle) m (a + z) os) (y .count) (rec (sp .middle) k (sp .right)) in
             subst (λ (z : Operation). Defined n s m a (z ∷ os)) same (define n s (sp .middle) m a (y .fewer) (o .name) os l (ap (λ (z : Operation). z .name) q) B S)
 

@@ -22,7 +22,7 @@ use Rattle.language.specs.Grammar.{Is}
 use Rattle.language.specs.Image.{ConstantRight, WordsRight}
 use Rattle.language.specs.Judging.{Worth, both, fine}
 use Rattle.language.specs.Kinds.{closeParen, colon, openParen, slash}
-use Rattle.language.specs.Naming.{Scope, meaning, operation, state}
+use Rattle.language.specs.Naming.{Scope, byLabels, meaning, operation, state}
 use Rattle.language.specs.Notions as N
 use Rattle.language.specs.Notions.{firstPlace, states}
 use Rattle.language.specs.Order.{runRoots, startAt, startNode, stateRoots, statesEnd, treesEnd, valueRoot}
@@ -90,7 +90,7 @@ module _ (d : Description) (none-there : faults d noPlaces ≡ [])
   stateNames = map (λ s. s .name) (d .states)
 
   abbrev scope : Scope
-  scope = record { facilities = facilityNames; operations = operationNames; states = stateNames }
+  scope = record { facilities = facilityNames; operations = operationNames; stateNamed = byLabels stateNames }
 
   state-name : (s : ℕ) → getD stateNames s [] ≡ stateAt d s .name
   unfolding stateAt
@@ -111,7 +111,7 @@ module _ (d : Description) (none-there : faults d noPlaces ≡ [])
 
   module _ (once : Once (facilityNames ++ (operationNames ++ stateNames))) where
     abbrev knows : Knows d scope (length (d .facilities))
-    knows = O.knows-all d none-there bits facility-names operation-names stateNames once operationNames stateNames
+    knows = O.knows-all d none-there bits facility-names operation-names stateNames once operationNames (byLabels stateNames)
 
     performed : (o : ℕ) (w : Worth) → operationBelow d noPlaces (length (d .operations)) o ≡ fine w → (b : Bool) → ltb o (length (d .operations)) ≡ b → (meaning scope (operationAt d o .name) ≡ operation o) × (nameRight (operationAt d o .name) ≡ true)
     unfolding operationBelow
@@ -135,7 +135,7 @@ module _ (d : Description) (none-there : faults d noPlaces ≡ [])
         let z : Apart (stateAt d s .name) (facilityNames ++ (operationNames ++ take s stateNames)) = rw (t .0, t .1, g) at y in
         let f = apart-left (stateAt d s .name) facilityNames (operationNames ++ take s stateNames) z in
         let r = apart-right (stateAt d s .name) facilityNames (operationNames ++ take s stateNames) z in
-        let k = means-state scope s (omega (arith, m, i)) (rw g f) (rw g (apart-left (stateAt d s .name) operationNames (take s stateNames) r)) (rw g (apart-right (stateAt d s .name) operationNames (take s stateNames) r)) in
+        let k = means-state facilityNames operationNames stateNames s (omega (arith, m, i)) (rw g f) (rw g (apart-left (stateAt d s .name) operationNames (take s stateNames) r)) (rw g (apart-right (stateAt d s .name) operationNames (take s stateNames) r)) in
         (rw g at k, label-name (stateAt d s .name) (stateAt d s .value) (labels s i) l)
 
     abbrev naming : Names d scope true (operationBelow d noPlaces (length (d .operations)))

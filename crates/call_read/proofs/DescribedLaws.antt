@@ -30,6 +30,7 @@ use Rattle.parse_states.specs.Begins.{lengthOf}
 use Rattle.parse_tables.specs.declared.Table.the-variants as Tb
 use Rattle.parse_tables.specs.Rows.{rows}
 use Rattle.parse_held.proofs.NearTrees.{text-near}
+use Rattle.parse_held.specs.NearTexts.{TextNear}
 use Rattle.call_read.proofs.LengthLaws.{Lends}
 use Rattle.call_read.proofs.Sequenced.{lengthNo, register-lent}
 use Rattle.call_read.proofs.OutcomeLaws.{done-so, refused-so}
@@ -62,16 +63,19 @@ module _ {text w₁ : List ℕ} {r : Answer} (short : length text ≤ 32768) (x 
     derived : Is wholeText deepest (scan text .words) (N.text whole-text)
     derived = exact-text text (length text) whole-text .1 (withText nothingBuilt whole-text, text-parsed, refl) .0
 
+    standing-near : TextNear text whole-text
+    standing-near = text-near text short whole-text derived
+
     lent-length : lengthOf l ≡ lengthIn ds
     lent-length =
-        register-lent whole-text (tidy derived (words-right text)) (text-near text whole-text short derived)
+        register-lent whole-text (tidy derived (words-right text)) standing-near
         (omega (arith, x .ready .facilities .known, x .ready .counted, few-facilities (countsOf (r .state)) (x .ready .standing .within)))
         (omega (arith, x .ready .standing .bodies .nodes, x .ready .standing .nodes, few-counted (countsOf (r .state)) (x .ready .standing .within))) l
         (rw (x .ready .facilities .records, x .ready .facilities .places) at f)
         ∙ lengths-agree (facilitiesOf 0 ds) (sequencingFrom 0 (facilitiesOf 0 ds))
 
     pub text-whole : Whole text w₂ (tallied (r .state) (r₂ .state)) whole-text
-    text-whole = z .done d .whole whole-text refl refl refl lent-length
+    text-whole = z .done d .whole whole-text refl refl refl lent-length standing-near
 
     pub text-described : Described text w₂ (Oc.Done (tallied (r .state) (r₂ .state)))
     text-described = done-so (record { built = withText nothingBuilt whole-text; course = text-parsed; whole = text-whole })

@@ -1,10 +1,9 @@
 pub mod DescribedLaws
 pub mod Fronts
-pub mod LabelLaws
 pub mod LengthLaws
 pub mod OutcomeLaws
 pub mod Sequenced
-pub mod TwiceLaws
+pub mod StatesLaws
 pub mod WholeLaws
 pub mod CallLaws
 pub mod ShortLaws

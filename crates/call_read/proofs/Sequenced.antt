@@ -12,7 +12,7 @@ use Rattle.language.specs.Describe.{Noted, actionsOf, nodesIn}
 use Rattle.language.specs.DescribeText.{facilitiesOf, facilityNodes, facilitySize, operationActions, operationNodes, operationsOf, stateActions, stateNodes, statesOf}
 use Rattle.language.specs.Description.{Description, Facility, Places, facilityAt, noFacility, nowhere, sequencingFrom, sequencingOf, wordLength}
 use Rattle.language.specs.Encode.{facilityRecords, sectionsOf}
-use Rattle.language.specs.Naming.{Scope}
+use Rattle.language.specs.Naming.{Scope, noState}
 use Rattle.language.specs.Rules as R
 use Rattle.language.specs.Rules.{sequencingLength}
 use Rattle.language.specs.Tree.{Text}
@@ -57,7 +57,7 @@ lent-by d p l h f =
     shown = rw (description-back d p h) at (declared-noted (sectionsOf d) (besideOf d p))
 
 -- Of the facilities of a text: they are those of the text with one empty state and no operations, which is readable whatever its states are.
-module _ (t : Text) (tidy : TextTidy t) (near : TextNear t) (few : length (declarationsOf t) ≤ 256) (small : facilitySize (declarationsOf t) ≤ 65535) where
+module _ {text : List ℕ} (t : Text) (tidy : TextTidy t) (near : TextNear text t) (few : length (declarationsOf t) ≤ 256) (small : facilitySize (declarationsOf t) ≤ 65535) where
   abbrev bare : Text
   bare = record { registers = t .registers; memories = t .memories; terminals = t .terminals; operations = []; states = plainAt nowhere ∷ [] }
 
@@ -72,17 +72,17 @@ module _ (t : Text) (tidy : TextTidy t) (near : TextNear t) (few : length (decla
     some-state = λ e. let z : _≡_ {A = ℕ} 1 0 = ap length e in omega arith;
   }
 
-  bare-near : TextNear bare
+  bare-near : TextNear text bare
   bare-near = record { registers = near .registers; memories = near .memories; terminals = near .terminals; operations = tt; states = ((omega arith, (tt, tt)), tt) }
 
   abbrev nobody : Scope
-  nobody = record { facilities = []; operations = []; states = [] }
+  nobody = record { facilities = []; operations = []; stateNamed = noState }
 
   pub register-lent : (l : ℕ) → Lends l (facilityRecords 0 (facilitiesOf 0 (declarationsOf t))) (besides 0 (declarationsOf t)) → lengthOf l ≡ lending (registerLength (facilitiesOf 0 (declarationsOf t)))
   unfolding operationNodes stateNodes nodesIn operationsOf statesOf operationActions stateActions actionsOf
   register-lent l f =
       lent-by _ _ l
-      (text-readable bare bare-tidy bare-near none tt nobody (omega arith) (omega arith) (omega arith)
+      (text-readable bare bare-tidy bare-near none tt nobody (omega arith) (omega arith) (λ n k h e. absurd (let z : _≡_ {A = ℕ} 0 1 = cc in omega arith))
       (record {
         facilities = omega (arith, facilities-count 0 (declarationsOf t));
         operations = omega arith;

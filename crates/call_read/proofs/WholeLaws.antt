@@ -3,6 +3,7 @@ use mathlib.Core.List.{List, [], _∷_, _++_, map}
 use mathlib.Core.Option.{Option}
 use mathlib.Core.Path.{_≡_, refl, sym, ap, _∙_}
 use Prim.Native.Nat.{ℕ, _+_}
+use native.Mathlib.Omega.{arith}
 use Rattle.parse_step.specs.declared.State.{State}
 use Rattle.parse_facilities.specs.Listed.{besides, noneHeld}
 use Rattle.language.specs.Describe.{Noted, NotedAction}
@@ -19,13 +20,14 @@ use Rattle.parse_sections.specs.Sections.{Ready}
 use Rattle.parse_stores.specs.Actions.{frontOf}
 use Rattle.parse_states.specs.Begins.{lengthOf}
 use Rattle.parse_states.specs.Written.{Written, labelsOf}
-use Rattle.parse_tables.proofs.NamesGrown.{names-few}
+use Rattle.parse_tables.proofs.NamesGrown.{names-few, no-names}
 use Rattle.parse_tables.specs.declared.Table.the-variants as Tb
 use Rattle.parse_tables.specs.Names.{namesOf}
 use Rattle.parse_tables.specs.Rows.{rows}
 use Rattle.text_words.specs.declared.Word.{Word}
 use Rattle.parse_array.proofs.NodesAdded.{nodes-append, concat-append}
 use Rattle.parse_array.specs.Held.{Held, held, withNodes}
+use Rattle.parse_held.proofs.Resolving.{labelledIn}
 use Rattle.parse_held.proofs.StandingLaws.{zipped-one}
 use Rattle.parse_held.specs.Sections.{Few}
 use Rattle.parse_held.specs.Standing.{zipped}
@@ -34,7 +36,7 @@ use Rattle.call_read.specs.Ready.{Whole, lengthIn, tallied}
 
 -- The names known with some labels.
 abbrev pub named : List Declaration → List T.Operation → List Name → Scope
-named ds os labels = record { facilities = map (λ d. d .name) ds; operations = map (λ o. o .name) os; states = labels }
+named ds os labels = labelledIn (map (λ d. d .name) ds) (map (λ o. o .name) os) labels
 
 -- ---- Lists.
 
@@ -72,11 +74,14 @@ module _ (n : ℕ) (w : List ℕ) (xs : List Noted) (e : frontOf n w ≡ withNod
   unfolding frontOf withNodes
   places-held = ap (λ (h : Held). h .places) e ∙ sym (zipped-one nodeBesideBytes (λ (x : Noted). x .node) (λ (x : Noted). x .places) xs)
 
+-- There are no labels before the first state.
+pub none-labelled : (text w : List ℕ) {n : ℕ} → n ≡ 0 → namesOf text (rows Tb.Labels n w) n ≡ []
+none-labelled text w e = rw e (sym (no-names text Tb.Labels w ∙ names-few text Tb.Labels w 0 (omega arith)))
+
 -- ---- The whole.
 
 module _ (t : Text) {text : List ℕ} {w : Word} {s s′ : State} {l : ℕ} {w₂ w₃ : List ℕ} (a : Ready text (declarationsOf t) (t .operations) w s w₂) (e : lengthOf l ≡ lengthIn (declarationsOf t))
-    (x : Written text (named (declarationsOf t) (t .operations) (labelsOf (t .states))) l (t .states) s w₂ s′ w₃)
-    (labels : namesOf text (rows Tb.StateNames (s′ .states) w₂) (s′ .states) ≡ labelsOf (t .states)) (few : Few (tallied s s′)) where
+    (x : Written text (named (declarationsOf t) (t .operations) (labelsOf (t .states))) l (t .states) s w₂ s′ w₃) (few : Few (tallied s s′)) where
   abbrev ds : List Declaration
   ds = declarationsOf t
 
@@ -143,8 +148,7 @@ module _ (t : Text) {text : List ℕ} {w : Word} {s s′ : State} {l : ℕ} {w�
           ∙ sym (names-few text Tb.FacilityNames w₂ (s .known) (few .facilities)) ∙ a .facilities .names ∙ facilities-named 0 ds;
       operationNames = ap (λ (v : List ℕ). namesOf text v (s .operations)) (x .tables Tb.OperationNames refl (s .operations) (few .operations))
           ∙ a .standing .tabled .names ∙ operations-named 0 (t .operations);
-      stateNames = ap (λ (v : List ℕ). namesOf text v (s′ .states)) (x .tables Tb.StateNames refl (s′ .states) (few .states))
-          ∙ labels ∙ states-named (lengthIn ds) second (operationRecords (t .operations)) (t .states);
+      stateNames = x .labels ∙ ap (λ (ns : List Name). ns ++ labelsOf (t .states)) (none-labelled text w₂ (a .standing .states)) ∙ states-named (lengthIn ds) second (operationRecords (t .operations)) (t .states);
     };
     beside = record {
       facilities = x .tables Tb.FacilityPlaces refl (s .known) (few .facilities) ∙ a .facilities .places ∙ besides-zipped 0 ds;
@@ -158,6 +162,5 @@ module _ (t : Text) {text : List ℕ} {w : Word} {s s′ : State} {l : ℕ} {w�
 -- The same, where the sections of the text are given by themselves.
 pub whole-at : (t : Text) {ds : List Declaration} {os : List T.Operation} {ss : List T.State} → declarationsOf t ≡ ds → t .operations ≡ os → t .states ≡ ss
     → {text : List ℕ} {w : Word} {s s′ : State} {l : ℕ} {w₂ w₃ : List ℕ} → Ready text ds os w s w₂ → lengthOf l ≡ lengthIn ds
-    → Written text (named ds os (labelsOf ss)) l ss s w₂ s′ w₃
-    → namesOf text (rows Tb.StateNames (s′ .states) w₂) (s′ .states) ≡ labelsOf ss → Few (tallied s s′) → Whole text w₃ (tallied s s′) t
-whole-at t i j k a e x n few = whole-of t (rw (← i, ← j) at a) (rw (← i) at e) (rw (← i, ← j, ← k) at x) (rw (← k) at n) few
+    → Written text (named ds os (labelsOf ss)) l ss s w₂ s′ w₃ → Few (tallied s s′) → Whole text w₃ (tallied s s′) t
+whole-at t i j k a e x few = whole-of t (rw (← i, ← j) at a) (rw (← i) at e) (rw (← i, ← j, ← k) at x) few

@@ -21,6 +21,7 @@ use Rattle.text_words.specs.declared.Fault.{Fault}
 use Rattle.text_words.specs.declared.Word.{Word}
 use Rattle.text_words.specs.Meaning.{faulted}
 use Rattle.parse_held.specs.declared.Tally.{Tally}
+use Rattle.parse_held.specs.NearTexts.{TextNear}
 use Rattle.parse_held.specs.Sections.{Few}
 use Rattle.parse_held.specs.Standing.{Stands, StandsBeside}
 
@@ -44,16 +45,16 @@ pub record Whole (text work : List ℕ) (c : Tally) (t : Text) : Type 0 where
   pub stands : Stands text work c (describe t .description)
   pub beside : StandsBeside work c (describe t .description) (describe t .places)
 
--- The states were read to the end of the text; where their values took the length that they should, the array holds the text.
+-- The states were read to the end of the text; where their values took the length that they should, and the names behind arrows stand in the text, the array holds the text.
 pub record Finished (text : List ℕ) (ds : List Declaration) (os : List Operation) (l : ℕ) (w : Word) (s : State) (work′ : List ℕ) (r : Answer) : Type 0 where
   pub trees : List T.State
   pub course : (b : Built) → runs text startStack w b s ≡ parsed (withText b (moreOf trees (b .text)))
-  pub whole : (t : Text) → declarationsOf t ≡ ds → t .operations ≡ os → t .states ≡ trees → lengthOf l ≡ lengthIn ds → Whole text work′ (tallied s (r .state)) t
+  pub whole : (t : Text) → declarationsOf t ≡ ds → t .operations ≡ os → t .states ≡ trees → lengthOf l ≡ lengthIn ds → TextNear text t → Whole text work′ (tallied s (r .state)) t
 
 pub record Closes (text : List ℕ) (ds : List Declaration) (os : List Operation) (l : ℕ) (w : Word) (s : State) (work′ : List ℕ) (r : Answer) : Type 0 where
   pub done : r .verdict ≡ Vd.Done → Finished text ds os l w s work′ r
   pub refused : (f : Fault) → r .verdict ≡ Vd.Refused f → (b : Built) → runs text startStack w b s ≡ refused (faulted f)
   pub full : r .verdict ≡ Vd.Full → ⊥
 
-abbrev pub Twice : List ℕ → ℕ → Word → State → List ℕ → List ℕ → Answer → Type 0
-Twice text l w s work work′ r = (ds : List Declaration) (os : List Operation) → Ready text ds os w s work → Closes text ds os l w s work′ r
+abbrev pub ReadsStates : List ℕ → ℕ → Word → State → List ℕ → List ℕ → Answer → Type 0
+ReadsStates text l w s work work′ r = (ds : List Declaration) (os : List Operation) → Ready text ds os w s work → Closes text ds os l w s work′ r

@@ -2,9 +2,8 @@
 use parse_held::Tally;
 use text_words::Fault;
 
-pub mod labels;
 pub mod lengths;
-pub mod twice;
+pub mod states;
 pub mod whole;
 
 // The first fault against the grammar, or how many records the array holds.

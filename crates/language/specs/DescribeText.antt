@@ -8,7 +8,7 @@ use lib.ListN.{length}
 use Rattle.language.specs.Describe.{Noted, NotedAction, actionsIn, actionsOf, boundsOf, constantNodes, constantSize, expressionSize, expressionsIn, lastOf, nodesIn, nodesOf}
 use Rattle.language.specs.Description.{Bounds, Description, Facility, FacilityPlaces, Operation, Places, Run, State, bounds, nowhere, sequencingFrom, wordLength}
 use Rattle.language.specs.Description as D
-use Rattle.language.specs.Naming.{Scope}
+use Rattle.language.specs.Naming.{Scope, byLabels, noState}
 use Rattle.language.specs.Tree as T
 use Rattle.language.specs.Tree.{Declaration, Extent, Function, Name, StateValue, Text}
 use Rattle.language.specs.Value.{Value, longest, value}
@@ -74,7 +74,7 @@ facilitiesOf base (d ∷ ds) = facilityOf base d ∷ facilitiesOf (base + functi
 unfoldable pub facilityNodes : List Name → ℕ → List Declaration → List Noted
 facilityNodes before base [] = []
 facilityNodes before base (d ∷ ds) =
-    functionNodes (record { facilities = before; operations = []; states = [] }) base (d .function)
+    functionNodes (record { facilities = before; operations = []; stateNamed = noState }) base (d .function)
     ++ facilityNodes (before ++ d .name ∷ []) (base + functionSize (d .function)) ds
 
 unfoldable pub facilitySize : List Declaration → ℕ
@@ -92,7 +92,7 @@ operationsOf a (o ∷ os) = record { name = o .name; body = runOf a (actionsIn (
 
 module _ (facilities : List Name) where
   abbrev pub operationScope : List Name → Scope
-  operationScope before = record { facilities = facilities; operations = before; states = [] }
+  operationScope before = record { facilities = facilities; operations = before; stateNamed = noState }
 
   unfoldable pub operationNodes : List Name → ℕ → List T.Operation → List Noted
   operationNodes before base [] = []
@@ -178,7 +178,7 @@ describe t =
     let names : List Name = map (λ d. d .name) declared in
     let facilities : List Facility = facilitiesOf 0 declared in
     let l : Option ℕ = lengthAt facilities (sequencingFrom 0 facilities) in
-    let scope : Scope = record { facilities = names; operations = map (λ o. o .name) (t .operations); states = map (λ s. labelOf (s .label)) (t .states) } in
+    let scope : Scope = record { facilities = names; operations = map (λ o. o .name) (t .operations); stateNamed = byLabels (map (λ s. labelOf (s .label)) (t .states)) } in
     let first : ℕ = facilitySize declared in
     let second : ℕ = first + operationExpressions (t .operations) in
     let nodes : List Noted = facilityNodes [] 0 declared ++ (operationNodes names [] first (t .operations) ++ stateNodes l scope second (t .states)) in

@@ -8,11 +8,11 @@ use Rattle.language.specs.Description as D
 use Rattle.language.specs.Scan.{same}
 use Rattle.language.specs.Tree.{Name}
 
--- The names known at a place of the text.
+-- The names known at a place of the text, and which state a name is: a state may be named before it stands.
 pub record Scope : Type 0 where
   pub facilities : List Name
   pub operations : List Name
-  pub states : List Name
+  pub stateNamed : Name → Option ℕ
 
 pub data Meaning : Type 0 where
   facility operation state : ℕ → Meaning
@@ -25,6 +25,13 @@ numberOf n k (m ∷ ms) =
     let later = numberOf n (suc k) ms in
     cond (same n m) (some k) later
 
+-- The states by their labels; and where no state is known.
+abbrev pub byLabels : List Name → Name → Option ℕ
+byLabels labels n = numberOf n 0 labels
+
+abbrev pub noState : Name → Option ℕ
+noState n = none
+
 abbrev pub orElse : Option ℕ → (ℕ → Meaning) → Meaning → Meaning
 orElse none f m = m
 orElse (some k) f m = f k
@@ -33,7 +40,7 @@ unfoldable pub meaning : Scope → Name → Meaning
 meaning s n =
     orElse (numberOf n 0 (s .facilities)) facility
     (orElse (numberOf n 0 (s .operations)) operation
-    (orElse (numberOf n 0 (s .states)) state unknown))
+    (orElse (s .stateNamed n) state unknown))
 
 -- A reference to a facility, an operation or a state by name; broken where the name means none.
 abbrev pub ofFacility : Meaning → (ℕ → Node) → Node

@@ -21,7 +21,7 @@ use Rattle.language.specs.Kinds.{caseWord, endCaseWord}
 use Rattle.language.specs.Machine.{closes, make, word}
 use Rattle.language.specs.Naming.{Scope}
 use Rattle.language.specs.Tree as T
-use Rattle.parse_names.specs.declared.Counts.{Counts}
+use Rattle.parse_tables.specs.declared.meaning.Counts.{Counts}
 use Rattle.parse_stores.specs.Actions.{Standing, Written}
 use Rattle.parse_tables.specs.declared.Table.the-variants as Tb
 use Rattle.parse_tables.specs.Rows.{Wrote}

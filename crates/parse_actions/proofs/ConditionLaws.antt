@@ -22,7 +22,7 @@ use Rattle.language.specs.Kinds.{doWord}
 use Rattle.language.specs.Machine.{Counts, ask, expression, level, word}
 use Rattle.language.specs.Naming.{Scope}
 use Rattle.language.specs.Tree as T
-use Rattle.parse_names.specs.declared.Counts as M
+use Rattle.parse_tables.specs.declared.meaning.Counts as M
 use Rattle.parse_expressions.proofs.ArmLaws.{separators}
 use Rattle.parse_expressions.proofs.StartLaws.{at-same}
 use Rattle.parse_expressions.proofs.TermLaws.{from-kept}

@@ -19,7 +19,7 @@ use Rattle.language.specs.Building.{Built, joined}
 use Rattle.language.specs.Kinds.{comma}
 use Rattle.language.specs.Machine.{ask}
 use Rattle.language.specs.Naming.{Scope}
-use Rattle.parse_names.specs.declared.Counts.{Counts}
+use Rattle.parse_tables.specs.declared.meaning.Counts.{Counts}
 use Rattle.parse_expressions.proofs.StartLaws.{at-same}
 use Rattle.parse_expressions.specs.Phrases.{atNesting, same}
 use Rattle.parse_stores.proofs.Joining.{grown-two, paid-then, written-then}

@@ -18,7 +18,7 @@ use Rattle.language.specs.Kinds.{aName, callSign, gotoSign, returnWord}
 use Rattle.language.specs.Machine.{ask, refused, stateAction}
 use Rattle.language.specs.Naming.{Scope}
 use Rattle.language.specs.Words.{fault}
-use Rattle.parse_names.specs.declared.Counts.{Counts}
+use Rattle.parse_tables.specs.declared.meaning.Counts.{Counts}
 use Rattle.parse_expressions.specs.Phrases.{afterName, same}
 use Rattle.parse_stores.proofs.Standings.{standing-word}
 use Rattle.parse_stores.specs.Actions.{Acts, Reads}

@@ -9,7 +9,7 @@ use Rattle.parse_step.specs.declared.State.{State}
 use Rattle.parse_step.specs.Gained.{withActionCount}
 use Rattle.parse_step.specs.Course.{countsOf}
 use Rattle.language.specs.Naming.{Scope}
-use Rattle.parse_names.specs.declared.Counts.{Counts}
+use Rattle.parse_tables.specs.declared.meaning.Counts.{Counts}
 use Rattle.parse_stores.proofs.Keeping.{known-kept}
 use Rattle.parse_stores.proofs.Standings.{few-states}
 use Rattle.parse_stores.specs.Actions.{OthersKept, Standing}

@@ -19,7 +19,7 @@ use Rattle.language.specs.Naming.{Scope}
 use Rattle.language.specs.Tree as T
 use Rattle.language.specs.Tree.{Actions, Expression}
 use Rattle.language.specs.Words as L
-use Rattle.parse_names.specs.declared.Counts.{Counts}
+use Rattle.parse_tables.specs.declared.meaning.Counts.{Counts}
 use Rattle.judge_records.specs.Noted.{placeBytes}
 use Rattle.parse_expressions.specs.Phrases.{choiceWord, same}
 use Rattle.parse_stores.specs.Actions.{Acts, Paid, Reads, Standing, Written, grown}

@@ -59,11 +59,8 @@ facilityNamesFrom = statePlacesFrom + stateBeside * stateRows
 abbrev pub operationNamesFrom : ℕ
 operationNamesFrom = facilityNamesFrom + nameSize * facilityRows
 
-abbrev pub stateNamesFrom : ℕ
-stateNamesFrom = operationNamesFrom + nameSize * operationRows
-
 abbrev pub labelsFrom : ℕ
-labelsFrom = stateNamesFrom + nameSize * stateRows
+labelsFrom = operationNamesFrom + nameSize * operationRows
 
 abbrev pub workSize : ℕ
 workSize = labelsFrom + nameSize * stateRows

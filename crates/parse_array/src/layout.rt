@@ -61,8 +61,6 @@ pub const FACILITY_NAMES: usize = STATE_PLACES + STATE_BESIDE * MOST_STATES as u
 
 pub const OPERATION_NAMES: usize = FACILITY_NAMES + NAME_SIZE * MOST_FACILITIES as usize;
 
-pub const STATE_NAMES: usize = OPERATION_NAMES + NAME_SIZE * MOST_OPERATIONS as usize;
-
-pub const LABELS: usize = STATE_NAMES + NAME_SIZE * MOST_STATES as usize;
+pub const LABELS: usize = OPERATION_NAMES + NAME_SIZE * MOST_OPERATIONS as usize;
 
 pub const WORK_SIZE: usize = LABELS + NAME_SIZE * MOST_STATES as usize;

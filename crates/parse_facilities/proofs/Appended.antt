@@ -10,7 +10,7 @@ use Rattle.language.specs.DescribeText.{facilitiesOf, facilityNodes, facilityOf
 use Rattle.language.specs.Description.{Facility}
 use Rattle.language.specs.Encode.{facilityRecord, facilityRecords}
 use Rattle.language.specs.Layout.{facilityBytes, storeSizeOf}
-use Rattle.language.specs.Naming.{Scope}
+use Rattle.language.specs.Naming.{Scope, noState}
 use Rattle.language.specs.Tree.{Declaration, Name}
 use Rattle.judge_records.specs.Noted.{facilityBesideBytes}
 use Rattle.parse_facilities.specs.Listed.{besides}
@@ -61,7 +61,7 @@ length-last (y ∷ xs) x = ap suc (length-last xs x)
 
 -- An expression knows the facilities declared before it.
 abbrev pub scopeOf : List Name → Scope
-scopeOf names = record { facilities = names; operations = []; states = [] }
+scopeOf names = record { facilities = names; operations = []; stateNamed = noState }
 
 abbrev pub namesOf : List Declaration → List Name
 namesOf ds = map (λ (x : Declaration). x .name) ds

@@ -155,9 +155,9 @@ operations-fit a [] t h = tt
 operations-fit a (o ∷ os) t h =
     (record { name = omega (arith, name-short (o .name) (t .0 .0)); first = omega arith; count = omega arith }, operations-fit (a + actionsIn (o .body)) os (t .1) (omega arith))
 
-pub operation-places : (os : List Operation) → OperationsNear os → Each Near (map (λ o. o .at) os)
-operation-places [] n = tt
-operation-places (o ∷ os) n = (n .0 .0, operation-places os (n .1))
+pub operation-places : (text : List ℕ) (os : List Operation) → OperationsNear text os → Each Near (map (λ o. o .at) os)
+operation-places text [] n = tt
+operation-places text (o ∷ os) n = (n .0 .0, operation-places text os (n .1))
 
 pub operation-names : (a : ℕ) (os : List Operation) → OperationsTidy os → Each (λ (o : D.Operation). length (o .name) ≤ 132) (operationsOf a os)
 unfolding operationsOf
@@ -183,9 +183,9 @@ value-near : (v : Option StateValue) → ValueNear v → Near (valuePlace v)
 value-near none h = omega arith
 value-near (some v) h = h
 
-pub state-places : (ss : List State) → StatesNear ss → Each (λ (p : D.StatePlaces). Near (p .at) × Near (p .value)) (map (λ s. record { at = s .at; value = valuePlace (s .value) }) ss)
-state-places [] n = tt
-state-places (s ∷ ss) n = ((n .0 .0, value-near (s .value) (n .0 .1 .0)), state-places ss (n .1))
+pub state-places : (text : List ℕ) (ss : List State) → StatesNear text ss → Each (λ (p : D.StatePlaces). Near (p .at) × Near (p .value)) (map (λ s. record { at = s .at; value = valuePlace (s .value) }) ss)
+state-places text [] n = tt
+state-places text (s ∷ ss) n = ((n .0 .0, value-near (s .value) (n .0 .1 .0)), state-places text ss (n .1))
 
 pub state-names : (l : Option ℕ) (base a : ℕ) (ss : List State) → StatesTidy ss → Each (λ (s : D.State). length (s .name) ≤ 132) (statesOf l base a ss)
 unfolding statesOf

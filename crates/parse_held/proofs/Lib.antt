@@ -1,12 +1,16 @@
 pub mod ActionsFit
 pub mod BodyLaws
 pub mod DeclarationsFit
+pub mod GotoLaws
 pub mod LetterLaws
 pub mod NarrowBack
 pub mod NearTrees
 pub mod NodesFit
 pub mod NotedBack
 pub mod PlacesBack
+pub mod Resolving
+pub mod RowByRow
+pub mod SpelledNames
 pub mod StandingLaws
 pub mod TextFits
 pub mod TextNodesFit

@@ -28,7 +28,7 @@ use Rattle.parse_held.specs.Standing.{Marked, Near, endsOf, narrowNode}
 
 -- ---- What names mean.
 
-number-below : (n : Name) (k : ℕ) (ms : List Name) {j : ℕ} → numberOf n k ms ≡ some j → j < k + length ms
+pub number-below : (n : Name) (k : ℕ) (ms : List Name) {j : ℕ} → numberOf n k ms ≡ some j → j < k + length ms
 unfolding numberOf
 number-below n k [] e = absurd (let z : _≡_ {A = ℕ} 0 1 = cc in omega arith)
 number-below n k (m ∷ ms) {j} e = go (same n m) (λ d. number-below n (suc k) ms d) e
@@ -37,34 +37,35 @@ number-below n k (m ∷ ms) {j} e = go (same n m) (λ d. number-below n (suc k) 
     go true f d = let z : k ≡ j = cc in omega arith
     go false f d = omega (arith, f d)
 
-abbrev pub Known : Scope → Meaning → Type 0
-Known s (facility k) = k < length (s .facilities)
-Known s (operation k) = k < length (s .operations)
-Known s (state k) = k < length (s .states)
-Known s unknown = Unit {0}
+-- What a scope says of the meaning of a name.
+abbrev pub Known : Scope → Name → Meaning → Type 0
+Known s n (facility k) = k < length (s .facilities)
+Known s n (operation k) = k < length (s .operations)
+Known s n (state k) = s .stateNamed n ≡ some k
+Known s n unknown = Unit {0}
 
-pub known : (s : Scope) (n : Name) → Known s (meaning s n)
+pub known : (s : Scope) (n : Name) → Known s n (meaning s n)
 unfolding meaning
 known s n = go (numberOf n 0 (s .facilities)) refl
   where
-    third : (r : Option ℕ) → numberOf n 0 (s .states) ≡ r → Known s (orElse r state unknown)
+    third : (r : Option ℕ) → s .stateNamed n ≡ r → Known s n (orElse r state unknown)
     third none e = tt
-    third (some k) e = omega (arith, number-below n 0 (s .states) e)
+    third (some k) e = e
 
-    second : (r : Option ℕ) → numberOf n 0 (s .operations) ≡ r → Known s (orElse r operation (orElse (numberOf n 0 (s .states)) state unknown))
-    second none e = third (numberOf n 0 (s .states)) refl
+    second : (r : Option ℕ) → numberOf n 0 (s .operations) ≡ r → Known s n (orElse r operation (orElse (s .stateNamed n) state unknown))
+    second none e = third (s .stateNamed n) refl
     second (some k) e = omega (arith, number-below n 0 (s .operations) e)
 
     go : (r : Option ℕ) → numberOf n 0 (s .facilities) ≡ r
-        → Known s (orElse r facility (orElse (numberOf n 0 (s .operations)) operation (orElse (numberOf n 0 (s .states)) state unknown)))
+        → Known s n (orElse r facility (orElse (numberOf n 0 (s .operations)) operation (orElse (s .stateNamed n) state unknown)))
     go none e = second (numberOf n 0 (s .operations)) refl
     go (some k) e = omega (arith, number-below n 0 (s .facilities) e)
 
-of-facility : (s : Scope) → length (s .facilities) ≤ 256 → (m : Meaning) → Known s m → (P : Node → Type 0) (g : ℕ → Node) → ((k : ℕ) → k < 256 → P (g k)) → P D.Node.broken → P (ofFacility m g)
-of-facility s few (facility k) h P g f b = f k (omega arith)
-of-facility s few (operation k) h P g f b = b
-of-facility s few (state k) h P g f b = b
-of-facility s few unknown h P g f b = b
+of-facility : (s : Scope) (n : Name) → length (s .facilities) ≤ 256 → (m : Meaning) → Known s n m → (P : Node → Type 0) (g : ℕ → Node) → ((k : ℕ) → k < 256 → P (g k)) → P D.Node.broken → P (ofFacility m g)
+of-facility s n few (facility k) h P g f b = f k (omega arith)
+of-facility s n few (operation k) h P g f b = b
+of-facility s n few (state k) h P g f b = b
+of-facility s n few unknown h P g f b = b
 
 arms-few : (e : Expression) → armsOf e ≤ expressionSize e
 unfolding armsOf expressionSize
@@ -158,7 +159,7 @@ module _ (d : Description) where
 
   module _ (s : Scope) (few : length (s .facilities) ≤ 256) where
     named : (n : Name) (P : Node → Type 0) (g : ℕ → Node) → ((k : ℕ) → k < 256 → P (g k)) → P D.Node.broken → P (ofFacility (meaning s n) g)
-    named n = of-facility s few (meaning s n) (known s n)
+    named n = of-facility s n few (meaning s n) (known s n)
 
     -- A record behind those of one part, and of two.
     behind : (base : ℕ) (e : Expression) (x : Noted) → AllFit base (nodesOf s base e) → NodeFits (base + expressionSize e) x → AllFit base (nodesOf s base e ++ x ∷ [])

@@ -48,6 +48,13 @@ place-length : (n : ℕ) (p : Position) → length (placeBytes n p) ≡ 2
 unfolding placeBytes little
 place-length n p = refl
 
+-- The last of some places.
+pub last-place : (a : List ℕ) (k : ℕ) (p : Position) → length a ≡ 2 * k → Near p → placeNo (a ++ placeBytes 0 p) k ≡ p
+unfolding placeBytes little
+last-place a k p l h =
+    let s = a ++ placeBytes 0 p in
+    place-back s k 0 p (place-at s (2 * k) 2 k 0 0 p (ap (take 2) (drop-at a (placeBytes 0 p) (2 * k) l)) (omega arith) (omega arith) refl refl) h
+
 -- As many as a section has.
 all-read : {A : Type 0} (f : ℕ → A) (d : A) (n : ℕ) (xs : List A) → n ≡ length xs → ((k : ℕ) → k < length xs → f k ≡ getD xs k d) → upTo f 0 n ≡ xs
 all-read f d n xs e h =

@@ -43,7 +43,7 @@ module _ {text w : List ℕ} {c : Tally} {d : Description} (h : Stands text w c 
       rw (
         letters-are (λ f. f .name) (d .facilities) text T.FacilityNames (c .facilities) w (h .facilityNames),
         letters-are (λ o. o .name) (d .operations) text T.OperationNames (c .operations) w (h .operationNames),
-        letters-are (λ s. s .name) (d .states) text T.StateNames (c .states) w (h .stateNames),
+        letters-are (λ s. s .name) (d .states) text T.Labels (c .states) w (h .stateNames),
       )
 
   pub sections-stand : sectionsHeld text w c ≡ sectionsOf d

@@ -14,9 +14,9 @@ use Rattle.language.specs.DescribeText.{describe, facilitiesOf, facilityNodes, 
 use Rattle.language.specs.Description as D
 use Rattle.language.specs.Description.{Description, Facility, Node, Operation, Places, State, actionAt, actionPlace, facilityAt, facilityPlace, noFacility, noRun, nodeAt, nodePlace, operationAt, operationPlace, sequencingFrom, spanOf, stateAt, statePlace, wordLength}
 use Rattle.language.specs.Encode.{concat, nameBytes}
-use Rattle.language.specs.Naming.{Scope}
+use Rattle.language.specs.Naming.{Scope, byLabels}
 use Rattle.language.specs.Tree as T
-use Rattle.language.specs.Tree.{Declaration, Text}
+use Rattle.language.specs.Tree.{Declaration, Name, Text}
 use Rattle.language.specs.Value.{longest}
 use Rattle.about_rules.specs.InOrder.{stateExpressions}
 use Rattle.about_rules.specs.LegalTexts.{facilities-nodes, operations-nodes, states-nodes}
@@ -27,14 +27,14 @@ use Rattle.about_rules.specs.WithinCounts.{declarationsOf, namesIn}
 use Rattle.image_records.proofs.ActionBack as A
 use Rattle.about_images.specs.Back.{FacilityInRange, InRange, NodeInRange, OperationInRange, StateInRange}
 use Rattle.about_images.specs.Whole.{encode-long}
-use Rattle.parse_held.proofs.ActionsFit.{ActsFit, acts-append}
+use Rattle.parse_held.proofs.ActionsFit.{StatesFit, acts-append}
 use Rattle.parse_held.proofs.DeclarationsFit.{DeclarationFits, Each, FacilityFit, LengthFits, declarations-fit, each-append, each-at, facilities-fit, facility-names, facility-places, operation-names, operation-places, operations-fit, state-names, state-places, states-fit}
 use Rattle.parse_held.proofs.NarrowBack.{names-narrow}
-use Rattle.parse_held.proofs.NodesFit.{AllFit, Here, NodeFits, fit-append, here-left, here-right}
+use Rattle.parse_held.proofs.NodesFit.{AllFit, Here, NodeFits, fit-append, here-left, here-right, number-below}
 use Rattle.parse_held.proofs.TextNodesFit.{facility-nodes, operation-acts, operation-nodes, state-acts, state-nodes}
 use Rattle.parse_held.specs.NearTexts.{TextNear}
 use Rattle.parse_held.specs.Sections.{mostLetters}
-use Rattle.parse_held.specs.Standing.{FacilityNear, Marked, Near, Readable, endsOf, narrowFacility, narrowNode, narrowed}
+use Rattle.parse_held.specs.Standing.{ActsFit, FacilityNear, Marked, Near, Readable, endsOf, narrowFacility, narrowNode, narrowed}
 
 -- ---- By number.
 
@@ -74,8 +74,8 @@ pub record Counted (d : Description) : Type 0 where
   pub actions : length (d .actions) ≤ 65535
   pub states : length (d .states) ≤ 256
 
-module _ (t : Text) (tidy : TextTidy t) (near : TextNear t) (l : Option ℕ) (fits : LengthFits l) (scope : Scope)
-    (few-facilities : length (scope .facilities) ≤ 256) (few-operations : length (scope .operations) ≤ 65535) (few-states : length (scope .states) ≤ 65535) where
+module _ {text : List ℕ} (t : Text) (tidy : TextTidy t) (near : TextNear text t) (l : Option ℕ) (fits : LengthFits l) (scope : Scope)
+    (few-facilities : length (scope .facilities) ≤ 256) (few-operations : length (scope .operations) ≤ 65535) (few-states : StatesFit scope) where
   abbrev ds : List Declaration
   ds = declarationsOf t
 
@@ -160,9 +160,9 @@ module _ (t : Text) (tidy : TextTidy t) (near : TextNear t) (l : Option ℕ) (fi
         fit-append narrowOf 0 declared (operated ++ stated)
         (facility-nodes narrowOf [] 0 ds declarations (omega (arith, few-declarations)) (omega arith) (here-left narrowOf 0 declared (operated ++ stated) here)) first (omega (arith, facilities-nodes [] 0 ds))
         (fit-append narrowOf first operated stated
-        (operation-nodes narrowOf (namesIn t) (omega (arith, few-declarations, length-map ds (λ (d : Declaration). d .name))) [] first (t .operations) (tidy .operations) (near .operations) (omega arith) (here-left narrowOf first operated stated after-first))
+        (operation-nodes narrowOf text (namesIn t) (omega (arith, few-declarations, length-map ds (λ (d : Declaration). d .name))) [] first (t .operations) (tidy .operations) (near .operations) (omega arith) (here-left narrowOf first operated stated after-first))
         second (omega (arith, operations-nodes (namesIn t) [] first (t .operations)))
-        (state-nodes narrowOf l fits scope few-facilities second (t .states) (tidy .states) (near .states) (omega arith)
+        (state-nodes narrowOf text l fits scope few-facilities second (t .states) (tidy .states) (near .states) (omega arith)
         (here-right narrowOf first operated stated after-first second (omega (arith, operations-nodes (namesIn t) [] first (t .operations))))))
 
     abbrev nowhere : Noted
@@ -195,8 +195,8 @@ module _ (t : Text) (tidy : TextTidy t) (near : TextNear t) (l : Option ℕ) (fi
         let k = actions-length in
         let j = few-actions in
         acts-append (operationActions (namesIn t) [] first (t .operations)) (stateActions l scope second (t .states))
-        (operation-acts (namesIn t) [] first (t .operations) (near .operations) (omega (arith, few .operations, operations-count 0 (t .operations))) (omega arith) (omega arith))
-        (state-acts l scope few-operations few-states second (t .states) (near .states) (omega arith) (omega arith))
+        (operation-acts text (namesIn t) [] first (t .operations) (near .operations) (omega (arith, few .operations, operations-count 0 (t .operations))) (omega arith) (omega arith))
+        (state-acts text l scope few-operations few-states second (t .states) (near .states) (omega arith) (omega arith))
 
     action-is : (n : ℕ) → actionAt described n ≡ getD allActions n noAct .action
     unfolding actionAt
@@ -274,10 +274,10 @@ module _ (t : Text) (tidy : TextTidy t) (near : TextNear t) (l : Option ℕ) (fi
       besideFacilities = length-map ds (λ (d : Declaration). placesOf (d .at) (d .function) (d .extent)) ∙ sym (facilities-count 0 ds);
       besideNodes = length-map allNodes (λ (x : Noted). x .places) ∙ sym (length-map allNodes (λ (x : Noted). x .node));
       facilities = λ n h. each-at FacilityNear _ (map (λ (d : Declaration). placesOf (d .at) (d .function) (d .extent)) ds) (facility-places ds declarations) n h;
-      operations = λ n h. each-at Near D.nowhere (map (λ (o : T.Operation). o .at) (t .operations)) (operation-places (t .operations) (near .operations)) n h;
+      operations = λ n h. each-at Near D.nowhere (map (λ (o : T.Operation). o .at) (t .operations)) (operation-places text (t .operations) (near .operations)) n h;
       expressions = λ n h. let f = node-fits n (omega (arith, length-map allNodes (λ (x : Noted). x .places))) in rw (places-are n) (f .at, f .first, f .last);
       actions = λ n h. rw (action-place n) (act-at allActions noAct acts n (omega (arith, length-map allActions (λ (a : NotedAction). a .at))) .1);
-      states = λ n h. each-at (λ (p : D.StatePlaces). Near (p .at) × Near (p .value)) (record { at = D.nowhere; value = D.nowhere }) (placed .states) (state-places (t .states) (near .states)) n h;
+      states = λ n h. each-at (λ (p : D.StatePlaces). Near (p .at) × Near (p .value)) (record { at = D.nowhere; value = D.nowhere }) (placed .states) (state-places text (t .states) (near .states)) n h;
     }
 
 -- ---- The sequencing register.
@@ -308,15 +308,18 @@ length-fits fs (some n) = go (leb (wordLength (getD fs n noFacility)) 256) refl
     go true e = (word-some (getD fs n noFacility), leb-true _ _ e)
     go false e = tt
 
-module _ (t : Text) (tidy : TextTidy t) (near : TextNear t) (few : Counted (describe t .description)) where
+module _ {text : List ℕ} (t : Text) (tidy : TextTidy t) (near : TextNear text t) (few : Counted (describe t .description)) where
   abbrev length-of : Option ℕ
   length-of = lengthAt (facilitiesOf 0 (declarationsOf t)) (sequencingFrom 0 (facilitiesOf 0 (declarationsOf t)))
 
   fitting : LengthFits length-of
   fitting = length-fits (facilitiesOf 0 (declarationsOf t)) (sequencingFrom 0 (facilitiesOf 0 (declarationsOf t)))
 
+  abbrev labels : List Name
+  labels = map (λ s. labelOf (s .label)) (t .states)
+
   abbrev scope-of : Scope
-  scope-of = record { facilities = namesIn t; operations = map (λ o. o .name) (t .operations); states = map (λ s. labelOf (s .label)) (t .states) }
+  scope-of = record { facilities = namesIn t; operations = map (λ o. o .name) (t .operations); stateNamed = byLabels labels }
 
   few-names : length (scope-of .facilities) ≤ 256
   unfolding describe
@@ -326,11 +329,12 @@ module _ (t : Text) (tidy : TextTidy t) (near : TextNear t) (few : Counted (desc
   unfolding describe
   few-named = omega (arith, few .operations, operations-count 0 (t .operations), length-map (t .operations) (λ (o : T.Operation). o .name))
 
-  few-labels : length (scope-of .states) ≤ 65535
+  few-labels : StatesFit scope-of
   unfolding describe
-  few-labels =
+  few-labels n k l e =
       omega (
         arith,
+        number-below n 0 labels e,
         few .states,
         states-count length-of (facilitySize (declarationsOf t) + operationExpressions (t .operations)) (operationRecords (t .operations)) (t .states),
         length-map (t .states) (λ (s : T.State). labelOf (s .label)),

@@ -53,8 +53,8 @@ module _ (text w : List ℕ) (c : Tally) (t : Text) {n : ℕ} (short : length te
 
   -- Its names have room where judging puts them.
   pub names-room : length (namesHeld text w c) ≤ mostLetters
-  names-room = rw (names-stand h) (text-names t text-tidy (text-near text t short derived) (counted (describe t .description) few h))
+  names-room = rw (names-stand h) (text-names t text-tidy (text-near text short t derived) (counted (describe t .description) few h))
 
   pub text-judged : StandsBeside w c (describe t .description) (describe t .places)
       → least (faults (notedDescription (sectionsHeld text w c) (besideHeld w c)) (placesIn (besideHeld w c))) ≡ least (faults (describe t .description) (describe t .places))
-  text-judged b = faults-stand text w c (describe t .description) (describe t .places) h b (readable t text-tidy (text-near text t short derived) (counted (describe t .description) few h))
+  text-judged b = faults-stand text w c (describe t .description) (describe t .places) h b (readable t text-tidy (text-near text short t derived) (counted (describe t .description) few h))

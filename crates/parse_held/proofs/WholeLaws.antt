@@ -27,12 +27,12 @@ use Rattle.parse_held.specs.Sections.{Few, countsHeld, lettersOf, namesH
 
 module _ (text w : List ℕ) (c : Tally) where
   names-length : length (namesHeld text w c)
-      ≡ length (lettersOf text T.FacilityNames (c .facilities) w) + (length (lettersOf text T.OperationNames (c .operations) w) + length (lettersOf text T.StateNames (c .states) w))
+      ≡ length (lettersOf text T.FacilityNames (c .facilities) w) + (length (lettersOf text T.OperationNames (c .operations) w) + length (lettersOf text T.Labels (c .states) w))
   unfolding namesHeld
   names-length = simp length-append
 
   pub names-counted : {f o s : ℕ} → f ≡ length (lettersOf text T.FacilityNames (c .facilities) w) → o ≡ length (lettersOf text T.OperationNames (c .operations) w)
-      → s ≡ length (lettersOf text T.StateNames (c .states) w) → f + (o + s) ≡ length (namesHeld text w c)
+      → s ≡ length (lettersOf text T.Labels (c .states) w) → f + (o + s) ≡ length (namesHeld text w c)
   names-counted e f g = rw (e, f, g) (sym names-length)
 
   pub names-put : (p : List ℕ) {i₀ i₁ i₂ i₃ : List ℕ} {at o s : ℕ} → length p ≡ at → i₀ ≡ filled (length i₀) p → at + length (namesHeld text w c) ≤ length i₀
@@ -40,14 +40,14 @@ module _ (text w : List ℕ) (c : Tally) where
       → (at + length (lettersOf text T.FacilityNames (c .facilities) w) ≤ length i₀ → i₁ ≡ placed i₀ at (lettersOf text T.FacilityNames (c .facilities) w))
       → s ≡ o + length (lettersOf text T.OperationNames (c .operations) w)
       → (o + length (lettersOf text T.OperationNames (c .operations) w) ≤ length i₁ → i₂ ≡ placed i₁ o (lettersOf text T.OperationNames (c .operations) w))
-      → (s + length (lettersOf text T.StateNames (c .states) w) ≤ length i₂ → i₃ ≡ placed i₂ s (lettersOf text T.StateNames (c .states) w))
+      → (s + length (lettersOf text T.Labels (c .states) w) ≤ length i₂ → i₃ ≡ placed i₂ s (lettersOf text T.Labels (c .states) w))
       → i₃ ≡ filled (length i₀) (p ++ namesHeld text w c)
   unfolding namesHeld
   names-put p {i₀} {i₁} {i₂} {i₃} {at} {o} {s} k z h e₁ p₁ e₂ p₂ p₃ =
       let n = length i₀ in
       let fs = lettersOf text T.FacilityNames (c .facilities) w in
       let os = lettersOf text T.OperationNames (c .operations) w in
-      let ss = lettersOf text T.StateNames (c .states) w in
+      let ss = lettersOf text T.Labels (c .states) w in
       let m = names-length in
       let q₁ = filled-more n p fs k z (omega arith) refl (p₁ (omega arith)) in
       let k₁ : length (p ++ fs) ≡ o = length-append p fs ∙ omega arith in

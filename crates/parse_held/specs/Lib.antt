@@ -1,3 +1,4 @@
 pub mod Sections
 pub mod Standing
 pub mod NearTexts
+pub mod Gotos

@@ -1,16 +1,30 @@
--- A tree whose words stand near enough for their places to have room, and whose operators and stores are those of the grammar.
+-- A tree whose words stand near enough for their places to have room, whose operators and stores are those of the grammar, and whose names behind arrows stand in the text.
 use mathlib.Core.List.{List, [], _∷_}
 use mathlib.Core.Option.{Option, none, some}
+use mathlib.Core.Path.{_≡_}
 use Prim.Native.Nat.{ℕ, _<_}
+use lib.ListN.{length}
 use Rattle.language.specs.Tree as T
-use Rattle.language.specs.Tree.{Actions, Declaration, Ends, Expression, Extent, Function, Left, Operation, State, StateValue, Text}
-use Rattle.language.specs.Words.{Word, wordAt}
+use Rattle.language.specs.Tree.{Actions, Declaration, Ends, Expression, Extent, Function, Left, Name, Operation, State, StateValue, Text}
+use Rattle.language.specs.Words as W
+use Rattle.language.specs.Words.{Position, Word, wordAt}
 use Rattle.image_records.proofs.ActionBack.{Sign}
+use Rattle.parse_array.specs.Names.{letters}
 use Rattle.parse_held.specs.Standing.{Near}
 
-abbrev pub WordsNear : List Word → Type 0
-WordsNear [] = Unit {0}
-WordsNear (w ∷ ws) = Near (wordAt w) × WordsNear ws
+-- A name is the word of its length at a place of a text.
+pub record StandsAt (text : List ℕ) (n : Name) (p : Position) : Type 0 where
+  pub letters : n ≡ letters text (p .place) (length n)
+  pub short : length n < 65536
+
+abbrev pub Spelled : List ℕ → Word → Type 0
+Spelled text (W.name n p) = StandsAt text n p
+Spelled text (W.constant c p) = Unit {0}
+Spelled text (W.sign k p) = Unit {0}
+
+abbrev pub WordsNear : List ℕ → List Word → Type 0
+WordsNear text [] = Unit {0}
+WordsNear text (w ∷ ws) = Near (wordAt w) × WordsNear text ws × Spelled text w
 
 -- A mark has six bits for an operator's kind.
 abbrev pub Kind : ℕ → Type 0
@@ -37,17 +51,17 @@ abbrev pub LeftNear : Left → Type 0
 LeftNear (T.single e) = ExpressionNear e
 LeftNear (T.pair e f) = ExpressionNear e × ExpressionNear f
 
-abbrev pub ActionsNear : Actions → Type 0
-ActionsNear T.done = Unit {0}
-ActionsNear (T.store k p l e a) = (Sign k × Near p) × (LeftNear l × (ExpressionNear e × ActionsNear a))
-ActionsNear (T.set p e a) = Near p × (ExpressionNear e × ActionsNear a)
-ActionsNear (T.perform n p a) = Near p × ActionsNear a
-ActionsNear (T.goto n p a) = Near p × ActionsNear a
-ActionsNear (T.call n p a) = Near p × ActionsNear a
-ActionsNear (T.return p a) = Near p × ActionsNear a
-ActionsNear (T.when p e l a) = Near p × (ExpressionNear e × (ActionsNear l × ActionsNear a))
-ActionsNear (T.choose p e l a) = Near p × (ExpressionNear e × (ActionsNear l × ActionsNear a))
-ActionsNear (T.arm l a) = ActionsNear l × ActionsNear a
+abbrev pub ActionsNear : List ℕ → Actions → Type 0
+ActionsNear text T.done = Unit {0}
+ActionsNear text (T.store k p l e a) = (Sign k × Near p) × (LeftNear l × (ExpressionNear e × ActionsNear text a))
+ActionsNear text (T.set p e a) = Near p × (ExpressionNear e × ActionsNear text a)
+ActionsNear text (T.perform n p a) = Near p × ActionsNear text a
+ActionsNear text (T.goto n p a) = (Near p × StandsAt text n p) × ActionsNear text a
+ActionsNear text (T.call n p a) = (Near p × StandsAt text n p) × ActionsNear text a
+ActionsNear text (T.return p a) = Near p × ActionsNear text a
+ActionsNear text (T.when p e l a) = Near p × (ExpressionNear e × (ActionsNear text l × ActionsNear text a))
+ActionsNear text (T.choose p e l a) = Near p × (ExpressionNear e × (ActionsNear text l × ActionsNear text a))
+ActionsNear text (T.arm l a) = ActionsNear text l × ActionsNear text a
 
 abbrev pub ExtentNear : Extent → Type 0
 ExtentNear T.single = Unit {0}
@@ -63,21 +77,21 @@ abbrev pub DeclarationsNear : List Declaration → Type 0
 DeclarationsNear [] = Unit {0}
 DeclarationsNear (d ∷ ds) = (Near (d .at) × (ExtentNear (d .extent) × FunctionNear (d .function))) × DeclarationsNear ds
 
-abbrev pub OperationsNear : List Operation → Type 0
-OperationsNear [] = Unit {0}
-OperationsNear (o ∷ os) = (Near (o .at) × ActionsNear (o .body)) × OperationsNear os
+abbrev pub OperationsNear : List ℕ → List Operation → Type 0
+OperationsNear text [] = Unit {0}
+OperationsNear text (o ∷ os) = (Near (o .at) × ActionsNear text (o .body)) × OperationsNear text os
 
 abbrev pub ValueNear : Option StateValue → Type 0
 ValueNear none = Unit {0}
 ValueNear (some v) = Near (v .at)
 
-abbrev pub StatesNear : List State → Type 0
-StatesNear [] = Unit {0}
-StatesNear (s ∷ ss) = (Near (s .at) × (ValueNear (s .value) × ActionsNear (s .actions))) × StatesNear ss
+abbrev pub StatesNear : List ℕ → List State → Type 0
+StatesNear text [] = Unit {0}
+StatesNear text (s ∷ ss) = (Near (s .at) × (ValueNear (s .value) × ActionsNear text (s .actions))) × StatesNear text ss
 
-pub record TextNear (t : Text) : Type 0 where
+pub record TextNear (text : List ℕ) (t : Text) : Type 0 where
   pub registers : DeclarationsNear (t .registers)
   pub memories : DeclarationsNear (t .memories)
   pub terminals : DeclarationsNear (t .terminals)
-  pub operations : OperationsNear (t .operations)
-  pub states : StatesNear (t .states)
+  pub operations : OperationsNear text (t .operations)
+  pub states : StatesNear text (t .states)

@@ -52,7 +52,7 @@ lettersOf text t n w = concat (λ s. s) (namesOf text (rows t n w) n)
 unfoldable pub namesHeld : List ℕ → List ℕ → Tally → List ℕ
 namesHeld text w c =
     lettersOf text T.FacilityNames (c .facilities) w
-    ++ (lettersOf text T.OperationNames (c .operations) w ++ lettersOf text T.StateNames (c .states) w)
+    ++ (lettersOf text T.OperationNames (c .operations) w ++ lettersOf text T.Labels (c .states) w)
 
 -- The records of all sections.
 unfoldable pub recordsHeld : List ℕ → Tally → List ℕ

@@ -3,6 +3,7 @@ use mathlib.Core.List.{List, [], _∷_, _++_, map}
 use mathlib.Core.Path.{_≡_}
 use Prim.Native.Nat.{ℕ, _%_, _<_}
 use lib.ListN.{length}
+use Rattle.language.specs.Describe.{NotedAction}
 use Rattle.language.specs.Description as D
 use Rattle.language.specs.Description.{Bounds, Description, Facility, FacilityPlaces, Node, Places, StatePlaces, actionPlace, bounds, facilityAt, facilityPlace, nodeAt, nodePlace, operationPlace, statePlace}
 use Rattle.language.specs.Encode.{actionBytes, concat, facilityRecords, nodeBytes, operationRecord, stateRecord}
@@ -13,6 +14,7 @@ use Rattle.parse_tables.specs.Names.{namesOf}
 use Rattle.parse_tables.specs.Rows.{rows}
 use Rattle.parse_array.specs.Held.{held}
 use Rattle.about_images.specs.Back.{InRange}
+use Rattle.image_records.proofs.ActionBack.{Fits}
 use Rattle.parse_held.specs.declared.Tally.{Tally}
 
 -- What is written of the elements of two lists, pair by pair.
@@ -41,7 +43,7 @@ pub record Stands (text w : List ℕ) (c : Tally) (d : Description) : Type 0 whe
   pub states : rows T.States (c .states) w ≡ concat stateRecord (d .states)
   pub facilityNames : namesOf text (rows T.FacilityNames (c .facilities) w) (c .facilities) ≡ map (λ f. f .name) (d .facilities)
   pub operationNames : namesOf text (rows T.OperationNames (c .operations) w) (c .operations) ≡ map (λ o. o .name) (d .operations)
-  pub stateNames : namesOf text (rows T.StateNames (c .states) w) (c .states) ≡ map (λ s. s .name) (d .states)
+  pub stateNames : namesOf text (rows T.Labels (c .states) w) (c .states) ≡ map (λ s. s .name) (d .states)
 
 -- And the places beside them.
 pub record StandsBeside (w : List ℕ) (c : Tally) (d : Description) (p : Places) : Type 0 where
@@ -116,6 +118,11 @@ Marked b = (b .first < 131072) × (b .last < 131072)
 -- A place that leaves room for a mark.
 abbrev pub Near : Position → Type 0
 Near p = p .place < 32768
+
+-- Actions of which records and places have room for all that they say.
+abbrev pub ActsFit : List NotedAction → Type 0
+ActsFit [] = Unit {0}
+ActsFit (a ∷ rest) = (Fits (a .action) × Near (a .at)) × ActsFit rest
 
 pub record FacilityNear (p : FacilityPlaces) : Type 0 where
   pub name : Near (p .name)

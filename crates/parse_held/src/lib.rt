@@ -1,6 +1,7 @@
-// The sections that the working array holds, and their names: counted, and put where an image has them.
+// The sections that the working array holds: their gotos resolved when all labels are known, and they and their names counted and put where an image has them.
 pub mod body;
 pub mod counts;
+pub mod gotos;
 pub mod letters;
 pub mod names;
 

@@ -16,7 +16,7 @@ pub fn count(text: &[u8], work: &Work, c: Tally) -> usize
 {
     let f = letters::count(text, work, Table::FacilityNames, c.facilities);
     let o = letters::count(text, work, Table::OperationNames, c.operations);
-    let s = letters::count(text, work, Table::StateNames, c.states);
+    let s = letters::count(text, work, Table::Labels, c.states);
     f + (o + s)
 }
 
@@ -27,5 +27,5 @@ pub fn put(image: &mut [u8], at: usize, text: &[u8], work: &Work, c: Tally)
 {
     let o = letters::put(image, at, text, work, Table::FacilityNames, c.facilities);
     let s = letters::put(image, o, text, work, Table::OperationNames, c.operations);
-    letters::put(image, s, text, work, Table::StateNames, c.states);
+    letters::put(image, s, text, work, Table::Labels, c.states);
 }

@@ -5,7 +5,7 @@ use Prim.Native.Nat.{ℕ, suc, _≤_}
 use native.Mathlib.Omega.{arith}
 use Rattle.language.specs.Describe.{constantNodes, constantSize}
 use Rattle.language.specs.Kinds.{aConstant}
-use Rattle.language.specs.Naming.{Scope}
+use Rattle.language.specs.Naming.{Scope, noState}
 use Rattle.value_operators.specs.Meaning.{valued}
 use Rattle.text_words.specs.declared.Word.{Word}
 use Rattle.text_words.specs.Meaning.{positioned}
@@ -33,4 +33,4 @@ module _ {w : Word} {s : State} {t r : Answer} {work work′ : List ℕ} {n : �
 -- Whatever the scope is, a reference takes one record.
 pub adds-spends : {B P : Scope → List ℕ} {text : List ℕ} {next : Word} {s : State} {work work′ : List ℕ} {r : Answer}
     → ((sc : Scope) → sc .facilities ≡ facilityNames text work (s .known) → Gained next s (B sc) (P sc) work work′ r) → Spends text 2 next s r
-adds-spends {text = text} {s = s} {work = work} a = gained-spends (a (record { facilities = facilityNames text work (s .known); operations = []; states = [] }) refl)
+adds-spends {text = text} {s = s} {work = work} a = gained-spends (a (record { facilities = facilityNames text work (s .known); operations = []; stateNamed = noState }) refl)

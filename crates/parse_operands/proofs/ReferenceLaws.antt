@@ -31,8 +31,8 @@ pub means : (sc : Scope) (n : Name) {names : List Name} → sc .facilities ≡ n
 unfolding meaning
 means sc n {names} e F = rw e (go (numberOf n 0 names))
   where
-    go : (a : Option ℕ) → ofFacility (orElse a facility (orElse (numberOf n 0 (sc .operations)) operation (orElse (numberOf n 0 (sc .states)) state unknown))) F ≡ ofFound a F
-    go none = broken-else (numberOf n 0 (sc .operations)) (numberOf n 0 (sc .states)) F
+    go : (a : Option ℕ) → ofFacility (orElse a facility (orElse (numberOf n 0 (sc .operations)) operation (orElse (sc .stateNamed n) state unknown))) F ≡ ofFound a F
+    go none = broken-else (numberOf n 0 (sc .operations)) (sc .stateNamed n) F
     go (some k) = refl
 
 module _ (sc : Scope) (n : Name) {names : List Name} (e : sc .facilities ≡ names) {f : Option ℕ} (g : f ≡ numberOf n 0 names) (F : ℕ → Node) where

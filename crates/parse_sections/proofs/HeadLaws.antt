@@ -20,7 +20,7 @@ use Rattle.parse_bounds.proofs.Telling as D
 use Rattle.language.specs.Building.{Built, beginList, keepWord}
 use Rattle.language.specs.Kinds.{aName, closeBracket, controlWord, endWord, equalSign, openBracket, period}
 use Rattle.language.specs.Machine.{Counts, ask, closes, control, opens, operationSpec, operationsMore, withinCeilings, word}
-use Rattle.parse_names.specs.declared.Counts as M
+use Rattle.parse_tables.specs.declared.meaning.Counts as M
 use Rattle.parse_expressions.specs.Phrases.{same}
 use Rattle.parse_actions.proofs.EndLaws.{written-to}
 use Rattle.parse_stores.proofs.Standings.{few-operations, standing-word}

@@ -19,10 +19,10 @@ use Rattle.language.specs.DescribeText.{operationScope}
 use Rattle.language.specs.Machine.{ask, make, operationSpec}
 use Rattle.language.specs.Naming.{Scope}
 use Rattle.language.specs.Tree.{Name, Operation}
-use Rattle.parse_names.specs.declared.Counts.{Counts}
-use Rattle.parse_names.specs.Known.{Known}
+use Rattle.parse_tables.specs.declared.meaning.Counts.{Counts}
+use Rattle.parse_tables.specs.Known.{Known}
 use Rattle.parse_stores.proofs.Keeping.{front-kept}
-use Rattle.parse_tables.proofs.NamesGrown.{names-few, names-kept, no-names}
+use Rattle.parse_tables.proofs.NamesGrown.{names-few, names-kept}
 use Rattle.parse_stores.proofs.Standings.{few-operations}
 use Rattle.parse_stores.specs.Actions as A
 use Rattle.parse_stores.specs.Actions.{grown}
@@ -42,14 +42,14 @@ use Rattle.parse_sections.specs.Lists.{One, OneRead, withOperations}
 
 -- What is known in a body: the facilities, and the operations before it.
 abbrev pub before : State → Counts
-before s = record { facilities = s .known; operations = s .operations; states = 0 }
+before s = record { facilities = s .known; operations = s .operations; waiting = false }
 
 module _ {text : List ℕ} {names : List Name} {first : ℕ} {h : Held} {os : List Operation} {w : Word} {s : State} {work : List ℕ} (st : Standing text names first h os w s work) where
   abbrev sc : Scope
   sc = operationScope names (namesOf os)
 
   known : Known text sc (before s) work
-  known = record { facilities = st .known; operations = sym (names-few text T.OperationNames work (s .operations) (few-operations (countsOf s) (st .within)) ∙ st .tabled .names); states = no-names text T.StateNames work }
+  known = record { facilities = st .known; operations = sym (names-few text T.OperationNames work (s .operations) (few-operations (countsOf s) (st .within)) ∙ st .tabled .names); states = λ m. refl }
 
   module _ {a : Answer} (z : HeadRead text w s a) where
     -- Where its body begins.

@@ -15,7 +15,7 @@ use Rattle.language.specs.Machine.{ask, closes, control, dollarOption, level, m
 use Rattle.language.specs.Naming.{Scope}
 use Rattle.language.specs.Tree as T
 use Rattle.language.specs.Tree.{Actions}
-use Rattle.parse_names.specs.declared.Counts.{Counts}
+use Rattle.parse_tables.specs.declared.meaning.Counts.{Counts}
 use Rattle.parse_stores.specs.Actions.{Standing, Written, grown}
 use Rattle.text_words.specs.declared.Word.{Word}
 

@@ -22,7 +22,7 @@ use Rattle.language.specs.Machine.{ask, level, stateAction, stateBody, stateNam
 use Rattle.language.specs.Naming.{Scope}
 use Rattle.language.specs.Tree as T
 use Rattle.language.specs.Tree.{Actions}
-use Rattle.parse_names.specs.declared.Counts.{Counts}
+use Rattle.parse_tables.specs.declared.meaning.Counts.{Counts}
 use Rattle.parse_expressions.specs.Phrases as Ph
 use Rattle.parse_stores.proofs.Joining.{written-then}
 use Rattle.parse_stores.proofs.ReachedLaws.{nodes-none}

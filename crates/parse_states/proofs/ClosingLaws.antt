@@ -18,7 +18,7 @@ use Rattle.language.specs.DescribeText.{labelOf, stateActions, stateNodes, stat
 use Rattle.language.specs.Encode.{concat, stateRecord}
 use Rattle.language.specs.Naming.{Scope}
 use Rattle.language.specs.Tree as T
-use Rattle.parse_names.specs.declared.Counts.{Counts}
+use Rattle.parse_tables.specs.declared.meaning.Counts.{Counts}
 use Rattle.parse_stores.proofs.Keeping.{front-kept, known-by}
 use Rattle.parse_stores.proofs.Standings.{few-states}
 use Rattle.parse_stores.specs.Actions.{Standing, actionBesides, actionRecords, frontOf}
@@ -192,7 +192,7 @@ module _ {text : List ℕ} {sc : Scope} {n : Counts} {l : ℕ} {name : Word} {P 
     short = st .short;
     whole = c .whole;
     within = y .standing .within;
-    known = known-by work₃ (c .kept .tables Tb.FacilityNames refl) (c .kept .tables Tb.OperationNames refl) (c .kept .tables Tb.StateNames refl) (y .standing .known);
+    known = known-by work₃ (c .kept .tables Tb.FacilityNames refl) (c .kept .tables Tb.OperationNames refl) (y .standing .known);
     facilities = y .standing .facilities;
     nodes = y .standing .nodes;
     actions = y .standing .actions;

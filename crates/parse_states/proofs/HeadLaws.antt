@@ -34,7 +34,7 @@ use Rattle.language.specs.Scan.{written}
 use Rattle.language.specs.Tree as T
 use Rattle.language.specs.Value as L
 use Rattle.language.specs.Words.{Constant}
-use Rattle.parse_names.specs.declared.Counts.{Counts}
+use Rattle.parse_tables.specs.declared.meaning.Counts.{Counts}
 use Rattle.parse_operands.specs.References.{lettersOf}
 use Rattle.parse_expressions.specs.Phrases.{afterName, stayed}
 use Rattle.parse_stores.proofs.Keeping.{known-kept, others-other, whole-other}

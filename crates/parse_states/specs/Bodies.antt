@@ -12,7 +12,7 @@ use Rattle.language.specs.Machine.{Ask, ask, make, stateAction, stateName, stat
 use Rattle.language.specs.Naming.{Scope}
 use Rattle.language.specs.Tree as T
 use Rattle.language.specs.Tree.{Actions}
-use Rattle.parse_names.specs.declared.Counts.{Counts}
+use Rattle.parse_tables.specs.declared.meaning.Counts.{Counts}
 use Rattle.parse_expressions.specs.Phrases.{afterName}
 use Rattle.parse_stores.specs.Actions.{Acts, Standing, Written}
 use Rattle.text_words.specs.declared.Word.{Word}

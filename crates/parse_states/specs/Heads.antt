@@ -20,7 +20,7 @@ use Rattle.language.specs.Machine.{ask, firstName, make, refused, stateBody, st
 use Rattle.language.specs.Naming.{Scope}
 use Rattle.language.specs.Scan.{written}
 use Rattle.language.specs.Tree as T
-use Rattle.parse_names.specs.declared.Counts.{Counts}
+use Rattle.parse_tables.specs.declared.meaning.Counts.{Counts}
 use Rattle.parse_expressions.specs.Phrases.{afterName, stayed}
 use Rattle.parse_stores.specs.Actions.{Standing, frontOf}
 use Rattle.value_operators.specs.Meaning.{valued}

@@ -1,11 +1,11 @@
 // The actions of a state, separated by commas, and the `/` that ends it.
 use parse_array::Work;
-use parse_names::Counts;
 use parse_step::Answer;
 use parse_step::Bearing;
 use parse_step::State;
 use parse_step::kinds;
 use parse_step::taking;
+use parse_tables::meaning::Counts;
 use text_words::Word;
 ghost use Rattle.parse_states.specs.Bodies.{Bodies, Firsts, Lists, Rests, Stands};
 

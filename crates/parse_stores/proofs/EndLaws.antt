@@ -19,7 +19,7 @@ use Rattle.language.specs.Kinds.{aName}
 use Rattle.language.specs.Machine.{Counts, keep, refused, withinCeilings}
 use Rattle.language.specs.Naming.{Scope}
 use Rattle.language.specs.Words.{fault}
-use Rattle.parse_names.specs.declared.Counts as M
+use Rattle.parse_tables.specs.declared.meaning.Counts as M
 use Rattle.text_words.specs.declared.Word.{Word}
 use Rattle.text_words.specs.Meaning.{faulted, positioned}
 use Rattle.parse_array.specs.Held.{Held}

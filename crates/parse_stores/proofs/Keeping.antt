@@ -7,15 +7,15 @@ use lib.ListN.{drop, length, length-drop, take}
 use lib.Seq.{drop-at, length-take-le, take-add, take-take}
 use Rattle.language.specs.Encode.{nodeSize}
 use Rattle.language.specs.Naming.{Scope}
-use Rattle.parse_names.specs.declared.Counts.{Counts}
-use Rattle.parse_names.specs.Known.{Known}
+use Rattle.parse_tables.specs.declared.meaning.Counts.{Counts}
+use Rattle.parse_tables.specs.Known.{Known}
 use Rattle.parse_tables.proofs.NamesGrown.{names-kept}
 use Rattle.parse_tables.proofs.RowLaws.{rows-other}
 use Rattle.parse_tables.specs.declared.Table.the-variants as T
 use Rattle.parse_tables.specs.Rows.{expressions, rows}
 use Rattle.parse_array.proofs.Regions.{same-held}
 use Rattle.parse_array.specs.Held.{held, otherIn}
-use Rattle.parse_array.specs.Layout.{facilityRows, mostNodes, operationRows, otherFrom, placesFrom, stateRows, workSize}
+use Rattle.parse_array.specs.Layout.{facilityRows, mostNodes, operationRows, otherFrom, placesFrom, workSize}
 use Rattle.parse_stores.specs.Actions.{OthersKept, frontOf}
 
 -- ---- Tables, read from all that stands behind the expressions.
@@ -45,12 +45,12 @@ module _ (w w′ : List ℕ) where
 
 -- Where the tables of names are as they were.
 pub known-by : {text : List ℕ} {sc : Scope} {n : Counts} {w : List ℕ} (w′ : List ℕ) → ((m : ℕ) → m ≤ facilityRows → rows T.FacilityNames m w′ ≡ rows T.FacilityNames m w)
-    → ((m : ℕ) → m ≤ operationRows → rows T.OperationNames m w′ ≡ rows T.OperationNames m w) → ((m : ℕ) → m ≤ stateRows → rows T.StateNames m w′ ≡ rows T.StateNames m w) → Known text sc n w → Known text sc n w′
-known-by {text} {n = n} {w} w′ f o s k = record {
+    → ((m : ℕ) → m ≤ operationRows → rows T.OperationNames m w′ ≡ rows T.OperationNames m w) → Known text sc n w → Known text sc n w′
+known-by {text} {n = n} {w} w′ f o k = record {
   facilities = k .facilities ∙ sym (names-kept text T.FacilityNames w w′ f (n .facilities));
   operations = k .operations ∙ sym (names-kept text T.OperationNames w w′ o (n .operations));
-  states = k .states ∙ sym (names-kept text T.StateNames w w′ s (n .states));
+  states = k .states;
 }
 
 pub known-kept : {text : List ℕ} {sc : Scope} {n : Counts} {w : List ℕ} (w′ : List ℕ) → OthersKept w w′ → Known text sc n w → Known text sc n w′
-known-kept w′ o k = known-by w′ (o T.FacilityNames refl) (o T.OperationNames refl) (o T.StateNames refl) k
+known-kept w′ o k = known-by w′ (o T.FacilityNames refl) (o T.OperationNames refl) k

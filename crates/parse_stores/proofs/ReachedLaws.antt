@@ -22,8 +22,8 @@ use Rattle.language.specs.Encode.{actionBytes, concat}
 use Rattle.language.specs.Machine.{Counts, withinCeilings}
 use Rattle.language.specs.Naming.{Scope}
 use Rattle.language.specs.Tree.{Actions}
-use Rattle.parse_names.specs.declared.Counts as M
-use Rattle.parse_names.specs.Known.{Known}
+use Rattle.parse_tables.specs.declared.meaning.Counts as M
+use Rattle.parse_tables.specs.Known.{Known}
 use Rattle.judge_records.specs.Noted.{placeBytes}
 use Rattle.parse_tables.proofs.NamesGrown.{facilities-other}
 use Rattle.parse_tables.specs.Actions.{ActionAdded}

@@ -27,9 +27,9 @@ use Rattle.language.specs.Tree as T
 use Rattle.language.specs.Tree.{Actions, Name}
 use Rattle.language.specs.Words as L
 use Rattle.parse_levels.proofs.HeadWords.{among-first-or, among-none}
-use Rattle.parse_names.specs.declared.Counts as M
-use Rattle.parse_names.specs.declared.Meaning.{Meaning}
-use Rattle.parse_names.specs.Known.{meant}
+use Rattle.parse_tables.specs.declared.meaning.Counts as M
+use Rattle.parse_tables.specs.declared.meaning.Meaning.{Meaning}
+use Rattle.parse_tables.specs.Known.{meant}
 use Rattle.parse_operands.specs.References.{lettersOf}
 use Rattle.parse_expressions.specs.Phrases.{afterName, same}
 use Rattle.text_words.specs.declared.Word.{Word}
@@ -57,7 +57,7 @@ module _ {text : List ℕ} {n : M.Counts} {name w : Word} {s : State} {work : Li
   unfolding expressionsIn nodesIn actionsIn actionsOf
   performs d m f {x} e y q g sc st =
       reads-ended (ends-with st reached y (T.perform (lettersOf text name) (positioned (name .at)) T.done) refl refl refl
-      (ap (λ (v : D.Action). act v (positioned (name .at)) ∷ []) (sym (e ∙ ap (λ (v : N.Meaning). ofOperation v D.perform) (f sc (st .known)))))
+      (ap (λ (v : D.Action). act v (positioned (name .at)) ∷ []) (sym (e ∙ ap (λ (v : N.Meaning). ofOperation v D.perform) (f (st .short) sc (st .known)))))
       (λ K b. g (st .seen) K b ∙ rw (p .fits, p .counts)))
     where
       p : WentOn name w (afterWord true Level s) s a
@@ -101,7 +101,7 @@ module _ {text : List ℕ} {n : M.Counts} {w₁ : Word} {s₁ : State} {work₁ 
     arrow-leads call e sc w s work st z =
         let k = t .done d (z .seen) in
         let g = arrowTree call (lettersOf text w₁) (positioned (w₁ .at)) in
-        let v : x ≡ ofState (meaning sc (lettersOf text w₁)) (arrowAction call) = e ∙ ap (λ (q : N.Meaning). ofState q (arrowAction call)) (f sc (known-reached st z)) in
+        let v : x ≡ ofState (meaning sc (lettersOf text w₁)) (arrowAction call) = e ∙ ap (λ (q : N.Meaning). ofState q (arrowAction call)) (f (st .short) sc (known-reached st z)) in
         let l = arrow-laws sc call (lettersOf text w₁) (positioned (w₁ .at)) in
         ends-with st (passed-reached st z d (k .took)) y g (l .size) (l .nodes (s .nodes)) (l .count)
         (l .records (s .nodes) ∙ ap (λ (q : D.Action). act q (positioned (w₁ .at)) ∷ []) (sym v))

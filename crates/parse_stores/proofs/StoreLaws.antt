@@ -25,7 +25,7 @@ use Rattle.language.specs.Machine.{Ask, ask, expression, keep, leftRest, make, 
 use Rattle.language.specs.Tree as T
 use Rattle.language.specs.Tree.{Expression, Left}
 use Rattle.language.specs.Words as L
-use Rattle.parse_names.specs.declared.Counts as M
+use Rattle.parse_tables.specs.declared.meaning.Counts as M
 use Rattle.parse_expressions.specs.Phrases.{afterName, same}
 use Rattle.text_words.specs.declared.Word.{Word}
 use Rattle.text_words.specs.Meaning.{positioned}

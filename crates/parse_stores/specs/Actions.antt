@@ -14,8 +14,8 @@ use Rattle.language.specs.Encode.{actionBytes, concat}
 use Rattle.language.specs.Machine.{refused, withinCeilings}
 use Rattle.language.specs.Naming.{Scope}
 use Rattle.language.specs.Tree.{Actions}
-use Rattle.parse_names.specs.declared.Counts.{Counts}
-use Rattle.parse_names.specs.Known.{Known}
+use Rattle.parse_tables.specs.declared.meaning.Counts.{Counts}
+use Rattle.parse_tables.specs.Known.{Known}
 use Rattle.judge_records.specs.Noted.{placeBytes}
 use Rattle.parse_tables.specs.declared.Table.{Table}
 use Rattle.parse_tables.specs.declared.Table.the-variants as T

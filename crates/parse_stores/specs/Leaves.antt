@@ -2,7 +2,7 @@
 use mathlib.Core.Bool.{true, false, cond}
 use mathlib.Core.List.{List, [], _∷_}
 use mathlib.Core.Path.{_≡_}
-use Prim.Native.Nat.{ℕ, _+_, _≤_}
+use Prim.Native.Nat.{ℕ, _+_, _<_, _≤_}
 use lib.ListN.{length}
 use Rattle.language.specs.declared.refusals.Refusal.the-variants.{CeilingPassed}
 use Rattle.parse_step.specs.declared.Answer.{Answer}
@@ -19,9 +19,9 @@ use Rattle.language.specs.Machine.{Ask, Parsed, ask, keep, refused, withinCeili
 use Rattle.language.specs.Tree as T
 use Rattle.language.specs.Words.{fault}
 use Rattle.language.specs.Naming.{Scope, meaning}
-use Rattle.parse_names.specs.declared.Counts.{Counts}
-use Rattle.parse_names.specs.declared.Meaning.{Meaning}
-use Rattle.parse_names.specs.Known.{Known, meant}
+use Rattle.parse_tables.specs.declared.meaning.Counts.{Counts}
+use Rattle.parse_tables.specs.declared.meaning.Meaning.{Meaning}
+use Rattle.parse_tables.specs.Known.{Known, meant}
 use Rattle.parse_operands.specs.References.{lettersOf}
 use Rattle.parse_expressions.specs.Phrases.{afterName}
 use Rattle.parse_tables.specs.Actions.{ActionAdded}
@@ -56,7 +56,7 @@ pub record Puts (a : D.Action) (at : Position) (next : Word) (s : State) (work w
 
 -- What a name means, by its word.
 abbrev pub NameMeans : List ℕ → List ℕ → Counts → Word → Meaning → Type 0
-NameMeans text work n name r = (sc : Scope) → Known text sc n work → meant r ≡ meaning sc (lettersOf text name)
+NameMeans text work n name r = length text < 65536 → (sc : Scope) → Known text sc n work → meant r ≡ meaning sc (lettersOf text name)
 
 -- ---- A name alone performs an operation and counts, by an ask that leaves it so.
 

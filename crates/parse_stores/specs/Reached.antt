@@ -19,7 +19,7 @@ use Rattle.language.specs.Naming.{Scope}
 use Rattle.language.specs.Steps.{Step}
 use Rattle.language.specs.Tree as T
 use Rattle.language.specs.Tree.{Actions, Expression, Left}
-use Rattle.parse_names.specs.declared.Counts.{Counts}
+use Rattle.parse_tables.specs.declared.meaning.Counts.{Counts}
 use Rattle.text_words.specs.declared.Fault.{Fault}
 use Rattle.text_words.specs.declared.Word.{Word}
 use Rattle.text_words.specs.Meaning.{faulted}

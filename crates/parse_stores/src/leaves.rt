@@ -2,8 +2,6 @@
 use image_records::actions::Action;
 use language::refusals::Refusal;
 use parse_array::Work;
-use parse_names::Counts;
-use parse_names::Meaning;
 use parse_step::Answer;
 use parse_step::Bearing;
 use parse_step::State;
@@ -12,13 +10,15 @@ use parse_step::adding;
 use parse_step::kinds;
 use parse_step::taking;
 use parse_tables::actions;
+use parse_tables::meaning::Counts;
+use parse_tables::meaning::Meaning;
 use text_words::Position;
 use text_words::Word;
 use text_words::places;
 ghost use mathlib.Core.Path.{_≡_};
 ghost use Rattle.language.specs.Description as D;
 ghost use Rattle.language.specs.Naming.{ofOperation, ofState};
-ghost use Rattle.parse_names.specs.Known as K;
+ghost use Rattle.parse_tables.specs.Known as K;
 ghost use Rattle.image_records.specs.Actions.{meant};
 ghost use Rattle.parse_stores.specs.Leaves.{KeepsName, NameMeans, Puts};
 ghost use Rattle.parse_stores.specs.Reached.{arrowAction};
@@ -68,13 +68,13 @@ pub fn performing(m: Meaning) -> Action
 }
 
 // The record of `=>` or `->` with a state.
-fn leading(call: bool, k: u8) -> Action
+fn leading(call: bool, k: u16) -> Action
     ensures { λ r. ⌜ meant r ≡ arrowAction call k ⌝ }
 {
     if call {
-        Action::Call(k as u16)
+        Action::Call(k)
     } else {
-        Action::Goto(k as u16)
+        Action::Goto(k)
     }
 }
 
@@ -95,5 +95,5 @@ pub fn meaning(text: &[u8], work: &Work, n: Counts, name: Word) -> Meaning
     ensures { λ r. ⌜ NameMeans (now (text .entry)) (now (work .entry)) n name r ⌝ }
 {
     let at = name.at;
-    parse_names::what(text, work, n, places::place(at), name.size)
+    parse_tables::meaning::what(text, work, n, places::place(at), name.size)
 }

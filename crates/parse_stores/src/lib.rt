@@ -1,12 +1,12 @@
 // Simple actions (the manual, 7.1 and 8.2), read as the machine of the grammar reads them.
 use image_records::actions::Action;
 use parse_array::Work;
-use parse_names::Counts;
 use parse_step::Answer;
 use parse_step::Bearing;
 use parse_step::State;
 use parse_step::kinds;
 use parse_step::taking;
+use parse_tables::meaning::Counts;
 use text_words::Word;
 ghost use mathlib.Core.Bool.{true};
 ghost use mathlib.Core.List.{[], _∷_};

@@ -28,7 +28,6 @@ few-rows T.States e = omega arith
 few-rows T.StatePlaces e = omega arith
 few-rows T.FacilityNames e = omega arith
 few-rows T.OperationNames e = omega arith
-few-rows T.StateNames e = omega arith
 few-rows T.Labels e = omega arith
 
 module _ (text : List ℕ) (t : Table) (n : ℕ) (w : List ℕ) (name : Name) where

@@ -1,5 +1,6 @@
 pub mod FacilityLaws
 pub mod FirstFound
+pub mod MeaningLaws
 pub mod NameLaws
 pub mod NamesGrown
 pub mod OtherRecords

@@ -32,7 +32,6 @@ ends-within T.States = omega arith
 ends-within T.StatePlaces = omega arith
 ends-within T.FacilityNames = omega arith
 ends-within T.OperationNames = omega arith
-ends-within T.StateNames = omega arith
 ends-within T.Labels = omega arith
 
 begins-behind : (t : Table) → otherFrom ≤ from t
@@ -46,7 +45,6 @@ begins-behind T.States = omega arith
 begins-behind T.StatePlaces = omega arith
 begins-behind T.FacilityNames = omega arith
 begins-behind T.OperationNames = omega arith
-begins-behind T.StateNames = omega arith
 begins-behind T.Labels = omega arith
 
 -- A table is read from all that stands behind the expressions.
@@ -57,7 +55,7 @@ rows-other w w′ e u m =
     let g : from u ≡ otherFrom + k = omega (arith, begins-behind u) in
     ap (take (size u * m)) (ap (λ (n : ℕ). drop n w′) g ∙ sym (drop-drop k otherFrom w′) ∙ ap (drop k) e ∙ drop-drop k otherFrom w ∙ sym (ap (λ (n : ℕ). drop n w) g))
 
-times-next : (k n : ℕ) → k * (n + 1) ≡ k * n + k
+pub times-next : (k n : ℕ) → k * (n + 1) ≡ k * n + k
 times-next k n = omega arith
 
 -- The first m records of a table end within it.
@@ -152,7 +150,7 @@ row-written t n {w} {bs = bs} l b h e f g = subst (Wrote t n bs w) (sym (g ∙ r
 
 -- ---- Several tables written.
 
-apart-first : (u t : Table) (ts : List Table) → apartFrom u (t ∷ ts) ≡ true → apartFrom u (t ∷ []) ≡ true
+pub apart-first : (u t : Table) (ts : List Table) → apartFrom u (t ∷ ts) ≡ true → apartFrom u (t ∷ []) ≡ true
 apart-first u t ts e = go (apart u t) e
   where
     go : (z : Bool) → cond z (apartFrom u ts) false ≡ true → cond z true false ≡ true

@@ -8,7 +8,7 @@ use lib.ListN.{drop, length, take}
 use Rattle.image_records.specs.Placed.{placed}
 use Rattle.judge_records.specs.Noted.{actionBeside, facilityBeside, operationBeside, stateBeside}
 use Rattle.language.specs.Encode.{actionSize, facilitySize, operationSize, stateSize}
-use Rattle.parse_array.specs.Layout.{actionPlacesFrom, facilitiesFrom, facilityNamesFrom, facilityPlacesFrom, facilityRows, labelsFrom, mostActions, nameSize, operationNamesFrom, operationPlacesFrom, operationRows, operationsFrom, otherFrom, stateNamesFrom, statePlacesFrom, stateRows, statesFrom, workSize}
+use Rattle.parse_array.specs.Layout.{actionPlacesFrom, facilitiesFrom, facilityNamesFrom, facilityPlacesFrom, facilityRows, labelsFrom, mostActions, nameSize, operationNamesFrom, operationPlacesFrom, operationRows, operationsFrom, otherFrom, statePlacesFrom, stateRows, statesFrom, workSize}
 use Rattle.parse_tables.specs.declared.Table.{Table}
 use Rattle.parse_tables.specs.declared.Table.the-variants as T
 
@@ -24,7 +24,6 @@ size T.States = stateSize
 size T.StatePlaces = stateBeside
 size T.FacilityNames = nameSize
 size T.OperationNames = nameSize
-size T.StateNames = nameSize
 size T.Labels = nameSize
 
 -- How many there is room for.
@@ -39,7 +38,6 @@ most T.States = stateRows
 most T.StatePlaces = stateRows
 most T.FacilityNames = facilityRows
 most T.OperationNames = operationRows
-most T.StateNames = stateRows
 most T.Labels = stateRows
 
 -- Where a table begins.
@@ -54,7 +52,6 @@ from T.States = statesFrom
 from T.StatePlaces = statePlacesFrom
 from T.FacilityNames = facilityNamesFrom
 from T.OperationNames = operationNamesFrom
-from T.StateNames = stateNamesFrom
 from T.Labels = labelsFrom
 
 -- The bytes of the first n records.

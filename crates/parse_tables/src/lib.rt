@@ -3,6 +3,7 @@ pub mod actions;
 pub mod extents;
 pub mod facilities;
 pub mod finding;
+pub mod meaning;
 pub mod names;
 pub mod operations;
 pub mod places;
@@ -22,6 +23,5 @@ pub enum Table {
     StatePlaces,
     FacilityNames,
     OperationNames,
-    StateNames,
     Labels,
 }

@@ -24,7 +24,6 @@ pub fn begin(table: Table) -> usize
         Table::StatePlaces => layout::STATE_PLACES,
         Table::FacilityNames => layout::FACILITY_NAMES,
         Table::OperationNames => layout::OPERATION_NAMES,
-        Table::StateNames => layout::STATE_NAMES,
         Table::Labels => layout::LABELS,
     }
 }
@@ -44,7 +43,6 @@ pub fn bytes_of(table: Table) -> usize
         Table::StatePlaces => layout::STATE_BESIDE,
         Table::FacilityNames => layout::NAME_SIZE,
         Table::OperationNames => layout::NAME_SIZE,
-        Table::StateNames => layout::NAME_SIZE,
         Table::Labels => layout::NAME_SIZE,
     }
 }
@@ -64,7 +62,6 @@ fn room(table: Table) -> u16
         Table::StatePlaces => layout::MOST_STATES,
         Table::FacilityNames => layout::MOST_FACILITIES,
         Table::OperationNames => layout::MOST_OPERATIONS,
-        Table::StateNames => layout::MOST_STATES,
         Table::Labels => layout::MOST_STATES,
     }
 }

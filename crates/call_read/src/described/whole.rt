@@ -1,7 +1,7 @@
 // A whole text into the working array: all before the states, the length that their values take, and the states.
 use crate::described::Outcome;
 use crate::described::lengths;
-use crate::described::twice;
+use crate::described::states;
 use language::refusals::Refusal;
 use parse_array::Work;
 use parse_held::Tally;
@@ -40,7 +40,7 @@ pub fn described(text: &[u8], work: &mut Work) -> Outcome
     let w = opened.next;
     let s = opened.state;
     let l = lengths::sequencing_length(work, s.known);
-    let read = twice::states_of(text, work, w, s, l);
+    let read = states::states_of(text, work, w, s, l);
     let verdict = read.verdict;
     let Verdict::Done = verdict else {
         return stopped(verdict);

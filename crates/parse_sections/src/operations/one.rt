@@ -2,11 +2,11 @@
 use crate::operations::heads;
 use image_sections::runs::Run;
 use parse_array::Work;
-use parse_names::Counts;
 use parse_step::Answer;
 use parse_step::Bearing;
 use parse_step::State;
 use parse_step::taking;
+use parse_tables::meaning::Counts;
 use parse_tables::operations;
 use text_words::Word;
 ghost use mathlib.Core.Path.{_≡_};
@@ -49,7 +49,7 @@ pub fn operation(text: &[u8], w: Word, work: &mut Work, s: State) -> Answer
     let n = Counts {
         facilities: s.known,
         operations: s.operations,
-        states: 0,
+        waiting: false,
     };
     let read = body(head.state, text, head.next, work, n);
     if parse_step::unread(read) {

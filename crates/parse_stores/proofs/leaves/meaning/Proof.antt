@@ -14,8 +14,8 @@ what-requires c κs = search needs
 
 returns : tie.Need-returns
 unfolding letters
-returns c sc k =
-    c .what .ensures sc k
+returns c h sc k =
+    c .what .ensures h sc k
     ∙ ap (λ (p : Position). meaning sc (letters (c .before .before .before .before .args .text .now) (p .place) (c .before .before .before .before .args .name .size))) (c .before .place .ensures)
 
 pub meaning-spec : {M : Type 1} → statement M
