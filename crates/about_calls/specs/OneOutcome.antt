@@ -18,28 +18,28 @@ use Rattle.language.specs.Tree as T
 use Rattle.language.specs.Tree.{Name}
 use Rattle.image_sections.specs.Declarations.{facilityMeant, kindMeant, shortMeant}
 use Rattle.image_sections.specs.Names.{partMeant}
-use Rattle.image_sections.specs.declared.facilities.Facility.{Facility}
-use Rattle.image_sections.specs.declared.facilities.Kind.{Kind}
-use Rattle.image_sections.specs.declared.facilities.Kind.the-variants as K
+use Rattle.image_sections.specs.declared.facilities.FacilityRecord.{FacilityRecord}
+use Rattle.image_sections.specs.declared.facilities.FacilityKind.{FacilityKind}
+use Rattle.image_sections.specs.declared.facilities.FacilityKind.the-variants as K
 use Rattle.image_sections.specs.declared.facilities.ShortBounds.{ShortBounds}
 use Rattle.image_sections.specs.declared.names.Part.{Part}
 use Rattle.call_answers.specs.Lookups.{Looks, answered, nameMeant}
 use Rattle.call_answers.specs.declared.looked.Looked.{Looked}
 use Rattle.call_answers.specs.declared.looked.Looked.the-variants as F
-use Rattle.call_answers.specs.declared.named.Answer as Named
-use Rattle.call_answers.specs.declared.named.Answer.the-variants as N
+use Rattle.call_answers.specs.declared.named.NameReply as Named
+use Rattle.call_answers.specs.declared.named.NameReply.the-variants as N
 use Rattle.call_answers.specs.Opening as Open
-use Rattle.call_answers.specs.declared.opened.Answer as OpenAnswer
-use Rattle.call_answers.specs.declared.opened.Answer.the-variants as O
+use Rattle.call_answers.specs.declared.opened.OpenReply as OpenAnswer
+use Rattle.call_answers.specs.declared.opened.OpenReply.the-variants as O
 use Rattle.call_answers.specs.Cycle as Cycle
-use Rattle.call_answers.specs.declared.cycled.Answer as CycleAnswer
-use Rattle.call_answers.specs.declared.cycled.Answer.the-variants as C
+use Rattle.call_answers.specs.declared.cycled.CycleReply as CycleAnswer
+use Rattle.call_answers.specs.declared.cycled.CycleReply.the-variants as C
 use Rattle.call_answers.specs.Reading as Called
-use Rattle.call_answers.specs.declared.read.Answer as Reading
-use Rattle.call_answers.specs.declared.read.Answer.the-variants as A
+use Rattle.call_answers.specs.declared.read.ReadReply as Reading
+use Rattle.call_answers.specs.declared.read.ReadReply.the-variants as A
 use Rattle.call_answers.specs.Run as Run
-use Rattle.call_answers.specs.declared.ran.Answer as RunAnswer
-use Rattle.call_answers.specs.declared.ran.Answer.the-variants as W
+use Rattle.call_answers.specs.declared.ran.RunReply as RunAnswer
+use Rattle.call_answers.specs.declared.ran.RunReply.the-variants as W
 use Rattle.call_answers.specs.declared.ran.Tally.{Tally}
 use Rattle.language.specs.declared.stops.Halt.{Halt}
 use Rattle.language.specs.declared.stops.Halt.the-variants as Halts
@@ -85,7 +85,7 @@ state-part-one image n a b p q = name-one a b (p ∙ sym q)
 
 -- ---- A declaration, its place and the length of its name.
 
-abbrev kindBack : T.Kind → Kind
+abbrev kindBack : T.Kind → FacilityKind
 kindBack T.register = K.Register
 kindBack T.sequencing = K.Sequencing
 kindBack T.memory = K.Memory
@@ -93,7 +93,7 @@ kindBack T.plain = K.Plain
 kindBack T.input = K.Input
 kindBack T.computed = K.Computed
 
-kind-back : (k : Kind) → kindBack (kindMeant k) ≡ k
+kind-back : (k : FacilityKind) → kindBack (kindMeant k) ≡ k
 kind-back K.Register = refl
 kind-back K.Sequencing = refl
 kind-back K.Memory = refl
@@ -101,7 +101,7 @@ kind-back K.Plain = refl
 kind-back K.Input = refl
 kind-back K.Computed = refl
 
-kind-one : (k l : Kind) → kindMeant k ≡ kindMeant l → k ≡ l
+kind-one : (k l : FacilityKind) → kindMeant k ≡ kindMeant l → k ≡ l
 kind-one k l e = sym (kind-back k) ∙ ap kindBack e ∙ kind-back l
 
 bounds-one : (a b : ShortBounds) → shortMeant a ≡ shortMeant b → a ≡ b
@@ -118,10 +118,10 @@ place-one false true x y h e p =
     let z : _≡_ {A = ℕ} 0 1 = cc in
     absurd (omega arith)
 
-abbrev placed : Facility → Option ℕ
+abbrev placed : FacilityRecord → Option ℕ
 placed f = cond (isComputed (kindMeant (f .kind))) none (some (f .place))
 
-declared-one : (name : Name) (f g : Facility) → f .name ≡ g .name → facilityMeant name f ≡ facilityMeant name g → placed f ≡ placed g → f ≡ g
+declared-one : (name : Name) (f g : FacilityRecord) → f .name ≡ g .name → facilityMeant name f ≡ facilityMeant name g → placed f ≡ placed g → f ≡ g
 declared-one name f g n e p =
     let k : kindMeant (f .kind) ≡ kindMeant (g .kind) = ap (λ (x : D.Facility). x .kind) e in
     let a : f .kind ≡ g .kind = kind-one (f .kind) (g .kind) k in

@@ -10,14 +10,14 @@ use Rattle.language.specs.Description.{facilityAt, isComputed}
 use Rattle.language.specs.Lookups as L
 use Rattle.language.specs.Tree.{Name}
 use Rattle.image_sections.specs.Declarations.{facilityMeant, kindMeant}
-use Rattle.image_sections.specs.declared.facilities.Facility.{Facility}
+use Rattle.image_sections.specs.declared.facilities.FacilityRecord.{FacilityRecord}
 use Rattle.image_sections.specs.Names.{partMeant}
 use Rattle.call_answers.specs.declared.looked.Looked.{Looked}
 use Rattle.call_answers.specs.declared.looked.Looked.the-variants as A
-use Rattle.call_answers.specs.declared.named.Answer.{Answer}
-use Rattle.call_answers.specs.declared.named.Answer.the-variants as N
+use Rattle.call_answers.specs.declared.named.NameReply.{NameReply}
+use Rattle.call_answers.specs.declared.named.NameReply.the-variants as N
 
-abbrev pub nameMeant : Answer → L.NameAnswer
+abbrev pub nameMeant : NameReply → L.NameAnswer
 nameMeant (N.Named p) = L.named (partMeant p)
 nameMeant (N.Refused k) = L.refused k
 
@@ -29,4 +29,4 @@ answered name (A.Refused k) = L.unknown k
 -- The whole answer: the declaration with its place, and how long the name is.
 pub record Looks (image : List ℕ) (n : ℕ) (r : Looked) : Type 0 where
   pub facility : answered (facilityAt (decode image) n .name) r ≡ L.facility image n
-  pub name : (f : Facility) → r ≡ A.Declared f → f .name ≡ length (facilityAt (decode image) n .name)
+  pub name : (f : FacilityRecord) → r ≡ A.Declared f → f .name ≡ length (facilityAt (decode image) n .name)

@@ -2,14 +2,14 @@
 use mathlib.Core.List.{List}
 use Prim.Native.Nat.{ℕ, _^_, _<_}
 use Rattle.language.specs.Reading.{ReadAnswer, ReadCall, accepted, refusedFor}
-use Rattle.call_answers.specs.declared.read.Answer.{Answer}
-use Rattle.call_answers.specs.declared.read.Answer.the-variants as A
+use Rattle.call_answers.specs.declared.read.ReadReply.{ReadReply}
+use Rattle.call_answers.specs.declared.read.ReadReply.the-variants as A
 
-abbrev pub answered : Answer → ReadAnswer
+abbrev pub answered : ReadReply → ReadAnswer
 answered (A.Accepted n) = accepted n
 answered (A.Refused n p) = refusedFor n p
 
-abbrev pub called : Answer → List ℕ → ReadCall
+abbrev pub called : ReadReply → List ℕ → ReadCall
 called a image = record { answer = answered a; image = image }
 
 -- The length of an image and the place of a refusal have 32 bits.

@@ -3,15 +3,15 @@ use mathlib.Core.List.{List}
 use Prim.Native.Nat.{ℕ}
 use Rattle.language.specs.Calls as L
 use Rattle.language.specs.Stops.{halted}
-use Rattle.call_answers.specs.declared.ran.Answer.{Answer}
-use Rattle.call_answers.specs.declared.ran.Answer.the-variants as A
+use Rattle.call_answers.specs.declared.ran.RunReply.{RunReply}
+use Rattle.call_answers.specs.declared.ran.RunReply.the-variants as A
 use Rattle.call_answers.specs.declared.ran.Tally.{Tally}
 
-abbrev pub answered : Answer → L.RunAnswer
+abbrev pub answered : RunReply → L.RunAnswer
 answered (A.Ran t) = L.ran (t .completed) (t .conflicts) (halted (t .stop))
 answered (A.Refused n) = L.runRefused n
 
-abbrev pub call : Answer → List ℕ → List ℕ → List ℕ → List ℕ → L.RunCall
+abbrev pub call : RunReply → List ℕ → List ℕ → List ℕ → List ℕ → L.RunCall
 call a store kept scratch trace = record { answer = answered a; store = store; record′ = kept; scratch = scratch; trace = trace }
 
 -- One that was not refused.

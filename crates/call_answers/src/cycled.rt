@@ -2,7 +2,7 @@
 use language::refusals::Refusal;
 use language::stops::Stop;
 
-pub enum Answer {
+pub enum CycleReply {
     // the conflict count
     Cycled(u32),
     Stopped(Stop),

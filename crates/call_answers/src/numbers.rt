@@ -12,7 +12,7 @@ use crate::ran;
 use crate::ran::Tally;
 use crate::read;
 use image_sections::facilities;
-use image_sections::facilities::Facility;
+use image_sections::facilities::FacilityRecord;
 use image_sections::kinds;
 use language::refusals::Refusal;
 use language::refusals::refusal_number;
@@ -29,7 +29,7 @@ ghost use Rattle.call_answers.specs.Opening as Opened;
 ghost use Rattle.call_answers.specs.Reading as Reads;
 ghost use Rattle.call_answers.specs.Run as Ran;
 ghost use Rattle.call_answers.specs.declared.looked.Looked.the-variants as Looked;
-ghost use Rattle.call_answers.specs.declared.ran.Answer.the-variants as Answers;
+ghost use Rattle.call_answers.specs.declared.ran.RunReply.the-variants as Answers;
 
 // The length of an image, or a refusal and its place; both have 32 bits.
 pub fn read_numbers(a: read::Answer) -> ReadAnswer
@@ -141,7 +141,7 @@ pub fn name_numbers(a: named::Answer) -> NameAnswer
 }
 
 // A declaration, whether it is stored, and where.
-fn shown(f: Facility, stored: u32, place: u32) -> FacilityAnswer
+fn shown(f: FacilityRecord, stored: u32, place: u32) -> FacilityAnswer
     ensures { λ r. ⌜ ((name : Name) → r ≡ shown (facilityMeant name f) stored place) ⌝ }
 {
     let kind = f.kind;
@@ -161,7 +161,7 @@ fn shown(f: Facility, stored: u32, place: u32) -> FacilityAnswer
 }
 
 // A computed terminal has no place.
-fn declared(f: Facility) -> FacilityAnswer
+fn declared(f: FacilityRecord) -> FacilityAnswer
     ensures { λ r. ⌜ ((name : Name) → r ≡ facilityNumbers (answered name (Looked.Declared f))) ⌝ }
 {
     let kind = f.kind;

@@ -1,7 +1,7 @@
 // What opening answers.
 use language::refusals::Refusal;
 
-pub enum Answer {
+pub enum OpenReply {
     Opened,
     Refused(Refusal),
 }

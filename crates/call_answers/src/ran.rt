@@ -11,7 +11,7 @@ pub struct Tally {
     pub stop: Halt,
 }
 
-pub enum Answer {
+pub enum RunReply {
     Ran(Tally),
     Refused(Refusal),
 }

@@ -1,7 +1,7 @@
 // What reading answers.
 use language::refusals::Refusal;
 
-pub enum Answer {
+pub enum ReadReply {
     // The image's length.
     Accepted(usize),
     // With its place.

@@ -1,7 +1,7 @@
 // Lookups in any image: names and where they stand in it, and declarations with their places in the store.
 use crate::passes;
 use call_answers::looked::Looked;
-use call_answers::named::Answer;
+use call_answers::named::NameReply;
 use image_lookups::declared;
 use image_lookups::named;
 ghost use mathlib.Core.Path.{_≡_};
@@ -9,14 +9,14 @@ ghost use Rattle.language.specs.Lookups as L;
 ghost use Rattle.call_answers.specs.Lookups.{Looks, nameMeant};
 
 // Where the name of facility n stands.
-pub fn facility_part(image: &[u8], n: u32) -> Answer
+pub fn facility_part(image: &[u8], n: u32) -> NameReply
     ensures { λ r. ⌜ nameMeant r ≡ L.facilityName (now (image .entry)) n ⌝ }
 {
     named::facility_part(image, passes(image), n)
 }
 
 // Where the label of state n stands; an empty one is no refusal.
-pub fn state_part(image: &[u8], n: u32) -> Answer
+pub fn state_part(image: &[u8], n: u32) -> NameReply
     ensures { λ r. ⌜ nameMeant r ≡ L.stateName (now (image .entry)) n ⌝ }
 {
     named::state_part(image, passes(image), n)

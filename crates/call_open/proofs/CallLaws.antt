@@ -18,7 +18,7 @@ use Rattle.language.specs.Step.{openRecord}
 use Rattle.language.specs.Store.{toBytes}
 use Rattle.about_running.specs.LegalForm.{left-of, right-of}
 use Rattle.call_answers.specs.Opening.{called}
-use Rattle.call_answers.specs.declared.opened.Answer.the-variants as A
+use Rattle.call_answers.specs.declared.opened.OpenReply.the-variants as A
 use Rattle.language.specs.declared.refusals.Refusal.the-variants.{BufferTooShort, ImageFails}
 
 -- s and t are the two buffers once they are zero.

@@ -1,6 +1,6 @@
 // Opening: the tests in their order, and every byte of both buffers, where it is known whether the image passes.
 use crate::first;
-use call_answers::opened::Answer;
+use call_answers::opened::OpenReply;
 use image_sections::sections;
 use language::ceilings;
 use language::refusals::Refusal;
@@ -32,19 +32,19 @@ fn roomy(image: &[u8], store: usize, kept: usize) -> bool
 }
 
 // Store and record are zero, but on success for the first state's part of them.
-pub fn open(image: &[u8], passed: bool, store: &mut [u8], kept: &mut [u8]) -> Answer
+pub fn open(image: &[u8], passed: bool, store: &mut [u8], kept: &mut [u8]) -> OpenReply
     requires { ⌜ passed ≡ L.passes (now image) ⌝ }
     ensures { λ r. ⌜ called r (now (store .exit)) (now (kept .exit)) ≡ open′ (now (image .entry)) (length (now (store .entry))) (length (now (kept .entry))) ⌝ }
 {
     slices::zero(store);
     slices::zero(kept);
     if !passed {
-        return Answer::Refused(Refusal::ImageFails);
+        return OpenReply::Refused(Refusal::ImageFails);
     }
     if !roomy(image, store.len(), kept.len()) {
-        return Answer::Refused(Refusal::BufferTooShort);
+        return OpenReply::Refused(Refusal::BufferTooShort);
     }
     first::first_words(image, store);
     first::first_record(kept);
-    Answer::Opened
+    OpenReply::Opened
 }

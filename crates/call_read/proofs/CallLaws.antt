@@ -4,8 +4,8 @@ use mathlib.Core.Option.{Option}
 use mathlib.Core.Path.{_≡_, refl, sym, ap, _∙_}
 use Prim.Native.Nat.{ℕ, _≤_}
 use lib.ListN.{length}
-use Rattle.call_read.specs.declared.described.Outcome.{Outcome}
-use Rattle.call_read.specs.declared.described.Outcome.the-variants as Oc
+use Rattle.call_read.specs.declared.described.TextRead.{TextRead}
+use Rattle.call_read.specs.declared.described.TextRead.the-variants as Oc
 use Rattle.call_read.specs.Outcomes.{Described, Parses}
 use Rattle.about_grammar.specs.Exact.{exact-text}
 use Rattle.language.specs.Building.{Built}
@@ -29,16 +29,16 @@ use Rattle.text_words.specs.declared.Judged.the-variants as J
 use Rattle.text_words.specs.Meaning.{firstFault, judged}
 use Rattle.parse_held.proofs.StandingLaws.{image-stands}
 use Rattle.parse_held.proofs.TextsStand.{names-room, text-judged}
-use Rattle.parse_held.specs.declared.Tally.{Tally}
+use Rattle.parse_held.specs.declared.Holding.{Holding}
 use Rattle.parse_held.specs.Sections.{Few, besideHeld, mostLetters, namesHeld, sectionsHeld}
 
 -- ---- The rest of the rules.
 
 -- What judging says of the array.
-abbrev Judges : List ℕ → List ℕ → Tally → Judged → Type 0
+abbrev Judges : List ℕ → List ℕ → Holding → Judged → Type 0
 Judges text work c j = Few c → length (namesHeld text work c) ≤ mostLetters → judged j ≡ least (faults (notedDescription (sectionsHeld text work c) (besideHeld work c)) (placesIn (besideHeld work c)))
 
-module _ {text work : List ℕ} {c : Tally} (p : Parses text work c) (short : length text ≤ 32768) where
+module _ {text work : List ℕ} {c : Holding} (p : Parses text work c) (short : length text ≤ 32768) where
   abbrev t : Text
   t = p .built .text
 
@@ -67,11 +67,11 @@ module _ {text work : List ℕ} {c : Tally} (p : Parses text work c) (short : le
 abbrev parsing : List ℕ → Parsed Built
 parsing text = parse (scan text .words) (length text)
 
-pub grammar-refused : (n : ℕ) {text work : List ℕ} {r : Outcome} {f : Fault} {y : ReadCall} → Described text work r → r ≡ Oc.Refused f → y ≡ readRefused n (f .refusal) (f .at .place)
+pub grammar-refused : (n : ℕ) {text work : List ℕ} {r : TextRead} {f : Fault} {y : ReadCall} → Described text work r → r ≡ Oc.Refused f → y ≡ readRefused n (f .refusal) (f .at .place)
     → y ≡ readCall n (afterGrammar (parsing text))
 grammar-refused n {f = f} d e a = a ∙ ap (λ (x : Parsed Built). readCall n (afterGrammar x)) (sym (d .refused f e))
 
-pub grammar-done : (n : ℕ) {text work : List ℕ} {c : Tally} {y : ReadCall} (p : Parses text work c) → y ≡ readCall n (restOf (describe (p .built .text))) → y ≡ readCall n (afterGrammar (parsing text))
+pub grammar-done : (n : ℕ) {text work : List ℕ} {c : Holding} {y : ReadCall} (p : Parses text work c) → y ≡ readCall n (restOf (describe (p .built .text))) → y ≡ readCall n (afterGrammar (parsing text))
 grammar-done n p a = a ∙ ap (λ (x : Parsed Built). readCall n (afterGrammar x)) (sym (p .course))
 
 -- ---- The words, and the length.

@@ -9,7 +9,7 @@ use Rattle.parse_step.proofs.Ceilings.{few-counted}
 use Rattle.parse_step.specs.Course.{countsOf}
 use Rattle.parse_step.specs.declared.Answer.{Answer}
 use Rattle.parse_step.specs.declared.State.{State}
-use Rattle.parse_step.specs.declared.Verdict.the-variants as Vd
+use Rattle.parse_step.specs.declared.ReadVerdict.the-variants as Vd
 use Rattle.parse_facilities.proofs.NameWords.{few-facilities}
 use Rattle.about_grammar.specs.Exact.{exact-text}
 use Rattle.language.specs.Building.{nothingBuilt, withText}
@@ -34,8 +34,8 @@ use Rattle.parse_held.specs.NearTexts.{TextNear}
 use Rattle.call_read.proofs.LengthLaws.{Lends}
 use Rattle.call_read.proofs.Sequenced.{lengthNo, register-lent}
 use Rattle.call_read.proofs.OutcomeLaws.{done-so, refused-so}
-use Rattle.call_read.specs.declared.described.Outcome.{Outcome}
-use Rattle.call_read.specs.declared.described.Outcome.the-variants as Oc
+use Rattle.call_read.specs.declared.described.TextRead.{TextRead}
+use Rattle.call_read.specs.declared.described.TextRead.the-variants as Oc
 use Rattle.call_read.specs.Lengths.{lending}
 use Rattle.call_read.specs.Outcomes.{Described, Stops}
 use Rattle.call_read.specs.Ready.{Behind, Closes, Whole, lengthIn, tallied}
@@ -81,12 +81,12 @@ module _ {text w₁ : List ℕ} {r : Answer} (short : length text ≤ 32768) (x 
     text-described = done-so (record { built = withText nothingBuilt whole-text; course = text-parsed; whole = text-whole })
 
   -- A refusal of the states is one of the text.
-  pub states-refused : {l : ℕ} {r₂ : Answer} {w₂ : List ℕ} {o : Outcome} → Closes text ds (x .operations) l (r .next) (r .state) w₂ r₂
+  pub states-refused : {l : ℕ} {r₂ : Answer} {w₂ : List ℕ} {o : TextRead} → Closes text ds (x .operations) l (r .next) (r .state) w₂ r₂
       → (r₂ .verdict ≡ Vd.Done → ⊥) → Stops (r₂ .verdict) o → Described text w₂ o
   states-refused {r₂ = r₂} z n s = refused-so (r₂ .verdict) n (z .full) (λ f e. x .course ∙ z .refused f e _) s
 
 -- A refusal of what is before the states.
-pub opening-refused : {text w₁ : List ℕ} {r : Answer} {o : Outcome} → P.Preamble text w₁ r → (r .verdict ≡ Vd.Done → ⊥) → Stops (r .verdict) o → Described text w₁ o
+pub opening-refused : {text w₁ : List ℕ} {r : Answer} {o : TextRead} → P.Preamble text w₁ r → (r .verdict ≡ Vd.Done → ⊥) → Stops (r .verdict) o → Described text w₁ o
 opening-refused {r = r} p n s = refused-so (r .verdict) n (p .full) (p .refused) s
 
 pub behind : {text w₁ : List ℕ} {r : Answer} → P.Opened text w₁ r → Behind text (r .next) (r .state) w₁

@@ -44,7 +44,7 @@ use Rattle.text_words.specs.Meaning.{firstFault, judged}
 use Rattle.parse_held.proofs.BodyLaws.{row-most}
 use Rattle.parse_held.proofs.StandingLaws.{sections-stand}
 use Rattle.parse_held.proofs.TextsStand.{names-room, text-judged}
-use Rattle.parse_held.specs.declared.Tally.{Tally}
+use Rattle.parse_held.specs.declared.Holding.{Holding}
 use Rattle.parse_held.specs.Sections.{besideHeld, sectionsHeld}
 use Rattle.about_images.specs.Whole.{encode-long, sized}
 use Rattle.call_answers.specs.Reading.{Short}
@@ -105,7 +105,7 @@ noted-near q =
 
 -- ---- The rest of the rules, and the image.
 
-module _ {text work : List ℕ} {c : Tally} (p : Parses text work c) (short : length text ≤ 32768) where
+module _ {text work : List ℕ} {c : Holding} (p : Parses text work c) (short : length text ≤ 32768) where
   abbrev t : Text
   t = p .built .text
 
@@ -177,7 +177,7 @@ refused-short text n f h e =
     subst (λ (x : Parsed Built). Short (readCall n (afterGrammar x) .answer)) (sym e)
     (grammar-here Near (length text) (omega arith) (scan text .words) f (words-before text (2 ^ 32) (omega arith)) e)
 
-pub parsed-short : (n : ℕ) {text work : List ℕ} {c : Tally} (p : Parses text work c) → length text ≤ 32768 → GrammarShort text n
+pub parsed-short : (n : ℕ) {text work : List ℕ} {c : Holding} (p : Parses text work c) → length text ≤ 32768 → GrammarShort text n
 parsed-short n p h = subst (λ (x : Parsed Built). Short (readCall n (afterGrammar x) .answer)) (sym (p .course)) (rest-short p h n)
 
 -- ---- The words, and the length.

@@ -10,7 +10,7 @@ use Rattle.about_rules.specs.Runs.{stateRecords, states-size}
 use Rattle.parse_step.proofs.Ceilings.{few-counted}
 use Rattle.parse_step.specs.declared.Answer.{Answer}
 use Rattle.parse_step.specs.declared.State.{State}
-use Rattle.parse_step.specs.declared.Verdict.the-variants as Vd
+use Rattle.parse_step.specs.declared.ReadVerdict.the-variants as Vd
 use Rattle.parse_step.specs.Course.{countsOf}
 use Rattle.parse_facilities.proofs.NameWords.{few-facilities}
 use Rattle.language.specs.Describe.{NotedAction}
@@ -26,7 +26,7 @@ use Rattle.parse_held.proofs.TextNodesFit.{state-acts}
 use Rattle.parse_held.specs.Gotos.{Resolved, ResolvesAll, Waiting, labelsIn, resolved}
 use Rattle.parse_held.specs.NearTexts.{StatesNear}
 use Rattle.parse_held.specs.Sections.{Few}
-use Rattle.parse_tables.specs.declared.meaning.Counts.{Counts}
+use Rattle.parse_tables.specs.declared.meaning.KnownNames.{KnownNames}
 use Rattle.parse_sections.specs.Sections.{Ready}
 use Rattle.parse_stores.proofs.Keeping.{front-kept}
 use Rattle.parse_tables.proofs.NamesGrown.{names-few}
@@ -48,7 +48,7 @@ use Rattle.call_read.proofs.WholeLaws.{named, none-labelled, whole-at}
 use Rattle.call_read.specs.Ready.{Behind, Closes, Finished, tallied}
 
 -- The names known while states are read.
-abbrev pub counts : State → Counts
+abbrev pub counts : State → KnownNames
 counts s = record { facilities = s .known; operations = s .operations; waiting = true }
 
 abbrev waits : List Declaration → List Operation → Scope

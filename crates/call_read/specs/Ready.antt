@@ -5,7 +5,7 @@ use mathlib.Core.Path.{_≡_}
 use Prim.Native.Nat.{ℕ}
 use Rattle.parse_step.specs.declared.Answer.{Answer}
 use Rattle.parse_step.specs.declared.State.{State}
-use Rattle.parse_step.specs.declared.Verdict.the-variants as Vd
+use Rattle.parse_step.specs.declared.ReadVerdict.the-variants as Vd
 use Rattle.parse_step.specs.Course.{runs}
 use Rattle.language.specs.Building.{Built, withText}
 use Rattle.language.specs.DescribeText.{describe, facilitiesOf, lengthAt}
@@ -20,7 +20,7 @@ use Rattle.parse_states.specs.States.{moreOf, startStack}
 use Rattle.text_words.specs.declared.Fault.{Fault}
 use Rattle.text_words.specs.declared.Word.{Word}
 use Rattle.text_words.specs.Meaning.{faulted}
-use Rattle.parse_held.specs.declared.Tally.{Tally}
+use Rattle.parse_held.specs.declared.Holding.{Holding}
 use Rattle.parse_held.specs.NearTexts.{TextNear}
 use Rattle.parse_held.specs.Sections.{Few}
 use Rattle.parse_held.specs.Standing.{Stands, StandsBeside}
@@ -36,11 +36,11 @@ abbrev pub lengthIn : List Declaration → Option ℕ
 lengthIn ds = lengthAt (facilitiesOf 0 ds) (sequencingFrom 0 (facilitiesOf 0 ds))
 
 -- How many records there are, where the states began in s and ended in s′.
-abbrev pub tallied : State → State → Tally
+abbrev pub tallied : State → State → Holding
 tallied s s′ = record { facilities = s .known; operations = s .operations; nodes = s′ .nodes; actions = s′ .actions; states = s′ .states }
 
 -- The array holds the description of a text, and the places of its words.
-pub record Whole (text work : List ℕ) (c : Tally) (t : Text) : Type 0 where
+pub record Whole (text work : List ℕ) (c : Holding) (t : Text) : Type 0 where
   pub few : Few c
   pub stands : Stands text work c (describe t .description)
   pub beside : StandsBeside work c (describe t .description) (describe t .places)

@@ -1,5 +1,5 @@
 // A whole text, read into the working array: its facilities, operations and states with the places of their words.
-use parse_held::Tally;
+use parse_held::Holding;
 use text_words::Fault;
 
 pub mod lengths;
@@ -7,7 +7,7 @@ pub mod states;
 pub mod whole;
 
 // The first fault against the grammar, or how many records the array holds.
-pub enum Outcome {
+pub enum TextRead {
     Refused(Fault),
-    Done(Tally),
+    Done(Holding),
 }

@@ -6,7 +6,7 @@ use parse_array::Work;
 use parse_array::layout::MOST_FACILITIES;
 use parse_array::layout::MOST_OPERATIONS;
 use parse_array::layout::MOST_STATES;
-use parse_held::Tally;
+use parse_held::Holding;
 use parse_held::body;
 use parse_held::counts;
 use parse_held::names;
@@ -26,7 +26,7 @@ const MOST_LETTERS: usize = ceilings::NAME
     * (MOST_FACILITIES + MOST_OPERATIONS + MOST_STATES) as usize;
 
 // The least of all faults.
-pub fn judge(text: &[u8], work: &Work, c: Tally) -> Judged
+pub fn judge(text: &[u8], work: &Work, c: Holding) -> Judged
     ensures { λ r. ⌜ (Few c → length (namesHeld (now (text .entry)) (now (work .entry)) c) ≤ mostLetters → judged r ≡ least (L.faults (notedDescription (sectionsHeld (now (text .entry)) (now (work .entry)) c) (besideHeld (now (work .entry)) c)) (placesIn (besideHeld (now (work .entry)) c)))) ⌝ }
 {
     let s: &[u8] = work;

@@ -1,11 +1,11 @@
 // Reading a text (01, "Refusal numbers"): its length, its words, its grammar and the rest of the rules, and at last its image.
-use crate::described::Outcome;
+use crate::described::TextRead;
 use crate::described::whole;
 use crate::judging::judge;
-use call_answers::read::Answer;
+use call_answers::read::ReadReply;
 use parse_array::Work;
 use parse_array::layout::WORK_SIZE;
-use parse_held::Tally;
+use parse_held::Holding;
 use parse_image::whole::write_image;
 use store_words::slices;
 use text_words::Fault;
@@ -24,17 +24,17 @@ mod described;
 mod judging;
 
 // A refusal leaves nothing in the buffer.
-fn refuse(image: &mut [u8], f: Fault) -> Answer
+fn refuse(image: &mut [u8], f: Fault) -> ReadReply
     ensures { λ r. ⌜ called r (now (image .exit)) ≡ L.readRefused (length (now (image .entry))) (f .refusal) (f .at .place) ⌝ }
 {
     slices::zero(image);
     let at = f.at;
     let refusal = f.refusal;
-    Answer::Refused(refusal, at.place)
+    ReadReply::Refused(refusal, at.place)
 }
 
 // The text that the array holds, judged and written.
-fn written(text: &[u8], work: &Work, c: Tally, image: &mut [u8]) -> Answer
+fn written(text: &[u8], work: &Work, c: Holding, image: &mut [u8]) -> ReadReply
     ensures { λ r. ⌜ Writes (now (text .entry)) (now (work .entry)) c (length (now (image .entry))) (called r (now (image .exit))) ⌝ }
 {
     let fault = judge(text, work, c);
@@ -45,7 +45,7 @@ fn written(text: &[u8], work: &Work, c: Tally, image: &mut [u8]) -> Answer
 }
 
 // A text whose words are right.
-fn parsed(text: &[u8], image: &mut [u8]) -> Answer
+fn parsed(text: &[u8], image: &mut [u8]) -> ReadReply
     requires { ⌜ length (now text) ≤ 32768 ⌝ }
     ensures { λ r. ⌜ called r (now (image .exit)) ≡ L.readCall (length (now (image .entry))) (L.afterGrammar (parse (scan (now (text .entry)) .words) (length (now (text .entry))))) ⌝ }
     ensures { λ _. ⌜ Short (L.readCall (length (now (image .entry))) (L.afterGrammar (parse (scan (now (text .entry)) .words) (length (now (text .entry))))) .answer) ⌝ }
@@ -53,13 +53,13 @@ fn parsed(text: &[u8], image: &mut [u8]) -> Answer
     let mut work = [0u8; WORK_SIZE];
     let outcome = whole::described(text, &mut work);
     match outcome {
-        Outcome::Refused(f) => refuse(image, f),
-        Outcome::Done(c) => written(text, &work, c, image),
+        TextRead::Refused(f) => refuse(image, f),
+        TextRead::Done(c) => written(text, &work, c, image),
     }
 }
 
 // Writes the image of a legal text; refuses any other, and a buffer that the image has no room in. Lengths and places have 32 bits, so that a caller may keep them in so many.
-pub fn read(text: &[u8], image: &mut [u8]) -> Answer
+pub fn read(text: &[u8], image: &mut [u8]) -> ReadReply
     ensures { λ r. ⌜ called r (now (image .exit)) ≡ L.read (now (text .entry)) (length (now (image .entry))) ⌝ }
     ensures { λ _. ⌜ Short (L.read (now (text .entry)) (length (now (image .entry))) .answer) ⌝ }
 {

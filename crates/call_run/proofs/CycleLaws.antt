@@ -6,8 +6,8 @@ use Rattle.language.specs.Calls as L
 use Rattle.about_bytes.specs.OneCycle.{one-cycle, single, told}
 use Rattle.call_answers.specs.Cycle as Cycle
 use Rattle.call_answers.specs.Run as Run
-use Rattle.call_answers.specs.declared.cycled.Answer as Cycled
-use Rattle.call_answers.specs.declared.ran.Answer as Ran
+use Rattle.call_answers.specs.declared.cycled.CycleReply as Cycled
+use Rattle.call_answers.specs.declared.ran.RunReply as Ran
 
 pub from-run : (image store kept stimulus : List ℕ) (scratch : ℕ) (a : Ran.Answer) (r : Cycled.Answer) {B K S T : List ℕ} → Cycle.answered r ≡ told (Run.answered a)
     → Run.call a B K S T ≡ L.run image store kept stimulus 1 scratch 0 → Cycle.call r B K S ≡ L.cycle image store kept stimulus scratch

@@ -1,6 +1,6 @@
 // One cycle: a run of one stimulus without a trace.
 use crate::run;
-use call_answers::cycled::Answer;
+use call_answers::cycled::CycleReply;
 use call_answers::ran;
 use call_answers::ran::Tally;
 use language::stops::Halt;
@@ -12,28 +12,28 @@ ghost use Rattle.language.specs.Image.{passes};
 ghost use Rattle.about_bytes.specs.OneCycle.{Counted, told};
 ghost use Rattle.call_answers.specs.Cycle as Cycle;
 ghost use Rattle.call_answers.specs.Run as Run;
-ghost use Rattle.call_answers.specs.declared.ran.Answer.the-variants as Answers;
+ghost use Rattle.call_answers.specs.declared.ran.RunReply.the-variants as Answers;
 
 // The only cycle of a run that was not refused: its conflicts, or the stop that ended it.
-fn only(t: Tally) -> Answer
+fn only(t: Tally) -> CycleReply
     requires { ⌜ t .conflicts < 2 ^ 32 ⌝ }
     ensures { λ r. ⌜ Cycle.answered r ≡ told (Run.answered (Answers.Ran t)) ⌝ }
 {
     let stop = t.stop;
     match stop {
-        Halt::None => Answer::Cycled(t.conflicts as u32),
-        Halt::At(s) => Answer::Stopped(s),
+        Halt::None => CycleReply::Cycled(t.conflicts as u32),
+        Halt::At(s) => CycleReply::Stopped(s),
     }
 }
 
 // What a run of at most one cycle says of it.
-fn single(a: ran::Answer) -> Answer
+fn single(a: ran::Answer) -> CycleReply
     requires { ⌜ Counted (Run.answered a) ⌝ }
     ensures { λ r. ⌜ Cycle.answered r ≡ told (Run.answered a) ⌝ }
 {
     match a {
         ran::Answer::Ran(t) => only(t),
-        ran::Answer::Refused(r) => Answer::Refused(r),
+        ran::Answer::Refused(r) => CycleReply::Refused(r),
     }
 }
 
@@ -45,7 +45,7 @@ pub fn cycle(
     record: &mut [u8],
     stimulus: &[u8],
     scratch: &mut [u8],
-) -> Answer
+) -> CycleReply
     requires { ⌜ passed ≡ passes (now image) ⌝ }
     ensures { λ r. ⌜ Cycle.call r (now (store .exit)) (now («record» .exit)) (now (scratch .exit)) ≡ L.cycle (now (image .entry)) (now (store .entry)) (now («record» .entry)) (now (stimulus .entry)) (length (now (scratch .entry))) ⌝ }
 {

@@ -1,7 +1,7 @@
 // Many cycles: all that a caller is owed, on every input, where it is known whether the image passes.
 use crate::refusal;
 use crate::refusal::Tested;
-use call_answers::ran::Answer;
+use call_answers::ran::RunReply;
 use call_stimuli::carry;
 use store_words::slices;
 ghost use mathlib.Core.Path.{_≡_};
@@ -20,7 +20,7 @@ pub fn run(
     cycles: u32,
     scratch: &mut [u8],
     trace: &mut [u8],
-) -> Answer
+) -> RunReply
     requires { ⌜ passed ≡ passes (now image) ⌝ }
     ensures { λ r. ⌜ call r (now (store .exit)) (now («record» .exit)) (now (scratch .exit)) (now (trace .exit)) ≡ L.run (now (image .entry)) (now (store .entry)) (now («record» .entry)) (now (stimuli .entry)) cycles (length (now (scratch .entry))) (length (now (trace .entry))) ⌝ }
 {
@@ -37,11 +37,11 @@ pub fn run(
     ) {
         Tested::Refused(n) => {
             slices::zero(scratch);
-            Answer::Refused(n)
+            RunReply::Refused(n)
         }
         Tested::Passed => {
             let tally = carry::carry_out(image, store, record, stimuli, cycles, scratch, trace);
-            Answer::Ran(tally)
+            RunReply::Ran(tally)
         }
     }
 }

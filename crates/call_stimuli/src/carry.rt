@@ -6,7 +6,7 @@ use language::ceilings;
 use language::stops::Halt;
 use run_advance::carried;
 use run_begin::formed;
-use run_end::outcome::Verdict;
+use run_end::outcome::CycleEnd;
 use run_next::record::Record;
 use run_soundness::record;
 use run_soundness::sizes;
@@ -30,13 +30,13 @@ ghost use Rattle.call_stimuli.specs.Lent.{Lent, SomeLent};
 const SMALL: usize = 1024;
 
 // A run so far, and the record that it has come to.
-struct Run {
+struct CarriedOn {
     tally: Tally,
     record: Record,
 }
 
 // So many cycles completed, with so many conflicts, and the stop that ended them, if one did.
-fn ended(completed: u32, conflicts: u64, stop: Halt, r: Record) -> Run
+fn ended(completed: u32, conflicts: u64, stop: Halt, r: Record) -> CarriedOn
     ensures { λ a. ⌜ a ≡ record { tally = record { completed = completed; conflicts = conflicts; stop = stop }; «record» = r } ⌝ }
 {
     let tally = Tally {
@@ -44,7 +44,7 @@ fn ended(completed: u32, conflicts: u64, stop: Halt, r: Record) -> Run
         conflicts,
         stop,
     };
-    Run { tally, record: r }
+    CarriedOn { tally, record: r }
 }
 
 // One cycle after the other, each with its own stimulus, until one stops; no later one is refused. The store after each goes to the trace, where there is one.
@@ -62,7 +62,7 @@ fn carry_on(
     pending: &mut [u8],
     mask: &mut [u8],
     trace: &mut [u8],
-) -> Run
+) -> CarriedOn
     requires { ⌜ SomeLent (now facilities) (now operations) (now expressions) (now actions) (now states) (recordMeant r) (now store) (now stimuli) cycles (now work) (now pending) (now mask) (now trace) ⌝ }
     ensures { λ a. ⌜ ((i K : List ℕ) (n : ℕ) → Lent i K n (now (facilities .entry)) (now (operations .entry)) (now (expressions .entry)) (now (actions .entry)) (now (states .entry)) (recordMeant r) (now (store .entry)) (now (stimuli .entry)) cycles (now (work .entry)) (now (pending .entry)) (now (mask .entry)) (now (trace .entry)) → tallied (a .tally) (now (store .exit)) (keptRecord (a .tally .completed) (recordMeant (a .«record»)) K) (zeroes n) (now (trace .exit)) ≡ L.run i (now (store .entry)) K (now (stimuli .entry)) cycles n (length (now (trace .entry)))) ⌝ }
 {
@@ -89,7 +89,7 @@ fn carry_on(
         );
         let verdict = a.verdict;
         match verdict {
-            Verdict::Completed => {
+            CycleEnd::Completed => {
                 conflicts += a.conflicts as u64;
                 bytes::put(trace, to, bytes::part(store, 0, size));
                 at += each;
@@ -97,8 +97,8 @@ fn carry_on(
                 n += 1;
                 reached = a.record;
             }
-            Verdict::Stopped(stop) => return ended(n, conflicts, Halt::At(stop), reached),
-            Verdict::Stuck(_) => return ended(n, conflicts, Halt::None, reached),
+            CycleEnd::Stopped(stop) => return ended(n, conflicts, Halt::At(stop), reached),
+            CycleEnd::Stuck(_) => return ended(n, conflicts, Halt::None, reached),
         }
     }
     ended(n, conflicts, Halt::None, reached)

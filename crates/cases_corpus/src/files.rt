@@ -2,7 +2,7 @@
 use crate::images;
 use crate::tally;
 use crate::tally::Came;
-use crate::tally::Tally;
+use crate::tally::Score;
 use crate::traces;
 
 pub const TRACES: u8 = 0;
@@ -18,7 +18,7 @@ fn next(file: i32, kind: u8) -> Came {
 }
 
 // Every case.
-pub fn run(file: i32, kind: u8) -> Tally {
+pub fn run(file: i32, kind: u8) -> Score {
     let mut t = tally::nothing();
     let mut left: u32 = 100000;
     while 0 < left {

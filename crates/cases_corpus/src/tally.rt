@@ -1,7 +1,7 @@
 // How many cases agree, how many differ, and which is the first that does.
 use libc::STDOUT_FILENO;
 
-pub struct Tally {
+pub struct Score {
     pub agree: u32,
     pub differ: u32,
     // The number of the first case that differs, from 1, or 0.
@@ -20,8 +20,8 @@ pub fn told(agrees: bool) -> Came {
     if agrees { Came::Agrees } else { Came::Differs }
 }
 
-pub fn nothing() -> Tally {
-    Tally {
+pub fn nothing() -> Score {
+    Score {
         agree: 0,
         differ: 0,
         first: 0,
@@ -29,7 +29,7 @@ pub fn nothing() -> Tally {
 }
 
 // The first that differs, where the next one does.
-fn first(t: Tally) -> u32 {
+fn first(t: Score) -> u32 {
     if t.differ == 0 {
         std::num::wrapping_add_u32(t.agree, 1)
     } else {
@@ -37,15 +37,15 @@ fn first(t: Tally) -> u32 {
     }
 }
 
-pub fn counted(t: Tally, came: Came) -> Tally {
+pub fn counted(t: Score, came: Came) -> Score {
     match came {
         Came::End => t,
-        Came::Agrees => Tally {
+        Came::Agrees => Score {
             agree: std::num::wrapping_add_u32(t.agree, 1),
             differ: t.differ,
             first: t.first,
         },
-        Came::Differs => Tally {
+        Came::Differs => Score {
             agree: t.agree,
             differ: std::num::wrapping_add_u32(t.differ, 1),
             first: first(t),
@@ -58,7 +58,7 @@ fn say(n: u32, what: &[u8]) {
     io::write_all(STDOUT_FILENO, what);
 }
 
-pub fn shown(t: Tally) {
+pub fn shown(t: Score) {
     say(t.agree, b" agree, ");
     say(t.differ, b" differ");
     if t.differ != 0 {

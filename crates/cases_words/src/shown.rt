@@ -4,8 +4,8 @@ use libc::STDOUT_FILENO;
 use text_characters::letters;
 use text_characters::parts;
 use text_words::Judged;
-use text_words::Kind;
 use text_words::Word;
+use text_words::WordKind;
 use text_words::next;
 use text_words::places;
 use text_words::stage;
@@ -65,17 +65,17 @@ fn word(text: &[u8], w: Word) {
     number(size as u64);
     let kind = w.kind;
     match kind {
-        Kind::End => say(b" end"),
-        Kind::Name => {
+        WordKind::End => say(b" end"),
+        WordKind::Name => {
             say(b" name ");
             capitals(parts::first(parts::rest(text, place), size));
         }
-        Kind::Constant => {
+        WordKind::Constant => {
             let value = w.value;
             say(b" constant ");
             constant(value, w.bare);
         }
-        Kind::Sign(k) => {
+        WordKind::Sign(k) => {
             say(b" sign ");
             number(k as u64);
         }

@@ -18,7 +18,7 @@ use Rattle.language.specs.Judging.{both}
 use Rattle.language.specs.Scan.{longestName, reservedKind}
 use Rattle.image_sections.proofs.DeclarationLaws.{name-first, state-whole}
 use Rattle.image_sections.specs.Declarations.{StateRead, valueMeant}
-use Rattle.image_sections.specs.declared.states.State.{State}
+use Rattle.image_sections.specs.declared.states.StateRecord.{StateRecord}
 use Rattle.image_form.specs.Names.{labelsRight, namesRight}
 use Rattle.language.specs.Encode.{facilitySize, operationSize, stateSize}
 
@@ -146,7 +146,7 @@ module _ (s names : List ℕ) where
   unfolding labelsRight
   labels-start = let e : length s / stateSize - 0 ≡ length s / stateSize = omega arith in rw e
 
-  module _ (n from : ℕ) (h : n < length s / stateSize) {x : State} (r : StateRead s n x) where
+  module _ (n from : ℕ) (h : n < length s / stateSize) {x : StateRecord} (r : StateRead s n x) where
     label-length : x .name ≡ getD s (stateSize * n) 0
     label-length = r .name ∙ name-first 7 s n (omega arith)
 

@@ -3,7 +3,7 @@ use image_records::action_bytes;
 use image_records::node_bytes;
 use image_records::record_sizes;
 use image_sections::facilities;
-use image_sections::facilities::Facility;
+use image_sections::facilities::FacilityRecord;
 use image_sections::facility_bytes;
 use image_sections::shapes;
 use store_geometry::places;
@@ -48,7 +48,7 @@ pub fn actions_right(acts: &[u8]) -> bool
 }
 
 // The place after that of a facility, as far as a record has room for it.
-fn place_after(place: u32, f: Facility) -> u32
+fn place_after(place: u32, f: FacilityRecord) -> u32
     ensures { λ r. ⌜ (r < 65536) × ((name : Name) → r ≡ (place + facilityBytes (facilityMeant name f)) % 65536) ⌝ }
 {
     (places::place_after(place, shapes::shape_of(f)) % 65536) as u32

@@ -1,8 +1,8 @@
 // Facilities: registers, memories, terminals in this order, and bounds only where there are dimensions.
 use image_records::record_sizes;
 use image_sections::facilities;
-use image_sections::facilities::Facility;
-use image_sections::facilities::Kind;
+use image_sections::facilities::FacilityKind;
+use image_sections::facilities::FacilityRecord;
 use image_sections::facilities::ShortBounds;
 ghost use mathlib.Core.Path.{_≡_};
 ghost use Rattle.language.specs.Canonical.{facilitiesRight, facilityRight, mostDimensions, noBounds, rankOf};
@@ -11,29 +11,29 @@ ghost use Rattle.language.specs.Tree.{Name};
 ghost use Rattle.image_sections.specs.Declarations.{facilityMeant, kindMeant, shortMeant};
 ghost use Rattle.image_order.specs.Holds.{Facilities};
 
-fn rank_of(kind: Kind) -> u8
+fn rank_of(kind: FacilityKind) -> u8
     ensures { λ r. ⌜ r ≡ rankOf (kindMeant kind) ⌝ }
 {
     match kind {
-        Kind::Register => 0,
-        Kind::Sequencing => 0,
-        Kind::Memory => 1,
-        Kind::Plain => 2,
-        Kind::Input => 2,
-        Kind::Computed => 2,
+        FacilityKind::Register => 0,
+        FacilityKind::Sequencing => 0,
+        FacilityKind::Memory => 1,
+        FacilityKind::Plain => 2,
+        FacilityKind::Input => 2,
+        FacilityKind::Computed => 2,
     }
 }
 
-fn most_dimensions(kind: Kind) -> u8
+fn most_dimensions(kind: FacilityKind) -> u8
     ensures { λ r. ⌜ r ≡ mostDimensions (kindMeant kind) ⌝ }
 {
     match kind {
-        Kind::Register => 2,
-        Kind::Sequencing => 2,
-        Kind::Memory => 2,
-        Kind::Plain => 2,
-        Kind::Input => 1,
-        Kind::Computed => 1,
+        FacilityKind::Register => 2,
+        FacilityKind::Sequencing => 2,
+        FacilityKind::Memory => 2,
+        FacilityKind::Plain => 2,
+        FacilityKind::Input => 1,
+        FacilityKind::Computed => 1,
     }
 }
 
@@ -46,7 +46,7 @@ fn no_bounds(b: ShortBounds) -> bool
     b.last == 0
 }
 
-fn facility_shaped(f: Facility) -> bool
+fn facility_shaped(f: FacilityRecord) -> bool
     ensures { λ r. ⌜ ((name : Name) → r ≡ facilityRight (facilityMeant name f)) ⌝ }
 {
     let kind = f.kind;

@@ -23,7 +23,7 @@ use Rattle.about_running.specs.LegalForm.{after-names, no-faults, or-else-both}
 use Rattle.image_records.proofs.NodeBack.{half-back}
 use Rattle.image_sections.proofs.DeclarationLaws.{place-whole}
 use Rattle.image_sections.specs.Declarations.{FacilityRead, facilityMeant, kindMeant}
-use Rattle.image_sections.specs.declared.facilities.Facility as F
+use Rattle.image_sections.specs.declared.facilities.FacilityRecord as F
 use Rattle.about_images.specs.Back.{facility-stands}
 use Rattle.image_order.proofs.DeclaredLaws.{facility-is}
 use Rattle.image_lookups.proofs.NameLaws.{length-is}

@@ -1,5 +1,5 @@
 // The names of facilities and states: where they stand in the image, and that part of it, which is empty where there is none.
-use call_answers::named::Answer;
+use call_answers::named::NameReply;
 use image_records::bytes;
 use image_records::numbers;
 use image_records::record_sizes;
@@ -18,43 +18,43 @@ ghost use Rattle.call_answers.specs.Lookups.{nameMeant};
 ghost use Rattle.language.specs.Encode.{namesSection};
 
 // A part of the names as a part of the image.
-fn found(image: &[u8], part: Part) -> Answer
+fn found(image: &[u8], part: Part) -> NameReply
     requires { ⌜ part .offset < 2 ^ 32 ⌝ }
     ensures { λ r. ⌜ nameMeant r ≡ L.named (record { offset = offsetOf namesSection (now (image .entry)) + part .offset; length = part .length }) ⌝ }
 {
     let names = numbers::four(image, 48) as usize;
-    Answer::Named(Part {
+    NameReply::Named(Part {
         offset: names + part.offset,
         length: part.length,
     })
 }
 
 // Where the name of facility n stands.
-pub fn facility_part(image: &[u8], passed: bool, n: u32) -> Answer
+pub fn facility_part(image: &[u8], passed: bool, n: u32) -> NameReply
     requires { ⌜ passed ≡ passes (now image) ⌝ }
     ensures { λ r. ⌜ nameMeant r ≡ facilityName (now (image .entry)) n ⌝ }
 {
     if !passed {
-        return Answer::Refused(Refusal::ImageFails);
+        return NameReply::Refused(Refusal::ImageFails);
     }
     let facilities = sections::section(image, sections::FACILITIES);
     if facilities.len() / record_sizes::FACILITY <= n as usize {
-        return Answer::Refused(Refusal::BadSubscript);
+        return NameReply::Refused(Refusal::BadSubscript);
     }
     found(image, names::facility_part(facilities, n))
 }
 
 // Where the label of state n stands, which may be empty.
-pub fn state_part(image: &[u8], passed: bool, n: u32) -> Answer
+pub fn state_part(image: &[u8], passed: bool, n: u32) -> NameReply
     requires { ⌜ passed ≡ passes (now image) ⌝ }
     ensures { λ r. ⌜ nameMeant r ≡ stateName (now (image .entry)) n ⌝ }
 {
     if !passed {
-        return Answer::Refused(Refusal::ImageFails);
+        return NameReply::Refused(Refusal::ImageFails);
     }
     let states = sections::section(image, sections::STATES);
     if states.len() / record_sizes::STATE <= n as usize {
-        return Answer::Refused(Refusal::BadSubscript);
+        return NameReply::Refused(Refusal::BadSubscript);
     }
     let c = header::counts_at(image);
     let facilities = sections::section(image, sections::FACILITIES);
@@ -71,12 +71,12 @@ pub fn state_part(image: &[u8], passed: bool, n: u32) -> Answer
 }
 
 // The part of the image that an answer names.
-pub fn name(image: &[u8], answer: Answer) -> &[u8]
+pub fn name(image: &[u8], answer: NameReply) -> &[u8]
     ensures { λ r. ⌜ now r ≡ partOf (now (image .entry)) (nameMeant answer) ⌝ }
 {
     match answer {
-        Answer::Named(p) => names::name_at(image, p),
-        Answer::Refused(_) => bytes::part(image, 0, 0),
+        NameReply::Named(p) => names::name_at(image, p),
+        NameReply::Refused(_) => bytes::part(image, 0, 0),
     }
 }
 

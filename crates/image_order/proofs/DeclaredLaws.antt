@@ -10,28 +10,28 @@ use Rattle.language.specs.Order.{functionRoot}
 use Rattle.image_records.specs.Actions.{meant}
 use Rattle.image_records.specs.declared.actions.Action.{Action}
 use Rattle.image_sections.specs.Declarations.{FacilityRead, OperationRead, StateRead, facilityMeant, kindMeant, runMeant, valueMeant}
-use Rattle.image_sections.specs.declared.facilities.Facility.{Facility}
-use Rattle.image_sections.specs.declared.facilities.Kind.{Kind}
-use Rattle.image_sections.specs.declared.facilities.Kind.the-variants as K
-use Rattle.image_sections.specs.declared.operations.Operation.{Operation}
-use Rattle.image_sections.specs.declared.states.State.{State}
+use Rattle.image_sections.specs.declared.facilities.FacilityRecord.{FacilityRecord}
+use Rattle.image_sections.specs.declared.facilities.FacilityKind.{FacilityKind}
+use Rattle.image_sections.specs.declared.facilities.FacilityKind.the-variants as K
+use Rattle.image_sections.specs.declared.operations.OperationRecord.{OperationRecord}
+use Rattle.image_sections.specs.declared.states.StateRecord.{StateRecord}
 use Rattle.image_order.specs.Holds.{Actions, Facilities, Operations, States}
 
 module _ (d : Description) (s : List ℕ) (n : ℕ) where
-  pub facility-is : {f : Facility} → Facilities d s → FacilityRead s n f → facilityAt d n ≡ facilityMeant (facilityAt d n .name) f
+  pub facility-is : {f : FacilityRecord} → Facilities d s → FacilityRead s n f → facilityAt d n ≡ facilityMeant (facilityAt d n .name) f
   facility-is h r = h .at n ∙ sym (r .meaning (facilityAt d n .name))
 
-  pub body-is : {o : Operation} → Operations d s → OperationRead s n o → operationAt d n .body ≡ runMeant (o .body)
+  pub body-is : {o : OperationRecord} → Operations d s → OperationRead s n o → operationAt d n .body ≡ runMeant (o .body)
   body-is h r = ap (λ (o : D.Operation). o .body) (h .at n ∙ sym (r .meaning (operationAt d n .name)))
 
-  pub value-is : {x : State} → States d s → StateRead s n x → stateAt d n .value ≡ valueMeant (x .value)
+  pub value-is : {x : StateRecord} → States d s → StateRead s n x → stateAt d n .value ≡ valueMeant (x .value)
   value-is h r = ap (λ (x : D.State). x .value) (h .at n ∙ sym (r .meaning (stateAt d n .name)))
 
-  pub actions-are : {x : State} → States d s → StateRead s n x → stateAt d n .actions ≡ runMeant (x .actions)
+  pub actions-are : {x : StateRecord} → States d s → StateRead s n x → stateAt d n .actions ≡ runMeant (x .actions)
   actions-are h r = ap (λ (x : D.State). x .actions) (h .at n ∙ sym (r .meaning (stateAt d n .name)))
 
 -- Only a computed terminal has a tree.
-root-of : (d : Description) (f : D.Facility) (k : Kind) → functionRoot d f (kindMeant k) ≡ cond (isComputed (kindMeant k)) (f .expression ∷ []) []
+root-of : (d : Description) (f : D.Facility) (k : FacilityKind) → functionRoot d f (kindMeant k) ≡ cond (isComputed (kindMeant k)) (f .expression ∷ []) []
 root-of d f K.Register = refl
 root-of d f K.Sequencing = refl
 root-of d f K.Memory = refl
@@ -39,7 +39,7 @@ root-of d f K.Plain = refl
 root-of d f K.Input = refl
 root-of d f K.Computed = refl
 
-module _ (d : Description) (s : List ℕ) (n : ℕ) {f : Facility} (h : Facilities d s) (r : FacilityRead s n f) where
+module _ (d : Description) (s : List ℕ) (n : ℕ) {f : FacilityRecord} (h : Facilities d s) (r : FacilityRead s n f) where
   root : functionRoot d (facilityAt d n) (facilityAt d n .kind)
       ≡ cond (isComputed (kindMeant (f .kind))) (cond (isComputed (kindMeant (f .kind))) (f .place) 0 ∷ []) []
   root =

@@ -13,12 +13,12 @@ use Rattle.language.specs.Encode.{facilitySize, operationSize, stateSize}
 use Rattle.language.specs.Tree as T
 use Rattle.language.specs.Tree.{Name}
 use Rattle.image_sections.specs.declared.facilities.ShortBounds.{ShortBounds}
-use Rattle.image_sections.specs.declared.facilities.Facility.{Facility}
-use Rattle.image_sections.specs.declared.facilities.Kind.{Kind}
-use Rattle.image_sections.specs.declared.facilities.Kind.the-variants as K
-use Rattle.image_sections.specs.declared.operations.Operation.{Operation}
+use Rattle.image_sections.specs.declared.facilities.FacilityRecord.{FacilityRecord}
+use Rattle.image_sections.specs.declared.facilities.FacilityKind.{FacilityKind}
+use Rattle.image_sections.specs.declared.facilities.FacilityKind.the-variants as K
+use Rattle.image_sections.specs.declared.operations.OperationRecord.{OperationRecord}
 use Rattle.image_sections.specs.declared.runs.Run.{Run}
-use Rattle.image_sections.specs.declared.states.State.{State}
+use Rattle.image_sections.specs.declared.states.StateRecord.{StateRecord}
 use Rattle.image_sections.specs.declared.states.StateValue.{StateValue}
 use Rattle.image_sections.specs.declared.states.StateValue.the-variants as S
 
@@ -28,7 +28,7 @@ nameLengthIn size inside s n = pick (leb (size * n + size) (length s)) (getD s (
 
 -- ---- Facilities.
 
-abbrev pub kindMeant : Kind → T.Kind
+abbrev pub kindMeant : FacilityKind → T.Kind
 kindMeant K.Register = T.register
 kindMeant K.Sequencing = T.sequencing
 kindMeant K.Memory = T.memory
@@ -40,7 +40,7 @@ abbrev pub shortMeant : ShortBounds → D.Bounds
 shortMeant b = bounds (b .first) (b .last)
 
 -- A facility with its name; only a computed terminal has an expression.
-abbrev pub facilityMeant : Name → Facility → D.Facility
+abbrev pub facilityMeant : Name → FacilityRecord → D.Facility
 facilityMeant name f = record {
   name = name;
   kind = kindMeant (f .kind);
@@ -63,7 +63,7 @@ unfoldable pub placeFieldIn : List ℕ → ℕ → ℕ
 placeFieldIn s n = pick (leb (facilitySize * n + facilitySize) (length s)) (halfAt (facilitySize * n + 11) s) 0
 
 -- f is what record n says.
-pub record FacilityRead (s : List ℕ) (n : ℕ) (f : Facility) : Type 0 where
+pub record FacilityRead (s : List ℕ) (n : ℕ) (f : FacilityRecord) : Type 0 where
   pub name : f .name ≡ nameLengthIn facilitySize 2 s n
   pub place : f .place ≡ placeFieldIn s n
   pub meaning : (name : Name) → facilityMeant name f ≡ facilityIn s n name
@@ -73,14 +73,14 @@ pub record FacilityRead (s : List ℕ) (n : ℕ) (f : Facility) : Type 0 where
 abbrev pub runMeant : Run → D.Run
 runMeant r = record { first = r .first; count = r .count }
 
-abbrev pub operationMeant : Name → Operation → D.Operation
+abbrev pub operationMeant : Name → OperationRecord → D.Operation
 operationMeant name o = record { name = name; body = runMeant (o .body) }
 
 unfoldable pub operationIn : List ℕ → ℕ → Name → D.Operation
 operationIn s n name =
     record { name = name; body = pick (leb (operationSize * n + operationSize) (length s)) (runAt (operationSize * n + 1) s) noRun }
 
-pub record OperationRead (s : List ℕ) (n : ℕ) (o : Operation) : Type 0 where
+pub record OperationRead (s : List ℕ) (n : ℕ) (o : OperationRecord) : Type 0 where
   pub name : o .name ≡ nameLengthIn operationSize 0 s n
   pub meaning : (name : Name) → operationMeant name o ≡ operationIn s n name
 
@@ -88,7 +88,7 @@ abbrev pub valueMeant : StateValue → Option ℕ
 valueMeant (S.At n) = some n
 valueMeant S.None = none
 
-abbrev pub stateMeant : Name → State → D.State
+abbrev pub stateMeant : Name → StateRecord → D.State
 stateMeant name s = record { name = name; value = valueMeant (s .value); actions = runMeant (s .actions) }
 
 unfoldable pub stateIn : List ℕ → ℕ → Name → D.State
@@ -97,6 +97,6 @@ stateIn s n name =
     (record { name = name; value = valueOf (halfAt (stateSize * n + 1) s); actions = runAt (stateSize * n + 3) s })
     (record { name = name; value = none; actions = noRun })
 
-pub record StateRead (s : List ℕ) (n : ℕ) (x : State) : Type 0 where
+pub record StateRead (s : List ℕ) (n : ℕ) (x : StateRecord) : Type 0 where
   pub name : x .name ≡ nameLengthIn stateSize 0 s n
   pub meaning : (name : Name) → stateMeant name x ≡ stateIn s n name

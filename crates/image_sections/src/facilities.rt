@@ -9,7 +9,7 @@ ghost use Rattle.language.specs.Encode.{kindNumber};
 ghost use Rattle.language.specs.Tree.{Name};
 ghost use Rattle.image_sections.specs.Declarations.{FacilityRead, facilityMeant, kindMeant, noneNamed, shortMeant};
 
-pub enum Kind {
+pub enum FacilityKind {
     Register,
     Sequencing,
     Memory,
@@ -24,8 +24,8 @@ pub struct ShortBounds {
     pub last: u16,
 }
 
-pub struct Facility {
-    pub kind: Kind,
+pub struct FacilityRecord {
+    pub kind: FacilityKind,
     pub dimensions: u8,
     // the length of its name
     pub name: u8,
@@ -36,30 +36,30 @@ pub struct Facility {
 }
 
 // The kind that a number stands for.
-pub fn kind_of(k: u8) -> Kind
+pub fn kind_of(k: u8) -> FacilityKind
     ensures { λ r. ⌜ kindMeant r ≡ kindOf k ⌝ }
 {
     match k {
-        0 => Kind::Register,
-        1 => Kind::Sequencing,
-        2 => Kind::Memory,
-        3 => Kind::Plain,
-        4 => Kind::Input,
-        _ => Kind::Computed,
+        0 => FacilityKind::Register,
+        1 => FacilityKind::Sequencing,
+        2 => FacilityKind::Memory,
+        3 => FacilityKind::Plain,
+        4 => FacilityKind::Input,
+        _ => FacilityKind::Computed,
     }
 }
 
 // The number that stands for a kind.
-pub fn kind_number(kind: Kind) -> u8
+pub fn kind_number(kind: FacilityKind) -> u8
     ensures { λ r. ⌜ r ≡ kindNumber (kindMeant kind) ⌝ }
 {
     match kind {
-        Kind::Register => 0,
-        Kind::Sequencing => 1,
-        Kind::Memory => 2,
-        Kind::Plain => 3,
-        Kind::Input => 4,
-        Kind::Computed => 5,
+        FacilityKind::Register => 0,
+        FacilityKind::Sequencing => 1,
+        FacilityKind::Memory => 2,
+        FacilityKind::Plain => 3,
+        FacilityKind::Input => 4,
+        FacilityKind::Computed => 5,
     }
 }
 
@@ -75,12 +75,12 @@ fn bounds_at(s: &[u8], at: usize) -> ShortBounds
 }
 
 // No facility.
-fn no_facility() -> Facility
+fn no_facility() -> FacilityRecord
     ensures { λ r. ⌜ (r .name ≡ 0) × (r .place ≡ 0) × ((name : Name) → facilityMeant name r ≡ noneNamed name) ⌝ }
 {
     let none = ShortBounds { first: 0, last: 0 };
-    Facility {
-        kind: Kind::Plain,
+    FacilityRecord {
+        kind: FacilityKind::Plain,
         dimensions: 0,
         name: 0,
         words: none,
@@ -90,7 +90,7 @@ fn no_facility() -> Facility
 }
 
 // Record n of a section of facilities.
-pub fn facility_at(facilities: &[u8], n: usize) -> Facility
+pub fn facility_at(facilities: &[u8], n: usize) -> FacilityRecord
     ensures { λ r. ⌜ FacilityRead (now (facilities .entry)) n r ⌝ }
 {
     if facilities.len() / record_sizes::FACILITY <= n {
@@ -101,7 +101,7 @@ pub fn facility_at(facilities: &[u8], n: usize) -> Facility
     let words = bounds_at(facilities, at + 3);
     let bits = bounds_at(facilities, at + 7);
     let place = numbers::two_there(facilities, at + 11);
-    Facility {
+    FacilityRecord {
         kind,
         dimensions: facilities[at + 1],
         name: facilities[at + record_sizes::FACILITY_NAME],

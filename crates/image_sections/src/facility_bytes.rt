@@ -1,6 +1,6 @@
 // The bytes of a facility's record: as they are written, and whether they stand there.
 use crate::facilities;
-use crate::facilities::Facility;
+use crate::facilities::FacilityRecord;
 use crate::kinds;
 use image_records::bytes;
 use image_records::numbers;
@@ -16,7 +16,7 @@ ghost use Rattle.language.specs.Tree.{Name};
 ghost use Rattle.image_sections.specs.Declarations.{facilityIn, facilityMeant, kindMeant, nameLengthIn};
 
 // Where a facility is: the number of its expression, or else its place in the store.
-fn located(f: Facility, place: u32) -> u32
+fn located(f: FacilityRecord, place: u32) -> u32
     ensures { λ r. ⌜ r ≡ cond (isComputed (kindMeant (f .kind))) (f .place) place ⌝ }
 {
     let kind = f.kind;
@@ -28,7 +28,7 @@ fn located(f: Facility, place: u32) -> u32
 }
 
 // The bytes of a record, for the place in the store that the layout gives.
-pub fn facility_bytes(f: Facility, place: u32) -> [u8; record_sizes::FACILITY]
+pub fn facility_bytes(f: FacilityRecord, place: u32) -> [u8; record_sizes::FACILITY]
     ensures { λ r. ⌜ ((name : Name) → length name ≡ f .name → r ≡ facilityRecord place (facilityMeant name f)) ⌝ }
 {
     let kind = f.kind;

@@ -1,5 +1,5 @@
 // What a facility is, and what may be stored to it, by its kind.
-use crate::facilities::Kind;
+use crate::facilities::FacilityKind;
 ghost use mathlib.Core.Bool.{cond, false};
 ghost use mathlib.Core.Path.{_≡_};
 ghost use Rattle.language.specs.Description.{isComputed, isSequencing};
@@ -8,35 +8,35 @@ ghost use Rattle.language.specs.Storing.{isPlain, mayStore, takesDelayed, takes
 ghost use Rattle.image_sections.specs.Declarations.{kindMeant};
 
 // <- goes to registers.
-fn takes_delayed(kind: Kind) -> bool
+fn takes_delayed(kind: FacilityKind) -> bool
     ensures { λ r. ⌜ r ≡ takesDelayed (kindMeant kind) ⌝ }
 {
     match kind {
-        Kind::Register => true,
-        Kind::Sequencing => true,
-        Kind::Memory => false,
-        Kind::Plain => false,
-        Kind::Input => false,
-        Kind::Computed => false,
+        FacilityKind::Register => true,
+        FacilityKind::Sequencing => true,
+        FacilityKind::Memory => false,
+        FacilityKind::Plain => false,
+        FacilityKind::Input => false,
+        FacilityKind::Computed => false,
     }
 }
 
 // = goes to registers, memories and plain terminals.
-fn takes_immediate(kind: Kind) -> bool
+fn takes_immediate(kind: FacilityKind) -> bool
     ensures { λ r. ⌜ r ≡ takesImmediate (kindMeant kind) ⌝ }
 {
     match kind {
-        Kind::Register => true,
-        Kind::Sequencing => false,
-        Kind::Memory => true,
-        Kind::Plain => true,
-        Kind::Input => false,
-        Kind::Computed => false,
+        FacilityKind::Register => true,
+        FacilityKind::Sequencing => false,
+        FacilityKind::Memory => true,
+        FacilityKind::Plain => true,
+        FacilityKind::Input => false,
+        FacilityKind::Computed => false,
     }
 }
 
 // Whether a store by this sign may go to a facility of this kind.
-pub fn may_store(sign: u8, kind: Kind) -> bool
+pub fn may_store(sign: u8, kind: FacilityKind) -> bool
     ensures { λ r. ⌜ r ≡ mayStore sign (kindMeant kind) ⌝ }
 {
     match sign {
@@ -47,7 +47,7 @@ pub fn may_store(sign: u8, kind: Kind) -> bool
 }
 
 // Whether it may go to both.
-pub fn may_both(sign: u8, k: Kind, l: Kind) -> bool
+pub fn may_both(sign: u8, k: FacilityKind, l: FacilityKind) -> bool
     ensures { λ r. ⌜ r ≡ cond (mayStore sign (kindMeant k)) (mayStore sign (kindMeant l)) false ⌝ }
 {
     if may_store(sign, k) {
@@ -58,57 +58,57 @@ pub fn may_both(sign: u8, k: Kind, l: Kind) -> bool
 }
 
 // Whether a facility of this kind is the sequencing register.
-pub fn is_sequencing(kind: Kind) -> bool
+pub fn is_sequencing(kind: FacilityKind) -> bool
     ensures { λ r. ⌜ r ≡ isSequencing (kindMeant kind) ⌝ }
 {
     match kind {
-        Kind::Register => false,
-        Kind::Sequencing => true,
-        Kind::Memory => false,
-        Kind::Plain => false,
-        Kind::Input => false,
-        Kind::Computed => false,
+        FacilityKind::Register => false,
+        FacilityKind::Sequencing => true,
+        FacilityKind::Memory => false,
+        FacilityKind::Plain => false,
+        FacilityKind::Input => false,
+        FacilityKind::Computed => false,
     }
 }
 
 // Whether a facility of this kind is a plain terminal.
-pub fn is_plain(kind: Kind) -> bool
+pub fn is_plain(kind: FacilityKind) -> bool
     ensures { λ r. ⌜ r ≡ isPlain (kindMeant kind) ⌝ }
 {
     match kind {
-        Kind::Register => false,
-        Kind::Sequencing => false,
-        Kind::Memory => false,
-        Kind::Plain => true,
-        Kind::Input => false,
-        Kind::Computed => false,
+        FacilityKind::Register => false,
+        FacilityKind::Sequencing => false,
+        FacilityKind::Memory => false,
+        FacilityKind::Plain => true,
+        FacilityKind::Input => false,
+        FacilityKind::Computed => false,
     }
 }
 
 // Whether a facility of this kind is an input terminal.
-pub fn is_input(kind: Kind) -> bool
+pub fn is_input(kind: FacilityKind) -> bool
     ensures { λ r. ⌜ r ≡ isInput (kindMeant kind) ⌝ }
 {
     match kind {
-        Kind::Register => false,
-        Kind::Sequencing => false,
-        Kind::Memory => false,
-        Kind::Plain => false,
-        Kind::Input => true,
-        Kind::Computed => false,
+        FacilityKind::Register => false,
+        FacilityKind::Sequencing => false,
+        FacilityKind::Memory => false,
+        FacilityKind::Plain => false,
+        FacilityKind::Input => true,
+        FacilityKind::Computed => false,
     }
 }
 
 // Whether a facility of this kind is computed.
-pub fn is_computed(kind: Kind) -> bool
+pub fn is_computed(kind: FacilityKind) -> bool
     ensures { λ r. ⌜ r ≡ isComputed (kindMeant kind) ⌝ }
 {
     match kind {
-        Kind::Register => false,
-        Kind::Sequencing => false,
-        Kind::Memory => false,
-        Kind::Plain => false,
-        Kind::Input => false,
-        Kind::Computed => true,
+        FacilityKind::Register => false,
+        FacilityKind::Sequencing => false,
+        FacilityKind::Memory => false,
+        FacilityKind::Plain => false,
+        FacilityKind::Input => false,
+        FacilityKind::Computed => true,
     }
 }

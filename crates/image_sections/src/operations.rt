@@ -9,33 +9,33 @@ ghost use Rattle.language.specs.Encode.{operationRecord};
 ghost use Rattle.language.specs.Tree.{Name};
 ghost use Rattle.image_sections.specs.Declarations.{OperationRead, operationMeant};
 
-pub struct Operation {
+pub struct OperationRecord {
     // the length of its name
     pub name: u8,
     pub body: Run,
 }
 
 // Record n of a section of operations.
-pub fn operation_at(operations: &[u8], n: usize) -> Operation
+pub fn operation_at(operations: &[u8], n: usize) -> OperationRecord
     ensures { λ r. ⌜ OperationRead (now (operations .entry)) n r ⌝ }
 {
     if operations.len() / record_sizes::OPERATION <= n {
         let none = Run { first: 0, count: 0 };
-        return Operation {
+        return OperationRecord {
             name: 0,
             body: none,
         };
     }
     let at = record_sizes::OPERATION * n;
     let body = runs::run_at(operations, at + 1);
-    Operation {
+    OperationRecord {
         name: operations[at],
         body,
     }
 }
 
 // The bytes of a record.
-pub fn operation_bytes(o: Operation) -> [u8; record_sizes::OPERATION]
+pub fn operation_bytes(o: OperationRecord) -> [u8; record_sizes::OPERATION]
     ensures { λ r. ⌜ ((name : Name) → length name ≡ o .name → r ≡ operationRecord (operationMeant name o)) ⌝ }
 {
     let body = o.body;

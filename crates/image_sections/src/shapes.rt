@@ -1,5 +1,5 @@
 // The bounds and the shape of a facility's record, as geometry takes them.
-use crate::facilities::Facility;
+use crate::facilities::FacilityRecord;
 use crate::facilities::ShortBounds;
 use crate::kinds;
 use store_geometry::bounds::Bounds;
@@ -20,7 +20,7 @@ pub fn bounds_of(b: ShortBounds) -> Bounds
 }
 
 // What the words of a record's facility depend on.
-pub fn shape_of(f: Facility) -> Shape
+pub fn shape_of(f: FacilityRecord) -> Shape
     ensures { λ r. ⌜ ((name : Name) → Shaped r (facilityMeant name f)) ⌝ }
 {
     let kind = f.kind;

@@ -16,7 +16,7 @@ pub enum StateValue {
     None,
 }
 
-pub struct State {
+pub struct StateRecord {
     // the length of its label
     pub name: u8,
     pub value: StateValue,
@@ -38,12 +38,12 @@ fn value_of(n: u16) -> StateValue
 }
 
 // Record n of a section of states.
-pub fn state_at(states: &[u8], n: usize) -> State
+pub fn state_at(states: &[u8], n: usize) -> StateRecord
     ensures { λ r. ⌜ StateRead (now (states .entry)) n r ⌝ }
 {
     if states.len() / record_sizes::STATE <= n {
         let none = Run { first: 0, count: 0 };
-        return State {
+        return StateRecord {
             name: 0,
             value: StateValue::None,
             actions: none,
@@ -52,7 +52,7 @@ pub fn state_at(states: &[u8], n: usize) -> State
     let at = record_sizes::STATE * n;
     let value = value_of(numbers::two_there(states, at + 1));
     let actions = runs::run_at(states, at + 3);
-    State {
+    StateRecord {
         name: states[at],
         value,
         actions,
@@ -70,7 +70,7 @@ fn value_field(value: StateValue) -> u16
 }
 
 // The bytes of a record.
-pub fn state_bytes(s: State) -> [u8; record_sizes::STATE]
+pub fn state_bytes(s: StateRecord) -> [u8; record_sizes::STATE]
     ensures { λ r. ⌜ ((name : Name) → length name ≡ s .name → r ≡ stateRecord (stateMeant name s)) ⌝ }
 {
     let value = s.value;

@@ -5,7 +5,7 @@ use mathlib.Core.Path.{_≡_}
 use Prim.Native.Nat.{ℕ, _+_}
 use lib.Dec.{eqb}
 use Rattle.image_sections.specs.Declarations.{kindMeant}
-use Rattle.image_sections.specs.declared.facilities.Kind.{Kind}
+use Rattle.image_sections.specs.declared.facilities.FacilityKind.{FacilityKind}
 use Rattle.language.specs.ActionRules.{kindAt}
 use Rattle.language.specs.Description.{Description, Places}
 use Rattle.language.specs.Expressions.{ownWork}
@@ -24,5 +24,5 @@ abbrev pub setJudged : Bool → Position → Worth → Judged
 setJudged plain at v = orFaulty (unless (both plain (eqb (v .length) 1)) at BadStore) (worth 1 0 (ownWork + v .work))
 
 -- The kind of what record n refers to, in every description with these slices.
-pub record KindTold (facs exprs places : List ℕ) (n : ℕ) (k : Kind) : Type 0 where
+pub record KindTold (facs exprs places : List ℕ) (n : ℕ) (k : FacilityKind) : Type 0 where
   pub kind : (d : Description) (p : Places) (t : ℕ → Judged) (marks memo : List ℕ) (known : ℕ) → Shown facs exprs marks places memo known d p t → kindMeant k ≡ kindAt d n

@@ -1,7 +1,7 @@
 // Stores and `@`: the two sides, and what may be stored to.
 use crate::conditionals;
 use image_records::references::Reference;
-use image_sections::facilities::Kind;
+use image_sections::facilities::FacilityKind;
 use image_sections::kinds;
 use judge_expressions::walk;
 use judge_terms::operators;
@@ -28,7 +28,7 @@ ghost use Rattle.judge_terms.specs.Shown.{Judges, worked};
 ghost use Rattle.judge_actions.specs.Stored.{KindTold, pairSides, setJudged, storedJudged};
 
 // The kind of the facility that record n refers to.
-fn kind_at(fs: &[u8], es: &[u8], ep: &[u8], n: u16) -> Kind
+fn kind_at(fs: &[u8], es: &[u8], ep: &[u8], n: u16) -> FacilityKind
     ensures { λ r. ⌜ KindTold (now (fs .entry)) (now (es .entry)) (now (ep .entry)) n r ⌝ }
 {
     match references::reference_at(es, ep, n) {
@@ -36,7 +36,7 @@ fn kind_at(fs: &[u8], es: &[u8], ep: &[u8], n: u16) -> Kind
             let x = image_sections::facilities::facility_at(fs, f as usize);
             x.kind
         }
-        Reference::None => Kind::Computed,
+        Reference::None => FacilityKind::Computed,
     }
 }
 
@@ -124,7 +124,7 @@ pub fn store_pair(
 }
 
 // Whether `@` may set a reference of that kind and length.
-fn may_set(kind: Kind, length: u16) -> bool
+fn may_set(kind: FacilityKind, length: u16) -> bool
     ensures { λ r. ⌜ r ≡ L.both (isPlain (kindMeant kind)) (eqb length 1) ⌝ }
 {
     if kinds::is_plain(kind) {

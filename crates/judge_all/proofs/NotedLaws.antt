@@ -10,8 +10,8 @@ use lib.Seq.{drop-drop}
 use Rattle.image_sections.proofs.DescribedLaws.{operation-described, operations-count, state-described, states-count}
 use Rattle.image_sections.specs.Declarations.{OperationRead, StateRead, nameLengthIn, runMeant, stateIn, stateMeant}
 use Rattle.image_sections.specs.Names.{facilityPart, named, operationPart, statePart}
-use Rattle.image_sections.specs.declared.operations.Operation as O
-use Rattle.image_sections.specs.declared.states.State as S
+use Rattle.image_sections.specs.declared.operations.OperationRecord as O
+use Rattle.image_sections.specs.declared.states.StateRecord as S
 use Rattle.language.specs.Decode.{halfAt, namesLength, pick, runAt, valueOf}
 use Rattle.language.specs.Description.{Facility, Operation, State, facilityAt, noRun, operationAt, stateAt}
 use Rattle.language.specs.Encode.{Sections, facilitySize, operationSize, stateSize}

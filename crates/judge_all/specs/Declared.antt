@@ -5,7 +5,7 @@ use mathlib.Core.Path.{_≡_}
 use Prim.Native.Nat.{ℕ, _/_, _<_}
 use lib.ListN.{drop, length, take}
 use Rattle.image_sections.specs.Declarations.{OperationRead, facilityIn, nameLengthIn, runMeant}
-use Rattle.image_sections.specs.declared.operations.Operation.{Operation}
+use Rattle.image_sections.specs.declared.operations.OperationRecord.{OperationRecord}
 use Rattle.language.specs.ActionRules.{operationJudged}
 use Rattle.language.specs.Decode.{actionOf, namesLength}
 use Rattle.language.specs.Description.{Description, FacilityPlaces, Places, actionAt, actionPlace, facilityAt, facilityPlace, isComputed, operationAt, stateAt}
@@ -44,7 +44,7 @@ pub record Acting (facs exprs marks places memo acts beside states labels ops : 
   pub action : (n : ℕ) → actionAt d n ≡ actionOf acts n
   pub place : (n : ℕ) → actionPlace p n ≡ placeOf 1 beside n 0
   pub label : (n : ℕ) → stateAt d n .name ≡ take (nameLengthIn stateSize 0 states n) (drop (namesLength n 0 stateSize states) labels)
-  pub body : (n : ℕ) (x : Operation) → OperationRead ops n x → runMeant (x .body) ≡ operationAt d n .body
+  pub body : (n : ℕ) (x : OperationRecord) → OperationRead ops n x → runMeant (x .body) ≡ operationAt d n .body
 
 -- The first k operations are judged, and their verdicts kept.
 pub record Performed (kept : List ℕ) (k : ℕ) (d : Description) (p : Places) : Type 0 where

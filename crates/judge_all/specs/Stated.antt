@@ -7,7 +7,7 @@ use Prim.Native.Nat.{ℕ, zero, suc, _/_}
 use lib.Dec.{eqb}
 use lib.ListN.{length}
 use Rattle.image_sections.specs.Declarations.{StateRead, stateMeant}
-use Rattle.image_sections.specs.declared.states.State.{State}
+use Rattle.image_sections.specs.declared.states.StateRecord.{StateRecord}
 use Rattle.language.specs.ActionRules.{operationBelow, runJudged}
 use Rattle.language.specs.Decode.{nodeOf}
 use Rattle.language.specs.Description.{Description, Places, StatePlaces, constantValue, nodeAt, stateAt, statePlace, Run}
@@ -39,14 +39,14 @@ statePlacesOf places n = record { at = placeOf 2 places n 0; value = placeOf 2 p
 -- Constants, and the states that may bear them.
 pub record Valued (exprs states : List ℕ) (d : Description) : Type 0 where
   pub constant : (n : ℕ) → constantValue (nodeAt d n) ≡ constantValue (nodeOf exprs n)
-  pub state : (n : ℕ) (x : State) → StateRead states n x → stateMeant (stateAt d n .name) x ≡ stateAt d n
+  pub state : (n : ℕ) (x : StateRecord) → StateRead states n x → stateMeant (stateAt d n .name) x ≡ stateAt d n
 
 -- With the rest of what states are made of, and their places.
 pub record Stated (facs exprs marks places memo acts beside states labels ops spots : List ℕ) (d : Description) (p : Places) : Type 0 where
   pub acting : Acting facs exprs marks places memo acts beside states labels ops d p
   pub operations : length (d .operations) ≡ length ops / operationSize
   pub count : length (d .states) ≡ length states / stateSize
-  pub state : (n : ℕ) (x : State) → StateRead states n x → stateMeant (stateAt d n .name) x ≡ stateAt d n
+  pub state : (n : ℕ) (x : StateRecord) → StateRead states n x → stateMeant (stateAt d n .name) x ≡ stateAt d n
   pub spot : (n : ℕ) → statePlace p n ≡ statePlacesOf spots n
 
 -- The verdict on a state's actions, in which all operations may be named.

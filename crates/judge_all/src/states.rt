@@ -3,7 +3,7 @@ use crate::values;
 use crate::wanted;
 use image_records::record_sizes;
 use image_sections::runs::Run;
-use image_sections::states::State;
+use image_sections::states::StateRecord;
 use image_sections::states::StateValue;
 use judge_actions::Owner;
 use judge_actions::walk;
@@ -95,8 +95,16 @@ fn actions(
     walk::list(fs, es, fp, ep, memo, acts, ap, ss, labels, kept, own, n, i)
 }
 
-// State n, whose actions have the verdict v.
-fn state(es: &[u8], ss: &[u8], sp: &[u8], n: usize, wanted: u64, s: State, v: Verdict) -> Judged
+// StateRecord n, whose actions have the verdict v.
+fn state(
+    es: &[u8],
+    ss: &[u8],
+    sp: &[u8],
+    n: usize,
+    wanted: u64,
+    s: StateRecord,
+    v: Verdict,
+) -> Judged
     ensures { λ r. ⌜ ((d : Description) (p : Places) → Valued (now (es .entry)) (now (ss .entry)) d → statePlace p n ≡ statePlacesOf (now (sp .entry)) n → stateMeant (stateAt d n .name) s ≡ stateAt d n → v ≡ seen (stateJudged d p (stateAt d n .actions)) → judged r ≡ least (stateFaults d p (wantedLength wanted) (valuesBefore d p n) (statePlace p n) (stateAt d n))) ⌝ }
 {
     let value = s.value;

@@ -11,7 +11,7 @@ use Rattle.image_sections.proofs.DescribedLaws.{action-described, facilities-co
 use Rattle.image_sections.specs.Declarations as I
 use Rattle.image_sections.specs.Declarations.{facilityIn}
 use Rattle.image_sections.specs.Names.{facilityPart, named}
-use Rattle.image_sections.specs.declared.facilities.Facility as F
+use Rattle.image_sections.specs.declared.facilities.FacilityRecord as F
 use Rattle.language.specs.Decode.{actionOf, described, facilityOf, nodeOf, numberAt, pick, upTo}
 use Rattle.language.specs.Description as D
 use Rattle.language.specs.Description.{Facility, FacilityPlaces, Node, actionAt, actionPlace, facilityAt, facilityPlace, noFacility, nodeAt, nodePlace, nodePlaces, noPlaces, nowhere, operationAt, stateAt, statePlace}

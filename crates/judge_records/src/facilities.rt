@@ -2,7 +2,7 @@
 use crate::places;
 use image_records::numbers;
 use image_records::record_sizes;
-use image_sections::facilities::Kind;
+use image_sections::facilities::FacilityKind;
 use image_sections::kinds;
 use store_geometry::bounds::Bounds;
 use store_geometry::shapes::Shape;
@@ -16,7 +16,7 @@ ghost use Rattle.judge_records.specs.Noted.{largeNo};
 ghost use Rattle.judge_records.specs.Read.{FacilityRead, facilityMeant};
 
 pub struct Facility {
-    pub kind: Kind,
+    pub kind: FacilityKind,
     pub dimensions: u8,
     pub words: Bounds,
     pub bits: Bounds,

@@ -5,7 +5,7 @@ use image_records::nodes;
 use image_records::nodes::Node;
 use image_records::references;
 use image_records::references::Reference;
-use image_sections::facilities::Kind;
+use image_sections::facilities::FacilityKind;
 use image_sections::kinds;
 use judge_records::facilities::Facility;
 use judge_records::places;
@@ -131,7 +131,7 @@ pub fn direction_faults(places: &[u8], n: u16, f: Facility, s: Subscripts) -> Ju
 }
 
 // The work that a facility adds where it is named: a computed terminal's is kept.
-pub fn computed_work(memo: &[usize], f: u8, kind: Kind) -> Verdict
+pub fn computed_work(memo: &[usize], f: u8, kind: FacilityKind) -> Verdict
     ensures { λ r. ⌜ ((j : L.Judged) → (isComputed (kindMeant kind) ≡ true → recalled (now (memo .entry)) f ≡ seen j) → r ≡ seen (cond (isComputed (kindMeant kind)) j (L.worth 1 0 0))) ⌝ }
 {
     if kinds::is_computed(kind) {

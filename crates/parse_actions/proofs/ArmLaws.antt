@@ -12,7 +12,7 @@ use Rattle.parse_step.proofs.TakenWords.{took-done, took-refused}
 use Rattle.parse_step.specs.declared.Answer.{Answer}
 use Rattle.parse_step.specs.declared.Bearing.the-variants.{Level}
 use Rattle.parse_step.specs.declared.State.{State}
-use Rattle.parse_step.specs.declared.Verdict.the-variants.{Done}
+use Rattle.parse_step.specs.declared.ReadVerdict.the-variants.{Done}
 use Rattle.parse_step.specs.Gained.{withActionCount}
 use Rattle.parse_step.specs.Course.{Seen, Stack, countsOf, kindNo, runs}
 use Rattle.parse_step.specs.Taken.{Expected, Passed, Took, afterWord}
@@ -27,7 +27,7 @@ use Rattle.language.specs.Machine.{ask, make}
 use Rattle.language.specs.Naming.{Scope}
 use Rattle.language.specs.Tree as T
 use Rattle.language.specs.Tree.{Actions}
-use Rattle.parse_tables.specs.declared.meaning.Counts.{Counts}
+use Rattle.parse_tables.specs.declared.meaning.KnownNames.{KnownNames}
 use Rattle.parse_expressions.proofs.StartLaws.{at-same}
 use Rattle.parse_expressions.specs.Phrases.{atNesting, same}
 use Rattle.parse_stores.proofs.Joining.{grown-two, written-then}
@@ -53,7 +53,7 @@ use Rattle.parse_actions.specs.Lists.{Arm, ArmRead, Arms, ArmsRead, Else
 paid-counted : {s s′ : State} {acts : ℕ} (k : ℕ) → Paid (withActionCount s k) acts s′ → Paid s acts s′
 paid-counted k p = record { facilities = p .facilities; operations = p .operations; states = p .states; known = p .known; nesting = p .nesting; counted = p .counted; nodes = p .nodes; actions = p .actions }
 
-module _ (q : Bool) {text : List ℕ} {n : Counts} {w : Word} {s : State} {at : Position} {work work₁ : List ℕ} {f : Answer} (x : Puts D.Action.broken at w s work work₁ f) where
+module _ (q : Bool) {text : List ℕ} {n : KnownNames} {w : Word} {s : State} {at : Position} {work work₁ : List ℕ} {f : Answer} (x : Puts D.Action.broken at w s work work₁ f) where
   pub arm-full : (f .verdict ≡ Done → ⊥) → Arm q text n w s work work₁ f
   arm-full m sc st = record { done = λ d. absurd (m d); refused = λ g d. absurd (x .refused g d); full = λ d. omega (arith, x .full d, few-actions st) }
 
@@ -96,7 +96,7 @@ module _ (q : Bool) {text : List ℕ} {n : Counts} {w : Word} {s : State} {at : 
 -- ---- ELSE and its arm.
 
 -- Behind a word, with one more paid for.
-standing-arm : {text : List ℕ} {sc : Scope} {n : Counts} {w : Word} {s : State} {work : List ℕ} {t : Answer} → Standing text sc n w s (s .actions + 1) work → Passed text w (afterWord false Level s) s t
+standing-arm : {text : List ℕ} {sc : Scope} {n : KnownNames} {w : Word} {s : State} {work : List ℕ} {t : Answer} → Standing text sc n w s (s .actions + 1) work → Passed text w (afterWord false Level s) s t
     → Standing text sc n (t .next) (t .state) (t .state .actions + 1) work
 standing-arm {text} {sc} {n} {work = work} {t} st p =
     subst (λ (m : ℕ). Standing text sc n (t .next) (t .state) (m + 1) work) (sym (p .kept .actions)) (standing-passed false Level st p)
@@ -107,7 +107,7 @@ module _ (q : Bool) {text : List ℕ} {w : Word} {s : State} {t : Answer} (x : E
       else-comes text w z b (countsOf s) e q K ∙ x .done d z (omega arith) .1 (ownStack q ++ (elseStack ++ K)) b
       ∙ ap (λ (v : State). runs text (ownStack q ++ (elseStack ++ K)) (t .next) b v) (level-same (x .done d z (omega arith) .0))
 
-module _ (q : Bool) {text : List ℕ} {n : Counts} {w : Word} {s : State} {work : List ℕ} {t : Answer} (x : Expected text elseWord Level w s t) where
+module _ (q : Bool) {text : List ℕ} {n : KnownNames} {w : Word} {s : State} {work : List ℕ} {t : Answer} (x : Expected text elseWord Level w s t) where
   pub else-not : (t .verdict ≡ Done → ⊥) → {work′ : List ℕ} → Else q text n w s work work′ t
   else-not m e sc st = record {
     done = λ d. absurd (m d);
@@ -132,7 +132,7 @@ module _ (q : Bool) {text : List ℕ} {n : Counts} {w : Word} {s : State} {work 
 -- ---- Arms of CASE.
 
 -- An arm's list becomes an arm.
-arm-made : (q : Bool) {text : List ℕ} {sc : Scope} {n : Counts} {w : Word} {s : State} {work work′ : List ℕ} {r : Answer} → ArmRead (ownStack q) [] text sc n w s work work′ r
+arm-made : (q : Bool) {text : List ℕ} {sc : Scope} {n : KnownNames} {w : Word} {s : State} {work work′ : List ℕ} {r : Answer} → ArmRead (ownStack q) [] text sc n w s work work′ r
     → ArmsRead 1 (armStack q) (ask (armsAsk q) ∷ []) text sc n w s work work′ r
 unfolding joined listNo armsIn actionsIn
 arm-made q {text} {r = r} x = record {
@@ -147,7 +147,7 @@ arm-made q {text} {r = r} x = record {
   standing = x .standing;
 }
 
-made-arms : (q : Bool) {text : List ℕ} {sc : Scope} {n : Counts} {w : Word} {s : State} {work work′ : List ℕ} {r : Answer} → Told text (ownStack q) w s r (ArmRead (ownStack q) [] text sc n w s work work′ r)
+made-arms : (q : Bool) {text : List ℕ} {sc : Scope} {n : KnownNames} {w : Word} {s : State} {work work′ : List ℕ} {r : Answer} → Told text (ownStack q) w s r (ArmRead (ownStack q) [] text sc n w s work work′ r)
     → Told text (armStack q) w s r (ArmsRead 1 (armStack q) (ask (armsAsk q) ∷ []) text sc n w s work work′ r)
 made-arms q y = record { done = λ d. arm-made q (y .done d); refused = λ f d K b. y .refused f d (make (treeSteps .makeArm) ∷ ask (armsAsk q) ∷ K) b; full = y .full }
 
@@ -157,7 +157,7 @@ module _ (q : Bool) {text : List ℕ} {w : Word} {s : State} {t : Answer} (x : T
       do-comes text w z b (countsOf s) e q K ∙ took-done (x .done d) z (armStack q ++ K) b
       ∙ ap (λ (v : State). runs text (armStack q ++ K) (t .next) b v) (level-same (x .done d))
 
-module _ (q : Bool) {text : List ℕ} {n : Counts} {w : Word} {s : State} {work : List ℕ} {t : Answer} (x : Took text w (afterWord false Level s) s t) where
+module _ (q : Bool) {text : List ℕ} {n : KnownNames} {w : Word} {s : State} {work : List ℕ} {t : Answer} (x : Took text w (afterWord false Level s) s t) where
   pub next-arm-not : (t .verdict ≡ Done → ⊥) → {work′ : List ℕ} → NextArm q text n w s work work′ t
   next-arm-not m e sc st = record {
     done = λ d. absurd (m d);
@@ -192,7 +192,7 @@ paid-arms acts x y = record {
   actions = omega (arith, x .actions, y .actions);
 }
 
-arms-then : {j k : ℕ} {P Q R : Stack} {text : List ℕ} {sc : Scope} {n : Counts} {w : Word} {s : State} {work work₁ work₂ : List ℕ} {r r₂ : Answer} → ArmsRead j P Q text sc n w s work work₁ r
+arms-then : {j k : ℕ} {P Q R : Stack} {text : List ℕ} {sc : Scope} {n : KnownNames} {w : Word} {s : State} {work work₁ work₂ : List ℕ} {r r₂ : Answer} → ArmsRead j P Q text sc n w s work work₁ r
     → ArmsRead k Q R text sc n (r .next) (r .state) work₁ work₂ r₂ → (m : ℕ) → m ≡ j + k → ArmsRead m P R text sc n w s work work₂ r₂
 arms-then {j} {k} {s = s} x y m e = record {
   tree = joined (x .tree) (y .tree);
@@ -205,14 +205,14 @@ arms-then {j} {k} {s = s} x y m e = record {
 }
 
 -- So far.
-abbrev pub Arming : Bool → List ℕ → Counts → Word → State → List ℕ → ℕ → Answer → List ℕ → Type 0
+abbrev pub Arming : Bool → List ℕ → KnownNames → Word → State → List ℕ → ℕ → Answer → List ℕ → Type 0
 Arming q text n w s work count r work′ =
     (sc : Scope) → Standing text sc n w s (s .actions + 1) work → Told text (armStack q) w s r (ArmsRead count (armStack q) (ask (armsAsk q) ∷ []) text sc n w s work work′ r)
 
-pub arming-begin : (q : Bool) {text : List ℕ} {n : Counts} {w : Word} {s : State} {work work′ : List ℕ} {r : Answer} → Arm q text n w s work work′ r → Arming q text n w s work 1 r work′
+pub arming-begin : (q : Bool) {text : List ℕ} {n : KnownNames} {w : Word} {s : State} {work work′ : List ℕ} {r : Answer} → Arm q text n w s work work′ r → Arming q text n w s work 1 r work′
 arming-begin q x sc st = made-arms q (x sc st)
 
-module _ (q : Bool) {text : List ℕ} {n : Counts} {w : Word} {s : State} {work : List ℕ} {count : ℕ} {r : Answer} {work′ : List ℕ} (g : Arming q text n w s work count r work′) where
+module _ (q : Bool) {text : List ℕ} {n : KnownNames} {w : Word} {s : State} {work : List ℕ} {count : ℕ} {r : Answer} {work′ : List ℕ} (g : Arming q text n w s work count r work′) where
   pub arming-more : r .verdict ≡ Done → {z : Bool} → z ≡ eqb (kindNo (r .next .kind)) doWord → z ≡ true → {i : State} → i ≡ atNesting (r .state) (s .nesting) → {work₂ : List ℕ} {r₂ : Answer} → NextArm q text n (r .next) i work′ work₂ r₂
       → {m : ℕ} → m ≡ count + 1 → Arming q text n w s work m r₂ work₂
   arming-more d e₁ e₂ {i} h {work₂} {r₂} y₀ {m} f sc st =

@@ -7,7 +7,7 @@ use native.Mathlib.Omega.{arith}
 use Rattle.parse_step.specs.declared.Answer.{Answer}
 use Rattle.parse_step.specs.declared.Bearing.the-variants.{Closes}
 use Rattle.parse_step.specs.declared.State.{State}
-use Rattle.parse_step.specs.declared.Verdict.the-variants.{Done}
+use Rattle.parse_step.specs.declared.ReadVerdict.the-variants.{Done}
 use Rattle.parse_step.specs.Course.{Stack, kindNo}
 use Rattle.parse_step.specs.Says.{pushed}
 use Rattle.parse_step.specs.Taken.{Expected}
@@ -21,7 +21,7 @@ use Rattle.language.specs.Kinds.{caseWord, endCaseWord}
 use Rattle.language.specs.Machine.{closes, make, word}
 use Rattle.language.specs.Naming.{Scope}
 use Rattle.language.specs.Tree as T
-use Rattle.parse_tables.specs.declared.meaning.Counts.{Counts}
+use Rattle.parse_tables.specs.declared.meaning.KnownNames.{KnownNames}
 use Rattle.parse_stores.specs.Actions.{Standing, Written}
 use Rattle.parse_tables.specs.declared.Table.the-variants as Tb
 use Rattle.parse_tables.specs.Rows.{Wrote}
@@ -31,10 +31,10 @@ use Rattle.parse_array.specs.Layout.{mostActions}
 use Rattle.parse_actions.proofs.EndLaws.{choose-written, concluded}
 use Rattle.parse_actions.proofs.Laying.{headed}
 use Rattle.parse_actions.proofs.Room.{few-actions, few-nodes}
-use Rattle.parse_actions.specs.declared.Armed.{Armed}
+use Rattle.parse_expressions.specs.declared.pieces.Armed.{Armed}
 use Rattle.parse_actions.specs.Lists.{Arms, ArmsRead, Condition, ConditionRead, Conditional, Told, armStack, signOf}
 
-module _ (q : Bool) {text : List ℕ} {n : Counts} {w : Word} {s : State} {work work₁ : List ℕ} {c : Answer} (x : Condition true text n w s work work₁ c) where
+module _ (q : Bool) {text : List ℕ} {n : KnownNames} {w : Word} {s : State} {work work₁ : List ℕ} {c : Answer} (x : Condition true text n w s work work₁ c) where
   pub case-not : (c .verdict ≡ Done → ⊥) → Conditional q true text n w s work work₁ c
   case-not m e sc st = let y = x e q sc st in record { done = λ d. absurd (m d); refused = y .refused; full = y .full }
 

@@ -9,7 +9,7 @@ use Rattle.parse_step.proofs.TakenWords.{took-done, took-refused}
 use Rattle.parse_step.specs.declared.Answer.{Answer}
 use Rattle.parse_step.specs.declared.Bearing.the-variants.{Level, Opens}
 use Rattle.parse_step.specs.declared.State.{State}
-use Rattle.parse_step.specs.declared.Verdict.the-variants.{Done, Full}
+use Rattle.parse_step.specs.declared.ReadVerdict.the-variants.{Done, Full}
 use Rattle.parse_step.specs.Course.{Seen, Stack, countsOf, kindNo, runs}
 use Rattle.parse_step.specs.Pays.{Comes, Spends}
 use Rattle.parse_step.specs.Says.{Parses, Read, Says, pushed}
@@ -22,7 +22,7 @@ use Rattle.language.specs.Kinds.{doWord}
 use Rattle.language.specs.Machine.{Counts, ask, expression, level, word}
 use Rattle.language.specs.Naming.{Scope}
 use Rattle.language.specs.Tree as T
-use Rattle.parse_tables.specs.declared.meaning.Counts as M
+use Rattle.parse_tables.specs.declared.meaning.KnownNames as M
 use Rattle.parse_expressions.proofs.ArmLaws.{separators}
 use Rattle.parse_expressions.proofs.StartLaws.{at-same}
 use Rattle.parse_expressions.proofs.TermLaws.{from-kept}

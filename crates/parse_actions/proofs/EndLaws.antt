@@ -20,7 +20,7 @@ use Rattle.language.specs.Steps.{Step}
 use Rattle.language.specs.Tree as T
 use Rattle.language.specs.Tree.{Actions, Expression}
 use Rattle.language.specs.Words as L
-use Rattle.parse_tables.specs.declared.meaning.Counts as M
+use Rattle.parse_tables.specs.declared.meaning.KnownNames as M
 use Rattle.parse_expressions.specs.Phrases.{same}
 use Rattle.parse_stores.proofs.Standings.{standing-after}
 use Rattle.parse_stores.specs.Actions.{Paid, Reads, Standing, Written, frontOf, grown}

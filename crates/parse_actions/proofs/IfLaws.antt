@@ -9,7 +9,7 @@ use lib.Dec.{eqb}
 use Rattle.parse_step.specs.declared.Answer.{Answer}
 use Rattle.parse_step.specs.declared.Bearing.the-variants.{Closes}
 use Rattle.parse_step.specs.declared.State.{State}
-use Rattle.parse_step.specs.declared.Verdict.the-variants.{Done}
+use Rattle.parse_step.specs.declared.ReadVerdict.the-variants.{Done}
 use Rattle.parse_step.specs.Course.{Stack, countsOf, kindNo, runs}
 use Rattle.parse_step.specs.Says.{pushed}
 use Rattle.parse_step.specs.Taken.{Expected}
@@ -23,7 +23,7 @@ use Rattle.language.specs.Machine.{ask}
 use Rattle.language.specs.Naming.{Scope}
 use Rattle.language.specs.Tree as T
 use Rattle.language.specs.Tree.{Actions, Expression}
-use Rattle.parse_tables.specs.declared.meaning.Counts.{Counts}
+use Rattle.parse_tables.specs.declared.meaning.KnownNames.{KnownNames}
 use Rattle.parse_expressions.proofs.StartLaws.{at-same}
 use Rattle.parse_expressions.specs.Phrases.{atNesting}
 use Rattle.parse_stores.proofs.Joining.{written-then}
@@ -40,7 +40,7 @@ use Rattle.parse_actions.proofs.ListWords.{end-if-comes}
 use Rattle.parse_actions.proofs.Room.{few-actions, few-nodes, standing-acts}
 use Rattle.parse_actions.specs.Lists.{Arm, ArmRead, Condition, ConditionRead, Conditional, Else, OneBranch, Told, actionAsk, elseStack, ownStack, restAsk, signOf}
 
-module _ (q : Bool) {text : List ℕ} {n : Counts} {w : Word} {s : State} {work work₁ : List ℕ} {c : Answer} (x : Condition false text n w s work work₁ c) where
+module _ (q : Bool) {text : List ℕ} {n : KnownNames} {w : Word} {s : State} {work work₁ : List ℕ} {c : Answer} (x : Condition false text n w s work work₁ c) where
   pub if-not : (c .verdict ≡ Done → ⊥) → Conditional q false text n w s work work₁ c
   if-not m e sc st = let y = x e q sc st in record { done = λ d. absurd (m d); refused = y .refused; full = y .full }
 

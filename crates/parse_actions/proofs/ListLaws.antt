@@ -11,7 +11,7 @@ use Rattle.parse_step.proofs.TakenWords.{took-done, took-refused}
 use Rattle.parse_step.specs.declared.Answer.{Answer}
 use Rattle.parse_step.specs.declared.Bearing.the-variants.{Level}
 use Rattle.parse_step.specs.declared.State.{State}
-use Rattle.parse_step.specs.declared.Verdict.the-variants.{Done}
+use Rattle.parse_step.specs.declared.ReadVerdict.the-variants.{Done}
 use Rattle.parse_step.specs.Course.{Seen, Stack, countsOf, kindNo, runs}
 use Rattle.parse_step.specs.Taken.{Passed, Took, afterWord}
 use Rattle.parse_step.proofs.States.{state-of}
@@ -19,7 +19,7 @@ use Rattle.language.specs.Building.{Built, joined}
 use Rattle.language.specs.Kinds.{comma}
 use Rattle.language.specs.Machine.{ask}
 use Rattle.language.specs.Naming.{Scope}
-use Rattle.parse_tables.specs.declared.meaning.Counts.{Counts}
+use Rattle.parse_tables.specs.declared.meaning.KnownNames.{KnownNames}
 use Rattle.parse_expressions.proofs.StartLaws.{at-same}
 use Rattle.parse_expressions.specs.Phrases.{atNesting, same}
 use Rattle.parse_stores.proofs.Joining.{grown-two, paid-then, written-then}
@@ -37,7 +37,7 @@ level-same p = state-of (p .counts) (p .kept)
 pub at-level : {text : List ℕ} {w : Word} {s : State} {t : Answer} {i : State} → Passed text w (afterWord false Level s) s t → i ≡ atNesting (t .state) (s .nesting) → i ≡ t .state
 at-level {s = s} {t} p g = g ∙ at-same (t .state) (s .nesting) (ap (λ (q : State). q .nesting) (level-same p))
 
-module _ {text : List ℕ} {sc : Scope} {n : Counts} {P Q : Stack} {w : Word} {s : State} {work work₁ : List ℕ} {r : Answer} where
+module _ {text : List ℕ} {sc : Scope} {n : KnownNames} {P Q : Stack} {w : Word} {s : State} {work work₁ : List ℕ} {r : Answer} where
   -- A refusal handed on.
   pub reads-not : Reads text sc n P Q (same text) w s work work₁ r → (r .verdict ≡ Done → ⊥) → (Q′ : Stack) → Reads text sc n P Q′ (same text) w s work work₁ r
   reads-not x m Q′ = record { done = λ d. absurd (m d); refused = x .refused; full = x .full }
@@ -70,7 +70,7 @@ module _ (q : Bool) {text : List ℕ} {w : Word} {s : State} {t : Answer} (x : T
       comma-comes text w z b (countsOf s) e q K ∙ took-done (x .done d) z (ask (actionAsk q) ∷ ask (moreAsk q) ∷ K) b
       ∙ ap (λ (v : State). runs text (ask (actionAsk q) ∷ ask (moreAsk q) ∷ K) (t .next) b v) (level-same (x .done d))
 
-module _ (q : Bool) {text : List ℕ} {n : Counts} {w : Word} {s : State} {work : List ℕ} {t : Answer} (x : Took text w (afterWord false Level s) s t) where
+module _ (q : Bool) {text : List ℕ} {n : KnownNames} {w : Word} {s : State} {work : List ℕ} {t : Answer} (x : Took text w (afterWord false Level s) s t) where
   pub another-not : (t .verdict ≡ Done → ⊥) → {work′ : List ℕ} → Another q text n w s work work′ t
   another-not m e sc st = record {
     done = λ d. absurd (m d);
@@ -95,11 +95,11 @@ module _ (q : Bool) {text : List ℕ} {n : Counts} {w : Word} {s : State} {work 
 -- ---- The list.
 
 -- So far: what was read, with as many words counted as there were actions.
-pub record Going (q : Bool) (text : List ℕ) (n : Counts) (w : Word) (s : State) (work : List ℕ) (count : ℕ) (r : Answer) (work′ : List ℕ) : Type 0 where
+pub record Going (q : Bool) (text : List ℕ) (n : KnownNames) (w : Word) (s : State) (work : List ℕ) (count : ℕ) (r : Answer) (work′ : List ℕ) : Type 0 where
   pub reads : (sc : Scope) → Standing text sc n w s (s .actions) work → Reads text sc n (listStack q) (ask (moreAsk q) ∷ []) (same text) w s work work′ r
   pub counted : (sc : Scope) → Standing text sc n w s (s .actions) work → r .verdict ≡ Done → s .counted + count ≤ r .state .counted
 
-pub going-begin : (q : Bool) {text : List ℕ} {n : Counts} {w : Word} {s : State} {work work′ : List ℕ} {r : Answer} → Acts (ask (actionAsk q) ∷ []) same text n w s work work′ r → Going q text n w s work 1 r work′
+pub going-begin : (q : Bool) {text : List ℕ} {n : KnownNames} {w : Word} {s : State} {work work′ : List ℕ} {r : Answer} → Acts (ask (actionAsk q) ∷ []) same text n w s work work′ r → Going q text n w s work 1 r work′
 going-begin q {text} {n} {w} {s} {work} {work′} {r} x = record { reads = reads; counted = λ sc st d. counts-one (reads sc st .done d) }
   where
     reads : (sc : Scope) → Standing text sc n w s (s .actions) work → Reads text sc n (listStack q) (ask (moreAsk q) ∷ []) (same text) w s work work′ r
@@ -112,7 +112,7 @@ going-begin q {text} {n} {w} {s} {work} {work′} {r} x = record { reads = reads
           full = y .full;
         }
 
-module _ {q : Bool} {text : List ℕ} {n : Counts} {w : Word} {s : State} {work : List ℕ} {count : ℕ} {r : Answer} {work′ : List ℕ} (g : Going q text n w s work count r work′) where
+module _ {q : Bool} {text : List ℕ} {n : KnownNames} {w : Word} {s : State} {work : List ℕ} {count : ℕ} {r : Answer} {work′ : List ℕ} (g : Going q text n w s work count r work′) where
   pub going-more : r .verdict ≡ Done → {z : Bool} → z ≡ eqb (kindNo (r .next .kind)) comma → z ≡ true → {i : State} → i ≡ atNesting (r .state) (s .nesting) → {work₂ : List ℕ} {r₂ : Answer} → Another q text n (r .next) i work′ work₂ r₂
       → {m : ℕ} → m ≡ count + 1 → Going q text n w s work m r₂ work₂
   going-more d e₁ e₂ {i} h {work₂} {r₂} y₀ {m} f = record { reads = λ sc st. reads-then (first sc st) (next sc st); counted = λ sc st u. omega (arith, f, g .counted sc st d, counts-one (next sc st .done u)) }

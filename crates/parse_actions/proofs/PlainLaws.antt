@@ -9,7 +9,7 @@ use Rattle.parse_step.proofs.TakenWords.{took-done, took-refused}
 use Rattle.parse_step.specs.declared.Answer.{Answer}
 use Rattle.parse_step.specs.declared.Bearing.the-variants.{Level}
 use Rattle.parse_step.specs.declared.State.{State}
-use Rattle.parse_step.specs.declared.Verdict.the-variants.{Done}
+use Rattle.parse_step.specs.declared.ReadVerdict.the-variants.{Done}
 use Rattle.parse_step.specs.Course.{Seen, Stack, countsOf, kindNo, runs}
 use Rattle.parse_step.specs.Taken.{Passed, Refuses, Took, afterWord}
 use Rattle.about_grammar.specs.Following.{among}
@@ -18,7 +18,7 @@ use Rattle.language.specs.Kinds.{aName, callSign, gotoSign, returnWord}
 use Rattle.language.specs.Machine.{ask, refused, stateAction}
 use Rattle.language.specs.Naming.{Scope}
 use Rattle.language.specs.Words.{fault}
-use Rattle.parse_tables.specs.declared.meaning.Counts.{Counts}
+use Rattle.parse_tables.specs.declared.meaning.KnownNames.{KnownNames}
 use Rattle.parse_expressions.specs.Phrases.{afterName, same}
 use Rattle.parse_stores.proofs.Standings.{standing-word}
 use Rattle.parse_stores.specs.Actions.{Acts, Reads}
@@ -36,7 +36,7 @@ module _ (q : Bool) {text : List ℕ} {w : Word} {s : State} {t : Answer} (x : T
       name-comes text w z b (countsOf s) e q K ∙ took-done (x .done d) z (ask (nameAsk q) ∷ K) (afterName w text b)
       ∙ ap (λ (v : State). runs text (ask (nameAsk q) ∷ K) (t .next) (afterName w text b) v) (level-same (x .done d))
 
-module _ (q : Bool) {text : List ℕ} {n : Counts} {w : Word} {s : State} {work : List ℕ} {t : Answer} (x : Took text w (afterWord false Level s) s t) where
+module _ (q : Bool) {text : List ℕ} {n : KnownNames} {w : Word} {s : State} {work : List ℕ} {t : Answer} (x : Took text w (afterWord false Level s) s t) where
   pub named-not : (t .verdict ≡ Done → ⊥) → {work′ : List ℕ} → Named q text n w s work work′ t
   named-not m e sc st = record {
     done = λ d. absurd (m d);
@@ -60,7 +60,7 @@ module _ (q : Bool) {text : List ℕ} {n : Counts} {w : Word} {s : State} {work 
 
 -- ---- What begins no action.
 
-refuses : {text : List ℕ} {sc : Scope} {n : Counts} {P : Stack} {w : Word} {s : State} {work work′ : List ℕ} {a : Answer} → Refuses w NoContinuation a → ((K : Stack) (b : Built) → runs text (P ++ K) w b s ≡ refused (fault (positioned (w .at)) NoContinuation))
+refuses : {text : List ℕ} {sc : Scope} {n : KnownNames} {P : Stack} {w : Word} {s : State} {work work′ : List ℕ} {a : Answer} → Refuses w NoContinuation a → ((K : Stack) (b : Built) → runs text (P ++ K) w b s ≡ refused (fault (positioned (w .at)) NoContinuation))
     → Reads text sc n P [] (same text) w s work work′ a
 refuses x g = record {
   done = λ d. done-refused (sym d ∙ x .verdict);
@@ -68,13 +68,13 @@ refuses x g = record {
   full = λ d. refused-full (sym (x .verdict) ∙ d);
 }
 
-module _ {text : List ℕ} {n : Counts} {w : Word} {s : State} {work work′ : List ℕ} {a : Answer} (x : Refuses w NoContinuation a) {k : ℕ} (e : k ≡ kindNo (w .kind)) where
+module _ {text : List ℕ} {n : KnownNames} {w : Word} {s : State} {work work′ : List ℕ} {a : Answer} (x : Refuses w NoContinuation a) {k : ℕ} (e : k ≡ kindNo (w .kind)) where
   pub signed-not : {z : Bool} → z ≡ among k (gotoSign ∷ callSign ∷ returnWord ∷ []) → z ≡ false → Signed text n w s work work′ a
   signed-not f g m₁ m₂ m₃ sc st = refuses x (λ K b. no-control text w (st .seen) b (countsOf s) m₁ (ap (λ (v : ℕ). among v (gotoSign ∷ callSign ∷ returnWord ∷ [])) (sym e) ∙ sym f ∙ g) m₂ m₃ K)
 
   pub operation-not : (k ≡ aName → ⊥) → Plain false text n w s work work′ a
   operation-not m₁ m₂ m₃ sc st = refuses x (λ K b. no-operation text w (st .seen) b (countsOf s) (λ d. m₁ (e ∙ d)) m₂ m₃ K)
 
-pub signed-says : {text : List ℕ} {n : Counts} {w : Word} {s : State} {work work′ : List ℕ} {r : Answer} {k : ℕ} → k ≡ kindNo (w .kind) → {z : Bool} → z ≡ among k (gotoSign ∷ callSign ∷ returnWord ∷ []) → z ≡ true
+pub signed-says : {text : List ℕ} {n : KnownNames} {w : Word} {s : State} {work work′ : List ℕ} {r : Answer} {k : ℕ} → k ≡ kindNo (w .kind) → {z : Bool} → z ≡ among k (gotoSign ∷ callSign ∷ returnWord ∷ []) → z ≡ true
     → (among (kindNo (w .kind)) (gotoSign ∷ callSign ∷ returnWord ∷ []) ≡ true → Acts (ask stateAction ∷ []) same text n w s work work′ r) → Signed text n w s work work′ r
 signed-says e f g y m₁ m₂ m₃ = y (ap (λ (v : ℕ). among v (gotoSign ∷ callSign ∷ returnWord ∷ [])) (sym e) ∙ sym f ∙ g)

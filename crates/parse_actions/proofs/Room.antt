@@ -9,14 +9,14 @@ use Rattle.parse_step.specs.declared.State.{State}
 use Rattle.parse_step.specs.Gained.{withActionCount}
 use Rattle.parse_step.specs.Course.{countsOf}
 use Rattle.language.specs.Naming.{Scope}
-use Rattle.parse_tables.specs.declared.meaning.Counts.{Counts}
+use Rattle.parse_tables.specs.declared.meaning.KnownNames.{KnownNames}
 use Rattle.parse_stores.proofs.Keeping.{known-kept}
 use Rattle.parse_stores.proofs.Standings.{few-states}
 use Rattle.parse_stores.specs.Actions.{OthersKept, Standing}
 use Rattle.text_words.specs.declared.Word.{Word}
 use Rattle.parse_array.specs.Layout.{mostNodes, workSize}
 
-module _ {text : List ℕ} {sc : Scope} {n : Counts} {w : Word} {s : State} {acts : ℕ} {work : List ℕ} where
+module _ {text : List ℕ} {sc : Scope} {n : KnownNames} {w : Word} {s : State} {acts : ℕ} {work : List ℕ} where
   pub standing-kept : {work′ : List ℕ} → Standing text sc n w s acts work → OthersKept work work′ → length work′ ≡ workSize → Standing text sc n w s acts work′
   standing-kept {work′} st o l = record {
     seen = st .seen;

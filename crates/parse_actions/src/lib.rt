@@ -3,18 +3,19 @@ use image_records::actions::Action;
 use language::ceilings;
 use language::refusals::Refusal;
 use parse_array::Work;
+use parse_expressions::pieces::Armed;
 use parse_levels::Level;
 use parse_step::Answer;
 use parse_step::Bearing;
 use parse_step::State;
 use parse_step::kinds;
 use parse_step::taking;
-use parse_tables::meaning::Counts;
+use parse_tables::meaning::KnownNames;
 use text_words::Word;
 ghost use mathlib.Core.Bool.{true, false};
 ghost use mathlib.Core.List.{[], _∷_};
 ghost use Rattle.language.specs.Machine.{ask};
-ghost use Rattle.parse_tables.specs.declared.meaning.Counts as M;
+ghost use Rattle.parse_tables.specs.declared.meaning.KnownNames as M;
 ghost use Rattle.parse_expressions.specs.Phrases.{same};
 ghost use Rattle.parse_stores.specs.Actions.{Acts};
 ghost use Rattle.parse_actions.specs.Lists.{Another, Arm, Arms, Condition, Conditional, Deeper, Else, Named, NextArm, Plain, Signed, actionAsk, listStack};
@@ -24,14 +25,15 @@ mod leaves;
 // One turn more than words are counted.
 const TURNS: u16 = ceilings::COUNTED + 1;
 
-// What became of the arms of CASE, and how many there are.
-pub struct Armed {
-    pub answer: Answer,
-    pub count: u16,
-}
-
 // A list of actions, in an operation or in a state. Each action counts a word, of which there are at most 2,048.
-pub fn list(s: State, in_state: bool, text: &[u8], w: Word, work: &mut Work, n: Counts) -> Answer
+pub fn list(
+    s: State,
+    in_state: bool,
+    text: &[u8],
+    w: Word,
+    work: &mut Work,
+    n: KnownNames,
+) -> Answer
     ensures { λ r. ⌜ Acts (listStack in_state) same (now (text .entry)) n w s (now (work .entry)) (now (work .exit)) r ⌝ }
 {
     let mut read = action(s, in_state, text, w, work, n);
@@ -52,7 +54,7 @@ pub fn list(s: State, in_state: bool, text: &[u8], w: Word, work: &mut Work, n: 
 }
 
 // A comma and the action behind it.
-fn another(s: State, in_state: bool, text: &[u8], w: Word, work: &mut Work, n: Counts) -> Answer
+fn another(s: State, in_state: bool, text: &[u8], w: Word, work: &mut Work, n: KnownNames) -> Answer
     ensures { λ r. ⌜ Another in_state (now (text .entry)) n w s (now (work .entry)) (now (work .exit)) r ⌝ }
 {
     let comma = taking::take(text, w, s, false, Bearing::Level);
@@ -64,7 +66,14 @@ fn another(s: State, in_state: bool, text: &[u8], w: Word, work: &mut Work, n: C
 }
 
 // An action.
-pub fn action(s: State, in_state: bool, text: &[u8], w: Word, work: &mut Work, n: Counts) -> Answer
+pub fn action(
+    s: State,
+    in_state: bool,
+    text: &[u8],
+    w: Word,
+    work: &mut Work,
+    n: KnownNames,
+) -> Answer
     ensures { λ r. ⌜ Acts (ask (actionAsk in_state) ∷ []) same (now (text .entry)) n w s (now (work .entry)) (now (work .exit)) r ⌝ }
 {
     let found = w.kind;
@@ -101,7 +110,7 @@ fn condition(s: State, case: bool, text: &[u8], w: Word, work: &mut Work) -> Ans
 }
 
 // IF, with or without ELSE.
-fn when(s: State, in_state: bool, text: &[u8], w: Word, work: &mut Work, n: Counts) -> Answer
+fn when(s: State, in_state: bool, text: &[u8], w: Word, work: &mut Work, n: KnownNames) -> Answer
     ensures { λ r. ⌜ Conditional in_state false (now (text .entry)) n w s (now (work .entry)) (now (work .exit)) r ⌝ }
 {
     let head = condition(s, false, text, w, work);
@@ -135,7 +144,14 @@ fn when(s: State, in_state: bool, text: &[u8], w: Word, work: &mut Work, n: Coun
 }
 
 // ELSE and its list.
-fn otherwise(s: State, in_state: bool, text: &[u8], w: Word, work: &mut Work, n: Counts) -> Answer
+fn otherwise(
+    s: State,
+    in_state: bool,
+    text: &[u8],
+    w: Word,
+    work: &mut Work,
+    n: KnownNames,
+) -> Answer
     ensures { λ r. ⌜ Else in_state (now (text .entry)) n w s (now (work .entry)) (now (work .exit)) r ⌝ }
 {
     let word = taking::expect(text, w, s, language::kinds::ELSE, Bearing::Level);
@@ -147,7 +163,7 @@ fn otherwise(s: State, in_state: bool, text: &[u8], w: Word, work: &mut Work, n:
 }
 
 // CASE.
-fn cases(s: State, in_state: bool, text: &[u8], w: Word, work: &mut Work, n: Counts) -> Answer
+fn cases(s: State, in_state: bool, text: &[u8], w: Word, work: &mut Work, n: KnownNames) -> Answer
     ensures { λ r. ⌜ Conditional in_state true (now (text .entry)) n w s (now (work .entry)) (now (work .exit)) r ⌝ }
 {
     let head = condition(s, true, text, w, work);
@@ -177,7 +193,7 @@ fn cases(s: State, in_state: bool, text: &[u8], w: Word, work: &mut Work, n: Cou
 }
 
 // The arms of CASE, behind the first DO. Each counts a word, of which there are at most 2,048.
-fn arms(s: State, in_state: bool, text: &[u8], w: Word, work: &mut Work, n: Counts) -> Armed
+fn arms(s: State, in_state: bool, text: &[u8], w: Word, work: &mut Work, n: KnownNames) -> Armed
     ensures { λ r. ⌜ Arms in_state (now (text .entry)) n w s (now (work .entry)) (now (work .exit)) r ⌝ }
 {
     let mut read = arm(s, in_state, text, w, work, n);
@@ -207,7 +223,14 @@ fn arms(s: State, in_state: bool, text: &[u8], w: Word, work: &mut Work, n: Coun
 }
 
 // DO and its list.
-fn next_arm(s: State, in_state: bool, text: &[u8], w: Word, work: &mut Work, n: Counts) -> Answer
+fn next_arm(
+    s: State,
+    in_state: bool,
+    text: &[u8],
+    w: Word,
+    work: &mut Work,
+    n: KnownNames,
+) -> Answer
     ensures { λ r. ⌜ NextArm in_state (now (text .entry)) n w s (now (work .entry)) (now (work .exit)) r ⌝ }
 {
     let word = taking::take(text, w, s, false, Bearing::Level);
@@ -219,7 +242,7 @@ fn next_arm(s: State, in_state: bool, text: &[u8], w: Word, work: &mut Work, n: 
 }
 
 // A list of its own, behind the record of an arm, which is written again when the list's records are counted.
-fn arm(s: State, in_state: bool, text: &[u8], w: Word, work: &mut Work, n: Counts) -> Answer
+fn arm(s: State, in_state: bool, text: &[u8], w: Word, work: &mut Work, n: KnownNames) -> Answer
     ensures { λ r. ⌜ Arm in_state (now (text .entry)) n w s (now (work .entry)) (now (work .exit)) r ⌝ }
 {
     let at = text_words::places::position(0);
@@ -236,7 +259,7 @@ fn arm(s: State, in_state: bool, text: &[u8], w: Word, work: &mut Work, n: Count
 }
 
 // An action that is no conditional.
-fn plain(s: State, in_state: bool, text: &[u8], w: Word, work: &mut Work, n: Counts) -> Answer
+fn plain(s: State, in_state: bool, text: &[u8], w: Word, work: &mut Work, n: KnownNames) -> Answer
     ensures { λ r. ⌜ Plain in_state (now (text .entry)) n w s (now (work .entry)) (now (work .exit)) r ⌝ }
 {
     let found = w.kind;
@@ -250,7 +273,7 @@ fn plain(s: State, in_state: bool, text: &[u8], w: Word, work: &mut Work, n: Cou
 }
 
 // An action that begins with a name.
-fn named(s: State, in_state: bool, text: &[u8], w: Word, work: &mut Work, n: Counts) -> Answer
+fn named(s: State, in_state: bool, text: &[u8], w: Word, work: &mut Work, n: KnownNames) -> Answer
     ensures { λ r. ⌜ Named in_state (now (text .entry)) n w s (now (work .entry)) (now (work .exit)) r ⌝ }
 {
     let name = taking::take(text, w, s, false, Bearing::Level);
@@ -264,7 +287,7 @@ fn named(s: State, in_state: bool, text: &[u8], w: Word, work: &mut Work, n: Cou
 }
 
 // An action of a state that begins with a sign.
-fn signed(s: State, text: &[u8], w: Word, work: &mut Work, n: Counts) -> Answer
+fn signed(s: State, text: &[u8], w: Word, work: &mut Work, n: KnownNames) -> Answer
     ensures { λ r. ⌜ Signed (now (text .entry)) n w s (now (work .entry)) (now (work .exit)) r ⌝ }
 {
     let found = w.kind;

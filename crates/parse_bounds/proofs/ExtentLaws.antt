@@ -11,7 +11,7 @@ use Rattle.parse_step.proofs.TakenWords.{onTaken, took-done}
 use Rattle.parse_step.specs.declared.Answer.{Answer}
 use Rattle.parse_step.specs.declared.Bearing.the-variants.{Closes, Opens}
 use Rattle.parse_step.specs.declared.State.{State}
-use Rattle.parse_step.specs.declared.Verdict.the-variants.{Done}
+use Rattle.parse_step.specs.declared.ReadVerdict.the-variants.{Done}
 use Rattle.parse_step.specs.Course.{Seen, Stack, counts5, countsOf, kindNo, runs}
 use Rattle.parse_step.specs.Taken.{Expected, Passed, Refuses, Took, afterWord}
 use Rattle.language.specs.Alternatives.{closing}

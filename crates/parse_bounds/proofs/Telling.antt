@@ -8,7 +8,7 @@ use Rattle.parse_step.proofs.TakenWords.{onTaken, took-refused}
 use Rattle.parse_step.specs.declared.Answer.{Answer}
 use Rattle.parse_step.specs.declared.Bearing.{Bearing}
 use Rattle.parse_step.specs.declared.State.{State}
-use Rattle.parse_step.specs.declared.Verdict.the-variants.{Done}
+use Rattle.parse_step.specs.declared.ReadVerdict.the-variants.{Done}
 use Rattle.parse_step.specs.Course.{Seen, Stack, bearingOf, runs}
 use Rattle.parse_step.specs.Taken.{Expected, Keeps, Refuses, Took}
 use Rattle.language.specs.Building.{Built}

@@ -4,7 +4,7 @@ use mathlib.Core.Path.{_≡_}
 use Prim.Native.Nat.{ℕ}
 use Rattle.parse_step.specs.declared.Answer.{Answer}
 use Rattle.parse_step.specs.declared.State.{State}
-use Rattle.parse_step.specs.declared.Verdict.the-variants as Vd
+use Rattle.parse_step.specs.declared.ReadVerdict.the-variants as Vd
 use Rattle.parse_step.specs.Course.{Stack, runs}
 use Rattle.language.specs.Building.{Built}
 use Rattle.language.specs.Machine.{refused}

@@ -3,8 +3,8 @@ use crate::ranges;
 use language::refusals::Refusal;
 use parse_step::Answer;
 use parse_step::Bearing;
+use parse_step::ReadVerdict;
 use parse_step::State;
-use parse_step::Verdict;
 use parse_step::kinds;
 use parse_step::taking;
 use parse_tables::extents::Ends;
@@ -78,7 +78,7 @@ pub fn dimensions(text: &[u8], w: Word, s: State) -> Measured
     let kind = w.kind;
     if kinds::number(kind) != language::kinds::OPEN_BRACKET {
         let answer = Answer {
-            verdict: Verdict::Done,
+            verdict: ReadVerdict::Done,
             next: w,
             state: s,
         };

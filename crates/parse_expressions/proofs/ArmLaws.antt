@@ -26,7 +26,7 @@ use Rattle.parse_array.specs.Layout.{mostNodes}
 use Rattle.parse_step.specs.declared.Answer.{Answer}
 use Rattle.parse_step.specs.declared.Bearing.the-variants.{Closes, Level, Opens}
 use Rattle.parse_step.specs.declared.State.{State}
-use Rattle.parse_step.specs.declared.Verdict.the-variants.{Done, Full}
+use Rattle.parse_step.specs.declared.ReadVerdict.the-variants.{Done, Full}
 use Rattle.parse_step.specs.Course.{Seen, Stack, ahead, countsOf, kindNo, runs, runsOn}
 use Rattle.parse_step.specs.Gained.{Grows}
 use Rattle.parse_step.specs.Says.{Here, Parses, Pending, Read, Says, pushed}

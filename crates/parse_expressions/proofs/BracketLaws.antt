@@ -27,7 +27,7 @@ use Rattle.parse_array.proofs.NodesAdded.{nodes-append, nodes-other}
 use Rattle.parse_step.specs.declared.Answer.{Answer}
 use Rattle.parse_step.specs.declared.Bearing.the-variants.{Closes, Level, Opens}
 use Rattle.parse_step.specs.declared.State.{State}
-use Rattle.parse_step.specs.declared.Verdict.the-variants.{Done}
+use Rattle.parse_step.specs.declared.ReadVerdict.the-variants.{Done}
 use Rattle.parse_step.specs.Course.{Seen, Stack, ahead, countsOf, kindNo, runs, runsOn}
 use Rattle.parse_step.specs.Says.{Extends, Here, Parses, Pending, Says, pushed}
 use Rattle.parse_step.specs.Taken.{Expected, Follows, Took, afterWord, constantWord, endsAhead}

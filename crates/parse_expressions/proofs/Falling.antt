@@ -6,18 +6,18 @@ use Prim.Native.Nat.{suc, _≤_, _<_}
 use native.Mathlib.Omega.{arith}
 use types.Run.{OneOf}
 use denote.Enum.Declared.{tagOf}
-use Rattle.parse_levels.specs.declared.Head.{Head}
-use Rattle.parse_levels.specs.declared.Head.the-variants as H
+use Rattle.parse_levels.specs.declared.Lead.{Lead}
+use Rattle.parse_levels.specs.declared.Lead.the-variants as H
 use Rattle.parse_levels.specs.declared.Rank.{Rank}
 use Rattle.parse_levels.specs.declared.Rank.the-variants as R
 use Rattle.parse_levels.specs.Orders.{nextRank, operandLevel, rankNo, topNo}
-use Rattle.parse_levels.proofs.Head as head-type
+use Rattle.parse_levels.proofs.Lead as head-type
 use Rattle.parse_levels.proofs.Rank as rank-type
 
-pub not-plain : {h : Head} → OneOf (1 ∷ 2 ∷ 3 ∷ []) (tagOf head-type.the-type h) → h ≡ H.Plain → ⊥
+pub not-plain : {h : Lead} → OneOf (1 ∷ 2 ∷ 3 ∷ []) (tagOf head-type.the-type h) → h ≡ H.Plain → ⊥
 not-plain {h} k e =
     ⊎-elim (λ x. omega arith) (λ y. ⊎-elim (λ x. omega arith) (λ x. omega arith) y)
-    (subst (λ (u : Head). OneOf (1 ∷ 2 ∷ 3 ∷ []) (tagOf head-type.the-type u)) e k)
+    (subst (λ (u : Lead). OneOf (1 ∷ 2 ∷ 3 ∷ []) (tagOf head-type.the-type u)) e k)
 
 pub not-cut : {r : Rank} → OneOf (0 ∷ 1 ∷ 3 ∷ 4 ∷ 5 ∷ 6 ∷ 7 ∷ []) (tagOf rank-type.the-type r) → r ≡ R.Cut → ⊥
 not-cut {r} k e =

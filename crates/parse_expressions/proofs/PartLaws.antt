@@ -21,24 +21,24 @@ use Rattle.parse_array.specs.Held.{Held, held, withNodes}
 use Rattle.parse_step.specs.declared.Answer.{Answer}
 use Rattle.parse_step.specs.declared.Bearing.the-variants.{Level}
 use Rattle.parse_step.specs.declared.State.{State}
-use Rattle.parse_step.specs.declared.Verdict.the-variants.{Done}
+use Rattle.parse_step.specs.declared.ReadVerdict.the-variants.{Done}
 use Rattle.parse_step.specs.Course.{Stack, ahead, runs}
 use Rattle.parse_step.specs.Gained.{Gained}
 use Rattle.parse_step.specs.Says.{Here, Pending, Says, pushed}
 use Rattle.parse_step.specs.Taken.{Expected, constantWord, endsAhead}
 use Rattle.parse_step.proofs.Answers.{done-full, done-refused}
 use Rattle.parse_step.proofs.Saying.{made, makes-it}
-use Rattle.parse_levels.specs.declared.Head.{Head}
-use Rattle.parse_levels.specs.declared.Head.the-variants as H
+use Rattle.parse_levels.specs.declared.Lead.{Lead}
+use Rattle.parse_levels.specs.declared.Lead.the-variants as H
 use Rattle.parse_levels.specs.Orders.{prefixLevel, prefixStack, stackOf}
-use Rattle.parse_operands.specs.declared.constants.Ends.{Ends}
+use Rattle.parse_operands.specs.declared.constants.EndsRead.{EndsRead}
 use Rattle.parse_operands.specs.Ended.{Ended}
 use Rattle.parse_operands.specs.References.{Adds, endsOf, lettersOf, partOf, wordPartOf}
 use Rattle.parse_expressions.specs.Phrases.{Unprefixed, afterName, stayed}
 
 -- ---- RED, or nothing.
 
-pub unprefixed : {text : List ℕ} {w : Word} {s : State} {r : Answer} (h : Head) → r ≡ stayed s w → ((K : Stack) → _≡_ {A = Stack} (prefixStack h ++ K) (stackOf (prefixLevel h) ++ K)) → Unprefixed h text w s r
+pub unprefixed : {text : List ℕ} {w : Word} {s : State} {r : Answer} (h : Lead) → r ≡ stayed s w → ((K : Stack) → _≡_ {A = Stack} (prefixStack h ++ K) (stackOf (prefixLevel h) ++ K)) → Unprefixed h text w s r
 unprefixed {text} {w} {s} h e f = rw e (record {
   done = λ d z. record { course = λ K b. ap (λ (M : Stack). runs text M w b s) (f K); nesting = refl; kept = record { nodes = refl; actions = refl; known = refl }; seen = z };
   refused = λ g d. done-refused d;
@@ -64,7 +64,7 @@ plus-nothing n = omega arith
 
 -- ---- Parts.
 
-module _ {text : List ℕ} {sc : Scope} {w : Word} {s : State} {work work′ : List ℕ} (name : Word) (g : endsAhead (ahead text w) ≡ true) (h : Here text sc w s work) {e : Ends} (x : Ended text w s e) where
+module _ {text : List ℕ} {sc : Scope} {w : Word} {s : State} {work work′ : List ℕ} (name : Word) (g : endsAhead (ahead text w) ≡ true) (h : Here text sc w s work) {e : EndsRead} (x : Ended text w s e) where
   pub part-not : (e .answer .verdict ≡ Done → ⊥) → Says text sc (ask subscript ∷ []) [] (afterName name text) (held (s .nodes) work) (s .nodes) (s .nesting - 1) w s (e .answer) work′
   part-not n = record {
     done = λ d. absurd (n d);

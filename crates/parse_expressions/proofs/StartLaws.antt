@@ -23,7 +23,7 @@ use Rattle.parse_array.specs.Held.{held, withNodes}
 use Rattle.parse_step.specs.declared.Answer.{Answer}
 use Rattle.parse_step.specs.declared.Bearing.the-variants.{Level, Opens}
 use Rattle.parse_step.specs.declared.State.{State}
-use Rattle.parse_step.specs.declared.Verdict.the-variants.{Done}
+use Rattle.parse_step.specs.declared.ReadVerdict.the-variants.{Done}
 use Rattle.parse_step.specs.Course.{Stack, ahead, countsOf, kindNo, runs}
 use Rattle.parse_step.specs.Gained.{easedState}
 use Rattle.parse_step.specs.Says.{Extends, Here, Parses, Says, pushed}
@@ -31,8 +31,8 @@ use Rattle.parse_step.specs.Taken.{Took, afterWord}
 use Rattle.parse_step.proofs.Answers.{done-full, done-refused}
 use Rattle.parse_step.proofs.Saying.{eases, here-passed, made, makes-it, not-taken, passed, through}
 use Rattle.parse_step.proofs.TakenWords.{took-done}
-use Rattle.parse_levels.specs.declared.Head.{Head}
-use Rattle.parse_levels.specs.declared.Head.the-variants as H
+use Rattle.parse_levels.specs.declared.Lead.{Lead}
+use Rattle.parse_levels.specs.declared.Lead.the-variants as H
 use Rattle.parse_levels.specs.declared.Level as Lv
 use Rattle.parse_levels.specs.declared.Rank.{Rank}
 use Rattle.parse_levels.specs.declared.Rank.the-variants as R
@@ -46,7 +46,7 @@ at-same s n e = ap (atNesting s) (sym e)
 
 -- ---- A level from its first operand.
 
-module _ {text : List ℕ} {w : Word} {s : State} {work work₁ : List ℕ} (l : Lv.Level) {head : Head} {k : ℕ} (e₁ : k ≡ kindNo (w .kind)) (e : head ≡ headOf l k) {first : Answer} (x : Begins head text w s work work₁ first) where
+module _ {text : List ℕ} {w : Word} {s : State} {work work₁ : List ℕ} (l : Lv.Level) {head : Lead} {k : ℕ} (e₁ : k ≡ kindNo (w .kind)) (e : head ≡ headOf l k) {first : Answer} (x : Begins head text w s work work₁ first) where
   says-first : (sc : Scope) → Here text sc w s work → Says text sc (stackOf l) (tailsFrom (rankAfter head) l) (λ b. b) (held (s .nodes) work) (s .nodes) (s .nesting) w s first work₁
   says-first sc h = x sc h l (ap (headOf l) (sym e₁) ∙ sym e)
 
@@ -69,11 +69,11 @@ abbrev keeping : Word → Built → Built
 keeping w b = keepWord (L.sign (kindNo (w .kind)) (positioned (w .at))) b
 
 -- What is still to come behind the operand of a prefix operator.
-abbrev below : Head → Lv.Level → Stack → Stack
+abbrev below : Lead → Lv.Level → Stack → Stack
 below head l K = make (treeSteps .makePrefix) ∷ ease ∷ (tailsFrom (rankAfter head) l ++ K)
 
 module _ {text : List ℕ} {w : Word} {s : State} {work : List ℕ} where
-  pub plain-opening : {head : Head} → head ≡ H.Plain → {work′ : List ℕ} {r : Answer} → Parses (ask term ∷ []) same (s .nesting) text w s work work′ r → Begins head text w s work work′ r
+  pub plain-opening : {head : Lead} → head ≡ H.Plain → {work′ : List ℕ} {r : Answer} → Parses (ask term ∷ []) same (s .nesting) text w s work work′ r → Begins head text w s work work′ r
   plain-opening {head} e {work′} {r} x = rw e (go x)
     where
       go : Parses (ask term ∷ []) same (s .nesting) text w s work work′ r → Begins H.Plain text w s work work′ r
@@ -91,7 +91,7 @@ module _ {text : List ℕ} {w : Word} {s : State} {work : List ℕ} where
             full = u .full;
           }
 
-  module _ (head : Head) (n : head ≡ H.Plain → ⊥) {t : Answer} (x : Took text w (afterWord true Opens s) s t) where
+  module _ (head : Lead) (n : head ≡ H.Plain → ⊥) {t : Answer} (x : Took text w (afterWord true Opens s) s t) where
     pub opening-not : {work′ : List ℕ} → (t .verdict ≡ Done → ⊥) → Begins head text w s work work′ t
     opening-not m sc h l e = not-taken x m (λ K. prefixStack head ++ below head l K) (keeping w) (λ K b. head-taken text w (h .seen) b (countsOf s) head n l e K)
 

@@ -24,7 +24,7 @@ use Rattle.parse_array.specs.Layout.{mostNodes}
 use Rattle.parse_step.specs.declared.Answer.{Answer}
 use Rattle.parse_step.specs.declared.Bearing.the-variants.{Level}
 use Rattle.parse_step.specs.declared.State.{State}
-use Rattle.parse_step.specs.declared.Verdict.the-variants.{Done, Full}
+use Rattle.parse_step.specs.declared.ReadVerdict.the-variants.{Done, Full}
 use Rattle.parse_step.specs.Course.{Seen, Stack, countsOf, kindNo, runs}
 use Rattle.parse_step.specs.Gained.{Grows}
 use Rattle.parse_step.specs.Says.{Extends, Here, Parses, Pending, Read, Says, pushed}

@@ -20,7 +20,7 @@ use Rattle.parse_step.specs.declared.Answer.{Answer}
 use Rattle.parse_step.specs.declared.Bearing as B
 use Rattle.parse_step.specs.declared.Bearing.the-variants.{Closes, Level, Opens}
 use Rattle.parse_step.specs.declared.State.{State}
-use Rattle.parse_step.specs.declared.Verdict.the-variants.{Done}
+use Rattle.parse_step.specs.declared.ReadVerdict.the-variants.{Done}
 use Rattle.parse_step.specs.Course.{Stack, bearingOf, borne, countsOf, kindNo, runs}
 use Rattle.parse_step.specs.Says.{Here, Parses, Pending, Says, pushed}
 use Rattle.parse_step.specs.Taken.{Expected, Refuses, Took, afterWord}

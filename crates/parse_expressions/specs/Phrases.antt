@@ -22,12 +22,12 @@ use Rattle.text_words.specs.Meaning.{faulted, positioned}
 use Rattle.parse_array.specs.Held.{Held, held}
 use Rattle.parse_step.specs.declared.Answer.{Answer}
 use Rattle.parse_step.specs.declared.State.{State}
-use Rattle.parse_step.specs.declared.Verdict.the-variants.{Done, Full, Refused}
+use Rattle.parse_step.specs.declared.ReadVerdict.the-variants.{Done, Full, Refused}
 use Rattle.parse_step.specs.Course.{Seen, Stack, ahead, kindNo, runs}
 use Rattle.parse_step.specs.Gained.{Gained, Grows}
 use Rattle.parse_step.specs.Says.{Here, Pending, Says, pushed}
 use Rattle.parse_step.specs.Taken.{Kept, endsAhead}
-use Rattle.parse_levels.specs.declared.Head.{Head}
+use Rattle.parse_levels.specs.declared.Lead.{Lead}
 use Rattle.parse_levels.specs.declared.Level.{Level}
 use Rattle.parse_levels.specs.declared.Rank.{Rank}
 use Rattle.parse_levels.specs.declared.Rank.the-variants as R
@@ -55,19 +55,19 @@ abbrev pub gains : Node → L.Position → Word → State → List ℕ → List 
 gains n p next s work work′ r = Gained next s (nodeBytes n) (plainPlaces (nodePlaces p)) work work′ r
 
 -- Behind a prefix operator its operand comes.
-pub record Operand (head : Head) (text : List ℕ) (w : Word) (s : State) (r : Answer) : Type 0 where
+pub record Operand (head : Lead) (text : List ℕ) (w : Word) (s : State) (r : Answer) : Type 0 where
   pub course : (K : Stack) (b : Built) → runs text (prefixStack head ++ K) w b s ≡ runs text (stackOf (prefixLevel head) ++ K) (r .next) b (r .state)
   pub nesting : r .state .nesting ≡ s .nesting
   pub kept : Kept s (r .state)
   pub seen : Seen text (r .next)
 
-pub record Unprefixed (head : Head) (text : List ℕ) (w : Word) (s : State) (r : Answer) : Type 0 where
+pub record Unprefixed (head : Lead) (text : List ℕ) (w : Word) (s : State) (r : Answer) : Type 0 where
   pub done : r .verdict ≡ Done → Seen text w → Operand head text w s r
   pub refused : (f : Fault) → r .verdict ≡ Refused f → Seen text w → (K : Stack) (b : Built) → runs text (prefixStack head ++ K) w b s ≡ refused (faulted f)
   pub full : r .verdict ≡ Full → ⊥
 
 -- A level's first operand, by the head that the level has there.
-abbrev pub Begins : Head → List ℕ → Word → State → List ℕ → List ℕ → Answer → Type 0
+abbrev pub Begins : Lead → List ℕ → Word → State → List ℕ → List ℕ → Answer → Type 0
 Begins head text w s work work′ r =
     (sc : Scope) → Here text sc w s work → (l : Level) → headOf l (kindNo (w .kind)) ≡ head
     → Says text sc (stackOf l) (tailsFrom (rankAfter head) l) (λ b. b) (held (s .nodes) work) (s .nodes) (s .nesting) w s r work′

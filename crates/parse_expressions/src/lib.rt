@@ -3,7 +3,7 @@ use crate::pieces::Armed;
 use language::refusals::Refusal;
 use parse_array::Work;
 use parse_array::layout::MOST_NODES;
-use parse_levels::Head;
+use parse_levels::Lead;
 use parse_levels::Level;
 use parse_levels::Rank;
 use parse_levels::heads;
@@ -47,10 +47,10 @@ pub fn start(s: State, level: Level, text: &[u8], w: Word, work: &mut Work) -> A
 }
 
 // Its first operand, with what stands before it.
-fn opening(s: State, head: Head, text: &[u8], w: Word, work: &mut Work) -> Answer
+fn opening(s: State, head: Lead, text: &[u8], w: Word, work: &mut Work) -> Answer
     ensures { λ r. ⌜ Begins head (now (text .entry)) w s (now (work .entry)) (now (work .exit)) r × Spends (now (text .entry)) 0 w s r ⌝ }
 {
-    if let Head::Plain = head {
+    if let Lead::Plain = head {
         return term(s, text, w, work);
     }
     let taken = taking::take(text, w, s, true, Bearing::Opens);

@@ -2,15 +2,15 @@
 use image_records::nodes::Node;
 use parse_array::Work;
 use parse_array::places;
-use parse_levels::Head;
+use parse_levels::Lead;
 use parse_levels::Rank;
 use parse_levels::ranks;
 use parse_operands::constants;
 use parse_operands::nodes;
 use parse_step::Answer;
 use parse_step::Bearing;
+use parse_step::ReadVerdict;
 use parse_step::State;
-use parse_step::Verdict;
 use parse_step::adding;
 use parse_step::kinds;
 use parse_step::taking;
@@ -29,7 +29,7 @@ ghost use Rattle.parse_step.specs.Says.{Parses};
 ghost use Rattle.parse_step.specs.Taken.{endsAhead};
 ghost use Rattle.parse_levels.specs.Orders.{operatorsOf};
 ghost use Rattle.text_words.specs.Meaning.{positioned};
-ghost use Rattle.parse_step.specs.declared.Verdict.the-variants.{Full};
+ghost use Rattle.parse_step.specs.declared.ReadVerdict.the-variants.{Full};
 ghost use Rattle.parse_expressions.specs.Phrases as S;
 ghost use Rattle.parse_expressions.specs.Phrases.{Second, Unprefixed, afterName, atNesting, firstWord, gains, lastWord, otherWord, stayed};
 
@@ -44,7 +44,7 @@ pub fn stay(s: State, w: Word) -> Answer
     ensures { λ r. ⌜ r ≡ stayed s w ⌝ }
 {
     Answer {
-        verdict: Verdict::Done,
+        verdict: ReadVerdict::Done,
         next: w,
         state: s,
     }
@@ -55,7 +55,7 @@ pub fn full(s: State, w: Word) -> Answer
     ensures { λ r. ⌜ r ≡ record { verdict = Full; next = w; state = s } ⌝ }
 {
     Answer {
-        verdict: Verdict::Full,
+        verdict: ReadVerdict::Full,
         next: w,
         state: s,
     }
@@ -127,14 +127,14 @@ pub fn at(s: State, nesting: u16) -> State
 }
 
 // The word RED behind a reduction's sign; nothing behind another prefix operator.
-pub fn reducing(s: State, head: Head, text: &[u8], w: Word) -> Answer
+pub fn reducing(s: State, head: Lead, text: &[u8], w: Word) -> Answer
     ensures { λ r. ⌜ Unprefixed head (now (text .entry)) w s r × Spends (now (text .entry)) 1 w s r ⌝ }
 {
     match head {
-        Head::Plain => stay(s, w),
-        Head::Negation => stay(s, w),
-        Head::Reduction => taking::expect(text, w, s, language::kinds::RED, Bearing::Level),
-        Head::Complement => stay(s, w),
+        Lead::Plain => stay(s, w),
+        Lead::Negation => stay(s, w),
+        Lead::Reduction => taking::expect(text, w, s, language::kinds::RED, Bearing::Level),
+        Lead::Complement => stay(s, w),
     }
 }
 

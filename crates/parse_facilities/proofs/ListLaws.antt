@@ -7,13 +7,13 @@ use lib.ListN.{length}
 use Rattle.parse_step.proofs.TakenWords.{onTaken, took-done, took-refused}
 use Rattle.parse_step.specs.declared.Answer.{Answer}
 use Rattle.parse_step.specs.declared.State.{State}
-use Rattle.parse_step.specs.declared.Verdict.the-variants.{Done}
+use Rattle.parse_step.specs.declared.ReadVerdict.the-variants.{Done}
 use Rattle.parse_step.specs.Course.{Stack, countsOf, kindNo, runs}
 use Rattle.parse_step.specs.Taken.{Took}
 use Rattle.parse_step.proofs.States.{state-of}
 use Rattle.parse_bounds.proofs.Telling.{through}
 use Rattle.parse_bounds.specs.Telling.{Tells, same}
-use Rattle.image_sections.specs.declared.facilities.Kind.the-variants as F
+use Rattle.image_sections.specs.declared.facilities.FacilityKind.the-variants as F
 use Rattle.language.specs.Building.{Built, withText}
 use Rattle.language.specs.Kinds.{comma}
 use Rattle.language.specs.Machine.{ask}

@@ -7,7 +7,7 @@ use native.Mathlib.Omega.{arith}
 use lib.ListN.{drop, length, length-drop, length-take, take}
 use lib.Seq.{length-take-le, take-take}
 use Rattle.parse_step.specs.declared.State.{State}
-use Rattle.parse_step.specs.declared.Verdict.the-variants.{Done}
+use Rattle.parse_step.specs.declared.ReadVerdict.the-variants.{Done}
 use Rattle.language.specs.Describe.{Noted}
 use Rattle.language.specs.DescribeText.{facilitiesOf, facilityNodes, facilityOf, facilitySize}
 use Rattle.language.specs.Encode.{facilityRecords, nodeSize}

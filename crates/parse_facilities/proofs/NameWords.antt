@@ -15,8 +15,8 @@ use Rattle.parse_step.proofs.States.{state-of}
 use Rattle.parse_bounds.proofs.Telling.{refuses, word-taken}
 use Rattle.parse_bounds.specs.Extents.{askOf}
 use Rattle.about_grammar.specs.FineWays.{both-first}
-use Rattle.image_sections.specs.declared.facilities.Kind.{Kind}
-use Rattle.image_sections.specs.declared.facilities.Kind.the-variants as F
+use Rattle.image_sections.specs.declared.facilities.FacilityKind.{FacilityKind}
+use Rattle.image_sections.specs.declared.facilities.FacilityKind.the-variants as F
 use Rattle.language.specs.Building.{Built, keepWord}
 use Rattle.language.specs.Kinds.{aName, hash}
 use Rattle.language.specs.Machine.{Counts, ask, choose, deepest, feed, finish, mostCounted, mostFacilities, mostOperations, mostStates, refused, run, tallied, withinCeilings}
@@ -29,7 +29,7 @@ use Rattle.parse_facilities.specs.Specs.{NameRead, Names, Plainly, endOf
 
 module _ (text : List ℕ) (w : Word) (K : Stack) (b : Built) (s : State) (z : Seen text w) where
   -- A name is kept, and counts.
-  pub name-taken : (k : Kind) → kindNo (w .kind) ≡ aName
+  pub name-taken : (k : FacilityKind) → kindNo (w .kind) ≡ aName
       → runs text (ask (specOf k) ∷ K) w b s ≡ onTaken text w (ask (askOf (whoseOf k)) ∷ (endOf k ++ K)) (keepWord (namedWord text w) b) (countsOf (moreState s))
   unfolding runsOn run feed choose ruleOf tallied letters
   name-taken F.Register e = rw (name-ahead text w z e) (taken-on text (positioned (w .at)) (ask (askOf (whoseOf F.Register)) ∷ (endOf F.Register ++ K)) (behind text w) (keepWord (namedWord text w) b) (countsOf (moreState s)))
@@ -40,11 +40,11 @@ module _ (text : List ℕ) (w : Word) (K : Stack) (b : Built) (s : State) (z : S
   name-taken F.Computed e = rw (name-ahead text w z e) (taken-on text (positioned (w .at)) (ask (askOf (whoseOf F.Computed)) ∷ K) (behind text w) (keepWord (namedWord text w) b) (countsOf (moreState s)))
 
   -- Another word is refused.
-  pub name-stuck : (k : Kind) → Plainly k w → (kindNo (w .kind) ≡ aName → ⊥) → runs text (ask (specOf k) ∷ K) w b s ≡ refused (fault (positioned (w .at)) NoContinuation)
+  pub name-stuck : (k : FacilityKind) → Plainly k w → (kindNo (w .kind) ≡ aName → ⊥) → runs text (ask (specOf k) ∷ K) w b s ≡ refused (fault (positioned (w .at)) NoContinuation)
   unfolding runsOn run feed finish choose ruleOf
   name-stuck k h n = by-view k h (view text w z)
     where
-      by-view : (k : Kind) → Plainly k w → View text w → runs text (ask (specOf k) ∷ K) w b s ≡ refused (fault (positioned (w .at)) NoContinuation)
+      by-view : (k : FacilityKind) → Plainly k w → View text w → runs text (ask (specOf k) ∷ K) w b s ≡ refused (fault (positioned (w .at)) NoContinuation)
       by-view F.Register h (ended e p q) = rw (e, p)
       by-view F.Register h (begun v e q p) = rw (e, q, ne-eqb (kindNo (w .kind)) aName n, ne-eqb (kindNo (w .kind)) hash h, p)
       by-view F.Sequencing h (ended e p q) = rw (e, p)

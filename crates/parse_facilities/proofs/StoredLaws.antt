@@ -9,7 +9,7 @@ use Rattle.parse_step.proofs.Saying.{makes-it}
 use Rattle.parse_step.proofs.TakenWords.{onTaken, taken-on, took-done}
 use Rattle.parse_step.specs.declared.Answer.{Answer}
 use Rattle.parse_step.specs.declared.State.{State}
-use Rattle.parse_step.specs.declared.Verdict.the-variants.{Done}
+use Rattle.parse_step.specs.declared.ReadVerdict.the-variants.{Done}
 use Rattle.parse_step.specs.Course.{Seen, Stack, behind, countsOf, kindNo, runs, runsOn}
 use Rattle.parse_step.specs.Taken.{Passed, Took}
 use Rattle.parse_step.proofs.States.{state-of}
@@ -17,8 +17,8 @@ use Rattle.parse_bounds.proofs.Telling.{through, word-taken}
 use Rattle.parse_bounds.specs.declared.extents.Measured.{Measured}
 use Rattle.parse_bounds.specs.Extents.{ExtentRead, Measures, askOf, toCome, withExtent}
 use Rattle.parse_bounds.specs.Telling.{same}
-use Rattle.image_sections.specs.declared.facilities.Kind.{Kind}
-use Rattle.image_sections.specs.declared.facilities.Kind.the-variants as F
+use Rattle.image_sections.specs.declared.facilities.FacilityKind.{FacilityKind}
+use Rattle.image_sections.specs.declared.facilities.FacilityKind.the-variants as F
 use Rattle.language.specs.Building.{Built, keepWord, withText, wordNo}
 use Rattle.language.specs.Declaring.{makeMemory, makeRegister, makeSequencing}
 use Rattle.language.specs.DescribeText.{facilitySize}
@@ -62,7 +62,7 @@ pub standing-passed : {text : List ℕ} {ds : List Declaration} {place : ℕ} {w
 standing-passed st p = standing-same st (state-of (p .counts) (p .kept)) refl (p .seen)
 
 -- The step that ends a declaration puts it at the end of its list.
-ends : (text : List ℕ) (k : Kind) → Stored k → (w next : Word) (x : Extent) (K : Stack) (b : Built) (s : State)
+ends : (text : List ℕ) (k : FacilityKind) → Stored k → (w next : Word) (x : Extent) (K : Stack) (b : Built) (s : State)
     → runs text (toCome (whoseOf k) x ++ (endOf k ++ K)) next (withExtent x (keepWord (namedWord text w) b)) s ≡ runs text K next (withText b (put k (declarationOf text k w x T.unspecified) (b .text))) s
 unfolding wordNo
 ends text F.Register h w next x K b s = makes-it text makeRegister K next (withExtent x (keepWord (namedWord text w) b)) (withText b (put F.Register (declarationOf text F.Register w x T.unspecified) (b .text))) s (λ p. refl)
@@ -72,7 +72,7 @@ ends text F.Plain h w next x K b s = absurd h
 ends text F.Input h w next x K b s = absurd h
 ends text F.Computed h w next x K b s = absurd h
 
-module _ {text : List ℕ} {w : Word} {s : State} {place : ℕ} {k : Kind} {work work′ : List ℕ} {a : Answer} (x : Names text w s a) where
+module _ {text : List ℕ} {w : Word} {s : State} {place : ℕ} {k : FacilityKind} {work work′ : List ℕ} {a : Answer} (x : Names text w s a) where
   pub stored-unnamed : {p : ℕ} → (a .verdict ≡ Done → ⊥) → Stores text w s place k work work′ (record { answer = a; place = p })
   stored-unnamed n h q ds st = let t = x k q (st .seen) (st .within) in record { done = λ d. absurd (n d); refused = t .refused; full = t .full }
 

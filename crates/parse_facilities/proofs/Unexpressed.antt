@@ -8,7 +8,7 @@ use lib.Seq.{length-take-le}
 use Rattle.parse_step.specs.declared.State.{State}
 use Rattle.parse_step.specs.Course.{Seen}
 use Rattle.parse_bounds.specs.Extents.{Sized, bitsLeft, bitsRight, wordsLeft, wordsRight}
-use Rattle.image_sections.specs.declared.facilities.Kind.{Kind}
+use Rattle.image_sections.specs.declared.facilities.FacilityKind.{FacilityKind}
 use Rattle.language.specs.Characters.{folded}
 use Rattle.language.specs.Describe.{Noted}
 use Rattle.language.specs.DescribeText.{equalsPlace, facilityNodes, facilitySize, functionNodes, functionNumber, functionSize, placesOf}
@@ -65,11 +65,11 @@ pub letters-length : (text : List ℕ) (place size : ℕ) → place + size ≤ l
 unfolding letters
 letters-length text place size h = length-map (take size (drop place text)) folded ∙ length-take-le size (drop place text) (omega (arith, length-drop place text))
 
-abbrev pub saidOf : Kind → Word → C.Extent → ℕ → P.Position → Declared
+abbrev pub saidOf : FacilityKind → Word → C.Extent → ℕ → P.Position → Declared
 saidOf k w e n p = record { kind = k; at = w .at; size = w .size; extent = e; expression = n; equals = p }
 
 -- What the code says of a declaration, by what it says of the function.
-pub said : (text : List ℕ) (k : Kind) (w : Word) (x : Extent) (f : Function) (base : ℕ) {e : C.Extent} {n : ℕ} {p : P.Position} → Seen text w → length text < 65536 → Sized x e
+pub said : (text : List ℕ) (k : FacilityKind) (w : Word) (x : Extent) (f : Function) (base : ℕ) {e : C.Extent} {n : ℕ} {p : P.Position} → Seen text w → length text < 65536 → Sized x e
     → functionNumber base f ≡ n → equalsPlace f ≡ positioned p → Says text base (declarationOf text k w x f) (saidOf k w e n p)
 said text k w x f base z l g i q = record {
   facility = rw (g .dimensions, g .words, g .bits, i);
@@ -80,7 +80,7 @@ said text k w x f base z l g i q = record {
   short = omega (arith, z .next .within);
 }
 
-module _ (text : List ℕ) (k : Kind) (w : Word) (x : Extent) (f : Function) (h : Bare f) where
+module _ (text : List ℕ) (k : FacilityKind) (w : Word) (x : Extent) (f : Function) (h : Bare f) where
   pub bare-said : (base : ℕ) {e : C.Extent} {p : P.Position} → Seen text w → length text < 65536 → Sized x e → positioned p ≡ nowhere → Says text base (declarationOf text k w x f) (saidOf k w e 0 p)
   bare-said base z l g q = said text k w x f base z l g (bare-number base f h) (bare-place f h ∙ sym q)
 

@@ -7,8 +7,8 @@ use lib.ListN.{length}
 use Rattle.parse_step.specs.declared.State.{State}
 use Rattle.parse_step.specs.Course.{Seen, Stack, countsOf, runs}
 use Rattle.parse_bounds.specs.Telling.{Tells, same}
-use Rattle.image_sections.specs.declared.facilities.Kind.{Kind}
-use Rattle.image_sections.specs.declared.facilities.Kind.the-variants as K
+use Rattle.image_sections.specs.declared.facilities.FacilityKind.{FacilityKind}
+use Rattle.image_sections.specs.declared.facilities.FacilityKind.the-variants as K
 use Rattle.language.specs.Building.{Built, withText}
 use Rattle.language.specs.Declaring.{withMemory, withRegister, withTerminal}
 use Rattle.language.specs.Machine.{ask, registerSpec, withinCeilings}
@@ -27,7 +27,7 @@ pub record Standing (text : List ℕ) (ds : List Declaration) (place : ℕ) (w :
   pub paid : s .nodes ≤ 7 * s .counted
 
 -- A declaration at the end of its list.
-abbrev pub put : Kind → Declaration → Text → Text
+abbrev pub put : FacilityKind → Declaration → Text → Text
 put K.Register d t = withRegister t d
 put K.Sequencing d t = withRegister t d
 put K.Memory d t = withMemory t d
@@ -36,7 +36,7 @@ put K.Input d t = withTerminal t d
 put K.Computed d t = withTerminal t d
 
 -- Kinds that are declared by a name and dimensions alone.
-abbrev pub Stored : Kind → Type 0
+abbrev pub Stored : FacilityKind → Type 0
 Stored K.Register = Unit {0}
 Stored K.Sequencing = Unit {0}
 Stored K.Memory = Unit {0}
@@ -51,13 +51,13 @@ pub record OthersKept (s s′ : State) : Type 0 where
   pub nesting : s′ .nesting ≡ s .nesting
   pub actions : s′ .actions ≡ s .actions
 
-pub record OneRead (text : List ℕ) (ds : List Declaration) (P : Stack) (k : Kind) (w : Word) (s : State) (work′ : List ℕ) (r : Progress) : Type 0 where
+pub record OneRead (text : List ℕ) (ds : List Declaration) (P : Stack) (k : FacilityKind) (w : Word) (s : State) (work′ : List ℕ) (r : Progress) : Type 0 where
   pub tree : Declaration
   pub course : (K : Stack) (b : Built) → runs text (P ++ K) w b s ≡ runs text K (r .answer .next) (withText b (put k tree (b .text))) (r .answer .state)
   pub standing : Standing text (ds ++ tree ∷ []) (r .place) (r .answer .next) (r .answer .state) work′
   pub others : OthersKept s (r .answer .state)
 
-abbrev pub Stores : List ℕ → Word → State → ℕ → Kind → List ℕ → List ℕ → Progress → Type 0
+abbrev pub Stores : List ℕ → Word → State → ℕ → FacilityKind → List ℕ → List ℕ → Progress → Type 0
 Stores text w s place k work work′ r =
     Stored k → Plainly k w → (ds : List Declaration) → Standing text ds place w s work
     → Tells text (ask (specOf k) ∷ []) same w s (r .answer) (OneRead text ds (ask (specOf k) ∷ []) k w s work′ r)

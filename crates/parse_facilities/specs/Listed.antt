@@ -4,7 +4,7 @@ use mathlib.Core.Path.{_≡_}
 use Prim.Native.Nat.{ℕ, suc, _+_, _%_, _<_, _≤_}
 use lib.ListN.{length}
 use Rattle.parse_step.specs.declared.State.{State}
-use Rattle.parse_step.specs.declared.Verdict.the-variants.{Done}
+use Rattle.parse_step.specs.declared.ReadVerdict.the-variants.{Done}
 use Rattle.language.specs.DescribeText.{facilitiesOf, facilityNodes, facilityOf, facilitySize, functionSize, placesOf}
 use Rattle.language.specs.Encode.{facilityRecords}
 use Rattle.language.specs.Layout.{storeSizeOf}

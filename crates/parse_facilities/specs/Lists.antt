@@ -5,8 +5,8 @@ use Prim.Native.Nat.{ℕ}
 use Rattle.parse_step.specs.declared.State.{State}
 use Rattle.parse_step.specs.Course.{Seen, Stack, kindNo, runs}
 use Rattle.parse_bounds.specs.Telling.{Tells, same}
-use Rattle.image_sections.specs.declared.facilities.Kind.{Kind}
-use Rattle.image_sections.specs.declared.facilities.Kind.the-variants as F
+use Rattle.image_sections.specs.declared.facilities.FacilityKind.{FacilityKind}
+use Rattle.image_sections.specs.declared.facilities.FacilityKind.the-variants as F
 use Rattle.language.specs.Building.{Built, withText}
 use Rattle.language.specs.Kinds.{comma}
 use Rattle.language.specs.Machine.{Ask, ask, memoryMore, memorySpec, registerMore, registerSpec, terminalMore, terminalSpec}
@@ -36,7 +36,7 @@ moreIn memories = memoryMore
 moreIn terminals = terminalMore
 
 -- Terminals of every kind go to one list.
-abbrev pub kindIn : Listing → Kind
+abbrev pub kindIn : Listing → FacilityKind
 kindIn registers = F.Register
 kindIn memories = F.Memory
 kindIn terminals = F.Plain

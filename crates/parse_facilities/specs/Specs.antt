@@ -8,8 +8,8 @@ use Rattle.parse_step.specs.declared.State.{State}
 use Rattle.parse_step.specs.Course.{Seen, Stack, countsOf, kindNo, runs}
 use Rattle.parse_bounds.specs.Extents.{Whose, ofOther, ofTerminal, askOf}
 use Rattle.parse_bounds.specs.Telling.{Tells, same}
-use Rattle.image_sections.specs.declared.facilities.Kind.{Kind}
-use Rattle.image_sections.specs.declared.facilities.Kind.the-variants as K
+use Rattle.image_sections.specs.declared.facilities.FacilityKind.{FacilityKind}
+use Rattle.image_sections.specs.declared.facilities.FacilityKind.the-variants as K
 use Rattle.image_sections.specs.Declarations.{kindMeant}
 use Rattle.language.specs.Building.{Built, keepWord}
 use Rattle.language.specs.Declaring.{makeMemory, makeRegister, makeSequencing}
@@ -22,7 +22,7 @@ use Rattle.text_words.specs.declared.Word.{Word}
 use Rattle.text_words.specs.Meaning.{positioned}
 use Rattle.parse_array.specs.Names.{letters}
 
-abbrev pub specOf : Kind → Ask
+abbrev pub specOf : FacilityKind → Ask
 specOf K.Register = registerSpec
 specOf K.Sequencing = sequencingSpec
 specOf K.Memory = memorySpec
@@ -30,7 +30,7 @@ specOf K.Plain = terminalSpec
 specOf K.Input = terminalSpec
 specOf K.Computed = terminalSpec
 
-abbrev pub whoseOf : Kind → Whose
+abbrev pub whoseOf : FacilityKind → Whose
 whoseOf K.Register = ofOther
 whoseOf K.Sequencing = ofOther
 whoseOf K.Memory = ofOther
@@ -39,7 +39,7 @@ whoseOf K.Input = ofTerminal
 whoseOf K.Computed = ofTerminal
 
 -- The step that ends it; a terminal's comes by another way.
-abbrev pub endOf : Kind → Stack
+abbrev pub endOf : FacilityKind → Stack
 endOf K.Register = make makeRegister ∷ []
 endOf K.Sequencing = make makeSequencing ∷ []
 endOf K.Memory = make makeMemory ∷ []
@@ -48,7 +48,7 @@ endOf K.Input = []
 endOf K.Computed = []
 
 -- A register may begin with `#` too, and is then another.
-abbrev pub Plainly : Kind → Word → Type 0
+abbrev pub Plainly : FacilityKind → Word → Type 0
 Plainly K.Register w = kindNo (w .kind) ≡ hash → ⊥
 Plainly K.Sequencing w = Unit {0}
 Plainly K.Memory w = Unit {0}
@@ -61,7 +61,7 @@ abbrev pub namedWord : List ℕ → Word → L.Word
 namedWord text w = L.name (letters text (w .at .place) (w .size)) (positioned (w .at))
 
 -- The declaration that begins with the name w.
-abbrev pub declarationOf : List ℕ → Kind → Word → Extent → Function → Declaration
+abbrev pub declarationOf : List ℕ → FacilityKind → Word → Extent → Function → Declaration
 declarationOf text k w x f = facilityOf (kindMeant k) (letters text (w .at .place) (w .size)) (positioned (w .at)) x f
 
 -- One facility more.
@@ -69,7 +69,7 @@ abbrev pub moreState : State → State
 moreState s = record { facilities = suc (s .facilities); operations = s .operations; states = s .states; counted = s .counted; nesting = s .nesting; nodes = s .nodes; actions = s .actions; known = s .known }
 
 -- The name of a facility was taken.
-pub record NameRead (text : List ℕ) (k : Kind) (w : Word) (s : State) (r : Answer) : Type 0 where
+pub record NameRead (text : List ℕ) (k : FacilityKind) (w : Word) (s : State) (r : Answer) : Type 0 where
   pub course : (K : Stack) (b : Built) → runs text (ask (specOf k) ∷ K) w b s ≡ runs text (ask (askOf (whoseOf k)) ∷ (endOf k ++ K)) (r .next) (keepWord (namedWord text w) b) (r .state)
   pub state : r .state ≡ moreState s
   pub room : s .facilities < 256
@@ -77,4 +77,4 @@ pub record NameRead (text : List ℕ) (k : Kind) (w : Word) (s : State) (r : Ans
   pub seen : Seen text (r .next)
 
 abbrev pub Names : List ℕ → Word → State → Answer → Type 0
-Names text w s r = (k : Kind) → Plainly k w → Seen text w → withinCeilings (countsOf s) ≡ true → Tells text (ask (specOf k) ∷ []) same w s r (NameRead text k w s r)
+Names text w s r = (k : FacilityKind) → Plainly k w → Seen text w → withinCeilings (countsOf s) ≡ true → Tells text (ask (specOf k) ∷ []) same w s r (NameRead text k w s r)

@@ -3,8 +3,8 @@ use crate::Progress;
 use language::ceilings;
 use parse_array::Work;
 use parse_step::Answer;
+use parse_step::ReadVerdict;
 use parse_step::State;
-use parse_step::Verdict;
 use parse_tables::facilities;
 use parse_tables::facilities::Declared;
 use parse_tables::stores;
@@ -43,7 +43,7 @@ pub fn declare(work: &mut Work, next: Word, s: State, place: u16, x: Declared) -
     let state = one_known(s);
     let after = stores::place_after(place, x);
     let answer = Answer {
-        verdict: Verdict::Done,
+        verdict: ReadVerdict::Done,
         next,
         state,
     };

@@ -2,7 +2,7 @@
 use crate::List;
 use crate::Progress;
 use crate::stored;
-use image_sections::facilities::Kind;
+use image_sections::facilities::FacilityKind;
 use language::refusals::Refusal;
 use parse_array::Work;
 use parse_step::Bearing;
@@ -18,7 +18,7 @@ fn one(text: &[u8], w: Word, work: &mut Work, s: State, place: u16, list: List) 
 {
     match list {
         List::Registers => stored::register(text, w, work, s, place),
-        List::Memories => stored::stored(text, w, work, s, place, Kind::Memory),
+        List::Memories => stored::stored(text, w, work, s, place, FacilityKind::Memory),
     }
 }
 

@@ -2,7 +2,7 @@
 use crate::Progress;
 use crate::adding;
 use crate::naming;
-use image_sections::facilities::Kind;
+use image_sections::facilities::FacilityKind;
 use parse_array::Work;
 use parse_bounds::extents;
 use parse_step::Bearing;
@@ -15,7 +15,14 @@ use text_words::places;
 ghost use Rattle.parse_facilities.specs.Declares.{Registers, Stores};
 
 // A facility of a kind that is stored, by its name and dimensions.
-pub fn stored(text: &[u8], w: Word, work: &mut Work, s: State, place: u16, kind: Kind) -> Progress
+pub fn stored(
+    text: &[u8],
+    w: Word,
+    work: &mut Work,
+    s: State,
+    place: u16,
+    kind: FacilityKind,
+) -> Progress
     ensures { λ r. ⌜ Stores (now (text .entry)) w s place kind (now (work .entry)) (now (work .exit)) r ⌝ }
 {
     let answer = naming::facility_name(text, w, s);
@@ -47,7 +54,7 @@ pub fn register(text: &[u8], w: Word, work: &mut Work, s: State, place: u16) -> 
 {
     let kind = w.kind;
     if kinds::number(kind) != language::kinds::HASH {
-        return stored(text, w, work, s, place, Kind::Register);
+        return stored(text, w, work, s, place, FacilityKind::Register);
     }
     let hash = taking::take(text, w, s, false, Bearing::Level);
     if parse_step::unread(hash) {
@@ -56,5 +63,12 @@ pub fn register(text: &[u8], w: Word, work: &mut Work, s: State, place: u16) -> 
             place,
         };
     }
-    stored(text, hash.next, work, hash.state, place, Kind::Sequencing)
+    stored(
+        text,
+        hash.next,
+        work,
+        hash.state,
+        place,
+        FacilityKind::Sequencing,
+    )
 }

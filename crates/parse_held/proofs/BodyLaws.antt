@@ -17,10 +17,10 @@ use Rattle.parse_array.specs.Held.{held}
 use Rattle.parse_array.specs.Layout.{mostNodes, workSize}
 use Rattle.image_records.proofs.FilledLaws.{filled-more}
 use Rattle.language.specs.Encode.{actionSize, facilitySize, headerSize, nodeSize, operationSize, stateSize}
-use Rattle.parse_held.specs.declared.Tally.{Tally}
+use Rattle.parse_held.specs.declared.Holding.{Holding}
 use Rattle.parse_held.specs.Sections.{Few, countsHeld, recordsHeld, within}
 
-pub within-few : (c : Tally) → Few c → within c ≡ c
+pub within-few : (c : Holding) → Few c → within c ≡ c
 unfolding within
 within-few c f = rw (min-eq-left (f .facilities), min-eq-left (f .operations), min-eq-left (f .nodes), min-eq-left (f .actions), min-eq-left (f .states))
 
@@ -42,7 +42,7 @@ node-length n w l h = length-take-le (nodeSize * n) w (omega arith)
 
 -- ---- In an image.
 
-module _ (w : List ℕ) (c : Tally) (l : length w ≡ workSize) (few : Few c) where
+module _ (w : List ℕ) (c : Holding) (l : length w ≡ workSize) (few : Few c) where
   pub records-length : headerSize + length (recordsHeld w c) ≡ namesFrom (countsHeld c 0)
   unfolding recordsHeld
   records-length =

@@ -16,7 +16,7 @@ use Rattle.image_records.specs.References.{widenedNode}
 use Rattle.parse_held.proofs.NarrowBack.{actions-narrow, expressions-narrow, facilities-narrow, operations-narrow, states-narrow}
 use Rattle.parse_held.proofs.PlacesBack.{FacilityAt, facilities-back, facility-places-at, mark-back, node-places-at, nodes-back, plain-back, states-back}
 use Rattle.parse_held.proofs.StandingLaws.{beside-stands, sections-stand}
-use Rattle.parse_held.specs.declared.Tally.{Tally}
+use Rattle.parse_held.specs.declared.Holding.{Holding}
 use Rattle.parse_held.specs.Sections.{besideHeld, sectionsHeld}
 use Rattle.parse_held.specs.Standing.{Marked, Readable, Stands, StandsBeside, besideOf, endsOf, narrowFacility, narrowNode}
 
@@ -106,6 +106,6 @@ module _ (d : Description) (p : Places) (h : Readable d p) where
       )
 
 -- What is judged of the array is what the description is refused for.
-pub faults-stand : (text w : List ℕ) (c : Tally) (d : Description) (p : Places) → Stands text w c d → StandsBeside w c d p → Readable d p
+pub faults-stand : (text w : List ℕ) (c : Holding) (d : Description) (p : Places) → Stands text w c d → StandsBeside w c d p → Readable d p
     → least (faults (notedDescription (sectionsHeld text w c) (besideHeld w c)) (placesIn (besideHeld w c))) ≡ least (faults d p)
 faults-stand text w c d p s b h = rw (sections-stand s, beside-stands b, description-back d p h, places-back d p h)

@@ -9,7 +9,7 @@ use Rattle.parse_tables.specs.declared.Table.{Table}
 use Rattle.parse_tables.specs.declared.Table.the-variants as T
 use Rattle.parse_tables.specs.Names.{namesOf}
 use Rattle.parse_tables.specs.Rows.{rows}
-use Rattle.parse_held.specs.declared.Tally.{Tally}
+use Rattle.parse_held.specs.declared.Holding.{Holding}
 use Rattle.parse_held.specs.Sections.{besideHeld, lettersOf, namesHeld, sectionsHeld}
 use Rattle.parse_held.specs.Standing.{Stands, StandsBeside, besideOf, zipped}
 
@@ -36,7 +36,7 @@ made-beside : {f f′ o o′ e e′ a a′ s s′ : List ℕ} → f ≡ f′ →
     → _≡_ {A = Beside} (record { facilities = f; operations = o; expressions = e; actions = a; states = s }) (record { facilities = f′; operations = o′; expressions = e′; actions = a′; states = s′ })
 made-beside p q r u v = rw (p, q, r, u, v)
 
-module _ {text w : List ℕ} {c : Tally} {d : Description} (h : Stands text w c d) where
+module _ {text w : List ℕ} {c : Holding} {d : Description} (h : Stands text w c d) where
   pub names-stand : namesHeld text w c ≡ nameBytes d
   unfolding namesHeld nameBytes
   names-stand =
@@ -55,6 +55,6 @@ module _ {text w : List ℕ} {c : Tally} {d : Description} (h : Stands text w c 
   unfolding encode
   image-stands = ap imageOf sections-stand
 
-pub beside-stands : {w : List ℕ} {c : Tally} {d : Description} {p : Places} → StandsBeside w c d p → besideHeld w c ≡ besideOf d p
+pub beside-stands : {w : List ℕ} {c : Holding} {d : Description} {p : Places} → StandsBeside w c d p → besideHeld w c ≡ besideOf d p
 unfolding besideHeld besideOf
 beside-stands h = made-beside (h .facilities) (h .operations) (h .expressions) (h .actions) (h .states)

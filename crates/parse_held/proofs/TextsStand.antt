@@ -28,7 +28,7 @@ use Rattle.parse_held.proofs.NearTrees.{text-near}
 use Rattle.parse_held.proofs.NotedBack.{faults-stand}
 use Rattle.parse_held.proofs.StandingLaws.{names-stand}
 use Rattle.parse_held.proofs.TextFits.{Counted, readable, text-names}
-use Rattle.parse_held.specs.declared.Tally.{Tally}
+use Rattle.parse_held.specs.declared.Holding.{Holding}
 use Rattle.parse_held.specs.Sections.{Few, besideHeld, mostLetters, namesHeld, sectionsHeld}
 use Rattle.parse_held.specs.Standing.{Stands, StandsBeside}
 
@@ -37,7 +37,7 @@ unfolding held
 nodes-most n w = omega (arith, length-take (nodeSize * n) w)
 
 -- A description that stands in the tables has as many records as they have room for.
-counted : {text w : List ℕ} {c : Tally} (d : Description) → Few c → Stands text w c d → Counted d
+counted : {text w : List ℕ} {c : Holding} (d : Description) → Few c → Stands text w c d → Counted d
 counted {w = w} {c} d few h = record {
   facilities = omega (arith, few .facilities, row-most T.Facilities (c .facilities) w, ap length (h .facilities), facilities-length (d .facilities));
   operations = omega (arith, few .operations, row-most T.Operations (c .operations) w, ap length (h .operations), row-length operationRecord operationSize operation-length (d .operations));
@@ -47,7 +47,7 @@ counted {w = w} {c} d few h = record {
 }
 
 -- The text is at most 32,768 bytes long, and the grammar derives the tree from its words.
-module _ (text w : List ℕ) (c : Tally) (t : Text) {n : ℕ} (short : length text ≤ 32768) (derived : Is wholeText n (scan text .words) (N.text t)) (few : Few c) (h : Stands text w c (describe t .description)) where
+module _ (text w : List ℕ) (c : Holding) (t : Text) {n : ℕ} (short : length text ≤ 32768) (derived : Is wholeText n (scan text .words) (N.text t)) (few : Few c) (h : Stands text w c (describe t .description)) where
   text-tidy : TextTidy t
   text-tidy = tidy derived (words-right text)
 

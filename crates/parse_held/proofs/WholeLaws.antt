@@ -18,14 +18,14 @@ use Rattle.parse_tables.specs.declared.Table.the-variants as T
 use Rattle.parse_array.specs.Layout.{workSize}
 use Rattle.parse_held.proofs.BodyLaws.{node-length, records-length, row-length}
 use Rattle.image_records.proofs.FilledLaws.{filled-length, filled-more, filled-none}
-use Rattle.parse_held.specs.declared.Tally.{Tally}
-use Rattle.call_answers.specs.declared.read.Answer.the-variants.{Accepted, Refused}
+use Rattle.parse_held.specs.declared.Holding.{Holding}
+use Rattle.call_answers.specs.declared.read.ReadReply.the-variants.{Accepted, Refused}
 use Rattle.call_answers.specs.Reading.{called}
 use Rattle.parse_held.specs.Sections.{Few, countsHeld, lettersOf, namesHeld, recordsHeld, sectionsHeld}
 
 -- ---- Names.
 
-module _ (text w : List ℕ) (c : Tally) where
+module _ (text w : List ℕ) (c : Holding) where
   names-length : length (namesHeld text w c)
       ≡ length (lettersOf text T.FacilityNames (c .facilities) w) + (length (lettersOf text T.OperationNames (c .operations) w) + length (lettersOf text T.Labels (c .states) w))
   unfolding namesHeld
@@ -59,7 +59,7 @@ module _ (text w : List ℕ) (c : Tally) where
 
 -- ---- The whole.
 
-module _ (text w : List ℕ) (c : Tally) (l : length w ≡ workSize) (few : Few c) where
+module _ (text w : List ℕ) (c : Holding) (l : length w ≡ workSize) (few : Few c) where
   abbrev counted : Counts
   counted = countsHeld c (length (namesHeld text w c))
 

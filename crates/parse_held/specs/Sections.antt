@@ -10,17 +10,17 @@ use Rattle.parse_tables.specs.Names.{namesOf}
 use Rattle.parse_tables.specs.Rows.{rows}
 use Rattle.parse_array.specs.Held.{held}
 use Rattle.parse_array.specs.Layout.{facilityRows, mostActions, mostNodes, operationRows, stateRows}
-use Rattle.parse_held.specs.declared.Tally.{Tally}
+use Rattle.parse_held.specs.declared.Holding.{Holding}
 
 -- The array has room for as many.
-pub record Few (c : Tally) : Type 0 where
+pub record Few (c : Holding) : Type 0 where
   pub facilities : c .facilities ≤ facilityRows
   pub operations : c .operations ≤ operationRows
   pub nodes : c .nodes ≤ mostNodes
   pub actions : c .actions ≤ mostActions
   pub states : c .states ≤ stateRows
 
-unfoldable pub within : Tally → Tally
+unfoldable pub within : Holding → Holding
 within c = record {
   facilities = min (c .facilities) facilityRows;
   operations = min (c .operations) operationRows;
@@ -34,7 +34,7 @@ abbrev pub mostLetters : ℕ
 mostLetters = 132 * (facilityRows + operationRows + stateRows)
 
 -- What a header counts, with the bytes of names.
-abbrev pub countsHeld : Tally → ℕ → Counts
+abbrev pub countsHeld : Holding → ℕ → Counts
 countsHeld c names = record {
   facilities = c .facilities;
   operations = c .operations;
@@ -49,19 +49,19 @@ unfoldable pub lettersOf : List ℕ → Table → ℕ → List ℕ → List ℕ
 lettersOf text t n w = concat (λ s. s) (namesOf text (rows t n w) n)
 
 -- Those of facilities, operations and states.
-unfoldable pub namesHeld : List ℕ → List ℕ → Tally → List ℕ
+unfoldable pub namesHeld : List ℕ → List ℕ → Holding → List ℕ
 namesHeld text w c =
     lettersOf text T.FacilityNames (c .facilities) w
     ++ (lettersOf text T.OperationNames (c .operations) w ++ lettersOf text T.Labels (c .states) w)
 
 -- The records of all sections.
-unfoldable pub recordsHeld : List ℕ → Tally → List ℕ
+unfoldable pub recordsHeld : List ℕ → Holding → List ℕ
 recordsHeld w c =
     rows T.Facilities (c .facilities) w
     ++ (rows T.Operations (c .operations) w
     ++ (held (c .nodes) w .nodes ++ (rows T.Actions (c .actions) w ++ rows T.States (c .states) w)))
 
-unfoldable pub sectionsHeld : List ℕ → List ℕ → Tally → Sections
+unfoldable pub sectionsHeld : List ℕ → List ℕ → Holding → Sections
 sectionsHeld text w c = record {
   facilities = rows T.Facilities (c .facilities) w;
   operations = rows T.Operations (c .operations) w;
@@ -71,7 +71,7 @@ sectionsHeld text w c = record {
   names = namesHeld text w c;
 }
 
-unfoldable pub besideHeld : List ℕ → Tally → Beside
+unfoldable pub besideHeld : List ℕ → Holding → Beside
 besideHeld w c = record {
   facilities = rows T.FacilityPlaces (c .facilities) w;
   operations = rows T.OperationPlaces (c .operations) w;

@@ -15,7 +15,7 @@ use Rattle.parse_tables.specs.Rows.{rows}
 use Rattle.parse_array.specs.Held.{held}
 use Rattle.about_images.specs.Back.{InRange}
 use Rattle.image_records.proofs.ActionBack.{Fits}
-use Rattle.parse_held.specs.declared.Tally.{Tally}
+use Rattle.parse_held.specs.declared.Holding.{Holding}
 
 -- What is written of the elements of two lists, pair by pair.
 unfoldable pub zipped : {A B : Type 0} → (A → B → List ℕ) → List A → List B → List ℕ
@@ -35,7 +35,7 @@ besideOf d p = record {
 }
 
 -- The tables have the records and the names.
-pub record Stands (text w : List ℕ) (c : Tally) (d : Description) : Type 0 where
+pub record Stands (text w : List ℕ) (c : Holding) (d : Description) : Type 0 where
   pub facilities : rows T.Facilities (c .facilities) w ≡ facilityRecords 0 (d .facilities)
   pub operations : rows T.Operations (c .operations) w ≡ concat operationRecord (d .operations)
   pub expressions : held (c .nodes) w .nodes ≡ concat nodeBytes (d .expressions)
@@ -46,7 +46,7 @@ pub record Stands (text w : List ℕ) (c : Tally) (d : Description) : Type 0 whe
   pub stateNames : namesOf text (rows T.Labels (c .states) w) (c .states) ≡ map (λ s. s .name) (d .states)
 
 -- And the places beside them.
-pub record StandsBeside (w : List ℕ) (c : Tally) (d : Description) (p : Places) : Type 0 where
+pub record StandsBeside (w : List ℕ) (c : Holding) (d : Description) (p : Places) : Type 0 where
   pub facilities : rows T.FacilityPlaces (c .facilities) w ≡ zipped facilityBesideBytes (d .facilities) (p .facilities)
   pub operations : rows T.OperationPlaces (c .operations) w ≡ concat (placeBytes 0) (p .operations)
   pub expressions : held (c .nodes) w .places ≡ zipped nodeBesideBytes (d .expressions) (p .expressions)

@@ -1,5 +1,5 @@
 // The sections of records: parts of the array, and as they stand in an image.
-use crate::Tally;
+use crate::Holding;
 use image_records::bytes;
 use image_records::record_sizes;
 use parse_array::layout::NODE_PLACES;
@@ -39,7 +39,7 @@ pub fn node_places_of(work: &[u8], n: u16) -> &[u8]
 }
 
 // Writes the sections behind the header.
-pub fn put(image: &mut [u8], work: &[u8], c: Tally)
+pub fn put(image: &mut [u8], work: &[u8], c: Holding)
     ensures { λ _. ⌜ ((p : List ℕ) → length (now (work .entry)) ≡ workSize → Few c → length p ≡ 52 → now (image .entry) ≡ filled (length (now (image .entry))) p → namesFrom (countsHeld c 0) ≤ length (now (image .entry)) → now (image .exit) ≡ filled (length (now (image .entry))) (p ++ recordsHeld (now (work .entry)) c)) ⌝ }
 {
     let operations = record_sizes::HEADER + record_sizes::FACILITY * c.facilities as usize;

@@ -1,5 +1,5 @@
 // How many records of each section there are.
-use crate::Tally;
+use crate::Holding;
 use image_records::record_sizes;
 use image_sections::header::Counts;
 use parse_array::layout;
@@ -16,10 +16,10 @@ fn least(a: u16, b: u16) -> u16
 }
 
 // As many as there is room for in the array.
-pub fn within(c: Tally) -> Tally
+pub fn within(c: Holding) -> Holding
     ensures { λ r. ⌜ (r ≡ Within c) × Few r ⌝ }
 {
-    Tally {
+    Holding {
         facilities: least(c.facilities, layout::MOST_FACILITIES),
         operations: least(c.operations, layout::MOST_OPERATIONS),
         nodes: least(c.nodes, layout::MOST_NODES),
@@ -29,7 +29,7 @@ pub fn within(c: Tally) -> Tally
 }
 
 // Where the names begin in an image.
-pub fn names_from(c: Tally) -> usize
+pub fn names_from(c: Holding) -> usize
     ensures { λ r. ⌜ (r ≡ namesFrom (countsHeld c 0)) × (r ≤ 3000000) ⌝ }
 {
     let operations = record_sizes::HEADER + record_sizes::FACILITY * c.facilities as usize;
@@ -40,7 +40,7 @@ pub fn names_from(c: Tally) -> usize
 }
 
 // What a header counts.
-pub fn header_counts(c: Tally, names: u32) -> Counts
+pub fn header_counts(c: Holding, names: u32) -> Counts
     ensures { λ r. ⌜ r ≡ countsHeld c names ⌝ }
 {
     Counts {

@@ -6,7 +6,7 @@ pub mod letters;
 pub mod names;
 
 // How many records the array has of each section.
-pub struct Tally {
+pub struct Holding {
     pub facilities: u16,
     pub operations: u16,
     pub nodes: u16,

@@ -1,5 +1,5 @@
 // The names of facilities, operations and states, one behind the other.
-use crate::Tally;
+use crate::Holding;
 use crate::letters;
 use parse_array::Work;
 use parse_tables::Table;
@@ -11,7 +11,7 @@ ghost use Rattle.language.specs.Reading.{filled};
 ghost use Rattle.parse_held.specs.Sections.{namesHeld};
 
 // How many letters they have.
-pub fn count(text: &[u8], work: &Work, c: Tally) -> usize
+pub fn count(text: &[u8], work: &Work, c: Holding) -> usize
     ensures { λ r. ⌜ (r ≡ length (namesHeld (now (text .entry)) (now (work .entry)) c)) × (r ≤ 65535 * (c .facilities + (c .operations + c .states))) ⌝ }
 {
     let f = letters::count(text, work, Table::FacilityNames, c.facilities);
@@ -21,7 +21,7 @@ pub fn count(text: &[u8], work: &Work, c: Tally) -> usize
 }
 
 // Writes them behind what a buffer holds, where they fit.
-pub fn put(image: &mut [u8], at: usize, text: &[u8], work: &Work, c: Tally)
+pub fn put(image: &mut [u8], at: usize, text: &[u8], work: &Work, c: Holding)
     requires { ⌜ at ≤ 0xffffffff ⌝ }
     ensures { λ _. ⌜ ((p : List ℕ) → length p ≡ at → now (image .entry) ≡ filled (length (now (image .entry))) p → at + length (namesHeld (now (text .entry)) (now (work .entry)) c) ≤ length (now (image .entry)) → now (image .exit) ≡ filled (length (now (image .entry))) (p ++ namesHeld (now (text .entry)) (now (work .entry)) c)) ⌝ }
 {

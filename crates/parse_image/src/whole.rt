@@ -1,9 +1,9 @@
 // The image of what the working array holds.
-use call_answers::read::Answer;
+use call_answers::read::ReadReply;
 use image_sections::header;
 use language::refusals::Refusal;
 use parse_array::Work;
-use parse_held::Tally;
+use parse_held::Holding;
 use parse_held::body;
 use parse_held::counts;
 use parse_held::names;
@@ -16,7 +16,7 @@ ghost use Rattle.language.specs.Reading.{withRoom};
 ghost use Rattle.parse_held.specs.Sections.{Few, sectionsHeld};
 
 // Writes the image, and zero behind it; where there is no room, zero alone.
-pub fn write_image(text: &[u8], work: &Work, c: Tally, image: &mut [u8]) -> Answer
+pub fn write_image(text: &[u8], work: &Work, c: Holding, image: &mut [u8]) -> ReadReply
     ensures { λ r. ⌜ (Few c → called r (now (image .exit)) ≡ withRoom (length (now (image .entry))) (imageOf (sectionsHeld (now (text .entry)) (now (work .entry)) c))) ⌝ }
 {
     let s: &[u8] = work;
@@ -25,10 +25,10 @@ pub fn write_image(text: &[u8], work: &Work, c: Tally, image: &mut [u8]) -> Answ
     let from = counts::names_from(few);
     let n = names::count(text, work, few);
     if image.len() < from + n {
-        return Answer::Refused(Refusal::BufferTooShort, 0);
+        return ReadReply::Refused(Refusal::BufferTooShort, 0);
     }
     header::write_header(image, counts::header_counts(few, n as u32));
     body::put(image, s, few);
     names::put(image, from, text, work, few);
-    Answer::Accepted(from + n)
+    ReadReply::Accepted(from + n)
 }

@@ -7,7 +7,7 @@ use Rattle.about_grammar.specs.Following.{among}
 use Rattle.language.specs.Kinds.{differenceSign, minus}
 use Rattle.language.specs.Machine.{both}
 use Rattle.language.specs.Operators.{reductions}
-use Rattle.parse_levels.specs.declared.Head.the-variants as H
+use Rattle.parse_levels.specs.declared.Lead.the-variants as H
 use Rattle.parse_levels.specs.declared.Level.{Level}
 use Rattle.parse_levels.specs.Orders.{headOf, levelNo}
 

@@ -20,8 +20,8 @@ use Rattle.parse_step.specs.Course.{Seen, Stack, ahead, behind, kindNo, runsOn}
 use Rattle.parse_step.proofs.Ceilings.{both-true}
 use Rattle.parse_step.proofs.Looking.{sign-ahead}
 use Rattle.parse_step.proofs.TakenWords.{onTaken, taken-on}
-use Rattle.parse_levels.specs.declared.Head.{Head}
-use Rattle.parse_levels.specs.declared.Head.the-variants as H
+use Rattle.parse_levels.specs.declared.Lead.{Lead}
+use Rattle.parse_levels.specs.declared.Lead.the-variants as H
 use Rattle.parse_levels.specs.declared.Level.{Level}
 use Rattle.parse_levels.specs.declared.Level.the-variants as E
 use Rattle.parse_levels.specs.declared.Rank.the-variants as R
@@ -30,16 +30,16 @@ use Rattle.parse_levels.proofs.Descent.{down-arithmetic, down-complemen
 
 -- ---- What the tests say.
 
-abbrev headNo : Head → ℕ
+abbrev headNo : Lead → ℕ
 headNo H.Plain = 0
 headNo H.Negation = 1
 headNo H.Reduction = 2
 headNo H.Complement = 3
 
-abbrev tested : Bool → Bool → Bool → Head
+abbrev tested : Bool → Bool → Bool → Lead
 tested a b c = cond a H.Complement (cond b H.Reduction (cond c H.Negation H.Plain))
 
-other-heads : {A : Type 0} {g h : Head} (m n : ℕ) → headNo g ≡ m → headNo h ≡ n → (m ≡ n → ⊥) → g ≡ h → A
+other-heads : {A : Type 0} {g h : Lead} (m n : ℕ) → headNo g ≡ m → headNo h ≡ n → (m ≡ n → ⊥) → g ≡ h → A
 other-heads m n p q d e = absurd (d (sym p ∙ ap headNo e ∙ q))
 
 is-plain : (a b c : Bool) → tested a b c ≡ H.Plain → (a ≡ false) × (b ≡ false) × (c ≡ false)
@@ -146,7 +146,7 @@ module _ (text : List ℕ) (w : Word) (z : Seen text w) (b : Built) (c : Counts)
       among-first-or k exclusiveSign (sumSign ∷ []) e₂ (λ q. subst Reduces (sym q) (exclusive-taken q)) λ e₃.
       among-first-or k sumSign [] e₃ (λ q. subst Reduces (sym q) (sum-taken q)) (among-none k)
 
-  pub head-taken : (h : Head) → (h ≡ H.Plain → ⊥) → (l : Level) → headOf l k ≡ h → (K : Stack)
+  pub head-taken : (h : Lead) → (h ≡ H.Plain → ⊥) → (l : Level) → headOf l k ≡ h → (K : Stack)
       → runsOn text (stackOf l ++ K) (ahead text w) b c ≡ onTaken text w (prefixStack h ++ (make (treeSteps .makePrefix) ∷ ease ∷ (tailsFrom (rankAfter h) l ++ K))) kept opened
   unfolding headOf
   head-taken H.Plain n l e K = absurd (n refl)

@@ -10,8 +10,8 @@ use Rattle.language.specs.Kinds.{conWord, differenceSign, exclusiveSign, minus,
 use Rattle.language.specs.Machine.{adjustment, andTail, arithmetic, arithmeticTail, ask, both, complement, conTail, cutTail, exclusiveTail, expression, minterm, orTail, product, reduction, relationTail, term}
 use Rattle.language.specs.Operators.{cuts, reductions, relations, sums}
 use Rattle.parse_step.specs.Course.{Stack}
-use Rattle.parse_levels.specs.declared.Head.{Head}
-use Rattle.parse_levels.specs.declared.Head.the-variants as H
+use Rattle.parse_levels.specs.declared.Lead.{Lead}
+use Rattle.parse_levels.specs.declared.Lead.the-variants as H
 use Rattle.parse_levels.specs.declared.Level.{Level}
 use Rattle.parse_levels.specs.declared.Level.the-variants as E
 use Rattle.parse_levels.specs.declared.Rank.{Rank}
@@ -81,19 +81,19 @@ topNo E.Expression = 7
 
 -- ---- Heads.
 
-unfoldable pub headOf : Level → ℕ → Head
+unfoldable pub headOf : Level → ℕ → Lead
 headOf l k =
     cond (both (leb 5 (levelNo l)) (eqb k minus)) H.Complement
     (cond (both (leb 3 (levelNo l)) (among k reductions)) H.Reduction
     (cond (both (leb 1 (levelNo l)) (eqb k differenceSign)) H.Negation H.Plain))
 
-abbrev pub prefixLevel : Head → Level
+abbrev pub prefixLevel : Lead → Level
 prefixLevel H.Plain = E.Term
 prefixLevel H.Negation = E.Term
 prefixLevel H.Reduction = E.Adjustment
 prefixLevel H.Complement = E.Chain
 
-abbrev pub rankAfter : Head → Rank
+abbrev pub rankAfter : Lead → Rank
 rankAfter H.Plain = R.Sum
 rankAfter H.Negation = R.Sum
 rankAfter H.Reduction = R.Con
@@ -141,7 +141,7 @@ again R.Or = ask orTail ∷ []
 again R.Beyond = []
 
 -- After a prefix operator: its operand.
-abbrev pub prefixStack : Head → Stack
+abbrev pub prefixStack : Lead → Stack
 prefixStack H.Plain = ask term ∷ []
 prefixStack H.Negation = ask term ∷ []
 prefixStack H.Reduction = plainWord redWord ∷ ask adjustment ∷ []

@@ -1,5 +1,5 @@
 // How an expression of a level begins.
-use crate::Head;
+use crate::Lead;
 use crate::Level;
 use crate::Rank;
 use crate::kinds::member;
@@ -32,42 +32,42 @@ fn both(a: bool, b: bool) -> bool
 }
 
 // How an expression of a level begins, by the kind of its first word.
-pub fn head_of(level: Level, kind: u8) -> Head
+pub fn head_of(level: Level, kind: u8) -> Lead
     ensures { λ r. ⌜ r ≡ headOf level kind ⌝ }
 {
     let n = level_number(level);
     if both(5 <= n, kind == language::kinds::MINUS) {
-        return Head::Complement;
+        return Lead::Complement;
     }
     if both(3 <= n, member(kind, &operators::REDUCTION_SIGNS)) {
-        return Head::Reduction;
+        return Lead::Reduction;
     }
     if both(1 <= n, kind == language::kinds::DIFFERENCE) {
-        return Head::Negation;
+        return Lead::Negation;
     }
-    Head::Plain
+    Lead::Plain
 }
 
 // What a prefix operator stands before.
-pub fn prefixed(head: Head) -> Level
+pub fn prefixed(head: Lead) -> Level
     ensures { λ r. ⌜ r ≡ prefixLevel head ⌝ }
 {
     match head {
-        Head::Plain => Level::Term,
-        Head::Negation => Level::Term,
-        Head::Reduction => Level::Adjustment,
-        Head::Complement => Level::Chain,
+        Lead::Plain => Level::Term,
+        Lead::Negation => Level::Term,
+        Lead::Reduction => Level::Adjustment,
+        Lead::Complement => Level::Chain,
     }
 }
 
 // The rank of the operators that may follow.
-pub fn after(head: Head) -> Rank
+pub fn after(head: Lead) -> Rank
     ensures { λ r. ⌜ r ≡ rankAfter head ⌝ }
 {
     match head {
-        Head::Plain => Rank::Sum,
-        Head::Negation => Rank::Sum,
-        Head::Reduction => Rank::Con,
-        Head::Complement => Rank::And,
+        Lead::Plain => Rank::Sum,
+        Lead::Negation => Rank::Sum,
+        Lead::Reduction => Rank::Con,
+        Lead::Complement => Rank::And,
     }
 }

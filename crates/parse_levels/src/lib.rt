@@ -29,7 +29,7 @@ pub enum Rank {
 }
 
 // What stands before the first operand.
-pub enum Head {
+pub enum Lead {
     Plain,
     Negation,
     Reduction,

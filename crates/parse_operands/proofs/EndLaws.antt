@@ -14,13 +14,13 @@ use Rattle.text_words.specs.declared.Word.{Word}
 use Rattle.parse_step.specs.declared.Answer.{Answer}
 use Rattle.parse_step.specs.declared.Bearing.the-variants.{Closes}
 use Rattle.parse_step.specs.declared.State.{State}
-use Rattle.parse_step.specs.declared.Verdict.the-variants.{Done}
+use Rattle.parse_step.specs.declared.ReadVerdict.the-variants.{Done}
 use Rattle.parse_step.specs.Course.{Seen, Stack, ahead, behind, countsOf, kindNo, runs}
 use Rattle.parse_step.specs.Taken.{Expected, Keeps, Took, colonFirst, constantWord, endsAhead}
 use Rattle.parse_step.proofs.Ceilings.{both-true}
 use Rattle.parse_step.proofs.Looking.{View, begun, ended, view}
 use Rattle.parse_step.proofs.TakenWords.{onTaken, took-done, took-refused}
-use Rattle.parse_operands.specs.declared.constants.Ends.{Ends}
+use Rattle.parse_operands.specs.declared.constants.EndsRead.{EndsRead}
 use Rattle.parse_operands.specs.Brackets.{bracketAsk, bracketMake, bracketRest, bracketWaits}
 use Rattle.parse_operands.specs.Ended.{Closed, Ended}
 use Rattle.parse_operands.proofs.BracketWords.{colon-follows, constant-first}
@@ -96,7 +96,7 @@ module _ {text : List ℕ} {w : Word} {s : State} {t : Answer} (x : Took text w 
       full = y .full;
     }
 
-    module _ (d₂ : u .verdict ≡ Done) {r : Ends} (c : Closed text (u .next) (u .state) r) where
+    module _ (d₂ : u .verdict ≡ Done) {r : EndsRead} (c : Closed text (u .next) (u .state) r) where
       third-course : Seen text w → endsAhead (ahead text w) ≡ true → (q : Bool) (K : Stack) (b : Built)
           → runs text (ask (bracketAsk q) ∷ K) w b s ≡ runs text (keep aConstant ∷ word closeBracket closes ∷ make (bracketMake q) ∷ K) (u .next) (keepWord (constantWord w) b) (u .state)
       third-course z e q K b =

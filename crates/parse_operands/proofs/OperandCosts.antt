@@ -12,7 +12,7 @@ use Rattle.text_words.specs.Meaning.{positioned}
 use Rattle.parse_tables.specs.Names.{facilityNames}
 use Rattle.parse_step.specs.declared.Answer.{Answer}
 use Rattle.parse_step.specs.declared.State.{State}
-use Rattle.parse_step.specs.declared.Verdict.the-variants.{Done}
+use Rattle.parse_step.specs.declared.ReadVerdict.the-variants.{Done}
 use Rattle.parse_step.specs.Course.{Seen, counts5, kindNo}
 use Rattle.parse_step.specs.Gained.{Gained, Written}
 use Rattle.parse_step.specs.Pays.{Spends}

@@ -27,7 +27,7 @@ use Rattle.parse_array.proofs.NodesAdded.{nodes-other}
 use Rattle.parse_array.specs.Held.{Held, held, otherIn, withNodes}
 use Rattle.parse_step.specs.declared.Answer.{Answer}
 use Rattle.parse_step.specs.declared.State.{State}
-use Rattle.parse_step.specs.declared.Verdict.the-variants.{Done}
+use Rattle.parse_step.specs.declared.ReadVerdict.the-variants.{Done}
 use Rattle.parse_step.specs.Course.{Seen, Stack, countsOf, kindNo, runs}
 use Rattle.parse_step.specs.Gained.{Gained, Written}
 use Rattle.parse_step.specs.Says.{Here, Pending, Says, pushed}

@@ -20,12 +20,12 @@ use Rattle.parse_array.specs.Held.{Held}
 use Rattle.parse_array.specs.Layout.{mostNodes}
 use Rattle.parse_step.specs.declared.Answer.{Answer}
 use Rattle.parse_step.specs.declared.State.{State}
-use Rattle.parse_step.specs.declared.Verdict.the-variants.{Done, Full, Refused}
+use Rattle.parse_step.specs.declared.ReadVerdict.the-variants.{Done, Full, Refused}
 use Rattle.parse_step.specs.Course.{Seen, Stack, ahead, countsOf, runs}
 use Rattle.parse_step.specs.Gained.{Written}
 use Rattle.parse_step.specs.Says.{Here, Pending, Says, pushed}
 use Rattle.parse_step.specs.Taken.{constantWord, endsAhead}
-use Rattle.parse_operands.specs.declared.constants.Ends.{Ends}
+use Rattle.parse_operands.specs.declared.constants.EndsRead.{EndsRead}
 use Rattle.parse_operands.specs.Brackets.{bracketAsk, bracketMake}
 
 -- The state with one more counted.
@@ -39,19 +39,19 @@ pub record Counting (w next : Word) (s : State) (work work′ : List ℕ) (r : A
   pub full : r .verdict ≡ Full → mostNodes ≤ r .state .nodes
 
 -- The ends of a part are read with their bracket.
-pub record Through (text : List ℕ) (s : State) (r : Ends) : Type 0 where
+pub record Through (text : List ℕ) (s : State) (r : EndsRead) : Type 0 where
   pub seen : Seen text (r .answer .next)
   pub nesting : r .answer .state .nesting ≡ s .nesting - 1
   pub nodes : r .answer .state .nodes ≡ s .nodes
   pub known : r .answer .state .known ≡ s .known
 
-pub record Closed (text : List ℕ) (w : Word) (s : State) (r : Ends) : Type 0 where
+pub record Closed (text : List ℕ) (w : Word) (s : State) (r : EndsRead) : Type 0 where
   pub done : r .answer .verdict ≡ Done → Seen text w → Through text s r
       × ((K : Stack) (b : Built) → runs text (keep aConstant ∷ word closeBracket closes ∷ K) w b s ≡ runs text K (r .answer .next) (keepWord (constantWord (r .last)) b) (r .answer .state))
   pub refused : (f : Fault) → r .answer .verdict ≡ Refused f → Seen text w → (K : Stack) (b : Built) → runs text (keep aConstant ∷ word closeBracket closes ∷ K) w b s ≡ refused (faulted f)
   pub full : r .answer .verdict ≡ Full → ⊥
 
-pub record Ended (text : List ℕ) (w : Word) (s : State) (r : Ends) : Type 0 where
+pub record Ended (text : List ℕ) (w : Word) (s : State) (r : EndsRead) : Type 0 where
   pub done : r .answer .verdict ≡ Done → Seen text w → endsAhead (ahead text w) ≡ true → Through text s r
       × ((q : Bool) (K : Stack) (b : Built) → runs text (ask (bracketAsk q) ∷ K) w b s ≡ runs text (make (bracketMake q) ∷ K) (r .answer .next) (keepWord (constantWord (r .last)) (keepWord (constantWord w) b)) (r .answer .state))
   pub refused : (f : Fault) → r .answer .verdict ≡ Refused f → Seen text w → endsAhead (ahead text w) ≡ true → (q : Bool) (K : Stack) (b : Built) → runs text (ask (bracketAsk q) ∷ K) w b s ≡ refused (faulted f)

@@ -39,25 +39,25 @@ pub fn counted(s: State, w: Word, next: Word, work: &mut Work) -> Answer
 }
 
 // The ends of a part, with the bracket that closes it; `last` is the second one.
-pub struct Ends {
+pub struct EndsRead {
     pub answer: Answer,
     pub last: Word,
 }
 
 // Two constants with a colon between them, and the bracket; they have been seen as far as the colon.
-pub fn ends_of(s: State, text: &[u8], w: Word) -> Ends
+pub fn ends_of(s: State, text: &[u8], w: Word) -> EndsRead
     ensures { λ r. ⌜ Ended (now (text .entry)) w s r × Spends (now (text .entry)) 1 w s (r .answer) ⌝ }
 {
     let first = taking::take(text, w, s, false, Bearing::Level);
     if parse_step::unread(first) {
-        return Ends {
+        return EndsRead {
             answer: first,
             last: w,
         };
     }
     let colon = taking::take(text, first.next, first.state, false, Bearing::Level);
     if parse_step::unread(colon) {
-        return Ends {
+        return EndsRead {
             answer: colon,
             last: w,
         };
@@ -66,12 +66,12 @@ pub fn ends_of(s: State, text: &[u8], w: Word) -> Ends
 }
 
 // The second constant of a part, and the bracket that closes it.
-fn closed(s: State, text: &[u8], w: Word) -> Ends
+fn closed(s: State, text: &[u8], w: Word) -> EndsRead
     ensures { λ r. ⌜ Closed (now (text .entry)) w s r × Spends (now (text .entry)) 1 w s (r .answer) ⌝ }
 {
     let kept = taking::keep_constant(text, w, s);
     if parse_step::unread(kept) {
-        return Ends {
+        return EndsRead {
             answer: kept,
             last: w,
         };
@@ -83,7 +83,7 @@ fn closed(s: State, text: &[u8], w: Word) -> Ends
         language::kinds::CLOSE_BRACKET,
         Bearing::Closes,
     );
-    Ends {
+    EndsRead {
         answer: closing,
         last: w,
     }

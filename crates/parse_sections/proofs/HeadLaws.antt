@@ -11,7 +11,7 @@ use Rattle.parse_step.proofs.TakenWords.{onTaken, took-done}
 use Rattle.parse_step.specs.declared.Answer.{Answer}
 use Rattle.parse_step.specs.declared.Bearing.the-variants.{Closes, Level, Opens}
 use Rattle.parse_step.specs.declared.State.{State}
-use Rattle.parse_step.specs.declared.Verdict.the-variants.{Done}
+use Rattle.parse_step.specs.declared.ReadVerdict.the-variants.{Done}
 use Rattle.parse_step.specs.Course.{Seen, Stack, countsOf, kindNo, runs}
 use Rattle.parse_step.specs.Taken.{Expected, Passed, Refuses, Took, afterWord}
 use Rattle.parse_facilities.specs.Specs.{namedWord}
@@ -20,7 +20,7 @@ use Rattle.parse_bounds.proofs.Telling as D
 use Rattle.language.specs.Building.{Built, beginList, keepWord}
 use Rattle.language.specs.Kinds.{aName, closeBracket, controlWord, endWord, equalSign, openBracket, period}
 use Rattle.language.specs.Machine.{Counts, ask, closes, control, opens, operationSpec, operationsMore, withinCeilings, word}
-use Rattle.parse_tables.specs.declared.meaning.Counts as M
+use Rattle.parse_tables.specs.declared.meaning.KnownNames as M
 use Rattle.parse_expressions.specs.Phrases.{same}
 use Rattle.parse_actions.proofs.EndLaws.{written-to}
 use Rattle.parse_stores.proofs.Standings.{few-operations, standing-word}

@@ -5,7 +5,7 @@ use Prim.Native.Nat.{ℕ}
 use Rattle.parse_step.proofs.TakenWords.{took-done}
 use Rattle.parse_step.specs.declared.Answer.{Answer}
 use Rattle.parse_step.specs.declared.State.{State}
-use Rattle.parse_step.specs.declared.Verdict.the-variants.{Done}
+use Rattle.parse_step.specs.declared.ReadVerdict.the-variants.{Done}
 use Rattle.parse_step.specs.Course.{Stack, countsOf, runs}
 use Rattle.parse_step.specs.Taken.{Passed, Took}
 use Rattle.parse_facilities.proofs.StoredLaws.{standing-passed}

@@ -10,7 +10,7 @@ use Rattle.parse_step.proofs.Ceilings.{few-counted}
 use Rattle.parse_step.proofs.Saying.{makes-it}
 use Rattle.parse_step.specs.declared.Answer.{Answer}
 use Rattle.parse_step.specs.declared.State.{State}
-use Rattle.parse_step.specs.declared.Verdict.the-variants.{Done}
+use Rattle.parse_step.specs.declared.ReadVerdict.the-variants.{Done}
 use Rattle.parse_step.specs.Course.{Stack, countsOf, runs}
 use Rattle.parse_facilities.proofs.Unexpressed.{letters-length}
 use Rattle.language.specs.Building.{Built, joined, listNo, withText, wordNo}
@@ -19,7 +19,7 @@ use Rattle.language.specs.DescribeText.{operationScope}
 use Rattle.language.specs.Machine.{ask, make, operationSpec}
 use Rattle.language.specs.Naming.{Scope}
 use Rattle.language.specs.Tree.{Name, Operation}
-use Rattle.parse_tables.specs.declared.meaning.Counts.{Counts}
+use Rattle.parse_tables.specs.declared.meaning.KnownNames.{KnownNames}
 use Rattle.parse_tables.specs.Known.{Known}
 use Rattle.parse_stores.proofs.Keeping.{front-kept}
 use Rattle.parse_tables.proofs.NamesGrown.{names-few, names-kept}
@@ -41,7 +41,7 @@ use Rattle.parse_sections.specs.Listed.{Bodies, Standing, Tabled, Tables
 use Rattle.parse_sections.specs.Lists.{One, OneRead, withOperations}
 
 -- What is known in a body: the facilities, and the operations before it.
-abbrev pub before : State → Counts
+abbrev pub before : State → KnownNames
 before s = record { facilities = s .known; operations = s .operations; waiting = false }
 
 module _ {text : List ℕ} {names : List Name} {first : ℕ} {h : Held} {os : List Operation} {w : Word} {s : State} {work : List ℕ} (st : Standing text names first h os w s work) where

@@ -9,7 +9,7 @@ use Rattle.parse_actions.specs.Lists.{Told}
 use Rattle.parse_step.proofs.TakenWords.{onTaken, took-done, took-refused}
 use Rattle.parse_step.specs.declared.Answer.{Answer}
 use Rattle.parse_step.specs.declared.State.{State}
-use Rattle.parse_step.specs.declared.Verdict.the-variants.{Done}
+use Rattle.parse_step.specs.declared.ReadVerdict.the-variants.{Done}
 use Rattle.parse_step.specs.Course.{Seen, Stack, countsOf, kindNo, runs}
 use Rattle.parse_step.specs.Taken.{Passed, Took}
 use Rattle.parse_facilities.proofs.Appended.{length-last}

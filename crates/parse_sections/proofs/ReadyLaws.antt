@@ -8,7 +8,7 @@ use Rattle.language.specs.declared.refusals.Refusal.the-variants.{NoContinuatio
 use Rattle.parse_step.proofs.TakenWords.{took-done}
 use Rattle.parse_step.specs.declared.Answer.{Answer}
 use Rattle.parse_step.specs.declared.State.{State}
-use Rattle.parse_step.specs.declared.Verdict.the-variants.{Done}
+use Rattle.parse_step.specs.declared.ReadVerdict.the-variants.{Done}
 use Rattle.parse_step.specs.Course.{Stack, countsOf, kindNo, runs}
 use Rattle.parse_step.specs.Taken.{Refuses, Took}
 use Rattle.parse_facilities.proofs.NameWords.{few-facilities}

@@ -5,7 +5,7 @@ use Prim.Native.Nat.{ℕ}
 use Rattle.parse_actions.specs.Lists.{Told}
 use Rattle.parse_step.specs.declared.Answer.{Answer}
 use Rattle.parse_step.specs.declared.State.{State}
-use Rattle.parse_step.specs.declared.Verdict.the-variants.{Done}
+use Rattle.parse_step.specs.declared.ReadVerdict.the-variants.{Done}
 use Rattle.parse_step.specs.Course.{Stack, kindNo, runs}
 use Rattle.parse_facilities.specs.declared.Progress.{Progress}
 use Rattle.parse_facilities.specs.Lists.{Listing, memories, putAll, registers, terminals}

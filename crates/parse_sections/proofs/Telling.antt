@@ -7,7 +7,7 @@ use Rattle.parse_actions.specs.Lists.{Told}
 use Rattle.parse_step.proofs.Answers.{refused-full}
 use Rattle.parse_step.specs.declared.Answer.{Answer}
 use Rattle.parse_step.specs.declared.State.{State}
-use Rattle.parse_step.specs.declared.Verdict.the-variants.{Done, Full}
+use Rattle.parse_step.specs.declared.ReadVerdict.the-variants.{Done, Full}
 use Rattle.parse_step.specs.Course.{Stack, runs}
 use Rattle.parse_step.specs.Taken.{Refuses}
 use Rattle.parse_bounds.proofs.Telling as D

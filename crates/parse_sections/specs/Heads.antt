@@ -15,7 +15,7 @@ use Rattle.language.specs.Machine.{ask, closes, control, dollarOption, level, m
 use Rattle.language.specs.Naming.{Scope}
 use Rattle.language.specs.Tree as T
 use Rattle.language.specs.Tree.{Actions}
-use Rattle.parse_tables.specs.declared.meaning.Counts.{Counts}
+use Rattle.parse_tables.specs.declared.meaning.KnownNames.{KnownNames}
 use Rattle.parse_stores.specs.Actions.{Standing, Written, grown}
 use Rattle.text_words.specs.declared.Word.{Word}
 
@@ -74,14 +74,14 @@ pub record Closed (s s′ : State) : Type 0 where
   pub known : s′ .known ≡ s .known
   pub nesting : s′ .nesting ≡ s .nesting - 1
 
-pub record BodyRead (text : List ℕ) (sc : Scope) (n : Counts) (w : Word) (s : State) (work work′ : List ℕ) (r : Answer) : Type 0 where
+pub record BodyRead (text : List ℕ) (sc : Scope) (n : KnownNames) (w : Word) (s : State) (work work′ : List ℕ) (r : Answer) : Type 0 where
   pub tree : Actions
   pub course : (K : Stack) (b : Built) → runs text (listStack false ++ (word closeBracket closes ∷ K)) w b s ≡ runs text K (r .next) (grown tree b) (r .state)
   pub written : Written sc tree s work (r .state) work′
   pub closed : Closed s (r .state)
   pub standing : Standing text sc n (r .next) (r .state) (r .state .actions) work′
 
-abbrev pub Body : List ℕ → Counts → Word → State → List ℕ → List ℕ → Answer → Type 0
+abbrev pub Body : List ℕ → KnownNames → Word → State → List ℕ → List ℕ → Answer → Type 0
 Body text n w s work work′ r =
     (sc : Scope) → Standing text sc n w s (s .actions) work → Told text (listStack false ++ word closeBracket closes ∷ []) w s r (BodyRead text sc n w s work work′ r)
 

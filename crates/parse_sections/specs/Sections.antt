@@ -6,7 +6,7 @@ use lib.ListN.{length}
 use Rattle.parse_actions.specs.Lists.{Told}
 use Rattle.parse_step.specs.declared.Answer.{Answer}
 use Rattle.parse_step.specs.declared.State.{State}
-use Rattle.parse_step.specs.declared.Verdict.the-variants as Vd
+use Rattle.parse_step.specs.declared.ReadVerdict.the-variants as Vd
 use Rattle.parse_step.specs.Course.{Stack, kindNo, runs}
 use Rattle.parse_facilities.specs.declared.Progress.{Progress}
 use Rattle.parse_facilities.specs.Declares as D

@@ -10,7 +10,7 @@ use Rattle.parse_step.proofs.TakenWords.{took-done, took-refused}
 use Rattle.parse_step.specs.declared.Answer.{Answer}
 use Rattle.parse_step.specs.declared.Bearing.the-variants.{Level}
 use Rattle.parse_step.specs.declared.State.{State}
-use Rattle.parse_step.specs.declared.Verdict.the-variants.{Done}
+use Rattle.parse_step.specs.declared.ReadVerdict.the-variants.{Done}
 use Rattle.parse_step.specs.Course.{Stack, countsOf, kindNo, runs}
 use Rattle.parse_step.specs.Taken.{Expected, Passed, Took, afterWord}
 use Rattle.about_grammar.specs.Conditionals.{joined-assoc, joined-done}
@@ -22,7 +22,7 @@ use Rattle.language.specs.Machine.{ask, level, stateAction, stateBody, stateNam
 use Rattle.language.specs.Naming.{Scope}
 use Rattle.language.specs.Tree as T
 use Rattle.language.specs.Tree.{Actions}
-use Rattle.parse_tables.specs.declared.meaning.Counts.{Counts}
+use Rattle.parse_tables.specs.declared.meaning.KnownNames.{KnownNames}
 use Rattle.parse_expressions.specs.Phrases as Ph
 use Rattle.parse_stores.proofs.Joining.{written-then}
 use Rattle.parse_stores.proofs.ReachedLaws.{nodes-none}
@@ -67,10 +67,10 @@ written-none sc s work = record {
 -- ---- Behind an action.
 
 -- From w and s on, actions have been read up to here.
-abbrev pub Here : List ℕ → Scope → Counts → Word → State → List ℕ → Word → State → List ℕ → Type 0
+abbrev pub Here : List ℕ → Scope → KnownNames → Word → State → List ℕ → Word → State → List ℕ → Type 0
 Here text sc n w s work next state work₁ = RestRead text sc n (ask stateRest ∷ []) w s work next state work₁
 
-module _ {text : List ℕ} {sc : Scope} {n : Counts} {w : Word} {s : State} {work : List ℕ} where
+module _ {text : List ℕ} {sc : Scope} {n : KnownNames} {w : Word} {s : State} {work : List ℕ} where
   pub none-yet : Standing text sc n w s (s .actions) work → Here text sc n w s work w s work
   none-yet st = record {
     tree = T.done;
@@ -157,14 +157,14 @@ first-list : (a : Actions) (b : Built) → grown a (withList T.done b) ≡ withL
 unfolding listNo joined
 first-list a b = refl
 
-module _ {named : Bool} (name : Word) {text : List ℕ} {n : Counts} {w : Word} {s : State} {work work′ : List ℕ} {r : Answer} where
+module _ {named : Bool} (name : Word) {text : List ℕ} {n : KnownNames} {w : Word} {s : State} {work work′ : List ℕ} {r : Answer} where
   pub first-named : named ≡ true → Acts (ask stateName ∷ []) (Ph.afterName name) text n w s work work′ r → Firsts named name text n w s work work′ r
   first-named e f = subst (λ (q : Bool). Firsts q name text n w s work work′ r) (sym e) f
 
   pub first-other : named ≡ false → Acts (ask stateAction ∷ []) Ph.same text n w s work work′ r → Firsts named name text n w s work work′ r
   first-other e f = subst (λ (q : Bool). Firsts q name text n w s work work′ r) (sym e) f
 
-module _ (named : Bool) (name : Word) {text : List ℕ} {n : Counts} {w : Word} {s : State} {work work₁ : List ℕ} {r : Answer} (f : Firsts named name text n w s work work₁ r) where
+module _ (named : Bool) (name : Word) {text : List ℕ} {n : KnownNames} {w : Word} {s : State} {work work₁ : List ℕ} {r : Answer} (f : Firsts named name text n w s work work₁ r) where
   pub list-not : (r .verdict ≡ Done → ⊥) → Lists named name text n w s work work₁ r
   list-not m sc st =
       let x = f sc st in
@@ -201,7 +201,7 @@ module _ (named : Bool) (name : Word) {text : List ℕ} {n : Counts} {w : Word} 
 
 -- ---- The body.
 
-module _ {named : Bool} (name : Word) {text : List ℕ} {n : Counts} {w : Word} {s : State} {work : List ℕ} where
+module _ {named : Bool} (name : Word) {text : List ℕ} {n : KnownNames} {w : Word} {s : State} {work : List ℕ} where
   pub body-named : named ≡ true → {work′ : List ℕ} {r : Answer} → Lists true name text n w s work work′ r → Bodies named name text n w s work work′ r
   body-named e {work′} {r} f = subst (λ (q : Bool). Bodies q name text n w s work work′ r) (sym e) f
 

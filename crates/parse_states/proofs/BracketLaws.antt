@@ -9,7 +9,7 @@ use Rattle.parse_step.proofs.TakenWords.{took-done, took-refused}
 use Rattle.parse_step.specs.declared.Answer.{Answer}
 use Rattle.parse_step.specs.declared.Bearing.the-variants.{Closes, Level, Opens}
 use Rattle.parse_step.specs.declared.State.{State}
-use Rattle.parse_step.specs.declared.Verdict.the-variants.{Done}
+use Rattle.parse_step.specs.declared.ReadVerdict.the-variants.{Done}
 use Rattle.parse_step.specs.Course.{Seen, Stack, kindNo, runs}
 use Rattle.parse_step.specs.Taken.{Expected, Passed, Took, afterWord, constantWord, Keeps, KeptOn}
 use Rattle.parse_step.proofs.States.{counted, state-of}

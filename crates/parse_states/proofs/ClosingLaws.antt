@@ -18,7 +18,7 @@ use Rattle.language.specs.DescribeText.{labelOf, stateActions, stateNodes, stat
 use Rattle.language.specs.Encode.{concat, stateRecord}
 use Rattle.language.specs.Naming.{Scope}
 use Rattle.language.specs.Tree as T
-use Rattle.parse_tables.specs.declared.meaning.Counts.{Counts}
+use Rattle.parse_tables.specs.declared.meaning.KnownNames.{KnownNames}
 use Rattle.parse_stores.proofs.Keeping.{front-kept, known-by}
 use Rattle.parse_stores.proofs.Standings.{few-states}
 use Rattle.parse_stores.specs.Actions.{Standing, actionBesides, actionRecords, frontOf}
@@ -85,7 +85,7 @@ module _ (u : Table) (e : apartFrom u (Tb.Actions ∷ Tb.ActionPlaces ∷ Tb.Sta
 
 -- ---- One state.
 
-module _ {text : List ℕ} {sc : Scope} {n : Counts} {l : ℕ} {name : Word} {P R : Stack} {pre mid : Built → Built} {w v : Word} {s : State} {work work₁ work₂ work₃ : List ℕ} {h : Begun} {r : Answer} {run : Run}
+module _ {text : List ℕ} {sc : Scope} {n : KnownNames} {l : ℕ} {name : Word} {P R : Stack} {pre mid : Built → Built} {w v : Word} {s : State} {work work₁ work₂ work₃ : List ℕ} {h : Begun} {r : Answer} {run : Run}
     (st : Standing text sc n w s (s .actions) work) (x : HeadRead text sc n l name P pre w s (moreStates s) work work₁ h)
     (y : BodyRead text sc n R mid v (h .answer .state) work₁ work₂ r) (few : s .states < 256) (c : Closed (s .states) (h .head) run work₂ work₃)
     (e : run ≡ record { first = s .actions; count = r .state .actions - s .actions }) where

@@ -12,7 +12,7 @@ use Rattle.parse_step.proofs.Looking.{View, begun, ended, sign-ahead, view}
 use Rattle.parse_step.proofs.TakenWords.{onTaken, taken-on}
 use Rattle.parse_step.specs.declared.Answer.{Answer}
 use Rattle.parse_step.specs.declared.State.{State}
-use Rattle.parse_step.specs.declared.Verdict.the-variants.{Done}
+use Rattle.parse_step.specs.declared.ReadVerdict.the-variants.{Done}
 use Rattle.parse_step.specs.Course.{Seen, Stack, behind, counts5, kindNo, runs, runsOn}
 use Rattle.parse_step.specs.Taken.{Refuses}
 use Rattle.about_grammar.specs.Following.{among, among-first, among-rest}

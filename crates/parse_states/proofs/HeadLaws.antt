@@ -16,7 +16,7 @@ use Rattle.parse_step.proofs.TakenWords.{took-done, took-refused}
 use Rattle.parse_step.specs.declared.Answer.{Answer}
 use Rattle.parse_step.specs.declared.Bearing.the-variants.{Level}
 use Rattle.parse_step.specs.declared.State.{State}
-use Rattle.parse_step.specs.declared.Verdict.the-variants.{Done}
+use Rattle.parse_step.specs.declared.ReadVerdict.the-variants.{Done}
 use Rattle.parse_step.specs.Course.{Seen, Stack, countsOf, kindNo, runs}
 use Rattle.parse_step.specs.Gained as G
 use Rattle.parse_step.specs.Taken.{Passed, Took, afterWord, constantWord}
@@ -34,7 +34,7 @@ use Rattle.language.specs.Scan.{written}
 use Rattle.language.specs.Tree as T
 use Rattle.language.specs.Value as L
 use Rattle.language.specs.Words.{Constant}
-use Rattle.parse_tables.specs.declared.meaning.Counts.{Counts}
+use Rattle.parse_tables.specs.declared.meaning.KnownNames.{KnownNames}
 use Rattle.parse_operands.specs.References.{lettersOf}
 use Rattle.parse_expressions.specs.Phrases.{afterName, stayed}
 use Rattle.parse_stores.proofs.Keeping.{known-kept, others-other, whole-other}
@@ -239,7 +239,7 @@ within-one s e h =
 counted : {w : Word} {s : State} {a : Answer} → Counted w s a → a .verdict ≡ Done → a .state ≡ moreStates s
 counted f d = ap (λ (j : Answer). j .state) (f .done d .0)
 
-standing : {text : List ℕ} {sc : Scope} {n : Counts} {w : Word} {s : State} {acts : ℕ} {work : List ℕ} → s .states < 256 → Standing text sc n w s acts work → Standing text sc n w (moreStates s) acts work
+standing : {text : List ℕ} {sc : Scope} {n : KnownNames} {w : Word} {s : State} {acts : ℕ} {work : List ℕ} → s .states < 256 → Standing text sc n w s acts work → Standing text sc n w (moreStates s) acts work
 standing {s = s} h st = record {
   seen = st .seen;
   short = st .short;

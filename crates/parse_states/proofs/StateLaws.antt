@@ -6,7 +6,7 @@ use native.Mathlib.Omega.{arith}
 use Rattle.parse_step.proofs.Saying.{makes-it}
 use Rattle.parse_step.specs.declared.Answer.{Answer}
 use Rattle.parse_step.specs.declared.State.{State}
-use Rattle.parse_step.specs.declared.Verdict.the-variants.{Done}
+use Rattle.parse_step.specs.declared.ReadVerdict.the-variants.{Done}
 use Rattle.parse_step.specs.Course.{Stack, countsOf, kindNo, runs}
 use Rattle.image_sections.specs.declared.runs.Run.{Run}
 use Rattle.language.specs.Building.{Built, listNo, withText}
@@ -16,7 +16,7 @@ use Rattle.language.specs.Machine.{ask, dollarOption, parsed, stateStart, state
 use Rattle.language.specs.Naming.{Scope}
 use Rattle.language.specs.Tree as T
 use Rattle.language.specs.Tree.{Text}
-use Rattle.parse_tables.specs.declared.meaning.Counts.{Counts}
+use Rattle.parse_tables.specs.declared.meaning.KnownNames.{KnownNames}
 use Rattle.parse_stores.proofs.Standings.{few-states}
 use Rattle.parse_stores.specs.Actions.{Standing}
 use Rattle.text_words.specs.declared.Word.{Word}
@@ -32,7 +32,7 @@ use Rattle.parse_states.specs.Written.{Closed, Written}
 
 -- ---- One state.
 
-module _ {l : ℕ} {text : List ℕ} {n : Counts} {w : Word} {s : State} {work work₁ : List ℕ} {h : Begun} (f : Heads l text w s work work₁ h) where
+module _ {l : ℕ} {text : List ℕ} {n : KnownNames} {w : Word} {s : State} {work work₁ : List ℕ} {h : Begun} (f : Heads l text w s work work₁ h) where
   pub not-begun : (h .answer .verdict ≡ Done → ⊥) → One l text n w s work work₁ (h .answer)
   not-begun m sc st = let t = f sc n st in record { done = λ d. absurd (m d); refused = t .refused; full = t .full }
 
@@ -89,10 +89,10 @@ no-more : (t : Text) → t ≡ moreOf [] t
 no-more t = rw (append-nil (t .states))
 
 -- From w and s on, states have been read up to here.
-abbrev pub Here : ℕ → List ℕ → Scope → Counts → Word → State → List ℕ → Word → State → List ℕ → Type 0
+abbrev pub Here : ℕ → List ℕ → Scope → KnownNames → Word → State → List ℕ → Word → State → List ℕ → Type 0
 Here l text sc n w s work next state work₁ = SomeRead text sc n l (ask statesMore ∷ []) (ask statesMore ∷ []) w s work next state work₁
 
-module _ {l : ℕ} {text : List ℕ} {sc : Scope} {n : Counts} {w : Word} {s : State} {work : List ℕ} where
+module _ {l : ℕ} {text : List ℕ} {sc : Scope} {n : KnownNames} {w : Word} {s : State} {work : List ℕ} where
   pub none-yet : Standing text sc n w s (s .actions) work → Here l text sc n w s work w s work
   none-yet st = record {
     trees = [];
@@ -157,7 +157,7 @@ module _ {l : ℕ} {text : List ℕ} {sc : Scope} {n : Counts} {w : Word} {s : S
 
 -- ---- All states.
 
-module _ {l : ℕ} {text : List ℕ} {n : Counts} {w : Word} {s : State} {work work₁ : List ℕ} {r : Answer} (f : One l text n w s work work₁ r) where
+module _ {l : ℕ} {text : List ℕ} {n : KnownNames} {w : Word} {s : State} {work work₁ : List ℕ} {r : Answer} (f : One l text n w s work work₁ r) where
   pub first-not : (r .verdict ≡ Done → ⊥) → All startStack l text n w s work work₁ r
   first-not m sc st = let t = f sc st in record { done = λ d. absurd (m d); refused = λ i d b. t .refused i d moreStack b; full = t .full }
 

@@ -21,8 +21,8 @@ use Rattle.language.specs.Sections.{ruleOf}
 use Rattle.language.specs.Tree as T
 use Rattle.language.specs.Words.{fault}
 use Rattle.parse_expressions.specs.Phrases.{afterName}
-use Rattle.text_words.specs.declared.Kind.{Kind}
-use Rattle.text_words.specs.declared.Kind.the-variants as K
+use Rattle.text_words.specs.declared.WordKind.{WordKind}
+use Rattle.text_words.specs.declared.WordKind.the-variants as K
 use Rattle.text_words.specs.declared.Word.{Word}
 use Rattle.text_words.specs.Meaning.{isEnd, positioned}
 use Rattle.parse_states.specs.Begins.{moreStates, opened, plainAt, withList}
@@ -124,7 +124,7 @@ module _ (text : List ℕ) (w : Word) (z : Seen text w) (s : State) (M : Stack) 
   unfolding runsOn run finish ahead
   text-ends e = go (w .kind) refl
     where
-      go : (q : Kind) → w .kind ≡ q → runs text [] w b s ≡ parsed b
+      go : (q : WordKind) → w .kind ≡ q → runs text [] w b s ≡ parsed b
       go K.End d = rw d
       go K.Name d = absurd (true≢false (sym e ∙ ap isEnd d))
       go K.Constant d = absurd (true≢false (sym e ∙ ap isEnd d))
@@ -134,7 +134,7 @@ module _ (text : List ℕ) (w : Word) (z : Seen text w) (s : State) (M : Stack) 
   unfolding runsOn run feed ahead
   text-goes-on e = go (w .kind) refl
     where
-      go : (q : Kind) → w .kind ≡ q → runs text [] w b s ≡ refused (fault (positioned (w .at)) NoContinuation)
+      go : (q : WordKind) → w .kind ≡ q → runs text [] w b s ≡ refused (fault (positioned (w .at)) NoContinuation)
       go K.End d = absurd (true≢false (sym (ap isEnd d) ∙ e))
       go K.Name d = rw d
       go K.Constant d = rw d

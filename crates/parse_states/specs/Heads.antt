@@ -6,7 +6,7 @@ use Prim.Native.Nat.{ℕ, _+_, _*_, _<_, _≤_}
 use lib.ListN.{length}
 use Rattle.parse_step.specs.declared.Answer.{Answer}
 use Rattle.parse_step.specs.declared.State.{State}
-use Rattle.parse_step.specs.declared.Verdict.the-variants as Vd
+use Rattle.parse_step.specs.declared.ReadVerdict.the-variants as Vd
 use Rattle.parse_step.specs.Course.{Seen, Stack, countsOf, kindNo, runs}
 use Rattle.parse_step.specs.Taken.{constantWord}
 use Rattle.image_sections.specs.declared.states.StateValue.the-variants as Sv
@@ -20,7 +20,7 @@ use Rattle.language.specs.Machine.{ask, firstName, make, refused, stateBody, st
 use Rattle.language.specs.Naming.{Scope}
 use Rattle.language.specs.Scan.{written}
 use Rattle.language.specs.Tree as T
-use Rattle.parse_tables.specs.declared.meaning.Counts.{Counts}
+use Rattle.parse_tables.specs.declared.meaning.KnownNames.{KnownNames}
 use Rattle.parse_expressions.specs.Phrases.{afterName, stayed}
 use Rattle.parse_stores.specs.Actions.{Standing, frontOf}
 use Rattle.value_operators.specs.Meaning.{valued}
@@ -92,7 +92,7 @@ headBuilt true name text b = afterName name text (withList T.done b)
 headBuilt false name text b = b
 
 -- From the stack P in the state s the machine comes to the head's end; s₁ is the state with this one counted.
-pub record HeadRead (text : List ℕ) (sc : Scope) (n : Counts) (l : ℕ) (name : Word) (P : Stack) (pre : Built → Built) (w : Word) (s s₁ : State) (work work′ : List ℕ) (r : Begun) : Type 0 where
+pub record HeadRead (text : List ℕ) (sc : Scope) (n : KnownNames) (l : ℕ) (name : Word) (P : Stack) (pre : Built → Built) (w : Word) (s s₁ : State) (work work′ : List ℕ) (r : Begun) : Type 0 where
   pub tree : T.State
   pub course : (K : Stack) (b : Built) → runs text (P ++ K) w (pre b) s ≡ runs text (headStack (r .named) ++ K) (r .answer .next) (headBuilt (r .named) name text (opened tree b)) (r .answer .state)
   pub says : Says text l (s₁ .nodes) tree (r .head)
@@ -106,7 +106,7 @@ pub record HeadRead (text : List ℕ) (sc : Scope) (n : Counts) (l : ℕ) (name 
 -- Behind the name that a state begins with. Six records of its value are not yet written.
 abbrev pub AfterName : ℕ → Word → List ℕ → Word → State → List ℕ → List ℕ → Begun → Type 0
 AfterName l name text w s work work′ r =
-    (sc : Scope) (n : Counts) → Seen text name → Standing text sc n w s (s .actions) work → s .nodes + 6 ≤ 7 * s .counted + 6 * s .states
+    (sc : Scope) (n : KnownNames) → Seen text name → Standing text sc n w s (s .actions) work → s .nodes + 6 ≤ 7 * s .counted + 6 * s .states
     → Tells text (ask firstName ∷ ask stateRest ∷ []) (afterName name text) w s (r .answer) (HeadRead text sc n l name (ask firstName ∷ ask stateRest ∷ []) (afterName name text) w s s work work′ r)
 
 -- The same by a parenthesis.
@@ -115,5 +115,5 @@ Valued l name text w s work work′ r = kindNo (w .kind) ≡ openParen → After
 
 abbrev pub Heads : ℕ → List ℕ → Word → State → List ℕ → List ℕ → Begun → Type 0
 Heads l text w s work work′ r =
-    (sc : Scope) (n : Counts) → Standing text sc n w s (s .actions) work
+    (sc : Scope) (n : KnownNames) → Standing text sc n w s (s .actions) work
     → Tells text (ask stateStart ∷ []) same w s (r .answer) (HeadRead text sc n l w (ask stateStart ∷ []) same w s (moreStates s) work work′ r)

@@ -5,7 +5,7 @@ use parse_step::Bearing;
 use parse_step::State;
 use parse_step::kinds;
 use parse_step::taking;
-use parse_tables::meaning::Counts;
+use parse_tables::meaning::KnownNames;
 use text_words::Word;
 ghost use Rattle.parse_states.specs.Bodies.{Bodies, Firsts, Lists, Rests, Stands};
 
@@ -17,7 +17,7 @@ fn first(
     text: &[u8],
     w: Word,
     work: &mut Work,
-    n: Counts,
+    n: KnownNames,
 ) -> Answer
     ensures { λ r. ⌜ Firsts named name (now (text .entry)) n w s (now (work .entry)) (now (work .exit)) r ⌝ }
 {
@@ -28,7 +28,7 @@ fn first(
 }
 
 // Behind an action: a comma and another, or the `/`. Each counts a word, so that there are not too many.
-fn rest(s: State, text: &[u8], w: Word, work: &mut Work, n: Counts) -> Answer
+fn rest(s: State, text: &[u8], w: Word, work: &mut Work, n: KnownNames) -> Answer
     requires { ⌜ Stands (now text) n w s (now work) ⌝ }
     ensures { λ r. ⌜ Rests (now (text .entry)) n w s (now (work .entry)) (now (work .exit)) r ⌝ }
 {
@@ -60,7 +60,7 @@ fn list(
     text: &[u8],
     w: Word,
     work: &mut Work,
-    n: Counts,
+    n: KnownNames,
 ) -> Answer
     requires { ⌜ Stands (now text) n w s (now work) ⌝ }
     ensures { λ r. ⌜ Lists named name (now (text .entry)) n w s (now (work .entry)) (now (work .exit)) r ⌝ }
@@ -80,7 +80,7 @@ pub fn body(
     text: &[u8],
     w: Word,
     work: &mut Work,
-    n: Counts,
+    n: KnownNames,
 ) -> Answer
     requires { ⌜ Stands (now text) n w s (now work) ⌝ }
     ensures { λ r. ⌜ Bodies named name (now (text .entry)) n w s (now (work .entry)) (now (work .exit)) r ⌝ }

@@ -2,8 +2,8 @@
 use language::refusals::Refusal;
 use parse_step::Answer;
 use parse_step::Bearing;
+use parse_step::ReadVerdict;
 use parse_step::State;
-use parse_step::Verdict;
 use parse_step::kinds;
 use parse_step::taking;
 use text_words::Word;
@@ -20,7 +20,7 @@ fn nothing(w: Word, s: State) -> Answer
     let kind = w.kind;
     if next::is_end(kind) {
         return Answer {
-            verdict: Verdict::Done,
+            verdict: ReadVerdict::Done,
             next: w,
             state: s,
         };

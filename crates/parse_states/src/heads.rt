@@ -8,8 +8,8 @@ use language::refusals::Refusal;
 use parse_array::Work;
 use parse_step::Answer;
 use parse_step::Bearing;
+use parse_step::ReadVerdict;
 use parse_step::State;
-use parse_step::Verdict;
 use parse_step::adding;
 use parse_step::kinds;
 use parse_step::taking;
@@ -58,7 +58,7 @@ fn count(w: Word, s: State) -> Answer
             known: s.known,
         };
         return Answer {
-            verdict: Verdict::Done,
+            verdict: ReadVerdict::Done,
             next: w,
             state,
         };
@@ -178,7 +178,7 @@ fn after_name(text: &[u8], name: Word, w: Word, work: &mut Work, s: State, l: u1
         };
     }
     let answer = Answer {
-        verdict: Verdict::Done,
+        verdict: ReadVerdict::Done,
         next: w,
         state: s,
     };

@@ -7,13 +7,13 @@ use parse_array::Work;
 use parse_step::Answer;
 use parse_step::State;
 use parse_step::kinds;
-use parse_tables::meaning::Counts;
+use parse_tables::meaning::KnownNames;
 use text_words::Word;
 ghost use Rattle.parse_states.specs.Bodies.{Stands};
 ghost use Rattle.parse_states.specs.States.{All, One, moreStack, startStack};
 
 // One state; l is the length of the sequencing register, and 0 where there is none.
-fn one(s: State, text: &[u8], w: Word, work: &mut Work, n: Counts, l: u16) -> Answer
+fn one(s: State, text: &[u8], w: Word, work: &mut Work, n: KnownNames, l: u16) -> Answer
     requires { ⌜ Stands (now text) n w s (now work) ⌝ }
     ensures { λ r. ⌜ One l (now (text .entry)) n w s (now (work .entry)) (now (work .exit)) r ⌝ }
 {
@@ -40,7 +40,7 @@ fn one(s: State, text: &[u8], w: Word, work: &mut Work, n: Counts, l: u16) -> An
 }
 
 // Behind a state: others, and the end of the text. Each is counted, so that there are not too many.
-fn more(s: State, text: &[u8], w: Word, work: &mut Work, n: Counts, l: u16) -> Answer
+fn more(s: State, text: &[u8], w: Word, work: &mut Work, n: KnownNames, l: u16) -> Answer
     requires { ⌜ Stands (now text) n w s (now work) ⌝ }
     ensures { λ r. ⌜ All moreStack l (now (text .entry)) n w s (now (work .entry)) (now (work .exit)) r ⌝ }
 {
@@ -65,7 +65,7 @@ fn more(s: State, text: &[u8], w: Word, work: &mut Work, n: Counts, l: u16) -> A
 }
 
 // All states, to the end of the text.
-pub fn states(s: State, text: &[u8], w: Word, work: &mut Work, n: Counts, l: u16) -> Answer
+pub fn states(s: State, text: &[u8], w: Word, work: &mut Work, n: KnownNames, l: u16) -> Answer
     requires { ⌜ Stands (now text) n w s (now work) ⌝ }
     ensures { λ r. ⌜ All startStack l (now (text .entry)) n w s (now (work .entry)) (now (work .exit)) r ⌝ }
 {

@@ -7,14 +7,14 @@ use native.Mathlib.Omega.{arith}
 use types.Run.{OneOf}
 use denote.Enum.Declared.{tagOf}
 use Rattle.text_words.specs.declared.Fault.{Fault}
-use Rattle.parse_step.specs.declared.Verdict.{Verdict}
-use Rattle.parse_step.specs.declared.Verdict.the-variants.{Done, Full, Refused}
-use Rattle.parse_step.proofs.Verdict.{the-type}
+use Rattle.parse_step.specs.declared.ReadVerdict.{ReadVerdict}
+use Rattle.parse_step.specs.declared.ReadVerdict.the-variants.{Done, Full, Refused}
+use Rattle.parse_step.proofs.ReadVerdict.{the-type}
 
 pub done-refused : {A : Type 0} {f : Fault} → Done ≡ Refused f → A
 done-refused {f = f} e = absurd (let z : _≡_ {A = ℕ} 0 1 = ap kind e in omega arith)
   where
-    kind : Verdict → ℕ
+    kind : ReadVerdict → ℕ
     kind Done = 0
     kind (Refused g) = 1
     kind Full = 2
@@ -22,7 +22,7 @@ done-refused {f = f} e = absurd (let z : _≡_ {A = ℕ} 0 1 = ap kind e in omeg
 pub done-full : {A : Type 0} → Done ≡ Full → A
 done-full e = absurd (let z : _≡_ {A = ℕ} 0 2 = ap kind e in omega arith)
   where
-    kind : Verdict → ℕ
+    kind : ReadVerdict → ℕ
     kind Done = 0
     kind (Refused g) = 1
     kind Full = 2
@@ -30,7 +30,7 @@ done-full e = absurd (let z : _≡_ {A = ℕ} 0 2 = ap kind e in omega arith)
 pub refused-full : {A : Type 0} {f : Fault} → Refused f ≡ Full → A
 refused-full {f = f} e = absurd (let z : _≡_ {A = ℕ} 1 2 = ap kind e in omega arith)
   where
-    kind : Verdict → ℕ
+    kind : ReadVerdict → ℕ
     kind Done = 0
     kind (Refused g) = 1
     kind Full = 2
@@ -38,11 +38,11 @@ refused-full {f = f} e = absurd (let z : _≡_ {A = ℕ} 1 2 = ap kind e in omeg
 pub same-fault : {f g : Fault} → Refused f ≡ Refused g → f ≡ g
 same-fault {f} {g} e = ap out e
   where
-    out : Verdict → Fault
+    out : ReadVerdict → Fault
     out Done = f
     out (Refused x) = x
     out Full = f
 
 -- A verdict that a test showed to be another.
-pub not-done : {v : Verdict} → OneOf (1 ∷ 2 ∷ []) (tagOf the-type v) → v ≡ Done → ⊥
-not-done {v} k e = ⊎-elim (λ x. omega arith) (λ x. omega arith) (subst (λ (u : Verdict). OneOf (1 ∷ 2 ∷ []) (tagOf the-type u)) e k)
+pub not-done : {v : ReadVerdict} → OneOf (1 ∷ 2 ∷ []) (tagOf the-type v) → v ≡ Done → ⊥
+not-done {v} k e = ⊎-elim (λ x. omega arith) (λ x. omega arith) (subst (λ (u : ReadVerdict). OneOf (1 ∷ 2 ∷ []) (tagOf the-type u)) e k)

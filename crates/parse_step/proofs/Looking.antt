@@ -15,8 +15,8 @@ use Rattle.language.specs.Words as L
 use Rattle.language.specs.Words.{position}
 use Rattle.language.specs.WordStage.{wordsFrom}
 use Rattle.value_operators.specs.Meaning.{valued}
-use Rattle.text_words.specs.declared.Kind.{Kind}
-use Rattle.text_words.specs.declared.Kind.the-variants as K
+use Rattle.text_words.specs.declared.WordKind.{WordKind}
+use Rattle.text_words.specs.declared.WordKind.the-variants as K
 use Rattle.text_words.specs.declared.Word.{Word}
 use Rattle.text_words.specs.Meaning.{Next, following, inFront, isEnd, positioned}
 use Rattle.parse_step.specs.Course.{Seen, ahead, behind, kindNo}
@@ -43,11 +43,11 @@ view text w z = go (w .kind) refl
     place-end : isEnd (w .kind) ≡ true → position (length text) ≡ positioned (w .at)
     place-end e = ap position (sym (z .next .last e))
 
-    front : (k : Kind) → w .kind ≡ k → ahead text w
+    front : (k : WordKind) → w .kind ≡ k → ahead text w
         ≡ inFront (map folded (take (w .size) (drop (w .at .place) text))) (written (w .bare) (valued (w .value))) (positioned (w .at)) (behind text w) k
     front k e = ap (inFront (map folded (take (w .size) (drop (w .at .place) text))) (written (w .bare) (valued (w .value))) (positioned (w .at)) (behind text w)) e
 
-    go : (k : Kind) → w .kind ≡ k → View text w
+    go : (k : WordKind) → w .kind ≡ k → View text w
     go K.End e = ended (front K.End e) (place-end (ap isEnd e)) (ap kindNo e)
     go K.Name e = begun _ (front K.Name e) (sym (ap kindNo e)) refl
     go K.Constant e = begun _ (front K.Constant e) (sym (ap kindNo e)) refl
@@ -63,7 +63,7 @@ pub sign-ahead : (text : List ℕ) (w : Word) (k : ℕ) → kindNo (w .kind) ≡
 unfolding ahead behind
 sign-ahead text w k e h = go (w .kind) refl
   where
-    go : (q : Kind) → w .kind ≡ q → ahead text w ≡ L.sign k (positioned (w .at)) ∷ behind text w
+    go : (q : WordKind) → w .kind ≡ q → ahead text w ≡ L.sign k (positioned (w .at)) ∷ behind text w
     go K.End d = absurd (let z : _≡_ {A = ℕ} 0 k = sym (ap kindNo d) ∙ e in omega arith)
     go K.Name d = absurd (let z : _≡_ {A = ℕ} aName k = sym (ap kindNo d) ∙ e in omega arith)
     go K.Constant d = absurd (let z : _≡_ {A = ℕ} aConstant k = sym (ap kindNo d) ∙ e in omega arith)
@@ -78,7 +78,7 @@ pub name-ahead : (text : List ℕ) (w : Word) → Seen text w → kindNo (w .kin
 unfolding ahead behind among
 name-ahead text w z e = go (w .kind) refl (proper text w z)
   where
-    go : (q : Kind) → w .kind ≡ q
+    go : (q : WordKind) → w .kind ≡ q
         → Proper (inFront (map folded (take (w .size) (drop (w .at .place) text))) (written (w .bare) (valued (w .value))) (positioned (w .at)) (behind text w) q)
         → ahead text w ≡ nameWord text w ∷ behind text w
     go K.End d p = absurd (let x : _≡_ {A = ℕ} 0 aName = sym (ap kindNo d) ∙ e in omega arith)
@@ -90,7 +90,7 @@ pub constant-ahead : (text : List ℕ) (w : Word) → Seen text w → kindNo (w 
 unfolding ahead behind among
 constant-ahead text w z e = go (w .kind) refl (proper text w z)
   where
-    go : (q : Kind) → w .kind ≡ q
+    go : (q : WordKind) → w .kind ≡ q
         → Proper (inFront (map folded (take (w .size) (drop (w .at .place) text))) (written (w .bare) (valued (w .value))) (positioned (w .at)) (behind text w) q)
         → ahead text w ≡ constantWord w ∷ behind text w
     go K.End d p = absurd (let x : _≡_ {A = ℕ} 0 aConstant = sym (ap kindNo d) ∙ e in omega arith)

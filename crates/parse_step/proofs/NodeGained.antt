@@ -14,7 +14,7 @@ use Rattle.parse_array.specs.declared.constants.Room.{Room}
 use Rattle.parse_array.specs.Layout.{mostNodes}
 use Rattle.parse_step.specs.declared.Answer.{Answer}
 use Rattle.parse_step.specs.declared.State.{State}
-use Rattle.parse_step.specs.declared.Verdict.the-variants.{Done, Full}
+use Rattle.parse_step.specs.declared.ReadVerdict.the-variants.{Done, Full}
 use Rattle.parse_step.specs.Gained.{Behind, Gained, Grows, Written, withNodeCount}
 use Rattle.parse_step.proofs.Answers.{done-full, done-refused, refused-full}
 

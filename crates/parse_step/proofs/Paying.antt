@@ -11,7 +11,7 @@ use Rattle.text_words.specs.declared.Word.{Word}
 use Rattle.parse_step.specs.declared.Answer.{Answer}
 use Rattle.parse_step.specs.declared.Bearing.{Bearing}
 use Rattle.parse_step.specs.declared.State.{State}
-use Rattle.parse_step.specs.declared.Verdict.the-variants.{Done, Full}
+use Rattle.parse_step.specs.declared.ReadVerdict.the-variants.{Done, Full}
 use Rattle.parse_step.specs.Course.{Seen, counts5, countsOf}
 use Rattle.parse_step.specs.Gained.{Gained, Written, easedState}
 use Rattle.parse_step.specs.Pays.{Comes, Pays, Spends}

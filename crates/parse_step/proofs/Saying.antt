@@ -27,7 +27,7 @@ use Rattle.parse_array.specs.Held.{Held, held, otherIn, withBytes, withNodes}
 use Rattle.parse_step.specs.declared.Answer.{Answer}
 use Rattle.parse_step.specs.declared.Bearing.{Bearing}
 use Rattle.parse_step.specs.declared.State.{State}
-use Rattle.parse_step.specs.declared.Verdict.the-variants.{Done}
+use Rattle.parse_step.specs.declared.ReadVerdict.the-variants.{Done}
 use Rattle.parse_step.specs.Course.{Seen, Stack, ahead, bearingOf, countsOf, runs, runsOn}
 use Rattle.parse_step.specs.Gained.{Behind, Gained}
 use Rattle.parse_step.specs.Says.{Here, Pending, Read, Says, pushed}

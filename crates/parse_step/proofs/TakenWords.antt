@@ -20,7 +20,7 @@ use Rattle.text_words.specs.Meaning.{Next, faulted, positioned}
 use Rattle.parse_step.specs.declared.Bearing as B
 use Rattle.parse_step.specs.declared.Answer.{Answer}
 use Rattle.parse_step.specs.declared.State.{State}
-use Rattle.parse_step.specs.declared.Verdict.the-variants.{Done, Refused}
+use Rattle.parse_step.specs.declared.ReadVerdict.the-variants.{Done, Refused}
 use Rattle.parse_step.specs.Course.{Seen, Stack, ahead, bearingOf, behind, counts5, countsOf, kindNo, runs, runsOn}
 use Rattle.parse_step.specs.Taken.{Expected, Follows, Keeps, Passed, Refuses, Took, Went, WentOn, afterWord, colonFirst, constantWord, endsAhead}
 use Rattle.parse_step.proofs.Answers.{done-full, done-refused, refused-full, same-fault}

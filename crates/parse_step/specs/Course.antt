@@ -9,8 +9,8 @@ use Rattle.language.specs.Machine.{Bearing, Counts, Parsed, Sym, bears, closes,
 use Rattle.language.specs.Sections.{ruleOf}
 use Rattle.language.specs.Words as L
 use Rattle.language.specs.WordStage.{wordsFrom}
-use Rattle.text_words.specs.declared.Kind.{Kind}
-use Rattle.text_words.specs.declared.Kind.the-variants as K
+use Rattle.text_words.specs.declared.WordKind.{WordKind}
+use Rattle.text_words.specs.declared.WordKind.the-variants as K
 use Rattle.text_words.specs.declared.Word.{Word}
 use Rattle.text_words.specs.Meaning.{Next, following}
 use Rattle.parse_step.specs.declared.Bearing as B
@@ -21,7 +21,7 @@ abbrev pub Stack : Type 0
 Stack = List (Sym Built)
 
 -- A word's kind by number; the end of the text has none.
-abbrev pub kindNo : Kind → ℕ
+abbrev pub kindNo : WordKind → ℕ
 kindNo K.End = 0
 kindNo K.Name = aName
 kindNo K.Constant = aConstant

@@ -9,7 +9,7 @@ use Rattle.parse_array.specs.Held.{held, withBytes, withNodes}
 use Rattle.parse_array.specs.Layout.{mostNodes}
 use Rattle.parse_step.specs.declared.Answer.{Answer}
 use Rattle.parse_step.specs.declared.State.{State}
-use Rattle.parse_step.specs.declared.Verdict.the-variants.{Done, Full, Refused}
+use Rattle.parse_step.specs.declared.ReadVerdict.the-variants.{Done, Full, Refused}
 
 abbrev pub withNodeCount : State → ℕ → State
 withNodeCount s n = record { facilities = s .facilities; operations = s .operations; states = s .states; counted = s .counted; nesting = s .nesting; nodes = n; actions = s .actions; known = s .known }

@@ -5,7 +5,7 @@ use Prim.Native.Nat.{ℕ, _+_, _*_, _≤_}
 use Rattle.text_words.specs.declared.Word.{Word}
 use Rattle.parse_step.specs.declared.Answer.{Answer}
 use Rattle.parse_step.specs.declared.State.{State}
-use Rattle.parse_step.specs.declared.Verdict.the-variants.{Done, Full}
+use Rattle.parse_step.specs.declared.ReadVerdict.the-variants.{Done, Full}
 use Rattle.parse_step.specs.Course.{Seen}
 
 -- Other counts are kept, and the records of actions; counted words stay within their ceiling; records are paid for by the words counted and `pay` besides, and `left` of that is left over.

@@ -15,7 +15,7 @@ use Rattle.parse_array.specs.Held.{Held, held, withNodes}
 use Rattle.parse_array.specs.Layout.{mostNodes}
 use Rattle.parse_step.specs.declared.Answer.{Answer}
 use Rattle.parse_step.specs.declared.State.{State}
-use Rattle.parse_step.specs.declared.Verdict.the-variants as Vd
+use Rattle.parse_step.specs.declared.ReadVerdict.the-variants as Vd
 use Rattle.parse_step.specs.Course.{Seen, Stack, runs}
 
 -- An expression waits on its row.

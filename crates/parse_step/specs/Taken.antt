@@ -18,7 +18,7 @@ use Rattle.text_words.specs.Meaning.{faulted, positioned}
 use Rattle.parse_step.specs.declared.Answer.{Answer}
 use Rattle.parse_step.specs.declared.Bearing.{Bearing}
 use Rattle.parse_step.specs.declared.State.{State}
-use Rattle.parse_step.specs.declared.Verdict.the-variants.{Done, Full, Refused}
+use Rattle.parse_step.specs.declared.ReadVerdict.the-variants.{Done, Full, Refused}
 use Rattle.parse_step.specs.Course.{Seen, Stack, ahead, bearingOf, behind, borne, counts5, countsOf, runs, kindNo}
 
 abbrev pub tallyOf : ℕ → Bool → ℕ

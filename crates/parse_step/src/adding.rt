@@ -1,7 +1,7 @@
 // A record added behind the others.
 use crate::Answer;
+use crate::ReadVerdict;
 use crate::State;
-use crate::Verdict;
 use image_records::nodes::Node;
 use parse_array::Work;
 use parse_array::constants;
@@ -64,13 +64,13 @@ pub fn add(work: &mut Work, next: Word, s: State, node: Node, v: u64, beside: Be
     if nodes::add_node(work, s.nodes, node, v, beside) {
         let state = with_nodes(s, s.nodes + 1);
         return Answer {
-            verdict: Verdict::Done,
+            verdict: ReadVerdict::Done,
             next,
             state,
         };
     }
     Answer {
-        verdict: Verdict::Full,
+        verdict: ReadVerdict::Full,
         next,
         state: s,
     }
@@ -86,13 +86,13 @@ pub fn add_constant(work: &mut Work, w: Word, next: Word, s: State) -> Answer
     let state = with_nodes(s, room.nodes);
     if room.enough {
         return Answer {
-            verdict: Verdict::Done,
+            verdict: ReadVerdict::Done,
             next,
             state,
         };
     }
     Answer {
-        verdict: Verdict::Full,
+        verdict: ReadVerdict::Full,
         next,
         state,
     }

@@ -3,7 +3,7 @@ use text_words::Fault;
 use text_words::Word;
 ghost use mathlib.Core.Bool.{false, true};
 ghost use mathlib.Core.Path.{_≡_};
-ghost use Rattle.parse_step.specs.declared.Verdict.the-variants.{Done};
+ghost use Rattle.parse_step.specs.declared.ReadVerdict.the-variants.{Done};
 
 pub mod adding;
 pub mod kinds;
@@ -22,7 +22,7 @@ pub struct State {
 }
 
 // What became of a part of the text: it was read, it is refused, or the working array is full.
-pub enum Verdict {
+pub enum ReadVerdict {
     Done,
     Refused(Fault),
     Full,
@@ -30,7 +30,7 @@ pub enum Verdict {
 
 // The verdict, and where it is done the next word and the state there.
 pub struct Answer {
-    pub verdict: Verdict,
+    pub verdict: ReadVerdict,
     pub next: Word,
     pub state: State,
 }
@@ -47,7 +47,7 @@ pub fn unread(a: Answer) -> bool
     ensures { λ r. ⌜ (r ≡ false → a .verdict ≡ Done) × (r ≡ true → a .verdict ≡ Done → ⊥) ⌝ }
 {
     let verdict = a.verdict;
-    let Verdict::Done = verdict else {
+    let ReadVerdict::Done = verdict else {
         return true;
     };
     false

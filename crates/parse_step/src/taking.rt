@@ -1,8 +1,8 @@
 // A word taken with its counts, and words refused.
 use crate::Answer;
 use crate::Bearing;
+use crate::ReadVerdict;
 use crate::State;
-use crate::Verdict;
 use crate::kinds;
 use language::ceilings;
 use language::refusals::Refusal;
@@ -24,7 +24,7 @@ pub fn refuse(w: Word, s: State, refusal: Refusal) -> Answer
     let at = w.at;
     let f = Fault { at, refusal };
     Answer {
-        verdict: Verdict::Refused(f),
+        verdict: ReadVerdict::Refused(f),
         next: w,
         state: s,
     }
@@ -117,7 +117,7 @@ pub fn pass(w: Word, next: Word, s: State, counts: bool, bearing: Bearing) -> An
             known: s.known,
         };
         return Answer {
-            verdict: Verdict::Done,
+            verdict: ReadVerdict::Done,
             next,
             state,
         };
@@ -151,7 +151,7 @@ pub fn keep_constant(text: &[u8], w: Word, s: State) -> Answer
     if kinds::number(kind) == language::kinds::CONSTANT {
         let next = following(text, w);
         return Answer {
-            verdict: Verdict::Done,
+            verdict: ReadVerdict::Done,
             next,
             state: s,
         };

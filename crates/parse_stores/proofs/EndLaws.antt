@@ -8,7 +8,7 @@ use Rattle.parse_step.proofs.Answers.{done-refused, refused-full, same-fault}
 use Rattle.parse_step.proofs.TakenWords.{onTaken, took-refused}
 use Rattle.parse_step.specs.declared.Answer.{Answer}
 use Rattle.parse_step.specs.declared.State.{State}
-use Rattle.parse_step.specs.declared.Verdict.the-variants.{Done}
+use Rattle.parse_step.specs.declared.ReadVerdict.the-variants.{Done}
 use Rattle.parse_step.specs.Course.{Seen, Stack, countsOf, runs}
 use Rattle.parse_step.specs.Pays.{Spends}
 use Rattle.parse_step.specs.Says.{Says}
@@ -19,7 +19,7 @@ use Rattle.language.specs.Kinds.{aName}
 use Rattle.language.specs.Machine.{Counts, keep, refused, withinCeilings}
 use Rattle.language.specs.Naming.{Scope}
 use Rattle.language.specs.Words.{fault}
-use Rattle.parse_tables.specs.declared.meaning.Counts as M
+use Rattle.parse_tables.specs.declared.meaning.KnownNames as M
 use Rattle.text_words.specs.declared.Word.{Word}
 use Rattle.text_words.specs.Meaning.{faulted, positioned}
 use Rattle.parse_array.specs.Held.{Held}

@@ -7,7 +7,7 @@ use lib.ListN.{drop, length, length-drop, take}
 use lib.Seq.{drop-at, length-take-le, take-add, take-take}
 use Rattle.language.specs.Encode.{nodeSize}
 use Rattle.language.specs.Naming.{Scope}
-use Rattle.parse_tables.specs.declared.meaning.Counts.{Counts}
+use Rattle.parse_tables.specs.declared.meaning.KnownNames.{KnownNames}
 use Rattle.parse_tables.specs.Known.{Known}
 use Rattle.parse_tables.proofs.NamesGrown.{names-kept}
 use Rattle.parse_tables.proofs.RowLaws.{rows-other}
@@ -44,7 +44,7 @@ module _ (w w′ : List ℕ) where
 -- ---- The names known.
 
 -- Where the tables of names are as they were.
-pub known-by : {text : List ℕ} {sc : Scope} {n : Counts} {w : List ℕ} (w′ : List ℕ) → ((m : ℕ) → m ≤ facilityRows → rows T.FacilityNames m w′ ≡ rows T.FacilityNames m w)
+pub known-by : {text : List ℕ} {sc : Scope} {n : KnownNames} {w : List ℕ} (w′ : List ℕ) → ((m : ℕ) → m ≤ facilityRows → rows T.FacilityNames m w′ ≡ rows T.FacilityNames m w)
     → ((m : ℕ) → m ≤ operationRows → rows T.OperationNames m w′ ≡ rows T.OperationNames m w) → Known text sc n w → Known text sc n w′
 known-by {text} {n = n} {w} w′ f o k = record {
   facilities = k .facilities ∙ sym (names-kept text T.FacilityNames w w′ f (n .facilities));
@@ -52,5 +52,5 @@ known-by {text} {n = n} {w} w′ f o k = record {
   states = k .states;
 }
 
-pub known-kept : {text : List ℕ} {sc : Scope} {n : Counts} {w : List ℕ} (w′ : List ℕ) → OthersKept w w′ → Known text sc n w → Known text sc n w′
+pub known-kept : {text : List ℕ} {sc : Scope} {n : KnownNames} {w : List ℕ} (w′ : List ℕ) → OthersKept w w′ → Known text sc n w → Known text sc n w′
 known-kept w′ o k = known-by w′ (o T.FacilityNames refl) (o T.OperationNames refl) k

@@ -9,7 +9,7 @@ use Rattle.parse_step.proofs.Answers.{done-full, done-refused, refused-full, sa
 use Rattle.parse_step.specs.declared.Answer.{Answer}
 use Rattle.parse_step.specs.declared.Bearing.the-variants.{Level}
 use Rattle.parse_step.specs.declared.State.{State}
-use Rattle.parse_step.specs.declared.Verdict.the-variants.{Done, Full}
+use Rattle.parse_step.specs.declared.ReadVerdict.the-variants.{Done, Full}
 use Rattle.parse_step.specs.Course.{countsOf, kindNo}
 use Rattle.parse_step.specs.Gained.{withActionCount}
 use Rattle.parse_step.specs.Taken.{Refuses, Took, afterWord}

@@ -9,7 +9,7 @@ use Rattle.parse_step.proofs.Paying.{counted-comes, pays-on, pays-refl, took-co
 use Rattle.parse_step.specs.declared.Answer.{Answer}
 use Rattle.parse_step.specs.declared.Bearing.the-variants.{Level}
 use Rattle.parse_step.specs.declared.State.{State}
-use Rattle.parse_step.specs.declared.Verdict.the-variants.{Done}
+use Rattle.parse_step.specs.declared.ReadVerdict.the-variants.{Done}
 use Rattle.parse_step.specs.Course.{Seen, Stack, countsOf, runs}
 use Rattle.parse_step.specs.Gained.{withActionCount}
 use Rattle.parse_step.specs.Pays.{Comes, Pays}
@@ -22,7 +22,7 @@ use Rattle.language.specs.Encode.{actionBytes, concat}
 use Rattle.language.specs.Machine.{Counts, withinCeilings}
 use Rattle.language.specs.Naming.{Scope}
 use Rattle.language.specs.Tree.{Actions}
-use Rattle.parse_tables.specs.declared.meaning.Counts as M
+use Rattle.parse_tables.specs.declared.meaning.KnownNames as M
 use Rattle.parse_tables.specs.Known.{Known}
 use Rattle.judge_records.specs.Noted.{placeBytes}
 use Rattle.parse_tables.proofs.NamesGrown.{facilities-other}

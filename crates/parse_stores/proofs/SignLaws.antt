@@ -11,7 +11,7 @@ use Rattle.parse_step.proofs.TakenWords.{onTaken, took-done}
 use Rattle.parse_step.specs.declared.Answer.{Answer}
 use Rattle.parse_step.specs.declared.Bearing.the-variants.{Level}
 use Rattle.parse_step.specs.declared.State.{State}
-use Rattle.parse_step.specs.declared.Verdict.the-variants.{Done}
+use Rattle.parse_step.specs.declared.ReadVerdict.the-variants.{Done}
 use Rattle.parse_step.specs.Course.{Seen, Stack, countsOf, kindNo, runs}
 use Rattle.parse_step.specs.Taken.{Took, Went, WentOn, afterWord}
 use Rattle.about_grammar.specs.Following.{among}
@@ -27,7 +27,7 @@ use Rattle.language.specs.Tree as T
 use Rattle.language.specs.Tree.{Actions, Name}
 use Rattle.language.specs.Words as L
 use Rattle.parse_levels.proofs.HeadWords.{among-first-or, among-none}
-use Rattle.parse_tables.specs.declared.meaning.Counts as M
+use Rattle.parse_tables.specs.declared.meaning.KnownNames as M
 use Rattle.parse_tables.specs.declared.meaning.Meaning.{Meaning}
 use Rattle.parse_tables.specs.Known.{meant}
 use Rattle.parse_operands.specs.References.{lettersOf}

@@ -17,7 +17,7 @@ use Rattle.parse_step.specs.Taken.{Passed, afterWord, tallyOf}
 use Rattle.language.specs.Machine.{Counts, both, deepest, mostCounted, mostFacilities, mostOperations, mostStates, withinCeilings}
 use Rattle.language.specs.Naming.{Scope}
 use Rattle.language.specs.Tree.{Actions}
-use Rattle.parse_tables.specs.declared.meaning.Counts as M
+use Rattle.parse_tables.specs.declared.meaning.KnownNames as M
 use Rattle.text_words.specs.declared.Word.{Word}
 use Rattle.parse_tables.specs.Names.{facilityNames}
 use Rattle.parse_array.specs.Layout.{workSize}

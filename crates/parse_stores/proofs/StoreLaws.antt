@@ -10,7 +10,7 @@ use Rattle.parse_step.proofs.TakenWords.{took-done}
 use Rattle.parse_step.specs.declared.Answer.{Answer}
 use Rattle.parse_step.specs.declared.Bearing.the-variants.{Level}
 use Rattle.parse_step.specs.declared.State.{State}
-use Rattle.parse_step.specs.declared.Verdict.the-variants.{Done}
+use Rattle.parse_step.specs.declared.ReadVerdict.the-variants.{Done}
 use Rattle.parse_step.specs.Course.{Seen, Stack, countsOf, kindNo, runs}
 use Rattle.parse_step.specs.Pays.{Spends}
 use Rattle.parse_step.specs.Says.{Parses, pushed}
@@ -25,7 +25,7 @@ use Rattle.language.specs.Machine.{Ask, ask, expression, keep, leftRest, make, 
 use Rattle.language.specs.Tree as T
 use Rattle.language.specs.Tree.{Expression, Left}
 use Rattle.language.specs.Words as L
-use Rattle.parse_tables.specs.declared.meaning.Counts as M
+use Rattle.parse_tables.specs.declared.meaning.KnownNames as M
 use Rattle.parse_expressions.specs.Phrases.{afterName, same}
 use Rattle.text_words.specs.declared.Word.{Word}
 use Rattle.text_words.specs.Meaning.{positioned}

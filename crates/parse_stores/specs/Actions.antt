@@ -6,7 +6,7 @@ use Prim.Native.Nat.{ℕ, _+_, _*_, _<_, _≤_}
 use lib.ListN.{drop, length}
 use Rattle.parse_step.specs.declared.Answer.{Answer}
 use Rattle.parse_step.specs.declared.State.{State}
-use Rattle.parse_step.specs.declared.Verdict.the-variants as Vd
+use Rattle.parse_step.specs.declared.ReadVerdict.the-variants as Vd
 use Rattle.parse_step.specs.Course.{Seen, Stack, countsOf, runs}
 use Rattle.language.specs.Building.{Built, joined, listNo, withLists}
 use Rattle.language.specs.Describe.{NotedAction, actionsIn, actionsOf, expressionsIn, nodesIn}
@@ -14,7 +14,7 @@ use Rattle.language.specs.Encode.{actionBytes, concat}
 use Rattle.language.specs.Machine.{refused, withinCeilings}
 use Rattle.language.specs.Naming.{Scope}
 use Rattle.language.specs.Tree.{Actions}
-use Rattle.parse_tables.specs.declared.meaning.Counts.{Counts}
+use Rattle.parse_tables.specs.declared.meaning.KnownNames.{KnownNames}
 use Rattle.parse_tables.specs.Known.{Known}
 use Rattle.judge_records.specs.Noted.{placeBytes}
 use Rattle.parse_tables.specs.declared.Table.{Table}
@@ -27,7 +27,7 @@ use Rattle.parse_array.specs.Held.{Held, held, withNodes}
 use Rattle.parse_array.specs.Layout.{workSize}
 
 -- Where reading actions stands: the look-ahead is a word of the text, the names known are those of the scope, and every expression record and `acts` action records are paid for by what was counted: seven expression records and two action records for each counted word, six expression records for each state.
-pub record Standing (text : List ℕ) (sc : Scope) (n : Counts) (w : Word) (s : State) (acts : ℕ) (work : List ℕ) : Type 0 where
+pub record Standing (text : List ℕ) (sc : Scope) (n : KnownNames) (w : Word) (s : State) (acts : ℕ) (work : List ℕ) : Type 0 where
   pub seen : Seen text w
   pub short : length text < 65536
   pub whole : length work ≡ workSize
@@ -76,7 +76,7 @@ pub record Paid (s : State) (acts : ℕ) (s′ : State) : Type 0 where
   pub actions : s′ .actions + 1 + 2 * s .counted ≤ acts + 2 * s′ .counted
 
 -- From the stack P and what `pre` makes of what was built the machine comes to the stack Q with some actions more.
-pub record ActionsRead (text : List ℕ) (sc : Scope) (n : Counts) (P Q : Stack) (pre : Built → Built) (w : Word) (s : State) (work work′ : List ℕ) (r : Answer) : Type 0 where
+pub record ActionsRead (text : List ℕ) (sc : Scope) (n : KnownNames) (P Q : Stack) (pre : Built → Built) (w : Word) (s : State) (work work′ : List ℕ) (r : Answer) : Type 0 where
   pub tree : Actions
   pub course : (K : Stack) (b : Built) → runs text (P ++ K) w (pre b) s ≡ runs text (Q ++ K) (r .next) (grown tree b) (r .state)
   pub written : Written sc tree s work (r .state) work′
@@ -84,12 +84,12 @@ pub record ActionsRead (text : List ℕ) (sc : Scope) (n : Counts) (P Q : Stack)
   pub standing : Standing text sc n (r .next) (r .state) (r .state .actions) work′
 
 -- What was read, or the machine's refusal; there is room for everything.
-pub record Reads (text : List ℕ) (sc : Scope) (n : Counts) (P Q : Stack) (pre : Built → Built) (w : Word) (s : State) (work work′ : List ℕ) (r : Answer) : Type 0 where
+pub record Reads (text : List ℕ) (sc : Scope) (n : KnownNames) (P Q : Stack) (pre : Built → Built) (w : Word) (s : State) (work work′ : List ℕ) (r : Answer) : Type 0 where
   pub done : r .verdict ≡ Vd.Done → ActionsRead text sc n P Q pre w s work work′ r
   pub refused : (f : Fault) → r .verdict ≡ Vd.Refused f → (K : Stack) (b : Built) → runs text (P ++ K) w (pre b) s ≡ refused (faulted f)
   pub full : r .verdict ≡ Vd.Full → ⊥
 
 -- Actions by the stack P.
-abbrev pub Acts : Stack → (List ℕ → Built → Built) → List ℕ → Counts → Word → State → List ℕ → List ℕ → Answer → Type 0
+abbrev pub Acts : Stack → (List ℕ → Built → Built) → List ℕ → KnownNames → Word → State → List ℕ → List ℕ → Answer → Type 0
 Acts P pre text n w s work work′ r =
     (sc : Scope) → Standing text sc n w s (s .actions) work → Reads text sc n P [] (pre text) w s work work′ r

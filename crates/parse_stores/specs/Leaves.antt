@@ -8,7 +8,7 @@ use Rattle.language.specs.declared.refusals.Refusal.the-variants.{CeilingPassed
 use Rattle.parse_step.specs.declared.Answer.{Answer}
 use Rattle.parse_step.specs.declared.Bearing.the-variants.{Level}
 use Rattle.parse_step.specs.declared.State.{State}
-use Rattle.parse_step.specs.declared.Verdict.the-variants.{Done, Full, Refused}
+use Rattle.parse_step.specs.declared.ReadVerdict.the-variants.{Done, Full, Refused}
 use Rattle.parse_step.specs.Course.{Seen, Stack, countsOf, runs, runsOn, ahead}
 use Rattle.parse_step.specs.Gained.{withActionCount}
 use Rattle.parse_step.specs.Taken.{Took, afterWord}
@@ -19,7 +19,7 @@ use Rattle.language.specs.Machine.{Ask, Parsed, ask, keep, refused, withinCeili
 use Rattle.language.specs.Tree as T
 use Rattle.language.specs.Words.{fault}
 use Rattle.language.specs.Naming.{Scope, meaning}
-use Rattle.parse_tables.specs.declared.meaning.Counts.{Counts}
+use Rattle.parse_tables.specs.declared.meaning.KnownNames.{KnownNames}
 use Rattle.parse_tables.specs.declared.meaning.Meaning.{Meaning}
 use Rattle.parse_tables.specs.Known.{Known, meant}
 use Rattle.parse_operands.specs.References.{lettersOf}
@@ -55,7 +55,7 @@ pub record Puts (a : D.Action) (at : Position) (next : Word) (s : State) (work w
   pub full : r .verdict ≡ Full → mostActions ≤ s .actions
 
 -- What a name means, by its word.
-abbrev pub NameMeans : List ℕ → List ℕ → Counts → Word → Meaning → Type 0
+abbrev pub NameMeans : List ℕ → List ℕ → KnownNames → Word → Meaning → Type 0
 NameMeans text work n name r = length text < 65536 → (sc : Scope) → Known text sc n work → meant r ≡ meaning sc (lettersOf text name)
 
 -- ---- A name alone performs an operation and counts, by an ask that leaves it so.
@@ -66,7 +66,7 @@ alone text name w s K b =
     (runsOn text K (ahead text w) (grown (T.perform (lettersOf text name) (positioned (name .at)) T.done) b) (afterWord true Level s))
     (refused (fault (positioned (name .at)) CeilingPassed))
 
-abbrev pub Performs : Word → List ℕ → Counts → Word → State → List ℕ → List ℕ → Answer → Type 0
+abbrev pub Performs : Word → List ℕ → KnownNames → Word → State → List ℕ → List ℕ → Answer → Type 0
 Performs name text n w s work work′ r =
     (a : Ask) → (Seen text w → (K : Stack) (b : Built) → runs text (ask a ∷ K) w (afterName name text b) s ≡ alone text name w s K b)
     → Acts (ask a ∷ []) (afterName name) text n w s work work′ r

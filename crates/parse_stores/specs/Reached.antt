@@ -5,7 +5,7 @@ use mathlib.Core.Path.{_≡_}
 use Prim.Native.Nat.{ℕ, _+_, _≤_}
 use Rattle.parse_step.specs.declared.Answer.{Answer}
 use Rattle.parse_step.specs.declared.State.{State}
-use Rattle.parse_step.specs.declared.Verdict.the-variants.{Done, Full, Refused}
+use Rattle.parse_step.specs.declared.ReadVerdict.the-variants.{Done, Full, Refused}
 use Rattle.parse_step.specs.Course.{Seen, Stack, runs}
 use Rattle.parse_step.specs.Pays.{Pays}
 use Rattle.parse_step.specs.Says.{pushed}
@@ -19,7 +19,7 @@ use Rattle.language.specs.Naming.{Scope}
 use Rattle.language.specs.Steps.{Step}
 use Rattle.language.specs.Tree as T
 use Rattle.language.specs.Tree.{Actions, Expression, Left}
-use Rattle.parse_tables.specs.declared.meaning.Counts.{Counts}
+use Rattle.parse_tables.specs.declared.meaning.KnownNames.{KnownNames}
 use Rattle.text_words.specs.declared.Fault.{Fault}
 use Rattle.text_words.specs.declared.Word.{Word}
 use Rattle.text_words.specs.Meaning.{faulted}
@@ -38,14 +38,14 @@ pub record Reached (text : List ℕ) (sc : Scope) (more pay : ℕ) (ns : List No
   pub nodes : s₁ .nodes ≡ s .nodes + size
 
 -- From the stack P at the word w₁ the machine comes to some actions, which begin at the state s.
-pub record Ended (text : List ℕ) (sc : Scope) (n : Counts) (P : Stack) (pre : Built → Built) (w₁ : Word) (s₁ s : State) (work work′ : List ℕ) (r : Answer) : Type 0 where
+pub record Ended (text : List ℕ) (sc : Scope) (n : KnownNames) (P : Stack) (pre : Built → Built) (w₁ : Word) (s₁ s : State) (work work′ : List ℕ) (r : Answer) : Type 0 where
   pub tree : Actions
   pub course : (K : Stack) (b : Built) → runs text (P ++ K) w₁ (pre b) s₁ ≡ runs text K (r .next) (grown tree b) (r .state)
   pub written : Written sc tree s work (r .state) work′
   pub paid : Paid s (s .actions) (r .state)
   pub standing : Standing text sc n (r .next) (r .state) (r .state .actions) work′
 
-pub record Ends (text : List ℕ) (sc : Scope) (n : Counts) (P : Stack) (pre : Built → Built) (w₁ : Word) (s₁ s : State) (work work′ : List ℕ) (r : Answer) : Type 0 where
+pub record Ends (text : List ℕ) (sc : Scope) (n : KnownNames) (P : Stack) (pre : Built → Built) (w₁ : Word) (s₁ s : State) (work work′ : List ℕ) (r : Answer) : Type 0 where
   pub done : r .verdict ≡ Done → Ended text sc n P pre w₁ s₁ s work work′ r
   pub refused : (f : Fault) → r .verdict ≡ Refused f → (K : Stack) (b : Built) → runs text (P ++ K) w₁ (pre b) s₁ ≡ refused (faulted f)
   pub full : r .verdict ≡ Full → ⊥
@@ -60,7 +60,7 @@ abbrev pub arrowAction : Bool → ℕ → D.Action
 arrowAction false k = D.goto k
 arrowAction true k = D.call k
 
-abbrev pub Arrows : Bool → List ℕ → Counts → Word → State → List ℕ → List ℕ → Answer → Type 0
+abbrev pub Arrows : Bool → List ℕ → KnownNames → Word → State → List ℕ → List ℕ → Answer → Type 0
 Arrows call text n w₁ s₁ work₁ work′ r =
     (sc : Scope) (w : Word) (s : State) (work : List ℕ) → Standing text sc n w s (s .actions) work → Reached text sc 1 0 [] 0 s work w₁ s₁ work₁
     → Ends text sc n (keep aName ∷ make (arrowStep call) ∷ []) (λ b. b) w₁ s₁ s work work′ r
@@ -69,7 +69,7 @@ Arrows call text n w₁ s₁ work₁ work′ r =
 
 abbrev pub AfterLeft : Ask → List ℕ → Word → State → List ℕ → List ℕ → Answer → Type 0
 AfterLeft a text w₁ s₁ work₁ work′ r =
-    (sc : Scope) (n : Counts) (w : Word) (s : State) (work : List ℕ) (t : Expression) → Standing text sc n w s (s .actions) work
+    (sc : Scope) (n : KnownNames) (w : Word) (s : State) (work : List ℕ) (t : Expression) → Standing text sc n w s (s .actions) work
     → Reached text sc 0 2 (nodesOf sc (s .nodes) t) (expressionSize t) s work w₁ s₁ work₁ → Ends text sc n (ask a ∷ []) (pushed t) w₁ s₁ s work work′ r
 
 -- The numbers of the records of a left side.
@@ -88,5 +88,5 @@ withLeft l b = withLefts b (l ∷ b .lefts)
 
 abbrev pub Stores : Sides → List ℕ → Word → State → List ℕ → List ℕ → Answer → Type 0
 Stores left text w₁ s₁ work₁ work′ r =
-    (sc : Scope) (n : Counts) (w : Word) (s : State) (work : List ℕ) (l : Left) → Standing text sc n w s (s .actions) work → left ≡ sidesOf (s .nodes) l
+    (sc : Scope) (n : KnownNames) (w : Word) (s : State) (work : List ℕ) (l : Left) → Standing text sc n w s (s .actions) work → left ≡ sidesOf (s .nodes) l
     → Reached text sc 0 4 (leftNodes sc (s .nodes) l) (leftSize l) s work w₁ s₁ work₁ → Ends text sc n (ask storeSign ∷ []) (withLeft l) w₁ s₁ s work work′ r

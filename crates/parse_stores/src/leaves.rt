@@ -4,13 +4,13 @@ use language::refusals::Refusal;
 use parse_array::Work;
 use parse_step::Answer;
 use parse_step::Bearing;
+use parse_step::ReadVerdict;
 use parse_step::State;
-use parse_step::Verdict;
 use parse_step::adding;
 use parse_step::kinds;
 use parse_step::taking;
 use parse_tables::actions;
-use parse_tables::meaning::Counts;
+use parse_tables::meaning::KnownNames;
 use parse_tables::meaning::Meaning;
 use text_words::Position;
 use text_words::Word;
@@ -43,13 +43,13 @@ pub fn put(s: State, action: Action, at: Position, next: Word, work: &mut Work) 
     if room {
         let state = adding::with_actions(s, s.actions + 1);
         return Answer {
-            verdict: Verdict::Done,
+            verdict: ReadVerdict::Done,
             next,
             state,
         };
     }
     Answer {
-        verdict: Verdict::Full,
+        verdict: ReadVerdict::Full,
         next,
         state: s,
     }
@@ -91,7 +91,7 @@ pub fn going(call: bool, m: Meaning) -> Action
 }
 
 // What a name means, by its word.
-pub fn meaning(text: &[u8], work: &Work, n: Counts, name: Word) -> Meaning
+pub fn meaning(text: &[u8], work: &Work, n: KnownNames, name: Word) -> Meaning
     ensures { λ r. ⌜ NameMeans (now (text .entry)) (now (work .entry)) n name r ⌝ }
 {
     let at = name.at;

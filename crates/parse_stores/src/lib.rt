@@ -6,7 +6,7 @@ use parse_step::Bearing;
 use parse_step::State;
 use parse_step::kinds;
 use parse_step::taking;
-use parse_tables::meaning::Counts;
+use parse_tables::meaning::KnownNames;
 use text_words::Word;
 ghost use mathlib.Core.Bool.{true};
 ghost use mathlib.Core.List.{[], _∷_};
@@ -25,7 +25,7 @@ pub mod leaves;
 mod stores;
 
 // A name alone: it performs an operation, and counts.
-fn perform(s: State, name: Word, text: &[u8], w: Word, work: &mut Work, n: Counts) -> Answer
+fn perform(s: State, name: Word, text: &[u8], w: Word, work: &mut Work, n: KnownNames) -> Answer
     ensures { λ r. ⌜ Performs name (now (text .entry)) n w s (now (work .entry)) (now (work .exit)) r ⌝ }
 {
     let counted = taking::pass(name, w, s, true, Bearing::Level);
@@ -38,7 +38,7 @@ fn perform(s: State, name: Word, text: &[u8], w: Word, work: &mut Work, n: Count
 }
 
 // A state's name behind `->` or `=>`.
-fn arrow(s: State, call: bool, text: &[u8], w: Word, work: &mut Work, n: Counts) -> Answer
+fn arrow(s: State, call: bool, text: &[u8], w: Word, work: &mut Work, n: KnownNames) -> Answer
     ensures { λ r. ⌜ Arrows call (now (text .entry)) n w s (now (work .entry)) (now (work .exit)) r ⌝ }
 {
     let kept = leaves::keep_name(text, w, s);
@@ -51,7 +51,7 @@ fn arrow(s: State, call: bool, text: &[u8], w: Word, work: &mut Work, n: Counts)
 }
 
 // What begins with a sign in a state: `->`, `=>` or RETURN.
-pub fn signed(s: State, text: &[u8], w: Word, work: &mut Work, n: Counts) -> Answer
+pub fn signed(s: State, text: &[u8], w: Word, work: &mut Work, n: KnownNames) -> Answer
     ensures { λ r. ⌜ (among (kindNo (w .kind)) (gotoSign ∷ callSign ∷ returnWord ∷ []) ≡ true → Acts (ask L.stateAction ∷ []) same (now (text .entry)) n w s (now (work .entry)) (now (work .exit)) r) ⌝ }
 {
     let taken = taking::take(text, w, s, true, Bearing::Level);
@@ -107,7 +107,7 @@ pub fn named_in_operation(
     text: &[u8],
     w: Word,
     work: &mut Work,
-    n: Counts,
+    n: KnownNames,
 ) -> Answer
     ensures { λ r. ⌜ Acts (ask L.operationName ∷ []) (afterName name) (now (text .entry)) n w s (now (work .entry)) (now (work .exit)) r ⌝ }
 {
@@ -129,7 +129,7 @@ pub fn named_in_state(
     text: &[u8],
     w: Word,
     work: &mut Work,
-    n: Counts,
+    n: KnownNames,
 ) -> Answer
     ensures { λ r. ⌜ Acts (ask L.stateName ∷ []) (afterName name) (now (text .entry)) n w s (now (work .entry)) (now (work .exit)) r ⌝ }
 {

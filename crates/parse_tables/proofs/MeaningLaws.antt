@@ -12,14 +12,14 @@ use Rattle.language.specs.Naming.{meaning, numberOf, orElse}
 use Rattle.parse_array.specs.Names.{letters}
 use Rattle.parse_tables.specs.declared.finding.Found.{Found}
 use Rattle.parse_tables.specs.declared.finding.Found.the-variants.{At, Nothing}
-use Rattle.parse_tables.specs.declared.meaning.Counts.{Counts}
+use Rattle.parse_tables.specs.declared.meaning.KnownNames.{KnownNames}
 use Rattle.parse_tables.specs.declared.meaning.Meaning.{Meaning}
 use Rattle.parse_tables.specs.declared.meaning.Meaning.the-variants as M
 use Rattle.parse_tables.specs.declared.Table.the-variants as T
 use Rattle.parse_tables.specs.Known.{Means, meant, waiting}
 use Rattle.parse_tables.specs.Names.{facilityNames, found, namesIn}
 
-module _ (text work : List ℕ) (n : Counts) (place length : ℕ) where
+module _ (text work : List ℕ) (n : KnownNames) (place length : ℕ) where
   -- What is found among facilities, and among operations.
   abbrev Facility : Found → Type 0
   Facility f = found f ≡ numberOf (letters text place length) 0 (facilityNames text work (n .facilities))

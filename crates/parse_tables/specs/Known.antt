@@ -11,7 +11,7 @@ use Rattle.language.specs.Tree.{Name}
 use Rattle.parse_tables.specs.declared.Table.the-variants as T
 use Rattle.parse_tables.specs.Names.{facilityNames, namesIn}
 use Rattle.parse_array.specs.Names.{letters}
-use Rattle.parse_tables.specs.declared.meaning.Counts.{Counts}
+use Rattle.parse_tables.specs.declared.meaning.KnownNames.{KnownNames}
 use Rattle.parse_tables.specs.declared.meaning.Meaning.{Meaning}
 use Rattle.parse_tables.specs.declared.meaning.Meaning.the-variants as M
 
@@ -21,7 +21,7 @@ waiting true m = some (N.length m)
 waiting false m = none
 
 -- The names of facilities and operations stand in their tables.
-pub record Known (text : List ℕ) (sc : Scope) (n : Counts) (work : List ℕ) : Type 0 where
+pub record Known (text : List ℕ) (sc : Scope) (n : KnownNames) (work : List ℕ) : Type 0 where
   pub facilities : sc .facilities ≡ facilityNames text work (n .facilities)
   pub operations : sc .operations ≡ namesIn text T.OperationNames work (n .operations)
   pub states : (m : Name) → sc .stateNamed m ≡ waiting (n .waiting) m
@@ -32,6 +32,6 @@ meant (M.Operation k) = L.operation k
 meant (M.State k) = L.state k
 meant M.Unknown = L.unknown
 
-abbrev pub Means : List ℕ → List ℕ → Counts → ℕ → ℕ → Meaning → Type 0
+abbrev pub Means : List ℕ → List ℕ → KnownNames → ℕ → ℕ → Meaning → Type 0
 Means text work n place length r =
     N.length text < 65536 → (sc : Scope) → Known text sc n work → meant r ≡ meaning sc (letters text place length)

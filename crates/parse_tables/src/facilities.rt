@@ -5,8 +5,8 @@ use crate::names;
 use crate::rows;
 use image_records::numbers;
 use image_records::record_sizes;
-use image_sections::facilities::Facility;
-use image_sections::facilities::Kind;
+use image_sections::facilities::FacilityKind;
+use image_sections::facilities::FacilityRecord;
 use image_sections::facilities::ShortBounds;
 use image_sections::facility_bytes;
 use parse_array::Work;
@@ -23,7 +23,7 @@ ghost use Rattle.parse_tables.specs.Facilities.{FacilityAdded, facilityS
 
 // What a declaration says: the name by its place and size, and of a computed terminal the number of its expression and the place of its `=`.
 pub struct Declared {
-    pub kind: Kind,
+    pub kind: FacilityKind,
     pub at: Position,
     pub size: usize,
     pub extent: Extent,
@@ -52,7 +52,7 @@ pub fn facility_record(x: Declared, place: u16) -> [u8; record_sizes::FACILITY]
     let words = low_bounds(w.first, w.last);
     let bits = low_bounds(b.first, b.last);
     let name = (x.size % 256) as u8;
-    let f = Facility {
+    let f = FacilityRecord {
         kind,
         dimensions: extent.dimensions,
         name,

@@ -22,7 +22,7 @@ pub enum Meaning {
 }
 
 // How many names are known, and whether any other waits for its state.
-pub struct Counts {
+pub struct KnownNames {
     pub facilities: u16,
     pub operations: u16,
     pub waiting: bool,
@@ -40,7 +40,7 @@ fn other(text: &[u8], waits: bool, place: usize, length: usize) -> Meaning
 }
 
 // What the word of this place and length means.
-pub fn what(text: &[u8], work: &Work, n: Counts, place: usize, length: usize) -> Meaning
+pub fn what(text: &[u8], work: &Work, n: KnownNames, place: usize, length: usize) -> Meaning
     ensures { λ r. ⌜ Means (now (text .entry)) (now (work .entry)) n place length r ⌝ }
 {
     let f = finding::find(

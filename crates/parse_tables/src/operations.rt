@@ -5,7 +5,7 @@ use crate::places;
 use crate::rows;
 use image_records::record_sizes;
 use image_sections::operations;
-use image_sections::operations::Operation;
+use image_sections::operations::OperationRecord;
 use image_sections::runs::Run;
 use parse_array::Work;
 use text_words::Position;
@@ -23,7 +23,7 @@ fn operation_row(size: usize, body: Run) -> [u8; record_sizes::OPERATION]
     ensures { λ r. ⌜ ((name : Name) → length name ≡ size → r ≡ operationRecord (record { name = name; body = runMeant body })) ⌝ }
 {
     let name = (size % 256) as u8;
-    let o = Operation { name, body };
+    let o = OperationRecord { name, body };
     operations::operation_bytes(o)
 }
 

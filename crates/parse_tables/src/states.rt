@@ -5,7 +5,7 @@ use crate::rows;
 use image_records::record_sizes;
 use image_sections::runs::Run;
 use image_sections::states;
-use image_sections::states::State;
+use image_sections::states::StateRecord;
 use image_sections::states::StateValue;
 use parse_array::Work;
 use text_words::Position;
@@ -25,7 +25,7 @@ fn state_row(size: usize, value: StateValue, actions: Run) -> [u8; record_sizes:
     ensures { λ r. ⌜ ((name : Name) → length name ≡ size → r ≡ stateRecord (record { name = name; value = valueMeant value; actions = runMeant actions })) ⌝ }
 {
     let name = (size % 256) as u8;
-    let s = State {
+    let s = StateRecord {
         name,
         value,
         actions,

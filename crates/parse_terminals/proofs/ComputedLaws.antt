@@ -10,14 +10,14 @@ use Rattle.parse_step.proofs.Ceilings.{few-counted}
 use Rattle.parse_step.proofs.Saying.{makes-it}
 use Rattle.parse_step.specs.declared.Answer.{Answer}
 use Rattle.parse_step.specs.declared.State.{State}
-use Rattle.parse_step.specs.declared.Verdict.the-variants.{Done}
+use Rattle.parse_step.specs.declared.ReadVerdict.the-variants.{Done}
 use Rattle.parse_step.specs.Course.{countsOf}
 use Rattle.parse_step.specs.Pays.{Pays, Spends}
 use Rattle.parse_step.specs.Says.{Parses, Read, Says, pushed}
 use Rattle.parse_facilities.proofs.Appended.{namesOf, nodes-last, scopeOf, size-last}
 use Rattle.parse_facilities.specs.Listed.{Expressed, Tabled, noneHeld}
 use Rattle.parse_facilities.specs.Specs.{declarationOf}
-use Rattle.image_sections.specs.declared.facilities.Kind.the-variants as F
+use Rattle.image_sections.specs.declared.facilities.FacilityKind.the-variants as F
 use Rattle.language.specs.Building.{expressionNo, wordNo}
 use Rattle.language.specs.Declaring.{makeComputed}
 use Rattle.language.specs.Describe.{Noted, expressionSize, nodesOf}

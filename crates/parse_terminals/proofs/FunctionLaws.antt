@@ -8,7 +8,7 @@ use Rattle.parse_step.proofs.Saying.{makes-it}
 use Rattle.parse_step.proofs.TakenWords.{onTaken, took-done}
 use Rattle.parse_step.specs.declared.Answer.{Answer}
 use Rattle.parse_step.specs.declared.State.{State}
-use Rattle.parse_step.specs.declared.Verdict.the-variants.{Done}
+use Rattle.parse_step.specs.declared.ReadVerdict.the-variants.{Done}
 use Rattle.parse_step.specs.Course.{Seen, Stack, countsOf, kindNo, runs}
 use Rattle.parse_step.specs.Taken.{Passed, Took}
 use Rattle.parse_facilities.proofs.StoredLaws.{others-same, others-then}
@@ -18,8 +18,8 @@ use Rattle.parse_facilities.specs.Specs.{declarationOf}
 use Rattle.parse_step.proofs.States.{state-of}
 use Rattle.parse_bounds.proofs.Telling.{through, word-taken}
 use Rattle.parse_bounds.specs.Extents.{ofTerminal, toCome}
-use Rattle.image_sections.specs.declared.facilities.Kind.{Kind}
-use Rattle.image_sections.specs.declared.facilities.Kind.the-variants as F
+use Rattle.image_sections.specs.declared.facilities.FacilityKind.{FacilityKind}
+use Rattle.image_sections.specs.declared.facilities.FacilityKind.the-variants as F
 use Rattle.language.specs.Building.{Built, wordNo}
 use Rattle.language.specs.Declaring.{makePlain}
 use Rattle.language.specs.DescribeText.{dimensionsOf}
@@ -50,7 +50,7 @@ begun-same g e z = record {
 }
 
 -- A function without records, behind which the state is the same.
-bare-waits : {text : List ℕ} {ds : List Declaration} {place : ℕ} {w : Word} {s s′ : State} {work : List ℕ} → Begun text ds place w s work → s′ ≡ s → (k : Kind) (name : Word) (x : Extent) (f : Function) → Bare f
+bare-waits : {text : List ℕ} {ds : List Declaration} {place : ℕ} {w : Word} {s s′ : State} {work : List ℕ} → Begun text ds place w s work → s′ ≡ s → (k : FacilityKind) (name : Word) (x : Extent) (f : Function) → Bare f
     → Awaiting text ds (declarationOf text k name x f) place s′ work
 bare-waits {text} {ds} {place} {work = work} g e k name x f h =
     subst (λ (j : State). Awaiting text ds (declarationOf text k name x f) place j work) (sym (e ∙ g .state)) (bare-awaits text k name x f h ds place (g .before) work (g .listed) (g .room))
@@ -136,7 +136,7 @@ module _ {text : List ℕ} (name : Word) {n : ℕ} {w : Word} {s : State} where
       to-equal : (x : Extent) (K : Stack) (b : Built) → runs text (ask terminalFunction ∷ K) w (atDimensions text name x b) s ≡ onTaken text w (ask functionOf ∷ K) (atFunction text name x w b) (countsOf s)
       to-equal x K b = equal-taken text w K (atDimensions text name x b) s equal
 
-      pub equal-not : (a .verdict ≡ Done → ⊥) → {work : List ℕ} {k : Kind} {i : ℕ} {e : P.Position} → Functions text name n w s work work (record { answer = a; kind = k; expression = i; equals = e })
+      pub equal-not : (a .verdict ≡ Done → ⊥) → {work : List ℕ} {k : FacilityKind} {i : ℕ} {e : P.Position} → Functions text name n w s work work (record { answer = a; kind = k; expression = i; equals = e })
       equal-not m = as-function (λ ds place x g. word-taken t (λ d. absurd (m d)) (λ K. ask functionOf ∷ K) (atFunction text name x w) (to-equal x))
 
       pub function-read : a .verdict ≡ Done → {work work′ : List ℕ} {r : Defined} → Follows text name w (a .next) (a .state) work work′ r → Functions text name n w s work work′ r

@@ -11,7 +11,7 @@ use Rattle.parse_step.proofs.TakenWords.{took-done, word-stuck}
 use Rattle.parse_step.specs.declared.Answer.{Answer}
 use Rattle.parse_step.specs.declared.Bearing.the-variants.{Closes, Level, Opens}
 use Rattle.parse_step.specs.declared.State.{State}
-use Rattle.parse_step.specs.declared.Verdict.the-variants.{Done}
+use Rattle.parse_step.specs.declared.ReadVerdict.the-variants.{Done}
 use Rattle.parse_step.specs.Course.{Seen, Stack, behind, countsOf, kindNo, runs, runsOn}
 use Rattle.parse_step.specs.Taken.{Expected, Passed, Refuses, Took, afterWord}
 use Rattle.parse_facilities.specs.Specs.{declarationOf}
@@ -19,7 +19,7 @@ use Rattle.parse_step.proofs.States.{state-of}
 use Rattle.parse_bounds.proofs.Telling.{expected, refuses, through, word-taken}
 use Rattle.parse_bounds.specs.Extents.{closedState}
 use Rattle.parse_bounds.specs.Telling.{Tells, same}
-use Rattle.image_sections.specs.declared.facilities.Kind.the-variants as F
+use Rattle.image_sections.specs.declared.facilities.FacilityKind.the-variants as F
 use Rattle.language.specs.Alternatives.{closing, plainWord}
 use Rattle.language.specs.Building.{Built, wordNo}
 use Rattle.language.specs.Characters.{folded}

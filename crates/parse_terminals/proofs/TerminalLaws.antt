@@ -5,7 +5,7 @@ use Prim.Native.Nat.{ℕ, _*_, _≤_}
 use Rattle.parse_step.proofs.Answers.{done-full, done-refused}
 use Rattle.parse_step.specs.declared.Answer.{Answer}
 use Rattle.parse_step.specs.declared.State.{State}
-use Rattle.parse_step.specs.declared.Verdict.the-variants.{Done}
+use Rattle.parse_step.specs.declared.ReadVerdict.the-variants.{Done}
 use Rattle.parse_step.specs.Course.{Seen, Stack, countsOf, runs}
 use Rattle.parse_facilities.proofs.StoredLaws.{others-then}
 use Rattle.parse_facilities.proofs.Unexpressed.{said, saidOf}
@@ -17,7 +17,7 @@ use Rattle.parse_facilities.specs.Specs.{NameRead, Names, declarationOf, moreSt
 use Rattle.parse_bounds.specs.declared.extents.Measured.{Measured}
 use Rattle.parse_bounds.specs.Extents.{ExtentRead, Measures, ofTerminal, toCome}
 use Rattle.parse_bounds.specs.Telling.{same}
-use Rattle.image_sections.specs.declared.facilities.Kind.the-variants as F
+use Rattle.image_sections.specs.declared.facilities.FacilityKind.the-variants as F
 use Rattle.language.specs.Building.{Built, keepWord}
 use Rattle.language.specs.DescribeText.{facilitySize}
 use Rattle.language.specs.Machine.{ask, terminalDimensions, terminalSpec, withinCeilings}

@@ -9,7 +9,7 @@ use Rattle.parse_step.specs.Course.{Seen, Stack, countsOf, kindNo, runs}
 use Rattle.parse_facilities.specs.Specs.{declarationOf, namedWord}
 use Rattle.parse_bounds.specs.Extents.{closedState, withExtent}
 use Rattle.parse_bounds.specs.Telling.{Tells, same}
-use Rattle.image_sections.specs.declared.facilities.Kind.the-variants as F
+use Rattle.image_sections.specs.declared.facilities.FacilityKind.the-variants as F
 use Rattle.language.specs.Alternatives.{closing, plainWord}
 use Rattle.language.specs.Building.{Built, keepWord, withText}
 use Rattle.language.specs.Declaring.{makeInput, withTerminal}

@@ -1,13 +1,13 @@
 // The function of a terminal: none, an input, or an expression.
 use crate::Defined;
 use crate::inputs;
-use image_sections::facilities::Kind;
+use image_sections::facilities::FacilityKind;
 use parse_array::Work;
 use parse_levels::Level;
 use parse_step::Answer;
 use parse_step::Bearing;
+use parse_step::ReadVerdict;
 use parse_step::State;
-use parse_step::Verdict;
 use parse_step::adding;
 use parse_step::kinds;
 use parse_step::taking;
@@ -21,13 +21,13 @@ fn plain(w: Word, s: State) -> Defined
 {
     let equals = places::position(0);
     let answer = Answer {
-        verdict: Verdict::Done,
+        verdict: ReadVerdict::Done,
         next: w,
         state: s,
     };
     Defined {
         answer,
-        kind: Kind::Plain,
+        kind: FacilityKind::Plain,
         expression: 0,
         equals,
     }
@@ -43,7 +43,7 @@ fn computed(text: &[u8], equal: Word, w: Word, work: &mut Work, s: State) -> Def
     let equals = equal.at;
     Defined {
         answer,
-        kind: Kind::Computed,
+        kind: FacilityKind::Computed,
         expression,
         equals,
     }
@@ -61,7 +61,7 @@ fn behind_equal(text: &[u8], name: Word, equal: Word, w: Word, work: &mut Work, 
     let answer = inputs::input(text, name, w, s);
     Defined {
         answer,
-        kind: Kind::Input,
+        kind: FacilityKind::Input,
         expression: 0,
         equals,
     }
@@ -90,7 +90,7 @@ pub fn function(
         let equals = places::position(0);
         return Defined {
             answer: equal,
-            kind: Kind::Plain,
+            kind: FacilityKind::Plain,
             expression: 0,
             equals,
         };

@@ -1,5 +1,5 @@
 // Stores by the records of their sides: the left side's place first, then the right side's value.
-use image_sections::facilities::Facility;
+use image_sections::facilities::FacilityRecord;
 use run_expressions::eval;
 use run_expressions::eval::Side;
 use run_references::places::Place;
@@ -56,7 +56,7 @@ fn store_beside(
     pending: &mut [u8],
     mask: &mut [u8],
     sign: u8,
-    f: Facility,
+    f: FacilityRecord,
     p: Place,
     m: u16,
     r: u16,

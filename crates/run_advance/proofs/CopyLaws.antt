@@ -18,8 +18,8 @@ use Rattle.store_layout.proofs.Inverse.{bytes-again}
 use Rattle.store_layout.specs.Layout.{Bytes}
 use Rattle.store_layout.specs.Slices.{copied}
 use Rattle.run_end.specs.Stepped.{ended}
-use Rattle.run_end.specs.declared.outcome.Verdict.{Verdict}
-use Rattle.run_end.specs.declared.outcome.Verdict.the-variants as Ends
+use Rattle.run_end.specs.declared.outcome.CycleEnd.{CycleEnd}
+use Rattle.run_end.specs.declared.outcome.CycleEnd.the-variants as Ends
 use Rattle.run_left.specs.Kept.{calledWith, keptStore}
 use Rattle.run_advance.specs.Carried.{completedBack}
 
@@ -44,7 +44,7 @@ copy-kept fs B X are e h =
     copied-over B X (omega (arith, e, h)) ∙ ap (λ (l : List ℕ). over l B) (sym t)
 
 -- What is kept of a cycle is what its call owes.
-pub kept-so : (d : Description) (v : Verdict) (r : S.Record) (c : ℕ) (B K W : List ℕ) (n : ℕ) → Bytes W → length W ≡ storeSizeOf (d .facilities) → storeSizeOf (d .facilities) ≤ length B
+pub kept-so : (d : Description) (v : CycleEnd) (r : S.Record) (c : ℕ) (B K W : List ℕ) (n : ℕ) → Bytes W → length W ≡ storeSizeOf (d .facilities) → storeSizeOf (d .facilities) ≤ length B
     → calledWith v r c (keptStore v W B) K n ≡ afterStep d B K n (ended v (fromBytes (d .facilities) W) r c)
 kept-so d Ends.Completed r c B K W n are e h =
     ap (λ (s : List ℕ). calledWith Ends.Completed r c s K n) (copy-kept (d .facilities) B W are e h)
@@ -52,7 +52,7 @@ kept-so d (Ends.Stopped k) r c B K W n are e h = refl
 kept-so d (Ends.Stuck x) r c B K W n are e h = refl
 
 -- The record of a completed cycle is read back.
-pub back-so : (image B K t : List ℕ) (n : ℕ) → cycleRefusal image B K t n ≡ none → (v : Verdict) (w : Words) (r : S.Record) (c : ℕ)
+pub back-so : (image B K t : List ℕ) (n : ℕ) → cycleRefusal image B K t n ≡ none → (v : CycleEnd) (w : Words) (r : S.Record) (c : ℕ)
     → ended v w r c ≡ S.step (decode image) (fromBytes (decode image .facilities) B) (recordFrom K) (fromBytes (inputsOf (decode image .facilities)) t) → completedBack v r
 back-so image B K t n free Ends.Completed w r c e =
     record { back = λ rest. completed-back image B K t n free rest (sym e) .0; whole = completed-back image B K t n free K (sym e) .1 }

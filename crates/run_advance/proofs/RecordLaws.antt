@@ -8,16 +8,16 @@ use Rattle.run_next.specs.Seen.{recordMeant}
 use Rattle.run_next.specs.declared.record.Record.{Record}
 use Rattle.run_end.specs.Stepped.{ended, stepped}
 use Rattle.run_end.specs.declared.outcome.Stepped.{Stepped}
-use Rattle.run_end.specs.declared.outcome.Verdict.{Verdict}
-use Rattle.run_end.specs.declared.outcome.Verdict.the-variants as Ends
+use Rattle.run_end.specs.declared.outcome.CycleEnd.{CycleEnd}
+use Rattle.run_end.specs.declared.outcome.CycleEnd.the-variants as Ends
 use Rattle.run_left.specs.Kept.{kept}
 
-pub kept-again : (v : Verdict) (r t : Record) → kept v r t ≡ kept v r (kept v r t)
+pub kept-again : (v : CycleEnd) (r t : Record) → kept v r t ≡ kept v r (kept v r t)
 kept-again Ends.Completed r t = refl
 kept-again (Ends.Stopped k) r t = refl
 kept-again (Ends.Stuck x) r t = refl
 
-ended-kept : (v : Verdict) (w : Words) (r t : Record) (n : ℕ) → ended v w (recordMeant (kept v r t)) n ≡ ended v w (recordMeant t) n
+ended-kept : (v : CycleEnd) (w : Words) (r t : Record) (n : ℕ) → ended v w (recordMeant (kept v r t)) n ≡ ended v w (recordMeant t) n
 ended-kept Ends.Completed w r t n = refl
 ended-kept (Ends.Stopped k) w r t n = refl
 ended-kept (Ends.Stuck x) w r t n = refl

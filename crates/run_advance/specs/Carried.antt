@@ -8,8 +8,8 @@ use Rattle.language.specs.Decode.{sectionAt}
 use Rattle.language.specs.Encode.{actionSize, actionsSection, expressionsSection, facilitiesSection, facilitySize, nodeSize, operationSize, operationsSection, stateSize, statesSection}
 use Rattle.language.specs.RecordBytes.{recordBytes, recordFrom, recordSize}
 use Rattle.language.specs.Step as S
-use Rattle.run_end.specs.declared.outcome.Verdict.{Verdict}
-use Rattle.run_end.specs.declared.outcome.Verdict.the-variants as Ends
+use Rattle.run_end.specs.declared.outcome.CycleEnd.{CycleEnd}
+use Rattle.run_end.specs.declared.outcome.CycleEnd.the-variants as Ends
 
 -- The sections of an image, but for its names.
 pub record Sliced (image facilities operations expressions actions states : List ℕ) : Type 0 where
@@ -25,7 +25,7 @@ pub record ReadBack (r : S.Record) : Type 0 where
   pub whole : length (recordBytes r) ≡ recordSize
 
 -- So is that of a completed cycle.
-abbrev pub completedBack : Verdict → S.Record → Type 0
+abbrev pub completedBack : CycleEnd → S.Record → Type 0
 completedBack Ends.Completed r = ReadBack r
 completedBack (Ends.Stopped k) r = Unit {0}
 completedBack (Ends.Stuck x) r = Unit {0}

@@ -1,5 +1,5 @@
 // How many bytes a facility's words take, in the store and in the stimulus.
-use image_sections::facilities::Facility;
+use image_sections::facilities::FacilityRecord;
 use image_sections::kinds;
 use image_sections::shapes;
 ghost use mathlib.Core.Path.{_≡_};
@@ -11,14 +11,14 @@ ghost use Rattle.image_sections.specs.Declarations.{facilityMeant};
 ghost use Rattle.run_begin.specs.InBytes.{inputBytes};
 
 // Bytes of all words.
-pub fn words_bytes(f: Facility) -> usize
+pub fn words_bytes(f: FacilityRecord) -> usize
     ensures { λ r. ⌜ (r ≤ 536870912) × ((name : Name) → r ≡ wordCount (facilityMeant name f) * wordBytes (wordLength (facilityMeant name f))) ⌝ }
 {
     store_geometry::shapes::words_bytes(shapes::shape_of(f))
 }
 
 // Bytes that a facility has in the stimulus.
-pub fn input_bytes(f: Facility) -> usize
+pub fn input_bytes(f: FacilityRecord) -> usize
     ensures { λ r. ⌜ (r ≤ 536870912) × ((name : Name) → r ≡ inputBytes (facilityMeant name f)) ⌝ }
 {
     let kind = f.kind;

@@ -4,8 +4,8 @@ use crate::sizes;
 use image_records::bytes;
 use image_records::record_sizes;
 use image_sections::facilities;
-use image_sections::facilities::Facility;
-use image_sections::facilities::Kind;
+use image_sections::facilities::FacilityKind;
+use image_sections::facilities::FacilityRecord;
 ghost use mathlib.Core.List.{List};
 ghost use mathlib.Core.Path.{_≡_};
 ghost use Prim.Native.Nat.{ℕ, _/_, _≤_};
@@ -21,22 +21,22 @@ ghost use Rattle.run_references.specs.Described.{Describes};
 ghost use Rattle.run_begin.specs.InBytes.{begunAt};
 
 // One facility, whose words stand in the stimulus from `at` on where it is an input.
-fn begin_one(store: &mut [u8], f: Facility, stimulus: &[u8], at: usize)
+fn begin_one(store: &mut [u8], f: FacilityRecord, stimulus: &[u8], at: usize)
     ensures { λ _. ⌜ ((name : Name) → now (store .exit) ≡ begunAt (facilityMeant name f) (f .place) (now (store .entry)) (now (stimulus .entry)) at) ⌝ }
 {
     let kind = f.kind;
     let place = f.place as usize;
     match kind {
-        Kind::Register => {}
-        Kind::Sequencing => {}
-        Kind::Memory => {}
-        Kind::Plain => ranges::clear(store, place, sizes::words_bytes(f)),
-        Kind::Input => bytes::put(
+        FacilityKind::Register => {}
+        FacilityKind::Sequencing => {}
+        FacilityKind::Memory => {}
+        FacilityKind::Plain => ranges::clear(store, place, sizes::words_bytes(f)),
+        FacilityKind::Input => bytes::put(
             store,
             place,
             bytes::part(stimulus, at, sizes::words_bytes(f)),
         ),
-        Kind::Computed => {}
+        FacilityKind::Computed => {}
     }
 }
 

@@ -2,7 +2,7 @@
 use crate::sizes;
 use image_records::record_sizes;
 use image_sections::facilities;
-use image_sections::facilities::Facility;
+use image_sections::facilities::FacilityRecord;
 use image_sections::kinds;
 use run_references::bounds;
 use store_words::spare;
@@ -17,7 +17,7 @@ ghost use Rattle.run_references.specs.Described.{Describes};
 ghost use Rattle.run_begin.specs.InBytes.{fitsAt};
 
 // Whether a facility, where it is an input, has its words from `at` on, without spare bits.
-fn fits(stimulus: &[u8], at: usize, f: Facility) -> bool
+fn fits(stimulus: &[u8], at: usize, f: FacilityRecord) -> bool
     ensures { λ r. ⌜ ((name : Name) → r ≡ fitsAt (now (stimulus .entry)) at (facilityMeant name f)) ⌝ }
 {
     let kind = f.kind;

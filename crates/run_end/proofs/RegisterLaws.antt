@@ -22,8 +22,8 @@ use Rattle.value_operators.specs.Meaning.{valued}
 use Rattle.value_operators.specs.declared.Value.{Value}
 use Rattle.image_records.specs.Nodes.{held}
 use Rattle.image_sections.specs.Declarations.{FacilityRead, StateRead, facilityMeant, valueMeant}
-use Rattle.image_sections.specs.declared.facilities.Facility.{Facility}
-use Rattle.image_sections.specs.declared.states.State.{State}
+use Rattle.image_sections.specs.declared.facilities.FacilityRecord.{FacilityRecord}
+use Rattle.image_sections.specs.declared.states.StateRecord.{StateRecord}
 use Rattle.store_layout.proofs.ByteOrder.{word-room}
 use Rattle.store_layout.specs.InBytes.{Stored, placeOfWord}
 use Rattle.store_layout.specs.Layout.{Bytes}
@@ -58,7 +58,7 @@ short-bytes l h = omega arith
 -- ---- The value of a state.
 
 module _ {d : Description} {F E T : List ℕ} (h : Enters d F E T) where
-  pub value-read : (s : ℕ) (x : State) → StateRead T s x → stateNumber d s ≡ numberAt d (valueMeant (x .value))
+  pub value-read : (s : ℕ) (x : StateRecord) → StateRead T s x → stateNumber d s ≡ numberAt d (valueMeant (x .value))
   unfolding stateNumber
   value-read s x r = ap (λ (y : D.State). numberAt d (y .value)) (h .valued .states s .is ∙ sym (r .meaning (h .valued .states s .name)))
 
@@ -68,7 +68,7 @@ module _ {d : Description} {F E T : List ℕ} (h : Enters d F E T) where
 
 -- ---- The register's word.
 
-module _ {d : Description} {F E : List ℕ} (h : Describes d F E) (k : Holds d) (f : ℕ) (e : sequencingOf d ≡ some f) (x : Facility) (g : FacilityRead F f x) where
+module _ {d : Description} {F E : List ℕ} (h : Describes d F E) (k : Holds d) (f : ℕ) (e : sequencingOf d ≡ some f) (x : FacilityRecord) (g : FacilityRead F f x) where
   abbrev pub lengthRead : ℕ
   lengthRead = wordLength (facilityMeant (nameOf h f x g) x)
 

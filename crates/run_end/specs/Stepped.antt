@@ -13,8 +13,8 @@ use Rattle.run_references.specs.Worth.{stuckMeant}
 use Rattle.run_stores.specs.declared.doing.Doing.{Doing}
 use Rattle.run_next.specs.Seen.{Sees, recordMeant}
 use Rattle.run_end.specs.declared.outcome.Stepped.{Stepped}
-use Rattle.run_end.specs.declared.outcome.Verdict.{Verdict}
-use Rattle.run_end.specs.declared.outcome.Verdict.the-variants as Ends
+use Rattle.run_end.specs.declared.outcome.CycleEnd.{CycleEnd}
+use Rattle.run_end.specs.declared.outcome.CycleEnd.the-variants as Ends
 
 -- Pending bytes P and a mask M as long as the store B, the mask clear.
 pub record Clear (B P M : List ℕ) : Type 0 where
@@ -43,7 +43,7 @@ nothingIn B P M = record { store = record { bytes = B; waiting = waiting P M }; 
 
 -- ---- Answers.
 
-abbrev pub ended : Verdict → Words → S.Record → ℕ → S.Outcome
+abbrev pub ended : CycleEnd → Words → S.Record → ℕ → S.Outcome
 ended Ends.Completed s r n = S.completed s r n
 ended (Ends.Stopped k) s r n = S.stopped k
 ended (Ends.Stuck x) s r n = S.stuck (stuckMeant x)

@@ -1,7 +1,7 @@
 // What follows the actions of a cycle: delayed stores land, and the next state is entered unless the cycle stops.
 use crate::outcome;
+use crate::outcome::CycleEnd;
 use crate::outcome::Stepped;
-use crate::outcome::Verdict;
 use crate::register;
 use image_records::record_sizes;
 use language::stops::Halt;
@@ -64,10 +64,10 @@ fn enter(
     let next = record::plain_next(r, g, borne);
     let after = record::next_record(r, g, next);
     if !register::set_register(facilities, expressions, states, store, after.state) {
-        return outcome::without(Verdict::Stuck(Stuck::NoStateValue), r);
+        return outcome::without(CycleEnd::Stuck(Stuck::NoStateValue), r);
     }
     Stepped {
-        verdict: Verdict::Completed,
+        verdict: CycleEnd::Completed,
         record: after,
         conflicts: g.conflicts,
     }
@@ -91,7 +91,7 @@ pub fn finish(
     let found = borne(facilities, expressions, states, store, g.sequenced);
     let count = (states.len() / record_sizes::STATE) as u32;
     match stops::stop_after(count, r, g, found) {
-        Halt::At(n) => outcome::without(Verdict::Stopped(n), r),
+        Halt::At(n) => outcome::without(CycleEnd::Stopped(n), r),
         Halt::None => enter(facilities, expressions, states, r, g, found, store),
     }
 }

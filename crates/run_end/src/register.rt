@@ -1,6 +1,6 @@
 // The sequencing register's value, and how it takes that of the state entered.
 use image_sections::facilities;
-use image_sections::facilities::Facility;
+use image_sections::facilities::FacilityRecord;
 use image_sections::states;
 use image_sections::states::StateValue;
 use run_next::register;
@@ -27,7 +27,7 @@ ghost use Rattle.run_references.specs.Described.{Describes};
 ghost use Rattle.run_end.specs.Register.{Enters, Holds, entered};
 
 // All bytes of a facility's first word of at most 256 bits take the number of x, spare bits included.
-fn put_first_word(store: &mut [u8], f: Facility, x: Value)
+fn put_first_word(store: &mut [u8], f: FacilityRecord, x: Value)
     ensures { λ _. ⌜ ((name : Name) → wordLength (facilityMeant name f) ≤ 256 → now (store .exit) ≡ saved (now (store .entry)) (f .place) (8 * wordBytes (wordLength (facilityMeant name f))) 0 (8 * wordBytes (wordLength (facilityMeant name f))) (number (x .limbs))) ⌝ }
 {
     let length = bounds::word_length(f);

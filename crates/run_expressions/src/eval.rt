@@ -4,7 +4,7 @@ use image_records::nodes::Node;
 use image_records::record_sizes;
 use image_records::references::Reference;
 use image_sections::facilities;
-use image_sections::facilities::Facility;
+use image_sections::facilities::FacilityRecord;
 use image_sections::facilities::ShortBounds;
 use image_sections::kinds;
 use language::stops::Stop;
@@ -43,7 +43,7 @@ ghost use Rattle.run_references.specs.Worth.{answered};
 
 // The facility that a reference names and the place in it, or why there is none.
 pub enum Side {
-    At(Facility, Place),
+    At(FacilityRecord, Place),
     Stops(Stop),
     Stuck(Stuck),
 }
@@ -55,7 +55,7 @@ fn located(
     store: &[u8],
     n: usize,
     number: u8,
-    f: Facility,
+    f: FacilityRecord,
     s: Subscripts,
 ) -> Located
     ensures { λ r. ⌜ ForEach (now (section .entry)) (now (expressions .entry)) (now (store .entry)) (λ d x. ((name : Name) → locatedMeant r ≡ M.located (evalBelow (bytes d) d x n) number (facilityMeant name f) (subscriptsMeant s))) ⌝ }

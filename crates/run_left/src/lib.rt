@@ -1,6 +1,6 @@
 // What a cycle leaves of store, record and scratch, by how it ended.
+use run_end::outcome::CycleEnd;
 use run_end::outcome::Stepped;
-use run_end::outcome::Verdict;
 use run_next::record::Record;
 use run_soundness::record;
 use store_words::slices;
@@ -11,13 +11,13 @@ ghost use Rattle.run_next.specs.Seen.{recordMeant};
 ghost use Rattle.run_left.specs.Kept.{kept, keptRecord, keptStore};
 
 // A completed cycle's working copy, kept; of any other cycle nothing is.
-pub fn keep_store(verdict: Verdict, work: &[u8], store: &mut [u8])
+pub fn keep_store(verdict: CycleEnd, work: &[u8], store: &mut [u8])
     ensures { λ _. ⌜ now (store .exit) ≡ keptStore verdict (now (work .entry)) (now (store .entry)) ⌝ }
 {
     match verdict {
-        Verdict::Completed => slices::copy(store, work),
-        Verdict::Stopped(_) => {}
-        Verdict::Stuck(_) => {}
+        CycleEnd::Completed => slices::copy(store, work),
+        CycleEnd::Stopped(_) => {}
+        CycleEnd::Stuck(_) => {}
     }
 }
 
@@ -28,9 +28,9 @@ pub fn keep_record(r: Record, s: Stepped) -> Stepped
     let verdict = s.verdict;
     let record = s.record;
     let left = match verdict {
-        Verdict::Completed => record,
-        Verdict::Stopped(_) => r,
-        Verdict::Stuck(_) => r,
+        CycleEnd::Completed => record,
+        CycleEnd::Stopped(_) => r,
+        CycleEnd::Stuck(_) => r,
     };
     Stepped {
         verdict,

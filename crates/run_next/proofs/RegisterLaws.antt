@@ -13,7 +13,7 @@ use Rattle.language.specs.Layout.{placeIn, storeSizeOf, wordBytes}
 use Rattle.language.specs.Store.{fromBytes, wordOf}
 use Rattle.language.specs.Value.{longest}
 use Rattle.image_sections.specs.Declarations.{FacilityRead, facilityMeant}
-use Rattle.image_sections.specs.declared.facilities.Facility as Read
+use Rattle.image_sections.specs.declared.facilities.FacilityRecord as Read
 use Rattle.store_layout.proofs.StoreWords.{in-store, word-from}
 use Rattle.store_layout.proofs.Words.{word-lt}
 use Rattle.store_layout.specs.InBytes.{Stored, placeOfWord}

@@ -1,7 +1,7 @@
 // The sequencing register: which facility it is, and its value.
 use image_records::record_sizes;
 use image_sections::facilities;
-use image_sections::facilities::Facility;
+use image_sections::facilities::FacilityRecord;
 use image_sections::kinds;
 use run_references::arms::Found;
 use run_references::bounds;
@@ -41,7 +41,7 @@ pub fn sequencing(section: &[u8]) -> Found
 }
 
 // All bytes of a facility's first word of at most 256 bits, spare bits included.
-pub fn first_word(store: &[u8], f: Facility) -> Value
+pub fn first_word(store: &[u8], f: FacilityRecord) -> Value
     ensures { λ r. ⌜ ((name : Name) → wordLength (facilityMeant name f) ≤ 256 → valued r ≡ loaded (now (store .entry)) (f .place) (8 * wordBytes (wordLength (facilityMeant name f))) 0 (8 * wordBytes (wordLength (facilityMeant name f)))) ⌝ }
 {
     let length = bounds::word_length(f);

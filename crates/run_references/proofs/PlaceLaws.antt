@@ -20,7 +20,7 @@ use Rattle.language.specs.Tree.{Name}
 use Rattle.language.specs.Value as L
 use Rattle.language.specs.Value.{longest}
 use Rattle.image_sections.specs.Declarations.{FacilityRead, facilityMeant}
-use Rattle.image_sections.specs.declared.facilities.Facility.{Facility}
+use Rattle.image_sections.specs.declared.facilities.FacilityRecord.{FacilityRecord}
 use Rattle.store_layout.specs.InBytes.{InBytes, bytes, loadBytes, placeOfWord}
 use Rattle.store_layout.specs.Parts.{loaded}
 use Rattle.run_references.specs.Described.{Describes}
@@ -106,7 +106,7 @@ module _ (d : Description) (ev : ℕ → Answer) (r : Reference) (p : Place) (e 
 
 -- ---- What is known of a facility that was read.
 
-module _ {d : Description} {F E : List ℕ} (h : Describes d F E) (n : ℕ) (f : Facility) (g : FacilityRead F n f) where
+module _ {d : Description} {F E : List ℕ} (h : Describes d F E) (n : ℕ) (f : FacilityRecord) (g : FacilityRead F n f) where
   -- The name that it bears in the description.
   abbrev pub nameOf : Name
   nameOf = h .facilities n .name
@@ -134,7 +134,7 @@ module _ {d : Description} {F E : List ℕ} (h : Describes d F E) (n : ℕ) (f :
 
 -- ---- What is read there.
 
-module _ (d : Description) (x : InBytes) (ev : ℕ → Answer) (name : Name) (f : Facility) (p : Place) where
+module _ (d : Description) (x : InBytes) (ev : ℕ → Answer) (name : Name) (f : FacilityRecord) (p : Place) where
   pub computed-read : isComputed (facilityMeant name f .kind) ≡ true
       → readAt (bytes d) d x ev (facilityMeant name f) p ≡ M.after (ev (f .place)) (M.partOfValue (bytes d) d x (facilityMeant name f) p)
   computed-read z = rw z

@@ -11,7 +11,7 @@ use Rattle.language.specs.Layout.{placeIn}
 use Rattle.language.specs.Tree.{Name}
 use Rattle.language.specs.Value.{Value}
 use Rattle.image_sections.specs.Declarations.{FacilityRead, facilityIn, placeFieldIn}
-use Rattle.image_sections.specs.declared.facilities.Facility.{Facility}
+use Rattle.image_sections.specs.declared.facilities.FacilityRecord.{FacilityRecord}
 use Rattle.language.specs.Encode.{facilitySize}
 use Rattle.store_layout.specs.InBytes.{InBytes}
 
@@ -19,7 +19,7 @@ use Rattle.store_layout.specs.InBytes.{InBytes}
 abbrev pub Nodes : Description → List ℕ → Type 0
 Nodes d E = (n : ℕ) → nodeAt d n ≡ nodeOf E n
 
--- Facility n of d is the one of the section F, under some name.
+-- FacilityRecord n of d is the one of the section F, under some name.
 pub record FacilityOf (d : Description) (F : List ℕ) (n : ℕ) : Type 0 where
   pub name : Name
   pub is : facilityAt d n ≡ facilityIn F n name
@@ -37,6 +37,6 @@ abbrev pub ForEach : List ℕ → List ℕ → List ℕ → (Description → InB
 ForEach F E B claim = (d : Description) (x : InBytes) → Describes d F E → x .bytes ≡ B → claim d x
 
 -- The facility f is the one of record n, which the description has.
-pub record There (d : Description) (F : List ℕ) (n : ℕ) (f : Facility) : Type 0 where
+pub record There (d : Description) (F : List ℕ) (n : ℕ) (f : FacilityRecord) : Type 0 where
   pub read : FacilityRead F n f
   pub listed : n < length (d .facilities)

@@ -1,5 +1,5 @@
 // Numbers as far as bounds go, and what a facility's record says of its words: its bounds are below 65,536.
-use image_sections::facilities::Facility;
+use image_sections::facilities::FacilityRecord;
 use image_sections::shapes;
 use language::ceilings;
 use value_operators::Value;
@@ -30,14 +30,14 @@ pub fn small(v: Value) -> u32
 }
 
 // Bits of a facility's word.
-pub fn word_length(f: Facility) -> u32
+pub fn word_length(f: FacilityRecord) -> u32
     ensures { λ r. ⌜ (r ≤ 65536) × ((name : Name) → r ≡ wordLength (facilityMeant name f)) ⌝ }
 {
     store_geometry::shapes::word_length(shapes::shape_of(f)) as u32
 }
 
 // How many words a facility has.
-pub fn word_count(f: Facility) -> u32
+pub fn word_count(f: FacilityRecord) -> u32
     ensures { λ r. ⌜ (r ≤ 65536) × ((name : Name) → r ≡ wordCount (facilityMeant name f)) ⌝ }
 {
     store_geometry::shapes::word_count(shapes::shape_of(f)) as u32

@@ -5,7 +5,7 @@ use crate::worth;
 use crate::worth::Outcome;
 use crate::worth::Stuck;
 use crate::worth::Worth;
-use image_sections::facilities::Facility;
+use image_sections::facilities::FacilityRecord;
 use store_geometry::places;
 use store_words::parts;
 use value_operators::Value;
@@ -39,7 +39,7 @@ fn taken(v: Value, p: Place) -> Value
 }
 
 // Of a computed terminal, by what its expression is worth.
-pub fn of_computed(f: Facility, p: Place, w: Worth) -> Worth
+pub fn of_computed(f: FacilityRecord, p: Place, w: Worth) -> Worth
     ensures { λ r. ⌜ ((d : Description) (x : InBytes) (name : Name) → answered r ≡ M.after (answered w) (M.partOfValue (bytes d) d x (facilityMeant name f) (placeMeant p))) ⌝ }
 {
     let outcome = w.outcome;
@@ -57,7 +57,7 @@ pub fn of_computed(f: Facility, p: Place, w: Worth) -> Worth
 }
 
 // Of a stored word.
-pub fn of_stored(store: &[u8], f: Facility, p: Place) -> Worth
+pub fn of_stored(store: &[u8], f: FacilityRecord, p: Place) -> Worth
     ensures { λ r. ⌜ ((name : Name) → answered r ≡ M.Answer.is (L.value (p .count) (loaded (now (store .entry)) (f .place + p .word * wordBytes (wordLength (facilityMeant name f))) (wordLength (facilityMeant name f)) (p .from) (p .count) .number))) ⌝ }
 {
     let length = bounds::word_length(f);

@@ -13,7 +13,7 @@ use Rattle.language.specs.Store.{fromBytes, wordOf}
 use Rattle.language.specs.Tree.{Kind, computed, input, memory, plain, register, sequencing}
 use Rattle.language.specs.Value.{Value}
 use Rattle.image_sections.specs.Declarations.{FacilityRead, facilityMeant}
-use Rattle.image_sections.specs.declared.facilities.Facility.{Facility}
+use Rattle.image_sections.specs.declared.facilities.FacilityRecord.{FacilityRecord}
 use Rattle.store_layout.specs.Layout.{Bytes}
 use Rattle.store_layout.specs.Parts.{loaded}
 use Rattle.about_running.specs.StateValues.{Found, found-from, some-word}
@@ -36,7 +36,7 @@ register-there d n q =
     let e : n ≡ y .0 = omega (arith, y .1) in
     rw e (y .2)
 
-module _ {d : Description} {F E T : List ℕ} (h : Testable d F E T) (n : ℕ) (f : Facility) (g : FacilityRead F n f) (q : sequencingOf d ≡ some n) where
+module _ {d : Description} {F E T : List ℕ} (h : Testable d F E T) (n : ℕ) (f : FacilityRecord) (g : FacilityRead F n f) (q : sequencingOf d ≡ some n) where
   abbrev known : D.Facility
   known = facilityMeant (nameOf (h .described) n f g) f
 

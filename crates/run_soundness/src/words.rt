@@ -1,7 +1,7 @@
 // The words of a store: none has a spare bit.
 use image_records::record_sizes;
 use image_sections::facilities;
-use image_sections::facilities::Facility;
+use image_sections::facilities::FacilityRecord;
 use image_sections::kinds;
 use run_references::bounds;
 use store_words::spare;
@@ -18,7 +18,7 @@ ghost use Rattle.run_references.specs.Described.{Describes};
 ghost use Rattle.run_soundness.specs.Tested.{narrowIn};
 
 // Those of one facility.
-fn narrow_in(store: &[u8], f: Facility) -> bool
+fn narrow_in(store: &[u8], f: FacilityRecord) -> bool
     ensures { λ r. ⌜ ((name : Name) → r ≡ narrowIn (now (store .entry)) (f .place) (facilityMeant name f)) ⌝ }
 {
     let kind = f.kind;

@@ -5,8 +5,8 @@ use language::ceilings;
 use language::stops::Stop;
 use run_end::finish;
 use run_end::outcome;
+use run_end::outcome::CycleEnd;
 use run_end::outcome::Stepped;
-use run_end::outcome::Verdict;
 use run_next::record::Record;
 use run_references::worth::Stuck;
 use run_stores::doing::Did;
@@ -41,11 +41,11 @@ pub fn step(
     ensures { λ a. ⌜ ((d : Description) → Enters d (now (facilities .entry)) (now (expressions .entry)) (now (states .entry)) → Acts d (now (facilities .entry)) (now (operations .entry)) (now (expressions .entry)) (now (actions .entry)) (length (now (states .entry)) / 7) → length (d .operations) ≡ length (now (operations .entry)) / operationSize → storeSizeOf (d .facilities) ≤ length (now (store .entry)) → stimulusSize d ≤ length (now (stimulus .entry)) → Clear (now (store .entry)) (now (pending .entry)) (now (mask .entry)) → stepped (d .facilities) a (now (store .exit)) ≡ counted (S.step d (fromBytes (d .facilities) (now (store .entry))) (recordMeant r) (fromBytes (inputsOf (d .facilities)) (now (stimulus .entry))))) ⌝ }
 {
     if ceilings::CYCLE <= r.cycle {
-        return outcome::without(Verdict::Stopped(Stop::LastCycleReached), r);
+        return outcome::without(CycleEnd::Stopped(Stop::LastCycleReached), r);
     }
     let number = r.state as usize;
     if states.len() / record_sizes::STATE <= number {
-        return outcome::without(Verdict::Stuck(Stuck::NoState), r);
+        return outcome::without(CycleEnd::Stuck(Stuck::NoState), r);
     }
     let did = acted::acted(
         facilities,
@@ -61,7 +61,7 @@ pub fn step(
     );
     match did {
         Did::Went(g) => finish::finish(facilities, expressions, states, r, g, store, pending, mask),
-        Did::Stopped(n) => outcome::without(Verdict::Stopped(n), r),
-        Did::Stuck(s) => outcome::without(Verdict::Stuck(s), r),
+        Did::Stopped(n) => outcome::without(CycleEnd::Stopped(n), r),
+        Did::Stuck(s) => outcome::without(CycleEnd::Stuck(s), r),
     }
 }

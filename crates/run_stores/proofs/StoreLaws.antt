@@ -18,7 +18,7 @@ use Rattle.language.specs.Tree.{Kind}
 use Rattle.language.specs.Value as L
 use Rattle.language.specs.Value.{bit}
 use Rattle.image_sections.specs.Declarations.{facilityMeant, kindMeant}
-use Rattle.image_sections.specs.declared.facilities.Facility.{Facility}
+use Rattle.image_sections.specs.declared.facilities.FacilityRecord.{FacilityRecord}
 use Rattle.store_layout.specs.InBytes.{InBytes, anyMarked, bytes, loadBytes, markAll, placeOfWord, putAll, putBytes}
 use Rattle.store_layout.specs.Parts.{loaded, saved}
 use Rattle.run_references.proofs.PlaceLaws.{facility-known, nameOf, stored-load, stored-word}
@@ -68,7 +68,7 @@ both-true false b e = absurd (true≢false (sym e))
 
 -- ---- The bytes of a place.
 
-module _ {d : Description} {F E : List ℕ} (h : Describes d F E) (p : Place) (f : Facility) (t : There d F (p .facility) f) where
+module _ {d : Description} {F E : List ℕ} (h : Describes d F E) (p : Place) (f : FacilityRecord) (t : There d F (p .facility) f) where
   pub kind-known : facilityAt d (p .facility) .kind ≡ kindMeant (f .kind)
   kind-known = ap (λ (y : D.Facility). y .kind) (facility-known h (p .facility) f (t .read))
 

@@ -1,5 +1,5 @@
 // Where the bits of a place lie among the bytes of a store.
-use image_sections::facilities::Facility;
+use image_sections::facilities::FacilityRecord;
 use run_references::bounds;
 use run_references::places::Place;
 use store_geometry::places;
@@ -24,7 +24,7 @@ pub struct Spot {
 }
 
 // The spot of a place in the facility f.
-pub fn spot_of(f: Facility, p: Place) -> Spot
+pub fn spot_of(f: FacilityRecord, p: Place) -> Spot
     ensures { λ r. ⌜ ((name : Name) → r ≡ spotOf (f .place) (facilityMeant name f) p) ⌝ }
 {
     let length = bounds::word_length(f);

@@ -3,7 +3,7 @@ use crate::doing;
 use crate::doing::Did;
 use crate::doing::Doing;
 use crate::spots;
-use image_sections::facilities::Facility;
+use image_sections::facilities::FacilityRecord;
 use image_sections::kinds;
 use run_references::places::Place;
 use run_references::worth::Stuck;
@@ -23,7 +23,7 @@ ghost use Rattle.run_stores.specs.Seen.{ForDoing, did, ranSeen, viewed};
 // A store of v to one place.
 pub fn store_one(
     sign: u8,
-    f: Facility,
+    f: FacilityRecord,
     p: Place,
     v: Value,
     store: &mut [u8],
@@ -77,9 +77,9 @@ fn low(v: Value, n: u16) -> Value
 // A store of v to two places: the right one takes the low bits and lands later.
 pub fn store_pair(
     sign: u8,
-    f: Facility,
+    f: FacilityRecord,
     p: Place,
-    h: Facility,
+    h: FacilityRecord,
     q: Place,
     v: Value,
     store: &mut [u8],
@@ -112,7 +112,7 @@ pub fn store_pair(
 }
 
 // @ sets one bit of a plain terminal.
-pub fn set_bit(f: Facility, p: Place, store: &mut [u8], g: Doing) -> Did
+pub fn set_bit(f: FacilityRecord, p: Place, store: &mut [u8], g: Doing) -> Did
     ensures { λ r. ⌜ ((F E P M : List ℕ) → ForDoing F E (viewed g (now (store .entry)) P M) (λ d c. (There d F (p .facility) f → did r (now (store .exit)) P M ≡ ranSeen (T.setting (bytes d) d (placeMeant p) c)))) ⌝ }
 {
     let kind = f.kind;

@@ -6,7 +6,7 @@ ghost use Rattle.language.specs.Scan.{span};
 ghost use Rattle.text_characters.specs.Runs.{belonging};
 
 // What the bytes of a run are.
-pub enum Run {
+pub enum Stretch {
     // Letters and digits.
     Name,
     // Digits of a base.
@@ -17,7 +17,7 @@ pub enum Run {
 
 // Whether a byte belongs to a name.
 fn is_name_part(b: u8) -> bool
-    ensures { λ r. ⌜ r ≡ belonging Run.Name b ⌝ }
+    ensures { λ r. ⌜ r ≡ belonging Stretch.Name b ⌝ }
 {
     let class = classes::class_of(b);
     if class == classes::LETTER {
@@ -28,7 +28,7 @@ fn is_name_part(b: u8) -> bool
 
 // Whether a byte leaves a comment open.
 fn in_comment(b: u8) -> bool
-    ensures { λ r. ⌜ r ≡ belonging Run.Comment b ⌝ }
+    ensures { λ r. ⌜ r ≡ belonging Stretch.Comment b ⌝ }
 {
     if b == b'"' {
         return false;
@@ -37,18 +37,18 @@ fn in_comment(b: u8) -> bool
 }
 
 // Whether a byte belongs to a run.
-fn belongs(run: Run, b: u8) -> bool
+fn belongs(run: Stretch, b: u8) -> bool
     ensures { λ r. ⌜ r ≡ belonging run b ⌝ }
 {
     match run {
-        Run::Name => is_name_part(b),
-        Run::Digits(base) => letters::digit_worth(b) < base,
-        Run::Comment => in_comment(b),
+        Stretch::Name => is_name_part(b),
+        Stretch::Digits(base) => letters::digit_worth(b) < base,
+        Stretch::Comment => in_comment(b),
     }
 }
 
 // How many bytes at the start of a text belong to a run.
-pub fn length_of(run: Run, text: &[u8]) -> usize
+pub fn length_of(run: Stretch, text: &[u8]) -> usize
     ensures { λ r. ⌜ r ≡ span (belonging run) (now (text .entry)) ⌝ }
 {
     let mut n = 0;

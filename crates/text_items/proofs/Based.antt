@@ -26,7 +26,7 @@ use Rattle.value_operators.proofs.Fits.{fit-refused}
 use Rattle.value_operators.specs.declared.Made.{Made}
 use Rattle.value_operators.specs.Meaning as Meaning
 use Rattle.value_operators.specs.Meaning.{allowed}
-use Rattle.text_items.specs.declared.Kind.the-variants as K
+use Rattle.text_items.specs.declared.ItemKind.the-variants as K
 use Rattle.text_items.specs.Digits.{binaryFrom, binaryMore, eachDigit, lengthOf}
 use Rattle.text_items.specs.Meaning.{itemOf, madeItem, meant, plainItem}
 use Rattle.text_items.proofs.OneByOne.{decimal-all, digits-below-base, left-all, right-all}

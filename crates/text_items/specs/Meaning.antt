@@ -11,11 +11,11 @@ use Rattle.language.specs.Words.{Constant}
 use Rattle.value_operators.specs.declared.Made.{Made}
 use Rattle.value_operators.specs.Meaning.{blank, valued}
 use Rattle.text_items.specs.declared.Item.{Item}
-use Rattle.text_items.specs.declared.Kind.{Kind}
-use Rattle.text_items.specs.declared.Kind.the-variants as K
+use Rattle.text_items.specs.declared.ItemKind.{ItemKind}
+use Rattle.text_items.specs.declared.ItemKind.the-variants as K
 
 -- An item of a kind, where it may be a name of these letters or that constant.
-abbrev pub itemOf : List ℕ → Constant → Kind → L.Item
+abbrev pub itemOf : List ℕ → Constant → ItemKind → L.Item
 itemOf n v K.Gap = gap
 itemOf n v K.Name = L.named n
 itemOf n v K.Constant = L.constant v
@@ -27,7 +27,7 @@ abbrev pub meant : List ℕ → Item → Found
 meant s r = found (itemOf (map folded (take (r .size) s)) (written (r .bare) (valued (r .value))) (r .kind)) (r .size)
 
 -- An item without a value.
-abbrev pub plainItem : Kind → ℕ → Item
+abbrev pub plainItem : ItemKind → ℕ → Item
 plainItem k n = record { kind = k; size = n; bare = false; value = blank }
 
 -- A constant, or what is wrong where no value was made.

@@ -1,6 +1,6 @@
 // The constant at the start of a text (the manual, 2.3): decimal digits, which are its length if the letter of a base follows.
 use crate::Item;
-use crate::Kind;
+use crate::ItemKind;
 use crate::digits;
 use crate::made;
 use crate::plain;
@@ -55,7 +55,7 @@ fn binary_from(text: &[u8], start: usize, k: u16, l: u16, left: bool) -> Item
     let ds = digits::digits_at(&text[start..], 1 << k);
     let size = start + ds.len();
     if ds.len() == 0 {
-        return plain(Kind::Wrong(Refusal::BadConstant), size);
+        return plain(ItemKind::Wrong(Refusal::BadConstant), size);
     }
     let x = digits::binary(ds, k, left);
     if left {
@@ -86,7 +86,7 @@ fn decimal_at(text: &[u8], n: usize, l: u16) -> Item
     let ds = digits::digits_at(&text[start..], 10);
     let size = start + ds.len();
     if ds.len() == 0 {
-        return plain(Kind::Wrong(Refusal::BadConstant), size);
+        return plain(ItemKind::Wrong(Refusal::BadConstant), size);
     }
     made(
         value_constants::decimal_constant(digits::decimal(ds), l),

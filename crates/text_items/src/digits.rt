@@ -2,7 +2,7 @@
 use text_characters::letters;
 use text_characters::parts;
 use text_characters::runs;
-use text_characters::runs::Run;
+use text_characters::runs::Stretch;
 use value_constants::Binary;
 use value_constants::Decimal;
 ghost use mathlib.Core.List.{map};
@@ -17,7 +17,7 @@ ghost use Rattle.text_items.specs.Digits.{binaryMore, eachDigit};
 pub fn digits_at(text: &[u8], base: u8) -> &[u8]
     ensures { λ r. ⌜ now r ≡ take (span (isDigitOf base) (now (text .entry))) (now (text .entry)) ⌝ }
 {
-    parts::first(text, runs::length_of(Run::Digits(base), text))
+    parts::first(text, runs::length_of(Stretch::Digits(base), text))
 }
 
 // Decimal digits.

@@ -1,6 +1,6 @@
 // The item at the start of a text, by the class of its first byte.
 use crate::Item;
-use crate::Kind;
+use crate::ItemKind;
 use crate::constant;
 use crate::plain;
 use crate::reserved;
@@ -10,7 +10,7 @@ use language::refusals::Refusal;
 use text_characters::classes;
 use text_characters::parts;
 use text_characters::runs;
-use text_characters::runs::Run;
+use text_characters::runs::Stretch;
 ghost use mathlib.Core.Path.{_≡_};
 ghost use lib.ListN.{drop};
 ghost use Rattle.language.specs.Scan.{commentAt, nameAt};
@@ -20,15 +20,15 @@ ghost use Rattle.text_items.specs.Meaning.{itemStart, meant};
 fn name(text: &[u8]) -> Item
     ensures { λ r. ⌜ meant (now (text .entry)) r ≡ nameAt (now (text .entry)) ⌝ }
 {
-    let size = runs::length_of(Run::Name, text);
+    let size = runs::length_of(Stretch::Name, text);
     let kind = reserved::kind_of(parts::first(text, size));
     if kind != 0 {
-        return plain(Kind::Sign(kind), size);
+        return plain(ItemKind::Sign(kind), size);
     }
     if size <= ceilings::NAME {
-        plain(Kind::Name, size)
+        plain(ItemKind::Name, size)
     } else {
-        plain(Kind::Wrong(Refusal::BadName), size)
+        plain(ItemKind::Wrong(Refusal::BadName), size)
     }
 }
 
@@ -37,11 +37,11 @@ fn comment(text: &[u8]) -> Item
     ensures { λ r. ⌜ meant (now (text .entry)) r ≡ commentAt (drop 1 (now (text .entry))) ⌝ }
 {
     let inside = parts::rest(text, 1);
-    let n = runs::length_of(Run::Comment, inside);
+    let n = runs::length_of(Stretch::Comment, inside);
     if parts::byte(inside, n) == b'"' {
-        plain(Kind::Gap, n + 2)
+        plain(ItemKind::Gap, n + 2)
     } else {
-        plain(Kind::Gap, n + 1)
+        plain(ItemKind::Gap, n + 1)
     }
 }
 
@@ -50,7 +50,7 @@ pub fn item_at(text: &[u8]) -> Item
     ensures { λ r. ⌜ meant (now (text .entry)) r ≡ itemStart (now (text .entry)) ⌝ }
 {
     if text.len() == 0 {
-        return plain(Kind::Gap, 0);
+        return plain(ItemKind::Gap, 0);
     }
     let class = classes::class_of(text[0]);
     if class == classes::LETTER {
@@ -60,7 +60,7 @@ pub fn item_at(text: &[u8]) -> Item
         return constant::constant_at(text);
     }
     if class == classes::BLANK {
-        return plain(Kind::Gap, 1);
+        return plain(ItemKind::Gap, 1);
     }
     if class == classes::QUOTE {
         return comment(text);
@@ -68,5 +68,5 @@ pub fn item_at(text: &[u8]) -> Item
     if class == classes::SYMBOL {
         return symbols::symbol(text);
     }
-    plain(Kind::Wrong(Refusal::BadCharacter), 1)
+    plain(ItemKind::Wrong(Refusal::BadCharacter), 1)
 }

@@ -13,7 +13,7 @@ pub mod reserved;
 pub mod symbols;
 
 // What an item is: a gap is blanks or a comment, a sign a symbol or a reserved word by its kind, and what is wrong has its refusal.
-pub enum Kind {
+pub enum ItemKind {
     Gap,
     Name,
     Constant,
@@ -23,14 +23,14 @@ pub enum Kind {
 
 // An item, how many bytes it takes, and for a constant its value and whether it was written without a length.
 pub struct Item {
-    pub kind: Kind,
+    pub kind: ItemKind,
     pub size: usize,
     pub bare: bool,
     pub value: Value,
 }
 
 // An item without a value.
-pub fn plain(kind: Kind, size: usize) -> Item
+pub fn plain(kind: ItemKind, size: usize) -> Item
     ensures { λ r. ⌜ r ≡ plainItem kind size ⌝ }
 {
     let none = fitting::none();
@@ -50,14 +50,14 @@ pub fn made(m: Made, bare: bool, size: usize) -> Item
     let value = m.value;
     if m.fits {
         return Item {
-            kind: Kind::Constant,
+            kind: ItemKind::Constant,
             size,
             bare,
             value,
         };
     }
     Item {
-        kind: Kind::Wrong(Refusal::BadConstant),
+        kind: ItemKind::Wrong(Refusal::BadConstant),
         size,
         bare,
         value,

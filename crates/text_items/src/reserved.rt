@@ -3,7 +3,7 @@ use text_characters::letters;
 use text_characters::names;
 use text_characters::parts;
 use text_characters::runs;
-use text_characters::runs::Run;
+use text_characters::runs::Stretch;
 ghost use mathlib.Core.List.{map};
 ghost use mathlib.Core.Path.{_≡_};
 ghost use Prim.Native.Nat.{_<_};
@@ -42,7 +42,7 @@ fn is_word(name: &[u8], words: &[u8; 230], row: usize) -> bool
     if !begins_alike(name, text) {
         return false;
     }
-    let word = parts::first(text, runs::length_of(Run::Name, text));
+    let word = parts::first(text, runs::length_of(Stretch::Name, text));
     names::matches(name, word)
 }
 

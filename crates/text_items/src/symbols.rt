@@ -1,6 +1,6 @@
 // Symbols: the longest match is taken (01, "Words").
 use crate::Item;
-use crate::Kind;
+use crate::ItemKind;
 use crate::plain;
 use language::refusals::Refusal;
 use text_characters::names;
@@ -81,9 +81,9 @@ pub fn symbol(text: &[u8]) -> Item
     let mut row = 0;
     while row < COUNT {
         if begins(text, row) {
-            return plain(Kind::Sign(KINDS[row]), size_of(row));
+            return plain(ItemKind::Sign(KINDS[row]), size_of(row));
         }
         row += 1;
     }
-    plain(Kind::Wrong(Refusal::BadCharacter), 1)
+    plain(ItemKind::Wrong(Refusal::BadCharacter), 1)
 }

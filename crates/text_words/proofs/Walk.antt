@@ -14,8 +14,8 @@ use Rattle.language.specs.Scan.{Found, itemAt, written}
 use Rattle.language.specs.Words.{Constant, Fault, fault, position}
 use Rattle.language.specs.WordStage.{Scanned, least, noted, scan, scanFrom, wordsFrom}
 use Rattle.text_items.specs.declared.Item.{Item}
-use Rattle.text_items.specs.declared.Kind as S
-use Rattle.text_items.specs.declared.Kind.the-variants as I
+use Rattle.text_items.specs.declared.ItemKind as S
+use Rattle.text_items.specs.declared.ItemKind.the-variants as I
 use Rattle.text_items.specs.Meaning.{itemOf, itemStart, meant, plainItem}
 use Rattle.value_operators.specs.Meaning.{valued}
 use Rattle.text_words.specs.Meaning.{Next, following, inFront, isEnd, kindFault, wordItem, wordKind}

@@ -15,15 +15,15 @@ use Rattle.language.specs.Words as L
 use Rattle.language.specs.Words.{fault, position}
 use Rattle.language.specs.WordStage.{before, wordFault, wordsFrom}
 use Rattle.text_items.specs.declared.Item.{Item}
-use Rattle.text_items.specs.declared.Kind as S
-use Rattle.text_items.specs.declared.Kind.the-variants as I
+use Rattle.text_items.specs.declared.ItemKind as S
+use Rattle.text_items.specs.declared.ItemKind.the-variants as I
 use Rattle.text_items.specs.Meaning.{itemStart}
 use Rattle.value_operators.specs.Meaning.{valued}
 use Rattle.text_words.specs.declared.Fault.{Fault}
 use Rattle.text_words.specs.declared.Judged.{Judged}
 use Rattle.text_words.specs.declared.Judged.the-variants.{Passed, Refused}
-use Rattle.text_words.specs.declared.Kind.{Kind}
-use Rattle.text_words.specs.declared.Kind.the-variants as K
+use Rattle.text_words.specs.declared.WordKind.{WordKind}
+use Rattle.text_words.specs.declared.WordKind.the-variants as K
 use Rattle.text_words.specs.declared.Position.{Position}
 use Rattle.text_words.specs.declared.Word.{Word}
 
@@ -33,7 +33,7 @@ positioned p = position (p .place)
 -- ---- Words.
 
 -- A word of a kind in front of others, where it may be a name of these letters or that constant.
-abbrev pub inFront : List ℕ → L.Constant → L.Position → List L.Word → Kind → List L.Word
+abbrev pub inFront : List ℕ → L.Constant → L.Position → List L.Word → WordKind → List L.Word
 inFront n v p ws K.End = []
 inFront n v p ws K.Name = L.name n p ∷ ws
 inFront n v p ws K.Constant = L.constant v p ∷ ws
@@ -46,13 +46,13 @@ following text w =
     inFront (map folded (take (w .size) (drop p text))) (written (w .bare) (valued (w .value))) (positioned (w .at))
     (wordsFrom (p + w .size) (drop (p + w .size) text)) (w .kind)
 
-abbrev pub isEnd : Kind → Bool
+abbrev pub isEnd : WordKind → Bool
 isEnd K.End = true
 isEnd K.Name = false
 isEnd K.Constant = false
 isEnd (K.Sign k) = false
 
-abbrev pub wordKind : S.Kind → Kind
+abbrev pub wordKind : S.Kind → WordKind
 wordKind I.Gap = K.End
 wordKind I.Name = K.Name
 wordKind I.Constant = K.Constant

@@ -14,7 +14,7 @@ pub struct Position {
 }
 
 // What a word is; a sign is a symbol or a reserved word by its kind.
-pub enum Kind {
+pub enum WordKind {
     End,
     Name,
     Constant,
@@ -23,7 +23,7 @@ pub enum Kind {
 
 // A word or the end of the text: where it stands, how many bytes it takes, and for a constant its value and whether it was written without a length.
 pub struct Word {
-    pub kind: Kind,
+    pub kind: WordKind,
     pub at: Position,
     pub size: usize,
     pub bare: bool,

@@ -1,6 +1,6 @@
 // The words of a text, one after the other.
-use crate::Kind;
 use crate::Word;
+use crate::WordKind;
 use crate::places;
 use text_items::Item;
 use text_items::items;
@@ -8,15 +8,15 @@ ghost use mathlib.Core.Path.{_≡_};
 ghost use Rattle.text_words.specs.Meaning.{Next, isEnd, wordItem, wordKind};
 
 // The kind of word that an item is, and the end where it is none.
-fn kind_of(kind: text_items::Kind) -> Kind
+fn kind_of(kind: text_items::ItemKind) -> WordKind
     ensures { λ r. ⌜ r ≡ wordKind kind ⌝ }
 {
     match kind {
-        text_items::Kind::Gap => Kind::End,
-        text_items::Kind::Name => Kind::Name,
-        text_items::Kind::Constant => Kind::Constant,
-        text_items::Kind::Sign(k) => Kind::Sign(k),
-        text_items::Kind::Wrong(_) => Kind::End,
+        text_items::ItemKind::Gap => WordKind::End,
+        text_items::ItemKind::Name => WordKind::Name,
+        text_items::ItemKind::Constant => WordKind::Constant,
+        text_items::ItemKind::Sign(k) => WordKind::Sign(k),
+        text_items::ItemKind::Wrong(_) => WordKind::End,
     }
 }
 
@@ -38,14 +38,14 @@ fn word_of(item: Item, place: usize) -> Word
 }
 
 // Whether no word is left.
-pub fn is_end(kind: Kind) -> bool
+pub fn is_end(kind: WordKind) -> bool
     ensures { λ r. ⌜ r ≡ isEnd kind ⌝ }
 {
     match kind {
-        Kind::End => true,
-        Kind::Name => false,
-        Kind::Constant => false,
-        Kind::Sign(_) => false,
+        WordKind::End => true,
+        WordKind::Name => false,
+        WordKind::Constant => false,
+        WordKind::Sign(_) => false,
     }
 }
 
@@ -64,5 +64,5 @@ pub fn next_word(text: &[u8], from: usize) -> Word
             return word;
         }
     }
-    word_of(text_items::plain(text_items::Kind::Gap, 0), text.len())
+    word_of(text_items::plain(text_items::ItemKind::Gap, 0), text.len())
 }

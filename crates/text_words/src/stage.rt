@@ -4,7 +4,7 @@ use crate::faults;
 use crate::lines;
 use language::ceilings;
 use language::refusals::Refusal;
-use text_items::Kind;
+use text_items::ItemKind;
 use text_items::items;
 ghost use mathlib.Core.Path.{_≡_};
 ghost use lib.Dec.{ltb};
@@ -21,15 +21,15 @@ fn too_long(text: &[u8]) -> bool
 }
 
 // What an item at a place has wrong.
-fn fault_of(kind: Kind, place: usize) -> Judged
+fn fault_of(kind: ItemKind, place: usize) -> Judged
     ensures { λ r. ⌜ judged r ≡ kindFault kind place ⌝ }
 {
     match kind {
-        Kind::Gap => Judged::Passed,
-        Kind::Name => Judged::Passed,
-        Kind::Constant => Judged::Passed,
-        Kind::Sign(_) => Judged::Passed,
-        Kind::Wrong(refusal) => faults::refused(place, refusal),
+        ItemKind::Gap => Judged::Passed,
+        ItemKind::Name => Judged::Passed,
+        ItemKind::Constant => Judged::Passed,
+        ItemKind::Sign(_) => Judged::Passed,
+        ItemKind::Wrong(refusal) => faults::refused(place, refusal),
     }
 }
 

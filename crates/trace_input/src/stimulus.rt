@@ -1,7 +1,7 @@
 // A line of input bits becomes a stimulus: the input terminals' words one after the other.
 use image_records::record_sizes;
 use image_sections::facilities;
-use image_sections::facilities::Facility;
+use image_sections::facilities::FacilityRecord;
 use image_sections::kinds;
 use run_references::bounds;
 use store_geometry::shapes;
@@ -83,7 +83,7 @@ fn word(line: &[u8], at: usize, length: u32, stimulus: &mut [u8], place: usize) 
 }
 
 // How many bits a line has for a facility.
-fn input_bits(f: Facility) -> u32
+fn input_bits(f: FacilityRecord) -> u32
     ensures { λ r. ⌜ ((name : Name) → r ≡ inputBits (facilityMeant name f)) ⌝ }
 {
     let kind = f.kind;

@@ -14,8 +14,8 @@ use Rattle.language.specs.Scan.{bytes}
 use Rattle.language.specs.Stops.{stopNumber}
 use Rattle.language.specs.Trace.{afterCall, cycleLine, decimal, lineEnd, refusedLine, stopLine}
 use Rattle.call_answers.specs.Cycle.{call}
-use Rattle.call_answers.specs.declared.cycled.Answer.{Answer}
-use Rattle.call_answers.specs.declared.cycled.Answer.the-variants as A
+use Rattle.call_answers.specs.declared.cycled.CycleReply.{CycleReply}
+use Rattle.call_answers.specs.declared.cycled.CycleReply.the-variants as A
 use Rattle.language.specs.declared.refusals.Refusal.{Refusal}
 use Rattle.language.specs.declared.stops.Stop.{Stop}
 use Rattle.trace_output.proofs.AddsLaws.{adds-as}
@@ -46,14 +46,14 @@ module _ (d : Description) (state : ℕ) where
 abbrev after : List ℕ → ℕ → List ℕ → (List ℕ → List ℕ → List ℕ) → CycleCall → List ℕ
 after image number R rest c = afterCall image (decode image) number (recordFrom R .state) rest c
 
-module _ {image : List ℕ} {number : ℕ} {R : List ℕ} {c : CycleCall} {S′ R′ B : List ℕ} {at : ℕ} {C : List ℕ} {end : ℕ} (a : Answer) (scratch : List ℕ) (is : call a S′ R′ scratch ≡ c) where
+module _ {image : List ℕ} {number : ℕ} {R : List ℕ} {c : CycleCall} {S′ R′ B : List ℕ} {at : ℕ} {C : List ℕ} {end : ℕ} (a : CycleReply) (scratch : List ℕ) (is : call a S′ R′ scratch ≡ c) where
   pub carried-on : (n : ℕ) → a ≡ A.Cycled n → (state : ℕ) → state ≡ numberAt 4 4 R → Adds (cycleLine (decode image) number state S′) B at C end → Carried image number R c true S′ R′ B at C end
   unfolding recordFrom
   carried-on n e state q x = record {
     text = cycleLine (decode image) number (recordFrom R .state) S′;
     adds = adds-as x (ap (λ (s : ℕ). cycleLine (decode image) number s S′) q);
     short = short-cycle (decode image) (recordFrom R .state) number S′;
-    same = λ rest. ap (after image number R rest) (sym is ∙ ap (λ (b : Answer). call b S′ R′ scratch) e);
+    same = λ rest. ap (after image number R rest) (sym is ∙ ap (λ (b : CycleReply). call b S′ R′ scratch) e);
   }
 
   pub carried-stop : (n : Stop) → a ≡ A.Stopped n → Adds (stopLine n) B at C end → Carried image number R c false S′ R′ B at C end
@@ -61,7 +61,7 @@ module _ {image : List ℕ} {number : ℕ} {R : List ℕ} {c : CycleCall} {S′ 
     text = stopLine n;
     adds = x;
     short = short-stop (decode image) (recordFrom R .state) n;
-    same = λ rest. ap (after image number R rest) (sym is ∙ ap (λ (b : Answer). call b S′ R′ scratch) e) ∙ sym (append-nil (stopLine n));
+    same = λ rest. ap (after image number R rest) (sym is ∙ ap (λ (b : CycleReply). call b S′ R′ scratch) e) ∙ sym (append-nil (stopLine n));
   }
 
   pub carried-refused : (n : Refusal) → a ≡ A.Refused n → Adds (refusedLine n) B at C end → Carried image number R c false S′ R′ B at C end
@@ -69,5 +69,5 @@ module _ {image : List ℕ} {number : ℕ} {R : List ℕ} {c : CycleCall} {S′ 
     text = refusedLine n;
     adds = x;
     short = short-refused (decode image) (recordFrom R .state) n;
-    same = λ rest. ap (after image number R rest) (sym is ∙ ap (λ (b : Answer). call b S′ R′ scratch) e) ∙ sym (append-nil (refusedLine n));
+    same = λ rest. ap (after image number R rest) (sym is ∙ ap (λ (b : CycleReply). call b S′ R′ scratch) e) ∙ sym (append-nil (refusedLine n));
   }

@@ -1,5 +1,5 @@
 // What is printed of a line of input: the line of its cycle, or the stop or the refusal that ends the run.
-use call_answers::cycled::Answer;
+use call_answers::cycled::CycleReply;
 use image_lookups::named;
 use image_sections::sections;
 use language::refusals::Refusal;
@@ -41,7 +41,7 @@ fn shown(image: &[u8], state: u32, number: u64, store: &[u8], out: &mut [u8], at
 // A cycle from a record R in this state, which came to this answer and left this store.
 pub fn told(
     image: &[u8],
-    answer: Answer,
+    answer: CycleReply,
     state: u32,
     number: u64,
     store: &[u8],
@@ -52,15 +52,15 @@ pub fn told(
     ensures { λ r. ⌜ ((R R′ scratch : List ℕ) (c : CycleCall) → state ≡ numberAt 4 4 R → call answer (now (store .entry)) R′ scratch ≡ c → Carried (now (image .entry)) number R c (r .on) (now (store .entry)) R′ (now (out .entry)) at (now (out .exit)) (r .end)) ⌝ }
 {
     match answer {
-        Answer::Cycled(_) => Turn {
+        CycleReply::Cycled(_) => Turn {
             on: true,
             end: shown(image, state, number, store, out, at),
         },
-        Answer::Stopped(n) => Turn {
+        CycleReply::Stopped(n) => Turn {
             on: false,
             end: line::numbered(out, at, b"stop ", stop_number(n) as u64),
         },
-        Answer::Refused(n) => Turn {
+        CycleReply::Refused(n) => Turn {
             on: false,
             end: line::numbered(out, at, b"refused ", refusal_number(n) as u64),
         },

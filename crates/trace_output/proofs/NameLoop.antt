@@ -10,7 +10,7 @@ use Rattle.language.specs.Decode.{namesLength}
 use Rattle.language.specs.Description.{Description, facilityAt}
 use Rattle.image_sections.specs.Declarations.{FacilityRead, facilityIn, facilityMeant, nameLengthIn}
 use Rattle.image_sections.specs.Names.{facilityPart, named}
-use Rattle.image_sections.specs.declared.facilities.Facility.{Facility}
+use Rattle.image_sections.specs.declared.facilities.FacilityRecord.{FacilityRecord}
 use Rattle.language.specs.Encode.{facilitySize}
 use Rattle.trace_output.specs.Texts.{Named}
 
@@ -27,7 +27,7 @@ pub offset-first : (s : List ℕ) → 0 ≡ namesLength 0 2 facilitySize s
 unfolding namesLength
 offset-first s = refl
 
-module _ (s : List ℕ) (n : ℕ) (f : Facility) (g : FacilityRead s n f) where
+module _ (s : List ℕ) (n : ℕ) (f : FacilityRecord) (g : FacilityRead s n f) where
   pub offset-next : {o : ℕ} → n < length s / facilitySize → o ≡ namesLength n 2 facilitySize s → o + f .name ≡ namesLength (n + 1) 2 facilitySize s
   unfolding nameLengthIn
   offset-next {o} h e =

@@ -3,7 +3,7 @@ use crate::out;
 use image_records::bytes;
 use image_records::record_sizes;
 use image_sections::facilities;
-use image_sections::facilities::Facility;
+use image_sections::facilities::FacilityRecord;
 use image_sections::kinds;
 use run_references::bounds;
 use store_geometry::places;
@@ -51,7 +51,7 @@ pub fn bits(out: &mut [u8], at: usize, store: &[u8], place: usize, length: u32) 
 }
 
 // The bits of a facility's first word, where the store has it.
-fn word(out: &mut [u8], at: usize, f: Facility, store: &[u8]) -> usize
+fn word(out: &mut [u8], at: usize, f: FacilityRecord, store: &[u8]) -> usize
     ensures { λ r. ⌜ (size (now (out .exit)) ≡ size (now (out .entry))) × ((name : Name) → HasWord (facilityMeant name f) (f .place) (now (store .entry)) → Adds (wordText (facilityMeant name f) (f .place) (now (store .entry))) (now (out .entry)) at (now (out .exit)) r) ⌝ }
 {
     let length = bounds::word_length(f);
@@ -62,7 +62,7 @@ fn word(out: &mut [u8], at: usize, f: Facility, store: &[u8]) -> usize
 }
 
 // A facility that is shown: a blank, its name, `=` and its bits. Any other is left out.
-fn facility(out: &mut [u8], at: usize, f: Facility, name: &[u8], store: &[u8]) -> usize
+fn facility(out: &mut [u8], at: usize, f: FacilityRecord, name: &[u8], store: &[u8]) -> usize
     ensures { λ r. ⌜ (size (now (out .exit)) ≡ size (now (out .entry))) × ((T.shown (facilityMeant (now (name .entry)) f) ≡ true → HasWord (facilityMeant (now (name .entry)) f) (f .place) (now (store .entry))) → Adds (facilityText (facilityMeant (now (name .entry)) f) (f .place) (now (store .entry))) (now (out .entry)) at (now (out .exit)) r) ⌝ }
 {
     let kind = f.kind;

@@ -24,10 +24,10 @@ use Rattle.language.specs.Scan.{bytes}
 use Rattle.language.specs.Trace.{afterRead, decimal, lineEnd, runLines, trace, traceImage}
 use Rattle.about_calls.specs.PassesExactly.{reads-pass}
 use Rattle.call_answers.specs.Reading.{called}
-use Rattle.call_answers.specs.declared.read.Answer.{Answer}
-use Rattle.call_answers.specs.declared.read.Answer.the-variants as A
+use Rattle.call_answers.specs.declared.read.ReadReply.{ReadReply}
+use Rattle.call_answers.specs.declared.read.ReadReply.the-variants as A
 use Rattle.call_answers.specs.Opening as Opening
-use Rattle.call_answers.specs.declared.opened.Answer as O
+use Rattle.call_answers.specs.declared.opened.OpenReply as O
 use Rattle.run_soundness.proofs.PassedLaws.{passed-size}
 use Rattle.trace_output.proofs.LineRoom.{decimal-short}
 use Rattle.trace_output.specs.Adds.{Adds}
@@ -43,9 +43,9 @@ pub record Found (text : List ℕ) (n : ℕ) (I : List ℕ) : Type 0 where
   pub image : take n I ≡ encode description
   pub inside : n ≤ length I
 
-pub found : (text I : List ℕ) (a : Answer) (n room : ℕ) → a ≡ A.Accepted n → called a I ≡ R.read text room → Found text n I
+pub found : (text I : List ℕ) (a : ReadReply) (n room : ℕ) → a ≡ A.Accepted n → called a I ≡ R.read text room → Found text n I
 unfolding R.read filled
-found text I a n room q e = go (readText text) refl (ap (λ (b : Answer). called b I) (sym q) ∙ e)
+found text I a n room q e = go (readText text) refl (ap (λ (b : ReadReply). called b I) (sym q) ∙ e)
   where
     fill : (d : Description) → readText text ≡ legal d → (b : Bool) → leb (length (encode d)) room ≡ b
         → called (A.Accepted n) I ≡ cond b (record { answer = R.accepted (length (encode d)); image = encode d ++ zeroes (room - length (encode d)) }) (readRefused room BufferTooShort 0) → Found text n I
@@ -112,11 +112,11 @@ unfolding bytes
 refused-short n place =
     omega (arith, length-append (bytes "refused ") (decimal n ++ (bytes " " ++ (decimal place ++ lineEnd))), length-append (decimal n) (bytes " " ++ (decimal place ++ lineEnd)), length-append (bytes " ") (decimal place ++ lineEnd), length-append (decimal place) lineEnd, decimal-short 20 n [], decimal-short 20 place [])
 
-pub refuses : (text I : List ℕ) (a : Answer) (n : Refusal) (place room : ℕ) {B C : List ℕ} {end : ℕ} → a ≡ A.Refused n place → called a I ≡ R.read text room → Adds (refusedText (refusalNumber n) place) B 0 C end
+pub refuses : (text I : List ℕ) (a : ReadReply) (n : Refusal) (place room : ℕ) {B C : List ℕ} {end : ℕ} → a ≡ A.Refused n place → called a I ≡ R.read text room → Adds (refusedText (refusalNumber n) place) B 0 C end
     → ((d : Description) → readText text ≡ legal d → length (encode d) ≤ room) → Refuses text B C end
 unfolding R.read filled trace
 refuses text I a n place room {B} {C} {end} q e x h =
-    record { out = refusedText (refusalNumber n) place; adds = x; short = refused-short (refusalNumber n) place; same = λ lines. go lines (readText text) refl (ap (λ (b : Answer). called b I) (sym q) ∙ e) }
+    record { out = refusedText (refusalNumber n) place; adds = x; short = refused-short (refusalNumber n) place; same = λ lines. go lines (readText text) refl (ap (λ (b : ReadReply). called b I) (sym q) ∙ e) }
   where
     no-room : (d : Description) → readText text ≡ legal d → called (A.Refused n place) I ≡ withRoom room (encode d) → ⊥
     no-room d t f =

@@ -1,5 +1,5 @@
 // A text is read and opened, or refused.
-use call_answers::read::Answer;
+use call_answers::read::ReadReply;
 use image_sections::sections;
 use language::refusals::refusal_number;
 use run_soundness::sizes;
@@ -41,13 +41,13 @@ pub fn begin_run(
     ensures { λ r. ⌜ Begins (now (text .entry)) (length (now (image .entry))) (length (now (store .entry))) r (now (image .exit)) (now (store .exit)) (now («record» .exit)) (now (out .entry)) (now (out .exit)) ⌝ }
 {
     match call_read::read(text, image) {
-        Answer::Refused(n, place) => Begun::Refused(line::refusal(
+        ReadReply::Refused(n, place) => Begun::Refused(line::refusal(
             out,
             0,
             refusal_number(n) as u64,
             place as u64,
         )),
-        Answer::Accepted(n) => {
+        ReadReply::Accepted(n) => {
             let size = opened(&image[0..n], store, record);
             Begun::Runs(n, size)
         }

@@ -1,7 +1,7 @@
 use borrow.Author.Needs.{needs}
 use mathlib.Core.Path.{ap}
 use Rattle.call_answers.specs.Reading.{called}
-use Rattle.call_answers.specs.declared.read.Answer.the-variants as A
+use Rattle.call_answers.specs.declared.read.ReadReply.the-variants as A
 use Rattle.call_read.proofs.refuse.Statement.{statement}
 use Rattle.call_read.proofs.refuse.Tie as tie
 

@@ -4,7 +4,7 @@ use parse_held::gotos;
 use parse_states::reading;
 use parse_step::Answer;
 use parse_step::State;
-use parse_tables::meaning::Counts;
+use parse_tables::meaning::KnownNames;
 use text_words::Word;
 ghost use Rattle.call_read.specs.Ready.{Behind, ReadsStates};
 
@@ -13,7 +13,7 @@ pub fn states_of(text: &[u8], work: &mut Work, w: Word, s: State, l: u16) -> Ans
     requires { ⌜ Behind (now text) w s (now work) ⌝ }
     ensures { λ r. ⌜ ReadsStates (now (text .entry)) l w s (now (work .entry)) (now (work .exit)) r ⌝ }
 {
-    let names = Counts {
+    let names = KnownNames {
         facilities: s.known,
         operations: s.operations,
         waiting: true,

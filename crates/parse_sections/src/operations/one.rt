@@ -6,7 +6,7 @@ use parse_step::Answer;
 use parse_step::Bearing;
 use parse_step::State;
 use parse_step::taking;
-use parse_tables::meaning::Counts;
+use parse_tables::meaning::KnownNames;
 use parse_tables::operations;
 use text_words::Word;
 ghost use mathlib.Core.Path.{_≡_};
@@ -15,7 +15,7 @@ ghost use Rattle.parse_sections.specs.Heads.{Body};
 ghost use Rattle.parse_sections.specs.Lists.{One};
 
 // The body and the bracket behind it.
-fn body(s: State, text: &[u8], w: Word, work: &mut Work, n: Counts) -> Answer
+fn body(s: State, text: &[u8], w: Word, work: &mut Work, n: KnownNames) -> Answer
     ensures { λ r. ⌜ Body (now (text .entry)) n w s (now (work .entry)) (now (work .exit)) r ⌝ }
 {
     let list = parse_actions::list(s, false, text, w, work, n);
@@ -46,7 +46,7 @@ pub fn operation(text: &[u8], w: Word, work: &mut Work, s: State) -> Answer
     if parse_step::unread(head) {
         return head;
     }
-    let n = Counts {
+    let n = KnownNames {
         facilities: s.known,
         operations: s.operations,
         waiting: false,

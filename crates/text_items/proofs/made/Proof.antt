@@ -1,7 +1,7 @@
 use mathlib.Core.Path.{ap, sym}
 use mathlib.Core.Bool.{Bool, cond}
 use Rattle.language.specs.declared.refusals.Refusal.the-variants.{BadConstant}
-use Rattle.text_items.specs.declared.Kind.the-variants.{Constant, Wrong}
+use Rattle.text_items.specs.declared.ItemKind.the-variants.{Constant, Wrong}
 use Rattle.text_items.proofs.made.Statement.{statement}
 use Rattle.text_items.proofs.made.Tie as tie
 

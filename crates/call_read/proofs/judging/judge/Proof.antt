@@ -5,7 +5,7 @@ use Rattle.judge_records.specs.Noted.{notedDescription, placesIn}
 use Rattle.text_words.specs.Meaning.{judged}
 use Rattle.parse_held.proofs.BodyLaws.{within-few}
 use Rattle.call_read.proofs.JudgedLaws.{not-many, read-again}
-use Rattle.parse_held.specs.declared.Tally.{Tally}
+use Rattle.parse_held.specs.declared.Holding.{Holding}
 use Rattle.parse_held.specs.Sections.{besideHeld, mostLetters, namesHeld, sectionsHeld}
 use borrow.Author.Needs.{needs}
 use Rattle.call_read.proofs.judging.judge.Statement.{statement}
@@ -66,7 +66,7 @@ least-fault-requires c κs =
 returns : tie.Need-returns
 unfolding sectionsHeld besideHeld
 returns c =
-    λ f m. let text = c .before .before .before .before .before .before .before .before .before .before .before .before .before .before .before .before .before .before .before .before .args .text .now in let w = c .before .before .before .before .before .before .before .before .before .before .before .before .before .before .before .before .before .before .before .before .args .work .now in let few = c .before .before .before .before .before .before .before .before .before .before .before .before .before .before .before .before .before .within .result in let e : few ≡ c .before .before .before .before .before .before .before .before .before .before .before .before .before .before .before .before .before .before .before .before .args .c = c .before .before .before .before .before .before .before .before .before .before .before .before .before .before .before .before .before .within .ensures .0 ∙ within-few (c .before .before .before .before .before .before .before .before .before .before .before .before .before .before .before .before .before .before .before .before .args .c) f in let ns : c .before .before .before .before .before .before .before .before .before .before .before .part .result .now ≡ namesHeld text w few = read-again mostLetters (namesHeld text w few) refl (c .before .before .before .before .before .before .before .before .before .before .before .before .before .before .before .put .ensures) (c .before .before .before .before .before .before .before .before .before .before .before .before .before .count .ensures .0) (c .before .before .before .before .before .before .before .before .before .before .before .part .ensures) (rw e m) in subst (λ (x : Tally). judged (c .least-fault .result) ≡ least (faults (notedDescription (sectionsHeld text w x) (besideHeld w x)) (placesIn (besideHeld w x)))) e (c .least-fault .ensures (sectionsHeld text w few) (besideHeld w few) (c .before .before .before .before .before .before .before .before .before .before .rows-of .ensures) (c .before .before .before .before .before .before .before .before .before .rows-of2 .ensures) (c .before .before .before .before .before .before .before .before .nodes-of .ensures) (c .before .before .before .before .before .before .before .rows-of3 .ensures) (c .before .before .before .before .before .before .rows-of4 .ensures) ns (c .before .before .before .before .before .rows-of5 .ensures) (c .before .before .before .before .rows-of6 .ensures) (c .before .before .before .node-places-of .ensures) (c .before .before .rows-of7 .ensures) (c .before .rows-of8 .ensures))
+    λ f m. let text = c .before .before .before .before .before .before .before .before .before .before .before .before .before .before .before .before .before .before .before .before .args .text .now in let w = c .before .before .before .before .before .before .before .before .before .before .before .before .before .before .before .before .before .before .before .before .args .work .now in let few = c .before .before .before .before .before .before .before .before .before .before .before .before .before .before .before .before .before .within .result in let e : few ≡ c .before .before .before .before .before .before .before .before .before .before .before .before .before .before .before .before .before .before .before .before .args .c = c .before .before .before .before .before .before .before .before .before .before .before .before .before .before .before .before .before .within .ensures .0 ∙ within-few (c .before .before .before .before .before .before .before .before .before .before .before .before .before .before .before .before .before .before .before .before .args .c) f in let ns : c .before .before .before .before .before .before .before .before .before .before .before .part .result .now ≡ namesHeld text w few = read-again mostLetters (namesHeld text w few) refl (c .before .before .before .before .before .before .before .before .before .before .before .before .before .before .before .put .ensures) (c .before .before .before .before .before .before .before .before .before .before .before .before .before .count .ensures .0) (c .before .before .before .before .before .before .before .before .before .before .before .part .ensures) (rw e m) in subst (λ (x : Holding). judged (c .least-fault .result) ≡ least (faults (notedDescription (sectionsHeld text w x) (besideHeld w x)) (placesIn (besideHeld w x)))) e (c .least-fault .ensures (sectionsHeld text w few) (besideHeld w few) (c .before .before .before .before .before .before .before .before .before .before .rows-of .ensures) (c .before .before .before .before .before .before .before .before .before .rows-of2 .ensures) (c .before .before .before .before .before .before .before .before .nodes-of .ensures) (c .before .before .before .before .before .before .before .rows-of3 .ensures) (c .before .before .before .before .before .before .rows-of4 .ensures) ns (c .before .before .before .before .before .rows-of5 .ensures) (c .before .before .before .before .rows-of6 .ensures) (c .before .before .before .node-places-of .ensures) (c .before .before .rows-of7 .ensures) (c .before .rows-of8 .ensures))
 
 pub judge-spec : {M : Type 1} → statement M
 judge-spec =

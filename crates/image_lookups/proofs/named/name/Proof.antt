@@ -1,7 +1,7 @@
 use mathlib.Core.Path.{ap, sym, _∙_}
 use Rattle.language.specs.Lookups.{partOf}
 use Rattle.call_answers.specs.Lookups.{nameMeant}
-use Rattle.call_answers.specs.declared.named.Answer.{Answer}
+use Rattle.call_answers.specs.declared.named.NameReply.{NameReply}
 use borrow.Author.Needs.{needs}
 use Rattle.image_lookups.proofs.named.name.Statement.{statement}
 use Rattle.image_lookups.proofs.named.name.Tie as tie
@@ -20,7 +20,7 @@ part-requires c κs = search needs
 
 returns : tie.Need-returns
 returns c =
-    c .name-at .ensures ∙ ap (λ (a : Answer). partOf (c .before .before .before .before .before .args .image .now) (nameMeant a)) (sym (c .before .before .answer .given .1))
+    c .name-at .ensures ∙ ap (λ (a : NameReply). partOf (c .before .before .before .before .before .args .image .now) (nameMeant a)) (sym (c .before .before .answer .given .1))
 
 returns-2 : tie.Need-returns-2
 returns-2 c = search needs

@@ -1,6 +1,6 @@
 use native.Mathlib.Omega.{arith}
 use Rattle.parse_step.proofs.Paying.{expected-spends, stays-spends}
-use Rattle.parse_levels.specs.declared.Head.the-variants as H
+use Rattle.parse_levels.specs.declared.Lead.the-variants as H
 use Rattle.parse_expressions.proofs.PartLaws.{red-prefixed, unprefixed}
 use mathlib.Core.Path.{refl}
 use Prim.Native.Nat.{_-_}

@@ -1,5 +1,5 @@
 use mathlib.Core.Path.{ap, sym, _∙_}
-use Rattle.text_items.specs.declared.Kind.{Kind}
+use Rattle.text_items.specs.declared.ItemKind.{ItemKind}
 use Rattle.text_words.specs.Meaning.{kindFault}
 use borrow.Author.Needs.{needs}
 use Rattle.text_words.proofs.stage.fault_of.Statement.{statement}
@@ -36,7 +36,7 @@ returns-4 : tie.Need-returns-4
 returns-4 c = search needs
 
 returns-5 : tie.Need-returns-5
-returns-5 c = c .refused .ensures ∙ ap (λ (k : Kind). kindFault k (c .before .before .before .before .args .place)) (sym (c .before .before .kind .given .1))
+returns-5 c = c .refused .ensures ∙ ap (λ (k : ItemKind). kindFault k (c .before .before .before .before .args .place)) (sym (c .before .before .kind .given .1))
 
 pub fault-of-spec : {M : Type 1} → statement M
 fault-of-spec =

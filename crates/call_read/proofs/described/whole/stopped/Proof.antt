@@ -1,7 +1,7 @@
 use borrow.Author.Needs.{needs}
 use mathlib.Core.Path.{sym, ap, _∙_}
 use Rattle.parse_step.proofs.Answers.{done-refused, refused-full, same-fault}
-use Rattle.call_read.specs.declared.described.Outcome.the-variants as Oc
+use Rattle.call_read.specs.declared.described.TextRead.the-variants as Oc
 use Rattle.call_read.proofs.described.whole.stopped.Statement.{statement}
 use Rattle.call_read.proofs.described.whole.stopped.Tie as tie
 
