@@ -11,7 +11,6 @@ use lib.ListN.{length}
 use Rattle.language.specs.Acting.{Doing, Ran, armAt, armChosen, calling, goingTo, inArm, landing, listAct, listBelow, listStep, onPlace, onValue, onward, operationBelow, operationStep, passing, plainly, putAll, runActions, runList, side, sideOf, simple, storing, went, whenWorth, withStore, write}
 use Rattle.language.specs.Description as D
 use Rattle.language.specs.Description.{Action, Bounds, Description, Facility, Node, Run, actionAt, facilityAt, fromFirst, inBounds, isComputed, nodeAt, operationAt, wordLength}
-use Rattle.language.specs.Judging.{both}
 use Rattle.language.specs.Kinds.{delayedSign}
 use Rattle.language.specs.Meaning.{Answer, Located, Place, Stores, Stuck, Write, after, armBack, armNumber, armWorth, chosen, evalAt, evalBelow, evalNode, evalStep, is, located, narrow, notBefore, partOf, partOfValue, place, placeOf, read, stops, stuck, subscript, worthOr, wrongCount, wrongLength, noFacility, noOperation, noState, notOneBit, notStorable, outside, runsOver, sidesDiffer, wrongSubscripts}
 use Rattle.language.specs.Operators.{binaryOf, cutOf, prefixOf}
@@ -24,6 +23,7 @@ use Rattle.language.specs.declared.stops.Stop.{Stop}
 use Rattle.language.specs.declared.stops.Stop.the-variants.{NoArm, OutsideBounds}
 use Rattle.language.specs.Value as Values
 use Rattle.language.specs.Value.{Made, Value, longest, made, value}
+use Rattle.language.specs.Tests.{both}
 
 -- A subscript of a reference to f, and the bounds that are for it: bits of one dimension; words, then bits, of two.
 pub data Subscripted (f : Facility) : Subscripts → ℕ → Bounds → Type 0 where

@@ -7,11 +7,12 @@ use lib.Dec.{eqb}
 use lib.ListN.{drop}
 use Rattle.language.specs.Building.{nameOf}
 use Rattle.language.specs.Kinds.{aName}
-use Rattle.language.specs.Machine.{Alternative, Ask, Counts, Fed, Parsed, Reading, Rule, Sym, Without, again, ask, bears, both, choose, countKept, ease, feed, finish, keep, keptAt, leave, leaveAtEnd, make, may, must, nested, operand, parsed, reading, refused, taken, tallied, took, word, wrong}
+use Rattle.language.specs.Machine.{Alternative, Ask, Counts, Fed, Parsed, Reading, Rule, Sym, Without, again, ask, bears, choose, countKept, ease, feed, finish, keep, keptAt, leave, leaveAtEnd, make, may, must, nested, operand, parsed, reading, refused, taken, tallied, took, word, wrong}
 use Rattle.language.specs.declared.refusals.Refusal.the-variants.{CeilingPassed, NoContinuation}
 use Rattle.language.specs.Scan.{same}
 use Rattle.language.specs.Steps.{Step, Steps}
 use Rattle.language.specs.Words.{Position, Word, fault, kindOf, position, wordAt}
+use Rattle.language.specs.Tests.{both}
 
 -- Without ceilings.
 abbrev pub all : Counts → Bool

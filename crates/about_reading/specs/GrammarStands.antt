@@ -9,13 +9,14 @@ use Rattle.language.specs.Building.{Built, nameOf, nothingBuilt, wordNo}
 use Rattle.language.specs.Declaring.{treeSteps}
 use Rattle.language.specs.Kinds.{aName}
 use Rattle.language.specs.Machine
-use Rattle.language.specs.Machine.{Alternative, Ask, Counts, Fed, Parsed, Reading, Sym, Without, after, again, ask, bears, both, choose, countKept, ease, feed, finish, keep, keptIf, leave, leaveAtEnd, make, may, must, nested, noCounts, operand, parsed, reading, refused, run, taken, tallied, took, withinCeilings, word, wrong}
+use Rattle.language.specs.Machine.{Alternative, Ask, Counts, Fed, Parsed, Reading, Sym, Without, after, again, ask, bears, choose, countKept, ease, feed, finish, keep, keptIf, leave, leaveAtEnd, make, may, must, nested, noCounts, operand, parsed, reading, refused, run, taken, tallied, took, withinCeilings, word, wrong}
 use Rattle.language.specs.declared.refusals.Refusal.the-variants.{CeilingPassed, NoContinuation}
 use Rattle.language.specs.Scan.{same}
 use Rattle.language.specs.Sections.{parse, parseWith, ruleOf}
 use Rattle.language.specs.Words.{Fault, Position, Word, fault, kindOf, position, wordAt}
 use Rattle.about_grammar.specs.Courses.{Stack}
 use Rattle.about_grammar.specs.FineWays.{both-first, both-second}
+use Rattle.language.specs.Tests.{both}
 
 -- ---- Only on top of a stack stands a notion that the word kept last may count for, and then that word was just kept: a test, computed for each way.
 

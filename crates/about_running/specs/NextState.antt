@@ -11,12 +11,12 @@ use lib.ListN.{getD, length, length-set, set}
 use lib.Seq.{getD-set-other, getD-set-same}
 use Rattle.language.specs.Acting.{Doing}
 use Rattle.language.specs.Description.{Description}
-use Rattle.language.specs.Judging.{both}
 use Rattle.language.specs.Step.{Record, bearer, bears, isNone, landed, mostReturns, nextRecord, orZero, plainCount, plainNext, popped, returnsLeft, sequencedState, stateCount, stateNumber, stopAfter}
 use Rattle.language.specs.declared.stops.Stop.{Stop}
 use Rattle.language.specs.Store.{Held}
 use Rattle.language.specs.Value.{bit}
 use Rattle.about_running.specs.Executes.{AllStates}
+use Rattle.language.specs.Tests.{both}
 
 -- Return states: sixteen places, those held are states, the others zero.
 pub record Returns (d : Description) (held : ℕ) (rs : List ℕ) : Type 0 where

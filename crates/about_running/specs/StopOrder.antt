@@ -10,7 +10,6 @@ use lib.ListN.{drop, length}
 use Rattle.language.specs.Acting as A
 use Rattle.language.specs.Acting.{Doing, Ran, went}
 use Rattle.language.specs.Description.{Description, sequencingOf, stateAt}
-use Rattle.language.specs.Judging.{both}
 use Rattle.language.specs.Step.{Outcome, Record, afterActions, completed, entered, finished, isNone, landed, lastCycle, mostReturns, nextRecord, nothingDone, orStopped, plainCount, returnsLeft, sequencedState, setRegister, stateCount, stateNumber, step, stopAfter}
 use Rattle.language.specs.Stops.{stopNumber}
 use Rattle.language.specs.declared.stops.Stop.{Stop}
@@ -21,6 +20,7 @@ use Rattle.about_running.specs.Cycle.{Sound, run-good}
 use Rattle.about_running.specs.Executes as E
 use Rattle.about_running.specs.Fitting.{Fit, Inv, numbers-keep}
 use Rattle.about_running.specs.LegalForm.{Legal}
+use Rattle.language.specs.Tests.{both}
 
 -- Two stops with one number are one stop: it is the one that has it.
 numbered : ℕ → Stop
