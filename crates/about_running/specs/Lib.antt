@@ -28,6 +28,8 @@ pub mod Soundness
 -- ---- Never stuck; any run; every stop in 01's order; every way to be stuck is reached by an image that does not pass.
 pub mod NeverStuck
 pub mod AnyRun
+pub mod Account
+pub mod OneAccount
 pub mod StopOrder
 pub mod StuckReached
 -- ---- Two kinds of store that stand for each other go through every list of actions alike, whatever the image.
