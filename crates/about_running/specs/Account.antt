@@ -8,7 +8,7 @@ use lib.Dec.{eqb}
 use lib.ListN.{getD}
 use Rattle.language.specs.Acting.{armAt}
 use Rattle.language.specs.Description as D
-use Rattle.language.specs.Description.{Action, Bounds, Description, Facility, Node, Run, actionAt, facilityAt, fromFirst, inBounds, isComputed, nodeAt, operationAt, spanOf, wordLength}
+use Rattle.language.specs.Description.{Action, Bounds, Description, Facility, Node, Run, actionAt, facilityAt, fromFirst, inBounds, isComputed, isSequencing, nodeAt, operationAt, spanOf, wordLength}
 use Rattle.language.specs.Kinds.{delayedSign}
 use Rattle.language.specs.Meaning.{Place, Stores, Write, armBack, armNumber, place}
 use Rattle.language.specs.Operators.{binaryOf, cutOf, prefixOf}
@@ -155,6 +155,11 @@ numberFor p n = record { at = p; number = n }
 -- A store by its sign.
 abbrev pub stores : ℕ → List Write → Executed
 stores k ws = cond (eqb k delayedSign) (delayed ws) (immediate ws)
+
+-- Any of these writes is to the sequencing register.
+unfoldable pub toRegister : Description → List Write → Bool
+toRegister d [] = false
+toRegister d (w ∷ ws) = isSequencing (facilityAt d (w .at .facility) .kind) || toRegister d ws
 
 module _ {X : Type 0} (S : Stores X) where
   unfoldable pub putEach : X → List Write → X

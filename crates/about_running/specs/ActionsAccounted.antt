@@ -1,5 +1,5 @@
 -- The definition and the account agree on actions: a list of actions goes on, having done what the account says that it executes, or stops for what the account says it meets first, wherever it is not stuck. Assumes nothing.
-use mathlib.Core.Bool.{Bool, true, false, cond, _||_}
+use mathlib.Core.Bool.{Bool, true, false, cond, _||_, or-false}
 use mathlib.Core.List.{List, [], _∷_, _++_}
 use mathlib.Core.Option.{Option, none, some}
 use mathlib.Core.Path.{_≡_, refl, ap, sym, _∙_}
@@ -10,7 +10,7 @@ use lib.Dec.{eqb, leb, ltb}
 use lib.ListN.{length}
 use Rattle.language.specs.Acting.{Doing, Ran, armAt, armChosen, calling, goingTo, inArm, landing, listAct, listBelow, listStep, onPlace, onSequencing, onValue, onward, operationBelow, operationStep, passing, plainly, putAll, returning, runActions, runList, setting, side, simple, storable, storing, went, whenWorth, withStore, write}
 use Rattle.language.specs.Description as D
-use Rattle.language.specs.Description.{Action, Description, Run, actionAt, facilityAt, isSequencing, nodeAt, operationAt}
+use Rattle.language.specs.Description.{Action, Description, Run, actionAt, facilityAt, nodeAt, operationAt}
 use Rattle.language.specs.Kinds.{delayedSign}
 use Rattle.language.specs.Meaning.{Answer, Located, Place, Stores, Stuck, Write, armNumber, evalAt, is, noOperation, noState, notOneBit, notStorable, runsOver, sidesDiffer, stops, stuck}
 use Rattle.language.specs.Recursion.{below-ge, below-lt}
@@ -20,18 +20,9 @@ use Rattle.language.specs.declared.stops.Stop.{Stop}
 use Rattle.language.specs.declared.stops.Stop.the-variants.{NoArm}
 use Rattle.language.specs.Value.{Value}
 use Rattle.about_running.specs.Account as Account
-use Rattle.about_running.specs.Account.{Comes, End, Executed, Executes, Meets, Met, Work, Worth, action, expression, fixes, heldBy, list, meets, names, naming, numberFor, sides, stands, stopFor, stores, putEach}
+use Rattle.about_running.specs.Account.{Comes, End, Executed, Executes, Meets, Met, Work, Worth, action, expression, fixes, heldBy, list, meets, names, naming, numberFor, sides, stands, stopFor, stores, putEach, toRegister}
 use Rattle.about_running.specs.OneAccount.{one-course}
 use Rattle.about_running.specs.ValuesAccounted.{Told, ToldSide, side-at, side-meets, side-stuck, side-told, told-meets, told-stuck, told-worth, value-told}
-
--- Any of these writes is to the sequencing register.
-unfoldable pub toRegister : Description → List Write → Bool
-toRegister d [] = false
-toRegister d (w ∷ ws) = isSequencing (facilityAt d (w .at .facility) .kind) || toRegister d ws
-
-or-false : (b : Bool) → b || false ≡ b
-or-false true = refl
-or-false false = refl
 
 module _ {X : Type 0} (S : Stores X) (d : Description) where
   -- ---- What has been done when these have been executed.
@@ -283,3 +274,43 @@ module _ {X : Type 0} (S : Stores X) (d : Description) where
   actions-told r c =
       let n : ℕ = length (d .operations) in
       run-told (operationBelow S d n) (operation-under (suc n) n (omega arith)) r c
+
+-- ---- Exactly when.
+
+-- Not without a meaning: no run of a passing image is (never-stuck).
+abbrev pub UnstuckRun : {X : Type 0} → Ran X → Type 0
+UnstuckRun r = (s : Stuck) → r ≡ Ran.stuck s → ⊥
+
+no-end : {A : Type 0} {o : Met} → Account.over ≡ Account.met o → A
+no-end e = absurd (let z : _≡_ {A = ℕ} 0 1 = cc in omega arith)
+
+module _ {X : Type 0} (S : Stores X) (d : Description) (r : Run) (c : Doing X) where
+  -- Actions go on exactly when all is executed, and then have done that.
+  pub executed-of : {e : Doing X} → runActions S d r c ≡ went e → (es : List Executed) × (Executes S d (c .store) (list (r .count) (r .first)) es Account.over × (e ≡ done S d es c))
+  executed-of {e} q = go (rw q at (actions-told S d r c))
+    where
+      go : ToldRun S d (list (r .count) (r .first)) c (went e) → (es : List Executed) × (Executes S d (c .store) (list (r .count) (r .first)) es Account.over × (e ≡ done S d es c))
+      go (told-went es h y) = (es, (h, y))
+
+  pub went-executed : {es : List Executed} → Executes S d (c .store) (list (r .count) (r .first)) es Account.over → UnstuckRun (runActions S d r c) → runActions S d r c ≡ went (done S d es c)
+  went-executed {es} h free = go (runActions S d r c) (actions-told S d r c) free
+    where
+      go : (a : Ran X) → ToldRun S d (list (r .count) (r .first)) c a → UnstuckRun a → a ≡ went (done S d es c)
+      go (went e) (told-went fs k y) f = ap went (y ∙ ap (λ l. done S d l c) (one-course S d k h .executed))
+      go (Ran.stopped n) (told-stopped fs k y) f = no-end (one-course S d h k .ended)
+      go (Ran.stuck s) told-nothing f = absurd (f s refl)
+
+  -- They stop exactly when something is met, and for that, which is the first and the only one.
+  pub met-of : {n : Stop} → runActions S d r c ≡ Ran.stopped n → (es : List Executed) × ((o : Met) × (Executes S d (c .store) (list (r .count) (r .first)) es (Account.met o) × (stopFor o ≡ n)))
+  met-of {n} q = go (rw q at (actions-told S d r c))
+    where
+      go : ToldRun S d (list (r .count) (r .first)) c (Ran.stopped n) → (es : List Executed) × ((o : Met) × (Executes S d (c .store) (list (r .count) (r .first)) es (Account.met o) × (stopFor o ≡ n)))
+      go (told-stopped {o = o} es h y) = (es, (o, (h, y)))
+
+  pub stopped-met : {es : List Executed} {o : Met} → Executes S d (c .store) (list (r .count) (r .first)) es (Account.met o) → UnstuckRun (runActions S d r c) → runActions S d r c ≡ Ran.stopped (stopFor o)
+  stopped-met {es} {o} h free = go (runActions S d r c) (actions-told S d r c) free
+    where
+      go : (a : Ran X) → ToldRun S d (list (r .count) (r .first)) c a → UnstuckRun a → a ≡ Ran.stopped (stopFor o)
+      go (went e) (told-went fs k y) f = no-end (one-course S d k h .ended)
+      go (Ran.stopped n) (told-stopped fs k y) f = let e = one-course S d h k .ended in cc
+      go (Ran.stuck s) told-nothing f = absurd (f s refl)

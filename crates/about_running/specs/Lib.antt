@@ -32,6 +32,7 @@ pub mod Account
 pub mod OneAccount
 pub mod ValuesAccounted
 pub mod ActionsAccounted
+pub mod Conditions
 pub mod StopOrder
 pub mod StuckReached
 -- ---- Two kinds of store that stand for each other go through every list of actions alike, whatever the image.
