@@ -30,9 +30,11 @@ pub mod NeverStuck
 pub mod AnyRun
 pub mod Account
 pub mod OneAccount
+pub mod MetThere
 pub mod ValuesAccounted
 pub mod ActionsAccounted
 pub mod Conditions
+pub mod AccountExamples
 pub mod StopOrder
 pub mod StuckReached
 -- ---- Two kinds of store that stand for each other go through every list of actions alike, whatever the image.

@@ -10,7 +10,7 @@ use lib.Dec.{eqb, leb, ltb}
 use lib.ListN.{length, length-append}
 use Rattle.language.specs.Acting as A
 use Rattle.language.specs.Acting.{Doing, Ran, went}
-use Rattle.language.specs.Description.{Description, sequencingOf, stateAt}
+use Rattle.language.specs.Description.{Description, inBounds, sequencingOf, stateAt}
 use Rattle.language.specs.Judging.{both}
 use Rattle.language.specs.Step.{Outcome, Record, afterActions, bearer, bears, completed, entered, finished, isNone, lastCycle, mostReturns, nextRecord, nothingDone, orStopped, registerValue, setRegister, stateCount, stateNumber, step, stopAfter}
 use Rattle.language.specs.Step as Step
@@ -19,7 +19,7 @@ use Rattle.language.specs.declared.stops.Stop.the-variants.{LastCycleReached, N
 use Rattle.language.specs.Store.{Held, Words, begin, inputsOf, landAll, numbers}
 use Rattle.language.specs.Value.{Value}
 use Rattle.about_running.specs.Account as Account
-use Rattle.about_running.specs.Account.{End, Executed, Executes, Met, armless, outside, stands, stopFor, toRegister}
+use Rattle.about_running.specs.Account.{Executed, Met, Subscript, Worth, armless, outside, stands, stopFor, toRegister}
 use Rattle.about_running.specs.ActionsAccounted.{ToldRun, actions-told, done, done-store, told-nothing, told-stopped, told-went}
 use Rattle.about_running.specs.Acts.{Good}
 use Rattle.about_running.specs.Conditions as C
@@ -28,6 +28,8 @@ use Rattle.about_running.specs.Cycle.{Sound, run-good}
 use Rattle.about_running.specs.Executes as E
 use Rattle.about_running.specs.Fitting.{Fit, Inv, numbers-keep}
 use Rattle.about_running.specs.LegalForm.{Legal}
+use Rattle.about_running.specs.MetThere as M
+use Rattle.about_running.specs.MetThere.{There, course-there}
 use Rattle.about_running.specs.OneAccount.{one-course}
 
 -- At most one stop is the first.
@@ -225,6 +227,22 @@ module _ (d : Description) (s : Words) (r : Record) (ins : Words) where
   no-other : {es : List Executed} {e n : ℕ} {v : Value} → Cycle d s r ins es (Account.met (armless e n v)) → K OutsideBounds → ⊥
   no-other h (C.subscript-outside k) = let q = met-alone h k in let z : _≡_ {A = ℕ} 0 1 = cc in omega arith
 
+-- The first subscript outside its bounds that a cycle works out: what was executed before it, and its value on the store that stands then.
+pub record FirstOutside (d : Description) (s : Words) (r : Record) (ins : Words) : Type 0 where
+  pub before : List Executed
+  pub subscript : Subscript
+  pub worth : Value
+  pub met-first : Cycle d s r ins before (Account.met (outside subscript worth))
+  pub worked-out : Worth (numbers d) d (stands (numbers d) (begun d s r ins) before) (subscript .expression) worth
+  pub beyond : inBounds (subscript .bounds) (worth .number) ≡ false
+
+module _ (d : Description) (s : Words) (r : Record) (ins : Words) where
+  there-outside : Condition d s r ins OutsideBounds → FirstOutside d s r ins
+  there-outside (C.subscript-outside {es = es} {t = t} {v = v} h) = go (course-there (numbers d) d h)
+    where
+      go : There (numbers d) d (stands (numbers d) (begun d s r ins) es) (outside t v) → FirstOutside d s r ins
+      go (M.beyond k e) = record { before = es; subscript = t; worth = v; met-first = h; worked-out = k; beyond = e }
+
 -- ---- The cycle.
 
 first-holds : {P : Stop → Type 0} {ns : List Stop} {n : Stop} → FirstOf P ns (some n) → P n
@@ -266,6 +284,8 @@ module _ (d : Description) (L : Legal d) (s : Words) (r : Record) (ins : Words) 
       go false q =
           a-later-one (not-last d s r ins (leb-false lastCycle (r .cycle) q)) (after run (run-good d L s r ins sound fitting) (actions-told (numbers d) d (stateAt d (r .state) .actions) (nothingDone d (begin (d .facilities) s ins))))
 
-  -- S1, where the number is not the last: exactly when a subscript is met that lies outside its bounds.
-  pub one-first : r .cycle < lastCycle → (stopOf (step d s r ins) ≡ some OutsideBounds → Condition d s r ins OutsideBounds) × (Condition d s r ins OutsideBounds → stopOf (step d s r ins) ≡ some OutsideBounds)
-  one-first l = ((λ e. first-holds (rw e at stops-in-order)), (λ h. first-one stops-in-order (a-later-one (not-last d s r ins l) (this-one h))))
+  -- S1, where the number is not the last: exactly when, in the order of execution, the cycle comes to a subscript that lies outside its bounds on the store that stands then.
+  pub one-first : r .cycle < lastCycle → (stopOf (step d s r ins) ≡ some OutsideBounds → FirstOutside d s r ins) × (FirstOutside d s r ins → stopOf (step d s r ins) ≡ some OutsideBounds)
+  one-first l =
+      ((λ e. there-outside d s r ins (first-holds (rw e at stops-in-order))),
+      (λ h. first-one stops-in-order (a-later-one (not-last d s r ins l) (this-one (C.subscript-outside (h .met-first))))))
