@@ -245,7 +245,7 @@ module _ (d : Description) (s : Words) (r : Record) (ins : Words) where
 
 -- ---- The cycle.
 
-first-holds : {P : Stop → Type 0} {ns : List Stop} {n : Stop} → FirstOf P ns (some n) → P n
+pub first-holds : {P : Stop → Type 0} {ns : List Stop} {n : Stop} → FirstOf P ns (some n) → P n
 first-holds (this-one h) = h
 first-holds (a-later-one f h) = first-holds h
 
@@ -289,3 +289,11 @@ module _ (d : Description) (L : Legal d) (s : Words) (r : Record) (ins : Words) 
   one-first l =
       ((λ e. there-outside d s r ins (first-holds (rw e at stops-in-order))),
       (λ h. first-one stops-in-order (a-later-one (not-last d s r ins l) (this-one (C.subscript-outside (h .met-first))))))
+
+  -- No legal description comes to a CASE value without an arm.
+  pub armless-never : Condition d s r ins NoArm → ⊥
+  armless-never (C.value-armless h) = go run (run-good d L s r ins sound fitting) (actions-told (numbers d) d (stateAt d (r .state) .actions) (nothingDone d (begin (d .facilities) s ins)))
+    where
+      go : (x : Ran Held) → Good (numbers d) d (Inv d) (numbers-keep d) L x → ToldRun (numbers d) d (stateWork d s r ins) (nothingDone d (begin (d .facilities) s ins)) x → ⊥
+      go (went e) g (told-went es k y) = no-end d s r ins es k h
+      go (Ran.stopped n) E.stops-so (told-stopped es k y) = let e = met-alone d s r ins k h in let z : _≡_ {A = ℕ} 0 1 = cc in omega arith
