@@ -1,7 +1,7 @@
 -- What a cycle comes to, told from 01's sentences ("One cycle"): what an expression is worth, what ends a cycle while it is worked out, and which actions are executed, in order. It is told over any store and any description, a constructor for each way that it can go, and leaves out what no passing image comes to. That `Meaning` and `Acting` come to the same is proved in ValuesAccounted and ActionsAccounted.
 use mathlib.Core.Bool.{Bool, true, false, cond, _||_}
 use mathlib.Core.List.{List, [], _∷_, _++_}
-use mathlib.Core.Option.{Option, none, some}
+use mathlib.Core.Option.{none, some}
 use mathlib.Core.Path.{_≡_}
 use Prim.Native.Nat.{ℕ, suc, _+_, _-_, _/_, _%_, _^_}
 use lib.Dec.{eqb}

@@ -1,6 +1,6 @@
 -- The account of small descriptions, worked out by hand: which actions their first cycle executes, and what it meets. Each holds only if the definitions of the account compute to this very course.
 use mathlib.Core.List.{List, [], _∷_}
-use mathlib.Core.Option.{none, some}
+use mathlib.Core.Option.{none}
 use mathlib.Core.Path.{_≡_, refl}
 use Prim.Native.Nat.{ℕ}
 use Rattle.language.specs.Computing.{computing}
@@ -57,8 +57,8 @@ unfolding computing vector flag machine unchosen Account.computedSubscripts Acco
 unchosen-runs =
     Account.one-by-one {es = Account.delayed (numberFor (place 2 0 0 1) 1 ∷ []) ∷ []} {fs = Account.goes 0 ∷ []}
     (Account.performs (Account.one-by-one {es = Account.delayed (numberFor (place 2 0 0 1) 1 ∷ []) ∷ []} {fs = []}
-      (Account.store (Account.left-side refl (Account.named Account.all-lie) (Account.right-side (Account.chosen (Account.reads-whole (Account.loaded refl (Account.named Account.all-lie))) refl refl Account.constant))))
-      Account.nothing))
+    (Account.store (Account.left-side refl (Account.named Account.all-lie) (Account.right-side (Account.chosen (Account.reads-whole (Account.loaded refl (Account.named Account.all-lie))) refl refl Account.constant))))
+    Account.nothing))
     (Account.one-by-one {es = Account.goes 0 ∷ []} {fs = []} Account.goto Account.nothing)
 
 -- ---- Of two subscripts outside their bounds the left side's is met.
@@ -107,17 +107,17 @@ unfolding computing vector flag machine in-time Account.computedSubscripts Accou
 in-time-runs =
     Account.one-by-one {es = Account.immediate (numberFor (place 1 0 0 3) 1 ∷ []) ∷ Account.delayed (numberFor (place 2 0 0 1) 0 ∷ []) ∷ []} {fs = Account.goes 0 ∷ []}
     (Account.performs (Account.one-by-one {es = Account.immediate (numberFor (place 1 0 0 3) 1 ∷ []) ∷ []} {fs = Account.delayed (numberFor (place 2 0 0 1) 0 ∷ []) ∷ []}
-      (Account.store (Account.left-side refl (Account.named Account.all-lie) (Account.right-side Account.constant)))
-      (Account.one-by-one {es = Account.delayed (numberFor (place 2 0 0 1) 0 ∷ []) ∷ []} {fs = []}
-        (Account.store (Account.left-side refl (Account.named Account.all-lie) (Account.right-side
-          (Account.reads-one (Account.loaded refl (Account.named (Account.lies (Account.reads-whole (Account.loaded refl (Account.named Account.all-lie))) refl Account.all-lie)))))))
-        Account.nothing)))
+    (Account.store (Account.left-side refl (Account.named Account.all-lie) (Account.right-side Account.constant)))
+    (Account.one-by-one {es = Account.delayed (numberFor (place 2 0 0 1) 0 ∷ []) ∷ []} {fs = []}
+    (Account.store (Account.left-side refl (Account.named Account.all-lie) (Account.right-side
+    (Account.reads-one (Account.loaded refl (Account.named (Account.lies (Account.reads-whole (Account.loaded refl (Account.named Account.all-lie))) refl Account.all-lie)))))))
+    Account.nothing)))
     (Account.one-by-one {es = Account.goes 0 ∷ []} {fs = []} Account.goto Account.nothing)
 
 too-late-meets : First (in-time delayedSign) (Account.delayed (numberFor (place 1 0 0 3) 1 ∷ []) ∷ []) (Account.met (outside (within 3 (bounds 1 4)) (value 3 0)))
 unfolding computing vector flag machine in-time Account.computedSubscripts Account.placeAt Account.stands
 too-late-meets =
     Account.first-meets (Account.performs (Account.one-by-one {es = Account.delayed (numberFor (place 1 0 0 3) 1 ∷ []) ∷ []} {fs = []}
-      (Account.store (Account.left-side refl (Account.named Account.all-lie) (Account.right-side Account.constant)))
-      (Account.first-meets (Account.store-meets (Account.later-side-meets refl (Account.named Account.all-lie) (Account.right-side-meets
-      (Account.reads-one (Account.place-meets (Account.subscripts-meet (Account.lies-outside (Account.reads-whole (Account.loaded refl (Account.named Account.all-lie))) refl))))))))))
+    (Account.store (Account.left-side refl (Account.named Account.all-lie) (Account.right-side Account.constant)))
+    (Account.first-meets (Account.store-meets (Account.later-side-meets refl (Account.named Account.all-lie) (Account.right-side-meets
+    (Account.reads-one (Account.place-meets (Account.subscripts-meet (Account.lies-outside (Account.reads-whole (Account.loaded refl (Account.named Account.all-lie))) refl))))))))))

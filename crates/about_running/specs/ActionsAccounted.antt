@@ -4,11 +4,11 @@ use mathlib.Core.List.{List, [], _∷_, _++_}
 use mathlib.Core.Option.{Option, none, some}
 use mathlib.Core.Path.{_≡_, refl, ap, sym, _∙_}
 use native.Mathlib.Omega.{arith}
-use Prim.Native.Nat.{ℕ, zero, suc, _+_, _-_, _/_, _%_, _^_, _<_}
+use Prim.Native.Nat.{ℕ, zero, suc, _+_, _-_, _<_}
 use borrow.Author.Tests.{eqb-false, eqb-true, ltb-false, ltb-true}
 use lib.Dec.{eqb, leb, ltb}
 use lib.ListN.{length}
-use Rattle.language.specs.Acting.{Doing, Ran, armAt, armChosen, calling, goingTo, inArm, landing, listAct, listBelow, listStep, onPlace, onSequencing, onValue, onward, operationBelow, operationStep, passing, plainly, putAll, returning, runActions, runList, setting, side, simple, storable, storing, went, whenWorth, withStore, write}
+use Rattle.language.specs.Acting.{Doing, Ran, armAt, armChosen, calling, goingTo, inArm, landing, listAct, listBelow, listStep, onPlace, onSequencing, onValue, onward, operationBelow, operationStep, passing, plainly, putAll, returning, runActions, runList, side, simple, storing, went, whenWorth, withStore, write}
 use Rattle.language.specs.Description as D
 use Rattle.language.specs.Description.{Action, Description, Run, actionAt, facilityAt, nodeAt, operationAt}
 use Rattle.language.specs.Kinds.{delayedSign}
@@ -17,11 +17,10 @@ use Rattle.language.specs.Recursion.{below-ge, below-lt}
 use Rattle.language.specs.References.{Reference, referenceOf}
 use Rattle.language.specs.Storing.{isPlain}
 use Rattle.language.specs.declared.stops.Stop.{Stop}
-use Rattle.language.specs.declared.stops.Stop.the-variants.{NoArm}
 use Rattle.language.specs.Value.{Value}
 use Rattle.about_running.specs.Account as Account
-use Rattle.about_running.specs.Account.{Comes, End, Executed, Executes, Meets, Met, Work, Worth, action, expression, fixes, heldBy, list, meets, names, naming, numberFor, sides, stands, stopFor, stores, putEach, toRegister}
-use Rattle.about_running.specs.OneAccount.{one-course}
+use Rattle.about_running.specs.Account.{Comes, End, Executed, Executes, Meets, Met, Work, Worth, action, expression, heldBy, list, meets, names, naming, numberFor, stands, stopFor, stores, putEach, toRegister}
+use Rattle.about_running.specs.OneAccount.{one-course, over-apart}
 use Rattle.about_running.specs.ValuesAccounted.{Told, ToldSide, side-at, side-meets, side-stuck, side-told, told-meets, told-stuck, told-worth, value-told}
 
 module _ {X : Type 0} (S : Stores X) (d : Description) where
@@ -127,21 +126,21 @@ module _ {X : Type 0} (S : Stores X) (d : Description) where
     simple-told i (D.store k l r) c =
         side-run l (side S d (c .store) l) _ (side-told S d (c .store) l)
         (λ t p q h. value-run r (evalAt S d (c .store) r) _ (value-told S d (c .store) r)
-          (λ v g. storing-told k _ _ _ v _ c (sym (or-false (onSequencing S d p))) (Account.store (Account.left-side q h (Account.right-side g))))
-          (λ o g. Account.store-meets (Account.later-side-meets q h (Account.right-side-meets g))))
+        (λ v g. storing-told k _ _ _ v _ c (sym (or-false (onSequencing S d p))) (Account.store (Account.left-side q h (Account.right-side g))))
+        (λ o g. Account.store-meets (Account.later-side-meets q h (Account.right-side-meets g))))
         (λ t o q h. Account.store-meets (Account.left-side-meets q h))
     simple-told i (D.storePair k l m r) c =
         side-run l (side S d (c .store) l) _ (side-told S d (c .store) l)
         (λ t p q h. side-run m (side S d (c .store) m) _ (side-told S d (c .store) m)
-          (λ u p′ q′ h′. value-run r (evalAt S d (c .store) r) _ (value-told S d (c .store) r)
-            (λ v g. storing-told k _ _ _ v _ c (ap (λ b. onSequencing S d p || b) (sym (or-false (onSequencing S d p′)))) (Account.pair (Account.left-side q h (Account.left-side q′ h′ (Account.right-side g)))))
-            (λ o g. Account.pair-meets (Account.later-side-meets q h (Account.later-side-meets q′ h′ (Account.right-side-meets g)))))
-          (λ u o q′ h′. Account.pair-meets (Account.later-side-meets q h (Account.left-side-meets q′ h′))))
+        (λ u p′ q′ h′. value-run r (evalAt S d (c .store) r) _ (value-told S d (c .store) r)
+        (λ v g. storing-told k _ _ _ v _ c (ap (λ b. onSequencing S d p || b) (sym (or-false (onSequencing S d p′)))) (Account.pair (Account.left-side q h (Account.left-side q′ h′ (Account.right-side g)))))
+        (λ o g. Account.pair-meets (Account.later-side-meets q h (Account.later-side-meets q′ h′ (Account.right-side-meets g)))))
+        (λ u o q′ h′. Account.pair-meets (Account.later-side-meets q h (Account.left-side-meets q′ h′))))
         (λ t o q h. Account.pair-meets (Account.left-side-meets q h))
     simple-told i (D.set l) c =
         side-run l (side S d (c .store) l) _ (side-told S d (c .store) l)
         (λ t p q h. either-run (isPlain (facilityAt d (p .facility) .kind)) _ (Ran.stuck notStorable)
-          (either-run (eqb (p .count) 1) (went (withStore S d (S .put (c .store) (write S d p 1)) false c)) (Ran.stuck sidesDiffer) (told-went (Account.sets p ∷ []) (Account.set q h) refl) told-nothing) told-nothing)
+        (either-run (eqb (p .count) 1) (went (withStore S d (S .put (c .store) (write S d p 1)) false c)) (Ran.stuck sidesDiffer) (told-went (Account.sets p ∷ []) (Account.set q h) refl) told-nothing) told-nothing)
         (λ t o q h. Account.set-meets q h)
     simple-told i (D.perform o) c = performed i o c (perform o c) (performs o c)
     simple-told i (D.goto s) c = either-run (ltb s (length (d .states))) (went (goingTo S d s c)) (Ran.stuck noState) (told-went (Account.goes s ∷ []) Account.goto refl) told-nothing
@@ -281,9 +280,6 @@ module _ {X : Type 0} (S : Stores X) (d : Description) where
 abbrev pub UnstuckRun : {X : Type 0} → Ran X → Type 0
 UnstuckRun r = (s : Stuck) → r ≡ Ran.stuck s → ⊥
 
-no-end : {A : Type 0} {o : Met} → Account.over ≡ Account.met o → A
-no-end e = absurd (let z : _≡_ {A = ℕ} 0 1 = cc in omega arith)
-
 module _ {X : Type 0} (S : Stores X) (d : Description) (r : Run) (c : Doing X) where
   -- Actions go on exactly when all is executed, and then have done that.
   pub executed-of : {e : Doing X} → runActions S d r c ≡ went e → (es : List Executed) × (Executes S d (c .store) (list (r .count) (r .first)) es Account.over × (e ≡ done S d es c))
@@ -297,7 +293,7 @@ module _ {X : Type 0} (S : Stores X) (d : Description) (r : Run) (c : Doing X) w
     where
       go : (a : Ran X) → ToldRun S d (list (r .count) (r .first)) c a → UnstuckRun a → a ≡ went (done S d es c)
       go (went e) (told-went fs k y) f = ap went (y ∙ ap (λ l. done S d l c) (one-course S d k h .executed))
-      go (Ran.stopped n) (told-stopped fs k y) f = no-end (one-course S d h k .ended)
+      go (Ran.stopped n) (told-stopped fs k y) f = over-apart (one-course S d h k .ended)
       go (Ran.stuck s) told-nothing f = absurd (f s refl)
 
   -- They stop exactly when something is met, and for that, which is the first and the only one.
@@ -311,6 +307,6 @@ module _ {X : Type 0} (S : Stores X) (d : Description) (r : Run) (c : Doing X) w
   stopped-met {es} {o} h free = go (runActions S d r c) (actions-told S d r c) free
     where
       go : (a : Ran X) → ToldRun S d (list (r .count) (r .first)) c a → UnstuckRun a → a ≡ Ran.stopped (stopFor o)
-      go (went e) (told-went fs k y) f = no-end (one-course S d k h .ended)
+      go (went e) (told-went fs k y) f = over-apart (one-course S d k h .ended)
       go (Ran.stopped n) (told-stopped fs k y) f = let e = one-course S d h k .ended in cc
       go (Ran.stuck s) told-nothing f = absurd (f s refl)

@@ -13,7 +13,7 @@ use Rattle.language.specs.declared.stops.Stop.{Stop}
 use Rattle.language.specs.declared.stops.Stop.the-variants.{LastCycleReached, NoArm, NoNextState, NothingToReturn, OutsideBounds, TooManyCalls, TwoNextStates, ValueUnborne}
 use Rattle.language.specs.Value.{Value, bit}
 use Rattle.about_running.specs.Account as Account
-use Rattle.about_running.specs.Account.{End, Executed, Executes, Met, Subscript, Work, armless, list, outside, stands, toRegister}
+use Rattle.about_running.specs.Account.{End, Executed, Executes, Subscript, Work, armless, list, outside, stands, toRegister}
 
 -- ---- What is counted of the executed actions.
 

@@ -1,22 +1,21 @@
 -- The account is one: what there is to work out comes to one result, and a list of actions executes one list, to one end. So what is met is the first that there is to meet. Assumes nothing.
 use mathlib.Core.Bool.{Bool, true, false}
-use mathlib.Core.List.{List, [], _++_}
-use mathlib.Core.Path.{_≡_, refl, ap, sym, _∙_}
+use mathlib.Core.List.{List, []}
+use mathlib.Core.Path.{_≡_, refl, sym}
 use native.Mathlib.Omega.{arith}
 use Prim.Native.Nat.{ℕ}
-use Rattle.language.specs.Description.{Description, Run}
+use Rattle.language.specs.Description.{Description}
 use Rattle.language.specs.Meaning.{Place, Stores}
-use Rattle.language.specs.References.{Reference}
 use Rattle.language.specs.Value.{Value}
 use Rattle.about_running.specs.Account as Account
-use Rattle.about_running.specs.Account.{Comes, End, Executed, Executes, Met, Result, Task, Work, stands}
+use Rattle.about_running.specs.Account.{Comes, End, Executed, Executes, Met, Result, Task, Work}
 
 -- ---- Expressions.
 
-worth-apart : {A : Type 0} {v : Value} {o : Met} → Account.worth v ≡ Account.meets o → A
+pub worth-apart : {A : Type 0} {v : Value} {o : Met} → Account.worth v ≡ Account.meets o → A
 worth-apart e = absurd (let z : _≡_ {A = ℕ} 0 1 = cc in omega arith)
 
-names-apart : {A : Type 0} {p : Place} {o : Met} → Account.names p ≡ Account.meets o → A
+pub names-apart : {A : Type 0} {p : Place} {o : Met} → Account.names p ≡ Account.meets o → A
 names-apart e = absurd (let z : _≡_ {A = ℕ} 0 1 = cc in omega arith)
 
 lie-apart : {A : Type 0} {ks : List ℕ} {o : Met} → Account.lie ks ≡ Account.meets o → A
@@ -127,7 +126,7 @@ pub record Alike (es fs : List Executed) (e f : End) : Type 0 where
   pub executed : es ≡ fs
   pub ended : e ≡ f
 
-over-apart : {A : Type 0} {o : Met} → Account.over ≡ Account.met o → A
+pub over-apart : {A : Type 0} {o : Met} → Account.over ≡ Account.met o → A
 over-apart e = absurd (let z : _≡_ {A = ℕ} 0 1 = cc in omega arith)
 
 nothing-more : {o m : Met} → Account.meets o ≡ Account.meets m → Alike [] [] (Account.met o) (Account.met m)

@@ -1,36 +1,38 @@
 -- A cycle stops exactly for the first condition in 01's order that holds, and completes exactly when none does. Assumes nothing.
-use mathlib.Core.Bool.{Bool, true, false, cond, _||_, or-assoc, or-false}
-use mathlib.Core.List.{List, [], _∷_, _++_}
+use mathlib.Core.Bool.{Bool, true, false, cond}
+use mathlib.Core.List.{List, _∷_}
 use mathlib.Core.Option.{Option, none, some}
-use mathlib.Core.Path.{_≡_, ap, refl, sym, _∙_}
+use mathlib.Core.Path.{_≡_, refl, sym}
 use native.Mathlib.Omega.{arith}
-use Prim.Native.Nat.{ℕ, zero, suc, _+_, _-_, _≤_, _<_}
-use borrow.Author.Tests.{eq-eqb, eqb-false, eqb-true, leb-false, leb-true, lt-ltb}
-use lib.Dec.{eqb, leb, ltb}
-use lib.ListN.{length, length-append}
+use Prim.Native.Nat.{ℕ, _+_, _≤_, _<_}
+use borrow.Author.Tests.{leb-false, leb-true, lt-ltb}
+use lib.Dec.{leb}
+use lib.ListN.{length}
 use Rattle.language.specs.Acting as A
 use Rattle.language.specs.Acting.{Doing, Ran, went}
 use Rattle.language.specs.Description.{Description, inBounds, sequencingOf, stateAt}
-use Rattle.language.specs.Judging.{both}
-use Rattle.language.specs.Step.{Outcome, Record, afterActions, bearer, bears, completed, entered, finished, isNone, lastCycle, mostReturns, nextRecord, nothingDone, orStopped, registerValue, setRegister, stateCount, stateNumber, step, stopAfter}
+use Rattle.language.specs.Step.{Outcome, Record, afterActions, bearer, bears, completed, entered, finished, isNone, lastCycle, mostReturns, nextRecord, nothingDone, orStopped, setRegister, stateCount, stateNumber, step, stopAfter}
 use Rattle.language.specs.Step as Step
 use Rattle.language.specs.declared.stops.Stop.{Stop}
 use Rattle.language.specs.declared.stops.Stop.the-variants.{LastCycleReached, NoArm, NoNextState, NothingToReturn, OutsideBounds, TooManyCalls, TwoNextStates, ValueUnborne}
-use Rattle.language.specs.Store.{Held, Words, begin, inputsOf, landAll, numbers}
+use Rattle.language.specs.Store.{Held, Words, begin, inputsOf, numbers}
 use Rattle.language.specs.Value.{Value}
 use Rattle.about_running.specs.Account as Account
-use Rattle.about_running.specs.Account.{Executed, Met, Subscript, Worth, armless, outside, stands, stopFor, toRegister}
-use Rattle.about_running.specs.ActionsAccounted.{ToldRun, actions-told, done, done-store, told-nothing, told-stopped, told-went}
+use Rattle.about_running.specs.Account.{Executed, Met, Subscript, Worth, armless, outside, stands, stopFor}
+use Rattle.about_running.specs.ActionsAccounted.{ToldRun, actions-told, done, done-store, told-stopped, told-went}
 use Rattle.about_running.specs.Acts.{Good}
+use Rattle.about_running.specs.Bearers.{none-bears, one-bears}
 use Rattle.about_running.specs.Conditions as C
 use Rattle.about_running.specs.Conditions.{Borne, Condition, Cycle, FirstOf, a-later-one, anyOf, begun, heldAfter, howMany, isCall, isGoto, isReturn, isSequenced, none-holds, order, plainGiven, registerAfter, stateWork, this-one}
+use Rattle.about_running.specs.Counted.{counts}
 use Rattle.about_running.specs.Cycle.{Sound, run-good}
+use Rattle.about_running.specs.Decided.{Decides, and-then, at-least, either, equals, itself}
 use Rattle.about_running.specs.Executes as E
 use Rattle.about_running.specs.Fitting.{Fit, Inv, numbers-keep}
 use Rattle.about_running.specs.LegalForm.{Legal}
 use Rattle.about_running.specs.MetThere as M
 use Rattle.about_running.specs.MetThere.{There, course-there}
-use Rattle.about_running.specs.OneAccount.{one-course}
+use Rattle.about_running.specs.OneAccount.{one-course, over-apart}
 
 -- At most one stop is the first.
 pub first-one : {K : Stop → Type 0} {ns : List Stop} {a b : Option Stop} → FirstOf K ns a → FirstOf K ns b → a ≡ b
@@ -40,109 +42,10 @@ first-one (this-one h) (a-later-one f k) = absurd (f h)
 first-one (a-later-one f h) (this-one k) = absurd (f k)
 first-one (a-later-one f h) (a-later-one g k) = first-one h k
 
--- ---- A test that decides.
-
-record Decides (b : Bool) (P : Type 0) : Type 0 where
-  holds : b ≡ true → P
-  fails : b ≡ false → P → ⊥
-
-at-least : (m n : ℕ) → Decides (leb m n) (m ≤ n)
-at-least m n = record { holds = λ e. leb-true m n e; fails = λ e h. omega (arith, leb-false m n e) }
-
-equals : (m n : ℕ) → Decides (eqb m n) (m ≡ n)
-equals m n = record { holds = λ e. eqb-true m n e; fails = λ e h. eqb-false m n e h }
-
-itself : (b : Bool) → Decides b (b ≡ true)
-itself b = record { holds = λ e. e; fails = λ e h. absurd (let z : _≡_ {A = ℕ} 0 1 = cc in omega arith) }
-
-either : {P Q R : Type 0} {a b : Bool} → Decides a P → Decides b Q → (P → R) → (Q → R) → ((P → ⊥) → (Q → ⊥) → R → ⊥) → Decides (a || b) R
-either {P} {Q} {R} {a} {b} f g p q r = record { holds = go a b (f .holds) (g .holds); fails = ho a b (f .fails) (g .fails) }
-  where
-    go : (a b : Bool) → (a ≡ true → P) → (b ≡ true → Q) → a || b ≡ true → R
-    go true b f g e = p (f refl)
-    go false b f g e = q (g e)
-
-    ho : (a b : Bool) → (a ≡ false → P → ⊥) → (b ≡ false → Q → ⊥) → a || b ≡ false → R → ⊥
-    ho true b f g e h = absurd (let z : _≡_ {A = ℕ} 0 1 = cc in omega arith)
-    ho false b f g e h = r (f refl) (g e) h
-
-and-then : {P Q R : Type 0} {a b : Bool} → Decides a P → Decides b Q → (P → Q → R) → (R → P × Q) → Decides (both a b) R
-and-then {P} {Q} {R} {a} {b} f g p q = record { holds = go a b (f .holds) (g .holds); fails = ho a b (f .fails) (g .fails) }
-  where
-    go : (a b : Bool) → (a ≡ true → P) → (b ≡ true → Q) → both a b ≡ true → R
-    go true b f g e = p (f refl) (g e)
-    go false b f g e = absurd (let z : _≡_ {A = ℕ} 0 1 = cc in omega arith)
-
-    ho : (a b : Bool) → (a ≡ false → P → ⊥) → (b ≡ false → Q → ⊥) → both a b ≡ false → R → ⊥
-    ho true b f g e h = g e (q h .1)
-    ho false b f g e h = f refl (q h .0)
-
 -- Tested in turn.
 in-turn : {K : Stop → Type 0} {n : Stop} {ns : List Stop} {m : Option Stop} (b : Bool) → Decides b (K n) → FirstOf K ns m → FirstOf K (n ∷ ns) (cond b (some n) m)
 in-turn true f h = this-one (f .holds refl)
 in-turn false f h = a-later-one (f .fails refl) h
-
--- ---- State values.
-
-module _ (d : Description) where
-  none-bears : (k n x : ℕ) → bearer d k n x ≡ none → (m : ℕ) → n ≤ m → m < n + k → stateNumber d m ≡ some x → ⊥
-  unfolding bearer
-  none-bears zero n x e m l h q = omega arith
-  none-bears (suc k) n x e m l h q = go (λ z. none-bears k (suc n) x z m) (bears d (stateNumber d n) x) refl e (eqb m n) refl
-    where
-      go : (bearer d k (suc n) x ≡ none → suc n ≤ m → m < suc n + k → stateNumber d m ≡ some x → ⊥)
-          → (b : Bool) → bears d (stateNumber d n) x ≡ b → cond b (some n) (bearer d k (suc n) x) ≡ none → (t : Bool) → eqb m n ≡ t → ⊥
-      go ih true y z t w = let a : _≡_ {A = ℕ} 0 1 = cc in omega arith
-      go ih false y z true w =
-          let s : stateNumber d n ≡ some x = rw (← eqb-true m n w) q in
-          let a : eqb x x ≡ false = rw s at y in
-          eqb-false x x a refl
-      go ih false y z false w = ih z (omega (arith, eqb-false m n w)) (omega arith) q
-
-  one-bears : (k n x m : ℕ) → bearer d k n x ≡ some m → (m < n + k) × (stateNumber d m ≡ some x)
-  unfolding bearer
-  one-bears zero n x m e = absurd (let z : _≡_ {A = ℕ} 0 1 = cc in omega arith)
-  one-bears (suc k) n x m e = go (one-bears k (suc n) x m) (stateNumber d n) refl e
-    where
-      go : (bearer d k (suc n) x ≡ some m → (m < suc n + k) × (stateNumber d m ≡ some x))
-          → (s : Option ℕ) → stateNumber d n ≡ s → cond (bears d s x) (some n) (bearer d k (suc n) x) ≡ some m → (m < n + suc k) × (stateNumber d m ≡ some x)
-      go ih none y z = let a = ih z in (omega (arith, a .0), a .1)
-      go ih (some v) y z = by (eqb x v) refl z
-        where
-          by : (b : Bool) → eqb x v ≡ b → cond b (some n) (bearer d k (suc n) x) ≡ some m → (m < n + suc k) × (stateNumber d m ≡ some x)
-          by true q w = let a : n ≡ m = cc in (omega arith, rw (← a, eqb-true x v q) y)
-          by false q w = let a = ih w in (omega (arith, a .0), a .1)
-
--- ---- What a cycle has done is what was counted.
-
-record Counts (d : Description) (es : List Executed) (c e : Doing Held) : Type 0 where
-  gotos-so : length (e .gotos) ≡ length (c .gotos) + howMany isGoto es
-  returns-so : e .returns ≡ c .returns + howMany isReturn es
-  calls-so : length (e .calls) ≡ length (c .calls) + howMany isCall es
-  sequenced-so : e .sequenced ≡ c .sequenced || anyOf (isSequenced d) es
-
-module _ (d : Description) where
-  counts : (es : List Executed) (c : Doing Held) → Counts d es c (done (numbers d) d es c)
-  unfolding done howMany anyOf
-  counts [] c = record { gotos-so = omega arith; returns-so = omega arith; calls-so = omega arith; sequenced-so = sym (or-false (c .sequenced)) }
-  counts (Account.delayed ws ∷ es) c =
-      let h = counts es (A.withStore (numbers d) d (numbers d .delay (c .store) ws) (toRegister d ws) c) in
-      record { gotos-so = omega (arith, h .gotos-so); returns-so = omega (arith, h .returns-so); calls-so = omega (arith, h .calls-so); sequenced-so = h .sequenced-so ∙ or-assoc (c .sequenced) (toRegister d ws) (anyOf (isSequenced d) es) }
-  counts (Account.immediate ws ∷ es) c =
-      let h = counts es (A.withStore (numbers d) d (Account.putEach (numbers d) (c .store) ws) false c) in
-      record { gotos-so = omega (arith, h .gotos-so); returns-so = omega (arith, h .returns-so); calls-so = omega (arith, h .calls-so); sequenced-so = h .sequenced-so ∙ or-assoc (c .sequenced) false (anyOf (isSequenced d) es) }
-  counts (Account.sets p ∷ es) c =
-      let h = counts es (A.withStore (numbers d) d (numbers d .put (c .store) (Account.numberFor p 1)) false c) in
-      record { gotos-so = omega (arith, h .gotos-so); returns-so = omega (arith, h .returns-so); calls-so = omega (arith, h .calls-so); sequenced-so = h .sequenced-so ∙ or-assoc (c .sequenced) false (anyOf (isSequenced d) es) }
-  counts (Account.goes s ∷ es) c =
-      let h = counts es (A.goingTo (numbers d) d s c) in
-      record { gotos-so = omega (arith, h .gotos-so, length-append (c .gotos) (s ∷ [])); returns-so = omega (arith, h .returns-so); calls-so = omega (arith, h .calls-so); sequenced-so = h .sequenced-so }
-  counts (Account.calls s ∷ es) c =
-      let h = counts es (A.calling (numbers d) d s c) in
-      record { gotos-so = omega (arith, h .gotos-so); returns-so = omega (arith, h .returns-so); calls-so = omega (arith, h .calls-so, length-append (c .calls) (s ∷ [])); sequenced-so = h .sequenced-so }
-  counts (Account.returns ∷ es) c =
-      let h = counts es (A.returning (numbers d) d c) in
-      record { gotos-so = omega (arith, h .gotos-so); returns-so = omega (arith, h .returns-so); calls-so = omega (arith, h .calls-so); sequenced-so = h .sequenced-so }
 
 -- The stop that ended a cycle.
 abbrev pub stopOf : Outcome → Option Stop
@@ -167,7 +70,7 @@ module _ (d : Description) (s : Words) (r : Record) (ins : Words) where
     these h = one-course (numbers d) d h all .executed
 
     no-end : {fs : List Executed} {o : Met} → Cycle d s r ins fs (Account.met o) → ⊥
-    no-end h = let e = one-course (numbers d) d h all .ended in let z : _≡_ {A = ℕ} 0 1 = cc in omega arith
+    no-end h = over-apart (sym (one-course (numbers d) d h all .ended))
 
     no-subscript : K OutsideBounds → ⊥
     no-subscript (C.subscript-outside h) = no-end h
@@ -286,9 +189,10 @@ module _ (d : Description) (L : Legal d) (s : Words) (r : Record) (ins : Words) 
 
   -- S1, where the number is not the last: exactly when, in the order of execution, the cycle comes to a subscript that lies outside its bounds on the store that stands then.
   pub one-first : r .cycle < lastCycle → (stopOf (step d s r ins) ≡ some OutsideBounds → FirstOutside d s r ins) × (FirstOutside d s r ins → stopOf (step d s r ins) ≡ some OutsideBounds)
-  one-first l =
-      ((λ e. there-outside d s r ins (first-holds (rw e at stops-in-order))),
-      (λ h. first-one stops-in-order (a-later-one (not-last d s r ins l) (this-one (C.subscript-outside (h .met-first))))))
+  one-first l = (
+    (λ e. there-outside d s r ins (first-holds (rw e at stops-in-order))),
+    (λ h. first-one stops-in-order (a-later-one (not-last d s r ins l) (this-one (C.subscript-outside (h .met-first))))),
+  )
 
   -- No legal description comes to a CASE value without an arm.
   pub armless-never : Condition d s r ins NoArm → ⊥

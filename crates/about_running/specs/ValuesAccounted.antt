@@ -2,7 +2,7 @@
 use mathlib.Core.Bool.{Bool, true, false, cond}
 use mathlib.Core.List.{List, [], _∷_}
 use mathlib.Core.Option.{Option, none, some}
-use mathlib.Core.Path.{_≡_, refl, sym}
+use mathlib.Core.Path.{_≡_, refl}
 use native.Mathlib.Omega.{arith}
 use Prim.Native.Nat.{ℕ, zero, suc, _-_, _<_}
 use borrow.Author.Tests.{ltb-false, ltb-true}
@@ -22,7 +22,7 @@ use Rattle.language.specs.Value as Values
 use Rattle.language.specs.Value.{Made, Value, longest, made, value}
 use Rattle.about_running.specs.Account as Account
 use Rattle.about_running.specs.Account.{Comes, Meets, Met, Result, Task, Worth, computedSubscripts, expression, lie, meets, names, naming, placeAt, reading, stopFor, subscripts, within, worth}
-use Rattle.about_running.specs.OneAccount.{one-result}
+use Rattle.about_running.specs.OneAccount.{names-apart, one-result, worth-apart}
 
 module _ {X : Type 0} (S : Stores X) (d : Description) (x : X) where
   -- An answer as the account has it.
@@ -93,9 +93,9 @@ module _ {X : Type 0} (S : Stores X) (d : Description) (x : X) where
     located-told n (two e g) =
         subscript-told e (facilityAt d n .words) (ev e) _ (evs e)
         (λ v h k. subscript-told g (facilityAt d n .bits) (ev g) _ (evs g)
-          (λ w i l. narrow-told _ (named-as (Account.lies h k (Account.lies i l Account.all-lie)) refl))
-          (λ w i l. Account.subscripts-meet (Account.later-meets h k (Account.lies-outside i l)))
-          (λ o i. Account.subscripts-meet (Account.later-meets h k (Account.within-meets i))))
+        (λ w i l. narrow-told _ (named-as (Account.lies h k (Account.lies i l Account.all-lie)) refl))
+        (λ w i l. Account.subscripts-meet (Account.later-meets h k (Account.lies-outside i l)))
+        (λ o i. Account.subscripts-meet (Account.later-meets h k (Account.within-meets i))))
         (λ v h k. Account.subscripts-meet (Account.lies-outside h k))
         (λ o h. Account.subscripts-meet (Account.within-meets h))
     located-told n (wordPart e y) =
@@ -226,12 +226,6 @@ Unstuck a = (s : Stuck) → a ≡ stuck s → ⊥
 abbrev pub UnstuckAt : Located → Type 0
 UnstuckAt l = (s : Stuck) → l ≡ Located.stuck s → ⊥
 
-other-sort : {A : Type 0} {v : Value} {o : Met} → worth v ≡ meets o → A
-other-sort e = absurd (let z : _≡_ {A = ℕ} 0 1 = cc in omega arith)
-
-no-place : {A : Type 0} {p : Place} {o : Met} → names p ≡ meets o → A
-no-place e = absurd (let z : _≡_ {A = ℕ} 0 1 = cc in omega arith)
-
 module _ {X : Type 0} (S : Stores X) (d : Description) (x : X) (n : ℕ) where
   -- An expression has a value exactly when it is worth that by the account.
   pub worth-of : {v : Value} → evalAt S d x n ≡ is v → Worth S d x n v
@@ -245,7 +239,7 @@ module _ {X : Type 0} (S : Stores X) (d : Description) (x : X) (n : ℕ) where
     where
       go : (a : Answer) → Told S d x (expression (nodeAt d n)) a → Unstuck a → a ≡ is v
       go (is w) (told-worth k) f = let e = one-result S d x h k in cc
-      go (stops m) (told-meets k q) f = other-sort (one-result S d x h k)
+      go (stops m) (told-meets k q) f = worth-apart (one-result S d x h k)
       go (stuck s) told-stuck f = absurd (f s refl)
 
   -- It stops exactly when it meets something, and for that, which is the first and the only one.
@@ -259,7 +253,7 @@ module _ {X : Type 0} (S : Stores X) (d : Description) (x : X) (n : ℕ) where
   stops-met {o} h free = go (evalAt S d x n) (value-told S d x n) free
     where
       go : (a : Answer) → Told S d x (expression (nodeAt d n)) a → Unstuck a → a ≡ stops (stopFor o)
-      go (is w) (told-worth k) f = other-sort (one-result S d x k h)
+      go (is w) (told-worth k) f = worth-apart (one-result S d x k h)
       go (stops m) (told-meets k q) f = let e = one-result S d x h k in cc
       go (stuck s) told-stuck f = absurd (f s refl)
 
@@ -279,7 +273,7 @@ module _ {X : Type 0} (S : Stores X) (d : Description) (x : X) (n : ℕ) where
       where
         go : (l : Located) → ToldSide S d x n l → UnstuckAt l → l ≡ Located.at p
         go (Located.at q) (side-at {r = t} k j) f = let z : t ≡ r = cc in let e = one-result S d x h (rw z at j) in cc
-        go (Located.stops m) (side-meets {r = t} k j q) f = let z : t ≡ r = cc in no-place (one-result S d x h (rw z at j))
+        go (Located.stops m) (side-meets {r = t} k j q) f = let z : t ≡ r = cc in names-apart (one-result S d x h (rw z at j))
         go (Located.stuck s) side-stuck f = absurd (f s refl)
 
     pub meets-side-of : {m : Stop} → side S d x n ≡ Located.stops m → (o : Met) × (Comes S d x (naming r) (meets o) × (stopFor o ≡ m))
@@ -292,6 +286,6 @@ module _ {X : Type 0} (S : Stores X) (d : Description) (x : X) (n : ℕ) where
     stops-side {o} h free = go (side S d x n) (side-told S d x n) free
       where
         go : (l : Located) → ToldSide S d x n l → UnstuckAt l → l ≡ Located.stops (stopFor o)
-        go (Located.at q) (side-at {r = t} k j) f = let z : t ≡ r = cc in no-place (one-result S d x (rw z at j) h)
+        go (Located.at q) (side-at {r = t} k j) f = let z : t ≡ r = cc in names-apart (one-result S d x (rw z at j) h)
         go (Located.stops m) (side-meets {r = t} k j q) f = let z : t ≡ r = cc in let e = one-result S d x h (rw z at j) in cc
         go (Located.stuck s) side-stuck f = absurd (f s refl)
