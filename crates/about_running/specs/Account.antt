@@ -1,16 +1,16 @@
 -- What a cycle comes to, told from 01's sentences ("One cycle"): what an expression is worth, what ends a cycle while it is worked out, and which actions are executed, in order. It is told over any store and any description, a constructor for each way that it can go, and leaves out what no passing image comes to. That `Meaning` and `Acting` come to the same is proved in ValuesAccounted and ActionsAccounted.
 use mathlib.Core.Bool.{Bool, true, false, cond, _||_}
 use mathlib.Core.List.{List, [], _∷_, _++_}
-use mathlib.Core.Option.{none, some}
+use mathlib.Core.Option.{some}
 use mathlib.Core.Path.{_≡_}
-use Prim.Native.Nat.{ℕ, suc, _+_, _-_, _/_, _%_, _^_}
+use Prim.Native.Nat.{ℕ, suc, _+_, _-_, _/_, _%_, _^_, _≤_, _<_}
 use lib.Dec.{eqb}
 use lib.ListN.{getD}
 use Rattle.language.specs.Acting.{armAt}
 use Rattle.language.specs.Description as D
 use Rattle.language.specs.Description.{Action, Bounds, Description, Facility, Node, Run, actionAt, facilityAt, fromFirst, inBounds, isComputed, isSequencing, nodeAt, operationAt, spanOf, wordLength}
 use Rattle.language.specs.Kinds.{delayedSign}
-use Rattle.language.specs.Meaning.{Place, Stores, Write, armBack, armNumber, place}
+use Rattle.language.specs.Meaning.{Place, Stores, Write, armBack, place}
 use Rattle.language.specs.Operators.{binaryOf, cutOf, prefixOf}
 use Rattle.language.specs.References as R
 use Rattle.language.specs.References.{Reference, Subscripts, part, referenceOf, two, whole, wordPart}
@@ -47,6 +47,17 @@ placeAt n f (wordPart e b) ks = place n (getD ks 0 0) (fromFirst (f .bits) (b .f
 -- The bits of a value that stand where a place lies in its word.
 abbrev pub bitsAt : Place → Value → Value
 bitsAt p v = value (p .count) (v .number / 2 ^ (v .length - (p .from + p .count)) % 2 ^ p .count)
+
+-- ---- Arms: of n, a value from 1 to n - 1 takes the arm of that number, and 0 takes arm n.
+
+pub data Takes (n : ℕ) : ℕ → ℕ → Type 0 where
+  by-number : {v : ℕ} → 1 ≤ v → v < n → Takes n v v
+  last-for-zero : Takes n 0 n
+
+-- Any other value has no arm.
+pub record Armless (n v : ℕ) : Type 0 where
+  pub not-zero : 1 ≤ v
+  pub too-large : n ≤ v
 
 -- ---- What ends a cycle while its actions are executed.
 
@@ -98,10 +109,10 @@ module _ {X : Type 0} (S : Stores X) (d : Description) (x : X) where
     cut : {k a c : ℕ} {v u : Value} → Comes (expression (nodeAt d a)) (worth v) → cutOf k v c ≡ made u → Comes (expression (D.cut k a c)) (worth u)
     cut-meets : {k a c : ℕ} {o : Met} → Comes (expression (nodeAt d a)) (meets o) → Comes (expression (D.cut k a c)) (meets o)
     -- A conditional: its condition, and then the chosen arm alone, whatever that comes to.
-    chosen : {e a n m g : ℕ} {v : Value} {r : Result} → Comes (expression (nodeAt d e)) (worth v) → armNumber n (v .number) ≡ some m → armBack d (n - m) a ≡ some g
+    chosen : {e a n m g : ℕ} {v : Value} {r : Result} → Comes (expression (nodeAt d e)) (worth v) → Takes n (v .number) m → armBack d (n - m) a ≡ some g
         → Comes (expression (nodeAt d g)) r → Comes (expression (D.choice e a n)) r
     condition-meets : {e a n : ℕ} {o : Met} → Comes (expression (nodeAt d e)) (meets o) → Comes (expression (D.choice e a n)) (meets o)
-    no-arm : {e a n : ℕ} {v : Value} → Comes (expression (nodeAt d e)) (worth v) → armNumber n (v .number) ≡ none → Comes (expression (D.choice e a n)) (meets (armless e n v))
+    no-arm : {e a n : ℕ} {v : Value} → Comes (expression (nodeAt d e)) (worth v) → Armless n (v .number) → Comes (expression (D.choice e a n)) (meets (armless e n v))
     -- What a reference stands for: its place is found; what is stored is loaded; a computed terminal's expression is worked out now.
     loaded : {r : Reference} {p : Place} → isComputed (facilityAt d (r .facility) .kind) ≡ false → Comes (naming r) (names p) → Comes (reading r) (worth (value (p .count) (S .load x p)))
     worked : {r : Reference} {p : Place} {v : Value} → isComputed (facilityAt d (r .facility) .kind) ≡ true → Comes (naming r) (names p)
@@ -226,12 +237,12 @@ module _ {X : Type 0} (S : Stores X) (d : Description) where
     -- An operation is what its body executes.
     performs : {x : X} {i o : ℕ} {es : List Executed} {e : End} → Executes x (list (operationAt d o .body .count) (operationAt d o .body .first)) es e → Executes x (action i (D.perform o)) es e
     -- IF without ELSE: one takes the arm, zero nothing.
-    taken : {x : X} {i e m : ℕ} {v : Value} {r : Run} {es : List Executed} {f : End} → Worth S d x e v → eqb (v .number) 0 ≡ false → armAt d 0 (i + 1) m ≡ some r
+    taken : {x : X} {i e m : ℕ} {v : Value} {r : Run} {es : List Executed} {f : End} → Worth S d x e v → 1 ≤ v .number → armAt d 0 (i + 1) m ≡ some r
         → Executes x (list (r .count) (r .first)) es f → Executes x (action i (D.when e m)) es f
-    not-taken : {x : X} {i e m : ℕ} {v : Value} → Worth S d x e v → eqb (v .number) 0 ≡ true → Executes x (action i (D.when e m)) [] over
+    not-taken : {x : X} {i e m : ℕ} {v : Value} → Worth S d x e v → v .number ≡ 0 → Executes x (action i (D.when e m)) [] over
     when-meets : {x : X} {i e m : ℕ} {o : Met} → Meets S d x e o → Executes x (action i (D.when e m)) [] (met o)
     -- A conditional with more arms: the chosen arm alone.
-    chosen-arm : {x : X} {i e n m k : ℕ} {v : Value} {r : Run} {es : List Executed} {f : End} → Worth S d x e v → armNumber n (v .number) ≡ some k → armAt d (k - 1) (i + 1) m ≡ some r
+    chosen-arm : {x : X} {i e n m k : ℕ} {v : Value} {r : Run} {es : List Executed} {f : End} → Worth S d x e v → Takes n (v .number) k → armAt d (k - 1) (i + 1) m ≡ some r
         → Executes x (list (r .count) (r .first)) es f → Executes x (action i (D.choose e n m)) es f
     choose-meets : {x : X} {i e n m : ℕ} {o : Met} → Meets S d x e o → Executes x (action i (D.choose e n m)) [] (met o)
-    no-arm-for : {x : X} {i e n m : ℕ} {v : Value} → Worth S d x e v → armNumber n (v .number) ≡ none → Executes x (action i (D.choose e n m)) [] (met (armless e n v))
+    no-arm-for : {x : X} {i e n m : ℕ} {v : Value} → Worth S d x e v → Armless n (v .number) → Executes x (action i (D.choose e n m)) [] (met (armless e n v))

@@ -12,11 +12,11 @@ use Rattle.language.specs.Reading.{legal, readText}
 use Rattle.language.specs.Scan.{bytes}
 use Rattle.language.specs.Step.{openRecord}
 use Rattle.language.specs.Store.{zeroWords}
-use Rattle.language.specs.Tree.{register}
+use Rattle.language.specs.Tree.{register, sequencing}
 use Rattle.language.specs.Value.{value}
 use Rattle.about_running.specs.Account as Account
 use Rattle.about_running.specs.Account.{End, Executed, numberFor, outside, within}
-use Rattle.about_running.specs.Conditions.{Cycle}
+use Rattle.about_running.specs.Conditions.{Cycle, anyOf, heldAfter, howMany, plainGiven}
 
 -- ---- REGISTER A[4], I[3], B. One operation, X; one state, P, which carries it out and stays.
 
@@ -57,7 +57,7 @@ unfolding computing vector flag machine unchosen Account.computedSubscripts Acco
 unchosen-runs =
     Account.one-by-one {es = Account.delayed (numberFor (place 2 0 0 1) 1 ∷ []) ∷ []} {fs = Account.goes 0 ∷ []}
     (Account.performs (Account.one-by-one {es = Account.delayed (numberFor (place 2 0 0 1) 1 ∷ []) ∷ []} {fs = []}
-    (Account.store (Account.left-side refl (Account.named Account.all-lie) (Account.right-side (Account.chosen (Account.reads-whole (Account.loaded refl (Account.named Account.all-lie))) refl refl Account.constant))))
+    (Account.store (Account.left-side refl (Account.named Account.all-lie) (Account.right-side (Account.chosen (Account.reads-whole (Account.loaded refl (Account.named Account.all-lie))) Account.last-for-zero refl Account.constant))))
     Account.nothing))
     (Account.one-by-one {es = Account.goes 0 ∷ []} {fs = []} Account.goto Account.nothing)
 
@@ -121,3 +121,30 @@ too-late-meets =
     (Account.store (Account.left-side refl (Account.named Account.all-lie) (Account.right-side Account.constant)))
     (Account.first-meets (Account.store-meets (Account.later-side-meets refl (Account.named Account.all-lie) (Account.right-side-meets
     (Account.reads-one (Account.place-meets (Account.subscripts-meet (Account.lies-outside (Account.reads-whole (Account.loaded refl (Account.named Account.all-lie))) refl))))))))))
+
+-- ---- What is counted: stores to the sequencing register count once together, -> besides; a RETURN takes its own off before a call.
+
+unfoldable sequencer : Description
+sequencer =
+    record {
+      facilities = record { name = 81 ∷ []; kind = sequencing; dimensions = 1; words = bounds 0 0; bits = bounds 1 2; expression = 0 } ∷ [];
+      operations = [];
+      expressions = [];
+      actions = [];
+      states = [];
+    }
+
+abbrev toQ : ℕ → Executed
+toQ n = Account.delayed (numberFor (place 0 0 0 2) n ∷ [])
+
+count-once : plainGiven sequencer (toQ 1 ∷ toQ 2 ∷ []) ≡ 1
+unfolding computing sequencer howMany anyOf Account.toRegister
+count-once = refl
+
+count-besides : plainGiven sequencer (toQ 1 ∷ Account.goes 0 ∷ []) ≡ 2
+unfolding computing sequencer howMany anyOf Account.toRegister
+count-besides = refl
+
+room-for-call : heldAfter (record { state = 0; cycle = 0; held = 16; returns = [] }) (Account.calls 0 ∷ Account.returns ∷ []) ≡ 15
+unfolding howMany
+room-for-call = refl

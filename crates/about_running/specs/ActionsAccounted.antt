@@ -21,7 +21,7 @@ use Rattle.language.specs.Value.{Value}
 use Rattle.about_running.specs.Account as Account
 use Rattle.about_running.specs.Account.{Comes, End, Executed, Executes, Meets, Met, Work, Worth, action, expression, heldBy, list, meets, names, naming, numberFor, stands, stopFor, stores, putEach, toRegister}
 use Rattle.about_running.specs.OneAccount.{one-course, over-apart}
-use Rattle.about_running.specs.ValuesAccounted.{Told, ToldSide, side-at, side-meets, side-stuck, side-told, told-meets, told-stuck, told-worth, value-told}
+use Rattle.about_running.specs.ValuesAccounted.{Told, ToldSide, arm-so, no-arm-so, side-at, side-meets, side-stuck, side-told, told-meets, told-stuck, told-worth, value-told}
 
 module _ {X : Type 0} (S : Stores X) (d : Description) where
   -- ---- What has been done when these have been executed.
@@ -194,12 +194,12 @@ module _ {X : Type 0} (S : Stores X) (d : Description) where
       when-told e x q c v h = either-run (eqb (v .length) 1) _ (Ran.stuck notOneBit) (go (eqb (v .number) 0) refl) told-nothing
         where
           go : (b : Bool) → eqb (v .number) 0 ≡ b → ToldRun (list (suc k) i) c (cond b (passing S d perform ev k i x c) (inArm S d perform ev k i x (armAt d 0 (i + 1) x) c))
-          go true y = follow k i (D.when e x) q c (went c) (passing S d perform ev k i x) (told-went [] (Account.not-taken h y) refl) (passing-told x)
-          go false y = arm-told (D.when e x) x q refl c (armAt d 0 (i + 1) x) (λ t z es f g. Account.taken h y z g)
+          go true y = follow k i (D.when e x) q c (went c) (passing S d perform ev k i x) (told-went [] (Account.not-taken h (eqb-true (v .number) 0 y)) refl) (passing-told x)
+          go false y = arm-told (D.when e x) x q refl c (armAt d 0 (i + 1) x) (λ t z es f g. Account.taken h (omega (arith, eqb-false (v .number) 0 y)) z g)
 
       choose-told : (e n x : ℕ) → actionAt d i ≡ D.choose e n x → (c : Doing X) (v : Value) → Worth S d (c .store) e v → (m : Option ℕ) → armNumber n (v .number) ≡ m → ToldRun (list (suc k) i) c (armChosen S d perform ev k i x m c)
-      choose-told e n x q c v h none y = told-stopped [] (met-first k i (D.choose e n x) q (Account.no-arm-for h y)) refl
-      choose-told e n x q c v h (some m) y = arm-told (D.choose e n x) x q refl c (armAt d (m - 1) (i + 1) x) (λ t z es f g. Account.chosen-arm h y z g)
+      choose-told e n x q c v h none y = told-stopped [] (met-first k i (D.choose e n x) q (Account.no-arm-for h (no-arm-so n (v .number) y))) refl
+      choose-told e n x q c v h (some m) y = arm-told (D.choose e n x) x q refl c (armAt d (m - 1) (i + 1) x) (λ t z es f g. Account.chosen-arm h (arm-so n (v .number) m y) z g)
 
       act-told : (a : Action) → actionAt d i ≡ a → (c : Doing X) → ToldRun (list (suc k) i) c (listAct S d perform ev k i a c)
       unfolding listAct

@@ -8,7 +8,7 @@ use Rattle.language.specs.Description.{Description}
 use Rattle.language.specs.Meaning.{Place, Stores}
 use Rattle.language.specs.Value.{Value}
 use Rattle.about_running.specs.Account as Account
-use Rattle.about_running.specs.Account.{Comes, End, Executed, Executes, Met, Result, Task, Work}
+use Rattle.about_running.specs.Account.{Armless, Comes, End, Executed, Executes, Met, Result, Takes, Task, Work}
 
 -- ---- Expressions.
 
@@ -26,6 +26,21 @@ fixes-apart e = absurd (let z : _≡_ {A = ℕ} 0 1 = cc in omega arith)
 
 both-ways : {A : Type 0} {b : Bool} → b ≡ true → b ≡ false → A
 both-ways e f = absurd (let z : _≡_ {A = ℕ} 0 1 = cc in omega arith)
+
+-- A value takes one arm, or none.
+one-arm : {n v m k : ℕ} → Takes n v m → Takes n v k → m ≡ k
+one-arm (Account.by-number l h) (Account.by-number j k) = refl
+one-arm (Account.by-number l h) Account.last-for-zero = absurd (omega arith)
+one-arm Account.last-for-zero (Account.by-number j k) = absurd (omega arith)
+one-arm Account.last-for-zero Account.last-for-zero = refl
+
+arm-apart : {A : Type 0} {n v m : ℕ} → Takes n v m → Armless n v → A
+arm-apart (Account.by-number l h) a = absurd (omega arith)
+arm-apart Account.last-for-zero a = absurd (omega arith)
+
+-- The numbers of one value.
+number-so : {v w : Value} → Account.worth v ≡ Account.worth w → v .number ≡ w .number
+number-so e = cc
 
 module _ {X : Type 0} (S : Stores X) (d : Description) (x : X) where
   pub one-result : {t : Task} {r q : Result} → Comes S d x t r → Comes S d x t q → r ≡ q
@@ -52,16 +67,16 @@ module _ {X : Type 0} (S : Stores X) (d : Description) (x : X) where
   one-result (Account.cut h e) (Account.cut-meets k) = worth-apart (one-result h k)
   one-result (Account.cut-meets h) (Account.cut k f) = worth-apart (sym (one-result h k))
   one-result (Account.cut-meets h) (Account.cut-meets k) = one-result h k
-  one-result (Account.chosen {g = g} h e f i) (Account.chosen {g = g′} j e′ f′ k) =
-      let a = one-result h j in
+  one-result (Account.chosen {m = m} {g = g} h e f i) (Account.chosen {m = m′} {g = g′} j e′ f′ k) =
+      let y : m′ ≡ m = one-arm e′ (rw (number-so (one-result h j)) at e) in
       let z : g′ ≡ g = cc in
       one-result i (rw z at k)
   one-result (Account.chosen h e f i) (Account.condition-meets j) = worth-apart (one-result h j)
-  one-result (Account.chosen h e f i) (Account.no-arm j e′) = let a = one-result h j in absurd (let z : _≡_ {A = ℕ} 0 1 = cc in omega arith)
+  one-result (Account.chosen h e f i) (Account.no-arm j e′) = arm-apart (rw (number-so (one-result h j)) at e) e′
   one-result (Account.condition-meets h) (Account.chosen j e′ f′ k) = worth-apart (sym (one-result h j))
   one-result (Account.condition-meets h) (Account.condition-meets j) = one-result h j
   one-result (Account.condition-meets h) (Account.no-arm j e′) = worth-apart (sym (one-result h j))
-  one-result (Account.no-arm h e) (Account.chosen j e′ f′ k) = let a = one-result h j in absurd (let z : _≡_ {A = ℕ} 0 1 = cc in omega arith)
+  one-result (Account.no-arm h e) (Account.chosen j e′ f′ k) = arm-apart e′ (rw (number-so (one-result h j)) at e)
   one-result (Account.no-arm h e) (Account.condition-meets j) = worth-apart (one-result h j)
   one-result (Account.no-arm h e) (Account.no-arm j e′) = let a = one-result h j in cc
   one-result (Account.loaded e h) (Account.loaded f k) = let a = one-result h k in cc
@@ -163,23 +178,23 @@ module _ {X : Type 0} (S : Stores X) (d : Description) where
   one-course Account.return Account.return = record { executed = refl; ended = refl }
   one-course (Account.performs h) (Account.performs k) = one-course h k
   one-course {x} (Account.taken {r = r} h e f i) (Account.taken {r = r′} j e′ f′ k) = let z : r′ ≡ r = cc in one-course i (rw z at k)
-  one-course {x} (Account.taken h e f i) (Account.not-taken j e′) = let a = one-result S d x h j in absurd (let z : _≡_ {A = ℕ} 0 1 = cc in omega arith)
+  one-course {x} (Account.taken h e f i) (Account.not-taken j e′) = absurd (omega (arith, number-so (one-result S d x h j)))
   one-course {x} (Account.taken h e f i) (Account.when-meets j) = worth-apart (one-result S d x h j)
-  one-course {x} (Account.not-taken h e) (Account.taken j e′ f′ k) = let a = one-result S d x h j in absurd (let z : _≡_ {A = ℕ} 0 1 = cc in omega arith)
+  one-course {x} (Account.not-taken h e) (Account.taken j e′ f′ k) = absurd (omega (arith, number-so (one-result S d x h j)))
   one-course (Account.not-taken h e) (Account.not-taken j e′) = record { executed = refl; ended = refl }
   one-course {x} (Account.not-taken h e) (Account.when-meets j) = worth-apart (one-result S d x h j)
   one-course {x} (Account.when-meets h) (Account.taken j e′ f′ k) = worth-apart (sym (one-result S d x h j))
   one-course {x} (Account.when-meets h) (Account.not-taken j e′) = worth-apart (sym (one-result S d x h j))
   one-course {x} (Account.when-meets h) (Account.when-meets j) = nothing-more (one-result S d x h j)
-  one-course {x} (Account.chosen-arm {r = r} h e f i) (Account.chosen-arm {r = r′} j e′ f′ k) =
-      let a = one-result S d x h j in
+  one-course {x} (Account.chosen-arm {k = m} {r = r} h e f i) (Account.chosen-arm {k = m′} {r = r′} j e′ f′ k) =
+      let y : m′ ≡ m = one-arm e′ (rw (number-so (one-result S d x h j)) at e) in
       let z : r′ ≡ r = cc in
       one-course i (rw z at k)
   one-course {x} (Account.chosen-arm h e f i) (Account.choose-meets j) = worth-apart (one-result S d x h j)
-  one-course {x} (Account.chosen-arm h e f i) (Account.no-arm-for j e′) = let a = one-result S d x h j in absurd (let z : _≡_ {A = ℕ} 0 1 = cc in omega arith)
+  one-course {x} (Account.chosen-arm h e f i) (Account.no-arm-for j e′) = arm-apart (rw (number-so (one-result S d x h j)) at e) e′
   one-course {x} (Account.choose-meets h) (Account.chosen-arm j e′ f′ k) = worth-apart (sym (one-result S d x h j))
   one-course {x} (Account.choose-meets h) (Account.choose-meets j) = nothing-more (one-result S d x h j)
   one-course {x} (Account.choose-meets h) (Account.no-arm-for j e′) = worth-apart (sym (one-result S d x h j))
-  one-course {x} (Account.no-arm-for h e) (Account.chosen-arm j e′ f′ k) = let a = one-result S d x h j in absurd (let z : _≡_ {A = ℕ} 0 1 = cc in omega arith)
+  one-course {x} (Account.no-arm-for h e) (Account.chosen-arm j e′ f′ k) = arm-apart e′ (rw (number-so (one-result S d x h j)) at e)
   one-course {x} (Account.no-arm-for h e) (Account.choose-meets j) = worth-apart (one-result S d x h j)
   one-course {x} (Account.no-arm-for h e) (Account.no-arm-for j e′) = let a = one-result S d x h j in record { executed = refl; ended = cc }

@@ -5,7 +5,7 @@ use mathlib.Core.Option.{Option, none, some}
 use mathlib.Core.Path.{_≡_, refl}
 use native.Mathlib.Omega.{arith}
 use Prim.Native.Nat.{ℕ, zero, suc, _-_, _<_}
-use borrow.Author.Tests.{ltb-false, ltb-true}
+use borrow.Author.Tests.{eqb-false, eqb-true, ltb-false, ltb-true}
 use lib.Dec.{eqb, leb, ltb}
 use lib.ListN.{length}
 use Rattle.language.specs.Acting.{side, sideOf}
@@ -21,8 +21,28 @@ use Rattle.language.specs.declared.stops.Stop.{Stop}
 use Rattle.language.specs.Value as Values
 use Rattle.language.specs.Value.{Made, Value, longest, made, value}
 use Rattle.about_running.specs.Account as Account
-use Rattle.about_running.specs.Account.{Comes, Meets, Met, Result, Task, Worth, computedSubscripts, expression, lie, meets, names, naming, placeAt, reading, stopFor, subscripts, within, worth}
+use Rattle.about_running.specs.Account.{Armless, Comes, Meets, Met, Result, Takes, Task, Worth, computedSubscripts, expression, lie, meets, names, naming, placeAt, reading, stopFor, subscripts, within, worth}
 use Rattle.about_running.specs.OneAccount.{names-apart, one-result, worth-apart}
+
+-- ---- The arm that a value takes.
+
+pub arm-so : (n v m : ℕ) → armNumber n v ≡ some m → Takes n v m
+unfolding armNumber
+arm-so n v m e = go (eqb v 0) refl (ltb v n) refl e
+  where
+    go : (a : Bool) → eqb v 0 ≡ a → (b : Bool) → ltb v n ≡ b → cond a (some n) (cond b (some v) none) ≡ some m → Takes n v m
+    go true p b q k = let z : n ≡ m = cc in rw (← z, eqb-true v 0 p) Account.last-for-zero
+    go false p true q k = let z : v ≡ m = cc in rw (← z) (Account.by-number {v = v} (omega (arith, eqb-false v 0 p)) (ltb-true v n q))
+    go false p false q k = absurd (let z : _≡_ {A = ℕ} 0 1 = cc in omega arith)
+
+pub no-arm-so : (n v : ℕ) → armNumber n v ≡ none → Armless n v
+unfolding armNumber
+no-arm-so n v e = go (eqb v 0) refl (ltb v n) refl e
+  where
+    go : (a : Bool) → eqb v 0 ≡ a → (b : Bool) → ltb v n ≡ b → cond a (some n) (cond b (some v) none) ≡ none → Armless n v
+    go true p b q k = absurd (let z : _≡_ {A = ℕ} 0 1 = cc in omega arith)
+    go false p true q k = absurd (let z : _≡_ {A = ℕ} 0 1 = cc in omega arith)
+    go false p false q k = record { not-zero = omega (arith, eqb-false v 0 p); too-large = ltb-false v n q }
 
 module _ {X : Type 0} (S : Stores X) (d : Description) (x : X) where
   -- An answer as the account has it.
@@ -153,12 +173,12 @@ module _ {X : Type 0} (S : Stores X) (d : Description) (x : X) where
     part-of e (stuck s) on told-stuck next before = told-stuck
 
     chosen-told : (e a n : ℕ) (v : Value) → Worth S d x e v → (m : Option ℕ) → armNumber n (v .number) ≡ m → Told (expression (D.choice e a n)) (chosen S d x ev a n m)
-    chosen-told e a n v h none q = told-meets (Account.no-arm h q) refl
+    chosen-told e a n v h none q = told-meets (Account.no-arm h (no-arm-so n (v .number) q)) refl
     chosen-told e a n v h (some m) q = go (armBack d (n - m) a) refl
       where
         go : (g : Option ℕ) → armBack d (n - m) a ≡ g → Told (expression (D.choice e a n)) (armWorth S d x ev g)
         go none k = told-stuck
-        go (some g) k = renamed (λ r i. Account.chosen h q k i) (evs g)
+        go (some g) k = renamed (λ r i. Account.chosen h (arm-so n (v .number) m q) k i) (evs g)
 
     node-told : (n : Node) → Told (expression n) (evalNode S d x ev n)
     unfolding evalNode
