@@ -23,7 +23,7 @@ use Rattle.about_running.specs.LegalForm.{Legal, right-of}
 use Rattle.about_running.specs.NeverStuck.{legal-image, never-stuck}
 use Rattle.about_running.specs.Soundness.{bytes-fit, sound-so}
 use Rattle.about_running.specs.StopOrder as S
-use Rattle.about_running.specs.StopOrder.{FirstOutside, armless-never, first-holds, stopOf, stops-in-order}
+use Rattle.about_running.specs.StopOrder.{FirstOutside, armless-never, first-holds, first-one, stopOf, stops-in-order}
 use Rattle.about_bytes.specs.StaysSound.{Unrefused, unrefused}
 
 -- This stop is the first of 01's conditions that holds in a cycle from these bytes; or none holds.
@@ -90,6 +90,12 @@ module _ (image store record′ stimulus : List ℕ) (scratch : ℕ) (none-refus
       go (completed s r m) q = absurd (let z : _≡_ {A = ℕ} 0 1 = cc in omega arith)
       go (Outcome.stopped m) q = cc
       go (Outcome.stuck m) q = absurd (let z : _≡_ {A = ℕ} 0 1 = cc in omega arith)
+
+  -- Each stop is answered exactly when its condition is the first that holds.
+  pub stops-exactly : {n : Stop} → (cycle image store record′ stimulus scratch .answer ≡ stoppedFor n → FirstStop image store record′ stimulus (some n)) × (FirstStop image store record′ stimulus (some n) → cycle image store record′ stimulus scratch .answer ≡ stoppedFor n)
+  stops-exactly =
+      let first = stops-in-order d legal-there words kept inputs sound-words inputs-fit in
+      ((λ e. rw (stopped-step e) at first), (λ f. step-stopped (first-one first f)))
 
   -- S1, where the number is not the last: exactly when, in the order of execution, the cycle comes to a subscript that lies outside its bounds on the store that stands then.
   pub one-first : recordFrom record′ .cycle < lastCycle
