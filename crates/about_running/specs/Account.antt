@@ -89,53 +89,64 @@ pub data Result : Type 0 where
   fixes : List Place → Value → Result
   meets : Met → Result
 
+-- What record n says is to be worked out; a reference; and the facility that it is to.
+abbrev pub recordAt : Description → ℕ → Task
+recordAt d n = expression (nodeAt d n)
+
+abbrev pub to : ℕ → Subscripts → Reference
+to f s = record { facility = f; subscripts = s }
+
+abbrev pub referred : Description → Reference → Facility
+referred d r = facilityAt d (r .facility)
+
 module _ {X : Type 0} (S : Stores X) (d : Description) (x : X) where
   -- On the store x, working this out comes to that.
   pub data Comes : Task → Result → Type 0 where
+    -- A constant is worth itself.
     constant : {v : Value} → Comes (expression (D.constant v)) (worth v)
     -- The five forms of a reference.
-    reads-whole : {f : ℕ} {r : Result} → Comes (reading (record { facility = f; subscripts = whole })) r → Comes (expression (D.whole f)) r
-    reads-one : {f e : ℕ} {r : Result} → Comes (reading (record { facility = f; subscripts = R.one e })) r → Comes (expression (D.one f e)) r
-    reads-part : {f : ℕ} {b : Bounds} {r : Result} → Comes (reading (record { facility = f; subscripts = part b })) r → Comes (expression (D.part f b)) r
-    reads-two : {f e g : ℕ} {r : Result} → Comes (reading (record { facility = f; subscripts = two e g })) r → Comes (expression (D.two f e g)) r
-    reads-word-part : {f e : ℕ} {b : Bounds} {r : Result} → Comes (reading (record { facility = f; subscripts = wordPart e b })) r → Comes (expression (D.wordPart f e b)) r
+    reads-whole : {f : ℕ} {r : Result} → Comes (reading (to f whole)) r → Comes (expression (D.whole f)) r
+    reads-one : {f e : ℕ} {r : Result} → Comes (reading (to f (R.one e))) r → Comes (expression (D.one f e)) r
+    reads-part : {f : ℕ} {b : Bounds} {r : Result} → Comes (reading (to f (part b))) r → Comes (expression (D.part f b)) r
+    reads-two : {f e g : ℕ} {r : Result} → Comes (reading (to f (two e g))) r → Comes (expression (D.two f e g)) r
+    reads-word-part : {f e : ℕ} {b : Bounds} {r : Result} → Comes (reading (to f (wordPart e b))) r → Comes (expression (D.wordPart f e b)) r
     -- An operator: the left operand, then the right one.
-    binary : {k a b : ℕ} {v w u : Value} → Comes (expression (nodeAt d a)) (worth v) → Comes (expression (nodeAt d b)) (worth w) → binaryOf k v w ≡ made u → Comes (expression (D.binary k a b)) (worth u)
-    left-meets : {k a b : ℕ} {o : Met} → Comes (expression (nodeAt d a)) (meets o) → Comes (expression (D.binary k a b)) (meets o)
-    right-meets : {k a b : ℕ} {v : Value} {o : Met} → Comes (expression (nodeAt d a)) (worth v) → Comes (expression (nodeAt d b)) (meets o) → Comes (expression (D.binary k a b)) (meets o)
-    prefix : {k a : ℕ} {v u : Value} → Comes (expression (nodeAt d a)) (worth v) → prefixOf k v ≡ made u → Comes (expression (D.prefix k a)) (worth u)
-    prefix-meets : {k a : ℕ} {o : Met} → Comes (expression (nodeAt d a)) (meets o) → Comes (expression (D.prefix k a)) (meets o)
+    binary : {k a b : ℕ} {v w u : Value} → Comes (recordAt d a) (worth v) → Comes (recordAt d b) (worth w) → binaryOf k v w ≡ made u → Comes (expression (D.binary k a b)) (worth u)
+    left-meets : {k a b : ℕ} {o : Met} → Comes (recordAt d a) (meets o) → Comes (expression (D.binary k a b)) (meets o)
+    right-meets : {k a b : ℕ} {v : Value} {o : Met} → Comes (recordAt d a) (worth v) → Comes (recordAt d b) (meets o) → Comes (expression (D.binary k a b)) (meets o)
+    prefix : {k a : ℕ} {v u : Value} → Comes (recordAt d a) (worth v) → prefixOf k v ≡ made u → Comes (expression (D.prefix k a)) (worth u)
+    prefix-meets : {k a : ℕ} {o : Met} → Comes (recordAt d a) (meets o) → Comes (expression (D.prefix k a)) (meets o)
     -- HEAD, TAIL and EXT with their count.
-    cut : {k a c : ℕ} {v u : Value} → Comes (expression (nodeAt d a)) (worth v) → cutOf k v c ≡ made u → Comes (expression (D.cut k a c)) (worth u)
-    cut-meets : {k a c : ℕ} {o : Met} → Comes (expression (nodeAt d a)) (meets o) → Comes (expression (D.cut k a c)) (meets o)
+    cut : {k a c : ℕ} {v u : Value} → Comes (recordAt d a) (worth v) → cutOf k v c ≡ made u → Comes (expression (D.cut k a c)) (worth u)
+    cut-meets : {k a c : ℕ} {o : Met} → Comes (recordAt d a) (meets o) → Comes (expression (D.cut k a c)) (meets o)
     -- A conditional: its condition, and then the chosen arm alone, whatever that comes to.
-    chosen : {e a n m g : ℕ} {v : Value} {r : Result} → Comes (expression (nodeAt d e)) (worth v) → Takes n (v .number) m → armBack d (n - m) a ≡ some g
-        → Comes (expression (nodeAt d g)) r → Comes (expression (D.choice e a n)) r
-    condition-meets : {e a n : ℕ} {o : Met} → Comes (expression (nodeAt d e)) (meets o) → Comes (expression (D.choice e a n)) (meets o)
-    no-arm : {e a n : ℕ} {v : Value} → Comes (expression (nodeAt d e)) (worth v) → Armless n (v .number) → Comes (expression (D.choice e a n)) (meets (armless e n v))
+    chosen : {e a n m g : ℕ} {v : Value} {r : Result} → Comes (recordAt d e) (worth v) → Takes n (v .number) m → armBack d (n - m) a ≡ some g
+        → Comes (recordAt d g) r → Comes (expression (D.choice e a n)) r
+    condition-meets : {e a n : ℕ} {o : Met} → Comes (recordAt d e) (meets o) → Comes (expression (D.choice e a n)) (meets o)
+    no-arm : {e a n : ℕ} {v : Value} → Comes (recordAt d e) (worth v) → Armless n (v .number) → Comes (expression (D.choice e a n)) (meets (armless e n v))
     -- What a reference stands for: its place is found; what is stored is loaded; a computed terminal's expression is worked out now.
-    loaded : {r : Reference} {p : Place} → isComputed (facilityAt d (r .facility) .kind) ≡ false → Comes (naming r) (names p) → Comes (reading r) (worth (value (p .count) (S .load x p)))
-    worked : {r : Reference} {p : Place} {v : Value} → isComputed (facilityAt d (r .facility) .kind) ≡ true → Comes (naming r) (names p)
-        → Comes (expression (nodeAt d (facilityAt d (r .facility) .expression))) (worth v) → Comes (reading r) (worth (bitsAt p v))
-    worked-meets : {r : Reference} {p : Place} {o : Met} → isComputed (facilityAt d (r .facility) .kind) ≡ true → Comes (naming r) (names p)
-        → Comes (expression (nodeAt d (facilityAt d (r .facility) .expression))) (meets o) → Comes (reading r) (meets o)
+    loaded : {r : Reference} {p : Place} → isComputed (referred d r .kind) ≡ false → Comes (naming r) (names p) → Comes (reading r) (worth (value (p .count) (S .load x p)))
+    worked : {r : Reference} {p : Place} {v : Value} → isComputed (referred d r .kind) ≡ true → Comes (naming r) (names p)
+        → Comes (recordAt d (referred d r .expression)) (worth v) → Comes (reading r) (worth (bitsAt p v))
+    worked-meets : {r : Reference} {p : Place} {o : Met} → isComputed (referred d r .kind) ≡ true → Comes (naming r) (names p)
+        → Comes (recordAt d (referred d r .expression)) (meets o) → Comes (reading r) (meets o)
     place-meets : {r : Reference} {o : Met} → Comes (naming r) (meets o) → Comes (reading r) (meets o)
     -- The place: the computed subscripts in text order.
-    named : {r : Reference} {ks : List ℕ} → Comes (subscripts (computedSubscripts (facilityAt d (r .facility)) (r .subscripts))) (lie ks)
-        → Comes (naming r) (names (placeAt (r .facility) (facilityAt d (r .facility)) (r .subscripts) ks))
-    subscripts-meet : {r : Reference} {o : Met} → Comes (subscripts (computedSubscripts (facilityAt d (r .facility)) (r .subscripts))) (meets o) → Comes (naming r) (meets o)
+    named : {r : Reference} {ks : List ℕ} → Comes (subscripts (computedSubscripts (referred d r) (r .subscripts))) (lie ks)
+        → Comes (naming r) (names (placeAt (r .facility) (referred d r) (r .subscripts) ks))
+    subscripts-meet : {r : Reference} {o : Met} → Comes (subscripts (computedSubscripts (referred d r) (r .subscripts))) (meets o) → Comes (naming r) (meets o)
     all-lie : Comes (subscripts []) (lie [])
-    lies : {s : Subscript} {ss : List Subscript} {v : Value} {ks : List ℕ} → Comes (expression (nodeAt d (s .expression))) (worth v) → inBounds (s .bounds) (v .number) ≡ true
+    lies : {s : Subscript} {ss : List Subscript} {v : Value} {ks : List ℕ} → Comes (recordAt d (s .expression)) (worth v) → inBounds (s .bounds) (v .number) ≡ true
         → Comes (subscripts ss) (lie ks) → Comes (subscripts (s ∷ ss)) (lie (fromFirst (s .bounds) (v .number) ∷ ks))
     -- The subscript's own expression; the subscript itself; one of those after it.
-    within-meets : {s : Subscript} {ss : List Subscript} {o : Met} → Comes (expression (nodeAt d (s .expression))) (meets o) → Comes (subscripts (s ∷ ss)) (meets o)
-    lies-outside : {s : Subscript} {ss : List Subscript} {v : Value} → Comes (expression (nodeAt d (s .expression))) (worth v) → inBounds (s .bounds) (v .number) ≡ false
+    within-meets : {s : Subscript} {ss : List Subscript} {o : Met} → Comes (recordAt d (s .expression)) (meets o) → Comes (subscripts (s ∷ ss)) (meets o)
+    lies-outside : {s : Subscript} {ss : List Subscript} {v : Value} → Comes (recordAt d (s .expression)) (worth v) → inBounds (s .bounds) (v .number) ≡ false
         → Comes (subscripts (s ∷ ss)) (meets (outside s v))
-    later-meets : {s : Subscript} {ss : List Subscript} {v : Value} {o : Met} → Comes (expression (nodeAt d (s .expression))) (worth v) → inBounds (s .bounds) (v .number) ≡ true
+    later-meets : {s : Subscript} {ss : List Subscript} {v : Value} {o : Met} → Comes (recordAt d (s .expression)) (worth v) → inBounds (s .bounds) (v .number) ≡ true
         → Comes (subscripts ss) (meets o) → Comes (subscripts (s ∷ ss)) (meets o)
     -- A store: the left sides in text order, then the right side.
-    right-side : {e : ℕ} {v : Value} → Comes (expression (nodeAt d e)) (worth v) → Comes (sides [] e) (fixes [] v)
-    right-side-meets : {e : ℕ} {o : Met} → Comes (expression (nodeAt d e)) (meets o) → Comes (sides [] e) (meets o)
+    right-side : {e : ℕ} {v : Value} → Comes (recordAt d e) (worth v) → Comes (sides [] e) (fixes [] v)
+    right-side-meets : {e : ℕ} {o : Met} → Comes (recordAt d e) (meets o) → Comes (sides [] e) (meets o)
     left-side : {n e : ℕ} {ls : List ℕ} {r : Reference} {p : Place} {ps : List Place} {v : Value} → referenceOf (nodeAt d n) ≡ some r → Comes (naming r) (names p)
         → Comes (sides ls e) (fixes ps v) → Comes (sides (n ∷ ls) e) (fixes (p ∷ ps) v)
     left-side-meets : {n e : ℕ} {ls : List ℕ} {r : Reference} {o : Met} → referenceOf (nodeAt d n) ≡ some r → Comes (naming r) (meets o) → Comes (sides (n ∷ ls) e) (meets o)
@@ -144,10 +155,10 @@ module _ {X : Type 0} (S : Stores X) (d : Description) (x : X) where
 
   -- Record n is worth v; working it out comes first to o.
   abbrev pub Worth : ℕ → Value → Type 0
-  Worth n v = Comes (expression (nodeAt d n)) (worth v)
+  Worth n v = Comes (recordAt d n) (worth v)
 
   abbrev pub Meets : ℕ → Met → Type 0
-  Meets n o = Comes (expression (nodeAt d n)) (meets o)
+  Meets n o = Comes (recordAt d n) (meets o)
 
 -- ---- Actions.
 

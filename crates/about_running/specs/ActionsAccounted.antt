@@ -19,7 +19,7 @@ use Rattle.language.specs.Storing.{isPlain}
 use Rattle.language.specs.declared.stops.Stop.{Stop}
 use Rattle.language.specs.Value.{Value}
 use Rattle.about_running.specs.Account as Account
-use Rattle.about_running.specs.Account.{Comes, End, Executed, Executes, Meets, Met, Work, Worth, action, expression, heldBy, list, meets, names, naming, numberFor, stands, stopFor, stores, putEach, toRegister}
+use Rattle.about_running.specs.Account.{Comes, End, Executed, Executes, Meets, Met, Work, Worth, action, heldBy, list, meets, names, naming, numberFor, putEach, recordAt, stands, stopFor, stores, toRegister}
 use Rattle.about_running.specs.OneAccount.{one-course, over-apart}
 use Rattle.about_running.specs.ValuesAccounted.{Told, ToldSide, arm-so, no-arm-so, side-at, side-meets, side-stuck, side-told, told-meets, told-stuck, told-worth, value-told}
 
@@ -96,7 +96,7 @@ module _ {X : Type 0} (S : Stores X) (d : Description) where
   side-run n (Located.stops m) on (side-meets {r = r} {o = o} q h e) next before = told-stopped [] (before r o q h) e
   side-run n (Located.stuck s) on side-stuck next before = told-nothing
 
-  value-run : {w : Work} {c : Doing X} (n : ℕ) (a : Answer) (on : Value → Ran X) → Told S d (c .store) (expression (nodeAt d n)) a
+  value-run : {w : Work} {c : Doing X} (n : ℕ) (a : Answer) (on : Value → Ran X) → Told S d (c .store) (recordAt d n) a
       → ((v : Value) → Worth S d (c .store) n v → ToldRun w c (on v))
       → ((o : Met) → Meets S d (c .store) n o → Executes S d (c .store) w [] (Account.met o))
       → ToldRun w c (onValue a on)

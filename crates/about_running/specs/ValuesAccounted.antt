@@ -21,7 +21,7 @@ use Rattle.language.specs.declared.stops.Stop.{Stop}
 use Rattle.language.specs.Value as Values
 use Rattle.language.specs.Value.{Made, Value, longest, made, value}
 use Rattle.about_running.specs.Account as Account
-use Rattle.about_running.specs.Account.{Armless, Comes, Meets, Met, Result, Takes, Task, Worth, computedSubscripts, expression, lie, meets, names, naming, placeAt, reading, stopFor, subscripts, within, worth}
+use Rattle.about_running.specs.Account.{Armless, Comes, Meets, Met, Result, Takes, Task, Worth, computedSubscripts, expression, lie, meets, names, naming, placeAt, reading, recordAt, stopFor, subscripts, within, worth}
 use Rattle.about_running.specs.OneAccount.{names-apart, one-result, worth-apart}
 
 -- ---- The arm that a value takes.
@@ -70,7 +70,7 @@ module _ {X : Type 0} (S : Stores X) (d : Description) (x : X) where
   part-told b y on h = either-at (both (inBounds b (y .first)) (both (inBounds b (y .last)) (sameDirection b y))) _ (Located.stuck outside) h told-stuck-at
 
   -- A subscript comes first to what its expression meets, or is outside itself, or goes on.
-  subscript-told : {t : Task} (e : ℕ) (b : Bounds) (a : Answer) (on : ℕ → Located) → Told (expression (nodeAt d e)) a
+  subscript-told : {t : Task} (e : ℕ) (b : Bounds) (a : Answer) (on : ℕ → Located) → Told (recordAt d e) a
       → ((v : Value) → Worth S d x e v → inBounds b (v .number) ≡ true → ToldAt t (on (fromFirst b (v .number))))
       → ((v : Value) → Worth S d x e v → inBounds b (v .number) ≡ false → Comes S d x t (meets (Account.outside (within e b) v)))
       → ((o : Met) → Meets S d x e o → Comes S d x t (meets o))
@@ -88,7 +88,7 @@ module _ {X : Type 0} (S : Stores X) (d : Description) (x : X) where
       → placeAt (r .facility) (facilityAt d (r .facility)) (r .subscripts) ks ≡ p → Comes S d x (naming r) (names p)
   named-as h e = rw (← e) (Account.named h)
 
-  module _ (ev : ℕ → Answer) (evs : (a : ℕ) → Told (expression (nodeAt d a)) (ev a)) where
+  module _ (ev : ℕ → Answer) (evs : (a : ℕ) → Told (recordAt d a) (ev a)) where
     located-told : (n : ℕ) (s : Subscripts) → ToldAt (naming (record { facility = n; subscripts = s })) (located ev n (facilityAt d n) s)
     unfolding located computedSubscripts placeAt
     located-told n whole = narrow-told _ (named-as Account.all-lie refl)
@@ -143,7 +143,7 @@ module _ {X : Type 0} (S : Stores X) (d : Description) (x : X) where
         taken q v k true = told-worth (Account.worked q h k)
         taken q v k false = told-stuck
 
-        worked : isComputed (f .kind) ≡ true → (a : Answer) → Told (expression (nodeAt d (f .expression))) a → Told (reading r) (after a (partOfValue S d x f p))
+        worked : isComputed (f .kind) ≡ true → (a : Answer) → Told (recordAt d (f .expression)) a → Told (reading r) (after a (partOfValue S d x f p))
         worked q (is v) (told-worth k) = taken q v k (eqb (v .length) (wordLength f))
         worked q (stops n) (told-meets k e) = told-meets (Account.worked-meets q h k) e
         worked q (stuck s) told-stuck = told-stuck
@@ -167,7 +167,7 @@ module _ {X : Type 0} (S : Stores X) (d : Description) (x : X) where
     made-told s Values.none h = told-stuck
 
     -- What goes on with the value of a part.
-    part-of : {t : Task} (e : ℕ) (a : Answer) (on : Value → Answer) → Told (expression (nodeAt d e)) a → ((v : Value) → Worth S d x e v → Told t (on v)) → ((o : Met) → Meets S d x e o → Comes S d x t (meets o)) → Told t (after a on)
+    part-of : {t : Task} (e : ℕ) (a : Answer) (on : Value → Answer) → Told (recordAt d e) a → ((v : Value) → Worth S d x e v → Told t (on v)) → ((o : Met) → Meets S d x e o → Comes S d x t (meets o)) → Told t (after a on)
     part-of e (is v) on (told-worth h) next before = next v h
     part-of e (stops n) on (told-meets {o = o} h q) next before = told-meets (before o h) q
     part-of e (stuck s) on told-stuck next before = told-stuck
@@ -200,21 +200,21 @@ module _ {X : Type 0} (S : Stores X) (d : Description) (x : X) where
     node-told (D.choice e a n) = part-of e (ev e) _ (evs e) (λ v h. chosen-told e a n v h (armNumber n (v .number)) refl) (λ o h. Account.condition-meets h)
     node-told D.Node.broken = told-stuck
 
-  below-step : (n : ℕ) → ((m : ℕ) → m < n → (a : ℕ) → Told (expression (nodeAt d a)) (evalBelow S d x m a)) → (a : ℕ) → Told (expression (nodeAt d a)) (evalBelow S d x n a)
+  below-step : (n : ℕ) → ((m : ℕ) → m < n → (a : ℕ) → Told (recordAt d a) (evalBelow S d x m a)) → (a : ℕ) → Told (recordAt d a) (evalBelow S d x n a)
   unfolding evalBelow
   below-step n ih a = go (ltb a n) refl
     where
-      go : (b : Bool) → ltb a n ≡ b → Told (expression (nodeAt d a)) (evalBelow S d x n a)
+      go : (b : Bool) → ltb a n ≡ b → Told (recordAt d a) (evalBelow S d x n a)
       go true q =
           let l : a < n = ltb-true a n q in
           rw (below-lt (stuck notBefore) (evalStep S d x) n a l) (node-told (evalBelow S d x a) (ih a l) (nodeAt d a))
       go false q = rw (below-ge (stuck notBefore) (evalStep S d x) n a (ltb-false a n q)) told-stuck
 
-  below-under : (k n : ℕ) → n < k → (a : ℕ) → Told (expression (nodeAt d a)) (evalBelow S d x n a)
+  below-under : (k n : ℕ) → n < k → (a : ℕ) → Told (recordAt d a) (evalBelow S d x n a)
   below-under zero n h a = absurd (omega arith)
   below-under (suc k) n h a = below-step n (λ m l b. below-under k m (omega arith) b) a
 
-  pub value-told : (n : ℕ) → Told (expression (nodeAt d n)) (evalAt S d x n)
+  pub value-told : (n : ℕ) → Told (recordAt d n) (evalAt S d x n)
   unfolding evalAt
   value-told n = node-told (evalBelow S d x n) (below-under (suc n) n (omega arith)) (nodeAt d n)
 
@@ -251,13 +251,13 @@ module _ {X : Type 0} (S : Stores X) (d : Description) (x : X) (n : ℕ) where
   pub worth-of : {v : Value} → evalAt S d x n ≡ is v → Worth S d x n v
   worth-of {v} e = go (rw e at (value-told S d x n))
     where
-      go : Told S d x (expression (nodeAt d n)) (is v) → Worth S d x n v
+      go : Told S d x (recordAt d n) (is v) → Worth S d x n v
       go (told-worth h) = h
 
   pub is-worth : {v : Value} → Worth S d x n v → Unstuck (evalAt S d x n) → evalAt S d x n ≡ is v
   is-worth {v} h free = go (evalAt S d x n) (value-told S d x n) free
     where
-      go : (a : Answer) → Told S d x (expression (nodeAt d n)) a → Unstuck a → a ≡ is v
+      go : (a : Answer) → Told S d x (recordAt d n) a → Unstuck a → a ≡ is v
       go (is w) (told-worth k) f = let e = one-result S d x h k in cc
       go (stops m) (told-meets k q) f = worth-apart (one-result S d x h k)
       go (stuck s) told-stuck f = absurd (f s refl)
@@ -266,13 +266,13 @@ module _ {X : Type 0} (S : Stores X) (d : Description) (x : X) (n : ℕ) where
   pub meets-of : {m : Stop} → evalAt S d x n ≡ stops m → (o : Met) × (Meets S d x n o × (stopFor o ≡ m))
   meets-of {m} e = go (rw e at (value-told S d x n))
     where
-      go : Told S d x (expression (nodeAt d n)) (stops m) → (o : Met) × (Meets S d x n o × (stopFor o ≡ m))
+      go : Told S d x (recordAt d n) (stops m) → (o : Met) × (Meets S d x n o × (stopFor o ≡ m))
       go (told-meets {o = o} h q) = (o, (h, q))
 
   pub stops-met : {o : Met} → Meets S d x n o → Unstuck (evalAt S d x n) → evalAt S d x n ≡ stops (stopFor o)
   stops-met {o} h free = go (evalAt S d x n) (value-told S d x n) free
     where
-      go : (a : Answer) → Told S d x (expression (nodeAt d n)) a → Unstuck a → a ≡ stops (stopFor o)
+      go : (a : Answer) → Told S d x (recordAt d n) a → Unstuck a → a ≡ stops (stopFor o)
       go (is w) (told-worth k) f = worth-apart (one-result S d x k h)
       go (stops m) (told-meets k q) f = let e = one-result S d x h k in cc
       go (stuck s) told-stuck f = absurd (f s refl)
