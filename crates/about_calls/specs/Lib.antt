@@ -3,7 +3,6 @@
 pub mod PlainTexts
 pub mod PassesExactly
 -- ---- A cycle that is not refused completes, or stops for the first of 01's conditions that holds.
-pub mod OutsideMet
 pub mod StopsFirst
 pub mod EachCycle
 -- ---- Every expression has the length worked out before, and no part is longer than what it is a part of.
