@@ -15,7 +15,8 @@ use Rattle.language.specs.Store.{zeroWords}
 use Rattle.language.specs.Tree.{register, sequencing}
 use Rattle.language.specs.Value.{value}
 use Rattle.about_running.specs.Account as Account
-use Rattle.about_running.specs.Account.{End, Executed, numberFor, outside, within}
+use Rattle.about_running.specs.Account.{End, Executed, Met, numberFor, outside, within}
+use Rattle.about_running.specs.OneAccount.{one-course, over-apart}
 use Rattle.about_running.specs.Conditions.{Cycle, anyOf, heldAfter, howMany, plainGiven}
 
 -- ---- REGISTER A[4], I[3], B. One operation, X; one state, P, which carries it out and stays.
@@ -60,6 +61,10 @@ unchosen-runs =
     (Account.store (Account.left-side refl (Account.named Account.all-lie) (Account.right-side (Account.chosen (Account.reads-whole (Account.loaded refl (Account.named Account.all-lie))) Account.last-for-zero refl Account.constant))))
     Account.nothing))
     (Account.one-by-one {es = Account.goes 0 ∷ []} {fs = []} Account.goto Account.nothing)
+
+-- So no subscript is met.
+unchosen-none : {es : List Executed} {o : Met} → First unchosen es (Account.met o) → ⊥
+unchosen-none h = over-apart (one-course _ _ unchosen-runs h .ended)
 
 -- ---- Of two subscripts outside their bounds the left side's is met.
 
