@@ -12,6 +12,14 @@ pub mod LongIsFine
 pub mod FineIsLong
 pub mod LengthsJudged
 pub mod LengthExamples
+-- ---- Which lists of actions keep the rules, by a relation of its own.
+pub mod ActionsRight
+pub mod LeftSides
+pub mod RightIsFine
+pub mod FineIsRight
+pub mod ActionsJudged
+pub mod LengthsWhole
+pub mod ActionExamples
 -- ---- What the grammar and the words give a tree.
 pub mod Tidy
 pub mod TidyTexts

@@ -31,6 +31,11 @@ pub most-bits : longest ≡ mostBits
 unfolding longest
 most-bits = refl
 
+-- A conditional of as many arms as its condition selects.
+pub selects-so : (l : ℕ) → l ≤ mostCaseBits → selects l (2 ^ l) ≡ true
+unfolding selects longestSelector
+selects-so l h = both-so _ _ (le-leb l longestSelector h) (eq-eqb (2 ^ l) (2 ^ l) refl)
+
 module _ (d : Description) (p : Places) where
   -- The record n, judged where the first `known` facilities may be named.
   abbrev pub judged : ℕ → ℕ → Judged
@@ -112,11 +117,6 @@ module _ (d : Description) (p : Places) where
           work = ownWork + i .work;
           same = rw (e .0) (fine-given _ (λ v. sized (nodePlace p n .at) (cutLengthOf k (v .length) c) (ownWork + v .work)) (part-fine _ (e .1) i) (rw o (sized-fine _ r _ h m)));
         }
-
-    -- A conditional of as many arms as its condition selects.
-    selects-so : (l : ℕ) → l ≤ mostCaseBits → selects l (2 ^ l) ≡ true
-    unfolding selects longestSelector
-    selects-so l h = both-so _ _ (le-leb l longestSelector h) (eq-eqb (2 ^ l) (2 ^ l) refl)
 
     choice-fine : {e a l m : ℕ} → nodeAt d n ≡ D.choice e a (2 ^ l) → e < n → a < n → l ≤ mostCaseBits → Judges known e 0 l → Judges known a (2 ^ l) m → Judges known n 0 m
     unfolding judgeAt judgeNode
