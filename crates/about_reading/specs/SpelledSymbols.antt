@@ -12,7 +12,7 @@ use lib.Seq.{take-append-seam}
 use Rattle.language.specs.Characters.{classOf, symbolClass}
 use Rattle.language.specs.Scan as Scan
 use Rattle.language.specs.Scan.{Item, bytes, same, spelledSymbols, symbolAmong}
-use Rattle.about_reading.specs.SpelledBytes.{no}
+use Rattle.about_grammar.specs.Stacks.{false-true as no}
 use Rattle.about_reading.specs.Spelling.{Begins, Listed, here, later, symbols}
 
 pub same-so : (s t : List ℕ) → same s t ≡ true → s ≡ t

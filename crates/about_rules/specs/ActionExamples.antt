@@ -59,11 +59,11 @@ p-named = H.stored {known = 2} {f = 1} (omega arith) refl
 
 a-4 : Has acting 0 4
 unfolding facilityAt nodeAt
-a-4 = H.whole {f = 0} refl (omega arith) a-named (omega arith) (omega arith)
+a-4 = H.whole {f = 0} refl (omega arith) a-named (omega arith)
 
 p-1 : Has acting 3 1
 unfolding facilityAt nodeAt
-p-1 = H.whole {f = 1} refl (omega arith) p-named (omega arith) (omega arith)
+p-1 = H.whole {f = 1} refl (omega arith) p-named (omega arith)
 
 nine-4 : Has acting 1 4
 unfolding nodeAt

@@ -21,6 +21,7 @@ use Rattle.language.specs.Storing.{isPlain, mayStore}
 use Rattle.language.specs.Tree as T
 use Rattle.language.specs.Tree.{Kind, plain}
 use Rattle.language.specs.Words.{Position}
+use Rattle.about_running.specs.InBounds.{no}
 use Rattle.about_running.specs.Judged.{append-none-left, append-none-right, both-fine, clean-fine, faulty-fine, given-fine, unless-none}
 use Rattle.about_running.specs.LegalForm.{left-of as both-left, right-of as both-right}
 use Rattle.about_running.specs.Operators.{by-kind}
@@ -30,9 +31,6 @@ use Rattle.about_rules.specs.FineIsLong.{selected}
 use Rattle.about_rules.specs.LeftSides.{fine-left, kind-of}
 use Rattle.about_rules.specs.LengthsJudged.{fine-long, worth-same}
 use Rattle.about_rules.specs.RightIsFine.{arms-step, judgedRun, list-step, operation-lt, run-lt, works}
-
-no : {A : Type 0} → false ≡ true → A
-no e = absurd (let z : _≡_ {A = ℕ} 0 1 = cc in omega arith)
 
 -- ---- Which store goes where.
 

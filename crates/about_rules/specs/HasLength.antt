@@ -119,7 +119,7 @@ pub data Long (d : Description) : ℕ → Notion → ℕ → ℕ → Type 0 wher
   next : {known n a e c l : ℕ} → nodeAt d n ≡ D.nextArm a e → a < n → e < n → Long d known (arms c) a l → Long d known expression e l → Long d known (arms (c + 1)) n l
   -- "a whole facility of at most one dimension"
   whole : {known n f l : ℕ} → nodeAt d n ≡ D.whole f → facilityAt d f .dimensions ≤ 1 → Long d known facility f l
-      → 1 ≤ l → l ≤ mostBits → Long d known expression n l
+      → l ≤ mostBits → Long d known expression n l
   -- "one bit X[e]"
   bit : {known n f e l m : ℕ} → nodeAt d n ≡ D.one f e → e < n → facilityAt d f .dimensions ≡ 1 → Long d known facility f l
       → Long d known expression e m → Subscript d (facilityAt d f .bits) e → Long d known expression n 1
@@ -128,7 +128,7 @@ pub data Long (d : Description) : ℕ → Notion → ℕ → ℕ → Type 0 wher
       → Part (facilityAt d f .bits) x m → m ≤ mostBits → Long d known expression n m
   -- "of two dimensions a word R[e]"
   word : {known n f e l m : ℕ} → nodeAt d n ≡ D.one f e → e < n → facilityAt d f .dimensions ≡ 2 → Long d known facility f l
-      → Long d known expression e m → Subscript d (facilityAt d f .words) e → 1 ≤ l → l ≤ mostBits → Long d known expression n l
+      → Long d known expression e m → Subscript d (facilityAt d f .words) e → l ≤ mostBits → Long d known expression n l
   -- "a bit R[e,e]"
   word-bit : {known n f e g l m o : ℕ} → nodeAt d n ≡ D.two f e g → e < n → g < n → facilityAt d f .dimensions ≡ 2 → Long d known facility f l
       → Long d known expression e m → Subscript d (facilityAt d f .words) e

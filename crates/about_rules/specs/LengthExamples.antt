@@ -70,7 +70,7 @@ m-named = H.stored {known = 3} {f = 1} (omega arith) refl
 
 a-4 : (k : ℕ) → HasLength sample (suc k) 0 4
 unfolding facilityAt nodeAt
-a-4 k = H.whole {f = 0} refl (omega arith) (a-named k) (omega arith) (omega arith)
+a-4 k = H.whole {f = 0} refl (omega arith) (a-named k) (omega arith)
 
 nine-4 : {known : ℕ} → HasLength sample known 1 4
 unfolding nodeAt
@@ -86,7 +86,7 @@ t-named = H.computed {known = 3} {f = 2} (omega arith) refl sum-5
 
 t-5 : Has 3 5
 unfolding facilityAt nodeAt
-t-5 = H.whole {f = 2} refl (omega arith) t-named (omega arith) (omega arith)
+t-5 = H.whole {f = 2} refl (omega arith) t-named (omega arith)
 
 -- M[3] is a word of eight bits, M[3,5:2] four of them.
 three-16 : Has 4 16
@@ -99,7 +99,7 @@ three-in v e = let z : v ≡ value 16 3 = cc in rw z (H.Within.rising (omega ari
 
 word-8 : Has 5 8
 unfolding facilityAt nodeAt
-word-8 = H.word {n = 5} {f = 1} {e = 4} refl (omega arith) refl m-named three-16 three-in (omega arith) (omega arith)
+word-8 = H.word {n = 5} {f = 1} {e = 4} refl (omega arith) refl m-named three-16 three-in (omega arith)
 
 word-part-4 : Has 6 4
 unfolding facilityAt nodeAt

@@ -1,4 +1,4 @@
--- What a legal text gives is in legal form. Read LegalTexts; the rest leads to it.
+-- What a legal text gives is in legal form: read LegalTexts. The rules of lengths agree with 01's sentences: read HasLength and ActionsRight, then LengthsJudged, ActionsJudged and LengthsWhole. The rest leads to these.
 
 -- ---- Faults come and go whatever their places.
 pub mod Alike

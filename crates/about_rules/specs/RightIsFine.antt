@@ -16,10 +16,12 @@ use Rattle.language.specs.Recursion.{below-lt}
 use Rattle.language.specs.declared.refusals.Refusal.the-variants.{BadLength, BadStore, NoContinuation}
 use Rattle.language.specs.Storing.{isPlain, mayStore}
 use Rattle.language.specs.Tree.{Kind, plain}
+use Rattle.language.specs.Words.{Position}
 use Rattle.about_rules.specs.ActionsRight as A
 use Rattle.about_rules.specs.ActionsRight.{Has, ListOf, Right, Side, StoresTo}
+use Rattle.about_rules.specs.Declared.{both-so}
 use Rattle.about_rules.specs.HasLength.{mostCaseBits}
-use Rattle.about_rules.specs.JudgedFine.{both-so, fine-both, fine-clean, fine-given, none-append, none-unless}
+use Rattle.about_rules.specs.JudgedFine.{fine-both, fine-clean, fine-given, none-append, none-unless}
 use Rattle.about_rules.specs.LeftSides.{kind-of, left-fine}
 use Rattle.about_rules.specs.LengthsJudged.{has-length}
 use Rattle.about_rules.specs.LongIsFine.{selects-so}
@@ -91,7 +93,7 @@ module _ (d : Description) (p : Places) where
 
   -- ---- Stores.
 
-  stored-fine : (s : Bool) (known l : ℕ) (allowed : Bool) (at : _) (u v : ℕ) → allowed ≡ true
+  stored-fine : (s : Bool) (known l : ℕ) (allowed : Bool) (at : Position) (u v : ℕ) → allowed ≡ true
       → stored d p s (works known) allowed at (record { length = l; arms = 0; work = u }) (record { length = l; arms = 0; work = v }) ≡ worth 1 0 (ownWork + u + v)
   stored-fine s known l allowed at u v h = fine-clean _ _ (none-append _ _ (none-unless _ _ _ (eq-eqb l l refl)) (none-unless _ _ _ h)) refl
 
@@ -123,7 +125,7 @@ module _ (d : Description) (p : Places) where
         let w = left-fine d p all b (h .0) (h .1) in
         let v = right-fine c r in
         let may : both (mayStore k (kindAt d a)) (mayStore k (kindAt d b)) ≡ true =
-        both-so (mayStore k (kindAt d a)) (mayStore k (kindAt d b)) (rw (kind-of d p all a (e .0)) (may-store t)) (rw (kind-of d p all b (h .0)) (may-store o)) in
+        both-so {a = mayStore k (kindAt d a)} {b = mayStore k (kindAt d b)} (rw (kind-of d p all a (e .0)) (may-store t)) (rw (kind-of d p all b (h .0)) (may-store o)) in
         let sides : AR.sides d p false (works known) a b ≡ worth (l + m) 0 (u .0 + w .0) =
         fine-both _ _ (λ (v w : Worth). worth (v .length + w .length) 0 (v .work + w .work)) (u .1) (w .1) refl in (
           ownWork + (u .0 + w .0) + v .0,
@@ -145,7 +147,7 @@ module _ (d : Description) (p : Places) where
         let e : works known o ≡ worth 1 0 (r .work) = operation-lt known o h ∙ operation-so o k r in
         (ownWork + r .work, rw q (fine-given _ (λ (v : Worth). worth 1 0 (ownWork + v .work)) e refl))
 
-    named-so : (t : ℕ) (at : _) → 1 ≤ length (stateAt d t .name) → AR.toState d p true (works known) at t ≡ worth 1 0 ownWork
+    named-so : (t : ℕ) (at : Position) → 1 ≤ length (stateAt d t .name) → AR.toState d p true (works known) at t ≡ worth 1 0 ownWork
     named-so t at h = rw (lt-ltb 0 (length (stateAt d t .name)) h)
 
     simple-goto : {t : ℕ} → actionAt d i ≡ D.goto t → 1 ≤ length (stateAt d t .name) → Simple true
@@ -197,7 +199,7 @@ module _ (d : Description) (p : Places) where
         → Fine s known A.actions (i + 1 + m) n → Fine s known A.actions i (m + n + 1)
     unfolding listJudged
     choose-fine {c} {l} q h b r f =
-        let t = conditional-fine c l (2 ^ l) (λ v w. both (selects (v .length) (2 ^ l)) (eqb (w .arms) (2 ^ l))) h r (λ u v. both-so _ _ (selects-so l b) (eq-eqb (2 ^ l) (2 ^ l) refl)) in
+        let t = conditional-fine c l (2 ^ l) (λ v w. both (selects (v .length) (2 ^ l)) (eqb (w .arms) (2 ^ l))) h r (λ u v. both-so (selects-so l b) (eq-eqb (2 ^ l) (2 ^ l) refl)) in
         let o = hold-fine _ (t .1) f in
         record { work = o .0; same = list-step s known (m + n) i ∙ (ap (λ (x : Action). listJudged d p s (works known) within (m + n) i x) q ∙ o .1) }
 
@@ -205,7 +207,7 @@ module _ (d : Description) (p : Places) where
     unfolding armsJudged
     arm-fine {c} q h r f =
         let z : m + n - m ≡ n = omega arith in
-        let t : both (leb 1 m) (leb m (m + n)) ≡ true = both-so (leb 1 m) (leb m (m + n)) (le-leb 1 m h) (le-leb m (m + n) (omega arith)) in
+        let t : both (leb 1 m) (leb m (m + n)) ≡ true = both-so (le-leb 1 m h) (le-leb m (m + n) (omega arith)) in
         let e : AR.armAfter d p s (works known) within (m + n) i m ≡ worth 1 (c + 1) (r .work + f .work) =
         rw (t, z) (fine-both _ _ (λ (v w : Worth). worth 1 (w .arms + 1) (v .work + w .work))
         (run-lt s known (m + n + 1) m (i + 1) AR.actions (omega arith) ∙ r .same)
