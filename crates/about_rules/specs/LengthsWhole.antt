@@ -188,6 +188,10 @@ module _ (d : Description) (p : Places) where
   neither nothing k = refl
   neither (more h a) (more g b) = absurd (g h)
 
+  -- A description without fault has all lengths right, whatever the places.
+  pub faultless-right : faults d p ≡ [] → LengthsRight d
+  faultless-right e = none-right d (faultless-anywhere d p noPlaces e)
+
   -- Where every fault is of refusal 7, there is none exactly when all lengths are right.
   pub lengths-right : Every OfLength (faults d p) → (faults d p ≡ []) ↔ LengthsRight d
-  lengths-right h = (λ e. none-right d (faultless-anywhere d p noPlaces e), λ r. neither h (no-seven r))
+  lengths-right h = (faultless-right, λ r. neither h (no-seven r))
