@@ -132,7 +132,7 @@ some-span b = go (leb (b .first) (b .last))
     go true = omega arith
     go false = omega arith
 
-some-length : (f : Facility) → 0 < wordLength f
+pub some-length : (f : Facility) → 0 < wordLength f
 unfolding wordLength
 some-length f = go (eqb (f .dimensions) 0)
   where
