@@ -60,10 +60,12 @@ pub data Right (d : Description) : Bool → ℕ → ListOf → ℕ → ℕ → T
   goto : {known i n t : ℕ} → actionAt d i ≡ D.goto t → 1 ≤ length (stateAt d t .name) → Right d true known actions (i + 1) n → Right d true known actions i (n + 1)
   call : {known i n t : ℕ} → actionAt d i ≡ D.call t → 1 ≤ length (stateAt d t .name) → Right d true known actions (i + 1) n → Right d true known actions i (n + 1)
   return : {known i n : ℕ} → actionAt d i ≡ D.return → Right d true known actions (i + 1) n → Right d true known actions i (n + 1)
-  -- "IF takes 1 bit": one arm, of m records, where there is no ELSE.
+  -- "IF takes 1 bit": one arm where there is no ELSE, and else two, of m records together.
   when : {s : Bool} {known i n m c : ℕ} → actionAt d i ≡ D.when c m → Has d c 1
       → Right d s known (arms 1) (i + 1) m → Right d s known actions (i + 1 + m) n → Right d s known actions i (m + n + 1)
-  -- "CASE takes up to 6 bits and exactly 2-to-the-length arms", and IF with ELSE two.
+  when-else : {s : Bool} {known i n m c : ℕ} → actionAt d i ≡ D.choose c 2 m → Has d c 1
+      → Right d s known (arms 2) (i + 1) m → Right d s known actions (i + 1 + m) n → Right d s known actions i (m + n + 1)
+  -- "CASE takes up to 6 bits and exactly 2-to-the-length arms"
   choose : {s : Bool} {known i n m c l : ℕ} → actionAt d i ≡ D.choose c (2 ^ l) m → Has d c l → l ≤ mostCaseBits
       → Right d s known (arms (2 ^ l)) (i + 1) m → Right d s known actions (i + 1 + m) n → Right d s known actions i (m + n + 1)
   -- An arm has at least one action.

@@ -239,7 +239,7 @@ module _ (d : Description) (p : Places) (known : ℕ)
             let z = sized-fine _ r _ e′ in
             let t = selected l c (both-left _ _ s) in
             let u : m ≡ 2 ^ l = eqb-true m c (both-right (selects l c) _ s) ∙ t .1 in
-            sized-says z (H.choice (subst (λ (x : ℕ). nodeAt d n ≡ D.choice a b x) (t .1) q) h k i (t .0) (rw (← u) (j (z .some))))
+            sized-says z (H.case (subst (λ (x : ℕ). nodeAt d n ≡ D.choice a b x) (t .1) q) h k i (t .0) (rw (← u) (j (z .some))))
 
     -- ---- References.
 

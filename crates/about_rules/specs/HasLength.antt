@@ -111,8 +111,11 @@ pub data Long (d : Description) : ℕ → Notion → ℕ → ℕ → Type 0 wher
   reduced : {known n k a l : ℕ} → Logical k → Prefix d n k a → Long d known expression a l → Long d known expression n 1
   -- "but (+) RED gives the number of one bits, as a 16-bit value"
   counted : {known n a l : ℕ} → Prefix d n sumSign a → Long d known expression a l → Long d known expression n countBits
-  -- "IF takes 1 bit" for its two arms; "CASE takes up to 6 bits and exactly 2-to-the-length arms"
-  choice : {known n e a l m : ℕ} → nodeAt d n ≡ D.choice e a (2 ^ l) → e < n → a < n → Long d known expression e l → l ≤ mostCaseBits
+  -- "IF takes 1 bit", and has two arms in an expression
+  if-else : {known n e a m : ℕ} → nodeAt d n ≡ D.choice e a 2 → e < n → a < n → Long d known expression e 1
+      → Long d known (arms 2) a m → Long d known expression n m
+  -- "CASE takes up to 6 bits and exactly 2-to-the-length arms"
+  case : {known n e a l m : ℕ} → nodeAt d n ≡ D.choice e a (2 ^ l) → e < n → a < n → Long d known expression e l → l ≤ mostCaseBits
       → Long d known (arms (2 ^ l)) a m → Long d known expression n m
   -- "the arms of a conditional expression are equally long"
   first : {known n e l : ℕ} → nodeAt d n ≡ D.firstArm e → e < n → Long d known expression e l → Long d known (arms 1) n l

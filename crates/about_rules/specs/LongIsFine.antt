@@ -345,7 +345,8 @@ module _ (d : Description) (p : Places) where
   long-is-fine {known} {n} (H.substring r e a h m) = let i = long-is-fine a in cut-fine known n _ _ e i (substring-length r _ _ m) h (omega (arith, i .most))
   long-is-fine {known} {n} (H.reduced r e a) = prefix-fine known n _ e (long-is-fine a) (reduced-length r _) (omega arith) (omega arith)
   long-is-fine {known} {n} (H.counted e a) = prefix-fine known n _ e (long-is-fine a) refl (omega arith) (omega arith)
-  long-is-fine {known} {n} (H.choice q h k e m a) = choice-fine known n q h k m (long-is-fine e) (long-is-fine a .1)
+  long-is-fine {known} {n} (H.if-else q h k e a) = choice-fine known n {l = 1} q h k (omega arith) (long-is-fine e) (long-is-fine a .1)
+  long-is-fine {known} {n} (H.case q h k e m a) = choice-fine known n q h k m (long-is-fine e) (long-is-fine a .1)
   long-is-fine {known} {n} (H.first q h e) = (omega arith, first-fine known n q h (long-is-fine e))
   long-is-fine {known} {n} (H.next q h k a e) = let i = long-is-fine a in (omega arith, next-fine known n q h k (i .0) (i .1) (long-is-fine e))
   long-is-fine {known} {n} (H.whole q h f m) = whole-fine known n q h (long-is-fine f) m

@@ -228,6 +228,7 @@ module _ (d : Description) (p : Places) where
   right-is-fine (A.call {known} {i} {n} q h r) = plain-fine true known i n q refl (simple-call known i q h .1) (right-is-fine r)
   right-is-fine (A.return {known} {i} {n} q r) = plain-fine true known i n q refl (simple-return known i q .1) (right-is-fine r)
   right-is-fine (A.when {s} {known} {i} {n} {m} q h a r) = when-fine s known i m n q h (right-is-fine a) (right-is-fine r)
+  right-is-fine (A.when-else {s} {known} {i} {n} {m} q h a r) = choose-fine s known i m n {l = 1} q h (omega arith) (right-is-fine a) (right-is-fine r)
   right-is-fine (A.choose {s} {known} {i} {n} {m} q h b a r) = choose-fine s known i m n q h b (right-is-fine a) (right-is-fine r)
   right-is-fine A.no-arms = record { work = 0; same = refl }
   right-is-fine (A.arm {s} {known} {i} {n} {m} q h a r) = arm-fine s known i m n q h (right-is-fine a) (right-is-fine r)
