@@ -11,11 +11,11 @@ use Rattle.language.specs.Acting.{Doing, Ran, runActions, went}
 use Rattle.language.specs.Description.{Description, Facility, facilityAt, noFacility, sequencingOf, stateAt}
 use Rattle.language.specs.Meaning.{Stores, Write, noState}
 use Rattle.language.specs.Step.{Outcome, Record, afterActions, completed, entered, finished, landed, lastCycle, nextRecord, nothingDone, orStopped, setRegister, stateCount, stateNumber, step, stopAfter}
-use Rattle.language.specs.Store.{Held, Words, begin, begun, headOf, held, isInput, landAll, loadPart, numbers, putPart, wordOf, setWord}
+use Rattle.language.specs.Store.{Held, Words, begin, begun, headOf, held, isInput, landAll, loadPart, numbers, putPart, putParts, wordOf, setWord}
 use Rattle.language.specs.Tree.{Kind, computed, input, memory, plain, register, sequencing}
-use Rattle.about_running.specs.BitsKept.{NoneHas, NoneHasAny, bitOf, land-keeps, other-facility, put-keeps}
+use Rattle.about_running.specs.BitsKept.{NoneHas, NoneHasAny, bitOf, land-keeps, other-facility, puts-keep}
 use Rattle.about_running.specs.SameActions as Actions
-use Rattle.about_running.specs.SameActions.{Joins}
+use Rattle.about_running.specs.SameActions.{AllStored, Joins}
 use Rattle.about_running.specs.SameRuns.{Alike, actions-alike}
 use Rattle.language.specs.declared.stops.Stop.{Stop}
 use Rattle.language.specs.declared.stops.Stop.the-variants.{LastCycleReached}
@@ -33,25 +33,61 @@ noting d = record {
   delay = λ x g. record { store = held (x .store .words) (x .store .waits ++ g ∷ []); writes = x .writes };
 }
 
-none-of : (d : Description) (f w k : ℕ) (xs ys : List Write) → NoneHas d f w k (xs ++ ys) → NoneHas d f w k xs × NoneHas d f w k ys
-none-of d f w k [] ys h = (tt, h)
-none-of d f w k (x ∷ xs) ys h = let y = none-of d f w k xs ys (h .1) in ((h .0, y .0), y .1)
+-- The writes of delayed stores, in the order in which they land.
+unfoldable pub joined : List (List Write) → List Write
+joined [] = []
+joined (g ∷ gs) = g ++ joined gs
+
+abbrev pub AllStoredIn : Description → List (List Write) → Type 0
+AllStoredIn d [] = Unit {0}
+AllStoredIn d (g ∷ gs) = AllStored d g × AllStoredIn d gs
+
+-- ---- Writes one after the other.
+
+module _ (d : Description) where
+  pub puts-append : (s : Words) (xs ys : List Write) → putParts d s (xs ++ ys) ≡ putParts d (putParts d s xs) ys
+  unfolding putParts
+  puts-append s [] ys = refl
+  puts-append s (x ∷ xs) ys = puts-append (putPart d s x) xs ys
+
+  -- To land is to put the writes one after the other.
+  pub land-puts : (s : Words) (gs : List (List Write)) → landAll d s gs ≡ putParts d s (joined gs)
+  unfolding landAll joined putParts
+  land-puts s [] = refl
+  land-puts s (g ∷ gs) = land-puts (putParts d s g) gs ∙ sym (puts-append s g (joined gs))
+
+  stored-append : (xs ys : List Write) → AllStored d xs → AllStored d ys → AllStored d (xs ++ ys)
+  stored-append [] ys h k = k
+  stored-append (x ∷ xs) ys h k = (h .0, stored-append xs ys (h .1) k)
+
+  more-stored : (gs : List (List Write)) (g : List Write) → AllStoredIn d gs → AllStored d g → AllStoredIn d (gs ++ g ∷ [])
+  more-stored [] g h k = (k, tt)
+  more-stored (x ∷ gs) g h k = (h .0, more-stored gs g (h .1) k)
 
 module _ (d : Description) (start : Words) where
-  -- The store is the one noted, and what no noted write has is as at the start.
-  record Stands (x : Held) (y : Noted) : Type 0 where
-    same : x ≡ y .store
-    rest : (f w k : ℕ) → NoneHas d f w k (y .writes) → bitOf (wordOf (y .store .words) f w) k ≡ bitOf (wordOf start f w) k
+  -- The store is the one noted; its words are those at the start with the noted writes put there; and every place written, or waiting to be, is in the store.
+  pub record Stands (x : Held) (y : Noted) : Type 0 where
+    pub same : x ≡ y .store
+    pub put-so : y .store .words ≡ putParts d start (y .writes)
+    pub once-stored : AllStored d (y .writes)
+    pub later-stored : AllStoredIn d (y .store .waits)
 
-  joins : Joins (numbers d) (noting d) d Stands
-  unfolding noting
+  pub joins : Joins (numbers d) (noting d) d Stands
+  unfolding noting putParts
   joins = record {
     loads = λ x y h p s. ap (λ (z : Held). loadPart d (z .words) p) (h .same);
     puts = λ x y w h s. record {
       same = ap (λ (z : Held). held (putPart d (z .words) w) (z .waits)) (h .same);
-      rest = λ f v k n. let o = none-of d f v k (y .writes) (w ∷ []) n in put-keeps d f v k (y .store .words) w (o .1 .0) ∙ h .rest f v k (o .0);
+      put-so = ap (λ (z : Words). putPart d z w) (h .put-so) ∙ sym (puts-append d start (y .writes) (w ∷ []));
+      once-stored = stored-append d (y .writes) (w ∷ []) (h .once-stored) (s, tt);
+      later-stored = h .later-stored;
     };
-    delays = λ x y ws h s. record { same = ap (λ (z : Held). held (z .words) (z .waits ++ ws ∷ [])) (h .same); rest = h .rest };
+    delays = λ x y ws h s. record {
+      same = ap (λ (z : Held). held (z .words) (z .waits ++ ws ∷ [])) (h .same);
+      put-so = h .put-so;
+      once-stored = h .once-stored;
+      later-stored = more-stored d (y .store .waits) ws (h .later-stored) s;
+    };
   }
 
 -- ---- The begin of a cycle.
@@ -101,10 +137,11 @@ module _ (d : Description) (s : Words) (r : Record) (ins : Words) where
   abbrev run : Ran Held
   run = runActions (numbers d) d (stateAt d (r .state) .actions) (nothingDone d begins)
 
-  alike : Alike (numbers d) (noting d) d (Stands d begins) (joins d begins) run executed
-  unfolding executed
+  pub alike : Alike (numbers d) (noting d) d (Stands d (begin (d .facilities) s ins)) (joins d (begin (d .facilities) s ins))
+      (runActions (numbers d) d (stateAt d (r .state) .actions) (nothingDone d (begin (d .facilities) s ins))) executed
+  unfolding executed putParts
   alike = actions-alike (numbers d) (noting d) d (Stands d begins) (joins d begins) (stateAt d (r .state) .actions) (nothingDone d begins) first
-      (record { stores = record { same = refl; rest = λ f w k h. refl }; gotos-same = refl; returns-same = refl; calls-same = refl; sequenced-same = refl })
+      (record { stores = record { same = refl; put-so = refl; once-stored = tt; later-stored = tt }; gotos-same = refl; returns-same = refl; calls-same = refl; sequenced-same = refl })
 
   module _ (c : Doing Noted) (executed-so : executed ≡ went c) (t : Words) (q : Record) (n : ℕ) (completes : step d s r ins ≡ completed t q n) where
     module _ (f w k : ℕ) (inside : f < length (d .facilities)) (is-steady : steady (facilityAt d f .kind) ≡ true) (not-register : (g : ℕ) → sequencingOf d ≡ some g → f ≡ g → ⊥)
@@ -128,7 +165,8 @@ module _ (d : Description) (s : Words) (r : Record) (ins : Words) where
           let st : e .store ≡ c .store .store = z .stores .same ∙ ap (λ (o : Doing Noted). o .store .store) c-same in
           let there : wordOf t f w ≡ wordOf (landed d r e) f w = finish-keeps e (stopAfter d r e) h in
           let lands : bitOf (wordOf (landAll d (c .store .store .words) (c .store .store .waits)) f w) k ≡ bitOf (wordOf (c .store .store .words) f w) k = land-keeps d f w k (c .store .store .words) (c .store .store .waits) none-later in
-          let kept-before : bitOf (wordOf (c .store .store .words) f w) k ≡ bitOf (wordOf begins f w) k = (rw c-same at (z .stores .rest)) f w k none-at-once in
+          let put-so : c .store .store .words ≡ putParts d begins (c .store .writes) = rw c-same at (z .stores .put-so) in
+          let kept-before : bitOf (wordOf (c .store .store .words) f w) k ≡ bitOf (wordOf begins f w) k = ap (λ (o : Words). bitOf (wordOf o f w) k) put-so ∙ puts-keep d f w k begins (c .store .writes) none-at-once in
           ap (λ (o : ℕ). bitOf o k) there ∙ (ap (λ (o : Held). bitOf (wordOf (landAll d (o .words) (o .waits)) f w) k) st ∙ (lands ∙ kept-before))
       after-keeps (Ran.stopped m) b z y h = absurd (let o : _≡_ {A = ℕ} 0 1 = cc in omega arith)
       after-keeps (Ran.stuck m) b z y h = absurd (let o : _≡_ {A = ℕ} 0 1 = cc in omega arith)

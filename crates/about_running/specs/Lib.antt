@@ -38,4 +38,5 @@ pub mod SameRuns
 -- ---- What no store names is kept; delayed stores land together.
 pub mod BitsKept
 pub mod Kept
+pub mod CycleWrites
 pub mod LandsTogether
