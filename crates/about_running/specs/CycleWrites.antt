@@ -9,15 +9,22 @@ use Prim.Native.Nat.{ℕ, zero, suc, _+_, _-_, _*_, _/_, _%_, _^_, _≤_, _<_}
 use lib.ListN.{drop, getD, length, length-append, replicate, set}
 use lib.Seq.{getD-append-seam, getD-at, set-append-seam, set-at}
 use Rattle.language.specs.Acting.{Doing, Ran, runActions, went}
-use Rattle.language.specs.Description.{Description, Facility, facilityAt, isComputed, noFacility, sequencingOf, stateAt, wordCount, wordLength}
-use Rattle.language.specs.Meaning.{Write, place}
-use Rattle.language.specs.Step.{stateNumber}
-use Rattle.language.specs.Store.{Words, begin, begun, headOf, inputsOf, isInput, landAll, putPart, putParts, setWord, wordOf}
+use Rattle.language.specs.Description.{Description, Facility, facilityAt, isComputed, isSequencing, noFacility, sequencingOf, stateAt, wordCount, wordLength}
+use Rattle.language.specs.Meaning.{Place, Write, place}
+use Rattle.language.specs.Step.{Record, completed, setRegister, stateNumber, step}
+use Rattle.language.specs.Store.{Held, Words, begin, begun, headOf, inputsOf, isInput, landAll, numbers, putPart, putParts, setWord, wordOf}
 use Rattle.language.specs.Tree.{Kind, computed, input, memory, plain, register, sequencing}
 use Rattle.language.specs.Value.{replaced}
-use Rattle.about_running.specs.Cycle.{plain-row}
-use Rattle.about_running.specs.Fitting.{AllBelow, Fit, Row, fit-word, stored}
-use Rattle.about_running.specs.Kept.{Noted, joined, puts-append}
+use Rattle.about_running.specs.Acts.{Good}
+use Rattle.about_running.specs.Cycle.{Sound, Well, completes, cycle-well, land-fit, plain-row, run-good}
+use Rattle.about_running.specs.Executes.{There, good}
+use Rattle.about_running.specs.Fitting.{AllBelow, Fit, Inv, Row, fit-word, numbers-keep, stored}
+use Rattle.about_running.specs.Kept.{AllStoredIn, Noted, Stands, alike, executed, joined, joins, land-puts, noting, puts-append}
+use Rattle.about_running.specs.LandsLast.{Did, lands-last}
+use Rattle.about_running.specs.LegalForm.{Legal}
+use Rattle.about_running.specs.SameActions.{AllStored, go-on}
+use Rattle.about_running.specs.SameRuns.{Alike}
+use Rattle.about_running.specs.StateValues.{bears-value, found-from, some-word}
 
 -- ---- The writes of a cycle.
 
@@ -53,6 +60,15 @@ module _ (d : Description) where
   -- All of them: the begin, the stores carried out at once, the delayed stores, and the state entered.
   unfoldable pub cycleWrites : Words → Doing Noted → ℕ → List Write
   cycleWrites ins c state = beginWrites 0 (d .facilities) ins ++ (c .store .writes ++ (joined (c .store .store .waits) ++ stateWrites state))
+
+-- A part of a word that has a place in the store.
+pub record InStore (d : Description) (p : Place) : Type 0 where
+  pub there : There d p
+  pub kept : isComputed (facilityAt d (p .facility) .kind) ≡ false
+
+abbrev pub AllInStore : Description → List Write → Type 0
+AllInStore d [] = Unit {0}
+AllInStore d (w ∷ ws) = InStore d (w .at) × AllInStore d ws
 
 -- ---- A whole word.
 
@@ -142,3 +158,157 @@ module _ (d : Description) where
       go on plain z i = onward on (replicate (wordCount f) 0) (replicate (wordCount f) 0) ins (set-row (replicate (wordCount f) 0) (plain-row f z)) i
       go on input z i = taken on ins i
       go on computed z i = onward on [] r ins none-new i
+
+  -- ---- Every write is to a place in the store.
+
+  in-append : (xs ys : List Write) → AllInStore d xs → AllInStore d ys → AllInStore d (xs ++ ys)
+  in-append [] ys h k = k
+  in-append (x ∷ xs) ys h k = (h .0, in-append xs ys (h .1) k)
+
+  stored-in : (ws : List Write) → AllStored d ws → AllInStore d ws
+  stored-in [] h = tt
+  stored-in (w ∷ ws) h = (record { there = h .0 .taken .there; kept = h .0 .kept }, stored-in ws (h .1))
+
+  joined-in : (gs : List (List Write)) → AllStoredIn d gs → AllInStore d (joined gs)
+  unfolding joined
+  joined-in [] h = tt
+  joined-in (g ∷ gs) h = in-append g (joined gs) (stored-in g (h .0)) (joined-in gs (h .1))
+
+  whole-in : (n : ℕ) (f : Facility) → facilityAt d n ≡ f → n < length (d .facilities) → isComputed (f .kind) ≡ false → (w : ℕ) (xs : List ℕ) → w + length xs ≤ wordCount f
+      → AllInStore d (wholeWords n (wordLength f) w xs)
+  unfolding wholeWords
+  whole-in n f e l c w [] h = tt
+  whole-in n f e l c w (x ∷ xs) h = (
+    record { there = record { facility-in = l; word-in = rw e (omega arith); part-in = rw e (omega arith) }; kept = rw e c },
+    whole-in n f e l c (suc w) xs (omega arith),
+  )
+
+  begin-in : (n : ℕ) (front fs : List Facility) (ins : Words) → d .facilities ≡ front ++ fs → length front ≡ n → Fit (inputsOf fs) ins → AllInStore d (beginWrites n fs ins)
+  unfolding beginWrites facilityAt inputsOf stored wholeWords
+  begin-in n front [] ins e p k = tt
+  begin-in n front (f ∷ fs) ins e p k =
+      go (λ more i. begin-in (suc n) (front ++ f ∷ []) fs more (e ∙ sym (append-assoc front (f ∷ []) fs)) (length-append front (f ∷ []) ∙ omega arith) i) (f .kind) refl k
+    where
+      Later : Type 0
+      Later = (more : Words) → Fit (inputsOf fs) more → AllInStore d (beginWrites (suc n) fs more)
+
+      found : getD (d .facilities) n noFacility ≡ f
+      found = rw e (getD-at front f fs noFacility n p)
+
+      inside : n < length (d .facilities)
+      inside = rw e (let z = length-append front (f ∷ fs) in omega arith)
+
+      row-in : (new : List ℕ) → isComputed (f .kind) ≡ false → Row f new → AllInStore d (wholeWords n (wordLength f) 0 new)
+      row-in new z i = whole-in n f found inside z 0 new (let c : length new ≡ wordCount f = i .count ∙ rw z refl in omega arith)
+
+      taken : Later → (ins : Words) → f .kind ≡ input → Fit (f ∷ inputsOf fs) ins → AllInStore d (wholeWords n (wordLength f) 0 (headOf ins) ++ beginWrites (suc n) fs (drop 1 ins))
+      taken on [] z i = absurd i
+      taken on (x ∷ ins) z i = in-append (wholeWords n (wordLength f) 0 x) (beginWrites (suc n) fs ins) (row-in x (rw z refl) (i .0)) (on ins (i .1))
+
+      go : Later → (t : Kind) → f .kind ≡ t → Fit (cond (isInput t) (f ∷ inputsOf fs) (inputsOf fs)) ins
+          → AllInStore d (wholeWords n (wordLength f) 0 (takes t f ins) ++ beginWrites (suc n) fs (cond (isInput t) (drop 1 ins) ins))
+      go on register z i = on ins i
+      go on sequencing z i = on ins i
+      go on memory z i = on ins i
+      go on plain z i = in-append (wholeWords n (wordLength f) 0 (replicate (wordCount f) 0)) (beginWrites (suc n) fs ins) (row-in (replicate (wordCount f) 0) (rw z refl) (plain-row f z)) (on ins i)
+      go on input z i = taken on ins z i
+      go on computed z i = on ins i
+
+  -- ---- The state entered.
+
+  state-in : (state : ℕ) → AllInStore d (stateWrites d state)
+  unfolding facilityAt sequencingOf stateWrites
+  state-in state = go (sequencingOf d) refl (stateNumber d state)
+    where
+      not-computed : (k : Kind) → isSequencing k ≡ true → isComputed k ≡ false
+      not-computed register q = refl
+      not-computed sequencing q = refl
+      not-computed memory q = refl
+      not-computed plain q = refl
+      not-computed input q = refl
+      not-computed computed q = absurd (let z : _≡_ {A = ℕ} 0 1 = cc in omega arith)
+
+      go : (x : Option ℕ) → sequencingOf d ≡ x → (v : Option ℕ) → AllInStore d (registerWrites d x v)
+      go none q v = tt
+      go (some f) q none = tt
+      go (some f) q (some x) =
+          let y = found-from 0 f (d .facilities) q in
+          let z : f ≡ y .0 = omega (arith, y .1) in
+          let l : f < length (d .facilities) = omega (arith, y .2 .inside) in
+          let t : isSequencing (getD (d .facilities) f noFacility .kind) ≡ true = rw z (y .2 .sequencing) in
+          let w = some-word (facilityAt d f) in
+          whole-in f (facilityAt d f) refl l (not-computed (facilityAt d f .kind) t) 0 (x ∷ []) (omega arith)
+
+  module _ (L : Legal d) where
+    state-puts : (u t : Words) (state : ℕ) → state < length (d .states) → Fit (d .facilities) u → setRegister d (sequencingOf d) (stateNumber d state) u ≡ some t → t ≡ putParts d u (stateWrites d state)
+    unfolding facilityAt putParts stateWrites wholeWords
+    state-puts u t state l h e = go (sequencingOf d) refl e
+      where
+        borne : (f : ℕ) → sequencingOf d ≡ some f → (v : Option ℕ) → stateNumber d state ≡ v → setRegister d (some f) v u ≡ some t → t ≡ putParts d u (registerWrites d (some f) v)
+        borne f q none z k = absurd (let y : _≡_ {A = ℕ} 0 1 = cc in omega arith)
+        borne f q (some x) z k =
+            let v = bears-value d L f q state l in
+            let same : v .number ≡ x = let y : some (v .number) ≡ some x = sym (v .borne) ∙ z in cc in
+            let small : x < 2 ^ wordLength (facilityAt d f) = rw (← same) (v .fits) in
+            let set-so : setWord u f 0 x ≡ t = cc in
+            sym set-so ∙ sym (put-whole u f 0 x (wordLength (facilityAt d f)) refl (fit-word (d .facilities) u f 0 h) small)
+
+        go : (x : Option ℕ) → sequencingOf d ≡ x → setRegister d x (stateNumber d state) u ≡ some t → t ≡ putParts d u (registerWrites d x (stateNumber d state))
+        go none q k = let z : u ≡ t = cc in sym z
+        go (some f) q k = borne f q (stateNumber d state) refl k
+
+-- ---- The cycle.
+
+module _ (d : Description) (s : Words) (r : Record) (ins t : Words) (q : Record) where
+  -- The actions as executed with every write noted; the words after the cycle are those before it with its writes put there, each to a place in the store.
+  pub record Wrote : Type 0 where
+    pub noted : Doing Noted
+    pub executed-so : executed d s r ins ≡ went noted
+    pub words-so : t ≡ putParts d s (cycleWrites d ins noted (q .state))
+    pub places-in : AllInStore d (cycleWrites d ins noted (q .state))
+
+  module _ (L : Legal d) (n : ℕ) (is-sound : Sound d s r) (fits : Fit (inputsOf (d .facilities)) ins) (completes-so : step d s r ins ≡ completed t q n) where
+    abbrev begins : Words
+    begins = begin (d .facilities) s ins
+
+    abbrev did : Did d s r ins t q n
+    did = lands-last d s r ins t q n completes-so
+
+    -- The state entered is there, and the words with the delayed stores landed fit.
+    state-there : q .state < length (d .states)
+    state-there = go (rw completes-so at (cycle-well d L s r ins is-sound fits))
+      where
+        go : Well d (completed t q n) → q .state < length (d .states)
+        go (completes h) = h .state-in
+
+    landed-fit : Fit (d .facilities) (landAll d (did .done .store .words) (did .done .store .waits))
+    landed-fit = go (rw (did .ran) at (run-good d L s r ins is-sound fits))
+      where
+        go : Good (numbers d) d (Inv d) (numbers-keep d) L (went (did .done)) → Fit (d .facilities) (landAll d (did .done .store .words) (did .done .store .waits))
+        go (good i g k) = land-fit d (did .done .store .words) (did .done .store .waits) (i .1) (i .0)
+
+    all-put : (c : Doing Noted) → Stands d begins (did .done .store) (c .store) → t ≡ putParts d s (cycleWrites d ins c (q .state))
+    unfolding cycleWrites
+    all-put c h =
+        let first : begins ≡ putParts d s (beginWrites 0 (d .facilities) ins) = sym (begin-puts d 0 [] (d .facilities) [] s ins refl refl refl (is-sound .words) fits) in
+        let last = state-puts d L (landAll d (did .done .store .words) (did .done .store .waits)) t (q .state) state-there landed-fit (did .lands) in
+        let lands : landAll d (did .done .store .words) (did .done .store .waits) ≡ putParts d (putParts d begins (c .store .writes)) (joined (c .store .store .waits)) =
+        ap (λ (x : Held). landAll d (x .words) (x .waits)) (h .same) ∙ (land-puts d (c .store .store .words) (c .store .store .waits) ∙ ap (λ (x : Words). putParts d x (joined (c .store .store .waits))) (h .put-so))
+        in
+        let whole : t ≡ putParts d (putParts d (putParts d (putParts d s (beginWrites 0 (d .facilities) ins)) (c .store .writes)) (joined (c .store .store .waits))) (stateWrites d (q .state)) =
+        last ∙ (ap (λ (x : Words). putParts d x (stateWrites d (q .state))) lands ∙ ap (λ (x : Words). putParts d (putParts d (putParts d x (c .store .writes)) (joined (c .store .store .waits))) (stateWrites d (q .state))) first)
+        in
+        whole ∙ sym (puts-append d s (beginWrites 0 (d .facilities) ins) _ ∙ (puts-append d _ (c .store .writes) _ ∙ puts-append d _ (joined (c .store .store .waits)) (stateWrites d (q .state))))
+
+    all-in : (c : Doing Noted) → Stands d begins (did .done .store) (c .store) → AllInStore d (cycleWrites d ins c (q .state))
+    unfolding cycleWrites
+    all-in c h =
+        in-append d (beginWrites 0 (d .facilities) ins) _ (begin-in d 0 [] (d .facilities) ins refl refl fits)
+        (in-append d (c .store .writes) _ (stored-in d (c .store .writes) (h .once-stored))
+        (in-append d (joined (c .store .store .waits)) (stateWrites d (q .state)) (joined-in d (c .store .store .waits) (h .later-stored)) (state-in d (q .state))))
+
+    pub cycle-wrote : Wrote
+    cycle-wrote = go (executed d s r ins) refl (rw (did .ran) at (alike d s r ins))
+      where
+        go : (y : Ran Noted) → executed d s r ins ≡ y → Alike (numbers d) (noting d) d (Stands d begins) (joins d begins) (went (did .done)) y → Wrote
+        go (went c) k (go-on h) = record { noted = c; executed-so = k; words-so = all-put c (h .stores); places-in = all-in c (h .stores) }

@@ -37,6 +37,7 @@ pub mod SameActions
 pub mod SameRuns
 -- ---- What no store names is kept; delayed stores land together.
 pub mod BitsKept
+pub mod LandsLast
 pub mod Kept
 pub mod CycleWrites
 pub mod LandsTogether
