@@ -5,3 +5,5 @@ pub mod StaysSound
 pub mod AnyRun
 pub mod ManyCycles
 pub mod OneCycle
+pub mod StoreBits
+pub mod BitLaws
