@@ -23,11 +23,11 @@ use Rattle.about_running.specs.BitsKept as BitsKept
 use Rattle.about_running.specs.BitsKept.{Has, NoneHas, puts-keep}
 use Rattle.about_running.specs.Cycle.{row-of}
 use Rattle.about_running.specs.CycleWrites.{AllInStore, InStore}
-use Rattle.about_running.specs.Fitting.{Fit, fit-put, stored}
+use Rattle.about_running.specs.Fitting.{Fit, fit-put, fit-word, stored}
 use Rattle.about_running.specs.Kept.{puts-append}
 use Rattle.store_layout.proofs.ByteLists.{bytes-drop, bytes-take}
 use Rattle.store_layout.proofs.ByteOrder.{word-room}
-use Rattle.store_layout.proofs.Numbers.{bit-within}
+use Rattle.store_layout.proofs.Numbers.{bit-none, bit-within}
 use Rattle.store_layout.proofs.StoreWords.{in-store, word-from, word-set}
 use Rattle.store_layout.proofs.Words.{word-bit}
 use Rattle.store_layout.specs.Bits.{bitOf}
@@ -168,6 +168,16 @@ module _ (d : Description) where
         below-high = rw (← has .facility-so, ← has .word-so) at (has .below-high);
       }
 
+  -- A bit that neither of two lists names, the two together do not.
+  pub none-named : (i b : ℕ) (xs ys : List Write) → anyNames d xs i b ≡ false → anyNames d ys i b ≡ false → anyNames d (xs ++ ys) i b ≡ false
+  unfolding anyNames
+  none-named i b [] ys h k = k
+  none-named i b (x ∷ xs) ys h k = go (λ q. none-named i b xs ys q k) (names d (x .at) i b) h
+    where
+      go : (anyNames d xs i b ≡ false → anyNames d (xs ++ ys) i b ≡ false) → (t : Bool) → (t || anyNames d xs i b) ≡ false → (t || anyNames d (xs ++ ys) i b) ≡ false
+      go later false q = later q
+      go later true q = q
+
   -- ---- Writes one after the other.
 
   puts-fit : (s : Words) (ws : List Write) → AllInStore d ws → Fit (d .facilities) s → Fit (d .facilities) (putParts d s ws)
@@ -231,3 +241,11 @@ module _ (d : Description) where
         ∙ (ap (λ (o : Words). bitOf (wordOf o (p .facility) (p .word)) k) (words-so ∙ ap (λ (o : List Write). putParts d (fromBytes (d .facilities) B) o) split)
         ∙ (last-lands (fromBytes (d .facilities) B) xs w ys k all fit (y .0 .from-low) (y .0 .below-high) (none-has (p .facility) (p .word) i b l (y .0 .from-first) (y .0 .before-end) ys (here .1) later)
         ∙ ap (λ (o : ℕ). bitOf (w .number) o) (y .1)))
+
+-- Spare bits are zero.
+pub spare-zero : (fs : List Facility) (B : List ℕ) → Bytes B → storeSizeOf fs ≤ length B → Fit fs (fromBytes fs B) → (f w : ℕ) → Stored fs f w → (i b : ℕ) → b < byteBits
+    → byteBits * placeOfWord fs f w ≤ rank i b → rank i b < byteBits * placeOfWord fs f w + spareBits (wordLength (getD fs f noFacility)) → bitAt B i b ≡ 0
+spare-zero fs B bytes-so enough fit f w is-stored i b l low high =
+    let room = word-room (wordLength (getD fs f noFacility)) in
+    bit-of-word fs B bytes-so enough f w is-stored i b l (omega (arith, l, low)) (omega (arith, high))
+    ∙ bit-none (wordLength (getD fs f noFacility)) (height fs f w i b) (fit-word fs (fromBytes fs B) f w fit) (omega (arith, high, room))

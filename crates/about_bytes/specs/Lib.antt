@@ -7,3 +7,4 @@ pub mod ManyCycles
 pub mod OneCycle
 pub mod StoreBits
 pub mod BitLaws
+pub mod KeptBytes
