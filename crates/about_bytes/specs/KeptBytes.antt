@@ -2,7 +2,7 @@
 use mathlib.Core.Bool.{true, false}
 use mathlib.Core.List.{List, [], _∷_, _++_, append-assoc}
 use mathlib.Core.Logic.{⊎-elim}
-use mathlib.Core.Option.{none}
+use mathlib.Core.Option.{Option, none, some}
 use mathlib.Core.Path.{_≡_, refl, sym, ap, _∙_}
 use native.Mathlib.Nat.{eq-zero-or-pos}
 use native.Mathlib.Omega.{arith}
@@ -12,12 +12,13 @@ use lib.Dec.{eqb, leb}
 use lib.ListN.{drop, getD, length, length-append, length-drop}
 use lib.Seq.{getD-append-add, getD-drop}
 use Rattle.language.specs.Acting.{Doing, Ran, went}
-use Rattle.language.specs.Calls.{CycleCall, afterStep, cycle, cycleRefusal, cycled, over, roomy, soundBytes, stimulusSize, stoppedFor, wellFormed}
+use Rattle.language.specs.Calls.{CycleCall, afterStep, cycle, cycleRefusal, cycleWith, cycled, over, roomy, soundBytes, stimulusSize, stoppedFor, wellFormed}
 use Rattle.language.specs.Decode.{decode}
 use Rattle.language.specs.Description.{Description, Facility, noFacility, wordLength}
 use Rattle.language.specs.Layout.{storeSize, storeSizeOf, wordToBytes}
 use Rattle.language.specs.Meaning.{Write}
 use Rattle.language.specs.RecordBytes.{marked, recordBytes, recordFrom}
+use Rattle.language.specs.declared.refusals.Refusal.{Refusal}
 use Rattle.language.specs.Step.{Outcome, Record, completed, step}
 use Rattle.language.specs.Store.{Words, fromBytes, inputsOf, putParts, toBytes, wordsTo}
 use Rattle.about_bytes.specs.BitLaws.{bits-kept, bits-land, none-named, spare-zero}
@@ -78,7 +79,15 @@ module _ (image store record′ stimulus : List ℕ) (scratch : ℕ) where
   unfoldable pub writes : List Write
   writes = writesOf acted
 
-  module _ (none-refused : cycleRefusal image store record′ stimulus scratch ≡ none) (n : ℕ) (completes-so : cycle image store record′ stimulus scratch .answer ≡ cycled n) where
+  module _ (n : ℕ) (completes-so : cycle image store record′ stimulus scratch .answer ≡ cycled n) where
+    none-refused : cycleRefusal image store record′ stimulus scratch ≡ none
+    unfolding cycle
+    none-refused = go (cycleRefusal image store record′ stimulus scratch) completes-so
+      where
+        go : (x : Option Refusal) → cycleWith d store record′ scratch stimulus x .answer ≡ cycled n → x ≡ none
+        go none e = refl
+        go (some r) e = absurd (let z : _≡_ {A = ℕ} 0 1 = cc in omega arith)
+
     abbrev there : Unrefused image store record′ stimulus scratch
     there = unrefused image store record′ stimulus scratch none-refused
 
@@ -190,30 +199,52 @@ module _ (image store record′ stimulus : List ℕ) (scratch : ℕ) where
       -- ---- By the kinds of writes; c is what the actions came to.
 
       module _ (c : Doing Noted) (acted-so : acted ≡ went c) (i b : ℕ) (is-bit : b < byteBits) (w : Write) (named : names (decode image) (w .at) i b ≡ true) where
-        writes-are : writes ≡ beginWrites 0 (d .facilities) inputWords ++ (c .store .writes ++ (joined (c .store .store .waits) ++ stateWrites d stateAfter))
+        abbrev starts : List Write
+        starts = beginWrites 0 (d .facilities) inputWords
+
+        abbrev once : List Write
+        once = c .store .writes
+
+        abbrev delayed : List Write
+        delayed = joined (c .store .store .waits)
+
+        abbrev last : List Write
+        last = stateWrites d stateAfter
+
+        writes-are : writes ≡ starts ++ (once ++ (delayed ++ last))
         unfolding writes cycleWrites
         writes-are = ap writesOf acted-so
 
-        -- The value of the state entered is what the sequencing register has.
-        pub state-lands : (xs ys : List Write) → stateWrites (decode image) stateAfter ≡ xs ++ w ∷ ys → anyNames (decode image) ys i b ≡ false → bitAt storeAfter i b ≡ given (decode image) w i b
-        state-lands xs ys split later =
-            let B : List Write = beginWrites 0 (d .facilities) inputWords in
-            let whole : writes ≡ (B ++ (c .store .writes ++ (joined (c .store .store .waits) ++ xs))) ++ w ∷ ys = writes-are ∙ (rw split (simp append-assoc)) in
-            lands-bytes (B ++ (c .store .writes ++ (joined (c .store .store .waits) ++ xs))) w ys whole i b is-bit named later
+        -- The sequencing register has the value of the state entered.
+        pub state-lands : stateWrites (decode image) stateAfter ≡ w ∷ [] → bitAt storeAfter i b ≡ given (decode image) w i b
+        unfolding anyNames
+        state-lands e =
+            let before : List Write = starts ++ (once ++ delayed) in
+            let whole : writes ≡ before ++ w ∷ [] = writes-are ∙ (rw e (simp append-assoc)) in
+            lands-bytes before w [] whole i b is-bit named refl
 
-        -- The last delayed store to a bit gives it its value, but for the sequencing register.
+        -- Any other bit that a delayed store names, and no later one, has the value of that store.
         pub delayed-lands : (xs ys : List Write) → joined (c .store .store .waits) ≡ xs ++ w ∷ ys → anyNames (decode image) ys i b ≡ false → anyNames (decode image) (stateWrites (decode image) stateAfter) i b ≡ false
             → bitAt storeAfter i b ≡ given (decode image) w i b
-        delayed-lands xs ys split later register =
-            let B : List Write = beginWrites 0 (d .facilities) inputWords in
-            let whole : writes ≡ (B ++ (c .store .writes ++ xs)) ++ w ∷ (ys ++ stateWrites d stateAfter) = writes-are ∙ (rw split (simp append-assoc)) in
-            lands-bytes (B ++ (c .store .writes ++ xs)) w (ys ++ stateWrites d stateAfter) whole i b is-bit named (none-named d i b ys (stateWrites d stateAfter) later register)
+        delayed-lands xs ys split later not-state =
+            let before : List Write = starts ++ (once ++ xs) in
+            let whole : writes ≡ before ++ w ∷ (ys ++ last) = writes-are ∙ (rw split (simp append-assoc)) in
+            lands-bytes before w (ys ++ last) whole i b is-bit named (none-named d i b ys last later not-state)
 
-        -- And so does the last store carried out at once, where no delayed store names the bit.
+        -- A bit that a store carried out at once names, and no later store of either kind, has the value of that store.
         pub once-lands : (xs ys : List Write) → c .store .writes ≡ xs ++ w ∷ ys → anyNames (decode image) ys i b ≡ false → anyNames (decode image) (joined (c .store .store .waits)) i b ≡ false
             → anyNames (decode image) (stateWrites (decode image) stateAfter) i b ≡ false → bitAt storeAfter i b ≡ given (decode image) w i b
-        once-lands xs ys split later delayed register =
-            let B : List Write = beginWrites 0 (d .facilities) inputWords in
-            let J : List Write = joined (c .store .store .waits) in
-            let whole : writes ≡ (B ++ xs) ++ w ∷ (ys ++ (J ++ stateWrites d stateAfter)) = writes-are ∙ (rw split (simp append-assoc)) in
-            lands-bytes (B ++ xs) w (ys ++ (J ++ stateWrites d stateAfter)) whole i b is-bit named (none-named d i b ys (J ++ stateWrites d stateAfter) later (none-named d i b J (stateWrites d stateAfter) delayed register))
+        once-lands xs ys split later not-delayed not-state =
+            let before : List Write = starts ++ xs in
+            let behind : List Write = ys ++ (delayed ++ last) in
+            let whole : writes ≡ before ++ w ∷ behind = writes-are ∙ (rw split (simp append-assoc)) in
+            lands-bytes before w behind whole i b is-bit named (none-named d i b ys (delayed ++ last) later (none-named d i b delayed last not-delayed not-state))
+
+        -- A bit of an input or plain terminal that no store names has what it took at the begin.
+        pub begin-lands : (xs ys : List Write) → beginWrites 0 (decode image .facilities) inputWords ≡ xs ++ w ∷ ys → anyNames (decode image) ys i b ≡ false → anyNames (decode image) (c .store .writes) i b ≡ false
+            → anyNames (decode image) (joined (c .store .store .waits)) i b ≡ false → anyNames (decode image) (stateWrites (decode image) stateAfter) i b ≡ false → bitAt storeAfter i b ≡ given (decode image) w i b
+        begin-lands xs ys split later not-once not-delayed not-state =
+            let behind : List Write = ys ++ (once ++ (delayed ++ last)) in
+            let whole : writes ≡ xs ++ w ∷ behind = writes-are ∙ (rw split (simp append-assoc)) in
+            lands-bytes xs w behind whole i b is-bit named
+            (none-named d i b ys (once ++ (delayed ++ last)) later (none-named d i b once (delayed ++ last) not-once (none-named d i b delayed last not-delayed not-state)))

@@ -8,3 +8,4 @@ pub mod OneCycle
 pub mod StoreBits
 pub mod BitLaws
 pub mod KeptBytes
+pub mod KeptExamples
