@@ -5,13 +5,12 @@ use mathlib.Core.Logic.{⊎-elim}
 use mathlib.Core.Path.{_≡_, refl, sym, ap, _∙_}
 use native.Mathlib.Nat.{div-add-mod', div-lt-iff-lt-mul, eq-zero-or-pos, mod-lt, mul-zero}
 use native.Mathlib.Omega.{arith}
-use Prim.Native.Nat.{ℕ, zero, suc, _+_, _-_, _*_, _/_, _%_, _^_, _≤_, _<_}
+use Prim.Native.Nat.{ℕ, suc, _+_, _-_, _*_, _/_, _%_, _≤_, _<_}
 use borrow.Author.Tests.{le-leb, leb-true, lt-ltb, ltb-true}
 use lib.Dec.{leb, ltb}
 use lib.ListN.{drop, getD, length, length-drop, length-take, take}
 use lib.Seq.{getD-drop, getD-take}
 use Rattle.language.specs.Description.{Description, Facility, facilityAt, isComputed, noFacility, wordCount, wordLength}
-use Rattle.language.specs.Judging.{both}
 use Rattle.language.specs.Layout.{facilityBytes, placeIn, storeSizeOf, wordBytes, wordFromBytes}
 use Rattle.language.specs.Meaning.{Place, Write}
 use Rattle.language.specs.Store.{Words, fromBytes, lowOf, putPart, putParts, wordOf}
@@ -48,9 +47,9 @@ divided : (i n c : ℕ) → i < c * n → (i / n * n ≤ i) × (i < i / n * n + 
 divided i n c h = ⊎-elim
     (λ e. absurd (let z : c * n ≡ 0 = rw e (mul-zero c) in omega arith))
     (λ p.
-      let a = div-add-mod' i n in
-      let m : i % n < n = mod-lt i p in
-      (omega (arith, a), omega (arith, a, m), div-lt-iff-lt-mul p .1 h))
+    let a = div-add-mod' i n in
+    let m : i % n < n = mod-lt i p in
+    (omega (arith, a), omega (arith, a, m), div-lt-iff-lt-mul p .1 h))
     (eq-zero-or-pos n)
 
 pub holding : (fs : List Facility) (i : ℕ) → i < storeSizeOf fs → Holds fs i
@@ -139,9 +138,10 @@ module _ (d : Description) where
       let room = word-room (wordLength (getD (d .facilities) (p .facility) noFacility)) in
       let inside = h .there .part-in in
       let low : firstBit d p ≤ rank i b = leb-true (firstBit d p) (rank i b) (both-left (leb (firstBit d p) (rank i b)) (ltb (rank i b) (firstBit d p + p .count)) e) in
-      let high : rank i b < firstBit d p + p .count = ltb-true (rank i b) (firstBit d p + p .count) (both-right (leb (firstBit d p) (rank i b)) (ltb (rank i b) (firstBit d p + p .count)) e) in
-      (record { from-first = omega (arith, room); before-end = omega (arith, room); from-low = omega (arith, room); below-high = omega (arith, room) },
-      end-so (placeOfWord (d .facilities) (p .facility) (p .word)) (wordBytes (wordLength (facilityAt d (p .facility)))) (wordLength (facilityAt d (p .facility))) (spareBits (wordLength (facilityAt d (p .facility)))) (lowOf d p) (p .from) (p .count) (rank i b) (omega (arith, room)) (omega (arith, inside)) high)
+      let high : rank i b < firstBit d p + p .count = ltb-true (rank i b) (firstBit d p + p .count) (both-right (leb (firstBit d p) (rank i b)) (ltb (rank i b) (firstBit d p + p .count)) e) in (
+        record { from-first = omega (arith, room); before-end = omega (arith, room); from-low = omega (arith, room); below-high = omega (arith, room) },
+        end-so (placeOfWord (d .facilities) (p .facility) (p .word)) (wordBytes (wordLength (facilityAt d (p .facility)))) (wordLength (facilityAt d (p .facility))) (spareBits (wordLength (facilityAt d (p .facility)))) (lowOf d p) (p .from) (p .count) (rank i b) (omega (arith, room)) (omega (arith, inside)) high,
+      )
 
   -- What names no bit of a byte has none of the word's that stand there.
   none-has : (f w i b : ℕ) → b < byteBits → placeOfWord (d .facilities) f w ≤ i → i < placeOfWord (d .facilities) f w + wordBytes (wordLength (getD (d .facilities) f noFacility))

@@ -1,21 +1,30 @@
 -- Worked examples: the writes of a cycle, the bits that they name, and the bytes before and after.
-use mathlib.Core.Bool.{cond}
+use mathlib.Core.Bool.{Bool, true, false, cond}
 use mathlib.Core.List.{List, [], _∷_}
 use mathlib.Core.Path.{_≡_, refl}
-use Prim.Native.Nat.{ℕ, zero, suc, _/_, _%_}
+use native.Mathlib.Omega.{arith}
+use Prim.Native.Nat.{ℕ, zero, suc, _+_, _/_, _%_, _^_, _<_}
+use borrow.Author.Tests.{leb-true, ltb-true}
+use lib.Dec.{leb, ltb}
+use lib.Pow.{pow-pos}
 use Rattle.language.specs.Calls.{cycled, cycle, open′}
 use Rattle.language.specs.Computing.{computing}
 use Rattle.language.specs.Decode.{decode}
 use Rattle.language.specs.Description.{Description}
-use Rattle.language.specs.Layout.{bytesOf, facilityBytes, noSpareBits, numberAfter, placeIn, storeSize, storeSizeOf, wordBytes, wordFromBytes, wordToBytes}
+use Rattle.language.specs.Judging.{both}
+use Rattle.language.specs.Layout.{facilityBytes, noSpareBits, placeIn, wordBytes}
 use Rattle.language.specs.Meaning.{Write, place}
 use Rattle.language.specs.Reading.{read}
 use Rattle.language.specs.Scan.{bytes}
+use Rattle.language.specs.Store.{allNarrow}
 use Rattle.about_running.specs.CycleWrites.{beginWrites, cycleWrites, stateWrites, wholeWords}
+use Rattle.about_running.specs.Fitting.{below-at}
 use Rattle.about_running.specs.Kept.{executed, joined, noting}
+use Rattle.about_running.specs.Soundness.{narrow-below}
 use Rattle.store_layout.specs.InBytes.{placeOfWord}
-use Rattle.about_bytes.specs.KeptBytes.{storeAfter, writes}
-use Rattle.about_bytes.specs.StoreBits.{anyNames, byteBits, firstBit, given, names}
+use Rattle.store_layout.specs.Layout.{Bytes}
+use Rattle.about_bytes.specs.KeptBytes.{kept-bytes, storeAfter, writes}
+use Rattle.about_bytes.specs.StoreBits.{anyNames, bitAt, byteBits, firstBit, given, names, rank}
 
 -- The image of a text, and the record of its opening.
 unfoldable imageOf : List ℕ → List ℕ
@@ -48,6 +57,37 @@ one-bit-kept = refl
 one-bit-named : namedFrom (decode (imageOf oneBit)) (writes (imageOf oneBit) before (recordOf oneBit) [] 40) 96 0 ≡ 56 ∷ []
 unfolding computing oneBit imageOf recordOf namedFrom writes executed noting cycleWrites beginWrites wholeWords joined stateWrites anyNames names firstBit placeOfWord placeIn facilityBytes wordBytes
 one-bit-named = refl
+
+one-bit-written : writes (imageOf oneBit) before (recordOf oneBit) [] 40 ≡ record { at = place 1 2 4 1; number = 1 } ∷ []
+unfolding computing oneBit imageOf recordOf writes executed noting cycleWrites beginWrites wholeWords joined stateWrites
+one-bit-written = refl
+
+-- The same by the claim, of every bit but that one.
+one-bit-completes : cycle (imageOf oneBit) before (recordOf oneBit) [] 40 .answer ≡ cycled 0
+unfolding computing oneBit imageOf recordOf
+one-bit-completes = refl
+
+before-bytes : Bytes before
+unfolding allNarrow noSpareBits
+before-bytes i = below-at (2 ^ byteBits) before i (pow-pos byteBits) (narrow-below byteBits before refl)
+
+not-there : (r n : ℕ) → (r ≡ n → ⊥) → both (leb n r) (ltb r (n + 1)) ≡ false
+not-there r n h = go (leb n r) refl (ltb r (n + 1)) refl
+  where
+    go : (x : Bool) → leb n r ≡ x → (y : Bool) → ltb r (n + 1) ≡ y → both x y ≡ false
+    go false p y q = refl
+    go true p false q = refl
+    go true p true q = absurd (h (let a = leb-true n r p in let b = ltb-true r (n + 1) q in omega (arith, a, b)))
+
+one-bit-first : firstBit (decode (imageOf oneBit)) (place 1 2 4 1) ≡ 56
+unfolding computing oneBit imageOf firstBit placeOfWord placeIn facilityBytes wordBytes
+one-bit-first = refl
+
+every-other-bit : (i b : ℕ) → b < byteBits → (rank i b ≡ 56 → ⊥) → bitAt (storeAfter (imageOf oneBit) before (recordOf oneBit) [] 40) i b ≡ bitAt before i b
+unfolding anyNames names
+every-other-bit i b l h =
+    kept-bytes (imageOf oneBit) before (recordOf oneBit) [] 40 0 one-bit-completes before-bytes i b l
+    (rw (one-bit-written, one-bit-first, not-there (rank i b) 56 h) refl)
 
 -- ---- Writes of every kind.
 

@@ -1,5 +1,5 @@
 -- The bits of the store's bytes: which of them a part of a word has (01, "Image, store, record"; docs/STORE.md), and what a write gives them. Assumes nothing.
-use mathlib.Core.Bool.{Bool, true, false, _||_}
+use mathlib.Core.Bool.{Bool, false, _||_}
 use mathlib.Core.List.{List, [], _∷_}
 use Prim.Native.Nat.{ℕ, _+_, _-_, _*_, _/_, _%_, _^_}
 use lib.Dec.{leb, ltb}

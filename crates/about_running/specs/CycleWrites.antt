@@ -1,15 +1,15 @@
 -- A completed cycle's store is the store before it with one write put after the other: at the begin, at once, landing, and for the state entered. Assumes nothing.
-use mathlib.Core.Bool.{Bool, true, false, cond}
+use mathlib.Core.Bool.{true, false, cond}
 use mathlib.Core.List.{List, [], _∷_, _++_, append-assoc}
 use mathlib.Core.Option.{Option, none, some}
 use mathlib.Core.Path.{_≡_, refl, sym, ap, _∙_}
-use native.Mathlib.Nat.{add-zero, div-eq-of-lt, mod-eq-of-lt, mod-one, mul-one, sub-self, zero-add, zero-mul}
+use native.Mathlib.Nat.{add-zero, div-eq-of-lt, mod-eq-of-lt, mod-one, mul-one, zero-add, zero-mul}
 use native.Mathlib.Omega.{arith}
-use Prim.Native.Nat.{ℕ, zero, suc, _+_, _-_, _*_, _/_, _%_, _^_, _≤_, _<_}
+use Prim.Native.Nat.{ℕ, suc, _+_, _-_, _^_, _≤_, _<_}
 use lib.ListN.{drop, getD, length, length-append, replicate, set}
 use lib.Seq.{getD-append-seam, getD-at, set-append-seam, set-at}
-use Rattle.language.specs.Acting.{Doing, Ran, runActions, went}
-use Rattle.language.specs.Description.{Description, Facility, facilityAt, isComputed, isSequencing, noFacility, sequencingOf, stateAt, wordCount, wordLength}
+use Rattle.language.specs.Acting.{Doing, Ran, went}
+use Rattle.language.specs.Description.{Description, Facility, facilityAt, isComputed, isSequencing, noFacility, sequencingOf, wordCount, wordLength}
 use Rattle.language.specs.Meaning.{Place, Write, place}
 use Rattle.language.specs.Step.{Record, completed, setRegister, stateNumber, step}
 use Rattle.language.specs.Store.{Held, Words, begin, begun, headOf, inputsOf, isInput, landAll, numbers, putPart, putParts, setWord, wordOf}

@@ -5,20 +5,18 @@ use mathlib.Core.Option.{Option, none, some}
 use mathlib.Core.Path.{_≡_, refl, sym, ap, _∙_}
 use native.Mathlib.Omega.{arith}
 use Prim.Native.Nat.{ℕ, zero, suc, _<_}
-use lib.Dec.{leb, ltb}
 use lib.ListN.{drop, getD, length}
 use Rattle.language.specs.Acting.{Doing, Ran, runActions, went}
 use Rattle.language.specs.Description.{Description, Facility, facilityAt, noFacility, sequencingOf, stateAt}
-use Rattle.language.specs.Meaning.{Stores, Write, noState}
-use Rattle.language.specs.Step.{Outcome, Record, afterActions, completed, entered, finished, landed, lastCycle, nextRecord, nothingDone, orStopped, setRegister, stateCount, stateNumber, step, stopAfter}
+use Rattle.language.specs.Meaning.{Stores, Write}
+use Rattle.language.specs.Step.{Record, completed, nothingDone, setRegister, stateNumber, step}
 use Rattle.language.specs.Store.{Held, Words, begin, begun, headOf, held, isInput, landAll, loadPart, numbers, putPart, putParts, wordOf, setWord}
 use Rattle.language.specs.Tree.{Kind, computed, input, memory, plain, register, sequencing}
 use Rattle.about_running.specs.BitsKept.{NoneHas, NoneHasAny, bitOf, land-keeps, other-facility, puts-keep}
+use Rattle.about_running.specs.LandsLast.{Did, lands-last}
 use Rattle.about_running.specs.SameActions as Actions
 use Rattle.about_running.specs.SameActions.{AllStored, Joins}
 use Rattle.about_running.specs.SameRuns.{Alike, actions-alike}
-use Rattle.language.specs.declared.stops.Stop.{Stop}
-use Rattle.language.specs.declared.stops.Stop.the-variants.{LastCycleReached}
 
 -- ---- A store that also notes every write carried out at once.
 
@@ -134,9 +132,6 @@ module _ (d : Description) (s : Words) (r : Record) (ins : Words) where
   unfoldable pub executed : Ran Noted
   executed = runActions (noting d) d (stateAt d (r .state) .actions) first
 
-  abbrev run : Ran Held
-  run = runActions (numbers d) d (stateAt d (r .state) .actions) (nothingDone d begins)
-
   pub alike : Alike (numbers d) (noting d) d (Stands d (begin (d .facilities) s ins)) (joins d (begin (d .facilities) s ins))
       (runActions (numbers d) d (stateAt d (r .state) .actions) (nothingDone d (begin (d .facilities) s ins))) executed
   unfolding executed putParts
@@ -144,42 +139,28 @@ module _ (d : Description) (s : Words) (r : Record) (ins : Words) where
       (record { stores = record { same = refl; put-so = refl; once-stored = tt; later-stored = tt }; gotos-same = refl; returns-same = refl; calls-same = refl; sequenced-same = refl })
 
   module _ (c : Doing Noted) (executed-so : executed ≡ went c) (t : Words) (q : Record) (n : ℕ) (completes : step d s r ins ≡ completed t q n) where
+    abbrev did : Did d s r ins t q n
+    did = lands-last d s r ins t q n completes
+
+    stands : Stands d begins (did .done .store) (c .store)
+    stands = go (rw (did .ran, executed-so) at alike)
+      where
+        go : Alike (numbers d) (noting d) d (Stands d begins) (joins d begins) (went (did .done)) (went c) → Stands d begins (did .done .store) (c .store)
+        go (Actions.go-on h) = h .stores
+
     module _ (f w k : ℕ) (inside : f < length (d .facilities)) (is-steady : steady (facilityAt d f .kind) ≡ true) (not-register : (g : ℕ) → sequencingOf d ≡ some g → f ≡ g → ⊥)
         (none-at-once : NoneHas d f w k (c .store .writes)) (none-later : NoneHasAny d f w k (c .store .store .waits)) where
-      set-keeps : (x v : Option ℕ) (u : Words) → sequencingOf d ≡ x → (e : Doing Held) → entered d r e (setRegister d x v u) ≡ completed t q n → wordOf t f w ≡ wordOf u f w
-      set-keeps none v u z e h = let y : u ≡ t = cc in rw y refl
-      set-keeps (some g) none u z e h = absurd (let y : _≡_ {A = ℕ} 0 1 = cc in omega arith)
-      set-keeps (some g) (some x) u z e h =
+      set-keeps : (x v : Option ℕ) (u : Words) → sequencingOf d ≡ x → setRegister d x v u ≡ some t → wordOf t f w ≡ wordOf u f w
+      set-keeps none v u z h = let y : u ≡ t = cc in rw y refl
+      set-keeps (some g) none u z h = absurd (let y : _≡_ {A = ℕ} 0 1 = cc in omega arith)
+      set-keeps (some g) (some x) u z h =
           let y : setWord u g 0 x ≡ t = cc in
           ap (λ (o : Words). wordOf o f w) (sym y) ∙ other-facility u f g w 0 x (not-register g z)
 
-      finish-keeps : (e : Doing Held) (x : Option Stop) → orStopped d r e x ≡ completed t q n → wordOf t f w ≡ wordOf (landed d r e) f w
-      finish-keeps e none h = set-keeps (sequencingOf d) (stateNumber d (nextRecord d r e .state)) (landed d r e) refl e h
-      finish-keeps e (some m) h = absurd (let y : _≡_ {A = ℕ} 0 1 = cc in omega arith)
-
-      after-keeps : (a : Ran Held) (b : Ran Noted) → Alike (numbers d) (noting d) d (Stands d begins) (joins d begins) a b → b ≡ went c → afterActions d r a ≡ completed t q n
-          → bitOf (wordOf t f w) k ≡ bitOf (wordOf begins f w) k
-      unfolding finished
-      after-keeps (went e) (went c′) (Actions.go-on z) y h =
-          let c-same : c′ ≡ c = cc in
-          let st : e .store ≡ c .store .store = z .stores .same ∙ ap (λ (o : Doing Noted). o .store .store) c-same in
-          let there : wordOf t f w ≡ wordOf (landed d r e) f w = finish-keeps e (stopAfter d r e) h in
-          let lands : bitOf (wordOf (landAll d (c .store .store .words) (c .store .store .waits)) f w) k ≡ bitOf (wordOf (c .store .store .words) f w) k = land-keeps d f w k (c .store .store .words) (c .store .store .waits) none-later in
-          let put-so : c .store .store .words ≡ putParts d begins (c .store .writes) = rw c-same at (z .stores .put-so) in
-          let kept-before : bitOf (wordOf (c .store .store .words) f w) k ≡ bitOf (wordOf begins f w) k = ap (λ (o : Words). bitOf (wordOf o f w) k) put-so ∙ puts-keep d f w k begins (c .store .writes) none-at-once in
-          ap (λ (o : ℕ). bitOf o k) there ∙ (ap (λ (o : Held). bitOf (wordOf (landAll d (o .words) (o .waits)) f w) k) st ∙ (lands ∙ kept-before))
-      after-keeps (Ran.stopped m) b z y h = absurd (let o : _≡_ {A = ℕ} 0 1 = cc in omega arith)
-      after-keeps (Ran.stuck m) b z y h = absurd (let o : _≡_ {A = ℕ} 0 1 = cc in omega arith)
-
-      ran-so : afterActions d r run ≡ completed t q n
-      unfolding step
-      ran-so = go (leb lastCycle (r .cycle)) (ltb (r .state) (stateCount d)) completes
-        where
-          go : (a b : Bool) → cond a (Outcome.stopped LastCycleReached) (cond b (afterActions d r run) (Outcome.stuck noState)) ≡ completed t q n → afterActions d r run ≡ completed t q n
-          go true b h = absurd (let o : _≡_ {A = ℕ} 0 1 = cc in omega arith)
-          go false true h = h
-          go false false h = absurd (let o : _≡_ {A = ℕ} 0 1 = cc in omega arith)
-
       pub kept : bitOf (wordOf t f w) k ≡ bitOf (wordOf s f w) k
       unfolding facilityAt
-      kept = after-keeps run executed alike executed-so ran-so ∙ ap (λ (o : ℕ). bitOf o k) (begin-keeps (d .facilities) s ins f w inside is-steady)
+      kept =
+          let there : wordOf t f w ≡ wordOf (landAll d (did .done .store .words) (did .done .store .waits)) f w = set-keeps (sequencingOf d) (stateNumber d (q .state)) _ refl (did .lands) in
+          ap (λ (o : ℕ). bitOf o k) there ∙ (ap (λ (o : Held). bitOf (wordOf (landAll d (o .words) (o .waits)) f w) k) (stands .same)
+          ∙ (land-keeps d f w k (c .store .store .words) (c .store .store .waits) none-later ∙ (ap (λ (o : Words). bitOf (wordOf o f w) k) (stands .put-so)
+          ∙ (puts-keep d f w k begins (c .store .writes) none-at-once ∙ ap (λ (o : ℕ). bitOf o k) (begin-keeps (d .facilities) s ins f w inside is-steady)))))
