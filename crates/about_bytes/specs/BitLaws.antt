@@ -117,30 +117,37 @@ end-so at n l s low from count r x y z = omega arith
 
 module _ (d : Description) where
   -- Bit b of byte i is a bit of the part's word, and one of the part's.
-  pub record Within (p : Place) (i b : ℕ) : Type 0 where
-    pub from-first : placeOfWord (d .facilities) (p .facility) (p .word) ≤ i
-    pub before-end : i < placeOfWord (d .facilities) (p .facility) (p .word) + wordBytes (wordLength (getD (d .facilities) (p .facility) noFacility))
-    pub from-low : lowOf d p ≤ height (d .facilities) (p .facility) (p .word) i b
-    pub below-high : height (d .facilities) (p .facility) (p .word) i b < lowOf d p + p .count
+  record Within (p : Place) (i b : ℕ) : Type 0 where
+    from-first : placeOfWord (d .facilities) (p .facility) (p .word) ≤ i
+    before-end : i < placeOfWord (d .facilities) (p .facility) (p .word) + wordBytes (wordLength (getD (d .facilities) (p .facility) noFacility))
+    from-low : lowOf d p ≤ height (d .facilities) (p .facility) (p .word) i b
+    below-high : height (d .facilities) (p .facility) (p .word) i b < lowOf d p + p .count
 
+  -- Such a bit the part names.
   names-so : (p : Place) (i b : ℕ) → InStore d p → b < byteBits → Within p i b → names d p i b ≡ true
   unfolding facilityAt firstBit names
   names-so p i b h z y =
-      let room = word-room (wordLength (getD (d .facilities) (p .facility) noFacility)) in
+      let room = word-room (wordLength (facilityAt d (p .facility))) in
       let inside = h .there .part-in in
       let low : firstBit d p ≤ rank i b = omega (arith, room) in
       let high : rank i b < firstBit d p + p .count = omega (arith, room) in
       both-so (le-leb (firstBit d p) (rank i b) low) (lt-ltb (rank i b) (firstBit d p + p .count) high)
 
-  pub within-so : (p : Place) (i b : ℕ) → InStore d p → b < byteBits → names d p i b ≡ true → Within p i b × (height (d .facilities) (p .facility) (p .word) i b - lowOf d p ≡ firstBit d p + p .count - 1 - rank i b)
+  -- And no other; it is as far from the part's right end as it is from the word's, less what stands behind the part.
+  within-so : (p : Place) (i b : ℕ) → InStore d p → b < byteBits → names d p i b ≡ true
+      → Within p i b × (height (d .facilities) (p .facility) (p .word) i b - lowOf d p ≡ firstBit d p + p .count - 1 - rank i b)
   unfolding facilityAt firstBit names
   within-so p i b h z e =
-      let room = word-room (wordLength (getD (d .facilities) (p .facility) noFacility)) in
+      let at : ℕ = placeOfWord (d .facilities) (p .facility) (p .word) in
+      let l : ℕ = wordLength (facilityAt d (p .facility)) in
+      let room = word-room l in
       let inside = h .there .part-in in
-      let low : firstBit d p ≤ rank i b = leb-true (firstBit d p) (rank i b) (both-left (leb (firstBit d p) (rank i b)) (ltb (rank i b) (firstBit d p + p .count)) e) in
-      let high : rank i b < firstBit d p + p .count = ltb-true (rank i b) (firstBit d p + p .count) (both-right (leb (firstBit d p) (rank i b)) (ltb (rank i b) (firstBit d p + p .count)) e) in (
+      let from-low = leb (firstBit d p) (rank i b) in
+      let to-high = ltb (rank i b) (firstBit d p + p .count) in
+      let low : firstBit d p ≤ rank i b = leb-true (firstBit d p) (rank i b) (both-left from-low to-high e) in
+      let high : rank i b < firstBit d p + p .count = ltb-true (rank i b) (firstBit d p + p .count) (both-right from-low to-high e) in (
         record { from-first = omega (arith, room); before-end = omega (arith, room); from-low = omega (arith, room); below-high = omega (arith, room) },
-        end-so (placeOfWord (d .facilities) (p .facility) (p .word)) (wordBytes (wordLength (facilityAt d (p .facility)))) (wordLength (facilityAt d (p .facility))) (spareBits (wordLength (facilityAt d (p .facility)))) (lowOf d p) (p .from) (p .count) (rank i b) (omega (arith, room)) (omega (arith, inside)) high,
+        end-so at (wordBytes l) l (spareBits l) (lowOf d p) (p .from) (p .count) (rank i b) (omega (arith, room)) (omega (arith, inside)) high,
       )
 
   -- What names no bit of a byte has none of the word's that stand there.

@@ -10,6 +10,7 @@ use Rattle.language.specs.Layout.{wordBytes}
 use Rattle.language.specs.Meaning.{Place, Write}
 use Rattle.store_layout.specs.InBytes.{placeOfWord}
 
+-- The bits of a byte.
 abbrev pub byteBits : ℕ
 byteBits = 8
 
@@ -34,6 +35,7 @@ module _ (d : Description) where
   unfoldable pub names : Place → ℕ → ℕ → Bool
   names p i b = both (leb (firstBit p) (rank i b)) (ltb (rank i b) (firstBit p + p .count))
 
+  -- Some write names it.
   unfoldable pub anyNames : List Write → ℕ → ℕ → Bool
   anyNames [] i b = false
   anyNames (w ∷ ws) i b = names (w .at) i b || anyNames ws i b

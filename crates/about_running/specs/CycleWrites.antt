@@ -48,6 +48,7 @@ beginWrites n [] ins = []
 beginWrites n (f ∷ fs) ins = wholeWords n (wordLength f) 0 (takes (f .kind) f ins) ++ beginWrites (suc n) fs (cond (isInput (f .kind)) (drop 1 ins) ins)
 
 module _ (d : Description) where
+  -- Its one word, where there is one and a value for it.
   abbrev pub registerWrites : Option ℕ → Option ℕ → List Write
   registerWrites none v = []
   registerWrites (some f) none = []

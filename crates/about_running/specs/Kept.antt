@@ -138,15 +138,20 @@ module _ (d : Description) (s : Words) (r : Record) (ins : Words) where
   alike = actions-alike (numbers d) (noting d) d (Stands d begins) (joins d begins) (stateAt d (r .state) .actions) (nothingDone d begins) first
       (record { stores = record { same = refl; put-so = refl; once-stored = tt; later-stored = tt }; gotos-same = refl; returns-same = refl; calls-same = refl; sequenced-same = refl })
 
+  -- With every write noted the actions come to the same store.
+  pub noted-so : (e : Doing Held) (c : Doing Noted) → runActions (numbers d) d (stateAt d (r .state) .actions) (nothingDone d (begin (d .facilities) s ins)) ≡ went e → executed ≡ went c
+      → Stands d (begin (d .facilities) s ins) (e .store) (c .store)
+  noted-so e c p q = go (rw (p, q) at alike)
+    where
+      go : Alike (numbers d) (noting d) d (Stands d begins) (joins d begins) (went e) (went c) → Stands d begins (e .store) (c .store)
+      go (Actions.go-on h) = h .stores
+
   module _ (c : Doing Noted) (executed-so : executed ≡ went c) (t : Words) (q : Record) (n : ℕ) (completes : step d s r ins ≡ completed t q n) where
     abbrev did : Did d s r ins t q n
     did = lands-last d s r ins t q n completes
 
     stands : Stands d begins (did .done .store) (c .store)
-    stands = go (rw (did .ran, executed-so) at alike)
-      where
-        go : Alike (numbers d) (noting d) d (Stands d begins) (joins d begins) (went (did .done)) (went c) → Stands d begins (did .done .store) (c .store)
-        go (Actions.go-on h) = h .stores
+    stands = noted-so (did .done) c (did .ran) executed-so
 
     module _ (f w k : ℕ) (inside : f < length (d .facilities)) (is-steady : steady (facilityAt d f .kind) ≡ true) (not-register : (g : ℕ) → sequencingOf d ≡ some g → f ≡ g → ⊥)
         (none-at-once : NoneHas d f w k (c .store .writes)) (none-later : NoneHasAny d f w k (c .store .store .waits)) where
