@@ -63,6 +63,7 @@ module _ (image store record′ stimulus : List ℕ) (scratch : ℕ) where
   abbrev pub stateAfter : ℕ
   stateAfter = recordFrom (cycle image store record′ stimulus scratch .record′) .state
 
+  -- The stimulus as words of the input terminals.
   abbrev pub inputWords : Words
   inputWords = fromBytes (inputsOf (decode image .facilities)) stimulus
 
@@ -70,6 +71,7 @@ module _ (image store record′ stimulus : List ℕ) (scratch : ℕ) where
   abbrev pub acted : Ran Noted
   acted = executed (decode image) (fromBytes (decode image .facilities) store) (recordFrom record′) inputWords
 
+  -- Actions that stop write nothing.
   abbrev pub writesOf : Ran Noted → List Write
   writesOf (went c) = cycleWrites (decode image) inputWords c stateAfter
   writesOf (Ran.stopped n) = []
@@ -131,6 +133,10 @@ module _ (image store record′ stimulus : List ℕ) (scratch : ℕ) where
     wrote : Wrote d (fromBytes (d .facilities) store) (recordFrom record′) inputWords (stepped .words) (stepped .after)
     wrote =
         cycle-wrote d (fromBytes (d .facilities) store) (recordFrom record′) inputWords (stepped .words) (stepped .after) (legal-image image (there .passing)) (stepped .count) before-sound inputs-fit (stepped .step-so)
+
+    -- The actions were executed to the end.
+    pub acted-whole : (c : Doing Noted) × (acted ≡ went c)
+    acted-whole = (wrote .noted, wrote .executed-so)
 
     state-so : stateAfter ≡ stepped .after .state
     state-so = ap (λ (bs : List ℕ). recordFrom bs .state) (stepped .record-so) ∙ ap (λ (r : Record). r .state) (completed-back image store record′ stimulus scratch none-refused record′ (stepped .step-so) .0)
@@ -196,7 +202,7 @@ module _ (image store record′ stimulus : List ℕ) (scratch : ℕ) where
         spare-zero (d .facilities) storeAfter bytes-after enough-after (rw words-after (stepped .words-fit)) f w h i b l low high,
       )
 
-      -- ---- By the kinds of writes; c is what the actions came to.
+      -- ---- By the kinds of writes; c is what the actions came to (acted-whole).
 
       module _ (c : Doing Noted) (acted-so : acted ≡ went c) (i b : ℕ) (is-bit : b < byteBits) (w : Write) (named : names (decode image) (w .at) i b ≡ true) where
         abbrev starts : List Write
