@@ -36,12 +36,12 @@ use Rattle.store_layout.specs.Layout.{Bytes, position, wordIn}
 -- ---- Every byte of the store is a word's.
 
 -- A word of a facility has byte i.
-pub record Holds (fs : List Facility) (i : ℕ) : Type 0 where
-  pub facility : ℕ
-  pub word : ℕ
-  pub is-stored : Stored fs facility word
-  pub from-first : placeOfWord fs facility word ≤ i
-  pub before-end : i < placeOfWord fs facility word + wordBytes (wordLength (getD fs facility noFacility))
+record Holds (fs : List Facility) (i : ℕ) : Type 0 where
+  facility : ℕ
+  word : ℕ
+  is-stored : Stored fs facility word
+  from-first : placeOfWord fs facility word ≤ i
+  before-end : i < placeOfWord fs facility word + wordBytes (wordLength (getD fs facility noFacility))
 
 divided : (i n c : ℕ) → i < c * n → (i / n * n ≤ i) × (i < i / n * n + n) × (i / n < c)
 divided i n c h = ⊎-elim
@@ -52,7 +52,7 @@ divided i n c h = ⊎-elim
     (omega (arith, a), omega (arith, a, m), div-lt-iff-lt-mul p .1 h))
     (eq-zero-or-pos n)
 
-pub holding : (fs : List Facility) (i : ℕ) → i < storeSizeOf fs → Holds fs i
+holding : (fs : List Facility) (i : ℕ) → i < storeSizeOf fs → Holds fs i
 unfolding facilityBytes placeIn placeOfWord storeSizeOf
 holding [] i h = absurd (omega arith)
 holding (f ∷ fs) i h = ⊎-elim
@@ -81,7 +81,7 @@ holding (f ∷ fs) i h = ⊎-elim
 -- ---- A bit of a byte is a bit of the word.
 
 -- How many bits of word w of facility f stand to the right of bit b of byte i.
-abbrev pub height : List Facility → ℕ → ℕ → ℕ → ℕ → ℕ
+abbrev height : List Facility → ℕ → ℕ → ℕ → ℕ → ℕ
 height fs f w i b = byteBits * (placeOfWord fs f w + wordBytes (wordLength (getD fs f noFacility))) - 1 - rank i b
 
 -- Where that bit stands among the word's n bytes from `at` on.
@@ -90,7 +90,7 @@ spot-so : (at n i b : ℕ) → b < byteBits → at ≤ i → i < at + n
 spot-so at n i b l p q = (omega arith, omega arith, omega arith)
 
 module _ (fs : List Facility) (B : List ℕ) (bytes-so : Bytes B) (enough : storeSizeOf fs ≤ length B) (f w : ℕ) (is-stored : Stored fs f w) where
-  pub bit-of-word : (i b : ℕ) → b < byteBits → placeOfWord fs f w ≤ i → i < placeOfWord fs f w + wordBytes (wordLength (getD fs f noFacility))
+  bit-of-word : (i b : ℕ) → b < byteBits → placeOfWord fs f w ≤ i → i < placeOfWord fs f w + wordBytes (wordLength (getD fs f noFacility))
       → bitAt B i b ≡ bitOf (wordOf (fromBytes fs B) f w) (height fs f w i b)
   unfolding bitAt bitOf position wordIn
   bit-of-word i b l p q =

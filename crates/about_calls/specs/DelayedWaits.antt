@@ -1,4 +1,4 @@
--- What a completed cycle did: a delayed store fixes place and value when executed and changes no word; all land at the end, in order of execution, and the conflicts are counted from them; what no executed store names is kept. Assumes nothing.
+-- A delayed store fixes place and value when executed and changes no word; two of them swap two registers; what no executed store names is kept. Assumes nothing.
 use mathlib.Core.Bool.{Bool, true, false, cond, _||_}
 use mathlib.Core.List.{List, [], _∷_, _++_}
 use mathlib.Core.Option.{some}
@@ -119,11 +119,9 @@ module _ (d : Description) where
       let y = swaps d f g (c .store .words) a b same apart fits in
       record { done = after-two; executed-both = rw one two; first-has = rw none-yet (y .0); second-has = rw none-yet (y .1) }
 
-  -- ---- A cycle that completed.
+  -- ---- A cycle that completed: what no executed store names.
 
   module _ (s : Words) (r : Record) (ins : Words) (t : Words) (q : Record) (n : ℕ) where
-    -- ---- What no executed store names.
-
     -- The actions as executed with every write noted, and every bit that neither a write, nor a delayed store, nor the begin of the cycle or the change of state names.
     pub record Keeps : Type 0 where
       pub noted : Doing Noted
