@@ -1,4 +1,4 @@
--- What holds of the definitions alone. Read NeverStuck, AnyRun, StuckReached, Account, Conditions, StopOrder, Kept and LandsTogether; the rest leads to them.
+-- What holds of the definitions alone. Read NeverStuck, AnyRun, StuckReached, Account, Conditions, StopOrder, LandsLast, Kept, CycleWrites and LandsTogether; the rest leads to them.
 
 -- ---- What no fault means, part by part.
 pub mod Judged
@@ -47,7 +47,9 @@ pub mod PlaceFound
 pub mod SameValues
 pub mod SameActions
 pub mod SameRuns
--- ---- What no store names is kept; delayed stores land together.
+-- ---- What a completed cycle did; what no store names is kept; all that it wrote, in order; delayed stores land together.
+pub mod LandsLast
 pub mod BitsKept
 pub mod Kept
+pub mod CycleWrites
 pub mod LandsTogether
