@@ -35,6 +35,7 @@ pub mod CompletingNotions
 pub mod Completed
 -- Places of refusals.
 pub mod Stops
+pub mod Places
 pub mod Refusals
 -- Sound: what is accepted is derived, notion by notion.
 pub mod Accepting
