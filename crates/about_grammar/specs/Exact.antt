@@ -10,7 +10,7 @@ use Rattle.language.specs.Grammar.{Is}
 use Rattle.language.specs.Machine.{Parsed, Reading, deepest, parsed, refused, withinCeilings}
 use Rattle.language.specs.Notions.{text, wholeText}
 use Rattle.language.specs.declared.refusals.Refusal.the-variants.{CeilingPassed, NoContinuation}
-use Rattle.language.specs.Sections.{parse, ruleOf}
+use Rattle.language.specs.Sections.{parse, parseWith, ruleOf}
 use Rattle.language.specs.Tree.{Text}
 use Rattle.language.specs.WordStage.{scan}
 use Rattle.language.specs.Words.{Fault, Position, Word, fault, position, wordAt}
@@ -18,10 +18,10 @@ use Rattle.about_grammar.specs.Accepting.{Proper}
 use Rattle.about_grammar.specs.Complete.{complete}
 use Rattle.about_grammar.specs.Courses.{Stack}
 use Rattle.about_grammar.specs.Fine.{Fine}
-use Rattle.about_grammar.specs.FirstFault.{first-fault, first-one, no-text}
-use Rattle.about_grammar.specs.Places.{FirstFault, PlaceOfTen, RefusalOf, Within, ten, three}
+use Rattle.about_grammar.specs.FirstFault.{begun-there, first-fault, first-one, no-text}
+use Rattle.about_grammar.specs.Places.{Beyond, Legal, PlaceOfTen, RefusalOf, Within, ten, three}
 use Rattle.about_grammar.specs.ProperWords.{scan-proper}
-use Rattle.about_grammar.specs.Refusals.{eased, place-of-ten, stopped, ten-refused}
+use Rattle.about_grammar.specs.Refusals.{eased, none-within, place-of-ten, stopped, ten-refused, ten-why}
 use Rattle.about_grammar.specs.Sound.{sound}
 use Rattle.about_grammar.specs.StaysFine.{stays-fine}
 use Rattle.about_grammar.specs.Stops.{Why, no-way, refused-one, too-much, too-short}
@@ -29,10 +29,6 @@ use Rattle.about_grammar.specs.Stops.{Why, no-way, refused-one, too-much
 -- The words are accepted, with this tree.
 abbrev pub Accepted : List Word → ℕ → Text → Type 0
 Accepted ws end t = (b : Built) × (parse ws end ≡ parsed b) × (b .text ≡ t)
-
--- They are a text of the grammar with this tree, within the ceilings.
-abbrev pub Legal : List Word → Text → Type 0
-Legal ws t = Is wholeText deepest ws (text t) × WithinCeilings t
 
 module _ (ws : List Word) (end : ℕ) (proper : Proper ws) where
   pub exact : (t : Text) → (Legal ws t → Accepted ws end t) × (Accepted ws end t → Legal ws t)
@@ -65,6 +61,13 @@ module _ (ws : List Word) (end : ℕ) (proper : Proper ws) where
       go : (r : Parsed Built) → parse ws end ≡ r → r ≡ refused (fault p NoContinuation)
       go (parsed b) e = absurd (no-text x (record { depth = deepest; tree = b .text; derived = sound ws end b proper e .0 }))
       go (refused g) e = same g (refusal g e)
+
+  -- Where 10 stands, some text goes on with the words taken, and none within the ceilings goes on as they do.
+  pub beyond : (p : Position) → PlaceOfTen ws end p → Beyond ws
+  unfolding parse parseWith
+  beyond p x =
+      let s = stopped ws end (fault p CeilingPassed) (ten-refused ws end p x) in
+      record { us = s .us; left = s .left; split = s .split; begun = begun-there ws end (fault p CeilingPassed) proper s; none = none-within (s .us) (s .left) (s .reach) (ten-why (s .why) refl) }
 
 -- The words of a text are proper.
 pub exact-text : (s : List ℕ) (end : ℕ) (t : Text) → (Legal (scan s .words) t → Accepted (scan s .words) end t) × (Accepted (scan s .words) end t → Legal (scan s .words) t)

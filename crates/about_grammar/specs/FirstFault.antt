@@ -7,7 +7,7 @@ use lib.ListN.{length}
 use Rattle.language.specs.Machine.{refused}
 use Rattle.language.specs.declared.refusals.Refusal.the-variants.{NoContinuation}
 use Rattle.language.specs.Sections.{parse, parseWith}
-use Rattle.language.specs.Words.{Position, Word, fault, wordAt}
+use Rattle.language.specs.Words.{Fault, Position, Word, fault, wordAt}
 use Rattle.about_grammar.specs.Accepting.{Proper}
 use Rattle.about_grammar.specs.Completed.{completed}
 use Rattle.about_grammar.specs.Completing.{Completed, proper-on}
@@ -19,24 +19,27 @@ proper-left : (us vs : List Word) → Proper (us ++ vs) → Proper us
 proper-left [] vs p = tt
 proper-left (w ∷ us) vs p = (p .0, proper-left us vs (p .1))
 
-pub first-fault : (ws : List Word) (end : ℕ) (p : Position) → Proper ws → parse ws end ≡ refused (fault p NoContinuation) → FirstFault ws end p
+-- Some text begins with the words that the machine took.
+pub begun-there : (ws : List Word) (end : ℕ) (f : Fault) → Proper ws → (s : StoppedAt ws end f) → Begins (s .us)
 unfolding parseWith
-first-fault ws end p q h = go (stopped ws end (fault p NoContinuation) h)
+begun-there ws end f q s = go (completed (s .stack) (s .nice-stack) (s .sofar .built) (s .sofar .counts))
   where
-    go : StoppedAt ws end (fault p NoContinuation) → FirstFault ws end p
-    go s = record { us = s .us; left = s .left; split = s .split; begun = onward (completed (s .stack) (s .nice-stack) (s .sofar .built) (s .sofar .counts)); none = nothing-legal (s .us) (s .reach-all) (s .why) refl }
-      where
-        onward : Completed (s .stack) (s .sofar .built) (s .sofar .counts) → Begins (s .us)
-        onward r = record {
-          more = r .words;
-          is-text = record {
-            depth = length (s .us ++ r .words);
-            tree = r .result .text;
-            derived =
-                sound-unbounded (s .us ++ r .words) 0 (r .result) (proper-on (s .us) (r .words) (proper-left (s .us) (s .left) (subst Proper (s .split) q)) (r .proper))
-                (s .reach-all (r .words) 0 ∙ r .accepted);
-          };
-        }
+    go : Completed (s .stack) (s .sofar .built) (s .sofar .counts) → Begins (s .us)
+    go r = record {
+      more = r .words;
+      is-text = record {
+        depth = length (s .us ++ r .words);
+        tree = r .result .text;
+        derived =
+            sound-unbounded (s .us ++ r .words) 0 (r .result) (proper-on (s .us) (r .words) (proper-left (s .us) (s .left) (subst Proper (s .split) q)) (r .proper))
+            (s .reach-all (r .words) 0 ∙ r .accepted);
+      };
+    }
+
+pub first-fault : (ws : List Word) (end : ℕ) (p : Position) → Proper ws → parse ws end ≡ refused (fault p NoContinuation) → FirstFault ws end p
+first-fault ws end p q h =
+    let s = stopped ws end (fault p NoContinuation) h in
+    record { us = s .us; left = s .left; split = s .split; begun = begun-there ws end (fault p NoContinuation) q s; none = nothing-legal (s .us) (s .reach-all) (s .why) refl }
 
 -- ---- It is one place, and the words are no text.
 

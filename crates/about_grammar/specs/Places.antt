@@ -4,9 +4,10 @@ use mathlib.Core.List.{List, [], _∷_, _++_}
 use mathlib.Core.Path.{_≡_}
 use Prim.Native.Nat.{ℕ}
 use Rattle.language.specs.Building.{Built}
+use Rattle.language.specs.Ceilings.{WithinCeilings}
 use Rattle.language.specs.Declaring.{treeSteps}
 use Rattle.language.specs.Grammar.{Is}
-use Rattle.language.specs.Machine.{Counts, Reading, run, withinCeilings}
+use Rattle.language.specs.Machine.{Counts, Reading, deepest, run, withinCeilings}
 use Rattle.language.specs.Notions.{text, wholeText}
 use Rattle.language.specs.declared.refusals.Refusal.the-variants.{CeilingPassed, NoContinuation}
 use Rattle.language.specs.Sections.{parse, ruleOf}
@@ -14,6 +15,10 @@ use Rattle.language.specs.Tree.{Text}
 use Rattle.language.specs.Words.{Fault, Position, Word, fault, position, wordAt}
 use Rattle.about_grammar.specs.Ceilingless.{Passes}
 use Rattle.about_grammar.specs.Courses.{Stack}
+
+-- The words are a text of the grammar with this tree, within the ceilings.
+abbrev pub Legal : List Word → Text → Type 0
+Legal ws t = Is wholeText deepest ws (text t) × WithinCeilings t
 
 -- ---- 3.
 
@@ -57,6 +62,24 @@ pub record PlaceOfTen (ws : List Word) (end : ℕ) (p : Position) : Type 0 where
   pub reach : (vs : List Word) (end₁ : ℕ) → parse (us ++ vs) end₁ ≡ run treeSteps withinCeilings (ruleOf treeSteps) stack vs end₁ sofar
   pub within : Within (sofar .counts)
   pub passing : Passes treeSteps withinCeilings (ruleOf treeSteps) end stack sofar left p
+
+-- Some text within the ceilings begins with these words.
+pub record BeginsWithin (ws : List Word) : Type 0 where
+  pub more : List Word
+  pub tree : Text
+  pub legal : Legal (ws ++ more) tree
+
+-- What 10 means for texts: some text, ceilings apart, begins with the words us, and none within the ceilings goes on as they do.
+pub data NoneWithin (us : List Word) : List Word → Type 0 where
+  past-word : (w : Word) (vs : List Word) → (BeginsWithin (us ++ w ∷ []) → ⊥) → NoneWithin us (w ∷ vs)
+  past-nothing : ((t : Text) → Legal us t → ⊥) → NoneWithin us []
+
+pub record Beyond (ws : List Word) : Type 0 where
+  pub us : List Word
+  pub left : List Word
+  pub split : ws ≡ us ++ left
+  pub begun : Begins us
+  pub none : NoneWithin us left
 
 -- ---- A refusal, with its number and its place.
 

@@ -13,12 +13,12 @@ use Rattle.language.specs.declared.refusals.Refusal.the-variants.{CeilingPassed
 use Rattle.language.specs.Sections.{parse, parseWith, ruleOf}
 use Rattle.language.specs.Words.{Fault, Position, Word, fault}
 use Rattle.about_grammar.specs.Ceilingless.{Passes, all, passes-feed, passes-finish}
-use Rattle.about_grammar.specs.Complete.{complete-unbounded, fits-under, most}
+use Rattle.about_grammar.specs.Complete.{complete, complete-unbounded, fits-under, most}
 use Rattle.about_grammar.specs.Courses.{Stack, Under}
 use Rattle.about_grammar.specs.Fine.{Fine}
 use Rattle.about_grammar.specs.FineWays.{both-first, both-second}
 use Rattle.about_grammar.specs.Following.{among}
-use Rattle.about_grammar.specs.Places.{Begins, NoWay, PlaceOfTen, Within, with-nothing, with-word}
+use Rattle.about_grammar.specs.Places.{Begins, BeginsWithin, NoWay, NoneWithin, PlaceOfTen, Within, past-nothing, past-word, with-nothing, with-word}
 use Rattle.about_grammar.specs.StaysFine.{stays-fine}
 use Rattle.about_grammar.specs.Stops.{Stopped, Why, find, no-way, not-refused, too-much, too-short}
 
@@ -64,7 +64,7 @@ stopped ws end f h = find treeSteps withinCeilings Within (λ c e. e) eased (rul
 
 -- ---- 10.
 
-ten-why : {L : Stack} {q : Reading Built} {end : ℕ} {left : List Word} {f : Fault} → Why treeSteps withinCeilings Within (λ c e. e) eased (ruleOf treeSteps) Fine stays-fine L q end left f → f .refusal ≡ CeilingPassed → Passes treeSteps withinCeilings (ruleOf treeSteps) end L q left (f .at)
+pub ten-why : {L : Stack} {q : Reading Built} {end : ℕ} {left : List Word} {f : Fault} → Why treeSteps withinCeilings Within (λ c e. e) eased (ruleOf treeSteps) Fine stays-fine L q end left f → f .refusal ≡ CeilingPassed → Passes treeSteps withinCeilings (ruleOf treeSteps) end L q left (f .at)
 ten-why (no-way w vs e) n = absurd (let z : _≡_ {A = ℕ} 0 1 = cc in omega arith)
 ten-why (too-short e) n = absurd (let z : _≡_ {A = ℕ} 0 1 = cc in omega arith)
 ten-why (too-much vs p x) n = x
@@ -82,6 +82,22 @@ ten-refused ws end p x = ap (λ (l : List Word). parse l end) (x .split) ∙ x .
     stops : (vs : List Word) → Passes treeSteps withinCeilings (ruleOf treeSteps) end (x .stack) (x .sofar) vs p → run treeSteps withinCeilings (ruleOf treeSteps) (x .stack) vs end (x .sofar) ≡ refused (fault p CeilingPassed)
     stops [] y = passes-finish treeSteps withinCeilings (ruleOf treeSteps) end y
     stops (w ∷ vs) y = ap (λ (z : Fed Built). after treeSteps withinCeilings (ruleOf treeSteps) z (λ L q. run treeSteps withinCeilings (ruleOf treeSteps) L vs end q)) (passes-feed treeSteps withinCeilings (ruleOf treeSteps) end w vs y)
+
+-- No text within the ceilings goes on so.
+pub none-within : {L : Stack} {q : Reading Built} {end : ℕ} {p : Position} (us left : List Word) → ((vs : List Word) (end₁ : ℕ) → parse (us ++ vs) end₁ ≡ run treeSteps withinCeilings (ruleOf treeSteps) L vs end₁ q)
+    → Passes treeSteps withinCeilings (ruleOf treeSteps) end L q left p → NoneWithin us left
+unfolding run
+none-within {end = end} us [] reach x =
+    past-nothing (λ t l.
+    let y = complete (l .0) (l .1) end in
+    not-refused (sym (y .1) ∙ ap (λ (l : List Word). parse l end) (sym (append-nil us)) ∙ reach [] end ∙ passes-finish treeSteps withinCeilings (ruleOf treeSteps) end x))
+none-within {end = end} us (w ∷ vs) reach x = past-word w vs none
+  where
+    none : BeginsWithin (us ++ w ∷ []) → ⊥
+    none b =
+        let y = complete (b .legal .0) (b .legal .1) 0 in
+        not-refused (sym (y .1) ∙ ap (λ (l : List Word). parse l 0) (append-assoc us (w ∷ []) (b .more)) ∙ reach (w ∷ b .more) 0
+        ∙ ap (λ (z : Fed Built). after treeSteps withinCeilings (ruleOf treeSteps) z (λ M s. run treeSteps withinCeilings (ruleOf treeSteps) M (b .more) 0 s)) (passes-feed treeSteps withinCeilings (ruleOf treeSteps) end w vs x))
 
 -- ---- 3.
 
