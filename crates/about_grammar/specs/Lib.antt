@@ -63,3 +63,4 @@ pub mod FirstFault
 pub mod Exact
 pub mod Examples
 pub mod ExamplesDeeper
+pub mod ExamplesPlaces
