@@ -33,6 +33,15 @@ pub mod StaysFine
 pub mod Completing
 pub mod CompletingNotions
 pub mod Completed
+-- What each word counts.
+pub mod Counting
+pub mod Tale
+pub mod Telling
+pub mod TellingTerms
+pub mod TellingActions
+pub mod TellingDeclared
+pub mod TellingStates
+pub mod Told
 -- Places of refusals.
 pub mod Stops
 pub mod Places
