@@ -3,7 +3,7 @@ use mathlib.Core.List.{List, [], _∷_}
 use Prim.Native.Nat.{ℕ, suc}
 use Rattle.language.specs.Grammar
 use Rattle.language.specs.Grammar.{Is}
-use Rattle.language.specs.Machine.{Tally, counted, facility, operation, state}
+use Rattle.language.specs.Machine.{Counts, Tally, counted, facility, nested, operation, state, tallied}
 use Rattle.language.specs.Notions.{Notion, Tree}
 use Rattle.language.specs.Words.{Word}
 
@@ -125,3 +125,8 @@ marks (Grammar.control-section x y) n ms = plain n ∷ marks x n (marks y n ms)
 marks Grammar.no-dollar n ms = ms
 marks Grammar.some-dollar n ms = plain n ∷ ms
 marks (Grammar.whole-text x y z w) n ms = marks x n (marks y n (marks z n (marks w n ms)))
+
+-- The counts behind words with these marks.
+unfoldable pub countsBehind : List Mark → Counts → Counts
+countsBehind [] c = c
+countsBehind (m ∷ ms) c = countsBehind ms (nested (m .depth) (tallied (m .tallies) c))

@@ -1,6 +1,6 @@
 -- Worked examples of the places of refusals: one number at one place satisfies each text, and nothing else does.
 use mathlib.Core.List.{List, _++_}
-use mathlib.Core.Option.{Option, none, some}
+use mathlib.Core.Option.{some}
 use mathlib.Core.Path.{_≡_, _∙_, refl, sym}
 use Prim.Native.Nat.{ℕ}
 use native.Mathlib.Omega.{arith}

@@ -15,7 +15,7 @@ use Rattle.about_grammar.specs.Places.{Begins, FirstFault, IsText, NoWay
 use Rattle.about_grammar.specs.Refusals.{StoppedAt, nothing-legal, stopped}
 use Rattle.about_grammar.specs.Sound.{sound-unbounded}
 
-proper-left : (us vs : List Word) → Proper (us ++ vs) → Proper us
+pub proper-left : (us vs : List Word) → Proper (us ++ vs) → Proper us
 proper-left [] vs p = tt
 proper-left (w ∷ us) vs p = (p .0, proper-left us vs (p .1))
 
@@ -43,7 +43,7 @@ first-fault ws end p q h =
 
 -- ---- It is one place, and the words are no text.
 
-begins-front : (us vs : List Word) → Begins (us ++ vs) → Begins us
+pub begins-front : (us vs : List Word) → Begins (us ++ vs) → Begins us
 begins-front us vs x = record { more = vs ++ x .more; is-text = subst IsText (append-assoc us vs (x .more)) (x .is-text) }
 
 pub no-text : {ws : List Word} {end : ℕ} {p : Position} → FirstFault ws end p → IsText ws → ⊥
@@ -54,12 +54,12 @@ no-text {end = end} {p = p} x t = go p (x .left) (x .none) (subst IsText (x .spl
     go q left (with-nothing n) t = n (subst IsText (append-nil (x .us)) t)
 
 -- Two splits of the same words.
-data Splits (us ls vs ms : List Word) : Type 0 where
+pub data Splits (us ls vs ms : List Word) : Type 0 where
   same : us ≡ vs → ls ≡ ms → Splits us ls vs ms
   further : (w : Word) (ds : List Word) → vs ≡ us ++ w ∷ ds → ls ≡ w ∷ (ds ++ ms) → Splits us ls vs ms
   nearer : (w : Word) (ds : List Word) → us ≡ vs ++ w ∷ ds → ms ≡ w ∷ (ds ++ ls) → Splits us ls vs ms
 
-splits : (us ls vs ms : List Word) → us ++ ls ≡ vs ++ ms → Splits us ls vs ms
+pub splits : (us ls vs ms : List Word) → us ++ ls ≡ vs ++ ms → Splits us ls vs ms
 splits [] ls [] ms e = same refl e
 splits [] ls (v ∷ vs) ms e = further v vs refl e
 splits (u ∷ us) ls [] ms e = nearer u us refl (sym e)
@@ -71,7 +71,7 @@ splits (u ∷ us) ls (v ∷ vs) ms e = go (cc) (splits us ls vs ms (cc))
     go q (nearer w ds a b) = nearer w ds (cc) b
 
 -- Where words that begin a text go on with a word, no fault stands at it.
-begun-past : {us left : List Word} {end : ℕ} {p : Position} (w : Word) (ds rest : List Word) → Begins (us ++ w ∷ ds) → NoWay us end left p → left ≡ w ∷ rest → ⊥
+pub begun-past : {us left : List Word} {end : ℕ} {p : Position} (w : Word) (ds rest : List Word) → Begins (us ++ w ∷ ds) → NoWay us end left p → left ≡ w ∷ rest → ⊥
 begun-past {us} w ds rest b (with-word v vs n) e = n (rw (let q : v ≡ w = cc in q) (begins-front (us ++ w ∷ []) ds (subst Begins (sym (append-assoc us (w ∷ []) ds)) b)))
 begun-past w ds rest b (with-nothing n) e = absurd (let z : _≡_ {A = ℕ} 0 1 = cc in omega arith)
 

@@ -42,6 +42,8 @@ pub mod TellingActions
 pub mod TellingDeclared
 pub mod TellingStates
 pub mod Told
+pub mod Calm
+pub mod Stepping
 -- Places of refusals.
 pub mod Stops
 pub mod Places
@@ -69,6 +71,10 @@ pub mod Sound
 -- All of it in one place, and worked examples.
 pub mod ProperWords
 pub mod FirstFault
+pub mod Chains
+pub mod Tens
+pub mod TenPlaces
+pub mod NoTens
 pub mod Exact
 pub mod Examples
 pub mod ExamplesDeeper

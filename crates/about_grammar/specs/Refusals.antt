@@ -11,16 +11,16 @@ use Rattle.language.specs.Declaring.{treeSteps}
 use Rattle.language.specs.Machine.{Counts, Fed, Reading, after, ask, deepest, mostCounted, mostFacilities, mostOperations, mostStates, nested, noCounts, parsed, reading, refused, run, sections, withinCeilings}
 use Rattle.language.specs.declared.refusals.Refusal.the-variants.{CeilingPassed, NoContinuation}
 use Rattle.language.specs.Sections.{parse, parseWith, ruleOf}
-use Rattle.language.specs.Words.{Fault, Position, Word, fault}
-use Rattle.about_grammar.specs.Ceilingless.{Passes, all, passes-feed, passes-finish}
-use Rattle.about_grammar.specs.Complete.{complete, complete-unbounded, fits-under, most}
+use Rattle.language.specs.Words.{Fault, Word}
+use Rattle.about_grammar.specs.Ceilingless.{Passes, all}
+use Rattle.about_grammar.specs.Complete.{complete-unbounded, fits-under, most}
 use Rattle.about_grammar.specs.Courses.{Stack, Under}
 use Rattle.about_grammar.specs.Fine.{Fine}
 use Rattle.about_grammar.specs.FineWays.{both-first, both-second}
 use Rattle.about_grammar.specs.Following.{among}
-use Rattle.about_grammar.specs.Places.{Begins, BeginsWithin, NoWay, NoneWithin, PlaceOfTen, Within, past-nothing, past-word, with-nothing, with-word}
+use Rattle.about_grammar.specs.Places.{Begins, NoWay, Within, with-nothing, with-word}
 use Rattle.about_grammar.specs.StaysFine.{stays-fine}
-use Rattle.about_grammar.specs.Stops.{Stopped, Why, find, no-way, not-refused, too-much, too-short}
+use Rattle.about_grammar.specs.Stops.{Chain, Stopped, Why, find, no-way, not-refused, too-much, too-short}
 
 -- ---- Counts that fit are under the ceilings.
 
@@ -41,20 +41,23 @@ under-fits c e =
 pub eased : (c : Counts) → Within c → Within (nested (c .nesting - 1) c)
 eased c e = let u = under-fits c e in fits-under (nested (c .nesting - 1) c) (omega arith)
 
-abbrev start : Stack
+abbrev pub start : Stack
 start = ask sections ∷ []
 
-abbrev begun : Reading Built
+abbrev pub begun : Reading Built
 begun = reading nothingBuilt noCounts
+
+abbrev pub ChainOf : Stack → Reading Built → List Word → Stack → Reading Built → Type 0
+ChainOf K r us M s = Chain treeSteps withinCeilings Within (λ c e. e) eased (ruleOf treeSteps) Fine stays-fine K r us M s
 
 abbrev pub StoppedAt : List Word → ℕ → Fault → Type 0
 StoppedAt ws end f = Stopped treeSteps withinCeilings Within (λ c e. e) eased (ruleOf treeSteps) Fine stays-fine start begun ws end f
 
-nothing-counted : Within noCounts
+pub nothing-counted : Within noCounts
 unfolding withinCeilings
 nothing-counted = refl
 
-start-fine : Fine start
+pub start-fine : Fine start
 unfolding among
 start-fine = (refl, tt)
 
@@ -68,36 +71,6 @@ pub ten-why : {L : Stack} {q : Reading Built} {end : ℕ} {left : List Word} {f 
 ten-why (no-way w vs e) n = absurd (let z : _≡_ {A = ℕ} 0 1 = cc in omega arith)
 ten-why (too-short e) n = absurd (let z : _≡_ {A = ℕ} 0 1 = cc in omega arith)
 ten-why (too-much vs p x) n = x
-
-pub place-of-ten : (ws : List Word) (end : ℕ) (p : Position) → parse ws end ≡ refused (fault p CeilingPassed) → PlaceOfTen ws end p
-unfolding parse parseWith
-place-of-ten ws end p h =
-    let s = stopped ws end (fault p CeilingPassed) h in
-    record { us = s .us; left = s .left; split = s .split; stack = s .stack; sofar = s .sofar; reach = s .reach; within = s .within; passing = ten-why (s .why) refl }
-
-pub ten-refused : (ws : List Word) (end : ℕ) (p : Position) → PlaceOfTen ws end p → parse ws end ≡ refused (fault p CeilingPassed)
-unfolding run
-ten-refused ws end p x = ap (λ (l : List Word). parse l end) (x .split) ∙ x .reach (x .left) end ∙ stops (x .left) (x .passing)
-  where
-    stops : (vs : List Word) → Passes treeSteps withinCeilings (ruleOf treeSteps) end (x .stack) (x .sofar) vs p → run treeSteps withinCeilings (ruleOf treeSteps) (x .stack) vs end (x .sofar) ≡ refused (fault p CeilingPassed)
-    stops [] y = passes-finish treeSteps withinCeilings (ruleOf treeSteps) end y
-    stops (w ∷ vs) y = ap (λ (z : Fed Built). after treeSteps withinCeilings (ruleOf treeSteps) z (λ L q. run treeSteps withinCeilings (ruleOf treeSteps) L vs end q)) (passes-feed treeSteps withinCeilings (ruleOf treeSteps) end w vs y)
-
--- No text within the ceilings goes on so.
-pub none-within : {L : Stack} {q : Reading Built} {end : ℕ} {p : Position} (us left : List Word) → ((vs : List Word) (end₁ : ℕ) → parse (us ++ vs) end₁ ≡ run treeSteps withinCeilings (ruleOf treeSteps) L vs end₁ q)
-    → Passes treeSteps withinCeilings (ruleOf treeSteps) end L q left p → NoneWithin us left
-unfolding run
-none-within {end = end} us [] reach x =
-    past-nothing (λ t l.
-    let y = complete (l .0) (l .1) end in
-    not-refused (sym (y .1) ∙ ap (λ (l : List Word). parse l end) (sym (append-nil us)) ∙ reach [] end ∙ passes-finish treeSteps withinCeilings (ruleOf treeSteps) end x))
-none-within {end = end} us (w ∷ vs) reach x = past-word w vs none
-  where
-    none : BeginsWithin (us ++ w ∷ []) → ⊥
-    none b =
-        let y = complete (b .legal .0) (b .legal .1) 0 in
-        not-refused (sym (y .1) ∙ ap (λ (l : List Word). parse l 0) (append-assoc us (w ∷ []) (b .more)) ∙ reach (w ∷ b .more) 0
-        ∙ ap (λ (z : Fed Built). after treeSteps withinCeilings (ruleOf treeSteps) z (λ M s. run treeSteps withinCeilings (ruleOf treeSteps) M (b .more) 0 s)) (passes-feed treeSteps withinCeilings (ruleOf treeSteps) end w vs x))
 
 -- ---- 3.
 

@@ -2,7 +2,7 @@
 use mathlib.Core.Bool.{Bool, true, false, cond}
 use mathlib.Core.List.{List, [], _∷_, _++_, map, append-assoc}
 use mathlib.Core.Option.{Option, none, some}
-use mathlib.Core.Path.{_≡_, _∙_, ap, sym, refl, subst}
+use mathlib.Core.Path.{_≡_, _∙_, ap, refl, subst}
 use Prim.Native.Nat.{ℕ, zero, suc}
 use lib.Dec.{eqb}
 use lib.ListN.{drop}
@@ -10,7 +10,7 @@ use Rattle.language.specs.Alternatives.{always, followed}
 use Rattle.language.specs.Building.{Built}
 use Rattle.language.specs.Declaring.{treeSteps}
 use Rattle.language.specs.Kinds.{aName}
-use Rattle.language.specs.Machine.{Alternative, Ask, Bearing, Rule, Tally, Without, again, ask, closes, counted, ease, keep, level, make, may, must, opens, operand, word}
+use Rattle.language.specs.Machine.{Alternative, Ask, Bearing, Tally, Without, again, ask, closes, counted, ease, keep, level, make, may, must, opens, operand, word}
 use Rattle.language.specs.Sections.{ruleOf}
 use Rattle.language.specs.Steps.{Step}
 use Rattle.language.specs.Words.{Word, kindOf}
@@ -189,7 +189,6 @@ pub _⊳_ : {js : List ℕ} {K L M : Stack} {n m o : ℕ} {w : Word} {vs : List 
 x ⊳ y = then-words x y
 
 infixr 30 _⊳_
-
 -- A move without a word, behind words and before them.
 pub ends-in : {ks js : List ℕ} {K L M : Stack} {n m o : ℕ} {us : List Word} {f : List Mark → List Mark} → Goes ks K n us f L m → ((ws : List Word) → Follows js ws → Follows ks ws) → Goes js L m [] (λ ms. ms) M o → Goes js K n us f M o
 ends-in {f = f} x h y = goes (λ ws q. x .says ws (h ws q) ∙ ap f (y .says ws q))

@@ -1,31 +1,29 @@
 -- The machine's tale of expressions is what the grammar counts.
-use mathlib.Core.Bool.{Bool, true, false}
-use mathlib.Core.List.{List, [], _∷_, _++_, map, append-assoc}
-use mathlib.Core.Path.{_≡_, _∙_, ap, sym, refl, subst}
+use mathlib.Core.Bool.{true, false}
+use mathlib.Core.List.{List, [], _∷_, _++_, append-assoc}
+use mathlib.Core.Path.{_≡_, _∙_, ap, refl}
 use Prim.Native.Nat.{ℕ, suc}
-use lib.Dec.{eqb}
-use lib.ListN.{drop, take}
-use Rattle.language.specs.Alternatives.{always, closing, followed, lead, plainWord}
-use Rattle.language.specs.Building.{Built, makeBinary, makeChoice, makeCut, makeFirstArm, makeNextArm, makePrefix}
+use Rattle.language.specs.Alternatives.{closing, plainWord}
+use Rattle.language.specs.Building.{Built, makeBinary, makeCut, makePrefix}
 use Rattle.language.specs.Declaring.{treeSteps}
-use Rattle.language.specs.Kinds.{aConstant, closeParen, colon, conWord, differenceSign, doWord, elseWord, endCaseWord, endIfWord, equalsSign, exclusiveSign, extWord, greaterSign, hash, atLeastSign, atMostSign, headWord, lessSign, minus, plus, redWord, star, sumSign, tailWord, thenWord}
+use Rattle.language.specs.Kinds.{conWord, differenceSign, equalsSign, exclusiveSign, extWord, greaterSign, hash, atLeastSign, atMostSign, headWord, lessSign, minus, plus, redWord, star, sumSign, tailWord}
 use Rattle.language.specs.Machine as M
-use Rattle.language.specs.Machine.{Alternative, Ask, Bearing, adjustment, andTail, arithmetic, arithmeticTail, ask, closes, complement, conTail, counted, cutTail, ease, exclusiveTail, keep, make, minterm, moreArms, orTail, product, reduction, relationTail, term, word}
-use Rattle.language.specs.Operators.{isArithmetic, isCut, isReduction, isRelation, reductions, relations}
+use Rattle.language.specs.Machine.{Alternative, Ask, adjustment, andTail, arithmetic, arithmeticTail, ask, complement, conTail, counted, cutTail, ease, exclusiveTail, make, minterm, orTail, product, reduction, relationTail, term}
+use Rattle.language.specs.Operators.{isArithmetic, isCut, isReduction, isRelation, relations}
 use Rattle.language.specs.Sections.{ruleOf}
 use Rattle.language.specs.Steps.{Step}
 use Rattle.language.specs.Ways.{adjustmentWays, andWays, arithmeticTailWays, arithmeticWays, complementWays, conWays, cutWays, exclusiveWays, mintermWays, orWays, productWays, reductionWays, relationWays, termWays}
 use Rattle.language.specs.Words as W
 use Rattle.language.specs.Words.{Constant, Position, Word, kindOf, sign}
 use borrow.Author.Tests.{eq-eqb}
-use Rattle.about_grammar.specs.Counting.{Mark, firstCounts, one, plain}
+use Rattle.about_grammar.specs.Counting.{Mark, one, plain}
 use Rattle.about_grammar.specs.Courses.{Stack}
-use Rattle.about_grammar.specs.Following.{Follows, afterAnd, afterCon, afterCut, afterExclusive, afterOr, afterRelation, afterSum, afterTerm, among, among-left, among-rest, among-right, follows-left, follows-right}
+use Rattle.about_grammar.specs.Following.{Follows, afterAnd, afterCon, afterCut, afterExclusive, afterOr, afterRelation, afterSum, afterTerm, among, among-left, follows-left, follows-right}
 use Rattle.about_grammar.specs.Levels.{minusWay, negatingWay, reducingWays}
 use Rattle.about_grammar.specs.Operations.{arithmetic-kinds, cut-kinds, reduction-kinds, relation-kinds}
 use Rattle.about_grammar.specs.Stacks.{kindsOf, plainWays}
 use Rattle.about_grammar.specs.Taking.{Heads, notAdjustment, notBoolean, notChain, notTerm}
-use Rattle.about_grammar.specs.Tale.{Goes, after-ease, after-leaving, after-make, bearing, begins, begins-later, eat, goes, pick, tale, waitsFor}
+use Rattle.about_grammar.specs.Tale.{Goes, after-ease, after-leaving, after-make, begins, begins-later, eat, goes, pick, tale, waitsFor}
 
 abbrev pub Marks : Type 0
 Marks = ℕ → List Mark → List Mark

@@ -7,9 +7,9 @@ use Prim.Native.Nat.{ℕ, suc}
 use Rattle.language.specs.Alternatives.{closing, lead, noStep, plainWord}
 use Rattle.language.specs.Building.{beginList, makeArm, makeCall, makeChoose, makeGoto, makeIf, makePair, makePerform, makeReturn, makeSet, makeStore, makeWhen}
 use Rattle.language.specs.Declaring.{treeSteps}
-use Rattle.language.specs.Kinds.{aName, atSign, callSign, caseWord, colon, comma, conWord, delayedSign, doWord, elseWord, endCaseWord, endIfWord, equalSign, gotoSign, ifWord, openBracket, openParen, returnWord, thenWord}
+use Rattle.language.specs.Kinds.{atSign, callSign, caseWord, colon, comma, conWord, delayedSign, doWord, elseWord, endCaseWord, endIfWord, equalSign, gotoSign, ifWord, openBracket, openParen, returnWord, thenWord}
 use Rattle.language.specs.Machine as M
-use Rattle.language.specs.Machine.{Ask, Tally, ask, counted, keep, leftRest, make, operationAction, operationArms, operationMore, operationName, setSign, stateAction, stateArms, stateMore, stateName, stateRest, storeSign, subscripts}
+use Rattle.language.specs.Machine.{Ask, ask, counted, leftRest, make, operationAction, operationArms, operationMore, operationName, setSign, stateAction, stateArms, stateMore, stateName, stateRest, storeSign, subscripts}
 use Rattle.language.specs.Notions.{Section, inOperation, inState, isStore}
 use Rattle.language.specs.Sections.{ruleOf}
 use Rattle.language.specs.Tree.{Name}
@@ -21,9 +21,9 @@ use Rattle.about_grammar.specs.Courses.{Stack}
 use Rattle.about_grammar.specs.Following.{Follows, afterOr, afterTerm, among, follows-left, follows-right, follows-within, within}
 use Rattle.about_grammar.specs.Stores.{setOf, store-kinds}
 use Rattle.about_grammar.specs.Taking.{Heads, Opens}
-use Rattle.about_grammar.specs.Tale.{Goes, _⊳_, after-counting, asking, at-last, before, building, eat, ends-in, goes, leaving, nextAmong, pick, respelt, settled, starts-as, tale, then-move, then-words, waitsFor}
+use Rattle.about_grammar.specs.Tale.{Goes, _⊳_, after-counting, asking, before, building, eat, ends-in, goes, leaving, nextAmong, pick, respelt, settled, starts-as, tale, then-move, then-words, waitsFor}
 use Rattle.about_grammar.specs.Telling.{Boolean, Marks, Tells, at, by, closing-word, plain-word, tells, whole-expression}
-use Rattle.about_grammar.specs.TellingTerms.{Behind, Refers, none-next}
+use Rattle.about_grammar.specs.TellingTerms.{Behind, none-next}
 use Rattle.about_grammar.specs.Terms.{heads-follow}
 
 -- What is told, known by an equation.

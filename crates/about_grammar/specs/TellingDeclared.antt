@@ -15,16 +15,16 @@ use Rattle.language.specs.Tree as Tr
 use Rattle.language.specs.Tree.{Ends, Extent, Name, row, table}
 use Rattle.language.specs.Ways.{expressionWays, termWays}
 use Rattle.language.specs.Words as W
-use Rattle.language.specs.Words.{Constant, Position, Word, kindOf, sign}
+use Rattle.language.specs.Words.{Constant, Position, Word, sign}
 use Rattle.about_grammar.specs.Counting.{Mark, one, plain}
 use Rattle.about_grammar.specs.Courses.{Stack}
 use Rattle.about_grammar.specs.Declared.{ending-kinds, nextOf, wordOf}
-use Rattle.about_grammar.specs.Following.{Follows, afterOr, among, follows-within, within}
+use Rattle.about_grammar.specs.Following.{afterOr, among, follows-within, within}
 use Rattle.about_grammar.specs.Reaching.{Shelf, afterSpec, memories, moreOf, registers, specOf, terminals}
 use Rattle.about_grammar.specs.Stacks.{plainWays}
 use Rattle.about_grammar.specs.Taking.{Heads, notBoolean}
 use Rattle.about_grammar.specs.Tale.{Goes, _⊳_, asking, at-last, before, begins-later, building, eat, ends-in, goes, leaving, pick, respelt, starts-as, tale, then-move, then-words, waitsFor}
-use Rattle.about_grammar.specs.Telling.{Boolean, Marks, Tells, at, by, closing-word, plain-word, tells, whole-expression}
+use Rattle.about_grammar.specs.Telling.{Boolean, Marks, Tells, at, by, closing-word, whole-expression}
 use Rattle.about_grammar.specs.TellingActions.{Acting, list-done, more-tail}
 use Rattle.about_grammar.specs.Terms.{heads-follow}
 

@@ -1,16 +1,15 @@
 -- The machine's tale of states, and of a whole text, is what the grammar counts.
 use mathlib.Core.Bool.{Bool, true, false, cond}
-use mathlib.Core.List.{List, [], _∷_, _++_, map, append-assoc, append-nil}
+use mathlib.Core.List.{List, [], _∷_, _++_, map}
 use mathlib.Core.Option.{Option, none, some}
-use mathlib.Core.Path.{_≡_, _∙_, ap, sym, refl, subst}
+use mathlib.Core.Path.{_≡_, _∙_, ap, sym, refl}
 use Prim.Native.Nat.{ℕ, suc}
 use lib.Dec.{eqb}
 use lib.ListN.{drop, take}
-use Rattle.language.specs.Alternatives.{afterStep, closing, followed, lead, plainWord}
+use Rattle.language.specs.Alternatives.{afterStep, followed, lead}
 use Rattle.language.specs.Building.{Built}
 use Rattle.language.specs.Declaring.{beginLabelled, beginValued, makeState, treeSteps}
 use Rattle.language.specs.Kinds.{aName, atSign, closeParen, colon, controlWord, dollar, endWord, openBracket, openParen, period, slash}
-use Rattle.language.specs.Machine as M
 use Rattle.language.specs.Machine.{Alternative, Ask, Tally, ask, counted, dollarOption, firstName, make, sections, state, stateAction, stateBody, stateName, stateRest, stateStart, statesMore}
 use Rattle.language.specs.Notions.{inState}
 use Rattle.language.specs.Sections.{ruleOf}
@@ -23,14 +22,14 @@ use Rattle.about_grammar.specs.Acting.{Started, afterAction}
 use Rattle.about_grammar.specs.Counting.{Mark, firstCounts, one, plain}
 use Rattle.about_grammar.specs.Courses.{Stack}
 use Rattle.about_grammar.specs.Declared.{ending-kinds}
-use Rattle.about_grammar.specs.Following.{Follows, among, among-first, among-rest, among-within, within}
+use Rattle.about_grammar.specs.Following.{Follows, among, among-first, among-rest, among-within}
 use Rattle.about_grammar.specs.Stacks.{plainWays}
 use Rattle.about_grammar.specs.States.{all-there, name-there, slash-there}
 use Rattle.about_grammar.specs.Taking.{Heads}
 use Rattle.about_grammar.specs.Tale.{Eaten, Goes, _⊳_, ate, bearing, before, building, eat, goes, nextAmong, pick, pick-append, pick-followed, pick-none, same-word, settled, stopped, tale, then-move, then-words, told, waitsFor}
-use Rattle.about_grammar.specs.Telling.{Marks, Tells, at, by, tells}
+use Rattle.about_grammar.specs.Telling.{Marks, Tells, at, by}
 use Rattle.about_grammar.specs.TellingActions.{Acting, rest-tail}
-use Rattle.about_grammar.specs.TellingDeclared.{BeforeControl, BeforeOperations, Declares, Ended, Ending, OperationsPart, Optional}
+use Rattle.about_grammar.specs.TellingDeclared.{BeforeControl, Declares, Ended, Ending, OperationsPart, Optional}
 
 -- ---- Labels.
 

@@ -1,7 +1,7 @@
 -- The machine's tale of terms, subscripts and references is what the grammar counts.
-use mathlib.Core.Bool.{Bool, true, false, cond}
+use mathlib.Core.Bool.{false}
 use mathlib.Core.List.{List, [], _∷_, _++_, map, append-assoc}
-use mathlib.Core.Option.{Option, none, some}
+use mathlib.Core.Option.{none}
 use mathlib.Core.Path.{_≡_, _∙_, ap, sym, refl, subst}
 use Prim.Native.Nat.{ℕ, suc}
 use lib.Dec.{eqb}
@@ -11,19 +11,19 @@ use Rattle.language.specs.Building.{Built, makeChoice, makeConstant, makeFirstA
 use Rattle.language.specs.Declaring.{treeSteps}
 use Rattle.language.specs.Kinds.{aConstant, caseWord, closeBracket, closeParen, colon, comma, doWord, elseWord, endCaseWord, endIfWord, ifWord, openBracket, openParen, thenWord}
 use Rattle.language.specs.Machine as M
-use Rattle.language.specs.Machine.{Ask, Sym, Tally, afterConstant, afterSecondConstant, afterSubscript, andTail, arithmeticTail, ask, conTail, counted, cutTail, exclusiveTail, keep, make, moreArms, operandRest, orTail, relationTail, second, secondEnd, secondOption, secondRest, subscript, subscripts, term}
+use Rattle.language.specs.Machine.{Ask, Sym, afterConstant, afterSecondConstant, afterSubscript, andTail, arithmeticTail, ask, conTail, counted, cutTail, exclusiveTail, keep, make, moreArms, operandRest, orTail, relationTail, second, secondEnd, secondOption, secondRest, subscript, subscripts, term}
 use Rattle.language.specs.Notions.{betweenSubscripts}
 use Rattle.language.specs.Sections.{ruleOf}
 use Rattle.language.specs.Ways.{colonInstead, expressionWays, otherTermWays, subscriptWays, termWays}
 use Rattle.language.specs.Words as W
-use Rattle.language.specs.Words.{Constant, Position, Word, kindOf, sign}
+use Rattle.language.specs.Words.{Constant, Position, Word, sign}
 use Rattle.about_grammar.specs.Counting.{Mark, firstCounts, one, plain}
 use Rattle.about_grammar.specs.Courses.{Stack}
 use Rattle.about_grammar.specs.Following.{Follows, afterOr, afterTerm, among, follows-left, follows-right}
-use Rattle.about_grammar.specs.Stacks.{kindsOf, plainWays}
+use Rattle.about_grammar.specs.Stacks.{plainWays}
 use Rattle.about_grammar.specs.Taking.{Apart, Heads, NoPart, notBoolean}
 use Rattle.about_grammar.specs.Tale as T
-use Rattle.about_grammar.specs.Tale.{Eaten, Goes, _⊳_, after-counting, after-make, at-last, before, building, eat, ends-in, goes, leaving, nextAmong, pick, pick-append, pick-followed, pick-none, same-tale, same-word, settled, stopped, tale, then-move, waitsFor}
+use Rattle.about_grammar.specs.Tale.{Eaten, Goes, _⊳_, after-counting, after-make, at-last, before, building, eat, ends-in, goes, leaving, nextAmong, pick, pick-append, pick-followed, pick-none, same-tale, same-word, stopped, tale, then-move, waitsFor}
 use Rattle.about_grammar.specs.Telling.{Boolean, Marks, Tells, Term, at, by, clean, closing-word, plain-word, tells, whole-expression}
 use Rattle.about_grammar.specs.Terms.{heads-follow}
 
