@@ -1,7 +1,4 @@
 // All the rules over sections, with or without places: the least of all faults.
-use crate::facilities;
-use crate::operations;
-use crate::states;
 use image_records::bytes;
 use image_records::record_sizes;
 use image_sections::names as parts;
