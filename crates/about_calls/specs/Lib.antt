@@ -15,6 +15,7 @@ pub mod Beyond
 pub mod Tail
 -- ---- From a text to its cycles.
 pub mod EndToEnd
+pub mod TextToCycles
 -- ---- Each call has one outcome, and so has each exported one; former contents have no bearing.
 pub mod OneOutcome
 pub mod Exported
