@@ -17,3 +17,5 @@ pub mod States
 pub mod Words
 -- ---- All of it.
 pub mod FromDescriptions
+-- ---- How much room a legal text's records and names take.
+pub mod RecordRoom
