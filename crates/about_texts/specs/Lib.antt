@@ -19,3 +19,4 @@ pub mod Words
 pub mod FromDescriptions
 -- ---- How much room a legal text's records and names take.
 pub mod RecordRoom
+pub mod NameRoom

@@ -10,7 +10,7 @@ use lib.Dec.{leb, ltb}
 use lib.ListN.{length}
 use Rattle.language.specs.Ceilings.{countedActions, countedExpression, countedFunction, countedLeft, countedOperations, countedReference, countedStates, countedTerminals}
 use Rattle.language.specs.Describe.{actionsIn, constantSize, expressionSize, expressionsIn, leftSize}
-use Rattle.language.specs.DescribeText.{facilitySize, functionSize, lengthAt, lent, operationExpressions, operationRecords, stateConstant, valueSize}
+use Rattle.language.specs.DescribeText.{facilitySize, functionSize, lengthAt, operationExpressions, operationRecords, stateConstant, valueSize}
 use Rattle.language.specs.Description.{Facility, digitLength, furtherDigits}
 use Rattle.language.specs.Encode.{actionSize, nodeSize}
 use Rattle.language.specs.Grammar as G
@@ -18,7 +18,7 @@ use Rattle.language.specs.Grammar.{Is}
 use Rattle.language.specs.Image.{ConstantRight, WordsRight}
 use Rattle.language.specs.Notions as N
 use Rattle.language.specs.Notions.{Notion, Tree}
-use Rattle.language.specs.Tree.{Declaration, Expression, StateValue}
+use Rattle.language.specs.Tree.{Declaration, Expression}
 use Rattle.language.specs.Value.{Value, longest, value}
 use Rattle.language.specs.Words.{Constant, Word}
 use Rattle.about_rules.specs.InOrder.{stateExpressions}
