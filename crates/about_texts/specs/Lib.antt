@@ -17,6 +17,8 @@ pub mod States
 pub mod Words
 -- ---- All of it.
 pub mod FromDescriptions
+-- ---- Words in bytes.
+pub mod WrittenWords
 -- ---- How much room a legal text's records and names take.
 pub mod RecordRoom
 pub mod NameRoom

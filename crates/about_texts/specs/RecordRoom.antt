@@ -4,7 +4,7 @@ use mathlib.Core.List.{List, [], _∷_, _++_}
 use mathlib.Core.Option.{Option, none, some}
 use mathlib.Core.Path.{_≡_, refl}
 use native.Mathlib.Omega.{arith}
-use Prim.Native.Nat.{ℕ, _+_, _*_, _≤_}
+use Prim.Native.Nat.{ℕ, _+_, _-_, _*_, _≤_}
 use borrow.Author.Tests.{leb-true}
 use lib.Dec.{leb, ltb}
 use lib.ListN.{length}
@@ -121,7 +121,7 @@ uncounted N.nothing = 0
 
 -- What a notion leaves for the arm that it may be: a reference takes one record, an expression leaves room for one, and so does a list of actions.
 abbrev left-over : Notion → ℕ
-left-over N.reference = 6 * nodeSize
+left-over N.reference = wordRoom - nodeSize
 left-over N.booleanExp = nodeSize
 left-over N.minterm = nodeSize
 left-over N.product = nodeSize
