@@ -19,6 +19,7 @@ pub mod Words
 pub mod FromDescriptions
 -- ---- Words in bytes.
 pub mod WrittenWords
+pub mod SignedWords
 -- ---- How much room a legal text's records and names take.
 pub mod RecordRoom
 pub mod NameRoom

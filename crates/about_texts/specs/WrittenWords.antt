@@ -17,7 +17,7 @@ use Rattle.language.specs.Computing.{words}
 use Rattle.language.specs.Constants.{bareConstant, bareLargest, bareLength, binaryConstant, decimalConstant, digitsAfter, digitsNumber, rightJustified}
 use Rattle.language.specs.Image.{ConstantRight, WordRight, WordsRight}
 use Rattle.language.specs.Judging.{both}
-use Rattle.language.specs.Kinds.{hash}
+use Rattle.language.specs.Kinds.{controlWord, hash}
 use Rattle.language.specs.Lines.{longLines, longestLine, passes, widthAfter}
 use Rattle.language.specs.Scan as S
 use Rattle.language.specs.Scan.{Found, Item, bareAt, binaryAt, bytes, constantAt, digitBits, digitsOf, found, isDigitOf, isNamePart, itemAt, longestName, nameAt, reservedKind, span, written}
@@ -214,7 +214,11 @@ all-spell = (
 
 -- The kinds of symbols and reserved words.
 abbrev pub SignRight : ℕ → Type 0
-SignRight k = (hash ≤ k) × (k < hash + length spellings)
+SignRight k = (hash ≤ k) × (k ≤ controlWord)
+
+all-there : length spellings ≡ suc (controlWord - hash)
+unfolding spellings
+all-there = refl
 
 spell-at : (k : ℕ) (xs : List (List ℕ)) → AllSpell k xs → (n : ℕ) → n < length xs → Spells (S.sign (k + n)) (getD xs n [])
 spell-at k [] h n l = absurd (omega arith)
@@ -224,7 +228,7 @@ spell-at k (x ∷ xs) h (suc n) l = let e : k + suc n ≡ suc k + n = omega arit
 sign-spells : (k : ℕ) → SignRight k → Spells (S.sign k) (getD spellings (k - hash) [])
 sign-spells k h =
     let e : hash + (k - hash) ≡ k = omega (arith, h .0) in
-    rw e at (spell-at hash spellings all-spell (k - hash) (omega (arith, h .0, h .1)))
+    rw e at (spell-at hash spellings all-spell (k - hash) (omega (arith, h .0, h .1, all-there)))
 
 -- ---- Names: they stand as they are.
 
