@@ -20,6 +20,8 @@ pub mod FromDescriptions
 -- ---- Words in bytes.
 pub mod WrittenWords
 pub mod SignedWords
+pub mod Unplaced
+pub mod Moved
 -- ---- How much room a legal text's records and names take.
 pub mod RecordRoom
 pub mod NameRoom
