@@ -22,6 +22,7 @@ pub mod WrittenWords
 pub mod SignedWords
 pub mod Unplaced
 pub mod Moved
+pub mod SameDescription
 -- ---- How much room a legal text's records and names take.
 pub mod RecordRoom
 pub mod NameRoom
