@@ -1,10 +1,10 @@
 -- The grammar does not look at places: what words derive, the same words at other places derive too, with a tree that differs in places alone. By induction over the derivation, a clause for each rule. Assumes nothing.
 use mathlib.Core.List.{List, [], _∷_, _++_, map, map-append}
 use mathlib.Core.Option.{Option, none, some}
-use mathlib.Core.Path.{_≡_, refl, sym, ap, ap₂, subst, _∙_}
+use mathlib.Core.Path.{_≡_, refl, ap, _∙_}
 use native.Mathlib.Omega.{arith}
-use Prim.Native.Nat.{ℕ, zero, suc, _+_}
-use lib.ListN.{getD, length}
+use Prim.Native.Nat.{ℕ, suc, _+_}
+use lib.ListN.{length}
 use Rattle.language.specs.Grammar as G
 use Rattle.language.specs.Grammar.{Is}
 use Rattle.language.specs.Kinds.{conWord, differenceSign, exclusiveSign, minus, plus, star}
@@ -14,9 +14,7 @@ use Rattle.language.specs.Tree as T
 use Rattle.language.specs.Tree.{Declaration, Extent, Label, Operation, State, StateValue, Text}
 use Rattle.language.specs.Words as W
 use Rattle.language.specs.Words.{Position, Word}
-use Rattle.about_texts.specs.Derivations.{here}
 use Rattle.about_texts.specs.Unplaced.{unplacedActions, unplacedDeclaration, unplacedEnds, unplacedExpression, unplacedExtent, unplacedLabel, unplacedLeft, unplacedOperation, unplacedState, unplacedText, unplacedValue}
-use Rattle.about_texts.specs.WrittenWords.{unplaced}
 
 -- Words at other places: that of the first is the i-th.
 unfoldable pub at : (ℕ → Position) → ℕ → List Word → List Word
@@ -142,143 +140,143 @@ module _ (place : ℕ → Position) where
   unfolding at unplacedExpression unplacedActions
   moved i (G.ref-whole {n = n}) = record { tree = T.whole n (place i); derived = G.ref-whole; same = refl }
   moved i (G.ref-one {n = n} c {us = us} a1) =
-      lift1 (λ e1. T.one n (place i) e1) (λ e1 d1 q1. simp at-append (G.ref-one (place ((suc (suc i)) + length us)) d1)) (λ e1 q1. rw q1 refl) (moved (suc (suc i)) a1)
+      lift1 (λ e1. T.one n (place i) e1) (λ e1 d1 q1. simp at-append (G.ref-one (place (suc (suc i) + length us)) d1)) (λ e1 q1. rw q1 refl) (moved (suc (suc i)) a1)
   moved i (G.ref-part {n = n} {x = x} {y = y}) = record { tree = T.part n (place i) (N.pairOf x (place (suc (suc i))) y (place (suc (suc (suc (suc i)))))); derived = G.ref-part; same = refl }
   moved i (G.ref-two {n = n} c k {us = us} {vs = vs} a1 a2) =
-      lift2 (λ e1 e2. T.two n (place i) e1 e2) (λ e1 e2 d1 d2 q1 q2. simp at-append (G.ref-two (place ((suc ((suc (suc i)) + length us)) + length vs)) (place ((suc (suc i)) + length us)) d1 d2)) (λ e1 e2 q1 q2. rw (q1, q2) refl) (moved (suc (suc i)) a1) (moved (suc ((suc (suc i)) + length us)) a2)
+      lift2 (λ e1 e2. T.two n (place i) e1 e2) (λ e1 e2 d1 d2 q1 q2. simp at-append (G.ref-two (place (suc (suc (suc i) + length us) + length vs)) (place (suc (suc i) + length us)) d1 d2)) (λ e1 e2 q1 q2. rw (q1, q2) refl) (moved (suc (suc i)) a1) (moved (suc (suc (suc i) + length us)) a2)
   moved i (G.ref-two-apart {n = n} c k l {us = us} {vs = vs} a1 a2) =
-      lift2 (λ e1 e2. T.two n (place i) e1 e2) (λ e1 e2 d1 d2 q1 q2. simp at-append (G.ref-two-apart (place ((suc (suc ((suc (suc i)) + length us))) + length vs)) (place ((suc (suc i)) + length us)) (place (suc ((suc (suc i)) + length us))) d1 d2)) (λ e1 e2 q1 q2. rw (q1, q2) refl) (moved (suc (suc i)) a1) (moved (suc (suc ((suc (suc i)) + length us))) a2)
+      lift2 (λ e1 e2. T.two n (place i) e1 e2) (λ e1 e2 d1 d2 q1 q2. simp at-append (G.ref-two-apart (place (suc (suc (suc (suc i) + length us)) + length vs)) (place (suc (suc i) + length us)) (place (suc (suc (suc i) + length us))) d1 d2)) (λ e1 e2 q1 q2. rw (q1, q2) refl) (moved (suc (suc i)) a1) (moved (suc (suc (suc (suc i) + length us))) a2)
   moved i (G.ref-word-part {n = n} c k l {us = us} {x = x} {y = y} a1) =
-      lift1 (λ e1. T.wordPart n (place i) e1 (N.pairOf x (place (suc ((suc (suc i)) + length us))) y (place (suc (suc (suc ((suc (suc i)) + length us))))))) (λ e1 d1 q1. simp at-append (G.ref-word-part (place (suc (suc (suc (suc ((suc (suc i)) + length us)))))) (place ((suc (suc i)) + length us)) (place (suc (suc ((suc (suc i)) + length us)))) d1)) (λ e1 q1. rw q1 refl) (moved (suc (suc i)) a1)
+      lift1 (λ e1. T.wordPart n (place i) e1 (N.pairOf x (place (suc (suc (suc i) + length us))) y (place (suc (suc (suc (suc (suc i) + length us))))))) (λ e1 d1 q1. simp at-append (G.ref-word-part (place (suc (suc (suc (suc (suc (suc i) + length us)))))) (place (suc (suc i) + length us)) (place (suc (suc (suc (suc i) + length us)))) d1)) (λ e1 q1. rw q1 refl) (moved (suc (suc i)) a1)
   moved i (G.ref-word-part-apart {n = n} c k l m {us = us} {x = x} {y = y} a1) =
-      lift1 (λ e1. T.wordPart n (place i) e1 (N.pairOf x (place (suc (suc ((suc (suc i)) + length us)))) y (place (suc (suc (suc (suc ((suc (suc i)) + length us)))))))) (λ e1 d1 q1. rw at-append (G.ref-word-part-apart (place (suc (suc (suc (suc (suc ((suc (suc i)) + length us))))))) (place ((suc (suc i)) + length us)) (place (suc (suc (suc ((suc (suc i)) + length us))))) (place (suc ((suc (suc i)) + length us))) d1)) (λ e1 q1. rw q1 refl) (moved (suc (suc i)) a1)
-  moved i (G.or-one {us = us} {t = t} a1) = through t (λ v d. G.or-one d) (moved i a1)
-  moved i (G.or-more {us = us} {vs = vs} a1 a2) =
+      lift1 (λ e1. T.wordPart n (place i) e1 (N.pairOf x (place (suc (suc (suc (suc i) + length us)))) y (place (suc (suc (suc (suc (suc (suc i) + length us)))))))) (λ e1 d1 q1. rw at-append (G.ref-word-part-apart (place (suc (suc (suc (suc (suc (suc (suc i) + length us))))))) (place (suc (suc i) + length us)) (place (suc (suc (suc (suc (suc i) + length us))))) (place (suc (suc (suc i) + length us))) d1)) (λ e1 q1. rw q1 refl) (moved (suc (suc i)) a1)
+  moved i (G.or-one {t = t} a1) = through t (λ v d. G.or-one d) (moved i a1)
+  moved i (G.or-more {us = us} a1 a2) =
       lift2 (λ e1 e2. T.binary plus (place (i + length us)) e1 e2) (λ e1 e2 d1 d2 q1 q2. simp at-append (G.or-more d1 d2)) (λ e1 e2 q1 q2. rw (q1, q2) refl) (moved i a1) (moved (suc (i + length us)) a2)
-  moved i (G.exclusive-one {us = us} {t = t} a1) = through t (λ v d. G.exclusive-one d) (moved i a1)
-  moved i (G.exclusive-more {us = us} {vs = vs} a1 a2) =
+  moved i (G.exclusive-one {t = t} a1) = through t (λ v d. G.exclusive-one d) (moved i a1)
+  moved i (G.exclusive-more {us = us} a1 a2) =
       lift2 (λ e1 e2. T.binary exclusiveSign (place (i + length us)) e1 e2) (λ e1 e2 d1 d2 q1 q2. simp at-append (G.exclusive-more d1 d2)) (λ e1 e2 q1 q2. rw (q1, q2) refl) (moved i a1) (moved (suc (i + length us)) a2)
-  moved i (G.and-one {us = us} {t = t} a1) = through t (λ v d. G.and-one d) (moved i a1)
-  moved i (G.and-more {us = us} {vs = vs} a1 a2) =
+  moved i (G.and-one {t = t} a1) = through t (λ v d. G.and-one d) (moved i a1)
+  moved i (G.and-more {us = us} a1 a2) =
       lift2 (λ e1 e2. T.binary star (place (i + length us)) e1 e2) (λ e1 e2 d1 d2 q1 q2. simp at-append (G.and-more d1 d2)) (λ e1 e2 q1 q2. rw (q1, q2) refl) (moved i a1) (moved (suc (i + length us)) a2)
-  moved i (G.complement-none {us = us} {t = t} a1) = through t (λ v d. G.complement-none d) (moved i a1)
-  moved i (G.complement-of {us = us} a1) =
+  moved i (G.complement-none {t = t} a1) = through t (λ v d. G.complement-none d) (moved i a1)
+  moved i (G.complement-of a1) =
       lift1 (λ e1. T.prefix minus (place i) e1) (λ e1 d1 q1. G.complement-of d1) (λ e1 q1. rw q1 refl) (moved (suc i) a1)
-  moved i (G.con-one {us = us} {t = t} a1) = through t (λ v d. G.con-one d) (moved i a1)
-  moved i (G.con-more {us = us} {vs = vs} a1 a2) =
+  moved i (G.con-one {t = t} a1) = through t (λ v d. G.con-one d) (moved i a1)
+  moved i (G.con-more {us = us} a1 a2) =
       lift2 (λ e1 e2. T.binary conWord (place (i + length us)) e1 e2) (λ e1 e2 d1 d2 q1 q2. simp at-append (G.con-more d1 d2)) (λ e1 e2 q1 q2. rw (q1, q2) refl) (moved i a1) (moved (suc (i + length us)) a2)
-  moved i (G.reduction-none {us = us} {t = t} a1) = through t (λ v d. G.reduction-none d) (moved i a1)
-  moved i (G.reduction-of {k = k} {us = us} a1 a2) =
+  moved i (G.reduction-none {t = t} a1) = through t (λ v d. G.reduction-none d) (moved i a1)
+  moved i (G.reduction-of {k = k} a1 a2) =
       lift1 (λ e2. T.prefix k (place i) e2) (λ e2 d2 q2. G.reduction-of a1 d2) (λ e2 q2. rw q2 refl) (moved (suc (suc i)) a2)
-  moved i (G.cut-none {us = us} {t = t} a1) = through t (λ v d. G.cut-none d) (moved i a1)
+  moved i (G.cut-none {t = t} a1) = through t (λ v d. G.cut-none d) (moved i a1)
   moved i (G.cut-more {k = k} {us = us} q {c = c} a1 a2) =
       lift1 (λ e2. T.cut k (place (i + length us)) e2 c) (λ e2 d2 q2. simp at-append (G.cut-more (place (suc (i + length us))) a1 d2)) (λ e2 q2. rw q2 refl) (moved i a2)
-  moved i (G.relation-none {us = us} {t = t} a1) = through t (λ v d. G.relation-none d) (moved i a1)
-  moved i (G.relation-of {k = k} {us = us} {vs = vs} a1 a2 a3) =
+  moved i (G.relation-none {t = t} a1) = through t (λ v d. G.relation-none d) (moved i a1)
+  moved i (G.relation-of {k = k} {us = us} a1 a2 a3) =
       lift2 (λ e2 e3. T.binary k (place (i + length us)) e2 e3) (λ e2 e3 d2 d3 q2 q3. simp at-append (G.relation-of a1 d2 d3)) (λ e2 e3 q2 q3. rw (q2, q3) refl) (moved i a2) (moved (suc (i + length us)) a3)
-  moved i (G.arithmetic-one {us = us} {t = t} a1) = through t (λ v d. G.arithmetic-one d) (moved i a1)
-  moved i (G.negation-of {us = us} a1) =
+  moved i (G.arithmetic-one {t = t} a1) = through t (λ v d. G.arithmetic-one d) (moved i a1)
+  moved i (G.negation-of a1) =
       lift1 (λ e1. T.prefix differenceSign (place i) e1) (λ e1 d1 q1. G.negation-of d1) (λ e1 q1. rw q1 refl) (moved (suc i) a1)
-  moved i (G.arithmetic-more {k = k} {us = us} {vs = vs} a1 a2 a3) =
+  moved i (G.arithmetic-more {k = k} {us = us} a1 a2 a3) =
       lift2 (λ e2 e3. T.binary k (place (i + length us)) e2 e3) (λ e2 e3 d2 d3 q2 q3. simp at-append (G.arithmetic-more a1 d2 d3)) (λ e2 e3 q2 q3. rw (q2, q3) refl) (moved i a2) (moved (suc (i + length us)) a3)
-  moved i (G.term-reference {us = us} {t = t} a1) = through t (λ v d. G.term-reference d) (moved i a1)
+  moved i (G.term-reference {t = t} a1) = through t (λ v d. G.term-reference d) (moved i a1)
   moved i (G.term-constant {c = c}) = record { tree = T.constant c (place i); derived = G.term-constant; same = refl }
-  moved i (G.term-parens {us = us} q {t = t} a1) = through t (λ v d. simp at-append (G.term-parens (place ((suc i) + length us)) d)) (moved (suc i) a1)
+  moved i (G.term-parens {us = us} q {t = t} a1) = through t (λ v d. simp at-append (G.term-parens (place (suc i + length us)) d)) (moved (suc i) a1)
   moved i (G.term-if {us = us} {vs = vs} {ws = ws} q r s a1 a2 a3) =
-      lift3 (λ e1 e2 e3. T.choice (place i) e1 (T.nextArm (T.firstArm e2) e3)) (λ e1 e2 e3 d1 d2 d3 q1 q2 q3. simp at-append (G.term-if (place ((suc i) + length us)) (place ((suc ((suc i) + length us)) + length vs)) (place ((suc ((suc ((suc i) + length us)) + length vs)) + length ws)) d1 d2 d3)) (λ e1 e2 e3 q1 q2 q3. rw (q1, q2, q3) refl) (moved (suc i) a1) (moved (suc ((suc i) + length us)) a2) (moved (suc ((suc ((suc i) + length us)) + length vs)) a3)
+      lift3 (λ e1 e2 e3. T.choice (place i) e1 (T.nextArm (T.firstArm e2) e3)) (λ e1 e2 e3 d1 d2 d3 q1 q2 q3. simp at-append (G.term-if (place (suc i + length us)) (place (suc (suc i + length us) + length vs)) (place (suc (suc (suc i + length us) + length vs) + length ws)) d1 d2 d3)) (λ e1 e2 e3 q1 q2 q3. rw (q1, q2, q3) refl) (moved (suc i) a1) (moved (suc (suc i + length us)) a2) (moved (suc (suc (suc i + length us) + length vs)) a3)
   moved i (G.term-case {us = us} {vs = vs} q a1 a2) =
-      lift2 (λ e1 e2. T.choice (place i) e1 e2) (λ e1 e2 d1 d2 q1 q2. simp at-append (G.term-case (place ((suc i) + length us + length vs)) d1 d2)) (λ e1 e2 q1 q2. rw (q1, q2) refl) (moved (suc i) a1) (moved ((suc i) + length us) a2)
-  moved i (G.arms-two {us = us} {vs = vs} q a1 a2) =
-      lift2 (λ e1 e2. T.nextArm (T.firstArm e1) e2) (λ e1 e2 d1 d2 q1 q2. simp at-append (G.arms-two (place ((suc i) + length us)) d1 d2)) (λ e1 e2 q1 q2. rw (q1, q2) refl) (moved (suc i) a1) (moved (suc ((suc i) + length us)) a2)
-  moved i (G.arms-next {us = us} {vs = vs} p a1 a2) =
+      lift2 (λ e1 e2. T.choice (place i) e1 e2) (λ e1 e2 d1 d2 q1 q2. simp at-append (G.term-case (place (suc i + length us + length vs)) d1 d2)) (λ e1 e2 q1 q2. rw (q1, q2) refl) (moved (suc i) a1) (moved (suc i + length us) a2)
+  moved i (G.arms-two {us = us} q a1 a2) =
+      lift2 (λ e1 e2. T.nextArm (T.firstArm e1) e2) (λ e1 e2 d1 d2 q1 q2. simp at-append (G.arms-two (place (suc i + length us)) d1 d2)) (λ e1 e2 q1 q2. rw (q1, q2) refl) (moved (suc i) a1) (moved (suc (suc i + length us)) a2)
+  moved i (G.arms-next {us = us} p a1 a2) =
       lift2 (λ e1 e2. T.nextArm e1 e2) (λ e1 e2 d1 d2 q1 q2. simp at-append (G.arms-next (place (i + length us)) d1 d2)) (λ e1 e2 q1 q2. rw (q1, q2) refl) (moved i a1) (moved (suc (i + length us)) a2)
-  moved i (G.left-one {us = us} a1) =
+  moved i (G.left-one a1) =
       lift1 (λ e1. T.single e1) (λ e1 d1 q1. G.left-one d1) (λ e1 q1. rw q1 refl) (moved i a1)
-  moved i (G.left-two {us = us} {vs = vs} p a1 a2) =
+  moved i (G.left-two {us = us} p a1 a2) =
       lift2 (λ e1 e2. T.pair e1 e2) (λ e1 e2 d1 d2 q1 q2. simp at-append (G.left-two (place (i + length us)) d1 d2)) (λ e1 e2 q1 q2. rw (q1, q2) refl) (moved i a1) (moved (suc (i + length us)) a2)
-  moved i (G.act-store {k = k} {us = us} {vs = vs} {ws = ws} a1 a2 a3 a4) =
-      lift3 (λ e2 e3 e4. T.store k (place (i + length us)) e2 e3 e4) (λ e2 e3 e4 d2 d3 d4 q2 q3 q4. simp at-append (G.act-store a1 d2 d3 d4)) (λ e2 e3 e4 q2 q3 q4. rw (q2, q3, q4) refl) (moved i a2) (moved (suc (i + length us)) a3) (moved ((suc (i + length us)) + length vs) a4)
-  moved i (G.act-set {us = us} {ws = ws} a1 a2) =
+  moved i (G.act-store {k = k} {us = us} {vs = vs} a1 a2 a3 a4) =
+      lift3 (λ e2 e3 e4. T.store k (place (i + length us)) e2 e3 e4) (λ e2 e3 e4 d2 d3 d4 q2 q3 q4. simp at-append (G.act-store a1 d2 d3 d4)) (λ e2 e3 e4 q2 q3 q4. rw (q2, q3, q4) refl) (moved i a2) (moved (suc (i + length us)) a3) (moved (suc (i + length us) + length vs) a4)
+  moved i (G.act-set {us = us} a1 a2) =
       lift2 (λ e1 e2. T.set (place (i + length us)) e1 e2) (λ e1 e2 d1 d2 q1 q2. simp at-append (G.act-set d1 d2)) (λ e1 e2 q1 q2. rw (q1, q2) refl) (moved i a1) (moved (suc (i + length us)) a2)
-  moved i (G.act-perform {n = n} {ws = ws} a1) =
+  moved i (G.act-perform {n = n} a1) =
       lift1 (λ e1. T.perform n (place i) e1) (λ e1 d1 q1. G.act-perform d1) (λ e1 q1. rw q1 refl) (moved (suc i) a1)
-  moved i (G.act-goto {n = n} {ws = ws} a1) =
+  moved i (G.act-goto {n = n} a1) =
       lift1 (λ e1. T.goto n (place (suc i)) e1) (λ e1 d1 q1. G.act-goto d1) (λ e1 q1. rw q1 refl) (moved (suc (suc i)) a1)
-  moved i (G.act-call {n = n} {ws = ws} a1) =
+  moved i (G.act-call {n = n} a1) =
       lift1 (λ e1. T.call n (place (suc i)) e1) (λ e1 d1 q1. G.act-call d1) (λ e1 q1. rw q1 refl) (moved (suc (suc i)) a1)
-  moved i (G.act-return {ws = ws} a1) =
+  moved i (G.act-return a1) =
       lift1 (λ e1. T.return (place i) e1) (λ e1 d1 q1. G.act-return d1) (λ e1 q1. rw q1 refl) (moved (suc i) a1)
-  moved i (G.act-when {us = us} {vs = vs} {ws = ws} r q a1 a2 a3) =
-      lift3 (λ e1 e2 e3. T.when (place i) e1 e2 e3) (λ e1 e2 e3 d1 d2 d3 q1 q2 q3. simp at-append (G.act-when (place ((suc ((suc i) + length us)) + length vs)) (place ((suc i) + length us)) d1 d2 d3)) (λ e1 e2 e3 q1 q2 q3. rw (q1, q2, q3) refl) (moved (suc i) a1) (moved (suc ((suc i) + length us)) a2) (moved (suc ((suc ((suc i) + length us)) + length vs)) a3)
-  moved i (G.act-if {us = us} {vs = vs} {xs = xs} {ws = ws} t r q a1 a2 a3 a4) =
-      lift4 (λ e1 e2 e3 e4. T.choose (place i) e1 (T.arm e2 (T.arm e3 T.done)) e4) (λ e1 e2 e3 e4 d1 d2 d3 d4 q1 q2 q3 q4. simp at-append (G.act-if (place ((suc ((suc ((suc i) + length us)) + length vs)) + length xs)) (place ((suc ((suc i) + length us)) + length vs)) (place ((suc i) + length us)) d1 d2 d3 d4)) (λ e1 e2 e3 e4 q1 q2 q3 q4. rw (q1, q2, q3, q4) refl) (moved (suc i) a1) (moved (suc ((suc i) + length us)) a2) (moved (suc ((suc ((suc i) + length us)) + length vs)) a3) (moved (suc ((suc ((suc ((suc i) + length us)) + length vs)) + length xs)) a4)
-  moved i (G.act-case {us = us} {vs = vs} {ws = ws} q a1 a2 a3) =
-      lift3 (λ e1 e2 e3. T.choose (place i) e1 e2 e3) (λ e1 e2 e3 d1 d2 d3 q1 q2 q3. simp at-append (G.act-case (place ((suc i) + length us + length vs)) d1 d2 d3)) (λ e1 e2 e3 q1 q2 q3. rw (q1, q2, q3) refl) (moved (suc i) a1) (moved ((suc i) + length us) a2) (moved (suc ((suc i) + length us + length vs)) a3)
+  moved i (G.act-when {us = us} {vs = vs} r q a1 a2 a3) =
+      lift3 (λ e1 e2 e3. T.when (place i) e1 e2 e3) (λ e1 e2 e3 d1 d2 d3 q1 q2 q3. simp at-append (G.act-when (place (suc (suc i + length us) + length vs)) (place (suc i + length us)) d1 d2 d3)) (λ e1 e2 e3 q1 q2 q3. rw (q1, q2, q3) refl) (moved (suc i) a1) (moved (suc (suc i + length us)) a2) (moved (suc (suc (suc i + length us) + length vs)) a3)
+  moved i (G.act-if {us = us} {vs = vs} {xs = xs} t r q a1 a2 a3 a4) =
+      lift4 (λ e1 e2 e3 e4. T.choose (place i) e1 (T.arm e2 (T.arm e3 T.done)) e4) (λ e1 e2 e3 e4 d1 d2 d3 d4 q1 q2 q3 q4. simp at-append (G.act-if (place (suc (suc (suc i + length us) + length vs) + length xs)) (place (suc (suc i + length us) + length vs)) (place (suc i + length us)) d1 d2 d3 d4)) (λ e1 e2 e3 e4 q1 q2 q3 q4. rw (q1, q2, q3, q4) refl) (moved (suc i) a1) (moved (suc (suc i + length us)) a2) (moved (suc (suc (suc i + length us) + length vs)) a3) (moved (suc (suc (suc (suc i + length us) + length vs) + length xs)) a4)
+  moved i (G.act-case {us = us} {vs = vs} q a1 a2 a3) =
+      lift3 (λ e1 e2 e3. T.choose (place i) e1 e2 e3) (λ e1 e2 e3 d1 d2 d3 q1 q2 q3. simp at-append (G.act-case (place (suc i + length us + length vs)) d1 d2 d3)) (λ e1 e2 e3 q1 q2 q3. rw (q1, q2, q3) refl) (moved (suc i) a1) (moved (suc i + length us) a2) (moved (suc (suc i + length us + length vs)) a3)
   moved i G.rest-none = record { tree = T.done; derived = G.rest-none; same = refl }
-  moved i (G.rest-more {us = us} a1) =
+  moved i (G.rest-more a1) =
       lift1 (λ e1. e1) (λ e1 d1 q1. G.rest-more d1) (λ e1 q1. q1) (moved (suc i) a1)
-  moved i (G.arms-one {us = us} {vs = vs} a1 a2) =
-      lift2 (λ e1 e2. T.arm e1 e2) (λ e1 e2 d1 d2 q1 q2. simp at-append (G.arms-one d1 d2)) (λ e1 e2 q1 q2. rw (q1, q2) refl) (moved (suc i) a1) (moved ((suc i) + length us) a2)
+  moved i (G.arms-one {us = us} a1 a2) =
+      lift2 (λ e1 e2. T.arm e1 e2) (λ e1 e2 d1 d2 q1 q2. simp at-append (G.arms-one d1 d2)) (λ e1 e2 q1 q2. rw (q1, q2) refl) (moved (suc i) a1) (moved (suc i + length us) a2)
   moved i G.arms-end = record { tree = T.done; derived = G.arms-end; same = refl }
-  moved i (G.arms-more {us = us} a1) =
+  moved i (G.arms-more a1) =
       lift1 (λ e1. e1) (λ e1 d1 q1. G.arms-more d1) (λ e1 q1. q1) (moved i a1)
   moved i (G.range-both {c = c} {d = d}) = record { tree = N.pairOf c (place i) d (place (suc (suc i))); derived = G.range-both; same = refl }
   moved i (G.range-last {d = d}) = record { tree = N.pairOf N.oneBound (place i) d (place i); derived = G.range-last; same = refl }
   moved i G.no-dimension = record { tree = T.single; derived = G.no-dimension; same = refl }
   moved i (G.one-dimension {us = us} q a1) =
-      lift1 (λ e1. T.row e1) (λ e1 d1 q1. simp at-append (G.one-dimension (place ((suc i) + length us)) d1)) (λ e1 q1. rw q1 refl) (moved (suc i) a1)
+      lift1 (λ e1. T.row e1) (λ e1 d1 q1. simp at-append (G.one-dimension (place (suc i + length us)) d1)) (λ e1 q1. rw q1 refl) (moved (suc i) a1)
   moved i (G.two-dimensions {us = us} {vs = vs} q r a1 a2) =
-      lift2 (λ e1 e2. T.table e1 e2) (λ e1 e2 d1 d2 q1 q2. simp at-append (G.two-dimensions (place ((suc i) + length us)) (place ((suc ((suc i) + length us)) + length vs)) d1 d2)) (λ e1 e2 q1 q2. rw (q1, q2) refl) (moved (suc i) a1) (moved (suc ((suc i) + length us)) a2)
-  moved i (G.a-register {n = n} {us = us} a1) =
+      lift2 (λ e1 e2. T.table e1 e2) (λ e1 e2 d1 d2 q1 q2. simp at-append (G.two-dimensions (place (suc i + length us)) (place (suc (suc i + length us) + length vs)) d1 d2)) (λ e1 e2 q1 q2. rw (q1, q2) refl) (moved (suc i) a1) (moved (suc (suc i + length us)) a2)
+  moved i (G.a-register {n = n} a1) =
       lift1 (λ e1. N.facilityOf T.register n (place i) e1 T.unspecified) (λ e1 d1 q1. G.a-register d1) (λ e1 q1. rw q1 refl) (moved (suc i) a1)
-  moved i (G.a-sequencing {n = n} {us = us} a1) =
+  moved i (G.a-sequencing {n = n} a1) =
       lift1 (λ e1. N.facilityOf T.sequencing n (place (suc i)) e1 T.unspecified) (λ e1 d1 q1. G.a-sequencing d1) (λ e1 q1. rw q1 refl) (moved (suc (suc i)) a1)
-  moved i (G.a-memory {n = n} {us = us} a1) =
+  moved i (G.a-memory {n = n} a1) =
       lift1 (λ e1. N.facilityOf T.memory n (place i) e1 T.unspecified) (λ e1 d1 q1. G.a-memory d1) (λ e1 q1. rw q1 refl) (moved (suc i) a1)
-  moved i (G.a-terminal {n = n} {us = us} a1) =
+  moved i (G.a-terminal {n = n} a1) =
       lift1 (λ e1. N.facilityOf T.plain n (place i) e1 T.unspecified) (λ e1 d1 q1. G.a-terminal d1) (λ e1 q1. rw q1 refl) (moved (suc i) a1)
   moved i (G.an-input {n = n} {us = us} {x = x} q r s t u v w c a1 a2) =
-      lift1 (λ e2. N.facilityOf T.input n (place i) e2 T.fromInput) (λ e2 d2 q2. simp at-append (G.an-input (place ((suc i) + length us)) (place (suc ((suc i) + length us))) (place (suc (suc ((suc i) + length us)))) (place (suc (suc (suc ((suc i) + length us))))) (place (suc (suc (suc (suc ((suc i) + length us)))))) (place (suc (suc (suc (suc (suc ((suc i) + length us))))))) (place (suc (suc (suc (suc (suc (suc ((suc i) + length us)))))))) c (still-one e2 x q2 a1) d2)) (λ e2 q2. rw q2 refl) (moved (suc i) a2)
-  moved i (G.a-computed {n = n} {us = us} {vs = vs} {x = x} a1 a2 a3) =
-      lift2 (λ e2 e3. N.facilityOf T.computed n (place i) e2 (T.given (place ((suc i) + length us)) e3)) (λ e2 e3 d2 d3 q2 q3. simp at-append (G.a-computed (still-one e2 x q2 a1) d2 d3)) (λ e2 e3 q2 q3. rw (q2, q3) refl) (moved (suc i) a2) (moved (suc ((suc i) + length us)) a3)
-  moved i (G.registers-one {us = us} a1) =
+      lift1 (λ e2. N.facilityOf T.input n (place i) e2 T.fromInput) (λ e2 d2 q2. simp at-append (G.an-input (place (suc i + length us)) (place (suc (suc i + length us))) (place (suc (suc (suc i + length us)))) (place (suc (suc (suc (suc i + length us))))) (place (suc (suc (suc (suc (suc i + length us)))))) (place (suc (suc (suc (suc (suc (suc i + length us))))))) (place (suc (suc (suc (suc (suc (suc (suc i + length us)))))))) c (still-one e2 x q2 a1) d2)) (λ e2 q2. rw q2 refl) (moved (suc i) a2)
+  moved i (G.a-computed {n = n} {us = us} {x = x} a1 a2 a3) =
+      lift2 (λ e2 e3. N.facilityOf T.computed n (place i) e2 (T.given (place (suc i + length us)) e3)) (λ e2 e3 d2 d3 q2 q3. simp at-append (G.a-computed (still-one e2 x q2 a1) d2 d3)) (λ e2 e3 q2 q3. rw (q2, q3) refl) (moved (suc i) a2) (moved (suc (suc i + length us)) a3)
+  moved i (G.registers-one a1) =
       lift1 (λ e1. e1 ∷ []) (λ e1 d1 q1. G.registers-one d1) (λ e1 q1. rw q1 refl) (moved i a1)
-  moved i (G.registers-more {us = us} {vs = vs} p a1 a2) =
+  moved i (G.registers-more {us = us} p a1 a2) =
       lift2 (λ e1 e2. e1 ∷ e2) (λ e1 e2 d1 d2 q1 q2. simp at-append (G.registers-more (place (i + length us)) d1 d2)) (λ e1 e2 q1 q2. rw (q1, q2) refl) (moved i a1) (moved (suc (i + length us)) a2)
-  moved i (G.memories-one {us = us} a1) =
+  moved i (G.memories-one a1) =
       lift1 (λ e1. e1 ∷ []) (λ e1 d1 q1. G.memories-one d1) (λ e1 q1. rw q1 refl) (moved i a1)
-  moved i (G.memories-more {us = us} {vs = vs} p a1 a2) =
+  moved i (G.memories-more {us = us} p a1 a2) =
       lift2 (λ e1 e2. e1 ∷ e2) (λ e1 e2 d1 d2 q1 q2. simp at-append (G.memories-more (place (i + length us)) d1 d2)) (λ e1 e2 q1 q2. rw (q1, q2) refl) (moved i a1) (moved (suc (i + length us)) a2)
-  moved i (G.terminals-one {us = us} a1) =
+  moved i (G.terminals-one a1) =
       lift1 (λ e1. e1 ∷ []) (λ e1 d1 q1. G.terminals-one d1) (λ e1 q1. rw q1 refl) (moved i a1)
-  moved i (G.terminals-more {us = us} {vs = vs} p a1 a2) =
+  moved i (G.terminals-more {us = us} p a1 a2) =
       lift2 (λ e1 e2. e1 ∷ e2) (λ e1 e2 d1 d2 q1 q2. simp at-append (G.terminals-more (place (i + length us)) d1 d2)) (λ e1 e2 q1 q2. rw (q1, q2) refl) (moved i a1) (moved (suc (i + length us)) a2)
-  moved i (G.an-ending {k = k} a1) = G.an-ending a1
-  moved i (G.register-section {us = us} {vs = vs} a1 a2) =
-      lift1 (λ e1. e1) (λ e1 d1 q1. simp at-append (G.register-section d1 (moved ((suc i) + length us) a2))) (λ e1 q1. q1) (moved (suc i) a1)
-  moved i (G.memory-section {us = us} {vs = vs} a1 a2) =
-      lift1 (λ e1. e1) (λ e1 d1 q1. simp at-append (G.memory-section d1 (moved ((suc i) + length us) a2))) (λ e1 q1. q1) (moved (suc i) a1)
-  moved i (G.terminal-section {us = us} {vs = vs} a1 a2) =
-      lift1 (λ e1. e1) (λ e1 d1 q1. simp at-append (G.terminal-section d1 (moved ((suc i) + length us) a2))) (λ e1 q1. q1) (moved (suc i) a1)
+  moved i (G.an-ending a1) = G.an-ending a1
+  moved i (G.register-section {us = us} a1 a2) =
+      lift1 (λ e1. e1) (λ e1 d1 q1. simp at-append (G.register-section d1 (moved (suc i + length us) a2))) (λ e1 q1. q1) (moved (suc i) a1)
+  moved i (G.memory-section {us = us} a1 a2) =
+      lift1 (λ e1. e1) (λ e1 d1 q1. simp at-append (G.memory-section d1 (moved (suc i + length us) a2))) (λ e1 q1. q1) (moved (suc i) a1)
+  moved i (G.terminal-section {us = us} a1 a2) =
+      lift1 (λ e1. e1) (λ e1 d1 q1. simp at-append (G.terminal-section d1 (moved (suc i + length us) a2))) (λ e1 q1. q1) (moved (suc i) a1)
   moved i G.no-memories = record { tree = []; derived = G.no-memories; same = refl }
-  moved i (G.some-memories {us = us} {t = t} a1) = through t (λ v d. G.some-memories d) (moved i a1)
+  moved i (G.some-memories {t = t} a1) = through t (λ v d. G.some-memories d) (moved i a1)
   moved i G.no-terminals = record { tree = []; derived = G.no-terminals; same = refl }
-  moved i (G.some-terminals {us = us} {t = t} a1) = through t (λ v d. G.some-terminals d) (moved i a1)
-  moved i (G.with-registers {us = us} {vs = vs} {ws = ws} a1 a2 a3) =
+  moved i (G.some-terminals {t = t} a1) = through t (λ v d. G.some-terminals d) (moved i a1)
+  moved i (G.with-registers {us = us} {vs = vs} a1 a2 a3) =
       lift3 (λ e1 e2 e3. (e1, (e2, e3))) (λ e1 e2 e3 d1 d2 d3 q1 q2 q3. simp at-append (G.with-registers d1 d2 d3)) (λ e1 e2 e3 q1 q2 q3. rw (q1, q2, q3) refl) (moved i a1) (moved (i + length us) a2) (moved (i + length us + length vs) a3)
-  moved i (G.with-memories {us = us} {vs = vs} a1 a2) =
+  moved i (G.with-memories {us = us} a1 a2) =
       lift2 (λ e1 e2. ([], (e1, e2))) (λ e1 e2 d1 d2 q1 q2. simp at-append (G.with-memories d1 d2)) (λ e1 e2 q1 q2. rw (q1, q2) refl) (moved i a1) (moved (i + length us) a2)
-  moved i (G.with-terminals {us = us} a1) =
+  moved i (G.with-terminals a1) =
       lift1 (λ e1. ([], ([], e1))) (λ e1 d1 q1. G.with-terminals d1) (λ e1 q1. rw q1 refl) (moved i a1)
   moved i (G.operations-one {n = n} {us = us} q r s a1) =
-      lift1 (λ e1. N.operationOf n (place i) e1 ∷ []) (λ e1 d1 q1. simp at-append (G.operations-one (place (suc i)) (place (suc (suc i))) (place ((suc (suc (suc i))) + length us)) d1)) (λ e1 q1. rw q1 refl) (moved (suc (suc (suc i))) a1)
-  moved i (G.operations-more {n = n} {us = us} {vs = vs} q r s t a1 a2) =
-      lift2 (λ e1 e2. N.operationOf n (place i) e1 ∷ e2) (λ e1 e2 d1 d2 q1 q2. simp at-append (G.operations-more (place (suc i)) (place (suc (suc i))) (place ((suc (suc (suc i))) + length us)) (place (suc ((suc (suc (suc i))) + length us))) d1 d2)) (λ e1 e2 q1 q2. rw (q1, q2) refl) (moved (suc (suc (suc i))) a1) (moved (suc (suc ((suc (suc (suc i))) + length us))) a2)
+      lift1 (λ e1. N.operationOf n (place i) e1 ∷ []) (λ e1 d1 q1. simp at-append (G.operations-one (place (suc i)) (place (suc (suc i))) (place (suc (suc (suc i)) + length us)) d1)) (λ e1 q1. rw q1 refl) (moved (suc (suc (suc i))) a1)
+  moved i (G.operations-more {n = n} {us = us} q r s t a1 a2) =
+      lift2 (λ e1 e2. N.operationOf n (place i) e1 ∷ e2) (λ e1 e2 d1 d2 q1 q2. simp at-append (G.operations-more (place (suc i)) (place (suc (suc i))) (place (suc (suc (suc i)) + length us)) (place (suc (suc (suc (suc i)) + length us))) d1 d2)) (λ e1 e2 q1 q2. rw (q1, q2) refl) (moved (suc (suc (suc i))) a1) (moved (suc (suc (suc (suc (suc i)) + length us))) a2)
   moved i G.no-ending = G.no-ending
-  moved i (G.some-ending {us = us} a1) = G.some-ending (moved i a1)
+  moved i (G.some-ending a1) = G.some-ending (moved i a1)
   moved i G.no-operations = record { tree = []; derived = G.no-operations; same = refl }
-  moved i (G.some-operations {us = us} {vs = vs} a1 a2) =
-      lift1 (λ e1. e1) (λ e1 d1 q1. simp at-append (G.some-operations d1 (moved ((suc i) + length us) a2))) (λ e1 q1. q1) (moved (suc i) a1)
+  moved i (G.some-operations {us = us} a1 a2) =
+      lift1 (λ e1. e1) (λ e1 d1 q1. simp at-append (G.some-operations d1 (moved (suc i + length us) a2))) (λ e1 q1. q1) (moved (suc i) a1)
   moved i G.no-label = record { tree = (none, none); derived = G.no-label; same = refl }
   moved i (G.plain-label {n = n}) = record { tree = (some (record { name = n; at = place i }), none); derived = G.plain-label; same = refl }
   moved i (G.label-with-value {n = n} {c = c}) = record { tree = (some (record { name = n; at = place i }), some (record { constant = c; at = place (suc (suc i)) })); derived = G.label-with-value; same = refl }
@@ -286,13 +284,13 @@ module _ (place : ℕ → Position) where
       lift1 (λ (e1 : Labelled). N.stateOf (N.firstPlace (at place i us) (place (i + length us))) (e1 .0) (e1 .1) T.done ∷ []) (λ (e1 : Labelled) d1 q1. simp at-append (G.state-idle (place (i + length us)) d1)) (λ (e1 : Labelled) q1. rw (first-same q1, second-same q1) refl) (moved i a1)
   moved i (G.state-acting {us = us} {vs = vs} p a1 a2) =
       lift2 (λ (e1 : Labelled) e2. N.stateOf (N.firstPlace ((at place i us) ++ (at place (i + length us) vs)) (place (i + length us + length vs))) (e1 .0) (e1 .1) e2 ∷ []) (λ (e1 : Labelled) e2 d1 d2 q1 q2. simp at-append (G.state-acting (place (i + length us + length vs)) d1 d2)) (λ (e1 : Labelled) e2 q1 q2. rw (first-same q1, second-same q1, q2) refl) (moved i a1) (moved (i + length us) a2)
-  moved i (G.control-section {us = us} {vs = vs} a1 a2) =
-      lift1 (λ e1. e1) (λ e1 d1 q1. simp at-append (G.control-section d1 (moved ((suc i) + length us) a2))) (λ e1 q1. q1) (moved (suc i) a1)
+  moved i (G.control-section {us = us} a1 a2) =
+      lift1 (λ e1. e1) (λ e1 d1 q1. simp at-append (G.control-section d1 (moved (suc i + length us) a2))) (λ e1 q1. q1) (moved (suc i) a1)
   moved i G.no-dollar = G.no-dollar
   moved i G.some-dollar = G.some-dollar
-  moved i (G.states-one {us = us} {s = s} a1) = 
+  moved i (G.states-one a1) =
       lift1 (λ e1. e1) (λ e1 d1 q1. let l = lone e1 q1 in rw (l .alone) (G.states-one (rw (l .alone) at d1))) (λ e1 q1. q1) (moved i a1)
-  moved i (G.states-more {us = us} {vs = vs} {s = s} {ss = ss} a1 a2) =
+  moved i (G.states-more {us = us} a1 a2) =
       lift2 (λ e1 e2. e1 ++ e2) (λ e1 e2 d1 d2 q1 q2. let l = lone e1 q1 in rw (l .alone) (simp at-append (G.states-more (rw (l .alone) at d1) d2))) (λ e1 e2 q1 q2. map-append unplacedState e1 e2 ∙ rw (q1, q2) refl) (moved i a1) (moved (i + length us) a2)
   moved i (G.whole-text a1 a2 a3 a4) = tt
 

@@ -1,16 +1,13 @@
 -- What a tree describes, and what it counts, do not depend on the places of its words. Assumes nothing.
 use mathlib.Core.List.{List, [], _∷_, _++_, map, map-append}
 use mathlib.Core.Option.{Option, none, some}
-use mathlib.Core.Path.{_≡_, refl, sym, ap, ap₂, _∙_}
+use mathlib.Core.Path.{_≡_, refl, sym, ap, _∙_}
 use native.Mathlib.Omega.{arith}
 use Prim.Native.Nat.{ℕ, zero, suc, _+_}
 use lib.ListN.{length, length-map}
 use Rattle.language.specs.Ceilings.{WithinCeilings, countedActions, countedExpression, countedFunction, countedLeft, countedOperations, countedReference, countedStates, countedTerminals, countedWords}
-use Rattle.language.specs.Describe as B
 use Rattle.language.specs.Describe.{Noted, NotedAction, actionsIn, actionsOf, armsIn, armsOf, constantNodes, digitsAbove, expressionSize, expressionsIn, leftNodes, leftSize, nodesIn, nodesOf, storeOf}
-use Rattle.language.specs.DescribeText as X
 use Rattle.language.specs.DescribeText.{bitBounds, describe, dimensionsOf, facilitiesOf, facilityNodes, facilitySize, functionNodes, functionNumber, functionSize, labelOf, operationActions, operationExpressions, operationNodes, operationRecords, operationScope, operationsOf, stateActions, stateNodes, stateSize, statesOf, valueNodes, valueNumber, valueSize, wordBounds}
-use Rattle.language.specs.Description as D
 use Rattle.language.specs.Description.{Action, Node}
 use Rattle.language.specs.Naming.{Scope}
 use Rattle.language.specs.Tree as T

@@ -1,8 +1,7 @@
 -- Trees without the places of their words. Assumes nothing.
-use mathlib.Core.List.{List, map}
+use mathlib.Core.List.{map}
 use mathlib.Core.Option.{Option, none, some}
 use Rattle.language.specs.Notions as N
-use Rattle.language.specs.Notions.{Tree}
 use Rattle.language.specs.Tree as T
 use Rattle.language.specs.Tree.{Actions, Declaration, Ends, Expression, Extent, Function, Label, Left, Operation, State, StateValue, Text}
 use Rattle.about_texts.specs.Derivations.{here}

@@ -214,7 +214,7 @@ all-spell = (
 
 -- The kinds of symbols and reserved words.
 abbrev pub SignRight : ℕ → Type 0
-SignRight k = (hash ≤ k) × (k ≤ controlWord)
+SignRight k = within hash k controlWord ≡ true
 
 all-there : length spellings ≡ suc (controlWord - hash)
 unfolding spellings
@@ -225,17 +225,6 @@ spell-at k [] h n l = absurd (omega arith)
 spell-at k (x ∷ xs) h zero l = let e : k + 0 ≡ k = omega arith in rw e (h .0)
 spell-at k (x ∷ xs) h (suc n) l = let e : k + suc n ≡ suc k + n = omega arith in rw e (spell-at (suc k) xs (h .1) n (omega arith))
 
-sign-spells : (k : ℕ) → SignRight k → Spells (S.sign k) (getD spellings (k - hash) [])
-sign-spells k h =
-    let e : hash + (k - hash) ≡ k = omega (arith, h .0) in
-    rw e at (spell-at hash spellings all-spell (k - hash) (omega (arith, h .0, h .1, all-there)))
-
--- ---- Names: they stand as they are.
-
-both-parts : (a b : Bool) → both a b ≡ true → (a ≡ true) × (b ≡ true)
-both-parts true b e = (refl, e)
-both-parts false b e = absurd (let z : _≡_ {A = ℕ} 0 1 = cc in omega arith)
-
 in-range : (lo b hi : ℕ) → within lo b hi ≡ true → (lo ≤ b) × (b ≤ hi)
 in-range lo b hi e = go (leb b hi) (leb lo b) refl refl e
   where
@@ -243,6 +232,18 @@ in-range lo b hi e = go (leb b hi) (leb lo b) refl refl e
     go true true p q k = (leb-true lo b q, leb-true b hi p)
     go true false p q k = absurd (let z : _≡_ {A = ℕ} 0 1 = cc in omega arith)
     go false y p q k = absurd (let z : _≡_ {A = ℕ} 0 1 = cc in omega arith)
+
+sign-spells : (k : ℕ) → SignRight k → Spells (S.sign k) (getD spellings (k - hash) [])
+sign-spells k h =
+    let r = in-range hash k controlWord h in
+    let e : hash + (k - hash) ≡ k = omega (arith, r .0) in
+    rw e at (spell-at hash spellings all-spell (k - hash) (omega (arith, r .0, r .1, all-there)))
+
+-- ---- Names: they stand as they are.
+
+both-parts : (a b : Bool) → both a b ≡ true → (a ≡ true) × (b ≡ true)
+both-parts true b e = (refl, e)
+both-parts false b e = absurd (let z : _≡_ {A = ℕ} 0 1 = cc in omega arith)
 
 not-above : (lo b hi : ℕ) → b < lo → within lo b hi ≡ false
 not-above lo b hi l = go (leb b hi) (leb lo b) refl
