@@ -36,7 +36,7 @@ use Rattle.about_calls.specs.PassesExactly.{reads-back}
 
 -- ---- Reading accepts just the legal texts for whose image there is room.
 
--- The text of a tree is accepted with an image of n bytes.
+-- A legal text whose image has n bytes, for which there is room.
 pub record Fits (text : List ℕ) (room n : ℕ) : Type 0 where
   pub tree : Text
   pub legal-text : LegalText text tree
