@@ -5,7 +5,7 @@ use mathlib.Core.Option.{none}
 use mathlib.Core.Path.{_≡_, refl}
 use native.Mathlib.Omega.{arith}
 use Prim.Native.Nat.{ℕ, _-_, _*_, _≤_}
-use borrow.Author.Tests.{le-leb}
+use borrow.Author.Tests.{le-leb, leb-true}
 use lib.Dec.{leb}
 use lib.ListN.{length}
 use Rattle.language.specs.Calls.{open′, openRefusal, opened}
@@ -28,6 +28,7 @@ module _ (text : List ℕ) (room n : ℕ) where
     pub legal-text : readText text ≡ legal description
     pub written : read text room .image ≡ encode description ++ zeroes (room - length (encode description))
     pub so-long : n ≡ length (encode description)
+    pub fits : n ≤ room
 
   pub taken : read text room .answer ≡ accepted n → Taken
   unfolding read filled
@@ -36,7 +37,7 @@ module _ (text : List ℕ) (room n : ℕ) where
       -- Where there is room, and where not.
       by-room : (d : Description) → readText text ≡ legal d → (b : Bool) → leb (length (encode d)) room ≡ b
           → cond {A = ReadCall} b (record { answer = accepted (length (encode d)); image = filled room (encode d) }) (readRefused room BufferTooShort 0) .answer ≡ accepted n → Taken
-      by-room d q true k h = record { description = d; legal-text = q; written = rw (q, k) refl; so-long = cc }
+      by-room d q true k h = record { description = d; legal-text = q; written = rw (q, k) refl; so-long = cc; fits = let z : n ≡ length (encode d) = cc in omega (arith, leb-true (length (encode d)) room k, z) }
       by-room d q false k h = absurd (let z : _≡_ {A = ℕ} 0 1 = cc in omega arith)
 
       by-text : (x : Read) → readText text ≡ x → readCall room x .answer ≡ accepted n → Taken

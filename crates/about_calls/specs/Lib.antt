@@ -14,6 +14,9 @@ pub mod Beyond
 pub mod Tail
 -- ---- From a text to its cycles.
 pub mod EndToEnd
+pub mod TextToCycles
+-- ---- How long an image can be.
+pub mod ImageRoom
 -- ---- Each call has one outcome, and so has each exported one; former contents have no bearing.
 pub mod OneOutcome
 pub mod Exported
@@ -21,3 +24,5 @@ pub mod Exported
 pub mod RunEnds
 -- ---- No wrong module meets them.
 pub mod ShutOut
+-- ---- From texts to their cycles, worked out.
+pub mod CycleExamples

@@ -12,9 +12,13 @@ use Rattle.language.specs.Encode.{encode}
 use Rattle.language.specs.Image.{Passes, legalForm, passes}
 use Rattle.language.specs.Image as Image
 use Rattle.language.specs.Reading.{legal, readText}
+use Rattle.language.specs.Tree.{Text}
+use Rattle.language.specs.WordStage.{scan}
 use Rattle.about_rules.specs.LegalTexts.{in-legal-form}
+use Rattle.about_rules.specs.RightWords.{words-right}
 use Rattle.about_reading.specs.ReadsExactly.{Accepted, accepted, as-legal}
 use Rattle.about_texts.specs.FromDescriptions.{text-of}
+use Rattle.about_texts.specs.WrittenTexts.{LegalBytes, text-in-bytes}
 use Rattle.about_images.specs.CheckExact.{Written, legal-back, passes-written, written-passes, written-read}
 use Rattle.about_images.specs.Legal.{Plain}
 use Rattle.about_calls.specs.PlainTexts.{plain-text}
@@ -49,6 +53,41 @@ passes-exactly image = (passed image, passing image)
 pub passing-read : (image : List ℕ) (p : Passes image) → decode image ≡ describe (p .tree) .description
 unfolding of-legal
 passing-read image p = written-read image (of-legal p)
+
+-- ---- In texts: an image passes exactly when it begins with the bytes of what some bytes describe that are legal, if texts and nesting had no ceiling.
+
+pub record PassesText (image : List ℕ) : Type 0 where
+  pub text : List ℕ
+  pub tree : Text
+  pub legal : LegalBytes text tree
+  pub same : take (length (encode (describe tree .description))) image ≡ encode (describe tree .description)
+
+of-text : {image : List ℕ} → PassesText image → Passes image
+of-text p = record {
+  tree = p .tree;
+  legal = record {
+    words = scan (p .text) .words;
+    nesting = p .legal .nesting;
+    right = words-right (p .text);
+    derived = p .legal .derived;
+    within = p .legal .within;
+    faultless = p .legal .faultless;
+  };
+  same = p .same;
+}
+
+in-text : {image : List ℕ} → Passes image → PassesText image
+in-text {image} p =
+    let t = text-in-bytes (p .tree) (p .legal) in
+    record {
+      text = t .text;
+      tree = t .tree;
+      legal = t .legal;
+      same = subst (λ (d : Description). take (length (encode d)) image ≡ encode d) (sym (t .described)) (p .same);
+    }
+
+pub passes-texts : (image : List ℕ) → (passes image ≡ true → PassesText image) × (PassesText image → passes image ≡ true)
+passes-texts image = (λ e. in-text (passed image e), λ p. passing image (of-text p))
 
 -- ---- What reading makes passes, whatever bytes follow, and is read as the text's description.
 

@@ -1,4 +1,12 @@
 // All the rules over sections, with or without places: the least of all faults.
+pub mod bounds;
+pub mod facilities;
+pub mod memory;
+pub mod operations;
+pub mod states;
+pub mod values;
+pub mod wanted;
+
 use image_records::bytes;
 use image_records::record_sizes;
 use image_sections::names as parts;
@@ -61,11 +69,3 @@ pub fn least_fault(
     let four = states::states(fs, es, fp, ep, &memo, acts, ap, ss, labels, os, &kept, sp);
     faults::also(one, faults::also(two, faults::also(three, four)))
 }
-
-pub mod bounds;
-pub mod facilities;
-pub mod memory;
-pub mod operations;
-pub mod states;
-pub mod values;
-pub mod wanted;
