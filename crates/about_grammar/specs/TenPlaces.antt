@@ -1,4 +1,4 @@
--- Where the machine refuses with 10, the word that passes a ceiling stands; where it refuses with 3 or accepts, no word does.
+-- Where the machine refuses with 10, the word that passes a ceiling stands.
 use mathlib.Core.Bool.{Bool, true, false, cond}
 use mathlib.Core.List.{List, [], _∷_, _++_, append-assoc, append-nil}
 use mathlib.Core.Option.{Option, none, some}

@@ -1,4 +1,4 @@
--- Where the machine refuses with 10, the word that passes a ceiling stands; where it refuses with 3 or accepts, none does.
+-- What passes a ceiling in the machine: the word kept last, or the next one.
 use mathlib.Core.Bool.{true, false}
 use mathlib.Core.List.{List, [], _∷_}
 use mathlib.Core.Path.{_≡_, _∙_, ap, sym, refl, subst}
