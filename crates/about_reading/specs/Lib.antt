@@ -6,3 +6,10 @@ pub mod ExpressionsStand
 pub mod FaultsStand
 pub mod GrammarStands
 pub mod WordsStand
+-- ---- How words are spelled, and that scanning takes the longest.
+pub mod Spelling
+pub mod SpelledBytes
+pub mod SpelledSymbols
+pub mod SpelledConstants
+pub mod LongestMatch
+pub mod SpellingExamples

@@ -4,6 +4,14 @@
 pub mod Alike
 pub mod ExpressionsAlike
 pub mod FaultsAlike
+-- ---- How long a record is, by a relation of its own.
+pub mod HasLength
+pub mod WithinBounds
+pub mod JudgedFine
+pub mod LongIsFine
+pub mod FineIsLong
+pub mod LengthsJudged
+pub mod LengthExamples
 -- ---- What the grammar and the words give a tree.
 pub mod Tidy
 pub mod TidyTexts

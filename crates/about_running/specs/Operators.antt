@@ -15,7 +15,7 @@ pub record Fits (m : Made) (l : ℕ) : Type 0 where
   pub same : m ≡ fit l number
 
 -- A test of a kind: where it holds, the kind is that one.
-by-kind : (P : ℕ → Type 0) (k c : ℕ) → P c → ((eqb k c ≡ false) → P k) → P k
+pub by-kind : (P : ℕ → Type 0) (k c : ℕ) → P c → ((eqb k c ≡ false) → P k) → P k
 by-kind P k c yes-so no-so = go (eqb k c) refl
   where
     go : (b : Bool) → eqb k c ≡ b → P k

@@ -1,0 +1,374 @@
+-- What is judged fine has the length judged, by the relation of HasLength. Assumes nothing.
+use mathlib.Core.Bool.{Bool, true, false, cond}
+use mathlib.Core.List.{[]}
+use mathlib.Core.Path.{_≡_, refl, sym, subst, _∙_}
+use native.Mathlib.Numerals.{add-one}
+use native.Mathlib.Omega.{arith}
+use Prim.Native.Nat.{ℕ, zero, suc, _*_, _^_, _≤_, _<_}
+use borrow.Author.Tests.{eqb-false, eqb-true, leb-true, ltb-false, ltb-true}
+use lib.Dec.{eqb, leb, ltb}
+use Rattle.language.specs.Description as D
+use Rattle.language.specs.Description.{Bounds, Description, Node, Places, facilityAt, inBounds, isComputed, nodeAt, nodePlace, wordLength}
+use Rattle.language.specs.Expressions.{evenly, expressionAt, judgeAt, judgeBelow, judgeNode, judgeStep, longestSelector, notBefore, ownWork, selects, terminalBelow}
+use Rattle.language.specs.Judging.{Judged, Worth, armList, both, fine, proper, refuse, sized, unless, worth}
+use Rattle.language.specs.Kinds.{atLeastSign, atMostSign, conWord, differenceSign, equalsSign, exclusiveSign, extWord, greaterSign, hash, headWord, lessSign, minus, plus, star, sumSign, tailWord}
+use Rattle.language.specs.Meaning as M
+use Rattle.language.specs.Operators.{binaryLength, cutLengthOf, prefixLength}
+use Rattle.language.specs.Recursion.{below-ge}
+use Rattle.language.specs.ReferenceRules.{boundFaults, computedWork, directionFaults, endFaults, referenceJudged, subscriptFaults, subscriptsJudged}
+use Rattle.language.specs.References as R
+use Rattle.language.specs.References.{Subscripts, rightCount, sameDirection, takenLength}
+use Rattle.language.specs.declared.refusals.Refusal.the-variants.{BadLength, BadSubscript}
+use Rattle.language.specs.declared.stops.Stop.the-variants.{OutsideBounds}
+use Rattle.language.specs.Value.{Value, complementLength, countLength, cutLength, differenceLength, joinLength, logicalLength, negationLength, reductionLength, relationLength, repeatLength, sumLength}
+use Rattle.language.specs.Words.{Position}
+use Rattle.about_running.specs.Finds.{Refers, reference-fine}
+use Rattle.about_running.specs.Judged.{Sized, append-none-left, append-none-right, arms-fine, both-fine, faulty-fine, given-fine, proper-fine, sized-fine, unless-none}
+use Rattle.about_running.specs.LegalForm.{left-of as both-left, right-of as both-right}
+use Rattle.about_running.specs.Operators.{by-kind}
+use Rattle.about_rules.specs.HasLength as H
+use Rattle.about_rules.specs.HasLength.{Binary, Cut, Long, Prefix, Subscript, arms, expression, facility, mostBits, mostCaseBits}
+use Rattle.about_rules.specs.LongIsFine.{judge-lt, judged, most-bits, terminal-lt}
+use Rattle.about_rules.specs.WithinBounds.{in-within, tested-part}
+
+-- ---- The operators, one by one: a length that judging works out is one of the relation.
+
+module _ (d : Description) (known n a b l m : ℕ) (left : Long d known expression a l) (right : Long d known expression b m) where
+  abbrev BinaryLong : ℕ → Type 0
+  BinaryLong k = Binary d n k a b → 1 ≤ binaryLength k l m → binaryLength k l m ≤ mostBits → Long d known expression n (binaryLength k l m)
+
+  pub binary-long : (k : ℕ) → BinaryLong k
+  unfolding binaryLength sumLength differenceLength joinLength logicalLength relationLength
+  binary-long k =
+      by-kind BinaryLong k sumSign (λ e h j. H.sum e left right j) (λ e1.
+      by-kind BinaryLong k differenceSign (λ e h j. H.difference e left right) (λ e2.
+      by-kind BinaryLong k conWord (λ e h j. H.joined e left right j) (λ e3.
+      by-kind BinaryLong k plus (λ e h j. H.logical H.either e left right) (λ e4.
+      by-kind BinaryLong k star (λ e h j. H.logical H.each e left right) (λ e5.
+      by-kind BinaryLong k exclusiveSign (λ e h j. H.logical H.exclusive e left right) (λ e6.
+      by-kind BinaryLong k equalsSign (λ e h j. H.relation H.equals e left right) (λ e7.
+      by-kind BinaryLong k hash (λ e h j. H.relation H.unequal e left right) (λ e8.
+      by-kind BinaryLong k lessSign (λ e h j. H.relation H.less e left right) (λ e9.
+      by-kind BinaryLong k greaterSign (λ e h j. H.relation H.greater e left right) (λ ea.
+      by-kind BinaryLong k atMostSign (λ e h j. H.relation H.at-most e left right) (λ eb.
+      by-kind BinaryLong k atLeastSign (λ e h j. H.relation H.at-least e left right) (λ ec.
+      λ e h j. absurd (other e1 e2 e3 e4 e5 e6 e7 e8 e9 ea eb ec h)))))))))))))
+    where
+      other : eqb k sumSign ≡ false → eqb k differenceSign ≡ false → eqb k conWord ≡ false → eqb k plus ≡ false → eqb k star ≡ false → eqb k exclusiveSign ≡ false
+          → eqb k equalsSign ≡ false → eqb k hash ≡ false → eqb k lessSign ≡ false → eqb k greaterSign ≡ false → eqb k atMostSign ≡ false → eqb k atLeastSign ≡ false
+          → 1 ≤ binaryLength k l m → ⊥
+      other e1 e2 e3 e4 e5 e6 e7 e8 e9 ea eb ec h = let z = rw (e1, e2, e3, e4, e5, e6, e7, e8, e9, ea, eb, ec) at h in omega arith
+
+module _ (d : Description) (known n a l : ℕ) (of : Long d known expression a l) where
+  abbrev PrefixLong : ℕ → Type 0
+  PrefixLong k = Prefix d n k a → 1 ≤ prefixLength k l → Long d known expression n (prefixLength k l)
+
+  pub prefix-long : (k : ℕ) → PrefixLong k
+  unfolding prefixLength complementLength negationLength countLength reductionLength
+  prefix-long k =
+      by-kind PrefixLong k minus (λ e h. H.complement e of) (λ e1.
+      by-kind PrefixLong k differenceSign (λ e h. H.negation e of) (λ e2.
+      by-kind PrefixLong k sumSign (λ e h. H.counted e of) (λ e3.
+      by-kind PrefixLong k plus (λ e h. H.reduced H.either e of) (λ e4.
+      by-kind PrefixLong k star (λ e h. H.reduced H.each e of) (λ e5.
+      by-kind PrefixLong k exclusiveSign (λ e h. H.reduced H.exclusive e of) (λ e6.
+      λ e h. absurd (other e1 e2 e3 e4 e5 e6 h)))))))
+    where
+      other : eqb k minus ≡ false → eqb k differenceSign ≡ false → eqb k sumSign ≡ false → eqb k plus ≡ false → eqb k star ≡ false → eqb k exclusiveSign ≡ false
+          → 1 ≤ prefixLength k l → ⊥
+      other e1 e2 e3 e4 e5 e6 h = let z = rw (e1, e2, e3, e4, e5, e6) at h in omega arith
+
+  -- HEAD and TAIL give c bits, where there are as many.
+  cut-so : (c : ℕ) → 1 ≤ cutLength l c → (c ≤ l → 1 ≤ c → Long d known expression n c) → Long d known expression n (cutLength l c)
+  unfolding cutLength
+  cut-so c h on = go (leb c l) refl h
+    where
+      go : (t : Bool) → leb c l ≡ t → 1 ≤ cond t c 0 → Long d known expression n (cond t c 0)
+      go true q h′ = on (leb-true c l q) h′
+      go false q h′ = absurd (omega arith)
+
+  times-some : (c : ℕ) → 1 ≤ l * c → 1 ≤ c
+  times-some zero h = absurd (omega arith)
+  times-some (suc c) h = omega arith
+
+  abbrev CutLong : ℕ → ℕ → Type 0
+  CutLong c k = Cut d n k a c → 1 ≤ cutLengthOf k l c → cutLengthOf k l c ≤ mostBits → Long d known expression n (cutLengthOf k l c)
+
+  pub cut-long : (k c : ℕ) → CutLong c k
+  unfolding cutLengthOf repeatLength
+  cut-long k c =
+      by-kind (CutLong c) k headWord (λ e h j. cut-so c h (λ m s. H.substring H.head e of s m)) (λ e1.
+      by-kind (CutLong c) k tailWord (λ e h j. cut-so c h (λ m s. H.substring H.tail e of s m)) (λ e2.
+      by-kind (CutLong c) k extWord (λ e h j. H.extended e of (times-some c h) j) (λ e3.
+      λ e h j. absurd (other e1 e2 e3 h))))
+    where
+      other : eqb k headWord ≡ false → eqb k tailWord ≡ false → eqb k extWord ≡ false → 1 ≤ cutLengthOf k l c → ⊥
+      other e1 e2 e3 h = let z = rw (e1, e2, e3) at h in omega arith
+
+-- ---- Conditionals.
+
+-- Arms of a length that is not 0 are equally long.
+even-so : (l m : ℕ) → 1 ≤ evenly l m → (l ≡ m) × (evenly l m ≡ l)
+unfolding evenly
+even-so l m h = go (eqb l m) refl h
+  where
+    go : (t : Bool) → eqb l m ≡ t → 1 ≤ cond t l 0 → (l ≡ m) × (cond t l 0 ≡ l)
+    go true q k = (eqb-true l m q, refl)
+    go false q k = absurd (omega arith)
+
+pub selected : (l c : ℕ) → selects l c ≡ true → (l ≤ mostCaseBits) × (c ≡ 2 ^ l)
+unfolding selects longestSelector
+selected l c e = (leb-true l longestSelector (both-left _ _ e), eqb-true c (2 ^ l) (both-right (leb l longestSelector) _ e))
+
+module _ (d : Description) (p : Places) (known : ℕ)
+    (terms : (f : ℕ) (w : Worth) → f < known → expressionAt d p (terminalBelow d p f) f (facilityAt d f .expression) ≡ fine w
+    → (m : ℕ) × Long d f expression (facilityAt d f .expression) m) where
+  -- What is judged fine with this worth, as an expression and as arms.
+  record Says (n : ℕ) (w : Worth) : Type 0 where
+    as-expression : w .arms ≡ 0 → Long d known expression n (w .length)
+    as-arms : 0 < w .arms → 1 ≤ w .length → Long d known (arms (w .arms)) n (w .length)
+
+  abbrev terminals : ℕ → Judged
+  terminals = terminalBelow d p known
+
+  module _ (n : ℕ) (ih : (a : ℕ) (w : Worth) → a < n → judged d p known a ≡ fine w → Says a w) where
+    abbrev ev : ℕ → Judged
+    ev = judgeBelow d p terminals known n
+
+    late : (a : ℕ) → n ≤ a → ev a ≡ notBefore d p terminals known
+    unfolding judgeBelow
+    late a h = below-ge (notBefore d p terminals known) (judgeStep d p terminals known) n a h
+
+    -- A part that is judged fine stands before its owner.
+    stands : (a : ℕ) {w : Worth} → ev a ≡ fine w → (a < n) × Says a w
+    stands a {w} e = go (ltb a n) refl
+      where
+        go : (t : Bool) → ltb a n ≡ t → (a < n) × Says a w
+        go true q = let h = ltb-true a n q in (h, ih a w h (sym (judge-lt d p known n a h) ∙ e))
+        go false q = faulty-fine (sym (late a (ltb-false a n q)) ∙ e)
+
+    part-long : (q : Position) (a : ℕ) {w : Worth} → proper q (ev a) ≡ fine w → (a < n) × Long d known expression a (w .length)
+    part-long q a e =
+        let y = proper-fine q (ev a) e in
+        let z = stands a (y .same) in
+        (z .0, z .1 .as-expression (y .arms))
+
+    arms-long : (q : Position) (a : ℕ) {w : Worth} → armList q (ev a) ≡ fine w → (a < n) × (1 ≤ w .length → Long d known (arms (w .arms)) a (w .length))
+    arms-long q a e =
+        let y = arms-fine q (ev a) e in
+        let z = stands a (y .same) in
+        (z .0, z .1 .as-arms (y .some))
+
+    -- An expression proper.
+    sized-says : {l k : ℕ} {w : Worth} → Sized l k w → Long d known expression n l → Says n w
+    sized-says {l} {k} {w} z h = subst (λ (x : Worth). Says n x) (sym (z .same)) (record { as-expression = λ e. h; as-arms = λ e s. absurd (omega arith) })
+
+    few : {l k : ℕ} {w : Worth} → Sized l k w → l ≤ mostBits
+    few z = rw most-bits at (z .most)
+
+    binary-says : (k a b : ℕ) → nodeAt d n ≡ D.binary k a b → {w : Worth}
+        → judgeNode d p terminals known ev (nodePlace p n) (D.binary k a b) ≡ fine w → Says n w
+    unfolding judgeNode
+    binary-says k a b q e =
+        let y = both-fine (proper (nodePlace p a .at) (ev a)) (proper (nodePlace p b .at) (ev b)) _ e in
+        let i = part-long _ a (y .left) in
+        let j = part-long _ b (y .right) in
+        let z = sized-fine _ (binaryLength k (y .u .length) (y .v .length)) _ (y .own) in
+        sized-says z (binary-long d known n a b _ _ (i .1) (j .1) k (q, i .0, j .0) (z .some) (few z))
+
+    prefix-says : (k a : ℕ) → nodeAt d n ≡ D.prefix k a → {w : Worth}
+        → judgeNode d p terminals known ev (nodePlace p n) (D.prefix k a) ≡ fine w → Says n w
+    unfolding judgeNode
+    prefix-says k a q e =
+        let y = given-fine (proper (nodePlace p a .at) (ev a)) _ e in
+        let i = part-long _ a (y .part) in
+        let z = sized-fine _ (prefixLength k (y .v .length)) _ (y .own) in
+        sized-says z (prefix-long d known n a _ (i .1) k (q, i .0) (z .some))
+
+    cut-says : (k a c : ℕ) → nodeAt d n ≡ D.cut k a c → {w : Worth}
+        → judgeNode d p terminals known ev (nodePlace p n) (D.cut k a c) ≡ fine w → Says n w
+    unfolding judgeNode
+    cut-says k a c q e =
+        let y = given-fine (proper (nodePlace p a .at) (ev a)) _ e in
+        let i = part-long _ a (y .part) in
+        let z = sized-fine _ (cutLengthOf k (y .v .length) c) _ (y .own) in
+        sized-says z (cut-long d known n a _ (i .1) k c (q, i .0) (z .some) (few z))
+
+    arm-says : {c l k : ℕ} {w : Worth} → worth l (suc c) k ≡ fine w → (1 ≤ l → Long d known (arms (suc c)) n l) → Says n w
+    arm-says {c} {l} {k} {w} e h =
+        let z : record { length = l; arms = suc c; work = k } ≡ w = cc in
+        subst (λ (x : Worth). Says n x) z (record { as-expression = λ q. absurd (omega arith); as-arms = λ q s. h s })
+
+    first-says : (a : ℕ) → nodeAt d n ≡ D.firstArm a → {w : Worth}
+        → judgeNode d p terminals known ev (nodePlace p n) (D.firstArm a) ≡ fine w → Says n w
+    unfolding judgeNode
+    first-says a q e =
+        let y = given-fine (proper (nodePlace p a .at) (ev a)) _ e in
+        let i = part-long _ a (y .part) in
+        arm-says (y .own) (λ s. H.first q (i .0) (i .1))
+
+    next-says : (a b : ℕ) → nodeAt d n ≡ D.nextArm a b → {w : Worth}
+        → judgeNode d p terminals known ev (nodePlace p n) (D.nextArm a b) ≡ fine w → Says n w
+    unfolding judgeNode
+    next-says a b q e =
+        let y = both-fine (armList (nodePlace p n .at) (ev a)) (proper (nodePlace p b .at) (ev b)) _ e in
+        let i = arms-long _ a (y .left) in
+        let j = part-long _ b (y .right) in
+        arm-says (y .own) (λ s. joined (y .u .arms) (y .u .length) (y .v .length) (i .0) (i .1) (j .0) (j .1) s)
+      where
+        joined : (c l m : ℕ) → a < n → (1 ≤ l → Long d known (arms c) a l) → b < n → Long d known expression b m
+            → 1 ≤ evenly l m → Long d known (arms (suc c)) n (evenly l m)
+        joined c l m h i k j s =
+            let z = even-so l m s in
+            rw (z .1, ← add-one c) (H.next q h k (i (rw (z .1) at s)) (rw (z .0) j))
+
+    choice-says : (a b c : ℕ) → nodeAt d n ≡ D.choice a b c → {w : Worth}
+        → judgeNode d p terminals known ev (nodePlace p n) (D.choice a b c) ≡ fine w → Says n w
+    unfolding judgeNode
+    choice-says a b c q {w} e =
+        let y = both-fine (proper (nodePlace p a .at) (ev a)) (armList (nodePlace p n .at) (ev b)) _ e in
+        let i = part-long _ a (y .left) in
+        let j = arms-long _ b (y .right) in
+        go (y .u .length) (y .v .arms) (y .v .length) _ (i .0) (i .1) (j .0) (j .1) _ refl (y .own)
+      where
+        go : (l m r k : ℕ) → a < n → Long d known expression a l → b < n → (1 ≤ r → Long d known (arms m) b r)
+            → (t : Bool) → both (selects l c) (eqb m c) ≡ t → cond t (sized (nodePlace p n .at) r k) (refuse (nodePlace p n .at) BadLength) ≡ fine w → Says n w
+        go l m r w′ h i k j false s e′ = faulty-fine e′
+        go l m r w′ h i k j true s e′ =
+            let z = sized-fine _ r _ e′ in
+            let t = selected l c (both-left _ _ s) in
+            let u : m ≡ 2 ^ l = eqb-true m c (both-right (selects l c) _ s) ∙ t .1 in
+            sized-says z (H.choice (subst (λ (x : ℕ). nodeAt d n ≡ D.choice a b x) (t .1) q) h k i (t .0) (rw (← u) (j (z .some))))
+
+    -- ---- References.
+
+    named : (f : ℕ) {w : Worth} → f < known → computedWork d p terminals f (facilityAt d f) ≡ fine w → Long d known facility f (wordLength (facilityAt d f))
+    named f {w} h e = go (isComputed (facilityAt d f .kind)) refl e
+      where
+        go : (t : Bool) → isComputed (facilityAt d f .kind) ≡ t → cond t (terminals f) (worth 1 0 0) ≡ fine w → Long d known facility f (wordLength (facilityAt d f))
+        go true q k = H.computed h q (terms f w h (sym (terminal-lt d p known f h) ∙ k) .1)
+        go false q k = H.stored h q
+
+    subscript-so : (b : Bounds) (e : ℕ) → subscriptFaults d p terminals b e ≡ [] → Subscript d b e
+    subscript-so b e h v q = in-within b _ (unless-none _ _ _ (rw q at h))
+
+    ends-so : (b x : Bounds) → endFaults d p terminals b x (nodePlace p n) ≡ [] → (inBounds b (x .first) ≡ true) × (inBounds b (x .last) ≡ true)
+    ends-so b x h = (
+      unless-none _ _ _ (append-none-left (unless (inBounds b (x .first)) (nodePlace p n .first) BadSubscript) _ h),
+      unless-none _ _ _ (append-none-right (unless (inBounds b (x .first)) (nodePlace p n .first) BadSubscript) (unless (inBounds b (x .last)) (nodePlace p n .last) BadSubscript) h),
+    )
+
+    -- What holds of a reference without fault, as judging has it.
+    abbrev Right : ℕ → Subscripts → Worth → Type 0
+    Right f u w = Refers d p terminals ev (λ e. M.Answer.stops OutsideBounds) (λ e. ⊥) (λ e w q h. absurd q) known (record { facility = f; subscripts = u }) (nodePlace p n) w
+
+    refers : (f : ℕ) (u : Subscripts) {w : Worth} → referenceJudged d p terminals ev ownWork known (record { facility = f; subscripts = u }) (nodePlace p n) ≡ fine w → Right f u w
+    refers f u e = reference-fine d p terminals ev (λ e. M.Answer.stops OutsideBounds) (λ e. ⊥) (λ e w q h. absurd q) ownWork known (record { facility = f; subscripts = u }) (nodePlace p n) e
+
+    refer-says : (f : ℕ) (u : Subscripts) {w : Worth} → Right f u w → (takenLength (facilityAt d f) u ≤ mostBits → Long d known expression n (takenLength (facilityAt d f) u)) → Says n w
+    refer-says f u r h =
+        record {
+          as-expression = λ e. rw (r .length) (h (rw most-bits at (r .right .short)));
+          as-arms = λ e s. absurd (let z = r .arms in omega arith);
+        }
+
+    whole-says : (f : ℕ) → nodeAt d n ≡ D.whole f → {w : Worth}
+        → judgeNode d p terminals known ev (nodePlace p n) (D.whole f) ≡ fine w → Says n w
+    unfolding judgeNode rightCount takenLength
+    whole-says f q e =
+        let r = refers f R.whole e in
+        refer-says f R.whole r (λ m. H.whole q (leb-true _ 1 (r .right .count)) (named f (r .known-here) (r .worked)) (r .some-bits) m)
+
+    one-says : (f a : ℕ) → nodeAt d n ≡ D.one f a → {w : Worth}
+        → judgeNode d p terminals known ev (nodePlace p n) (D.one f a) ≡ fine w → Says n w
+    unfolding judgeNode rightCount takenLength subscriptsJudged boundFaults
+    one-says f a q e =
+        let r = refers f (R.one a) e in
+        let i = part-long _ a (r .right .worked) in
+        let h : 1 ≤ facilityAt d f .dimensions = leb-true _ _ (both-left _ _ (r .right .count)) in
+        let k : facilityAt d f .dimensions ≤ 2 = leb-true _ _ (both-right (leb 1 (facilityAt d f .dimensions)) _ (r .right .count)) in
+        refer-says f (R.one a) r (go (i .0) (i .1) (named f (r .known-here) (r .worked)) h k (eqb (facilityAt d f .dimensions) 1) refl (r .right .bound) (r .some-bits))
+      where
+        go : {m : ℕ} → a < n → Long d known expression a m → Long d known facility f (wordLength (facilityAt d f)) → 1 ≤ facilityAt d f .dimensions → facilityAt d f .dimensions ≤ 2
+            → (t : Bool) → eqb (facilityAt d f .dimensions) 1 ≡ t → cond t (subscriptFaults d p terminals (facilityAt d f .bits) a) (subscriptFaults d p terminals (facilityAt d f .words) a) ≡ []
+            → 1 ≤ cond t 1 (wordLength (facilityAt d f)) → cond t 1 (wordLength (facilityAt d f)) ≤ mostBits → Long d known expression n (cond t 1 (wordLength (facilityAt d f)))
+        go h i l j k true t b s m = H.bit q h (eqb-true _ 1 t) l i (subscript-so _ a b)
+        go h i l j k false t b s m =
+            let z : facilityAt d f .dimensions ≡ 1 → ⊥ = eqb-false _ 1 t in
+            H.word q h (omega arith) l i (subscript-so _ a b) s m
+
+    part-says : (f : ℕ) (x : Bounds) → nodeAt d n ≡ D.part f x → {w : Worth}
+        → judgeNode d p terminals known ev (nodePlace p n) (D.part f x) ≡ fine w → Says n w
+    unfolding judgeNode rightCount takenLength boundFaults directionFaults
+    part-says f x q e =
+        let r = refers f (R.part x) e in
+        let i = ends-so _ x (r .right .bound) in
+        let t = tested-part _ x (i .0) (i .1) (unless-none (sameDirection (facilityAt d f .bits) x) _ _ (r .right .direction)) in
+        refer-says f (R.part x) r (λ m. H.part q (eqb-true _ 1 (r .right .count)) (named f (r .known-here) (r .worked)) t m)
+
+    two-says : (f a b : ℕ) → nodeAt d n ≡ D.two f a b → {w : Worth}
+        → judgeNode d p terminals known ev (nodePlace p n) (D.two f a b) ≡ fine w → Says n w
+    unfolding judgeNode rightCount takenLength subscriptsJudged boundFaults
+    two-says f a b q e =
+        let r = refers f (R.two a b) e in
+        let y = both-fine _ _ _ (r .right .worked) in
+        let i = part-long _ a (y .left) in
+        let j = part-long _ b (y .right) in
+        let s = subscript-so _ a (append-none-left _ _ (r .right .bound)) in
+        let t = subscript-so _ b (append-none-right (subscriptFaults d p terminals (facilityAt d f .words) a) _ (r .right .bound)) in
+        refer-says f (R.two a b) r (λ m. H.word-bit q (i .0) (j .0) (eqb-true _ 2 (r .right .count)) (named f (r .known-here) (r .worked)) (i .1) s (j .1) t)
+
+    word-part-says : (f a : ℕ) (x : Bounds) → nodeAt d n ≡ D.wordPart f a x → {w : Worth}
+        → judgeNode d p terminals known ev (nodePlace p n) (D.wordPart f a x) ≡ fine w → Says n w
+    unfolding judgeNode rightCount takenLength subscriptsJudged boundFaults directionFaults
+    word-part-says f a x q e =
+        let r = refers f (R.wordPart a x) e in
+        let i = part-long _ a (r .right .worked) in
+        let s = subscript-so _ a (append-none-left _ _ (r .right .bound)) in
+        let j = ends-so _ x (append-none-right (subscriptFaults d p terminals (facilityAt d f .words) a) _ (r .right .bound)) in
+        let t = tested-part _ x (j .0) (j .1) (unless-none (sameDirection (facilityAt d f .bits) x) _ _ (r .right .direction)) in
+        refer-says f (R.wordPart a x) r (λ m. H.word-part q (i .0) (eqb-true _ 2 (r .right .count)) (named f (r .known-here) (r .worked)) (i .1) s t m)
+
+    -- ---- Every kind of record.
+
+    constant-says : (v : Value) → nodeAt d n ≡ D.constant v → {w : Worth}
+        → judgeNode d p terminals known ev (nodePlace p n) (D.constant v) ≡ fine w → Says n w
+    unfolding judgeNode
+    constant-says v q e = let z = sized-fine _ (v .length) _ e in sized-says z (H.constant q (z .some) (few z))
+
+    node-says : (x : Node) → nodeAt d n ≡ x → {w : Worth} → judgeNode d p terminals known ev (nodePlace p n) x ≡ fine w → Says n w
+    unfolding judgeNode
+    node-says (D.constant v) q e = constant-says v q e
+    node-says (D.more m) q e = faulty-fine e
+    node-says (D.whole f) q e = whole-says f q e
+    node-says (D.one f a) q e = one-says f a q e
+    node-says (D.part f x) q e = part-says f x q e
+    node-says (D.two f a b) q e = two-says f a b q e
+    node-says (D.wordPart f a x) q e = word-part-says f a x q e
+    node-says (D.binary k a b) q e = binary-says k a b q e
+    node-says (D.prefix k a) q e = prefix-says k a q e
+    node-says (D.cut k a c) q e = cut-says k a c q e
+    node-says (D.firstArm a) q e = first-says a q e
+    node-says (D.nextArm a b) q e = next-says a b q e
+    node-says (D.choice a b c) q e = choice-says a b c q e
+    node-says D.Node.broken q e = faulty-fine e
+
+  says-below : (k n : ℕ) (w : Worth) → n < k → judged d p known n ≡ fine w → Says n w
+  unfolding judgeAt
+  says-below zero n w h e = absurd (omega arith)
+  says-below (suc k) n w h e = node-says n (λ a v l. says-below k a v (omega arith)) (nodeAt d n) refl e
+
+  expression-long : (n : ℕ) {w : Worth} → judged d p known n ≡ fine w → w .arms ≡ 0 → Long d known expression n (w .length)
+  expression-long n e h = says-below (suc n) n _ (omega arith) e .as-expression h
+
+module _ (d : Description) (p : Places) where
+  terminals-long : (k f : ℕ) (w : Worth) → f < k → expressionAt d p (terminalBelow d p f) f (facilityAt d f .expression) ≡ fine w
+      → (m : ℕ) × Long d f expression (facilityAt d f .expression) m
+  terminals-long zero f w h e = absurd (omega arith)
+  terminals-long (suc k) f w h e =
+      let y = proper-fine _ (judged d p f (facilityAt d f .expression)) e in
+      (w .length, expression-long d p f (λ g v l. terminals-long k g v (omega arith)) (facilityAt d f .expression) (y .same) (y .arms))
+
+  -- An expression that is judged fine has the length judged.
+  pub fine-is-long : (known n : ℕ) {w : Worth} → judged d p known n ≡ fine w → w .arms ≡ 0 → Long d known expression n (w .length)
+  fine-is-long known n e h = expression-long d p known (terminals-long known) n e h
