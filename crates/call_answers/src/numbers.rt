@@ -32,17 +32,17 @@ ghost use Rattle.call_answers.specs.declared.looked.Looked.the-variants 
 ghost use Rattle.call_answers.specs.declared.ran.RunReply.the-variants as Answers;
 
 // The length of an image, or a refusal and its place; both have 32 bits.
-pub fn read_numbers(a: read::Answer) -> ReadAnswer
+pub fn read_numbers(a: read::ReadReply) -> ReadAnswer
     requires { ⌜ Reads.Short (Reads.answered a) ⌝ }
     ensures { λ r. ⌜ r ≡ readNumbers (Reads.answered a) ⌝ }
 {
     match a {
-        read::Answer::Accepted(n) => ReadAnswer {
+        read::ReadReply::Accepted(n) => ReadAnswer {
             refusal: 0,
             place: 0,
             length: n as u32,
         },
-        read::Answer::Refused(n, p) => ReadAnswer {
+        read::ReadReply::Refused(n, p) => ReadAnswer {
             refusal: refusal_number(n) as u32,
             place: p as u32,
             length: 0,
@@ -51,31 +51,31 @@ pub fn read_numbers(a: read::Answer) -> ReadAnswer
 }
 
 // The refusal, or 0.
-pub fn open_number(a: opened::Answer) -> u32
+pub fn open_number(a: opened::OpenReply) -> u32
     ensures { λ r. ⌜ r ≡ openNumber (Opened.answered a) ⌝ }
 {
     match a {
-        opened::Answer::Opened => 0,
-        opened::Answer::Refused(n) => refusal_number(n) as u32,
+        opened::OpenReply::Opened => 0,
+        opened::OpenReply::Refused(n) => refusal_number(n) as u32,
     }
 }
 
 // The conflicts of a completed cycle, a stop or a refusal.
-pub fn cycle_numbers(a: cycled::Answer) -> CycleAnswer
+pub fn cycle_numbers(a: cycled::CycleReply) -> CycleAnswer
     ensures { λ r. ⌜ r ≡ cycleNumbers (Cycled.answered a) ⌝ }
 {
     match a {
-        cycled::Answer::Cycled(n) => CycleAnswer {
+        cycled::CycleReply::Cycled(n) => CycleAnswer {
             refusal: 0,
             stop: 0,
             conflicts: n,
         },
-        cycled::Answer::Stopped(n) => CycleAnswer {
+        cycled::CycleReply::Stopped(n) => CycleAnswer {
             refusal: 0,
             stop: stop_number(n) as u32,
             conflicts: 0,
         },
-        cycled::Answer::Refused(n) => CycleAnswer {
+        cycled::CycleReply::Refused(n) => CycleAnswer {
             refusal: refusal_number(n) as u32,
             stop: 0,
             conflicts: 0,
@@ -107,12 +107,12 @@ fn tally_numbers(t: Tally) -> RunAnswer
 }
 
 // Completed cycles, their conflicts and the stop that ended them, or a refusal.
-pub fn run_numbers(a: ran::Answer) -> RunAnswer
+pub fn run_numbers(a: ran::RunReply) -> RunAnswer
     ensures { λ r. ⌜ r ≡ runNumbers (Ran.answered a) ⌝ }
 {
     match a {
-        ran::Answer::Ran(t) => tally_numbers(t),
-        ran::Answer::Refused(n) => RunAnswer {
+        ran::RunReply::Ran(t) => tally_numbers(t),
+        ran::RunReply::Refused(n) => RunAnswer {
             refusal: refusal_number(n) as u32,
             stop: 0,
             cycles: 0,
@@ -122,17 +122,17 @@ pub fn run_numbers(a: ran::Answer) -> RunAnswer
 }
 
 // Where a name stands, which has 32 bits, since the total length of an image has.
-pub fn name_numbers(a: named::Answer) -> NameAnswer
+pub fn name_numbers(a: named::NameReply) -> NameAnswer
     requires { ⌜ Short (nameMeant a) ⌝ }
     ensures { λ r. ⌜ r ≡ nameNumbers (nameMeant a) ⌝ }
 {
     match a {
-        named::Answer::Named(p) => NameAnswer {
+        named::NameReply::Named(p) => NameAnswer {
             refusal: 0,
             offset: p.offset as u32,
             length: p.length as u32,
         },
-        named::Answer::Refused(n) => NameAnswer {
+        named::NameReply::Refused(n) => NameAnswer {
             refusal: refusal_number(n) as u32,
             offset: 0,
             length: 0,

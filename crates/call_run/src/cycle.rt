@@ -27,13 +27,13 @@ fn only(t: Tally) -> CycleReply
 }
 
 // What a run of at most one cycle says of it.
-fn single(a: ran::Answer) -> CycleReply
+fn single(a: ran::RunReply) -> CycleReply
     requires { ⌜ Counted (Run.answered a) ⌝ }
     ensures { λ r. ⌜ Cycle.answered r ≡ told (Run.answered a) ⌝ }
 {
     match a {
-        ran::Answer::Ran(t) => only(t),
-        ran::Answer::Refused(r) => CycleReply::Refused(r),
+        ran::RunReply::Ran(t) => only(t),
+        ran::RunReply::Refused(r) => CycleReply::Refused(r),
     }
 }
 
