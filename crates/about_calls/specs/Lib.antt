@@ -8,6 +8,8 @@ pub mod StopsFirst
 pub mod EachCycle
 -- ---- Every expression has the length worked out before, and no part is longer than what it is a part of.
 pub mod Lengths
+pub mod WorkedOut
+pub mod EveryAction
 -- ---- What a completed cycle did: its delayed stores, when they land, and what no store names.
 pub mod LandsLast
 -- ---- What has no bearing: bytes beyond store and record, and past the image.
