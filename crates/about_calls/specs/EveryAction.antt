@@ -7,15 +7,16 @@ use borrow.Author.Tests.{eqb-false, eqb-true, leb-true, ltb-false, ltb-true}
 use lib.Dec.{eqb, eqb·suc-zero, leb, ltb}
 use lib.ListN.{length}
 use Rattle.language.specs.ActionRules as J
-use Rattle.language.specs.ActionRules.{Shape, actions, arms, simpleJudged}
+use Rattle.language.specs.ActionRules.{Shape, actions, arms, kindAt, simpleJudged}
 use Rattle.language.specs.Description as D
 use Rattle.language.specs.Description.{Action, Description, Places, Run, actionAt, actionPlace}
 use Rattle.language.specs.Expressions.{expressionAt, leftAt, selects, terminalBelow}
 use Rattle.language.specs.Judging.{Judged, Worth, both, fine, givenBoth, refuse, worth}
 use Rattle.language.specs.Recursion.{below-lt}
+use Rattle.language.specs.Storing.{mayStore}
 use Rattle.language.specs.Words.{Position}
 use Rattle.language.specs.declared.refusals.Refusal.the-variants.{NoContinuation}
-use Rattle.about_running.specs.Judged.{both-fine, faulty-fine, given-fine}
+use Rattle.about_running.specs.Judged.{Two, both-fine, faulty-fine, given-fine}
 use Rattle.about_running.specs.LegalForm.{right-of}
 use Rattle.about_calls.specs.WorkedOut as W
 use Rattle.about_calls.specs.WorkedOut.{Among, LeftSide, Valued}
@@ -31,32 +32,62 @@ module _ (d : Description) (p : Places) where
   abbrev pub ValueFine : ℕ → Type 0
   ValueFine n = (w : Worth) × (expressionAt d p (terminalBelow d p all) all n ≡ fine w)
 
-  -- What an action without fault has.
-  pub record Roots (a : Action) : Type 0 where
-    pub sides : (n : ℕ) → LeftSide a n → LeftFine n
-    pub values : (n : ℕ) → Valued a n → ValueFine n
+  -- What an action without fault has: left sides, and expressions.
+  abbrev pub Roots : Action → Type 0
+  Roots (D.store k l r) = LeftFine l × ValueFine r
+  Roots (D.storePair k l m r) = LeftFine l × LeftFine m × ValueFine r
+  Roots (D.set l) = LeftFine l
+  Roots (D.perform o) = Unit {0}
+  Roots (D.goto s) = Unit {0}
+  Roots (D.call s) = Unit {0}
+  Roots D.return = Unit {0}
+  Roots (D.when c x) = ValueFine c
+  Roots (D.choose c n x) = ValueFine c
+  Roots (D.arm x) = Unit {0}
+  Roots D.Action.broken = Unit {0}
+
+  pub side-fine : (a : Action) (n : ℕ) → Roots a → LeftSide a n → LeftFine n
+  side-fine (D.store k l r) n h W.stored = h .0
+  side-fine (D.storePair k l m r) n h W.high = h .0
+  side-fine (D.storePair k l m r) n h W.low = h .1
+  side-fine (D.set l) n h W.set = h
+
+  pub value-fine : (a : Action) (n : ℕ) → Roots a → Valued a n → ValueFine n
+  value-fine (D.store k l r) n h W.right = h .1
+  value-fine (D.storePair k l m r) n h W.pair-right = h .2
+  value-fine (D.when c x) n h W.when = h
+  value-fine (D.choose c m x) n h W.choose = h
 
   module _ (inState : Bool) (works : ℕ → Judged) where
-    only-in : (b : Bool) (at : Position) (j : Judged) {w : Worth} → J.onlyIn d p inState works b at j ≡ fine w → j ≡ fine w
-    only-in true at j e = e
-    only-in false at j e = faulty-fine e
+    abbrev side : ℕ → Judged
+    side = J.side d p inState works
 
-    simple-sides : (at : Position) (a : Action) {w : Worth} → simpleJudged d p inState works at a ≡ fine w → (n : ℕ) → LeftSide a n → LeftFine n
-    unfolding simpleJudged
-    simple-sides at (D.store k l r) e n W.stored = let y = both-fine _ _ _ (only-in _ at _ e) in (y .u, y .left)
-    simple-sides at (D.storePair k l m r) e n W.high = let y = both-fine _ _ _ (both-fine _ _ _ (only-in _ at _ e) .left) in (y .u, y .left)
-    simple-sides at (D.storePair k l m r) e n W.low = let y = both-fine _ _ _ (both-fine _ _ _ (only-in _ at _ e) .left) in (y .v, y .right)
-    simple-sides at (D.set l) e n W.set = let y = given-fine _ _ e in (y .v, y .part)
+    abbrev right : ℕ → Judged
+    right = J.right d p inState works
 
-    simple-values : (at : Position) (a : Action) {w : Worth} → simpleJudged d p inState works at a ≡ fine w → (n : ℕ) → Valued a n → ValueFine n
-    unfolding simpleJudged
-    simple-values at (D.store k l r) e n W.right = let y = both-fine _ _ _ (only-in _ at _ e) in (y .v, y .right)
-    simple-values at (D.storePair k l m r) e n W.pair-right = let y = both-fine _ _ _ (only-in _ at _ e) in (y .v, y .right)
-    simple-values at (D.when c x) e n W.when = faulty-fine e
-    simple-values at (D.choose c m x) e n W.choose = faulty-fine e
+    -- A store, which stands only in operations.
+    store-fine : (b : Bool) (at : Position) (i j : Judged) (k : Worth → Worth → Judged) {w : Worth} → J.onlyIn d p inState works b at (givenBoth i j k) ≡ fine w → Two i j k w
+    store-fine true at i j k e = both-fine i j k e
+    store-fine false at i j k e = faulty-fine e
 
     simple-roots : (at : Position) (a : Action) {w : Worth} → simpleJudged d p inState works at a ≡ fine w → Roots a
-    simple-roots at a e = record { sides = simple-sides at a e; values = simple-values at a e }
+    unfolding simpleJudged
+    simple-roots at (D.store k l r) e =
+        let y = store-fine (J.notInState d p inState works) at (side l) (right r) (J.stored d p inState works (mayStore k (kindAt d l)) at) e in
+        ((y .u, y .left), (y .v, y .right))
+    simple-roots at (D.storePair k l m r) e =
+        let y = store-fine (J.notInState d p inState works) at (J.sides d p inState works l m) (right r) (J.stored d p inState works (both (mayStore k (kindAt d l)) (mayStore k (kindAt d m))) at) e in
+        let z = both-fine (side l) (side m) _ (y .left) in
+        ((z .u, z .left), (z .v, z .right), (y .v, y .right))
+    simple-roots at (D.set l) e = let y = given-fine (side l) _ e in (y .v, y .part)
+    simple-roots at (D.perform o) e = tt
+    simple-roots at (D.goto s) e = tt
+    simple-roots at (D.call s) e = tt
+    simple-roots at D.return e = tt
+    simple-roots at (D.when c x) e = faulty-fine e
+    simple-roots at (D.choose c n x) e = faulty-fine e
+    simple-roots at (D.arm x) e = tt
+    simple-roots at D.Action.broken e = tt
 
     -- ---- Lists.
 
@@ -69,7 +100,7 @@ module _ (d : Description) (p : Places) where
 
     -- Of k records from i on that are judged fine, as actions or as arms, what each holds is.
     Claim : ℕ → Type 0
-    Claim k = (i : ℕ) (s : Shape) {w : Worth} → judged k i s ≡ fine w → (j : ℕ) → i ≤ j → j < i + k → Roots (actionAt d j)
+    Claim k = (i : ℕ) (s : Shape) (w : Worth) → judged k i s ≡ fine w → (j : ℕ) → i ≤ j → j < i + k → Roots (actionAt d j)
 
     module _ (m : ℕ) (ih : (a : ℕ) → a < suc m → Claim a) (i j : ℕ) (from : i ≤ j) (to : j < i + suc m) where
       abbrev ev : ℕ → ℕ → Shape → Judged
@@ -77,7 +108,7 @@ module _ (d : Description) (p : Places) where
 
       fewer : (a i′ : ℕ) (s : Shape) {w : Worth} → a < suc m → ev a i′ s ≡ fine w → i′ ≤ j → j < i′ + a → Roots (actionAt d j)
       unfolding Claim
-      fewer a i′ s l e h k = ih a l i′ s (sym (judged-lt (suc m) a i′ s l) ∙ e) j h k
+      fewer a i′ s l e h k = ih a l i′ s _ (sym (judged-lt (suc m) a i′ s l) ∙ e) j h k
 
       -- The record i itself, or one after it.
       here-or : {A : Type 0} → (j ≡ i → A) → (i + 1 ≤ j → A) → A
@@ -117,24 +148,6 @@ module _ (d : Description) (p : Places) where
               here-or (λ r. subst (λ (k : ℕ). Roots (actionAt d k)) (sym r) (own (z .u, z .left)))
               (λ h. within-or x (λ l. fewer x (i + 1) arms (omega arith) (z .right) h l) (λ l. fewer (m - x) (i + 1 + x) actions (omega arith) (y .right) l (omega arith)))
 
-      when-root : (c x : ℕ) → ValueFine c → Roots (D.when c x)
-      when-root c x r = record { sides = none; values = own }
-        where
-          none : (n : ℕ) → LeftSide (D.when c x) n → LeftFine n
-          none n ()
-
-          own : (n : ℕ) → Valued (D.when c x) n → ValueFine n
-          own n W.when = r
-
-      choose-root : (c k x : ℕ) → ValueFine c → Roots (D.choose c k x)
-      choose-root c k x r = record { sides = none; values = own }
-        where
-          none : (n : ℕ) → LeftSide (D.choose c k x) n → LeftFine n
-          none n ()
-
-          own : (n : ℕ) → Valued (D.choose c k x) n → ValueFine n
-          own n W.choose = r
-
       list-roots : (a : Action) {w : Worth} → actionAt d i ≡ a → J.listJudged d p inState works ev m i a ≡ fine w → Roots (actionAt d j)
       unfolding J.listJudged
       list-roots (D.store k l r) q e = plain-roots e
@@ -144,19 +157,10 @@ module _ (d : Description) (p : Places) where
       list-roots (D.goto s) q e = plain-roots e
       list-roots (D.call s) q e = plain-roots e
       list-roots D.return q e = plain-roots e
-      list-roots (D.when c x) q e = held-roots c x (λ v w. both (eqb (v .length) 1) (eqb (w .arms) 1)) (λ r. subst Roots (sym q) (when-root c x r)) e
-      list-roots (D.choose c n x) q e = held-roots c x (λ v w. both (selects (v .length) n) (eqb (w .arms) n)) (λ r. subst Roots (sym q) (choose-root c n x r)) e
+      list-roots (D.when c x) q e = held-roots c x (λ v w. both (eqb (v .length) 1) (eqb (w .arms) 1)) (λ r. subst Roots (sym q) r) e
+      list-roots (D.choose c n x) q e = held-roots c x (λ v w. both (selects (v .length) n) (eqb (w .arms) n)) (λ r. subst Roots (sym q) r) e
       list-roots (D.arm x) q e = plain-roots e
       list-roots D.Action.broken q e = plain-roots e
-
-      arm-root : (x : ℕ) → Roots (D.arm x)
-      arm-root x = record { sides = none; values = none-valued }
-        where
-          none : (n : ℕ) → LeftSide (D.arm x) n → LeftFine n
-          none n ()
-
-          none-valued : (n : ℕ) → Valued (D.arm x) n → ValueFine n
-          none-valued n ()
 
       -- An arm's own actions, and the arms after it.
       arm-roots : (x : ℕ) {w : Worth} → actionAt d i ≡ D.arm x → J.armAfter d p inState works ev m i x ≡ fine w → Roots (actionAt d j)
@@ -168,7 +172,7 @@ module _ (d : Description) (p : Places) where
           go true r k =
               let y = both-fine (ev x (i + 1) actions) (ev (m - x) (i + 1 + x) arms) (λ v w. worth 1 (w .arms + 1) (v .work + w .work)) k in
               let fits : x ≤ m = leb-true x m (right-of (leb 1 x) (leb x m) r) in
-              here-or (λ z. subst (λ (k : ℕ). Roots (actionAt d k)) (sym z) (subst Roots (sym q) (arm-root x)))
+              here-or (λ z. subst (λ (k : ℕ). Roots (actionAt d k)) (sym z) (subst Roots (sym q) tt))
               (λ h. within-or x (λ l. fewer x (i + 1) actions (omega arith) (y .left) h l) (λ l. fewer (m - x) (i + 1 + x) arms (omega arith) (y .right) l (omega arith)))
 
       arms-roots : (a : Action) {w : Worth} → actionAt d i ≡ a → J.armsJudged d p inState works ev m i a ≡ fine w → Roots (actionAt d j)
@@ -188,14 +192,21 @@ module _ (d : Description) (p : Places) where
     one-less : (m : ℕ) → suc m - 1 ≡ m
     one-less m = omega arith
 
-    claim-below : (n k : ℕ) → k < n → Claim k
+    some-left : (m : ℕ) → ((a : ℕ) → a < suc m → Claim a) → Claim (suc m)
     unfolding Claim
+    some-left m ih i actions w e j l u = list-roots m ih i j l u (actionAt d i) refl (rw (one-less m, eqb·suc-zero m) at e)
+    some-left m ih i arms w e j l u = arms-roots m ih i j l u (actionAt d i) refl (rw (one-less m, eqb·suc-zero m) at e)
+
+    none-left : Claim 0
+    unfolding Claim
+    none-left i s w e j l u = absurd (omega arith)
+
+    claim-below : (n k : ℕ) → k < n → Claim k
     claim-below zero k h = absurd (omega arith)
-    claim-below (suc n) zero h i s e j l u = absurd (omega arith)
-    claim-below (suc n) (suc m) h i actions e j l u = list-roots m (λ a q. claim-below n a (omega arith)) i j l u (actionAt d i) refl (rw (one-less m, eqb·suc-zero m) at e)
-    claim-below (suc n) (suc m) h i arms e j l u = arms-roots m (λ a q. claim-below n a (omega arith)) i j l u (actionAt d i) refl (rw (one-less m, eqb·suc-zero m) at e)
+    claim-below (suc n) zero h = none-left
+    claim-below (suc n) (suc m) h = some-left m (λ a q. claim-below n a (omega arith))
 
     -- EVERY ACTION of a list without fault.
     pub run-roots : (r : Run) {w : Worth} → J.runJudged d p inState works r ≡ fine w → (j : ℕ) → Among r j → Roots (actionAt d j)
     unfolding J.runJudged Claim
-    run-roots r e j h = claim-below (suc (r .count)) (r .count) (omega arith) (r .first) actions e j (h .0) (h .1)
+    run-roots r e j h = claim-below (suc (r .count)) (r .count) (omega arith) (r .first) actions _ e j (h .0) (h .1)

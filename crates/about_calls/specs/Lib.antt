@@ -11,6 +11,7 @@ pub mod Lengths
 pub mod WorkedOut
 pub mod EveryAction
 pub mod PartsStand
+pub mod Settled
 -- ---- What a completed cycle did: its delayed stores, when they land, and what no store names.
 pub mod LandsLast
 -- ---- What has no bearing: bytes beyond store and record, and past the image.
