@@ -65,7 +65,7 @@ abbrev partIn : Lk.Part → Lk.NameAnswer → Lk.Part
 partIn p (Lk.named q) = q
 partIn p (Lk.refused n) = p
 
-name-one : (a b : Named.Answer) → nameMeant a ≡ nameMeant b → a ≡ b
+name-one : (a b : Named.NameReply) → nameMeant a ≡ nameMeant b → a ≡ b
 name-one (N.Named p) (N.Named q) e = ap N.Named (part-one p q (ap (partIn (partMeant p)) e))
 name-one (N.Refused m) (N.Refused n) e =
     let z : m ≡ n = cc in
@@ -77,10 +77,10 @@ name-one (N.Refused n) (N.Named p) e =
     let z : _≡_ {A = ℕ} 0 1 = cc in
     absurd (omega arith)
 
-pub facility-part-one : (image : List ℕ) (n : ℕ) (a b : Named.Answer) → nameMeant a ≡ Lk.facilityName image n → nameMeant b ≡ Lk.facilityName image n → a ≡ b
+pub facility-part-one : (image : List ℕ) (n : ℕ) (a b : Named.NameReply) → nameMeant a ≡ Lk.facilityName image n → nameMeant b ≡ Lk.facilityName image n → a ≡ b
 facility-part-one image n a b p q = name-one a b (p ∙ sym q)
 
-pub state-part-one : (image : List ℕ) (n : ℕ) (a b : Named.Answer) → nameMeant a ≡ Lk.stateName image n → nameMeant b ≡ Lk.stateName image n → a ≡ b
+pub state-part-one : (image : List ℕ) (n : ℕ) (a b : Named.NameReply) → nameMeant a ≡ Lk.stateName image n → nameMeant b ≡ Lk.stateName image n → a ≡ b
 state-part-one image n a b p q = name-one a b (p ∙ sym q)
 
 -- ---- A declaration, its place and the length of its name.
@@ -160,7 +160,7 @@ facility-one image n (F.Refused k) (F.Declared g) p q =
 
 -- ---- Opening.
 
-opened-one : (a b : OpenAnswer.Answer) → Open.answered a ≡ Open.answered b → a ≡ b
+opened-one : (a b : OpenAnswer.OpenReply) → Open.answered a ≡ Open.answered b → a ≡ b
 opened-one O.Opened O.Opened e = refl
 opened-one (O.Refused m) (O.Refused n) e =
     let z : m ≡ n = cc in
@@ -173,14 +173,14 @@ opened-one (O.Refused n) O.Opened e =
     absurd (omega arith)
 
 module _ (image store store′ kept kept′ : List ℕ) (s : length store ≡ length store′) (k : length kept ≡ length kept′) where
-  pub open-one : (a b : OpenAnswer.Answer) (x y u v : List ℕ) → Open.called a x u ≡ L.open′ image (length store) (length kept) → Open.called b y v ≡ L.open′ image (length store′) (length kept′) → (a ≡ b) × ((x ≡ y) × (u ≡ v))
+  pub open-one : (a b : OpenAnswer.OpenReply) (x y u v : List ℕ) → Open.called a x u ≡ L.open′ image (length store) (length kept) → Open.called b y v ≡ L.open′ image (length store′) (length kept′) → (a ≡ b) × ((x ≡ y) × (u ≡ v))
   open-one a b x y u v p q =
       let e : Open.called a x u ≡ Open.called b y v = p ∙ ap₂ (λ (m n : ℕ). L.open′ image m n) s k ∙ sym q in
       (opened-one a b (ap (λ (c : L.OpenCall). c .answer) e), (ap (λ (c : L.OpenCall). c .store) e, ap (λ (c : L.OpenCall). c .record′) e))
 
 -- ---- A cycle: store, record and stimulus are read, scratch is not.
 
-cycled-one : (a b : CycleAnswer.Answer) → Cycle.answered a ≡ Cycle.answered b → a ≡ b
+cycled-one : (a b : CycleAnswer.CycleReply) → Cycle.answered a ≡ Cycle.answered b → a ≡ b
 cycled-one (C.Cycled m) (C.Cycled n) e =
     let z : m ≡ n = cc in
     ap C.Cycled z
@@ -210,14 +210,14 @@ cycled-one (C.Refused m) (C.Stopped n) e =
     absurd (omega arith)
 
 module _ (image store kept stimulus scratch scratch′ : List ℕ) (s : length scratch ≡ length scratch′) where
-  pub cycle-one : (a b : CycleAnswer.Answer) (x y u v w z : List ℕ) → Cycle.call a x u w ≡ L.cycle image store kept stimulus (length scratch) → Cycle.call b y v z ≡ L.cycle image store kept stimulus (length scratch′) → (a ≡ b) × ((x ≡ y) × ((u ≡ v) × (w ≡ z)))
+  pub cycle-one : (a b : CycleAnswer.CycleReply) (x y u v w z : List ℕ) → Cycle.call a x u w ≡ L.cycle image store kept stimulus (length scratch) → Cycle.call b y v z ≡ L.cycle image store kept stimulus (length scratch′) → (a ≡ b) × ((x ≡ y) × ((u ≡ v) × (w ≡ z)))
   cycle-one a b x y u v w z p q =
       let e : Cycle.call a x u w ≡ Cycle.call b y v z = p ∙ ap (L.cycle image store kept stimulus) s ∙ sym q in
       (cycled-one a b (ap (λ (c : L.CycleCall). c .answer) e), (ap (λ (c : L.CycleCall). c .store) e, (ap (λ (c : L.CycleCall). c .record′) e, ap (λ (c : L.CycleCall). c .scratch) e)))
 
 -- ---- Reading: of the image's buffer only the length counts.
 
-reading-one : (a b : Reading.Answer) → Called.answered a ≡ Called.answered b → a ≡ b
+reading-one : (a b : Reading.ReadReply) → Called.answered a ≡ Called.answered b → a ≡ b
 reading-one (A.Accepted m) (A.Accepted n) e =
     let z : m ≡ n = cc in
     ap A.Accepted z
@@ -233,7 +233,7 @@ reading-one (A.Refused m p) (A.Accepted n) e =
     absurd (omega arith)
 
 module _ (text image image′ : List ℕ) (s : length image ≡ length image′) where
-  pub read-one : (a b : Reading.Answer) (x y : List ℕ) → Called.called a x ≡ R.read text (length image) → Called.called b y ≡ R.read text (length image′) → (a ≡ b) × (x ≡ y)
+  pub read-one : (a b : Reading.ReadReply) (x y : List ℕ) → Called.called a x ≡ R.read text (length image) → Called.called b y ≡ R.read text (length image′) → (a ≡ b) × (x ≡ y)
   read-one a b x y p q =
       let e : Called.called a x ≡ Called.called b y = p ∙ ap (R.read text) s ∙ sym q in
       (reading-one a b (ap (λ (c : R.ReadCall). c .answer) e), ap (λ (c : R.ReadCall). c .image) e)
@@ -257,7 +257,7 @@ tally-one s t a b c =
     let r : s ≡ record { completed = t .completed; conflicts = t .conflicts; stop = t .stop } = rw (← a, ← b, ← c) in
     r
 
-ran-one : (a b : RunAnswer.Answer) → Run.answered a ≡ Run.answered b → a ≡ b
+ran-one : (a b : RunAnswer.RunReply) → Run.answered a ≡ Run.answered b → a ≡ b
 ran-one (W.Ran s) (W.Ran t) e =
     let x : s .completed ≡ t .completed = cc in
     let y : s .conflicts ≡ t .conflicts = cc in
@@ -274,7 +274,7 @@ ran-one (W.Refused m) (W.Ran t) e =
     absurd (omega arith)
 
 module _ (image store kept stimuli : List ℕ) (count : ℕ) (scratch scratch′ trace trace′ : List ℕ) (s : length scratch ≡ length scratch′) (t : length trace ≡ length trace′) where
-  pub run-one : (a b : RunAnswer.Answer) (x y u v w z m n : List ℕ) → Run.call a x u w m ≡ L.run image store kept stimuli count (length scratch) (length trace) → Run.call b y v z n ≡ L.run image store kept stimuli count (length scratch′) (length trace′) → (a ≡ b) × ((x ≡ y) × ((u ≡ v) × ((w ≡ z) × (m ≡ n))))
+  pub run-one : (a b : RunAnswer.RunReply) (x y u v w z m n : List ℕ) → Run.call a x u w m ≡ L.run image store kept stimuli count (length scratch) (length trace) → Run.call b y v z n ≡ L.run image store kept stimuli count (length scratch′) (length trace′) → (a ≡ b) × ((x ≡ y) × ((u ≡ v) × ((w ≡ z) × (m ≡ n))))
   run-one a b x y u v w z m n p q =
       let e : Run.call a x u w m ≡ Run.call b y v z n = p ∙ ap₂ (λ (i j : ℕ). L.run image store kept stimuli count i j) s t ∙ sym q in
       (ran-one a b (ap (λ (c : L.RunCall). c .answer) e), (ap (λ (c : L.RunCall). c .store) e, (ap (λ (c : L.RunCall). c .record′) e, (ap (λ (c : L.RunCall). c .scratch) e, ap (λ (c : L.RunCall). c .trace) e))))
