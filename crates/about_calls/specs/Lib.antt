@@ -12,6 +12,9 @@ pub mod WorkedOut
 pub mod EveryAction
 pub mod PartsStand
 pub mod Settled
+pub mod MoreKnown
+pub mod OnStores
+pub mod EachLength
 -- ---- What a completed cycle did: its delayed stores, when they land, and what no store names.
 pub mod LandsLast
 -- ---- What has no bearing: bytes beyond store and record, and past the image.

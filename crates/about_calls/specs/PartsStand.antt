@@ -36,24 +36,24 @@ module _ (d : Description) (known base : ℕ) where
     pub none : worth .arms ≡ 0
 
   module _ (n : ℕ) where
-    abbrev ev : ℕ → Judged
+    abbrev pub ev : ℕ → Judged
     ev = judgeBelow d noPlaces (terminalBelow d noPlaces known) known n
 
     -- A part as an expression, and as the last of a list of arms.
-    abbrev properOf : ℕ → Judged
+    abbrev pub properOf : ℕ → Judged
     properOf a = proper (nodePlace noPlaces a .at) (ev a)
 
     abbrev armsOf : ℕ → Judged
     armsOf a = armList (nodePlace noPlaces n .at) (ev a)
 
     -- What holds of a record, read off the node that stands there.
-    record At (nd : Node) (w : Worth) : Type 0 where
-      fine-so : judgeNode d noPlaces (terminalBelow d noPlaces known) known ev (nodePlace noPlaces n) nd ≡ fine w
-      start : ℕ
-      starts : startNode d (startBelow d n) n nd ≡ some start
-      low : base ≤ start
+    pub record At (nd : Node) (w : Worth) : Type 0 where
+      pub fine-so : judgeNode d noPlaces (terminalBelow d noPlaces known) known ev (nodePlace noPlaces n) nd ≡ fine w
+      pub start : ℕ
+      pub starts : startNode d (startBelow d n) n nd ≡ some start
+      pub low : base ≤ start
 
-    at-node : {nd : Node} {w : Worth} → nodeAt d n ≡ nd → Stands n w → At nd w
+    pub at-node : {nd : Node} {w : Worth} → nodeAt d n ≡ nd → Stands n w → At nd w
     unfolding judgeAt startAt
     at-node {w = w} q s = record {
       fine-so = subst (λ (x : Node). judgeNode d noPlaces (terminalBelow d noPlaces known) known ev (nodePlace noPlaces n) x ≡ fine w) q (s .same);
@@ -63,7 +63,7 @@ module _ (d : Description) (known base : ℕ) where
     }
 
     -- A part stands before its owner.
-    abbrev Part : ℕ → Type 0
+    abbrev pub Part : ℕ → Type 0
     Part a = (a < n) × Proper a
 
     stand-so : {a m : ℕ} {v : Worth} → a < n → startAt d a ≡ some m → base ≤ m → ev a ≡ fine v → Stands a v
