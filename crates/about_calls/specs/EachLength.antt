@@ -52,19 +52,19 @@ pub record OneLength (d : Description) (n : ℕ) : Type 1 where
 settled-long : {d : Description} {n : ℕ} (s : Settled d n) → Bits d n (s .proper .worth .length)
 settled-long {d} {n} s = more-known (s .within) (fine-is-long d noPlaces (s .known) n (s .proper .stands .same) (s .proper .none))
 
--- The length that judging works out for HEAD and TAIL.
-cut-so : {k l c : ℕ} → Substring k → 1 ≤ cutLengthOf k l c → (cutLengthOf k l c ≡ c) × (1 ≤ c) × (c ≤ l)
-unfolding cutLengthOf cutLength
-cut-so {k} {l} {c} H.head h = go (leb c l) refl h
+-- The length that judging works out for HEAD and TAIL, where it is one.
+cut-so : (l c : ℕ) → 1 ≤ cutLength l c → (cutLength l c ≡ c) × (1 ≤ c) × (c ≤ l)
+unfolding cutLength
+cut-so l c h = go (leb c l) refl h
   where
     go : (t : Bool) → leb c l ≡ t → 1 ≤ cond t c 0 → (cond t c 0 ≡ c) × (1 ≤ c) × (c ≤ l)
     go true q e = (refl, e, leb-true c l q)
     go false q e = absurd (omega arith)
-cut-so {k} {l} {c} H.tail h = go (leb c l) refl h
-  where
-    go : (t : Bool) → leb c l ≡ t → 1 ≤ cond t c 0 → (cond t c 0 ≡ c) × (1 ≤ c) × (c ≤ l)
-    go true q e = (refl, e, leb-true c l q)
-    go false q e = absurd (omega arith)
+
+substring-so : {k : ℕ} (l c : ℕ) → Substring k → 1 ≤ cutLengthOf k l c → (cutLengthOf k l c ≡ c) × (1 ≤ c) × (c ≤ l)
+unfolding cutLengthOf
+substring-so l c H.head h = cut-so l c h
+substring-so l c H.tail h = cut-so l c h
 
 module _ (image : List ℕ) (passing : passes image ≡ true) where
   abbrev d : Description
@@ -132,7 +132,7 @@ module _ (image : List ℕ) (passing : passes image ≡ true) where
       let e = at-node d (s .known) (s .base) n q (s .proper .stands) in
       let y = given-fine (properOf d (s .known) (s .base) n a) _ (e .fine-so) in
       let z = sized-fine _ (cutLengthOf k (y .v .length) c) _ (y .own) in
-      let u = cut-so t (z .some) in
+      let u = substring-so (y .v .length) c t (z .some) in
       let i = part-stands d (s .known) (s .base) (s .proper .stands) (W.source q) in
       let j = proper-fine _ (judgeBelow d noPlaces (terminalBelow d noPlaces (s .known)) (s .known) n a) (y .part) in
       let g = more-known (s .within) (fine-is-long d noPlaces (s .known) a (sym (judge-lt d noPlaces (s .known) n a (i .0)) ∙ j .same) (j .arms)) in

@@ -1,10 +1,13 @@
 -- A settled record on every store: it gives a value of its length or stops for S1, and a reference names a part of its facility. Assumes nothing.
-use mathlib.Core.Bool.{true}
+use mathlib.Core.Bool.{Bool, true, false, cond}
+use mathlib.Core.List.{List}
 use mathlib.Core.Option.{some}
 use mathlib.Core.Path.{_≡_, refl, sym, _∙_}
+use native.Mathlib.Nat.{mod-lt}
 use native.Mathlib.Omega.{arith}
 use Prim.Native.Nat.{ℕ, _^_, _<_}
 use lib.ListN.{length}
+use lib.Pow.{pow-pos}
 use Rattle.language.specs.Description.{Description, facilityAt, isComputed, noPlaces, nodeAt, nodePlace}
 use Rattle.language.specs.Expressions.{judgeBelow, ownWork, terminalBelow, terminalJudged}
 use Rattle.language.specs.Judging.{Judged, Worth, fine}
@@ -12,11 +15,16 @@ use Rattle.language.specs.Meaning.{Located, Place, Stores, evalAt, evalBelow, p
 use Rattle.language.specs.ReferenceRules.{subscriptWorth}
 use Rattle.language.specs.References as R
 use Rattle.language.specs.References.{Reference, Subscripts, referenceOf}
+use Rattle.language.specs.Store.{Held, numbers}
+use Rattle.language.specs.Value.{value}
 use Rattle.language.specs.declared.stops.Stop.the-variants.{OutsideBounds}
+use Rattle.store_layout.specs.InBytes.{InBytes, bytes, loadBytes}
+use Rattle.store_layout.specs.Parts as P
 use Rattle.about_running.specs.Evaluates.{Claim, Terminal, eval-lt, evaluates}
 use Rattle.about_running.specs.Executes.{There}
 use Rattle.about_running.specs.Finds as F
 use Rattle.about_running.specs.Finds.{Each, Finds, reference-fine, reference-finds}
+use Rattle.about_running.specs.Fitting.{numbers-keep}
 use Rattle.about_running.specs.Gives.{Gives}
 use Rattle.about_running.specs.Judged.{proper-fine}
 use Rattle.about_running.specs.LegalForm.{Legal}
@@ -29,6 +37,22 @@ use Rattle.about_calls.specs.WorkedOut as W
 -- What is loaded of a part has no more bits than the part.
 abbrev pub Loads : {X : Type 0} → Stores X → X → Type 0
 Loads S x = (q : Place) → S .load x q < 2 ^ q .count
+
+-- The store of numbers that a step runs on loads so, and the one of bytes that the code works on, whatever they hold.
+pub numbers-load : (d : Description) (x : Held) → Loads (numbers d) x
+numbers-load d x = numbers-keep d .loads x
+
+loaded-fits : (B : List ℕ) (at l from c : ℕ) → P.loaded B at l from c .number < 2 ^ c
+unfolding P.loaded P.partIn
+loaded-fits B at l from c = go (P.inside (length B) at l from c)
+  where
+    go : (b : Bool) → cond b (value c (P.partIn B at l (P.lowOf l from c) c)) (value 0 0) .number < 2 ^ c
+    go true = mod-lt _ (pow-pos c)
+    go false = pow-pos c
+
+pub bytes-load : (d : Description) (x : InBytes) → Loads (bytes d) x
+unfolding loadBytes
+bytes-load d x q = loaded-fits (x .bytes) _ _ (q .from) (q .count)
 
 -- What a reference to the facility f names: a part of l bits that lies in it, or nothing, for S1.
 pub data NamesPart (d : Description) (f l : ℕ) : Located → Type 0 where
