@@ -15,6 +15,7 @@ pub mod Settled
 pub mod MoreKnown
 pub mod OnStores
 pub mod EachLength
+pub mod EachLengthExamples
 -- ---- What a completed cycle did: its delayed stores, when they land, and what no store names.
 pub mod LandsLast
 -- ---- What has no bearing: bytes beyond store and record, and past the image.
