@@ -6,8 +6,7 @@ pub mod PassesExactly
 pub mod OutsideMet
 pub mod StopsFirst
 pub mod EachCycle
--- ---- Every expression has the length worked out before, and no part is longer than what it is a part of.
-pub mod Lengths
+-- ---- Every record that a run can work out has one length, worked out before; no part is longer than what it is a part of. Read WorkedOut and EachLength.
 pub mod WorkedOut
 pub mod EveryAction
 pub mod PartsStand
@@ -16,6 +15,7 @@ pub mod MoreKnown
 pub mod OnStores
 pub mod EachLength
 pub mod EachLengthExamples
+pub mod Substrings
 -- ---- What a completed cycle did: its delayed stores, when they land, and what no store names.
 pub mod LandsLast
 -- ---- What has no bearing: bytes beyond store and record, and past the image.
