@@ -2,7 +2,7 @@
 use mathlib.Core.Bool.{Bool, true, false, cond}
 use mathlib.Core.Path.{_≡_, refl, sym, ap}
 use native.Mathlib.Omega.{arith}
-use Prim.Native.Nat.{ℕ, _%_, _^_, _≤_}
+use Prim.Native.Nat.{ℕ, _%_, _^_, _≤_, _<_}
 use borrow.Author.Tests.{eqb-true, leb-true, ltb-true}
 use lib.Dec.{eqb, leb, ltb}
 use Rattle.language.specs.Kinds.{extWord, headWord, tailWord}
@@ -13,7 +13,7 @@ use Rattle.language.specs.Value.{Value, cutLength, extended, fit, head, longest
 -- A part of `count` bits of a value of so many.
 pub record Within (source count : ℕ) (w : Value) : Type 0 where
   pub so-long : w .length ≡ count
-  pub some-bit : 1 ≤ count
+  pub some-bit : 0 < count
   pub no-longer : count ≤ source
 
 no-value : {A : Type 0} {w : Value} → Values.none ≡ made w → A
