@@ -12,7 +12,6 @@ use Rattle.language.specs.Calls.{afterStep, cycle, cycleRefusal, cycled, open�
 use Rattle.language.specs.Decode.{decode}
 use Rattle.language.specs.Description.{Description}
 use Rattle.language.specs.Image.{passes}
-use Rattle.language.specs.Judging.{both}
 use Rattle.language.specs.Layout.{storeSize}
 use Rattle.language.specs.Reading.{filled, zeroes}
 use Rattle.language.specs.RecordBytes.{recordBytes, recordFrom, recordSize}
@@ -26,6 +25,7 @@ use Rattle.about_bytes.specs.StoreBack.{both-so, store-length}
 use Rattle.about_running.specs.Cycle.{Sound, Well}
 use Rattle.about_running.specs.FewConflicts.{few-conflicts}
 use Rattle.about_running.specs.NeverStuck.{legal-image, never-stuck, not-first, opens-sound}
+use Rattle.language.specs.Tests.{both}
 
 -- Cycle after cycle: the first goes on from a store and a record, each other from what the one before it left.
 pub data Goes (image : List ℕ) (scratch : ℕ) : List ℕ → List ℕ → List (List ℕ) → Type 0 where

@@ -13,10 +13,10 @@ use Rattle.language.specs.Calls.{Running, allWellFormed, roomy, runRefusal, sou
 use Rattle.language.specs.Decode.{decode}
 use Rattle.language.specs.Description.{Description}
 use Rattle.language.specs.Image.{passes}
-use Rattle.language.specs.Judging.{both}
 use Rattle.about_running.specs.LegalForm.{left-of, right-of}
 use Rattle.about_running.specs.NeverStuck.{not-first}
 use Rattle.language.specs.declared.refusals.Refusal.the-variants.{BadStimulus, BufferTooShort, ImageFails, Unsound}
+use Rattle.language.specs.Tests.{both}
 
 -- What the tests of a run gave.
 pub record Free (image store kept stimuli : List ℕ) (count scratch trace : ℕ) : Type 0 where

@@ -15,7 +15,6 @@ use Rattle.language.specs.Calls.{CycleAnswer, CycleCall, RunAnswer, RunCall, Ru
 use Rattle.language.specs.Decode.{decode}
 use Rattle.language.specs.Description.{Description}
 use Rattle.language.specs.Image.{passes}
-use Rattle.language.specs.Judging.{both}
 use Rattle.language.specs.Layout.{storeSize}
 use Rattle.language.specs.Reading.{zeroes}
 use Rattle.language.specs.RecordBytes.{recordFrom}
@@ -28,6 +27,7 @@ use Rattle.about_running.specs.Cycle.{Well}
 use Rattle.about_running.specs.NeverStuck.{legal-image, never-stuck}
 use Rattle.about_bytes.specs.ManyCycles.{one-long}
 use Rattle.about_bytes.specs.StaysSound.{unrefused}
+use Rattle.language.specs.Tests.{both}
 
 -- What a run of at most one cycle says of it.
 abbrev pub told : RunAnswer → CycleAnswer

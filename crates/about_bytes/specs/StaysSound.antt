@@ -14,7 +14,6 @@ use Rattle.language.specs.Decode.{decode}
 use Rattle.language.specs.Description.{Description, sequencingOf, stateAt}
 use Rattle.language.specs.Encode.{little}
 use Rattle.language.specs.Image.{passes}
-use Rattle.language.specs.Judging.{both}
 use Rattle.language.specs.Layout.{storeSize}
 use Rattle.language.specs.Machine.{mostStates}
 use Rattle.language.specs.Meaning.{noState}
@@ -29,6 +28,7 @@ use Rattle.about_bytes.specs.RecordBack.{InWords, Words32, record-back, 
 use Rattle.about_bytes.specs.StoreBack.{both-so, fit-narrow, store-back, store-length}
 use Rattle.about_running.specs.Cycle.{Sound, Well, completes}
 use Rattle.about_running.specs.NeverStuck.{legal-image, never-stuck, not-first}
+use Rattle.language.specs.Tests.{both}
 
 -- ---- Soundness as the test has it.
 

@@ -8,12 +8,12 @@ use Prim.Native.Nat.{ℕ, zero, suc, _+_, _*_, _^_, _≤_}
 use borrow.Author.Tests.{lt-ltb}
 use lib.ListN.{drop, length, length-drop, take}
 use Rattle.language.specs.Description.{Facility, isComputed, wordCount, wordLength}
-use Rattle.language.specs.Judging.{both}
 use Rattle.language.specs.Layout.{facilityBytes, noSpareBits, storeSizeOf, wordBytes, wordFromBytes}
 use Rattle.language.specs.Store.{Words, allNarrow, facilityWords, fromBytes, narrow, toBytes, wordsFrom}
 use Rattle.store_layout.proofs.Inverse.{length-to, words-same}
 use Rattle.store_layout.specs.InBytes.{Shaped, rowLength}
 use Rattle.about_running.specs.Fitting.{AllBelow, Fit, stored}
+use Rattle.language.specs.Tests.{both}
 
 pub both-so : {a b : Bool} → a ≡ true → b ≡ true → both a b ≡ true
 both-so p q = rw p q

@@ -15,7 +15,7 @@ use Rattle.language.specs.declared.stops.Stop.{Stop}
 use Rattle.language.specs.Store.{fromBytes, inputsOf}
 use Rattle.about_bytes.specs.AnyRun.{AllFormed, Answered, Ready, answered, completed-so, opens-ready, stopped-so}
 use Rattle.about_bytes.specs.StaysSound.{stays-sound}
-use Rattle.about_calls.specs.StopsFirst.{Ends, firstStop, stops-first}
+use Rattle.about_calls.specs.StopsFirst.{Ends, stops-first}
 use mathlib.Core.Bool.{true}
 
 -- ---- A cycle that does not complete leaves store and record as found.
@@ -47,7 +47,7 @@ not-cycled e z = let y : _≡_ {A = ℕ} 0 1 = cc in omega arith
 -- Each goes on from what the one before it left.
 pub data Follows (image : List ℕ) (scratch : ℕ) : List ℕ → List ℕ → List (List ℕ) → Type 0 where
   over : {store record′ : List ℕ} → Follows image scratch store record′ []
-  next : {store record′ stimulus : List ℕ} {more : List (List ℕ)} → Ends (firstStop image store record′ stimulus) (cycle image store record′ stimulus scratch .answer)
+  next : {store record′ stimulus : List ℕ} {more : List (List ℕ)} → Ends image store record′ stimulus (cycle image store record′ stimulus scratch .answer)
       → Follows image scratch (cycle image store record′ stimulus scratch .store) (cycle image store record′ stimulus scratch .record′) more → Follows image scratch store record′ (stimulus ∷ more)
 
 module _ (image store record′ stimulus : List ℕ) (scratch : ℕ) (ready : Ready image store record′ scratch) (form : wellFormed (decode image) stimulus ≡ true) where

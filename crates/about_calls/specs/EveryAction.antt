@@ -11,9 +11,10 @@ use Rattle.language.specs.ActionRules.{Shape, actions, arms, kindAt, simpleJudg
 use Rattle.language.specs.Description as D
 use Rattle.language.specs.Description.{Action, Description, Places, Run, actionAt, actionPlace}
 use Rattle.language.specs.Expressions.{expressionAt, leftAt, selects, terminalBelow}
-use Rattle.language.specs.Judging.{Judged, Worth, both, fine, givenBoth, refuse, worth}
+use Rattle.language.specs.Judging.{Judged, Worth, fine, givenBoth, refuse, worth}
 use Rattle.language.specs.Recursion.{below-lt}
 use Rattle.language.specs.Storing.{mayStore}
+use Rattle.language.specs.Tests.{both}
 use Rattle.language.specs.Words.{Position}
 use Rattle.language.specs.declared.refusals.Refusal.the-variants.{NoContinuation}
 use Rattle.about_running.specs.Judged.{Two, both-fine, faulty-fine, given-fine}

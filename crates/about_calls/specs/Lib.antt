@@ -3,7 +3,6 @@
 pub mod PlainTexts
 pub mod PassesExactly
 -- ---- A cycle that is not refused completes, or stops for the first of 01's conditions that holds.
-pub mod OutsideMet
 pub mod StopsFirst
 pub mod EachCycle
 -- ---- Every record that a run can work out has one length, worked out before; no part is longer than what it is a part of. Read WorkedOut and EachLength.
@@ -16,8 +15,8 @@ pub mod OnStores
 pub mod EachLength
 pub mod EachLengthExamples
 pub mod Substrings
--- ---- What a completed cycle did: its delayed stores, when they land, and what no store names.
-pub mod LandsLast
+-- ---- What a completed cycle did: its delayed stores, and what no store names.
+pub mod DelayedWaits
 -- ---- What has no bearing: bytes beyond store and record, and past the image.
 pub mod Beyond
 pub mod Tail

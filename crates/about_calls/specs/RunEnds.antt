@@ -15,7 +15,7 @@ use Rattle.language.specs.RecordBytes.{recordSize}
 use Rattle.language.specs.Rules.{mostWork}
 use Rattle.about_calls.specs.EachCycle.{ready-again}
 use Rattle.about_calls.specs.EndToEnd.{not-refused}
-use Rattle.about_calls.specs.StopsFirst.{Ends, firstStop, goes-on, halts-for, stops-first}
+use Rattle.about_calls.specs.StopsFirst.{Ends, goes-on, halts-for, stops-first}
 use Rattle.about_bytes.specs.AnyRun.{Ready, opens-ready}
 use Rattle.about_bytes.specs.ManyCycles.{all-first, all-rest, going, run-free}
 use Rattle.about_bytes.specs.StaysSound.{no-refusal, unrefused}
@@ -56,7 +56,7 @@ module _ (image : List ℕ) (scratch : ℕ) where
   unfolding cycles
   ended zero stimuli r h f = record { more = 0; completed-so = omega arith; few = omega arith; all-done = λ z. refl; counted = omega arith }
   ended (suc k) stimuli r h f =
-      go (λ t x. ended k (drop (stimulusSize d) stimuli) t x (all-rest d k stimuli f)) (firstStop image (r .store) (r .record′) stimulus) (c .answer) refl
+      go (λ t x. ended k (drop (stimulusSize d) stimuli) t x (all-rest d k stimuli f)) (c .answer) refl
       (stops-first image (r .store) (r .record′) stimulus scratch (h .unrefused-with stimulus form))
     where
       stimulus : List ℕ
@@ -71,10 +71,10 @@ module _ (image : List ℕ) (scratch : ℕ) where
       on : Running → Running × Option Stop
       on = cycles image scratch (storeSize d) (stimulusSize d) k (drop (stimulusSize d) stimuli)
 
-      go : ((t : Running) → Ready image (t .store) (t .record′) scratch → Ended k t (on t)) → (x : Option Stop) (a : CycleAnswer) → c .answer ≡ a → Ends x a
+      go : ((t : Running) → Ready image (t .store) (t .record′) scratch → Ended k t (on t)) → (a : CycleAnswer) → c .answer ≡ a → Ends image (r .store) (r .record′) stimulus a
           → Ended (suc k) r (afterCycle image scratch (storeSize d) (stimulusSize d) c r on)
-      go next x a q (goes-on {n} l) = rw (cycled-on c r on n q) (one-more k c r n (on (nextOf c n r)) l (next (nextOf c n r) (ready-again image (r .store) (r .record′) stimulus scratch h form)))
-      go next x a q (halts-for {n}) =
+      go next a q (goes-on {n} first l) = rw (cycled-on c r on n q) (one-more k c r n (on (nextOf c n r)) l (next (nextOf c n r) (ready-again image (r .store) (r .record′) stimulus scratch h form)))
+      go next a q (halts-for {n} first) =
           rw (stopped-on c r on n q) (record { more = 0; completed-so = omega arith; few = omega arith; all-done = λ z. absurd (let y : _≡_ {A = ℕ} 0 1 = cc in omega arith); counted = omega arith })
 
 -- What a run answers.

@@ -1,112 +1,41 @@
 -- A cycle that is not refused completes where none of 01's conditions holds, and else stops for the first that does. Assumes nothing.
-use mathlib.Core.Bool.{Bool, true, false, cond}
-use mathlib.Core.List.{List, [], _∷_}
+use mathlib.Core.List.{List}
 use mathlib.Core.Option.{Option, none, some}
-use mathlib.Core.Path.{_≡_, ap, refl}
+use mathlib.Core.Path.{_≡_, refl}
 use native.Mathlib.Omega.{arith}
-use Prim.Native.Nat.{ℕ, _≤_}
-use borrow.Author.Tests.{eqb-true}
+use Prim.Native.Nat.{ℕ, _≤_, _<_}
 use lib.Dec.{eqb}
 use lib.ListN.{length}
-use Rattle.language.specs.Acting.{Ran, runActions, went}
 use Rattle.language.specs.Calls.{CycleAnswer, afterStep, cycle, cycleRefusal, cycled, soundBytes, stimulusSize, stoppedFor, wellFormed}
 use Rattle.language.specs.Decode.{decode}
-use Rattle.language.specs.Description.{Description, stateAt}
+use Rattle.language.specs.Description.{Description}
 use Rattle.language.specs.RecordBytes.{marked, recordFrom}
 use Rattle.language.specs.Rules.{mostWork}
-use Rattle.language.specs.Step.{Outcome, Record, completed, nothingDone, step}
-use Rattle.language.specs.Store.{Held, Words, begin, fromBytes, held, inputsOf, numbers}
-use Rattle.language.specs.Stops.{stopNumber}
+use Rattle.language.specs.Step.{Outcome, Record, completed, lastCycle, step}
+use Rattle.language.specs.Store.{Words, fromBytes, inputsOf}
 use Rattle.language.specs.declared.stops.Stop.{Stop}
-use Rattle.language.specs.declared.stops.Stop.the-variants.{LastCycleReached, NoArm, NoNextState, NothingToReturn, OutsideBounds, TooManyCalls, TwoNextStates, ValueUnborne}
-use Rattle.about_running.specs.Acts.{Good}
-use Rattle.about_running.specs.Cycle.{Sound, Well, run-good}
-use Rattle.about_running.specs.Executes as E
+use Rattle.language.specs.declared.stops.Stop.the-variants.{NoArm, OutsideBounds}
+use Rattle.about_running.specs.Conditions.{Condition, FirstOf, order}
+use Rattle.about_running.specs.Cycle.{Sound, Well}
 use Rattle.about_running.specs.FewConflicts.{few-conflicts}
-use Rattle.about_running.specs.Fitting.{Fit, Inv, numbers-keep}
+use Rattle.about_running.specs.Fitting.{Fit}
 use Rattle.about_running.specs.LegalForm.{Legal, right-of}
 use Rattle.about_running.specs.NeverStuck.{legal-image, never-stuck}
 use Rattle.about_running.specs.Soundness.{bytes-fit, sound-so}
-use Rattle.about_running.specs.StopOrder.{Condition, conditions, firstOf, met, stop-one, stopOf, stops-in-order}
-use Rattle.about_calls.specs.OutsideMet.{From, Outside, Stopped, halts, here, outside-met}
+use Rattle.about_running.specs.StopOrder as S
+use Rattle.about_running.specs.StopOrder.{FirstOutside, armless-never, first-holds, first-one, stopOf, stops-in-order}
 use Rattle.about_bytes.specs.StaysSound.{Unrefused, unrefused}
 
--- What holds of the stop of every condition that holds itself.
-abbrev AllThat : (Stop → Type 0) → List Condition → Type 0
-AllThat P [] = Unit {0}
-AllThat P (c ∷ cs) = (c .holds ≡ true → P (c .stop)) × AllThat P cs
-
-first-has : (P : Stop → Type 0) (cs : List Condition) (n : Stop) → AllThat P cs → firstOf cs ≡ some n → P n
-unfolding firstOf
-first-has P [] n h e = absurd (let z : _≡_ {A = ℕ} 0 1 = cc in omega arith)
-first-has P (c ∷ cs) n h e = go (first-has P cs n (h .1)) (c .holds) refl e
-  where
-    go : (firstOf cs ≡ some n → P n) → (b : Bool) → c .holds ≡ b → cond b (some (c .stop)) (firstOf cs) ≡ some n → P n
-    go on true k q = let z : c .stop ≡ n = cc in rw (← z) (h .0 k)
-    go on false k q = on q
-
-module _ (d : Description) (r : Record) (run : Ran Held) where
-  -- S1 and S8 by what was met, any other by being neither.
-  by-stop : (P : Stop → Type 0) → (met d r OutsideBounds run ≡ true → P OutsideBounds) → (met d r NoArm run ≡ true → P NoArm) → ((n : Stop) → (n ≡ OutsideBounds → ⊥) → (n ≡ NoArm → ⊥) → P n) → AllThat P (conditions d r run)
-  unfolding conditions
-  by-stop P one eight other = (
-    (λ h. other LastCycleReached (λ e. omega (arith, ap stopNumber e)) (λ e. omega (arith, ap stopNumber e))),
-    (
-      one,
-      (
-        eight,
-        (
-          (λ h. other TwoNextStates (λ e. omega (arith, ap stopNumber e)) (λ e. omega (arith, ap stopNumber e))),
-          (
-            (λ h. other NothingToReturn (λ e. omega (arith, ap stopNumber e)) (λ e. omega (arith, ap stopNumber e))),
-            (
-              (λ h. other ValueUnborne (λ e. omega (arith, ap stopNumber e)) (λ e. omega (arith, ap stopNumber e))),
-              (
-                (λ h. other NoNextState (λ e. omega (arith, ap stopNumber e)) (λ e. omega (arith, ap stopNumber e))),
-                ((λ h. other TooManyCalls (λ e. omega (arith, ap stopNumber e)) (λ e. omega (arith, ap stopNumber e))), tt),
-              ),
-            ),
-          ),
-        ),
-      ),
-    ),
-  )
-
-  -- A subscript outside its bounds, on a store that stores lead to from the first one.
-  abbrev pub Beyond : Held → Type 0
-  Beyond first = (x : Held) × (From (numbers d) d first x × Outside (numbers d) d x)
-
-  abbrev Subscript : Held → Stop → Type 0
-  Subscript first n = n ≡ OutsideBounds → Beyond first
-
-  met-outside : (first : Held) (x : Ran Held) → Stopped (numbers d) d first x → met d r OutsideBounds x ≡ true → Beyond first
-  met-outside first (went c) h e = absurd (let z : _≡_ {A = ℕ} 0 1 = cc in omega arith)
-  met-outside first (Ran.stopped m) (halts h) e = h (stop-one m OutsideBounds (eqb-true _ _ e))
-  met-outside first (Ran.stuck m) h e = absurd (let z : _≡_ {A = ℕ} 0 1 = cc in omega arith)
-
-  one-met : (first : Held) → Stopped (numbers d) d first run → AllThat (Subscript first) (conditions d r run)
-  one-met first h = by-stop (Subscript first) (λ e z. met-outside first run h e) (λ e z. absurd (omega (arith, ap stopNumber z))) (λ n a b z. absurd (a z))
-
-  met-no-arm : (L : Legal d) (x : Ran Held) → Good (numbers d) d (Inv d) (numbers-keep d) L x → met d r NoArm x ≡ true → ⊥
-  met-no-arm L (went c) h e = absurd (let z : _≡_ {A = ℕ} 0 1 = cc in omega arith)
-  met-no-arm L (Ran.stopped m) E.stops-so e = absurd (let z : _≡_ {A = ℕ} 0 1 = cc in omega arith)
-
-  no-eight : (L : Legal d) → Good (numbers d) d (Inv d) (numbers-keep d) L run → AllThat (λ n. n ≡ NoArm → ⊥) (conditions d r run)
-  no-eight L h = by-stop (λ n. n ≡ NoArm → ⊥) (λ e z. omega (arith, ap stopNumber z)) (λ e z. met-no-arm L run h e) (λ n a b z. b z)
-
--- What a cycle answers, by the first condition that holds.
-pub data Ends : Option Stop → CycleAnswer → Type 0 where
-  goes-on : {n : ℕ} → n ≤ mostWork → Ends none (cycled n)
-  halts-for : {n : Stop} → Ends (some n) (stoppedFor n)
-
--- The first of 01's conditions that holds in a cycle from these bytes.
-unfoldable pub firstStop : List ℕ → List ℕ → List ℕ → List ℕ → Option Stop
-firstStop image store record′ stimulus =
+-- This stop is the first of 01's conditions that holds in a cycle from these bytes; or none holds.
+abbrev pub FirstStop : List ℕ → List ℕ → List ℕ → List ℕ → Option Stop → Type 0
+FirstStop image store record′ stimulus n =
     let d = decode image in
-    let r = recordFrom record′ in
-    let s = fromBytes (d .facilities) store in
-    let ins = fromBytes (inputsOf (d .facilities)) stimulus in
-    firstOf (conditions d r (runActions (numbers d) d (stateAt d (r .state) .actions) (nothingDone d (begin (d .facilities) s ins))))
+    FirstOf (Condition d (fromBytes (d .facilities) store) (recordFrom record′) (fromBytes (inputsOf (d .facilities)) stimulus)) order n
+
+-- What a cycle answers.
+pub data Ends (image store record′ stimulus : List ℕ) : CycleAnswer → Type 0 where
+  goes-on : {n : ℕ} → FirstStop image store record′ stimulus none → n ≤ mostWork → Ends image store record′ stimulus (cycled n)
+  halts-for : {n : Stop} → FirstStop image store record′ stimulus (some n) → Ends image store record′ stimulus (stoppedFor n)
 
 module _ (image store record′ stimulus : List ℕ) (scratch : ℕ) (none-refused : cycleRefusal image store record′ stimulus scratch ≡ none) where
   abbrev d : Description
@@ -135,30 +64,49 @@ module _ (image store record′ stimulus : List ℕ) (scratch : ℕ) (none-refus
   unfolding wellFormed
   inputs-fit = bytes-fit (inputsOf (d .facilities)) stimulus (right-of (eqb (length stimulus) (stimulusSize d)) _ (there .form))
 
-  first-so : stopOf (step d words kept inputs) ≡ firstStop image store record′ stimulus
-  unfolding firstStop
-  first-so = stops-in-order d legal-there words kept inputs sound-words inputs-fit
-
-  pub stops-first : Ends (firstStop image store record′ stimulus) (cycle image store record′ stimulus scratch .answer)
-  unfolding cycle firstStop
-  stops-first = rw none-refused (rw (← first-so) (go (step d words kept inputs) refl (never-stuck image store record′ stimulus scratch none-refused)))
+  pub stops-first : Ends image store record′ stimulus (cycle image store record′ stimulus scratch .answer)
+  unfolding cycle
+  stops-first = rw none-refused (go (step d words kept inputs) refl (never-stuck image store record′ stimulus scratch none-refused) (stops-in-order d legal-there words kept inputs sound-words inputs-fit))
     where
-      go : (o : Outcome) → step d words kept inputs ≡ o → Well d o → Ends (stopOf o) (afterStep d store record′ scratch o .answer)
-      go (completed s r n) q h = goes-on (few-conflicts d legal-there words kept inputs q)
-      go (Outcome.stopped n) q h = halts-for
+      go : (o : Outcome) → step d words kept inputs ≡ o → Well d o → FirstStop image store record′ stimulus (stopOf o) → Ends image store record′ stimulus (afterStep d store record′ scratch o .answer)
+      go (completed s r n) q h f = goes-on f (few-conflicts d legal-there words kept inputs q)
+      go (Outcome.stopped n) q h f = halts-for f
 
-  abbrev run-here : Ran Held
-  run-here = runActions (numbers d) d (stateAt d (kept .state) .actions) (nothingDone d (begin (d .facilities) words inputs))
+  -- The stop that is answered is the step's.
+  stopped-step : {n : Stop} → cycle image store record′ stimulus scratch .answer ≡ stoppedFor n → stopOf (step d words kept inputs) ≡ some n
+  unfolding cycle
+  stopped-step {n} e = go (step d words kept inputs) (rw none-refused at e)
+    where
+      go : (o : Outcome) → afterStep d store record′ scratch o .answer ≡ stoppedFor n → stopOf o ≡ some n
+      go (completed s r m) q = absurd (let z : _≡_ {A = ℕ} 0 1 = cc in omega arith)
+      go (Outcome.stopped m) q = cc
+      go (Outcome.stuck m) q = absurd (let z : _≡_ {A = ℕ} 0 1 = cc in omega arith)
 
-  -- S1 is for a subscript whose value lies outside its bounds, on a store that stores lead to from the begin of the cycle.
-  pub one-outside : firstStop image store record′ stimulus ≡ some OutsideBounds
-      → (x : Held) × (From (numbers (decode image)) (decode image) (held (begin (decode image .facilities) (fromBytes (decode image .facilities) store) (fromBytes (inputsOf (decode image .facilities)) stimulus)) []) x × Outside (numbers (decode image)) (decode image) x)
-  unfolding firstStop
-  one-outside e =
-      let first = held (begin (d .facilities) words inputs) [] in
-      first-has (Subscript d kept run-here first) _ OutsideBounds (one-met d kept run-here first (outside-met (numbers d) d first (stateAt d (kept .state) .actions) (nothingDone d (begin (d .facilities) words inputs)) here)) e refl
+  step-stopped : {n : Stop} → stopOf (step d words kept inputs) ≡ some n → cycle image store record′ stimulus scratch .answer ≡ stoppedFor n
+  unfolding cycle
+  step-stopped {n} e = rw none-refused (go (step d words kept inputs) e)
+    where
+      go : (o : Outcome) → stopOf o ≡ some n → afterStep d store record′ scratch o .answer ≡ stoppedFor n
+      go (completed s r m) q = absurd (let z : _≡_ {A = ℕ} 0 1 = cc in omega arith)
+      go (Outcome.stopped m) q = cc
+      go (Outcome.stuck m) q = absurd (let z : _≡_ {A = ℕ} 0 1 = cc in omega arith)
+
+  -- Each stop is answered exactly when its condition is the first that holds.
+  pub stops-exactly : {n : Stop} → (cycle image store record′ stimulus scratch .answer ≡ stoppedFor n → FirstStop image store record′ stimulus (some n)) × (FirstStop image store record′ stimulus (some n) → cycle image store record′ stimulus scratch .answer ≡ stoppedFor n)
+  stops-exactly =
+      let first = stops-in-order d legal-there words kept inputs sound-words inputs-fit in
+      ((λ e. rw (stopped-step e) at first), (λ f. step-stopped (first-one first f)))
+
+  -- S1, where the number is not the last: exactly when, in the order of execution, the cycle comes to a subscript that lies outside its bounds on the store that stands then.
+  pub one-first : recordFrom record′ .cycle < lastCycle
+      → (cycle image store record′ stimulus scratch .answer ≡ stoppedFor OutsideBounds → FirstOutside (decode image) (fromBytes (decode image .facilities) store) (recordFrom record′) (fromBytes (inputsOf (decode image .facilities)) stimulus))
+      × (FirstOutside (decode image) (fromBytes (decode image .facilities) store) (recordFrom record′) (fromBytes (inputsOf (decode image .facilities)) stimulus) → cycle image store record′ stimulus scratch .answer ≡ stoppedFor OutsideBounds)
+  one-first l =
+      let h = S.one-first d legal-there words kept inputs sound-words inputs-fit l in
+      ((λ e. h .0 (stopped-step e)), (λ o. step-stopped (h .1 o)))
 
   -- No passing image meets S8: a CASE has an arm for every value.
-  pub eight-never : firstStop image store record′ stimulus ≡ some NoArm → ⊥
-  unfolding firstStop
-  eight-never e = first-has (λ n. n ≡ NoArm → ⊥) _ NoArm (no-eight d kept run-here legal-there (run-good d legal-there words kept inputs sound-words inputs-fit)) e refl
+  pub eight-never : cycle image store record′ stimulus scratch .answer ≡ stoppedFor NoArm → ⊥
+  eight-never e =
+      let first = stops-in-order d legal-there words kept inputs sound-words inputs-fit in
+      armless-never d legal-there words kept inputs sound-words inputs-fit (first-holds (rw (stopped-step e) at first))

@@ -13,13 +13,13 @@ use Rattle.language.specs.Decode.{decode, offsetOf}
 use Rattle.language.specs.DescribeText.{describe}
 use Rattle.language.specs.Encode.{encode, headerSize, namesSection}
 use Rattle.language.specs.Image.{Passes, passes, totalLength}
-use Rattle.language.specs.Judging.{both}
 use Rattle.language.specs.Layout.{storeSize}
 use Rattle.language.specs.Lookups.{facility, facilityName, facilityPart, stateName, statePart}
 use Rattle.about_calls.specs.PassesExactly.{passed, passing, passing-read}
 use Rattle.about_calls.specs.Beyond.{number-front}
 use Rattle.language.specs.declared.stops.Stop.{Stop}
 use mathlib.Core.Option.{Option}
+use Rattle.language.specs.Tests.{both}
 
 module _ (image rest : List ℕ) (passing-so : passes image ≡ true) where
   abbrev all : List ℕ

@@ -10,7 +10,7 @@ use Rattle.language.specs.Building.{Built, nothingBuilt}
 use Rattle.language.specs.Ceilings.{WithinCeilings}
 use Rattle.language.specs.Declaring.{treeSteps}
 use Rattle.language.specs.Grammar.{Is}
-use Rattle.language.specs.Machine.{Counts, both, deepest, mostCounted, mostFacilities, mostOperations, mostStates, parsed, withinCeilings}
+use Rattle.language.specs.Machine.{Counts, deepest, mostCounted, mostFacilities, mostOperations, mostStates, parsed, withinCeilings}
 use Rattle.language.specs.Notions.{text, wholeText}
 use Rattle.language.specs.Sections.{parse, parseWith}
 use Rattle.language.specs.Tree.{Text}
@@ -18,6 +18,7 @@ use Rattle.language.specs.Words.{Word}
 use Rattle.about_grammar.specs.Courses.{Ceiling, Under}
 use Rattle.about_grammar.specs.Derived.{takes}
 use Rattle.about_grammar.specs.WholeText.{amountOf}
+use Rattle.language.specs.Tests.{both}
 
 -- The ceilings of the language.
 abbrev pub most : Counts

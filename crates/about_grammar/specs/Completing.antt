@@ -109,7 +109,7 @@ repeats {K} {b} {c} r = begin K (W.name (nameOf (wordNo 1 b)) (position 0)) [] r
 
 -- ---- Loops are left out.
 
-follows : (k : ℕ) (ks : List ℕ) (ws : List Word) → HeadIs k ws → among k ks ≡ false → Follows ks ws
+pub follows : (k : ℕ) (ks : List ℕ) (ws : List Word) → HeadIs k ws → among k ks ≡ false → Follows ks ws
 follows k ks [] h e = tt
 follows k ks (w ∷ ws) h e = subst (λ (j : ℕ). among j ks ≡ false) (sym (h .0)) e
 

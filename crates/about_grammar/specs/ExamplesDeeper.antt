@@ -106,7 +106,7 @@ two-relations = refl
 
 -- ---- Nesting: an operation's bracket and 22 more leave room for one, 23 more for none.
 
-unfoldable times : ℕ → List ℕ → List ℕ
+unfoldable pub times : ℕ → List ℕ → List ℕ
 times zero s = []
 times (suc n) s = s ++ times n s
 
@@ -211,6 +211,11 @@ set-counts-at-sign = refl
 label-counts-not : Third (bytes "REGISTER A. CONTROL X, Y/ Z: ") (bytes "W/.")
 unfolding grammar-open atMostTwo
 label-counts-not = refl
+
+-- Counted before the word that follows it is looked at, which cannot stand.
+counted-before-fault : Third (bytes "REGISTER A. CONTROL X, Y, ") (bytes "Z THEN")
+unfolding grammar-open atMostTwo
+counted-before-fault = refl
 
 -- A constant in brackets counts at its word, a part's not.
 counted-subscript : Third (bytes "REGISTER A. OPERATION X = [A <- B[") (bytes "1]]. CONTROL X/.")

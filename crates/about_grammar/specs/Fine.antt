@@ -4,7 +4,7 @@ use mathlib.Core.List.{List, [], _∷_}
 use mathlib.Core.Path.{_≡_}
 use Prim.Native.Nat.{ℕ}
 use lib.Dec.{eqb}
-use Rattle.language.specs.Kinds.{aConstant, aName, atSign, closeBracket, colon, comma, controlWord, doWord, dollar, endIfWord, equalSign, inputWord, openBracket, period, returnWord, slash, terminalWord}
+use Rattle.language.specs.Kinds.{aConstant, aName, atSign, closeBracket, colon, comma, controlWord, delayedSign, doWord, dollar, endIfWord, equalSign, inputWord, openBracket, openParen, period, returnWord, slash, terminalWord}
 use Rattle.language.specs.Machine
 use Rattle.language.specs.Machine.{Ask, again, ask, ease, keep, make, word}
 use Rattle.about_grammar.specs.Courses.{Stack}
@@ -82,6 +82,10 @@ firstOf Machine.dollarOption = dollar
 abbrev pub skips : Ask → Bool
 skips n = eqb (firstOf n) 0
 
+-- Signs that make a name at the start of an action a left side, and what goes on with an expression.
+abbrev pub afterLeft : List ℕ
+afterLeft = atSign ∷ delayedSign ∷ equalSign ∷ afterOr
+
 -- Kinds that would go on with a notion.
 abbrev pub bad : Ask → List ℕ
 bad Machine.expression = afterOr
@@ -102,28 +106,28 @@ bad Machine.arithmeticTail = afterSum
 bad Machine.moreArms = doWord ∷ afterOr
 bad Machine.subscripts = []
 bad Machine.subscript = []
-bad Machine.afterConstant = []
+bad Machine.afterConstant = colon ∷ []
 bad Machine.operandRest = []
 bad Machine.afterSubscript = []
 bad Machine.secondOption = []
 bad Machine.second = []
-bad Machine.afterSecondConstant = []
+bad Machine.afterSecondConstant = colon ∷ []
 bad Machine.secondRest = []
 bad Machine.secondEnd = []
-bad Machine.operationAction = afterOr
-bad Machine.stateAction = []
-bad Machine.operationMore = comma ∷ afterOr
+bad Machine.operationAction = afterLeft
+bad Machine.stateAction = openBracket ∷ atSign ∷ []
+bad Machine.operationMore = comma ∷ afterLeft
 bad Machine.stateRest = []
-bad Machine.stateMore = comma ∷ []
-bad Machine.operationName = afterOr
-bad Machine.stateName = []
+bad Machine.stateMore = comma ∷ openBracket ∷ atSign ∷ []
+bad Machine.operationName = afterLeft
+bad Machine.stateName = openBracket ∷ atSign ∷ []
 bad Machine.leftRest = afterOr
 bad Machine.storeSign = afterOr
 bad Machine.setSign = []
 bad Machine.operationIfRest = []
 bad Machine.stateIfRest = []
-bad Machine.operationArms = doWord ∷ comma ∷ afterOr
-bad Machine.stateArms = doWord ∷ comma ∷ []
+bad Machine.operationArms = doWord ∷ comma ∷ afterLeft
+bad Machine.stateArms = doWord ∷ comma ∷ openBracket ∷ atSign ∷ []
 bad Machine.dimensions = []
 bad Machine.rangeRest = []
 bad Machine.dimensionRest = []
@@ -141,7 +145,7 @@ bad Machine.functionOf = afterOr
 bad Machine.operationSpec = []
 bad Machine.operationsMore = []
 bad Machine.stateStart = []
-bad Machine.firstName = []
+bad Machine.firstName = colon ∷ openParen ∷ openBracket ∷ atSign ∷ []
 bad Machine.stateBody = []
 bad Machine.statesMore = []
 bad Machine.sections = []

@@ -33,8 +33,20 @@ pub mod StaysFine
 pub mod Completing
 pub mod CompletingNotions
 pub mod Completed
+-- What each word counts.
+pub mod Counting
+pub mod Tale
+pub mod Telling
+pub mod TellingTerms
+pub mod TellingActions
+pub mod TellingDeclared
+pub mod TellingStates
+pub mod Told
+pub mod Calm
+pub mod Stepping
 -- Places of refusals.
 pub mod Stops
+pub mod Places
 pub mod Refusals
 -- Sound: what is accepted is derived, notion by notion.
 pub mod Accepting
@@ -59,6 +71,11 @@ pub mod Sound
 -- All of it in one place, and worked examples.
 pub mod ProperWords
 pub mod FirstFault
+pub mod Chains
+pub mod Tens
+pub mod TenPlaces
+pub mod NoTens
 pub mod Exact
 pub mod Examples
 pub mod ExamplesDeeper
+pub mod ExamplesPlaces

@@ -8,7 +8,6 @@ use lib.ListN.{drop, getD, length, take}
 use Rattle.language.specs.Characters.{blankClass, classOf, digitClass, folded, letterClass, quoteClass, symbolClass}
 use Rattle.language.specs.Constants.{bareConstant, bareLargest, decimalConstant, digitsNumber}
 use Rattle.language.specs.Kinds.{aConstant, aName}
-use Rattle.language.specs.Machine.{both}
 use Rattle.language.specs.declared.refusals.Refusal.the-variants.{BadConstant, BadName}
 use Rattle.language.specs.Scan as S
 use Rattle.language.specs.Scan.{Found, Item, Reserved, Spelled, bareAt, basedItem, binaryAt, commentAt, constantAt, decimalAt, digitBits, digitsOf, isDecimalBase, isNamePart, itemAt, longestName, nameAt, nameItem, reservedAmong, reservedKind, reservedWords, same, span, spelledSymbols, symbolAmong, written}
@@ -18,6 +17,7 @@ use Rattle.language.specs.Words.{Constant, Position, position}
 use Rattle.about_grammar.specs.Accepting.{Proper}
 use Rattle.about_grammar.specs.FineWays.{both-first, both-second, not-true}
 use Rattle.about_grammar.specs.Following.{among}
+use Rattle.language.specs.Tests.{both}
 
 abbrev ProperItem : Item → Type 0
 ProperItem S.gap = Unit {0}

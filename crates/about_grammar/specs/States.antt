@@ -78,15 +78,15 @@ label-with-value {C} {h} {n} {x} {p} {q} {r} {s} {t} = labelled go
 
 -- ---- The first action.
 
-all-there : within (aName ∷ slash ∷ []) (slash ∷ aName ∷ period ∷ endWord ∷ []) ≡ true
+pub all-there : within (aName ∷ slash ∷ []) (slash ∷ aName ∷ period ∷ endWord ∷ []) ≡ true
 unfolding within among
 all-there = refl
 
-name-there : within (aName ∷ []) (slash ∷ aName ∷ period ∷ endWord ∷ []) ≡ true
+pub name-there : within (aName ∷ []) (slash ∷ aName ∷ period ∷ endWord ∷ []) ≡ true
 unfolding within among
 name-there = refl
 
-slash-there : within (slash ∷ []) (slash ∷ aName ∷ period ∷ endWord ∷ []) ≡ true
+pub slash-there : within (slash ∷ []) (slash ∷ aName ∷ period ∷ endWord ∷ []) ≡ true
 unfolding within among
 slash-there = refl
 

@@ -8,7 +8,7 @@ use lib.ListN.{drop}
 use Rattle.language.specs.Building.{Built, nameOf}
 use Rattle.language.specs.Declaring.{treeSteps}
 use Rattle.language.specs.Kinds.{aName}
-use Rattle.language.specs.Machine.{Alternative, Fed, Reading, Without, again, ask, both, choose, ease, feed, keep, leave, make, may, must, operand, took, word, wrong}
+use Rattle.language.specs.Machine.{Alternative, Fed, Reading, Without, again, ask, choose, ease, feed, keep, leave, make, may, must, operand, took, word, wrong}
 use Rattle.language.specs.Scan.{same}
 use Rattle.language.specs.Sections.{ruleOf}
 use Rattle.language.specs.Words.{Fault, Word, kindOf}
@@ -17,6 +17,7 @@ use Rattle.about_grammar.specs.Courses.{Stack}
 use Rattle.about_grammar.specs.Fine.{Fine, bad, headOf}
 use Rattle.about_grammar.specs.FineWays.{all-pass, allPass, both-first, both-second, passed, passes}
 use Rattle.about_grammar.specs.Following.{among}
+use Rattle.language.specs.Tests.{both}
 
 data FineFed : Fed Built → Type 0 where
   fine-took : (K : Stack) (r : Reading Built) → Fine K → FineFed (took K r)

@@ -15,7 +15,7 @@ use Rattle.language.specs.Canonical.{actionCount}
 use Rattle.language.specs.Description as D
 use Rattle.language.specs.Description.{Action, Description, Places, Run, actionAt, actionPlace, noRun, stateAt}
 use Rattle.language.specs.Expressions.{ownWork, selects}
-use Rattle.language.specs.Judging.{Judged, Worth, both, fine, givenBoth, refuse, unless, worth}
+use Rattle.language.specs.Judging.{Judged, Worth, fine, givenBoth, refuse, unless, worth}
 use Rattle.language.specs.Order.{startAt}
 use Rattle.language.specs.Recursion.{below-lt}
 use Rattle.language.specs.declared.refusals.Refusal.the-variants.{BadLength, BadName, BadStore, NoContinuation}
@@ -29,6 +29,7 @@ use Rattle.about_images.specs.Whole.{both-left, both-right}
 use Rattle.about_images.specs.Counted.{count, count-add, count-one}
 use Rattle.about_images.specs.Trees.{Tree, selects-few}
 use Rattle.language.specs.Kinds.{delayedSign, equalSign}
+use Rattle.language.specs.Tests.{both}
 
 -- A root whose tree is sane wherever it begins.
 abbrev pub Own : Description → ℕ → Type 0

@@ -13,7 +13,6 @@ use Rattle.language.specs.Decode.{described, namesLength, nodeOf, numberAt}
 use Rattle.language.specs.Description as D
 use Rattle.language.specs.Description.{Action, Description, Facility, Node, Operation, State, actionAt, digitLength, facilityAt, furtherDigits, noFacility, noRun, nodeAt, operationAt, stateAt}
 use Rattle.language.specs.Encode.{actionBytes, actionSize, concat, encode, facilityRecord, facilityRecords, facilitySize, nameBytes, nodeBytes, nodeSize, operationRecord, operationSize, sectionsOf, stateRecord, stateSize}
-use Rattle.language.specs.Judging.{both}
 use Rattle.language.specs.Layout.{placeIn}
 use Rattle.language.specs.Order.{digitsStand, isDigit48}
 use Rattle.image_records.proofs.ActionBack as A
@@ -32,6 +31,7 @@ use Rattle.image_sections.specs.Names.{facilityPart, named, operationPart, stat
 use Rattle.about_images.specs.Names.{lengths-say, name-cut, names-length, namesOf}
 use Rattle.about_images.specs.Rows.{facilities-at, facilities-length, row-at, row-length}
 use Rattle.about_images.specs.Running.{stands}
+use Rattle.language.specs.Tests.{both}
 
 -- ---- In range.
 

@@ -8,8 +8,8 @@ use lib.Dec.{leb}
 use lib.ListN.{length}
 use Rattle.language.specs.Description as D
 use Rattle.language.specs.Description.{Description, Node, nodeAt}
-use Rattle.language.specs.Judging.{both}
 use Rattle.language.specs.Recursion.{below, below-lt}
+use Rattle.language.specs.Tests.{both}
 
 -- ---- Depths. A part that does not stand before its record has no depth.
 

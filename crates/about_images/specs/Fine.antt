@@ -11,7 +11,7 @@ use Rattle.language.specs.Canonical.{nodeCount}
 use Rattle.language.specs.Description as D
 use Rattle.language.specs.Description.{Bounds, Description, Node, NodePlaces, Places, digitLength, facilityAt, furtherDigits, inBounds, nodeAt, nodePlace}
 use Rattle.language.specs.Expressions.{choiceJudged, judgeAt, judgeBelow, judgeNode, judgeStep, leftAt, leftOf, notBefore, ownWork, properAt, selects}
-use Rattle.language.specs.Judging.{Judged, Worth, armList, both, fine, proper, refuse, sized, unless, worth}
+use Rattle.language.specs.Judging.{Judged, Worth, armList, fine, proper, refuse, sized, unless, worth}
 use Rattle.language.specs.Meaning as M
 use Rattle.language.specs.Meaning.{Answer}
 use Rattle.language.specs.Operators.{binaryLength, cutLengthOf, prefixLength}
@@ -30,6 +30,7 @@ use Rattle.about_images.specs.Whole.{both-left, both-right}
 use Rattle.about_images.specs.Counted.{count-more}
 use Rattle.about_images.specs.Depth.{depth-leaf, depth-one, depth-two}
 use Rattle.about_images.specs.Trees.{Digit, Sane, Tree, binary-kind, counts, cut-count, cut-kind, digits-sane, leaf, over-arm, over-next, over-one, over-two, prefix-kind, selects-few, within-bounds}
+use Rattle.language.specs.Tests.{both}
 
 -- ---- Constants.
 

@@ -15,7 +15,7 @@ use Rattle.language.specs.Description as D
 use Rattle.language.specs.Description.{Bounds, Description, Facility, FacilityPlaces, Node, State, actionAt, constantValue, facilityAt, facilityPlace, isComputed, isSequencing, noFacility, noPlaces, noRun, nodeAt, operationAt, sequencingOf, spanOf, stateAt, wordLength}
 use Rattle.language.specs.Expressions.{terminalBelow, terminalJudged}
 use Rattle.language.specs.Image.{legalForm}
-use Rattle.language.specs.Judging.{Judged, Worth, both, fine, refuse, unless}
+use Rattle.language.specs.Judging.{Judged, Worth, fine, refuse, unless}
 use Rattle.language.specs.Layout.{facilityBytes}
 use Rattle.language.specs.Machine.{mostCounted, mostFacilities, mostOperations, mostStates}
 use Rattle.language.specs.Order.{facilityRoots, operationRoots, startAt, startNode, stateRoots, valueRoot}
@@ -36,6 +36,7 @@ use Rattle.about_images.specs.Covered.{Computed, Covered, Each, Inside, 
 use Rattle.about_images.specs.Depth.{bounded, depthAt, mostActions, mostExpressions, shallow, shallow-so}
 use Rattle.about_images.specs.Fine.{constant-tree, proper-tree, side-tree}
 use Rattle.about_images.specs.Trees.{counts}
+use Rattle.language.specs.Tests.{both}
 
 -- ---- Tests over lists.
 

@@ -12,7 +12,6 @@ use Rattle.language.specs.Decode.{actionOf, decode, described, nodeOf, sections
 use Rattle.language.specs.Description.{Description, facilityAt}
 use Rattle.language.specs.Encode.{Sections, actionBytes, actionSize, encode, facilityRecord, facilitySize, headerSize, imageOf, nameBytes, nodeBytes, nodeSize, operationRecord, operationSize, sectionsOf, stateRecord, stateSize}
 use Rattle.language.specs.Image.{legalForm, passes, totalLength}
-use Rattle.language.specs.Judging.{both}
 use Rattle.language.specs.Layout.{placeIn}
 use Rattle.language.specs.RecordBytes.{fours}
 use Rattle.language.specs.Scan.{same}
@@ -27,6 +26,7 @@ use Rattle.image_sections.specs.declared.header.Counts.{Counts}
 use Rattle.about_images.specs.Again.{Bytes, actions-again, allNames, expressions-again, facilities-again, names-again, operations-again, states-again}
 use Rattle.about_images.specs.Back.{InRange, sections-back}
 use Rattle.about_images.specs.Rows.{facilities-length, row-length}
+use Rattle.language.specs.Tests.{both}
 
 -- ---- The size of an image.
 

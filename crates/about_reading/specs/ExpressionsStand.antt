@@ -7,7 +7,7 @@ use Rattle.language.specs.Description as D
 use Rattle.language.specs.Description.{Bounds, Description, Facility, FacilityPlaces, Node, NodePlaces, Places, actionPlace, facilityAt, facilityPlace, inBounds, isComputed, nodeAt, nodePlace, statePlace}
 use Rattle.language.specs.Expressions as E
 use Rattle.language.specs.Expressions.{judgeNode, ownWork, selects}
-use Rattle.language.specs.Judging.{Judged, both}
+use Rattle.language.specs.Judging.{Judged}
 use Rattle.language.specs.ReferenceRules as RR
 use Rattle.language.specs.ReferenceRules.{boundFaults, directionFaults, referenceJudged, subscriptsJudged}
 use Rattle.language.specs.References as R
@@ -17,6 +17,7 @@ use Rattle.language.specs.Rules.{namePlaces}
 use Rattle.language.specs.Words.{Position}
 use Rattle.about_reading.specs.Standing as S
 use Rattle.about_reading.specs.Standing.{Judges, Stand, below-so}
+use Rattle.language.specs.Tests.{both}
 
 module _ (Here : Position → Type 0) where
   -- ---- Of all places it holds.

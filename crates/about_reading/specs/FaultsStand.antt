@@ -10,7 +10,7 @@ use Rattle.language.specs.ActionRules.{Shape, actions, arms, kindAt, listJudged
 use Rattle.language.specs.Description as D
 use Rattle.language.specs.Description.{Action, Description, Facility, FacilityPlaces, Places, Run, State, StatePlaces, actionAt, actionPlace, constantValue, facilityPlace, isComputed, isSequencing, nodeAt, operationAt, stateAt, statePlace, wordLength}
 use Rattle.language.specs.Expressions.{selects}
-use Rattle.language.specs.Judging.{Judged, Worth, both, refuse}
+use Rattle.language.specs.Judging.{Judged, Worth, refuse}
 use Rattle.language.specs.Layout.{facilityBytes}
 use Rattle.language.specs.declared.refusals.Refusal.{Refusal}
 use Rattle.language.specs.declared.refusals.Refusal.the-variants.{BadLength, BadName, BadSequencing, BadStore, BadSubscript, CeilingPassed}
@@ -21,6 +21,7 @@ use Rattle.language.specs.Words.{Fault, Position}
 use Rattle.about_reading.specs.ExpressionsStand.{AllHere, EachHere, FacilityHere, expression-judges, left-judges, terminal-judges, terminals-judge}
 use Rattle.about_reading.specs.Standing as S
 use Rattle.about_reading.specs.Standing.{Judges, Stand, below-so}
+use Rattle.language.specs.Tests.{both}
 
 module _ (Here : Position → Type 0) (d : Description) (p : Places) (all : AllHere Here p) where
   abbrev Is : Judged → Type 0

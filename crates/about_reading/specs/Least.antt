@@ -1,14 +1,18 @@
--- The least of some faults is one of them, and none of them is smaller. Assumes nothing.
+-- The least of some faults is one of them, and none of them is smaller; it is the only one so. Assumes nothing.
 use mathlib.Core.Bool.{Bool, true, false, cond, _||_, _&&_}
 use mathlib.Core.List.{List, [], _∷_}
 use mathlib.Core.Option.{Option, none, some}
-use mathlib.Core.Path.{_≡_, refl, sym, subst}
+use mathlib.Core.Path.{_≡_, _∙_, ap, refl, sym, subst}
 use native.Mathlib.Omega.{arith}
 use Prim.Native.Nat.{ℕ, _≤_, _<_}
 use borrow.Author.Tests.{eqb-false, eqb-true, ltb-false, ltb-true}
 use lib.Dec.{eqb, ltb}
+use lib.ListN.{getD}
+use Rattle.language.specs.declared.refusals.Refusal.{Refusal}
+use Rattle.language.specs.declared.refusals.Refusal.the-variants.{TextTooLong, BadCharacter, NoContinuation, BadName, BadConstant, BadSubscript, BadLength, BadStore, BadSequencing, CeilingPassed, BufferTooShort, ImageFails, Unsound, BadStimulus}
+use Rattle.language.specs.Refusals.{refusalNumber}
 use Rattle.language.specs.WordStage.{before, least, smaller}
-use Rattle.language.specs.Words.{Fault, faultNumber}
+use Rattle.language.specs.Words.{Fault, fault, faultNumber, position}
 
 pub data Among (f : Fault) : List Fault → Type 0 where
   first : {fs : List Fault} → Among f (f ∷ fs)
@@ -95,3 +99,43 @@ pub none-least : (fs : List Fault) → least fs ≡ none → fs ≡ []
 unfolding least
 none-least [] e = refl
 none-least (f ∷ fs) e = no-fault (sym e)
+
+-- ---- The least of some faults is one.
+
+-- The refusals at their numbers; 0 and 11 are none.
+abbrev numbered : List Refusal
+numbered = TextTooLong ∷ TextTooLong ∷ BadCharacter ∷ NoContinuation ∷ BadName ∷ BadConstant ∷ BadSubscript ∷ BadLength ∷ BadStore ∷ BadSequencing ∷ CeilingPassed ∷ TextTooLong ∷ BufferTooShort ∷ ImageFails ∷ Unsound ∷ BadStimulus ∷ []
+
+numbered-back : (r : Refusal) → getD numbered (refusalNumber r) TextTooLong ≡ r
+numbered-back TextTooLong = refl
+numbered-back BadCharacter = refl
+numbered-back NoContinuation = refl
+numbered-back BadName = refl
+numbered-back BadConstant = refl
+numbered-back BadSubscript = refl
+numbered-back BadLength = refl
+numbered-back BadStore = refl
+numbered-back BadSequencing = refl
+numbered-back CeilingPassed = refl
+numbered-back BufferTooShort = refl
+numbered-back ImageFails = refl
+numbered-back Unsound = refl
+numbered-back BadStimulus = refl
+
+refusal-one : (a b : Refusal) → refusalNumber a ≡ refusalNumber b → a ≡ b
+refusal-one a b e = sym (numbered-back a) ∙ ap (λ (n : ℕ). getD numbered n TextTooLong) e ∙ numbered-back b
+
+pub least-one : (fs : List Fault) (f g : Fault) → Least f fs → Least g fs → f ≡ g
+least-one fs f g x y =
+    let a = x .none-smaller g (y .one-of-them) in
+    let b = y .none-smaller f (x .one-of-them) in
+    let p : f .at .place ≡ g .at .place = omega (arith, a .place, b .place) in
+    let n : faultNumber f ≡ faultNumber g = omega (arith, a .number p, b .number (sym p)) in
+    ap (λ (k : ℕ). fault (position k) (f .refusal)) p ∙ ap (λ (r : Refusal). fault (g .at) r) (refusal-one (f .refusal) (g .refusal) n)
+
+pub some-least : (fs : List Fault) (f : Fault) → Least f fs → least fs ≡ some f
+some-least fs f l = go (least fs) refl
+  where
+    go : (x : Option Fault) → least fs ≡ x → x ≡ some f
+    go none q = absurd (none-there f (subst (Among f) (none-least fs q) (l .one-of-them)))
+    go (some g) q = ap some (least-one fs g f (least-so fs g q) l)

@@ -1,4 +1,4 @@
--- What reading accepts and refuses.
+-- What reading accepts and refuses; and that scanning takes the longest word: read Spelling and LongestMatch.
 pub mod Least
 pub mod ReadsExactly
 pub mod Standing

@@ -2,11 +2,10 @@
 use mathlib.Core.Bool.{Bool, true, false, cond}
 use mathlib.Core.List.{List, []}
 use mathlib.Core.Option.{Option, none, some}
-use mathlib.Core.Logic.{_⊎_}
-use mathlib.Core.Path.{_≡_, refl, subst}
+use mathlib.Core.Path.{_≡_, _∙_, refl, subst, sym}
 use native.Mathlib.Omega.{arith}
 use Prim.Native.Nat.{ℕ, _≤_, _<_}
-use borrow.Author.Tests.{le-ltb, ltb-false, ltb-true}
+use borrow.Author.Tests.{le-ltb, lt-ltb, ltb-false, ltb-true}
 use lib.Dec.{ltb}
 use lib.ListN.{length}
 use Rattle.language.specs.Building.{Built}
@@ -25,11 +24,10 @@ use Rattle.language.specs.Tree.{Text}
 use Rattle.language.specs.WordStage.{least, scan, wordFault, wordFaults}
 use Rattle.language.specs.Words.{Fault, fault, position}
 use Rattle.about_grammar.specs.Complete.{unique}
-use Rattle.about_grammar.specs.Exact.{exact-text, refusal-of-text}
-use Rattle.about_grammar.specs.FirstFault.{FirstFault}
-use Rattle.about_grammar.specs.Refusals.{PlaceOfTen}
+use Rattle.about_grammar.specs.Exact.{exact-text, refusal-of-text, refused-text}
+use Rattle.about_grammar.specs.Places.{RefusalOf}
 use Rattle.about_rules.specs.RightWords.{words-right}
-use Rattle.about_reading.specs.Least.{Least, least-so, none-least}
+use Rattle.about_reading.specs.Least.{Least, least-so, none-least, some-least}
 
 -- A text with this tree is legal: no stage has a fault.
 pub record LegalText (s : List ℕ) (t : Text) : Type 0 where
@@ -98,8 +96,8 @@ pub data Refusal (s : List ℕ) : Fault → Type 0 where
   one : longestText < length s → Refusal s (fault (position 0) TextTooLong)
   -- words: the least of the faults of words and lines
   of-words : {f : Fault} → length s ≤ longestText → Least f (wordFaults s) → Refusal s f
-  -- grammar: the first word with no legal continuation, or the one that passes a ceiling
-  of-grammar : {f : Fault} → length s ≤ longestText → wordFault s ≡ none → FirstFault (scan s .words) (length s) (f .at) ⊎ PlaceOfTen (scan s .words) (length s) (f .at) → Refusal s f
+  -- grammar: 3 at the first word with no legal continuation, or 10 at the one that passes a ceiling
+  of-grammar : {f : Fault} → length s ≤ longestText → wordFault s ≡ none → RefusalOf (scan s .words) (length s) f → Refusal s f
   -- the rest: the least of the faults of what it describes
   of-rules : {f : Fault} {t : Text} → length s ≤ longestText → wordFault s ≡ none → Is wholeText deepest (scan s .words) (text t) → WithinCeilings t
       → Least f (faults (describe t .description) (describe t .places)) → Refusal s f
@@ -129,6 +127,23 @@ refuses-least s f e = by-length (ltb longestText (length s)) refl e
     by-length : (b : Bool) → ltb longestText (length s) ≡ b → cond b (refusedAt (fault (position 0) TextTooLong)) (afterWords s (least (wordFaults s))) ≡ refusedAt f → Refusal s f
     by-length true q k = subst (Refusal s) (same-fault k) (one (ltb-true _ _ q))
     by-length false q k = by-words (ltb-false _ _ q) (least (wordFaults s)) refl k
+
+-- What is such a refusal is the one that reading answers with.
+pub refuses-so : (s : List ℕ) (f : Fault) → Refusal s f → readText s ≡ refusedAt f
+unfolding readText restOf wordFault
+refuses-so s f (one l) = rw (lt-ltb longestText (length s) l) refl
+refuses-so s f (of-words l x) = rw (le-ltb longestText (length s) l, some-least (wordFaults s) f x) refl
+refuses-so s f (of-grammar l w x) = rw (le-ltb longestText (length s) l, w, refused-text s (length s) f x) refl
+refuses-so s f (of-rules {t = t} l w x y z) =
+    let a = exact-text s (length s) t .0 (x, y) in
+    rw (le-ltb longestText (length s) l, w, a .1, a .2, some-least _ f z) refl
+
+-- A text has one refusal at most.
+pub refusal-one : (s : List ℕ) (f g : Fault) → Refusal s f → Refusal s g → f ≡ g
+refusal-one s f g x y = same (sym (refuses-so s f x) ∙ refuses-so s g y)
+  where
+    same : refusedAt f ≡ refusedAt g → f ≡ g
+    same e = cc
 
 -- ---- What is accepted describes in legal form.
 

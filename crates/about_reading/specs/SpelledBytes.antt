@@ -9,11 +9,9 @@ use lib.Dec.{eqb, leb, ltb}
 use lib.ListN.{drop, length, take}
 use Rattle.language.specs.Characters.{digitWorth, folded, isDigit, isLetter, within}
 use Rattle.language.specs.Scan.{digitBits, isDecimalBase, isDigitOf, isNamePart, span}
+use Rattle.about_grammar.specs.Stacks.{false-true as no}
 use Rattle.about_reading.specs.Spelling as S
 use Rattle.about_reading.specs.Spelling.{All, Decimal, DecimalDesignator, Designator, DigitOf, Letter, LetterOrDigit, more, none}
-
-pub no : {A : Type 0} → false ≡ true → A
-no e = absurd (let z : _≡_ {A = ℕ} 0 1 = cc in omega arith)
 
 -- ---- Tests of a range.
 

@@ -12,7 +12,7 @@ use lib.Seq.{take-append-seam}
 use Rattle.language.specs.Characters.{classOf, symbolClass}
 use Rattle.language.specs.Scan as Scan
 use Rattle.language.specs.Scan.{Item, bytes, same, spelledSymbols, symbolAmong}
-use Rattle.about_reading.specs.SpelledBytes.{no}
+use Rattle.about_grammar.specs.Stacks.{false-true as no}
 use Rattle.about_reading.specs.Spelling.{Begins, Listed, here, later, symbols}
 
 pub same-so : (s t : List ℕ) → same s t ≡ true → s ≡ t
@@ -87,8 +87,12 @@ unfoldable falling : ℕ → List Scan.Spelled → Bool
 falling n [] = true
 falling n (x ∷ xs) = leb (length (x .spelling)) n && falling (length (x .spelling)) xs
 
-longest-first : falling 3 spelledSymbols ≡ true
-unfolding falling bytes spelledSymbols
+-- The longest symbols have three characters.
+longestSymbol : ℕ
+longestSymbol = 3
+
+longest-first : falling longestSymbol spelledSymbols ≡ true
+unfolding falling bytes spelledSymbols longestSymbol
 longest-first = refl
 
 falling-so : (n : ℕ) (xs : List Scan.Spelled) (u : List ℕ) → falling n xs ≡ true → known xs u ≡ true → length u ≤ n
@@ -165,7 +169,7 @@ pub symbol-at : (s : List ℕ) → Taken (Scan.symbolAt s .item) → Begins Symb
 symbol-at s h = symbol-found spelledSymbols s all-quoted h
 
 pub symbol-longest : (u v : List ℕ) → Listed u symbols → length u ≤ Scan.symbolAt (u ++ v) .size
-symbol-longest u v h = symbol-most 3 spelledSymbols u v longest-first (listed-known symbols all-known h)
+symbol-longest u v h = symbol-most longestSymbol spelledSymbols u v longest-first (listed-known symbols all-known h)
 
 -- ---- The first byte of a symbol is of the class of symbols.
 

@@ -25,6 +25,7 @@ pub data DigitOf (base b : ℕ) : Type 0 where
   capital : code "A" ≤ b → b ≤ code "F" → b - code "A" + 10 < base → DigitOf base b
   small : code "a" ≤ b → b ≤ code "f" → b - code "a" + 10 < base → DigitOf base b
 
+-- A digit of base 10.
 abbrev pub Decimal : ℕ → Type 0
 Decimal b = DigitOf 10 b
 
@@ -70,6 +71,7 @@ symbols =
     "#" ∷ "$" ∷ "(" ∷ ")" ∷ "*" ∷ "+" ∷ "," ∷ "-" ∷ "." ∷ "/" ∷ ":" ∷ ";" ∷ "<" ∷ "=" ∷ ">" ∷ "@" ∷ "[" ∷ "]" ∷ "_"
     ∷ "[+]" ∷ "(+)" ∷ "(-)" ∷ ">=" ∷ "<=" ∷ "(=)" ∷ "->" ∷ "=>" ∷ "<-" ∷ []
 
+-- The bytes of one of some quoted texts.
 pub data Listed (s : List ℕ) : List String → Type 0 where
   here : {t : String} {ts : List String} → s ≡ bytes t → Listed s (t ∷ ts)
   later : {t : String} {ts : List String} → Listed s ts → Listed s (t ∷ ts)

@@ -10,10 +10,10 @@ use lib.Dec.{leb}
 use Rattle.language.specs.Canonical.{all, facilitiesRight, facilityRight, labelRight, mostDimensions, nameRight, noBounds}
 use Rattle.language.specs.DescribeText.{bitBounds, dimensionsOf, facilitiesOf, facilityOf, functionSize, labelOf, operationsOf, stateSize, statesOf, valueNumber, wordBounds}
 use Rattle.language.specs.Describe.{actionsIn}
-use Rattle.language.specs.Judging.{both}
 use Rattle.language.specs.Tree as T
 use Rattle.language.specs.Tree.{Declaration, Extent, Function, Kind, Label, Name, Operation, State, StateValue}
 use Rattle.about_rules.specs.Tidy.{DeclarationsTidy, LabelTidy, OperationsTidy, StatesTidy, Suits}
+use Rattle.language.specs.Tests.{both}
 
 pub both-so : {a b : Bool} → a ≡ true → b ≡ true → both a b ≡ true
 both-so p q = rw p q

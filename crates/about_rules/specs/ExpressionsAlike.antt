@@ -6,13 +6,14 @@ use Rattle.language.specs.Description as D
 use Rattle.language.specs.Description.{Bounds, Description, Facility, Node, NodePlaces, Places, facilityAt, inBounds, isComputed, nodeAt, nodePlace}
 use Rattle.language.specs.Expressions as E
 use Rattle.language.specs.Expressions.{judgeNode, ownWork, selects}
-use Rattle.language.specs.Judging.{Judged, both}
+use Rattle.language.specs.Judging.{Judged}
 use Rattle.language.specs.ReferenceRules as RR
 use Rattle.language.specs.ReferenceRules.{boundFaults, directionFaults, referenceJudged, subscriptsJudged}
 use Rattle.language.specs.References as R
 use Rattle.language.specs.References.{Reference, Subscripts, constantOf, part, referenceOf, rightCount, sameDirection, two, whole, wordPart}
 use Rattle.about_rules.specs.Alike.{Alike, Together, append-together, arms-alike, below-related, both-alike, both-faulty, both-fine, cond-alike, cond-together, faults-together, given-alike, no-fault, or-alike, proper-alike, sized-alike, unless-together}
 use Rattle.language.specs.declared.refusals.Refusal.the-variants.{BadSubscript}
+use Rattle.language.specs.Tests.{both}
 
 module _ (d : Description) (p q : Places) where
   -- ---- References; `t` and `u` judge computed terminals.

@@ -11,7 +11,7 @@ use Rattle.language.specs.ActionRules.{Shape, actions, arms, kindAt, listJudged
 use Rattle.language.specs.Description as D
 use Rattle.language.specs.Description.{Action, Description, Facility, FacilityPlaces, Places, Run, State, StatePlaces, actionAt, actionPlace, constantValue, facilityPlace, isComputed, isSequencing, nodeAt, operationAt, stateAt, statePlace, wordLength}
 use Rattle.language.specs.Expressions.{selects}
-use Rattle.language.specs.Judging.{Judged, Worth, both}
+use Rattle.language.specs.Judging.{Judged, Worth}
 use Rattle.language.specs.Layout.{facilityBytes}
 use Rattle.language.specs.declared.refusals.Refusal.the-variants.{BadLength, BadName, BadSequencing, BadStore, BadSubscript, CeilingPassed}
 use Rattle.language.specs.Rules as L
@@ -20,6 +20,7 @@ use Rattle.language.specs.Tree.{Name}
 use Rattle.language.specs.Words.{Fault, Position}
 use Rattle.about_rules.specs.Alike.{Alike, Together, append-together, below-related, both-alike, both-faulty, both-fine, cond-alike, cond-together, faults-together, given-alike, no-fault, none-as-well, none-together, or-alike, some-fault, unless-together}
 use Rattle.about_rules.specs.ExpressionsAlike.{expression-alike, left-alike, terminal-alike, terminals-alike}
+use Rattle.language.specs.Tests.{both}
 
 module _ (d : Description) (p q : Places) where
   -- ---- Actions; `t` and `u` give the work of operations.

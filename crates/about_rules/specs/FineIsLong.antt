@@ -10,7 +10,7 @@ use lib.Dec.{eqb, leb, ltb}
 use Rattle.language.specs.Description as D
 use Rattle.language.specs.Description.{Bounds, Description, Node, Places, facilityAt, inBounds, isComputed, nodeAt, nodePlace, wordLength}
 use Rattle.language.specs.Expressions.{evenly, expressionAt, judgeAt, judgeBelow, judgeNode, judgeStep, longestSelector, notBefore, ownWork, selects, terminalBelow}
-use Rattle.language.specs.Judging.{Judged, Worth, armList, both, fine, proper, refuse, sized, unless, worth}
+use Rattle.language.specs.Judging.{Judged, Worth, armList, fine, proper, refuse, sized, unless, worth}
 use Rattle.language.specs.Kinds.{atLeastSign, atMostSign, conWord, differenceSign, equalsSign, exclusiveSign, extWord, greaterSign, hash, headWord, lessSign, minus, plus, star, sumSign, tailWord}
 use Rattle.language.specs.Meaning as M
 use Rattle.language.specs.Operators.{binaryLength, cutLengthOf, prefixLength}
@@ -30,6 +30,7 @@ use Rattle.about_rules.specs.HasLength as H
 use Rattle.about_rules.specs.HasLength.{Binary, Cut, Long, Prefix, Subscript, arms, expression, facility, mostBits, mostCaseBits}
 use Rattle.about_rules.specs.LongIsFine.{judge-lt, judged, most-bits, terminal-lt}
 use Rattle.about_rules.specs.WithinBounds.{in-within, tested-part}
+use Rattle.language.specs.Tests.{both}
 
 -- ---- The operators, one by one: a length that judging works out is one of the relation.
 
@@ -238,7 +239,7 @@ module _ (d : Description) (p : Places) (known : ℕ)
             let z = sized-fine _ r _ e′ in
             let t = selected l c (both-left _ _ s) in
             let u : m ≡ 2 ^ l = eqb-true m c (both-right (selects l c) _ s) ∙ t .1 in
-            sized-says z (H.choice (subst (λ (x : ℕ). nodeAt d n ≡ D.choice a b x) (t .1) q) h k i (t .0) (rw (← u) (j (z .some))))
+            sized-says z (H.case (subst (λ (x : ℕ). nodeAt d n ≡ D.choice a b x) (t .1) q) h k i (t .0) (rw (← u) (j (z .some))))
 
     -- ---- References.
 
@@ -277,7 +278,7 @@ module _ (d : Description) (p : Places) (known : ℕ)
     unfolding judgeNode rightCount takenLength
     whole-says f q e =
         let r = refers f R.whole e in
-        refer-says f R.whole r (λ m. H.whole q (leb-true _ 1 (r .right .count)) (named f (r .known-here) (r .worked)) (r .some-bits) m)
+        refer-says f R.whole r (λ m. H.whole q (leb-true _ 1 (r .right .count)) (named f (r .known-here) (r .worked)) m)
 
     one-says : (f a : ℕ) → nodeAt d n ≡ D.one f a → {w : Worth}
         → judgeNode d p terminals known ev (nodePlace p n) (D.one f a) ≡ fine w → Says n w
@@ -287,15 +288,15 @@ module _ (d : Description) (p : Places) (known : ℕ)
         let i = part-long _ a (r .right .worked) in
         let h : 1 ≤ facilityAt d f .dimensions = leb-true _ _ (both-left _ _ (r .right .count)) in
         let k : facilityAt d f .dimensions ≤ 2 = leb-true _ _ (both-right (leb 1 (facilityAt d f .dimensions)) _ (r .right .count)) in
-        refer-says f (R.one a) r (go (i .0) (i .1) (named f (r .known-here) (r .worked)) h k (eqb (facilityAt d f .dimensions) 1) refl (r .right .bound) (r .some-bits))
+        refer-says f (R.one a) r (go (i .0) (i .1) (named f (r .known-here) (r .worked)) h k (eqb (facilityAt d f .dimensions) 1) refl (r .right .bound))
       where
         go : {m : ℕ} → a < n → Long d known expression a m → Long d known facility f (wordLength (facilityAt d f)) → 1 ≤ facilityAt d f .dimensions → facilityAt d f .dimensions ≤ 2
             → (t : Bool) → eqb (facilityAt d f .dimensions) 1 ≡ t → cond t (subscriptFaults d p terminals (facilityAt d f .bits) a) (subscriptFaults d p terminals (facilityAt d f .words) a) ≡ []
-            → 1 ≤ cond t 1 (wordLength (facilityAt d f)) → cond t 1 (wordLength (facilityAt d f)) ≤ mostBits → Long d known expression n (cond t 1 (wordLength (facilityAt d f)))
-        go h i l j k true t b s m = H.bit q h (eqb-true _ 1 t) l i (subscript-so _ a b)
-        go h i l j k false t b s m =
+            → cond t 1 (wordLength (facilityAt d f)) ≤ mostBits → Long d known expression n (cond t 1 (wordLength (facilityAt d f)))
+        go h i l j k true t b m = H.bit q h (eqb-true _ 1 t) l i (subscript-so _ a b)
+        go h i l j k false t b m =
             let z : facilityAt d f .dimensions ≡ 1 → ⊥ = eqb-false _ 1 t in
-            H.word q h (omega arith) l i (subscript-so _ a b) s m
+            H.word q h (omega arith) l i (subscript-so _ a b) m
 
     part-says : (f : ℕ) (x : Bounds) → nodeAt d n ≡ D.part f x → {w : Worth}
         → judgeNode d p terminals known ev (nodePlace p n) (D.part f x) ≡ fine w → Says n w

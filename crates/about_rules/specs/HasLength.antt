@@ -111,15 +111,18 @@ pub data Long (d : Description) : ℕ → Notion → ℕ → ℕ → Type 0 wher
   reduced : {known n k a l : ℕ} → Logical k → Prefix d n k a → Long d known expression a l → Long d known expression n 1
   -- "but (+) RED gives the number of one bits, as a 16-bit value"
   counted : {known n a l : ℕ} → Prefix d n sumSign a → Long d known expression a l → Long d known expression n countBits
-  -- "IF takes 1 bit" for its two arms; "CASE takes up to 6 bits and exactly 2-to-the-length arms"
-  choice : {known n e a l m : ℕ} → nodeAt d n ≡ D.choice e a (2 ^ l) → e < n → a < n → Long d known expression e l → l ≤ mostCaseBits
+  -- "IF takes 1 bit", and has two arms in an expression
+  if-else : {known n e a m : ℕ} → nodeAt d n ≡ D.choice e a 2 → e < n → a < n → Long d known expression e 1
+      → Long d known (arms 2) a m → Long d known expression n m
+  -- "CASE takes up to 6 bits and exactly 2-to-the-length arms"
+  case : {known n e a l m : ℕ} → nodeAt d n ≡ D.choice e a (2 ^ l) → e < n → a < n → Long d known expression e l → l ≤ mostCaseBits
       → Long d known (arms (2 ^ l)) a m → Long d known expression n m
   -- "the arms of a conditional expression are equally long"
   first : {known n e l : ℕ} → nodeAt d n ≡ D.firstArm e → e < n → Long d known expression e l → Long d known (arms 1) n l
   next : {known n a e c l : ℕ} → nodeAt d n ≡ D.nextArm a e → a < n → e < n → Long d known (arms c) a l → Long d known expression e l → Long d known (arms (c + 1)) n l
   -- "a whole facility of at most one dimension"
   whole : {known n f l : ℕ} → nodeAt d n ≡ D.whole f → facilityAt d f .dimensions ≤ 1 → Long d known facility f l
-      → 1 ≤ l → l ≤ mostBits → Long d known expression n l
+      → l ≤ mostBits → Long d known expression n l
   -- "one bit X[e]"
   bit : {known n f e l m : ℕ} → nodeAt d n ≡ D.one f e → e < n → facilityAt d f .dimensions ≡ 1 → Long d known facility f l
       → Long d known expression e m → Subscript d (facilityAt d f .bits) e → Long d known expression n 1
@@ -128,7 +131,7 @@ pub data Long (d : Description) : ℕ → Notion → ℕ → ℕ → Type 0 wher
       → Part (facilityAt d f .bits) x m → m ≤ mostBits → Long d known expression n m
   -- "of two dimensions a word R[e]"
   word : {known n f e l m : ℕ} → nodeAt d n ≡ D.one f e → e < n → facilityAt d f .dimensions ≡ 2 → Long d known facility f l
-      → Long d known expression e m → Subscript d (facilityAt d f .words) e → 1 ≤ l → l ≤ mostBits → Long d known expression n l
+      → Long d known expression e m → Subscript d (facilityAt d f .words) e → l ≤ mostBits → Long d known expression n l
   -- "a bit R[e,e]"
   word-bit : {known n f e g l m o : ℕ} → nodeAt d n ≡ D.two f e g → e < n → g < n → facilityAt d f .dimensions ≡ 2 → Long d known facility f l
       → Long d known expression e m → Subscript d (facilityAt d f .words) e

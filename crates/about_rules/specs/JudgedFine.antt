@@ -6,7 +6,7 @@ use native.Mathlib.Omega.{arith}
 use Prim.Native.Nat.{ℕ, _+_, _≤_, _<_}
 use borrow.Author.Tests.{eq-eqb, le-leb, lt-ltb, ne-eqb}
 use Rattle.language.specs.Description.{Description, Facility, NodePlaces, Places, facilityAt}
-use Rattle.language.specs.Judging.{Judged, Worth, armList, both, faultsOf, fine, given, givenBoth, orFaulty, proper, sized, unless, worth}
+use Rattle.language.specs.Judging.{Judged, Worth, armList, faultsOf, fine, given, givenBoth, orFaulty, proper, sized, unless, worth}
 use Rattle.language.specs.ReferenceRules.{boundFaults, computedWork, countedRight, directionFaults, referenceJudged, subscriptsJudged}
 use Rattle.language.specs.References.{Reference, rightCount, takenLength}
 use Rattle.language.specs.declared.refusals.Refusal.{Refusal}
@@ -39,9 +39,6 @@ none-unless b p r e = rw e
 
 pub none-append : (xs ys : List Fault) → xs ≡ [] → ys ≡ [] → xs ++ ys ≡ []
 none-append xs ys e h = rw (e, h)
-
-pub both-so : (a b : Bool) → a ≡ true → b ≡ true → both a b ≡ true
-both-so a b e h = rw (e, h)
 
 -- ---- References.
 

@@ -51,6 +51,12 @@ sample = record {
       ∷ D.choice 10 21 2
       ∷ D.binary plus 0 30
       ∷ D.whole 1
+      ∷ D.constant (value 2 1)
+      ∷ D.firstArm 0
+      ∷ D.nextArm 26 1
+      ∷ D.nextArm 27 0
+      ∷ D.nextArm 28 1
+      ∷ D.choice 25 29 4
       ∷ [];
   actions = [];
   states = [];
@@ -70,7 +76,7 @@ m-named = H.stored {known = 3} {f = 1} (omega arith) refl
 
 a-4 : (k : ℕ) → HasLength sample (suc k) 0 4
 unfolding facilityAt nodeAt
-a-4 k = H.whole {f = 0} refl (omega arith) (a-named k) (omega arith) (omega arith)
+a-4 k = H.whole {f = 0} refl (omega arith) (a-named k) (omega arith)
 
 nine-4 : {known : ℕ} → HasLength sample known 1 4
 unfolding nodeAt
@@ -86,7 +92,7 @@ t-named = H.computed {known = 3} {f = 2} (omega arith) refl sum-5
 
 t-5 : Has 3 5
 unfolding facilityAt nodeAt
-t-5 = H.whole {f = 2} refl (omega arith) t-named (omega arith) (omega arith)
+t-5 = H.whole {f = 2} refl (omega arith) t-named (omega arith)
 
 -- M[3] is a word of eight bits, M[3,5:2] four of them.
 three-16 : Has 4 16
@@ -99,7 +105,7 @@ three-in v e = let z : v ≡ value 16 3 = cc in rw z (H.Within.rising (omega ari
 
 word-8 : Has 5 8
 unfolding facilityAt nodeAt
-word-8 = H.word {n = 5} {f = 1} {e = 4} refl (omega arith) refl m-named three-16 three-in (omega arith) (omega arith)
+word-8 = H.word {n = 5} {f = 1} {e = 4} refl (omega arith) refl m-named three-16 three-in (omega arith)
 
 word-part-4 : Has 6 4
 unfolding facilityAt nodeAt
@@ -126,8 +132,17 @@ less-1 = H.relation {n = 10} {a = 7} {b = 4} H.less (refl, omega arith, omega ar
 if-4 : Has 13 4
 unfolding nodeAt
 if-4 =
-    H.choice {n = 13} {e = 10} {a = 12} {l = 1} refl (omega arith) (omega arith) less-1 (omega arith)
+    H.if-else {n = 13} {e = 10} {a = 12} refl (omega arith) (omega arith) less-1
     (H.next {n = 12} {a = 11} {e = 1} {c = 1} refl (omega arith) (omega arith) (H.first {n = 11} {e = 0} refl (omega arith) (a-4 2)) nine-4)
+
+-- CASE takes two bits for four arms.
+case-4 : Has 30 4
+unfolding nodeAt
+case-4 =
+    H.case {n = 30} {e = 25} {a = 29} {l = 2} refl (omega arith) (omega arith) (H.constant {v = value 2 1} refl (omega arith) (omega arith)) (omega arith)
+    (H.next {n = 29} {a = 28} {e = 1} {c = 3} refl (omega arith) (omega arith)
+    (H.next {n = 28} {a = 27} {e = 0} {c = 2} refl (omega arith) (omega arith)
+    (H.next {n = 27} {a = 26} {e = 1} {c = 1} refl (omega arith) (omega arith) (H.first {n = 26} {e = 0} refl (omega arith) (a-4 2)) nine-4) (a-4 2)) nine-4)
 
 -- HEAD may take all of its operand.
 head-16 : Has 14 16

@@ -25,7 +25,7 @@ module _ (d : Description) (p : Places) (known n : ℕ) where
   pub has-length : (l : ℕ) → HasLength d known n l ↔ JudgedLong l
   has-length l = (λ h. judged-long h, λ j. fine-long (j .1))
 
-worth-same : {v w : Worth} → fine v ≡ fine w → v ≡ w
+pub worth-same : {v w : Worth} → fine v ≡ fine w → v ≡ w
 worth-same e = cc
 
 -- A record has one length.

@@ -1,4 +1,4 @@
--- What a legal text gives is in legal form. Read LegalTexts; the rest leads to it.
+-- What a legal text gives is in legal form: read LegalTexts. The rules of lengths agree with 01's sentences: read HasLength and ActionsRight, then LengthsJudged, ActionsJudged and LengthsWhole. The rest leads to these.
 
 -- ---- Faults come and go whatever their places.
 pub mod Alike
@@ -12,6 +12,14 @@ pub mod LongIsFine
 pub mod FineIsLong
 pub mod LengthsJudged
 pub mod LengthExamples
+-- ---- Which lists of actions keep the rules, by a relation of its own.
+pub mod ActionsRight
+pub mod LeftSides
+pub mod RightIsFine
+pub mod FineIsRight
+pub mod ActionsJudged
+pub mod LengthsWhole
+pub mod ActionExamples
 -- ---- What the grammar and the words give a tree.
 pub mod Tidy
 pub mod TidyTexts

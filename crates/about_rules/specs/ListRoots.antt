@@ -14,7 +14,7 @@ use Rattle.language.specs.Describe.{actionsIn, actionsOf, armsIn, expressionSiz
 use Rattle.language.specs.Description as D
 use Rattle.language.specs.Description.{Action, Description, Places, actionAt, actionPlace, nodePlace}
 use Rattle.language.specs.Expressions.{judgeAt, selects}
-use Rattle.language.specs.Judging.{Judged, Worth, both, fine, givenBoth, refuse, worth}
+use Rattle.language.specs.Judging.{Judged, Worth, fine, givenBoth, refuse, worth}
 use Rattle.language.specs.Naming.{Meaning, Scope, facility, meaning, ofOperation, ofState, operation, state, unknown}
 use Rattle.language.specs.Order.{actionRoots, runRoots, treesEnd}
 use Rattle.language.specs.Recursion.{below-lt}
@@ -29,6 +29,7 @@ use Rattle.about_rules.specs.Starts.{Stand, some-records, stand-left, st
 use Rattle.about_rules.specs.Tidy.{ActionsTidy, ExpressionTidy, LeftTidy, ReferenceTidy}
 use Rattle.about_rules.specs.Trees.{expression-starts}
 use Rattle.about_running.specs.Judged.{both-fine, faulty-fine, given-fine, proper-fine}
+use Rattle.language.specs.Tests.{both}
 
 module _ (d : Description) (p : Places) (s : Scope) (inState : Bool) (works : ℕ → Judged) where
   abbrev pub judged : ℕ → ℕ → Shape → Judged

@@ -2,7 +2,7 @@
 use mathlib.Core.Bool.{true, false}
 use mathlib.Core.List.{[]}
 use mathlib.Core.Option.{some}
-use mathlib.Core.Path.{_≡_, refl, _∙_}
+use mathlib.Core.Path.{_≡_, refl, subst, _∙_}
 use native.Mathlib.Nat.{mul-pos}
 use native.Mathlib.Numerals.{add-one}
 use native.Mathlib.Omega.{arith}
@@ -22,14 +22,21 @@ use Rattle.language.specs.References.{Subscripts, rightCount, takenLength}
 use Rattle.language.specs.declared.refusals.Refusal.the-variants.{BadName}
 use Rattle.language.specs.Value.{Value, complementLength, countLength, cutLength, differenceLength, joinLength, logicalLength, longest, negationLength, reductionLength, relationLength, repeatLength, sumLength}
 use Rattle.language.specs.Words.{Position}
+use Rattle.about_running.specs.PlaceFound.{some-length}
+use Rattle.about_rules.specs.Declared.{both-so}
 use Rattle.about_rules.specs.HasLength as H
 use Rattle.about_rules.specs.HasLength.{Binary, Cut, Logical, Long, Notion, Part, Prefix, Relational, Subscript, Substring, arms, expression, facility, mostBits, mostCaseBits}
-use Rattle.about_rules.specs.JudgedFine.{Sound, both-so, fine-arms, fine-both, fine-given, fine-proper, fine-reference, fine-sized, none-append, none-unless}
+use Rattle.about_rules.specs.JudgedFine.{Sound, fine-arms, fine-both, fine-given, fine-proper, fine-reference, fine-sized, none-append, none-unless}
 use Rattle.about_rules.specs.WithinBounds.{part-tested, within-in}
 
 pub most-bits : longest ≡ mostBits
 unfolding longest
 most-bits = refl
+
+-- A conditional of as many arms as its condition selects.
+pub selects-so : (l : ℕ) → l ≤ mostCaseBits → selects l (2 ^ l) ≡ true
+unfolding selects longestSelector
+selects-so l h = both-so (le-leb l longestSelector h) (eq-eqb (2 ^ l) (2 ^ l) refl)
 
 module _ (d : Description) (p : Places) where
   -- The record n, judged where the first `known` facilities may be named.
@@ -113,11 +120,6 @@ module _ (d : Description) (p : Places) where
           same = rw (e .0) (fine-given _ (λ v. sized (nodePlace p n .at) (cutLengthOf k (v .length) c) (ownWork + v .work)) (part-fine _ (e .1) i) (rw o (sized-fine _ r _ h m)));
         }
 
-    -- A conditional of as many arms as its condition selects.
-    selects-so : (l : ℕ) → l ≤ mostCaseBits → selects l (2 ^ l) ≡ true
-    unfolding selects longestSelector
-    selects-so l h = both-so _ _ (le-leb l longestSelector h) (eq-eqb (2 ^ l) (2 ^ l) refl)
-
     choice-fine : {e a l m : ℕ} → nodeAt d n ≡ D.choice e a (2 ^ l) → e < n → a < n → l ≤ mostCaseBits → Judges known e 0 l → Judges known a (2 ^ l) m → Judges known n 0 m
     unfolding judgeAt judgeNode
     choice-fine {l = l} {m = m} e h k s i j =
@@ -126,7 +128,7 @@ module _ (d : Description) (p : Places) where
           most = j .most;
           work = ownWork + i .work + j .work;
           same = rw e (fine-both _ _ (choiceJudged d p (terminalBelow d p known) known (nodePlace p n .at) (2 ^ l)) (part-fine _ h i) (arms-fine _ k (pow-pos l) j)
-              (rw (both-so _ _ (selects-so l s) (eq-eqb (2 ^ l) (2 ^ l) refl)) (sized-fine _ m _ (j .some) (j .most))));
+              (rw (both-so (selects-so l s) (eq-eqb (2 ^ l) (2 ^ l) refl)) (sized-fine _ m _ (j .some) (j .most))));
         }
 
     first-fine : {e l : ℕ} → nodeAt d n ≡ D.firstArm e → e < n → Judges known e 0 l → Judges known n 1 l
@@ -189,9 +191,9 @@ module _ (d : Description) (p : Places) where
     ends-clean : (b x : Bounds) {l : ℕ} → Part b x l → endFaults d p terminals b x at ≡ []
     ends-clean b x h = let t = part-tested b x h in none-append _ _ (none-unless _ _ _ (t .first-in)) (none-unless _ _ _ (t .last-in))
 
-    whole-fine : {f l : ℕ} → nodeAt d n ≡ D.whole f → facilityAt d f .dimensions ≤ 1 → Named known f l → 1 ≤ l → l ≤ mostBits → Judges known n 0 l
+    whole-fine : {f l : ℕ} → nodeAt d n ≡ D.whole f → facilityAt d f .dimensions ≤ 1 → Named known f l → l ≤ mostBits → Judges known n 0 l
     unfolding judgeAt judgeNode rightCount takenLength subscriptsJudged boundFaults directionFaults
-    whole-fine {f} e h i s m =
+    whole-fine {f} e h i m =
         reference-fine f R.whole (rw e) (record {
           known-here = i .known-here;
           count = le-leb _ 1 h;
@@ -200,7 +202,7 @@ module _ (d : Description) (p : Places) where
           direction = refl;
           terminal = i .same;
           taken = i .length;
-          some = s;
+          some = subst (λ (k : ℕ). 1 ≤ k) (i .length) (some-length (facilityAt d f));
           most = rw most-bits m;
         })
 
@@ -210,7 +212,7 @@ module _ (d : Description) (p : Places) where
     bit-fine {f} {e} q h k i j b =
         reference-fine f (R.one e) (rw q) (record {
           known-here = i .known-here;
-          count = both-so _ _ (le-leb 1 (facilityAt d f .dimensions) (omega arith)) (le-leb (facilityAt d f .dimensions) 2 (omega arith));
+          count = both-so (le-leb 1 (facilityAt d f .dimensions) (omega arith)) (le-leb (facilityAt d f .dimensions) 2 (omega arith));
           worked = part-fine _ h j;
           bound = rw (eq-eqb _ 1 k) (subscript-clean _ e b);
           direction = refl;
@@ -221,18 +223,18 @@ module _ (d : Description) (p : Places) where
         })
 
     word-fine : {f e l m : ℕ} → nodeAt d n ≡ D.one f e → e < n → facilityAt d f .dimensions ≡ 2 → Named known f l → Judges known e 0 m
-        → Subscript d (facilityAt d f .words) e → 1 ≤ l → l ≤ mostBits → Judges known n 0 l
+        → Subscript d (facilityAt d f .words) e → l ≤ mostBits → Judges known n 0 l
     unfolding judgeAt judgeNode rightCount takenLength subscriptsJudged boundFaults directionFaults
-    word-fine {f} {e} q h k i j b s m =
+    word-fine {f} {e} q h k i j b m =
         reference-fine f (R.one e) (rw q) (record {
           known-here = i .known-here;
-          count = both-so _ _ (le-leb 1 (facilityAt d f .dimensions) (omega arith)) (le-leb (facilityAt d f .dimensions) 2 (omega arith));
+          count = both-so (le-leb 1 (facilityAt d f .dimensions) (omega arith)) (le-leb (facilityAt d f .dimensions) 2 (omega arith));
           worked = part-fine _ h j;
           bound = rw (ne-eqb (facilityAt d f .dimensions) 1 (λ z. omega arith)) (subscript-clean _ e b);
           direction = refl;
           terminal = i .same;
           taken = rw (ne-eqb (facilityAt d f .dimensions) 1 (λ z. omega arith)) (i .length);
-          some = s;
+          some = subst (λ (k : ℕ). 1 ≤ k) (i .length) (some-length (facilityAt d f));
           most = rw most-bits m;
         })
 
@@ -343,13 +345,14 @@ module _ (d : Description) (p : Places) where
   long-is-fine {known} {n} (H.substring r e a h m) = let i = long-is-fine a in cut-fine known n _ _ e i (substring-length r _ _ m) h (omega (arith, i .most))
   long-is-fine {known} {n} (H.reduced r e a) = prefix-fine known n _ e (long-is-fine a) (reduced-length r _) (omega arith) (omega arith)
   long-is-fine {known} {n} (H.counted e a) = prefix-fine known n _ e (long-is-fine a) refl (omega arith) (omega arith)
-  long-is-fine {known} {n} (H.choice q h k e m a) = choice-fine known n q h k m (long-is-fine e) (long-is-fine a .1)
+  long-is-fine {known} {n} (H.if-else q h k e a) = choice-fine known n {l = 1} q h k (omega arith) (long-is-fine e) (long-is-fine a .1)
+  long-is-fine {known} {n} (H.case q h k e m a) = choice-fine known n q h k m (long-is-fine e) (long-is-fine a .1)
   long-is-fine {known} {n} (H.first q h e) = (omega arith, first-fine known n q h (long-is-fine e))
   long-is-fine {known} {n} (H.next q h k a e) = let i = long-is-fine a in (omega arith, next-fine known n q h k (i .0) (i .1) (long-is-fine e))
-  long-is-fine {known} {n} (H.whole q h f s m) = whole-fine known n q h (long-is-fine f) s m
+  long-is-fine {known} {n} (H.whole q h f m) = whole-fine known n q h (long-is-fine f) m
   long-is-fine {known} {n} (H.bit q h k f e b) = bit-fine known n q h k (long-is-fine f) (long-is-fine e) b
   long-is-fine {known} {n} (H.part q k f x m) = part-of-fine known n q k (long-is-fine f) x m
-  long-is-fine {known} {n} (H.word q h k f e b s m) = word-fine known n q h k (long-is-fine f) (long-is-fine e) b s m
+  long-is-fine {known} {n} (H.word q h k f e b m) = word-fine known n q h k (long-is-fine f) (long-is-fine e) b m
   long-is-fine {known} {n} (H.word-bit q h h′ k f e b g c) = word-bit-fine known n q h h′ k (long-is-fine f) (long-is-fine e) b (long-is-fine g) c
   long-is-fine {known} {n} (H.word-part q h k f e b x m) = word-part-fine known n q h k (long-is-fine f) (long-is-fine e) b x m
   long-is-fine {known} {n} (H.stored h c) = stored-fine known n h c

@@ -15,7 +15,7 @@ use Rattle.language.specs.Description as D
 use Rattle.language.specs.Description.{Description, Node, Places, actionAt, nodeAt}
 use Rattle.language.specs.Expressions as E
 use Rattle.language.specs.Expressions.{leftAt, terminalBelow}
-use Rattle.language.specs.Judging.{Judged, Worth, both, fine}
+use Rattle.language.specs.Judging.{Judged, Worth, fine}
 use Rattle.language.specs.Naming.{Meaning, Scope, facility, meaning, ofFacility, operation, state, unknown}
 use Rattle.language.specs.Order.{actionRoots, ending, runRoots, startAt, startNode, treesEnd}
 use Rattle.language.specs.References as R
@@ -28,6 +28,7 @@ use Rattle.about_rules.specs.Tidy.{ReferenceTidy}
 use Rattle.about_rules.specs.Trees as Y
 use Rattle.about_rules.specs.Trees.{expression-starts, leaf-start, reference-one, reference-two, reference-word-part, root-one, root-two, subscripts-fine}
 use Rattle.about_running.specs.Judged.{faulty-fine}
+use Rattle.language.specs.Tests.{both}
 
 module _ (d : Description) where
   -- ---- Trees that follow each other.

@@ -13,7 +13,6 @@ use Rattle.language.specs.Describe as B
 use Rattle.language.specs.Describe.{Noted, constantNodes, constantSize, digitsAbove, expressionSize, lastOf}
 use Rattle.language.specs.Description as D
 use Rattle.language.specs.Description.{Description, Node, digitLength, furtherDigits, nodeAt}
-use Rattle.language.specs.Judging.{both}
 use Rattle.language.specs.Order.{constantStart, digitsStand, isDigit48, justBefore, startAt, startBelow, startNode, twoBefore}
 use Rattle.language.specs.Tree as T
 use Rattle.language.specs.Tree.{Expression}
@@ -22,6 +21,7 @@ use Rattle.language.specs.Words.{Position}
 use Rattle.about_running.specs.LegalForm.{left-of, right-of}
 use Rattle.about_rules.specs.Declared.{both-so}
 use Rattle.about_running.specs.Starts.{start-lt}
+use Rattle.language.specs.Tests.{both}
 
 pub some-records : (e : Expression) → 0 < expressionSize e
 unfolding expressionSize constantSize

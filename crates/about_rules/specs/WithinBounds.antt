@@ -7,35 +7,22 @@ use borrow.Author.Tests.{le-leb, leb-false, leb-true}
 use lib.Dec.{leb}
 use Rattle.language.specs.Description.{Bounds, inBounds, spanOf}
 use Rattle.language.specs.References.{sameDirection}
+use Rattle.about_running.specs.InBounds.{Between, between}
 use Rattle.about_rules.specs.HasLength.{Part, Within}
 
-no : {A : Type 0} → false ≡ true → A
-no e = absurd (let z : _≡_ {A = ℕ} 0 1 = cc in omega arith)
-
 -- A test of a ≤ c ≤ b.
-between : (a c b : ℕ) → a ≤ c → c ≤ b → cond (leb a c) (leb c b) false ≡ true
-between a c b h k = rw (le-leb a c h, le-leb c b k)
-
-pub record Between (a c b : ℕ) : Type 0 where
-  pub low : a ≤ c
-  pub high : c ≤ b
-
-between-so : (a c b : ℕ) → cond (leb a c) (leb c b) false ≡ true → Between a c b
-between-so a c b e = go (leb a c) refl e
-  where
-    go : (t : Bool) → leb a c ≡ t → cond t (leb c b) false ≡ true → Between a c b
-    go true q k = record { low = leb-true a c q; high = leb-true c b k }
-    go false q k = no k
+so-between : (a c b : ℕ) → a ≤ c → c ≤ b → cond (leb a c) (leb c b) false ≡ true
+so-between a c b h k = rw (le-leb a c h, le-leb c b k)
 
 pub within-in : (b : Bounds) (c : ℕ) → Within b c → inBounds b c ≡ true
 unfolding inBounds
-within-in b c (Within.rising h k) = let r : b .first ≤ b .last = omega arith in rw (le-leb _ _ r) (between _ c _ h k)
+within-in b c (Within.rising h k) = let r : b .first ≤ b .last = omega arith in rw (le-leb _ _ r) (so-between _ c _ h k)
 within-in b c (Within.falling h k) = go (leb (b .first) (b .last)) refl
   where
     go : (t : Bool) → leb (b .first) (b .last) ≡ t
         → cond t (cond (leb (b .first) c) (leb c (b .last)) false) (cond (leb (b .last) c) (leb c (b .first)) false) ≡ true
-    go true q = let r : b .first ≤ b .last = leb-true _ _ q in between _ c _ (omega arith) (omega arith)
-    go false q = between _ c _ h k
+    go true q = let r : b .first ≤ b .last = leb-true _ _ q in so-between _ c _ (omega arith) (omega arith)
+    go false q = so-between _ c _ h k
 
 pub in-within : (b : Bounds) (c : ℕ) → inBounds b c ≡ true → Within b c
 unfolding inBounds
@@ -43,8 +30,8 @@ in-within b c e = go (leb (b .first) (b .last)) refl e
   where
     go : (t : Bool) → leb (b .first) (b .last) ≡ t
         → cond t (cond (leb (b .first) c) (leb c (b .last)) false) (cond (leb (b .last) c) (leb c (b .first)) false) ≡ true → Within b c
-    go true q k = let r = between-so (b .first) c (b .last) k in Within.rising (r .low) (r .high)
-    go false q k = let r = between-so (b .last) c (b .first) k in Within.falling (r .low) (r .high)
+    go true q k = let r = between (b .first) c (b .last) (leb (b .first) c) refl k in Within.rising (r .low) (r .high)
+    go false q k = let r = between (b .last) c (b .first) (leb (b .last) c) refl k in Within.falling (r .low) (r .high)
 
 -- How judging sees a part of l bits.
 pub record Tested (b x : Bounds) (l : ℕ) : Type 0 where

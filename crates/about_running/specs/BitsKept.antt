@@ -124,7 +124,7 @@ module _ (d : Description) (f w k : ℕ) where
       go true q true r true t false u = here (eqb-true _ _ q) (eqb-true _ _ r) (replaced-above (wordOf s (p .facility) (p .word)) (lowOf d p) (p .count) (x .number) k (ltb-false _ _ u))
       go true q true r true t true u = absurd (h (record { facility-so = eqb-true _ _ q; word-so = eqb-true _ _ r; from-low = leb-true _ _ t; below-high = ltb-true _ _ u }))
 
-  puts-keep : (s : Words) (xs : List Write) → NoneHas d f w k xs → bitOf (wordOf (putParts d s xs) f w) k ≡ bitOf (wordOf s f w) k
+  pub puts-keep : (s : Words) (xs : List Write) → NoneHas d f w k xs → bitOf (wordOf (putParts d s xs) f w) k ≡ bitOf (wordOf s f w) k
   unfolding putParts
   puts-keep s [] h = refl
   puts-keep s (x ∷ xs) h = puts-keep (putPart d s x) xs (h .1) ∙ put-keeps s x (h .0)

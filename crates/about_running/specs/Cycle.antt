@@ -39,7 +39,7 @@ pub zeros-length : (n : ℕ) → length {A = ℕ} (replicate n 0) ≡ n
 zeros-length zero = refl
 zeros-length (suc n) = ap suc (zeros-length n)
 
-plain-row : (f : Facility) → f .kind ≡ plain → Row f (replicate (wordCount f) 0)
+pub plain-row : (f : Facility) → f .kind ≡ plain → Row f (replicate (wordCount f) 0)
 unfolding stored
 plain-row f q = record { count = zeros-length (wordCount f) ∙ rw q refl; small = zeros-below (wordCount f) (wordLength f) }
 

@@ -12,7 +12,7 @@ use lib.Pow.{pow-pos}
 use Rattle.language.specs.Description as D
 use Rattle.language.specs.Description.{Description, Facility, Node, NodePlaces, Places, facilityAt, isComputed, nodeAt, nodePlace, wordLength}
 use Rattle.language.specs.Expressions.{choiceJudged, evenly, judgeAt, judgeBelow, judgeNode, judgeStep, longestSelector, notBefore, operandAt, ownWork, properAt, selects}
-use Rattle.language.specs.Judging.{Judged, Worth, armList, both, fine, proper, refuse, sized, worth}
+use Rattle.language.specs.Judging.{Judged, Worth, armList, fine, proper, refuse, sized, worth}
 use Rattle.language.specs.Meaning as M
 use Rattle.language.specs.Meaning.{Answer, Located, Place, Stores, Stuck, after, armBack, armNumber, armWorth, chosen, evalAt, evalBelow, evalNode, evalStep, is, operand, partOfValue, read, stops, worthOr, wrongCount, wrongLength}
 use Rattle.language.specs.Operators.{binaryLength, binaryOf, cutLengthOf, cutOf, prefixLength, prefixOf}
@@ -29,6 +29,7 @@ use Rattle.about_running.specs.Gives.{Gives, Normal, after-gives, fits-g
 use Rattle.about_running.specs.Judged.{arms-fine, both-fine, faulty-fine, given-fine, proper-fine, sized-fine}
 use Rattle.about_running.specs.Operators.{Fits, binary-fits, cut-fits, prefix-fits}
 use Rattle.about_running.specs.Starts.{constant-fits, none-some, one-before, start-le, two-parts}
+use Rattle.language.specs.Tests.{both}
 
 -- Computed terminals that may be named: judged fine, of their declared length, and worked out without getting stuck; their records stand before `base`.
 pub record Terminal {X : Type 0} (S : Stores X) (d : Description) (x : X) (base f : ℕ) (w : Worth) : Type 0 where

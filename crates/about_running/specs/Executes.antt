@@ -16,7 +16,7 @@ use Rattle.language.specs.ActionRules.{kindAt, simpleJudged}
 use Rattle.language.specs.Description as D
 use Rattle.language.specs.Description.{Action, Description, Node, Places, facilityAt, nodeAt, nodePlace, stateAt, wordCount, wordLength}
 use Rattle.language.specs.Expressions.{expressionAt, judgeAt, judgeBelow, leftAt, leftOf, ownWork, terminalBelow}
-use Rattle.language.specs.Judging.{Judged, Worth, both, faulty, fine, refuse, unless, worth}
+use Rattle.language.specs.Judging.{Judged, Worth, faulty, fine, refuse, unless, worth}
 use Rattle.language.specs.Kinds.{delayedSign, equalSign}
 use Rattle.language.specs.Meaning.{Answer, Located, Place, Stores, Write, evalAt, evalBelow, is, stops}
 use Rattle.language.specs.Order.{justBefore, startAt, startBelow, startNode}
@@ -35,6 +35,7 @@ use Rattle.about_running.specs.Finds.{Each, Finds, finds, outside, refer
 use Rattle.about_running.specs.Gives.{Gives, gives, stopped}
 use Rattle.about_running.specs.Judged.{append-none-left, append-none-right, both-fine, clean-fine, faulty-fine, given-fine, proper-fine, unless-none}
 use Rattle.about_running.specs.Starts.{one-before, two-parts}
+use Rattle.language.specs.Tests.{both}
 
 -- A part of a word that is there, in a facility that a store of sign k may change.
 pub record There (d : Description) (q : Place) : Type 0 where

@@ -14,7 +14,7 @@ use Rattle.language.specs.ActionRules.{Shape, actions, arms, simpleJudged}
 use Rattle.language.specs.Description as D
 use Rattle.language.specs.Description.{Action, Description, Places, Run, actionAt, actionPlace, operationAt}
 use Rattle.language.specs.Expressions.{ownWork, selects}
-use Rattle.language.specs.Judging.{Judged, Worth, both, fine, givenBoth, refuse, worth}
+use Rattle.language.specs.Judging.{Judged, Worth, fine, givenBoth, refuse, worth}
 use Rattle.language.specs.Meaning.{Stores, armNumber, evalAt, is, noOperation, runsOver}
 use Rattle.language.specs.Recursion.{below-ge, below-lt}
 use Rattle.language.specs.declared.refusals.Refusal.the-variants.{BadLength, NoContinuation}
@@ -22,6 +22,7 @@ use Rattle.language.specs.Words.{Position}
 use Rattle.about_running.specs.Judged.{both-fine, faulty-fine}
 use Rattle.about_running.specs.FewStores as F
 use Rattle.about_running.specs.FewStores.{Counts, carried, stopped-so, stuck-so}
+use Rattle.language.specs.Tests.{both}
 
 module _ {X : Type 0} (S : Stores X) (d : Description) (p : Places) (delayed : X → ℕ) (count : Counts S delayed) where
   abbrev pub Few : ℕ → Ran X → Type 0

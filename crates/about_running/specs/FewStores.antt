@@ -13,7 +13,7 @@ use Rattle.language.specs.ActionRules.{actions, simpleJudged}
 use Rattle.language.specs.Description as D
 use Rattle.language.specs.Description.{Action, Description, Places, facilityAt}
 use Rattle.language.specs.Expressions.{ownWork}
-use Rattle.language.specs.Judging.{Judged, Worth, both, fine, givenBoth, unless, worth}
+use Rattle.language.specs.Judging.{Judged, Worth, fine, givenBoth, unless, worth}
 use Rattle.language.specs.Kinds.{delayedSign}
 use Rattle.language.specs.Meaning.{Answer, Located, Place, Stores, Stuck, Write, evalAt, is, stops}
 use Rattle.language.specs.declared.refusals.Refusal.the-variants.{BadLength, BadStore}
@@ -22,6 +22,7 @@ use Rattle.language.specs.Storing.{isPlain, mayStore}
 use Rattle.language.specs.Value.{Value}
 use Rattle.language.specs.Words.{Position}
 use Rattle.about_running.specs.Judged.{both-fine, clean-fine, faulty-fine, given-fine}
+use Rattle.language.specs.Tests.{both}
 
 -- How many stores have been delayed.
 pub record Counts {X : Type 0} (S : Stores X) (delayed : X → ℕ) : Type 0 where

@@ -8,7 +8,7 @@ use borrow.Author.Tests.{eqb-false, eqb-true, le-leb, leb-true, ltb-true, eq-eqb
 use lib.Dec.{eqb, leb, ltb}
 use lib.ListN.{length}
 use Rattle.language.specs.Description.{Bounds, Description, Facility, NodePlaces, Places, facilityAt, fromFirst, inBounds, spanOf, wordCount, wordLength}
-use Rattle.language.specs.Judging.{Judged, Worth, both, faultsOf, fine, refuse, unless}
+use Rattle.language.specs.Judging.{Judged, Worth, faultsOf, fine, refuse, unless}
 use Rattle.language.specs.Meaning.{Answer, Located, is, located, narrow, partOf, place, placeOf, subscript}
 use Rattle.language.specs.ReferenceRules.{boundFaults, computedWork, countedRight, countedWrong, directionFaults, endFaults, referenceJudged, subscriptFaults, subscriptWorth, subscriptsJudged}
 use Rattle.language.specs.References.{Reference, Subscripts, one, part, rightCount, sameDirection, takenLength, two, whole, wordPart}
@@ -18,6 +18,7 @@ use Rattle.language.specs.Value.{longest}
 use Rattle.about_running.specs.Gives.{Gives, gives, stopped}
 use Rattle.about_running.specs.InBounds.{from-in, part-in}
 use Rattle.about_running.specs.Judged.{append-none-left, append-none-right, both-fine, clean-fine, faulty-fine, sized-fine, unless-none}
+use Rattle.language.specs.Tests.{both}
 
 -- A part of l bits within a word of facility f, whose number is n.
 pub data Finds (f : Facility) (n l : ℕ) : Located → Type 0 where

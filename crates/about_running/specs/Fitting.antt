@@ -41,7 +41,7 @@ abbrev pub AllBelow : ℕ → List ℕ → Type 0
 AllBelow b [] = Unit {0}
 AllBelow b (x ∷ xs) = (x < b) × AllBelow b xs
 
-below-at : (b : ℕ) (xs : List ℕ) (i : ℕ) → 0 < b → AllBelow b xs → getD xs i 0 < b
+pub below-at : (b : ℕ) (xs : List ℕ) (i : ℕ) → 0 < b → AllBelow b xs → getD xs i 0 < b
 below-at b [] i z h = z
 below-at b (x ∷ xs) zero z h = h .0
 below-at b (x ∷ xs) (suc i) z h = below-at b xs i z (h .1)

@@ -8,14 +8,14 @@ use lib.Dec.{leb}
 use Rattle.language.specs.Description.{Bounds, fromFirst, inBounds, spanOf}
 use Rattle.language.specs.References.{sameDirection}
 
-no : {A : Type 0} → false ≡ true → A
+pub no : {A : Type 0} → false ≡ true → A
 no e = absurd (let z : _≡_ {A = ℕ} 0 1 = cc in omega arith)
 
 pub record Between (lo n hi : ℕ) : Type 0 where
   pub low : lo ≤ n
   pub high : n ≤ hi
 
-between : (lo n hi : ℕ) (b : Bool) → leb lo n ≡ b → cond b (leb n hi) false ≡ true → Between lo n hi
+pub between : (lo n hi : ℕ) (b : Bool) → leb lo n ≡ b → cond b (leb n hi) false ≡ true → Between lo n hi
 between lo n hi true e h = record { low = leb-true lo n e; high = leb-true n hi h }
 between lo n hi false e h = no h
 

@@ -5,20 +5,18 @@ use mathlib.Core.Option.{Option, none, some}
 use mathlib.Core.Path.{_≡_, refl, sym, ap, _∙_}
 use native.Mathlib.Omega.{arith}
 use Prim.Native.Nat.{ℕ, zero, suc, _<_}
-use lib.Dec.{leb, ltb}
 use lib.ListN.{drop, getD, length}
 use Rattle.language.specs.Acting.{Doing, Ran, runActions, went}
 use Rattle.language.specs.Description.{Description, Facility, facilityAt, noFacility, sequencingOf, stateAt}
-use Rattle.language.specs.Meaning.{Stores, Write, noState}
-use Rattle.language.specs.Step.{Outcome, Record, afterActions, completed, entered, finished, landed, lastCycle, nextRecord, nothingDone, orStopped, setRegister, stateCount, stateNumber, step, stopAfter}
-use Rattle.language.specs.Store.{Held, Words, begin, begun, headOf, held, isInput, landAll, loadPart, numbers, putPart, wordOf, setWord}
+use Rattle.language.specs.Meaning.{Stores, Write}
+use Rattle.language.specs.Step.{Record, completed, nothingDone, setRegister, stateNumber, step}
+use Rattle.language.specs.Store.{Held, Words, begin, begun, headOf, held, isInput, landAll, loadPart, numbers, putPart, putParts, wordOf, setWord}
 use Rattle.language.specs.Tree.{Kind, computed, input, memory, plain, register, sequencing}
-use Rattle.about_running.specs.BitsKept.{NoneHas, NoneHasAny, bitOf, land-keeps, other-facility, put-keeps}
+use Rattle.about_running.specs.BitsKept.{NoneHas, NoneHasAny, bitOf, land-keeps, other-facility, puts-keep}
+use Rattle.about_running.specs.LandsLast.{Did, lands-last}
 use Rattle.about_running.specs.SameActions as Actions
-use Rattle.about_running.specs.SameActions.{Joins}
+use Rattle.about_running.specs.SameActions.{AllStored, Joins}
 use Rattle.about_running.specs.SameRuns.{Alike, actions-alike}
-use Rattle.language.specs.declared.stops.Stop.{Stop}
-use Rattle.language.specs.declared.stops.Stop.the-variants.{LastCycleReached}
 
 -- ---- A store that also notes every write carried out at once.
 
@@ -33,25 +31,61 @@ noting d = record {
   delay = λ x g. record { store = held (x .store .words) (x .store .waits ++ g ∷ []); writes = x .writes };
 }
 
-none-of : (d : Description) (f w k : ℕ) (xs ys : List Write) → NoneHas d f w k (xs ++ ys) → NoneHas d f w k xs × NoneHas d f w k ys
-none-of d f w k [] ys h = (tt, h)
-none-of d f w k (x ∷ xs) ys h = let y = none-of d f w k xs ys (h .1) in ((h .0, y .0), y .1)
+-- The writes of delayed stores, in the order in which they land.
+unfoldable pub joined : List (List Write) → List Write
+joined [] = []
+joined (g ∷ gs) = g ++ joined gs
+
+abbrev pub AllStoredIn : Description → List (List Write) → Type 0
+AllStoredIn d [] = Unit {0}
+AllStoredIn d (g ∷ gs) = AllStored d g × AllStoredIn d gs
+
+-- ---- Writes one after the other.
+
+module _ (d : Description) where
+  pub puts-append : (s : Words) (xs ys : List Write) → putParts d s (xs ++ ys) ≡ putParts d (putParts d s xs) ys
+  unfolding putParts
+  puts-append s [] ys = refl
+  puts-append s (x ∷ xs) ys = puts-append (putPart d s x) xs ys
+
+  -- To land is to put the writes one after the other.
+  pub land-puts : (s : Words) (gs : List (List Write)) → landAll d s gs ≡ putParts d s (joined gs)
+  unfolding landAll joined putParts
+  land-puts s [] = refl
+  land-puts s (g ∷ gs) = land-puts (putParts d s g) gs ∙ sym (puts-append s g (joined gs))
+
+  stored-append : (xs ys : List Write) → AllStored d xs → AllStored d ys → AllStored d (xs ++ ys)
+  stored-append [] ys h k = k
+  stored-append (x ∷ xs) ys h k = (h .0, stored-append xs ys (h .1) k)
+
+  more-stored : (gs : List (List Write)) (g : List Write) → AllStoredIn d gs → AllStored d g → AllStoredIn d (gs ++ g ∷ [])
+  more-stored [] g h k = (k, tt)
+  more-stored (x ∷ gs) g h k = (h .0, more-stored gs g (h .1) k)
 
 module _ (d : Description) (start : Words) where
-  -- The store is the one noted, and what no noted write has is as at the start.
-  record Stands (x : Held) (y : Noted) : Type 0 where
-    same : x ≡ y .store
-    rest : (f w k : ℕ) → NoneHas d f w k (y .writes) → bitOf (wordOf (y .store .words) f w) k ≡ bitOf (wordOf start f w) k
+  -- The store is the one noted; its words are those at the start with the noted writes put there; and every place written, or waiting to be, is in the store.
+  pub record Stands (x : Held) (y : Noted) : Type 0 where
+    pub same : x ≡ y .store
+    pub put-so : y .store .words ≡ putParts d start (y .writes)
+    pub once-stored : AllStored d (y .writes)
+    pub later-stored : AllStoredIn d (y .store .waits)
 
-  joins : Joins (numbers d) (noting d) d Stands
-  unfolding noting
+  pub joins : Joins (numbers d) (noting d) d Stands
+  unfolding noting putParts
   joins = record {
     loads = λ x y h p s. ap (λ (z : Held). loadPart d (z .words) p) (h .same);
     puts = λ x y w h s. record {
       same = ap (λ (z : Held). held (putPart d (z .words) w) (z .waits)) (h .same);
-      rest = λ f v k n. let o = none-of d f v k (y .writes) (w ∷ []) n in put-keeps d f v k (y .store .words) w (o .1 .0) ∙ h .rest f v k (o .0);
+      put-so = ap (λ (z : Words). putPart d z w) (h .put-so) ∙ sym (puts-append d start (y .writes) (w ∷ []));
+      once-stored = stored-append d (y .writes) (w ∷ []) (h .once-stored) (s, tt);
+      later-stored = h .later-stored;
     };
-    delays = λ x y ws h s. record { same = ap (λ (z : Held). held (z .words) (z .waits ++ ws ∷ [])) (h .same); rest = h .rest };
+    delays = λ x y ws h s. record {
+      same = ap (λ (z : Held). held (z .words) (z .waits ++ ws ∷ [])) (h .same);
+      put-so = h .put-so;
+      once-stored = h .once-stored;
+      later-stored = more-stored d (y .store .waits) ws (h .later-stored) s;
+    };
   }
 
 -- ---- The begin of a cycle.
@@ -98,50 +132,40 @@ module _ (d : Description) (s : Words) (r : Record) (ins : Words) where
   unfoldable pub executed : Ran Noted
   executed = runActions (noting d) d (stateAt d (r .state) .actions) first
 
-  abbrev run : Ran Held
-  run = runActions (numbers d) d (stateAt d (r .state) .actions) (nothingDone d begins)
-
-  alike : Alike (numbers d) (noting d) d (Stands d begins) (joins d begins) run executed
-  unfolding executed
+  pub alike : Alike (numbers d) (noting d) d (Stands d (begin (d .facilities) s ins)) (joins d (begin (d .facilities) s ins))
+      (runActions (numbers d) d (stateAt d (r .state) .actions) (nothingDone d (begin (d .facilities) s ins))) executed
+  unfolding executed putParts
   alike = actions-alike (numbers d) (noting d) d (Stands d begins) (joins d begins) (stateAt d (r .state) .actions) (nothingDone d begins) first
-      (record { stores = record { same = refl; rest = λ f w k h. refl }; gotos-same = refl; returns-same = refl; calls-same = refl; sequenced-same = refl })
+      (record { stores = record { same = refl; put-so = refl; once-stored = tt; later-stored = tt }; gotos-same = refl; returns-same = refl; calls-same = refl; sequenced-same = refl })
+
+  -- With every write noted the actions come to the same store.
+  pub noted-so : (e : Doing Held) (c : Doing Noted) → runActions (numbers d) d (stateAt d (r .state) .actions) (nothingDone d (begin (d .facilities) s ins)) ≡ went e → executed ≡ went c
+      → Stands d (begin (d .facilities) s ins) (e .store) (c .store)
+  noted-so e c p q = go (rw (p, q) at alike)
+    where
+      go : Alike (numbers d) (noting d) d (Stands d begins) (joins d begins) (went e) (went c) → Stands d begins (e .store) (c .store)
+      go (Actions.go-on h) = h .stores
 
   module _ (c : Doing Noted) (executed-so : executed ≡ went c) (t : Words) (q : Record) (n : ℕ) (completes : step d s r ins ≡ completed t q n) where
+    abbrev did : Did d s r ins t q n
+    did = lands-last d s r ins t q n completes
+
+    stands : Stands d begins (did .done .store) (c .store)
+    stands = noted-so (did .done) c (did .ran) executed-so
+
     module _ (f w k : ℕ) (inside : f < length (d .facilities)) (is-steady : steady (facilityAt d f .kind) ≡ true) (not-register : (g : ℕ) → sequencingOf d ≡ some g → f ≡ g → ⊥)
         (none-at-once : NoneHas d f w k (c .store .writes)) (none-later : NoneHasAny d f w k (c .store .store .waits)) where
-      set-keeps : (x v : Option ℕ) (u : Words) → sequencingOf d ≡ x → (e : Doing Held) → entered d r e (setRegister d x v u) ≡ completed t q n → wordOf t f w ≡ wordOf u f w
-      set-keeps none v u z e h = let y : u ≡ t = cc in rw y refl
-      set-keeps (some g) none u z e h = absurd (let y : _≡_ {A = ℕ} 0 1 = cc in omega arith)
-      set-keeps (some g) (some x) u z e h =
+      set-keeps : (x v : Option ℕ) (u : Words) → sequencingOf d ≡ x → setRegister d x v u ≡ some t → wordOf t f w ≡ wordOf u f w
+      set-keeps none v u z h = let y : u ≡ t = cc in rw y refl
+      set-keeps (some g) none u z h = absurd (let y : _≡_ {A = ℕ} 0 1 = cc in omega arith)
+      set-keeps (some g) (some x) u z h =
           let y : setWord u g 0 x ≡ t = cc in
           ap (λ (o : Words). wordOf o f w) (sym y) ∙ other-facility u f g w 0 x (not-register g z)
 
-      finish-keeps : (e : Doing Held) (x : Option Stop) → orStopped d r e x ≡ completed t q n → wordOf t f w ≡ wordOf (landed d r e) f w
-      finish-keeps e none h = set-keeps (sequencingOf d) (stateNumber d (nextRecord d r e .state)) (landed d r e) refl e h
-      finish-keeps e (some m) h = absurd (let y : _≡_ {A = ℕ} 0 1 = cc in omega arith)
-
-      after-keeps : (a : Ran Held) (b : Ran Noted) → Alike (numbers d) (noting d) d (Stands d begins) (joins d begins) a b → b ≡ went c → afterActions d r a ≡ completed t q n
-          → bitOf (wordOf t f w) k ≡ bitOf (wordOf begins f w) k
-      unfolding finished
-      after-keeps (went e) (went c′) (Actions.go-on z) y h =
-          let c-same : c′ ≡ c = cc in
-          let st : e .store ≡ c .store .store = z .stores .same ∙ ap (λ (o : Doing Noted). o .store .store) c-same in
-          let there : wordOf t f w ≡ wordOf (landed d r e) f w = finish-keeps e (stopAfter d r e) h in
-          let lands : bitOf (wordOf (landAll d (c .store .store .words) (c .store .store .waits)) f w) k ≡ bitOf (wordOf (c .store .store .words) f w) k = land-keeps d f w k (c .store .store .words) (c .store .store .waits) none-later in
-          let kept-before : bitOf (wordOf (c .store .store .words) f w) k ≡ bitOf (wordOf begins f w) k = (rw c-same at (z .stores .rest)) f w k none-at-once in
-          ap (λ (o : ℕ). bitOf o k) there ∙ (ap (λ (o : Held). bitOf (wordOf (landAll d (o .words) (o .waits)) f w) k) st ∙ (lands ∙ kept-before))
-      after-keeps (Ran.stopped m) b z y h = absurd (let o : _≡_ {A = ℕ} 0 1 = cc in omega arith)
-      after-keeps (Ran.stuck m) b z y h = absurd (let o : _≡_ {A = ℕ} 0 1 = cc in omega arith)
-
-      ran-so : afterActions d r run ≡ completed t q n
-      unfolding step
-      ran-so = go (leb lastCycle (r .cycle)) (ltb (r .state) (stateCount d)) completes
-        where
-          go : (a b : Bool) → cond a (Outcome.stopped LastCycleReached) (cond b (afterActions d r run) (Outcome.stuck noState)) ≡ completed t q n → afterActions d r run ≡ completed t q n
-          go true b h = absurd (let o : _≡_ {A = ℕ} 0 1 = cc in omega arith)
-          go false true h = h
-          go false false h = absurd (let o : _≡_ {A = ℕ} 0 1 = cc in omega arith)
-
       pub kept : bitOf (wordOf t f w) k ≡ bitOf (wordOf s f w) k
       unfolding facilityAt
-      kept = after-keeps run executed alike executed-so ran-so ∙ ap (λ (o : ℕ). bitOf o k) (begin-keeps (d .facilities) s ins f w inside is-steady)
+      kept =
+          let there : wordOf t f w ≡ wordOf (landAll d (did .done .store .words) (did .done .store .waits)) f w = set-keeps (sequencingOf d) (stateNumber d (q .state)) _ refl (did .lands) in
+          ap (λ (o : ℕ). bitOf o k) there ∙ (ap (λ (o : Held). bitOf (wordOf (landAll d (o .words) (o .waits)) f w) k) (stands .same)
+          ∙ (land-keeps d f w k (c .store .store .words) (c .store .store .waits) none-later ∙ (ap (λ (o : Words). bitOf (wordOf o f w) k) (stands .put-so)
+          ∙ (puts-keep d f w k begins (c .store .writes) none-at-once ∙ ap (λ (o : ℕ). bitOf o k) (begin-keeps (d .facilities) s ins f w inside is-steady)))))

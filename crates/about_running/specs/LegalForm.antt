@@ -14,7 +14,7 @@ use Rattle.language.specs.Description as D
 use Rattle.language.specs.Description.{Description, Facility, FacilityPlaces, Places, State, StatePlaces, actionAt, facilityAt, facilityPlace, isComputed, isSequencing, noPlaces, stateAt, statePlace, wordLength}
 use Rattle.language.specs.Expressions.{terminalJudged}
 use Rattle.language.specs.Image.{legalForm}
-use Rattle.language.specs.Judging.{Judged, Worth, both, faultsOf, faulty, fine, unless}
+use Rattle.language.specs.Judging.{Judged, Worth, faultsOf, faulty, fine, unless}
 use Rattle.language.specs.Layout.{facilityBytes}
 use Rattle.language.specs.Machine.{mostFacilities, mostOperations, mostStates}
 use Rattle.language.specs.Order.{actionRoots, endsAt, facilityRoots, operationRoots, operationsEnd, runRoots, runsRight, startAt, stateRoots, statesEnd, treesEnd, treesRight, valueRoot, ending}
@@ -24,6 +24,7 @@ use Rattle.language.specs.Rules.{boundsFaults, largestStore, mostWork, sequenci
 use Rattle.language.specs.Words.{Fault, Position}
 use Rattle.about_running.specs.Judged.{append-none-left, append-none-right, unless-none}
 use Rattle.about_running.specs.Ordered.{InOrder, Split, in-order, operations-order, order-left, order-right, states-order, trees-split}
+use Rattle.language.specs.Tests.{both}
 
 pub left-of : (a b : Bool) → both a b ≡ true → a ≡ true
 left-of true b h = refl

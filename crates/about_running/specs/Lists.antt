@@ -14,7 +14,7 @@ use Rattle.language.specs.ActionRules.{Shape, actions, arms, simpleJudged}
 use Rattle.language.specs.Description as D
 use Rattle.language.specs.Description.{Action, Description, Places, Run, actionAt, actionPlace, facilityAt}
 use Rattle.language.specs.Expressions.{expressionAt, longestSelector, selects, terminalBelow}
-use Rattle.language.specs.Judging.{Judged, Worth, both, fine, givenBoth, refuse, worth}
+use Rattle.language.specs.Judging.{Judged, Worth, fine, givenBoth, refuse, worth}
 use Rattle.language.specs.Meaning.{Stores, armNumber, runsOver}
 use Rattle.language.specs.Recursion.{below-lt}
 use Rattle.about_running.specs.Evaluates.{Terminal}
@@ -22,6 +22,7 @@ use Rattle.about_running.specs.Executes as E
 use Rattle.about_running.specs.Executes.{Keeps, Ready, Rooted}
 use Rattle.about_running.specs.Judged.{both-fine, faulty-fine}
 use Rattle.language.specs.declared.refusals.Refusal.the-variants.{BadLength, NoContinuation}
+use Rattle.language.specs.Tests.{both}
 
 both-true : (a b : Bool) → both a b ≡ true → (a ≡ true) × (b ≡ true)
 both-true true b h = (refl, h)

@@ -13,7 +13,6 @@ use Rattle.language.specs.Decode.{decode}
 use Rattle.language.specs.Description.{Description, Facility, facilityAt, isComputed, sequencingOf, wordCount, wordLength}
 use Rattle.language.specs.Encode.{encode, headerSize}
 use Rattle.language.specs.Image.{legalForm, passes, totalLength}
-use Rattle.language.specs.Judging.{both}
 use Rattle.language.specs.RecordBytes.{marked, recordFrom, sound}
 use Rattle.language.specs.declared.refusals.Refusal.{Refusal}
 use Rattle.language.specs.declared.refusals.Refusal.the-variants.{BadStimulus, BufferTooShort, ImageFails, Unsound}
@@ -26,6 +25,7 @@ use Rattle.about_running.specs.LegalForm.{Legal, legal, right-of}
 use Rattle.about_running.specs.NextState.{Returns}
 use Rattle.about_running.specs.Soundness.{bytes-fit, sound-so}
 use Rattle.about_running.specs.StateValues.{bears-value}
+use Rattle.language.specs.Tests.{both}
 
 -- What passes is in legal form.
 pub legal-image : (image : List ℕ) → passes image ≡ true → Legal (decode image)

@@ -11,12 +11,13 @@ use lib.ListN.{getD, length, length-set, set}
 use lib.Seq.{getD-set-other, getD-set-same}
 use Rattle.language.specs.Acting.{Doing}
 use Rattle.language.specs.Description.{Description}
-use Rattle.language.specs.Judging.{both}
-use Rattle.language.specs.Step.{Record, bearer, bears, isNone, landed, mostReturns, nextRecord, orZero, plainCount, plainNext, popped, returnsLeft, sequencedState, stateCount, stateNumber, stopAfter}
+use Rattle.language.specs.Step.{Record, isNone, landed, mostReturns, nextRecord, orZero, plainCount, plainNext, popped, returnsLeft, sequencedState, stateCount, stopAfter}
 use Rattle.language.specs.declared.stops.Stop.{Stop}
 use Rattle.language.specs.Store.{Held}
 use Rattle.language.specs.Value.{bit}
+use Rattle.about_running.specs.Bearers.{one-bears}
 use Rattle.about_running.specs.Executes.{AllStates}
+use Rattle.language.specs.Tests.{both}
 
 -- Return states: sixteen places, those held are states, the others zero.
 pub record Returns (d : Description) (held : ℕ) (rs : List ℕ) : Type 0 where
@@ -41,16 +42,6 @@ both-false false b e q = absurd (let z : _≡_ {A = ℕ} 0 1 = cc in omega arith
 first-state : (d : Description) (ss : List ℕ) → 0 < length ss → AllStates d ss → getD ss 0 0 < length (d .states)
 first-state d [] h a = absurd (omega arith)
 first-state d (s ∷ ss) h a = a .0
-
--- A state that bears a value is one of those looked at.
-bearer-in : (d : Description) (k n x m : ℕ) → bearer d k n x ≡ some m → m < n + k
-unfolding bearer
-bearer-in d zero n x m e = absurd (let z : _≡_ {A = ℕ} 0 1 = cc in omega arith)
-bearer-in d (suc k) n x m e = go (λ q. bearer-in d k (suc n) x m q) (bears d (stateNumber d n) x) e
-  where
-    go : (bearer d k (suc n) x ≡ some m → m < suc n + k) → (b : Bool) → cond b (some n) (bearer d k (suc n) x) ≡ some m → m < n + suc k
-    go on true q = let z : n ≡ m = cc in omega arith
-    go on false q = let z = on q in omega arith
 
 module _ (d : Description) (r : Record) (c : Doing Held) (state-in : r .state < length (d .states)) (returns-in : Returns d (r .held) (r .returns))
     (gotos : AllStates d (c .gotos)) (calls : AllStates d (c .calls)) (none-stops : stopAfter d r c ≡ none) where
@@ -85,7 +76,7 @@ module _ (d : Description) (r : Record) (c : Doing Held) (state-in : r .state < 
 
   some-borne : (x : Option ℕ) → sequencedState d (landed d r c) ≡ x → isNone d r c x ≡ false → orZero d r c x < length (d .states)
   some-borne none q e = absurd (let z : _≡_ {A = ℕ} 0 1 = cc in omega arith)
-  some-borne (some n) q e = let z = bearer-in d (stateCount d) 0 _ n q in omega arith
+  some-borne (some n) q e = let z = one-bears d (stateCount d) 0 _ n q .0 in omega arith
 
   -- The plain next state is there.
   pub plain-in : plainNext d r c < length (d .states)

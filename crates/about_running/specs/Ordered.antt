@@ -9,9 +9,9 @@ use borrow.Author.Tests.{eqb-true, ltb-false, ltb-true}
 use lib.Dec.{eqb, ltb}
 use lib.ListN.{length}
 use Rattle.language.specs.Description.{Description, Operation, State, actionAt}
-use Rattle.language.specs.Judging.{both}
 use Rattle.language.specs.Order.{actionRoots, ending, operationRoots, operationsEnd, runRoots, startAt, stateRoots, statesEnd, treesEnd, valueRoot}
 use Rattle.about_running.specs.Starts.{none-some, start-le}
+use Rattle.language.specs.Tests.{both}
 
 first-of : (a b : Bool) → both a b ≡ true → a ≡ true
 first-of true b h = refl

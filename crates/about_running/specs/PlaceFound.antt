@@ -7,7 +7,6 @@ use borrow.Author.Tests.{eqb-false, eqb-true, leb-true, ltb-true, ne-eqb}
 use lib.Dec.{eqb, leb, ltb}
 use lib.ListN.{length}
 use Rattle.language.specs.Description.{Bounds, Description, Facility, facilityAt, fromFirst, inBounds, spanOf, wordCount, wordLength}
-use Rattle.language.specs.Judging.{both}
 use Rattle.language.specs.Meaning.{Answer, Located, Place, is, located, narrow, partOf, place, placeOf, stops, stuck, subscript, noFacility, outside, wrongLength, wrongSubscripts}
 use Rattle.language.specs.References as R
 use Rattle.language.specs.References.{Reference, Subscripts, part, rightCount, sameDirection, two, whole, wordPart}
@@ -18,6 +17,7 @@ use Rattle.about_running.specs.LegalForm.{left-of, right-of}
 use Rattle.about_running.specs.StateValues.{some-word}
 use Rattle.language.specs.declared.stops.Stop.{Stop}
 use Rattle.language.specs.declared.stops.Stop.the-variants.{OutsideBounds}
+use Rattle.language.specs.Tests.{both}
 
 -- A part of a facility's word, of up to 256 bits.
 record Within (f : Facility) (n : ℕ) (p : Place) : Type 0 where
@@ -132,7 +132,7 @@ some-span b = go (leb (b .first) (b .last))
     go true = omega arith
     go false = omega arith
 
-some-length : (f : Facility) → 0 < wordLength f
+pub some-length : (f : Facility) → 0 < wordLength f
 unfolding wordLength
 some-length f = go (eqb (f .dimensions) 0)
   where

@@ -18,7 +18,7 @@ use Rattle.about_running.specs.LegalForm.{left-of, right-of}
 
 -- ---- Words.
 
-narrow-below : (l : ℕ) (ws : List ℕ) → allNarrow l ws ≡ true → AllBelow (2 ^ l) ws
+pub narrow-below : (l : ℕ) (ws : List ℕ) → allNarrow l ws ≡ true → AllBelow (2 ^ l) ws
 unfolding allNarrow noSpareBits
 narrow-below l [] e = tt
 narrow-below l (x ∷ xs) e = (ltb-true x (2 ^ l) (left-of (ltb x (2 ^ l)) _ e), narrow-below l xs (right-of (ltb x (2 ^ l)) _ e))

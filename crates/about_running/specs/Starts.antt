@@ -8,9 +8,9 @@ use borrow.Author.Tests.{eqb-true, ltb-true}
 use lib.Dec.{eqb, ltb}
 use Rattle.language.specs.Description as D
 use Rattle.language.specs.Description.{Description, Node, digitLength, furtherDigits, nodeAt}
-use Rattle.language.specs.Judging.{both}
 use Rattle.language.specs.Order.{constantStart, digitsStand, ending, justBefore, startAt, startBelow, startNode, startStep, twoBefore}
 use Rattle.language.specs.Recursion.{below-lt}
+use Rattle.language.specs.Tests.{both}
 
 pub none-some : {A : Type 0} {s : ℕ} → none ≡ some s → A
 none-some e = absurd (let z : _≡_ {A = ℕ} 0 1 = cc in omega arith)

@@ -11,7 +11,6 @@ use lib.ListN.{getD, length}
 use lib.Pow.{pow-pos}
 use Rattle.language.specs.Description as D
 use Rattle.language.specs.Description.{Description, Facility, Node, constantValue, facilityAt, isSequencing, noFacility, noPlaces, nodeAt, sequencingFrom, sequencingOf, spanOf, stateAt, wordCount, wordLength}
-use Rattle.language.specs.Judging.{both}
 use Rattle.language.specs.Order.{startAt, startBelow, startNode}
 use Rattle.language.specs.declared.refusals.Refusal.the-variants.{BadSequencing}
 use Rattle.language.specs.Rules.{missing, repeated, sequencingLength, valueFaults}
@@ -21,6 +20,7 @@ use Rattle.language.specs.Words.{Position}
 use Rattle.about_running.specs.Judged.{unless-none}
 use Rattle.about_running.specs.LegalForm.{Legal, left-of}
 use Rattle.about_running.specs.Starts.{constant-fits}
+use Rattle.language.specs.Tests.{both}
 
 -- A facility has a word at least.
 pub some-word : (f : Facility) → 0 < wordCount f

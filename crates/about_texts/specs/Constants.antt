@@ -13,13 +13,13 @@ use Rattle.language.specs.Describe as B
 use Rattle.language.specs.Describe.{Noted, constantNodes, constantSize, digitsAbove}
 use Rattle.language.specs.Description as D
 use Rattle.language.specs.Description.{Description, Node, digitLength, furtherDigits, nodeAt}
-use Rattle.language.specs.Judging.{both}
 use Rattle.language.specs.Order.{constantStart, digitsStand, isDigit48}
 use Rattle.language.specs.Value.{Value}
 use Rattle.language.specs.Words.{Position}
 use Rattle.about_rules.specs.Declared.{both-so}
 use Rattle.about_rules.specs.Starts.{Stand}
 use Rattle.about_running.specs.LegalForm.{left-of, right-of}
+use Rattle.language.specs.Tests.{both}
 
 module _ (d : Description) where
   wrong : {A : Type 0} → false ≡ true → A

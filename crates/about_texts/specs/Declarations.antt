@@ -14,7 +14,7 @@ use Rattle.language.specs.Description.{Bounds, Description, Facility, bounds}
 use Rattle.language.specs.Grammar as G
 use Rattle.language.specs.Grammar.{Is}
 use Rattle.language.specs.Image.{WordsRight}
-use Rattle.language.specs.Judging.{Judged, both}
+use Rattle.language.specs.Judging.{Judged}
 use Rattle.language.specs.Kinds.{closeBracket, closeParen, colon, comma, equalSign, inputWord, openBracket, openParen}
 use Rattle.language.specs.Naming.{Scope}
 use Rattle.language.specs.Notions as N
@@ -30,6 +30,7 @@ use Rattle.about_running.specs.LegalForm.{left-of, right-of}
 use Rattle.about_texts.specs.Derivations.{here, of-term}
 use Rattle.about_texts.specs.Rebuilt.{Knows, Rebuilt, words-both}
 use Rattle.about_texts.specs.References.{Small, bound-same, small, small-right}
+use Rattle.language.specs.Tests.{both}
 
 -- The notion of a declaration of this rank.
 abbrev pub specOf : ℕ → Notion

@@ -18,7 +18,7 @@ use Rattle.language.specs.Description.{Action, Description, Facility, Node, Ope
 use Rattle.language.specs.Grammar.{Is}
 use Rattle.language.specs.Image as Image
 use Rattle.language.specs.Image.{legalForm}
-use Rattle.language.specs.Judging.{both, unless}
+use Rattle.language.specs.Judging.{unless}
 use Rattle.language.specs.Layout.{facilityBytes}
 use Rattle.language.specs.Machine.{mostCounted, mostFacilities, mostOperations, mostStates}
 use Rattle.language.specs.Naming.{Scope, byLabels}
@@ -52,6 +52,7 @@ use Rattle.about_running.specs.Judged.{append-none-left, append-none-right, unl
 use Rattle.about_running.specs.LegalForm.{left-of, right-of}
 use Rattle.about_running.specs.Ordered.{trees-split}
 use Rattle.about_running.specs.StateValues.{found-from}
+use Rattle.language.specs.Tests.{both}
 
 -- ---- What every element has, by its number.
 

@@ -22,7 +22,7 @@ use Rattle.language.specs.Expressions.{ownWork, selects, terminalBelow}
 use Rattle.language.specs.Grammar as G
 use Rattle.language.specs.Grammar.{Is}
 use Rattle.language.specs.Image.{WordsRight}
-use Rattle.language.specs.Judging.{Judged, Worth, both, fine, refuse, unless, worth}
+use Rattle.language.specs.Judging.{Judged, Worth, fine, refuse, unless, worth}
 use Rattle.language.specs.Kinds.{atSign, callSign, caseWord, comma, conWord, delayedSign, doWord, endCaseWord, endIfWord, equalSign, gotoSign, ifWord, returnWord, thenWord}
 use Rattle.language.specs.Naming.{Scope, meaning, operation, state}
 use Rattle.language.specs.Notions as N
@@ -45,6 +45,7 @@ use Rattle.about_texts.specs.Placed.{last-record, stand-append}
 use Rattle.about_texts.specs.Rebuilt.{Knows, Rebuilt, Referred, rebuilt, referred, words-both}
 use Rattle.about_running.specs.Judged.{append-none-right, both-fine, clean-fine, faulty-fine, given-fine, proper-fine, unless-none}
 use Rattle.about_running.specs.Ordered.{tree-first, trees-split}
+use Rattle.language.specs.Tests.{both}
 
 abbrev pub sectionOf : Bool → Section
 sectionOf true = N.inState

@@ -19,7 +19,7 @@ use Rattle.language.specs.Expressions.{judgeAt, judgeBelow, judgeNode, selects}
 use Rattle.language.specs.Grammar as G
 use Rattle.language.specs.Grammar.{Is}
 use Rattle.language.specs.Image.{ConstantRight, WordsRight}
-use Rattle.language.specs.Judging.{Judged, Worth, armList, both, fine, refuse, sized, unless, worth}
+use Rattle.language.specs.Judging.{Judged, Worth, armList, fine, refuse, sized, unless, worth}
 use Rattle.language.specs.Kinds.{caseWord, closeBracket, colon, comma, doWord, endCaseWord, minus, differenceSign, openBracket, redWord}
 use Rattle.language.specs.Naming.{Meaning, Scope, facility, meaning, ofFacility}
 use Rattle.language.specs.Notions as N
@@ -43,6 +43,7 @@ use Rattle.about_texts.specs.Placed.{Placed, behind-one, behind-two, las
 use Rattle.about_texts.specs.References.{Small, bound-same, count-same, count-small, in-small, refers, small, small-right}
 use Rattle.about_running.specs.Judged.{Two, append-none-left, append-none-right, arms-fine, both-fine, faulty-fine, given-fine, proper-fine, sized-fine, unless-none}
 use Rattle.about_running.specs.Starts.{one-before, start-le, start-lt, two-before}
+use Rattle.language.specs.Tests.{both}
 
 pub words-both : (us vs : List Word) → WordsRight us → WordsRight vs → WordsRight (us ++ vs)
 words-both [] vs h k = k

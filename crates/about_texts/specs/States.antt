@@ -20,7 +20,7 @@ use Rattle.language.specs.Description.{Description, Node, Operation, State, con
 use Rattle.language.specs.Grammar as G
 use Rattle.language.specs.Grammar.{Is}
 use Rattle.language.specs.Image.{ConstantRight, WordsRight}
-use Rattle.language.specs.Judging.{Worth, both, fine}
+use Rattle.language.specs.Judging.{Worth, fine}
 use Rattle.language.specs.Kinds.{closeParen, colon, openParen, slash}
 use Rattle.language.specs.Naming.{Scope, byLabels, meaning, operation, state}
 use Rattle.language.specs.Notions as N
@@ -52,6 +52,7 @@ use Rattle.about_texts.specs.References.{Small}
 use Rattle.about_running.specs.Judged.{faulty-fine, unless-none}
 use Rattle.about_running.specs.LegalForm.{states-fine, left-of}
 use Rattle.about_running.specs.Ordered.{tree-first, trees-split}
+use Rattle.language.specs.Tests.{both}
 
 -- ---- A value's record is one constant.
 

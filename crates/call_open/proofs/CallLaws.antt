@@ -10,7 +10,6 @@ use Rattle.language.specs.Calls.{open′, openRefusal, openWords}
 use Rattle.language.specs.Decode.{decode}
 use Rattle.language.specs.Description.{Description}
 use Rattle.language.specs.Image.{passes}
-use Rattle.language.specs.Judging.{both}
 use Rattle.language.specs.Layout.{storeSize}
 use Rattle.language.specs.Reading.{filled, zeroes}
 use Rattle.language.specs.RecordBytes.{recordBytes, recordSize}
@@ -20,6 +19,7 @@ use Rattle.about_running.specs.LegalForm.{left-of, right-of}
 use Rattle.call_answers.specs.Opening.{called}
 use Rattle.call_answers.specs.declared.opened.OpenReply.the-variants as A
 use Rattle.language.specs.declared.refusals.Refusal.the-variants.{BufferTooShort, ImageFails}
+use Rattle.language.specs.Tests.{both}
 
 -- s and t are the two buffers once they are zero.
 module _ (image s₀ t₀ : List ℕ) {s t : List ℕ} (e : s ≡ zeroes (length s₀)) (f : t ≡ zeroes (length t₀)) where

@@ -13,10 +13,10 @@ ghost use lib.ListN.{length};
 ghost use Rattle.language.specs.Calls.{open′};
 ghost use Rattle.language.specs.Decode.{decode};
 ghost use Rattle.language.specs.Image as L;
-ghost use Rattle.language.specs.Judging.{both};
 ghost use Rattle.language.specs.Layout.{storeSize};
 ghost use Rattle.language.specs.RecordBytes.{recordSize};
 ghost use Rattle.call_answers.specs.Opening.{called};
+ghost use Rattle.language.specs.Tests.{both};
 
 // Whether so many bytes of store and record are enough for an image that passes.
 fn roomy(image: &[u8], store: usize, kept: usize) -> bool

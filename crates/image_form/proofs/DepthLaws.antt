@@ -12,7 +12,6 @@ use lib.Seq.{getD-set-other, getD-set-same}
 use Rattle.language.specs.Decode.{nodeOf}
 use Rattle.language.specs.Description as D
 use Rattle.language.specs.Description.{Description, nodeAt}
-use Rattle.language.specs.Judging.{both}
 use Rattle.language.specs.Recursion.{below}
 use Rattle.image_records.specs.Nodes.{constantNumber, meant}
 use Rattle.image_records.specs.declared.nodes.Node.{Node}
@@ -24,6 +23,7 @@ use Rattle.image_order.specs.declared.starts.Parts.the-variants as S
 use Rattle.about_images.specs.Depth.{bounded, deepest, depthAt, depthBelow, depthNode, depthStep, mostActions, mostExpressions, shallow, shallow-so, shallowTo}
 use Rattle.image_form.specs.Depths.{depthParts, noted}
 use Rattle.language.specs.Encode.{actionSize, nodeSize}
+use Rattle.language.specs.Tests.{both}
 
 -- ---- Depths by parts.
 

@@ -11,7 +11,6 @@ use lib.Seq.{take-all}
 use Rattle.language.specs.Canonical.{all, canonical, countsRight, facilitiesRight, labelRight, nameRight}
 use Rattle.language.specs.Decode.{decode, described, namesLength, sectionAt, sectionsIn}
 use Rattle.language.specs.Encode.{Sections, actionBytes, actionSize, actionsSection, concat, expressionsSection, facilitiesSection, facilityRecords, facilitySize, nameSize, namesSection, nodeBytes, nodeSize, operationSize, operationsSection, sectionsOf, stateSize, statesSection}
-use Rattle.language.specs.Judging.{both}
 use Rattle.language.specs.Order.{runsRight, treesRight}
 use Rattle.language.specs.Scan.{same}
 use Rattle.image_records.proofs.ByteLaws.{same-of}
@@ -24,6 +23,7 @@ use Rattle.image_order.proofs.HoldsLaws.{facility-named}
 use Rattle.image_form.proofs.LabelLaws.{facilities-named, operations-named}
 use Rattle.image_form.specs.Form.{NamesLong, formRight, sectioned}
 use Rattle.image_form.specs.Names.{labelsRight, namedRight, namesRight}
+use Rattle.language.specs.Tests.{both}
 
 pub both-true : (b : Bool) → both b true ≡ b
 both-true true = refl

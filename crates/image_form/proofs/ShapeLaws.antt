@@ -10,7 +10,7 @@ use lib.ListN.{drop, drop-of-length-le, length}
 use lib.Seq.{drop-cons}
 use Rattle.language.specs.Canonical.{facilitiesRight, facilityRight, mostDimensions, noBounds, rankOf}
 use Rattle.language.specs.Description.{Description, Facility, facilityAt, noFacility}
-use Rattle.language.specs.Judging.{both}
+use Rattle.language.specs.Tests.{both}
 
 -- ---- One facility.
 

@@ -10,10 +10,10 @@ use Rattle.language.specs.Decode.{decode}
 use Rattle.language.specs.Description.{Description, facilityAt, noPlaces}
 use Rattle.language.specs.Encode.{Sections, facilitySize}
 use Rattle.language.specs.Image.{legalForm, passes}
-use Rattle.language.specs.Judging.{both}
 use Rattle.language.specs.Rules.{faults}
 use Rattle.image_sections.specs.Declarations.{nameLengthIn}
 use Rattle.about_images.specs.Whole.{bytesRight, passes-parts}
+use Rattle.language.specs.Tests.{both}
 
 -- The bytes are those of what they describe, and that is in the form that reading gives.
 unfoldable pub formRight : List ℕ → Bool

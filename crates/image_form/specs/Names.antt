@@ -5,9 +5,9 @@ use Prim.Native.Nat.{ℕ, zero, suc, _+_, _/_}
 use lib.ListN.{drop, getD, length, take}
 use Rattle.language.specs.Canonical.{all, labelRight, nameRight}
 use Rattle.language.specs.Decode.{namesLength, statesAt}
-use Rattle.language.specs.Judging.{both}
 use Rattle.image_sections.specs.declared.header.Counts.{Counts}
 use Rattle.language.specs.Encode.{facilitySize, operationSize, stateSize}
+use Rattle.language.specs.Tests.{both}
 
 -- The names of k records of a size, the first one's length at `at`.
 unfoldable pub namesRight : ℕ → ℕ → ℕ → List ℕ → List ℕ → Bool

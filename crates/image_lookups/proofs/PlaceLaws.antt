@@ -80,7 +80,7 @@ module _ (image : List ℕ) (n : ℕ) where
         let z : facilitySize * n + 11 + 1 ≡ facilitySize * n + 12 = omega arith in
         rw (facilities-are image h) (half-back _ (facilitySize * n + 11) (placeIn (d .facilities) n) (omega (arith, place-half)) (s 11 (omega arith) ∙ rw c) (rw z (s 12 (omega arith) ∙ rw c)))
 
-    module _ {f : F.Facility} (r : FacilityRead (sectionAt facilitiesSection facilitySize image) n f) where
+    module _ {f : F.FacilityRecord} (r : FacilityRead (sectionAt facilitiesSection facilitySize image) n f) where
       is : facilityAt (decode image) n ≡ facilityMeant (facilityAt (decode image) n .name) f
       is = facility-is (decode image) (sectionAt facilitiesSection facilitySize image) n (held image) r
 
@@ -98,11 +98,11 @@ module _ (image : List ℕ) (n : ℕ) where
           (ap (λ (g : Facility). L.declared g (cond (isComputed (kindMeant (f .kind))) none (some (placeIn (decode image .facilities) n)))) (sym is))
 
 -- The same of a section in hand.
-pub lookup-found : (image : List ℕ) (n : ℕ) {s : List ℕ} {f : F.Facility} → passes image ≡ true → s ≡ sectionAt facilitiesSection facilitySize image → n < length s / facilitySize → FacilityRead s n f → Looks image n (A.Declared f)
+pub lookup-found : (image : List ℕ) (n : ℕ) {s : List ℕ} {f : F.FacilityRecord} → passes image ≡ true → s ≡ sectionAt facilitiesSection facilitySize image → n < length s / facilitySize → FacilityRead s n f → Looks image n (A.Declared f)
 lookup-found image n {s} {f} h e l r =
     let i : n < length (sectionAt facilitiesSection facilitySize image) / facilitySize = rw e at l in
     let q : FacilityRead (sectionAt facilitiesSection facilitySize image) n f = subst (λ (t : List ℕ). FacilityRead t n f) e r in
     record {
       facility = lookup-declared image n h i q;
-      name = λ g z. let same : f ≡ g = cc in ap (λ (x : F.Facility). x .name) (sym same) ∙ q .name ∙ length-is image h n i;
+      name = λ g z. let same : f ≡ g = cc in ap (λ (x : F.FacilityRecord). x .name) (sym same) ∙ q .name ∙ length-is image h n i;
     }

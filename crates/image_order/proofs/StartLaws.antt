@@ -13,7 +13,6 @@ use Rattle.language.specs.Decode.{described, digitsMarked, nodeOf, numberAt}
 use Rattle.language.specs.Description as D
 use Rattle.language.specs.Description.{Description, digitLength, furtherDigits, nodeAt}
 use Rattle.language.specs.Encode.{Sections, nodeSize}
-use Rattle.language.specs.Judging.{both}
 use Rattle.language.specs.Order.{constantStart, digitsStand, ending, isDigit48, justBefore, startAt, startBelow, startNode, twoBefore}
 use Rattle.language.specs.Value.{Value}
 use Rattle.about_running.specs.Starts.{start-le, start-lt}
@@ -28,6 +27,7 @@ use Rattle.image_order.specs.Holds.{ConstantAt, Nodes}
 use Rattle.image_order.specs.Parts.{partsOf, startParts}
 use Rattle.image_order.specs.declared.starts.Parts.{Parts}
 use Rattle.image_order.specs.declared.starts.Parts.the-variants as S
+use Rattle.language.specs.Tests.{both}
 
 -- ---- Parts.
 

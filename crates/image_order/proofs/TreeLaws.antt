@@ -11,9 +11,9 @@ use lib.Dec.{eqb, ltb}
 use lib.ListN.{drop, drop-of-length-le, getD, length}
 use lib.Seq.{drop-cons}
 use Rattle.language.specs.Description.{Description, Facility, Operation, State, actionAt, facilityAt, noFacility, noRun, operationAt, stateAt}
-use Rattle.language.specs.Judging.{both}
 use Rattle.language.specs.Order.{actionRoots, ending, facilityRoots, functionRoot, operationRoots, runRoots, startAt, stateRoots, treesEnd, treesRight, endsAt, valueRoot}
 use Rattle.image_order.specs.Edges.{after}
+use Rattle.language.specs.Tests.{both}
 
 module _ (d : Description) where
   -- ---- One tree.

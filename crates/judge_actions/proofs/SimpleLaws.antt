@@ -24,6 +24,7 @@ use Rattle.text_words.specs.declared.Fault.{Fault}
 use Rattle.judge_terms.specs.Shown.{worked}
 use Rattle.judge_actions.specs.Listed.{inRight}
 use Rattle.judge_actions.specs.Stored.{pairSides, setJudged, storedJudged}
+use Rattle.language.specs.Tests as Tests
 
 -- ---- An operation that is named.
 
@@ -77,7 +78,7 @@ module _ (d : Description) (p : Places) (b : Bool) (w : ℕ → Judged) {k : ℕ
     store-is s l r f = not-told d p b w b q _ (rw e f)
 
     pub pair-is : (s l m r : ℕ)
-        → v ≡ seen (inRight (not b) q (givenBoth (pairSides (leftAt d p (terminalBelow d p k) k l) (leftAt d p (terminalBelow d p k) k m)) (expressionAt d p (terminalBelow d p k) k r) (storedJudged (L.both (mayStore s (A.kindAt d l)) (mayStore s (A.kindAt d m))) q)))
+        → v ≡ seen (inRight (not b) q (givenBoth (pairSides (leftAt d p (terminalBelow d p k) k l) (leftAt d p (terminalBelow d p k) k m)) (expressionAt d p (terminalBelow d p k) k r) (storedJudged (Tests.both (mayStore s (A.kindAt d l)) (mayStore s (A.kindAt d m))) q)))
         → v ≡ seen (A.simpleJudged d p b w q (D.storePair s l m r))
     unfolding A.simpleJudged
     pair-is s l m r f = not-told d p b w b q _ (rw e f)

@@ -14,8 +14,9 @@ use Rattle.judge_verdicts.specs.Meaning.{capped, met, paired, seen}
 use Rattle.text_words.specs.declared.Fault.{Fault}
 use Rattle.judge_terms.specs.Shown.{worked}
 use Rattle.judge_actions.specs.Stored.{pairSides}
+use Rattle.language.specs.Tests as Tests
 
-pub both-cond : (a b : Bool) → L.both a b ≡ cond a b false
+pub both-cond : (a b : Bool) → Tests.both a b ≡ cond a b false
 both-cond true b = refl
 both-cond false b = refl
 

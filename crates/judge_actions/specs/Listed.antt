@@ -13,7 +13,7 @@ use Rattle.language.specs.Description as D
 use Rattle.language.specs.Description.{Description, Places, actionAt, actionPlace, stateAt}
 use Rattle.language.specs.Encode.{facilitySize, stateSize}
 use Rattle.language.specs.Expressions.{selects, terminalBelow}
-use Rattle.language.specs.Judging.{Judged, Worth, both, givenBoth, refuse}
+use Rattle.language.specs.Judging.{Judged, Worth, givenBoth, refuse}
 use Rattle.language.specs.declared.refusals.Refusal.the-variants.{BadName, NoContinuation}
 use Rattle.language.specs.Words.{Position}
 use Rattle.judge_records.specs.Read.{placeOf}
@@ -22,6 +22,7 @@ use Rattle.judge_verdicts.specs.Meaning.{recalled, seen}
 use Rattle.judge_terms.specs.Shown.{Shown, worked}
 use Rattle.judge_actions.specs.declared.conditionals.Choices.{Choices}
 use Rattle.judge_actions.specs.declared.conditionals.Choices.the-variants.{One, Several}
+use Rattle.language.specs.Tests.{both}
 
 -- `works` judges the operations that may be named: `ops` of them, whose verdicts are kept.
 pub record Listed (facs exprs marks places memo acts beside states labels kept : List ℕ) (ops : ℕ) (d : Description) (p : Places) (works : ℕ → Judged) : Type 0 where

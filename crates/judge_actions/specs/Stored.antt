@@ -9,10 +9,11 @@ use Rattle.image_sections.specs.declared.facilities.FacilityKind.{FacilityKind}
 use Rattle.language.specs.ActionRules.{kindAt}
 use Rattle.language.specs.Description.{Description, Places}
 use Rattle.language.specs.Expressions.{ownWork}
-use Rattle.language.specs.Judging.{Judged, Worth, both, givenBoth, orFaulty, unless, worth}
+use Rattle.language.specs.Judging.{Judged, Worth, givenBoth, orFaulty, unless, worth}
 use Rattle.language.specs.declared.refusals.Refusal.the-variants.{BadLength, BadStore}
 use Rattle.language.specs.Words.{Position}
 use Rattle.judge_terms.specs.Shown.{Shown}
+use Rattle.language.specs.Tests.{both}
 
 abbrev pub storedJudged : Bool → Position → Worth → Worth → Judged
 storedJudged allowed at v w = orFaulty (unless (eqb (v .length) (w .length)) at BadLength ++ unless allowed at BadStore) (worth 1 0 (ownWork + v .work + w .work))

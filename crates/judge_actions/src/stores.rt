@@ -26,6 +26,7 @@ ghost use Rattle.judge_verdicts.specs.Meaning.{seen};
 ghost use Rattle.text_words.specs.Meaning.{positioned};
 ghost use Rattle.judge_terms.specs.Shown.{Judges, worked};
 ghost use Rattle.judge_actions.specs.Stored.{KindTold, pairSides, setJudged, storedJudged};
+ghost use Rattle.language.specs.Tests as Tests;
 
 // The kind of the facility that record n refers to.
 fn kind_at(fs: &[u8], es: &[u8], ep: &[u8], n: u16) -> FacilityKind
@@ -113,7 +114,7 @@ pub fn store_pair(
     m: u16,
     r: u16,
 ) -> Verdict
-    ensures { λ v. ⌜ ((q : W.Position) → positioned at ≡ q → Judges (now (fs .entry)) (now (es .entry)) (now (fp .entry)) (now (ep .entry)) (now (memo .entry)) known (λ d p t. L.givenBoth (pairSides (leftAt d p t known l) (leftAt d p t known m)) (expressionAt d p t known r) (storedJudged (L.both (mayStore sign (kindAt d l)) (mayStore sign (kindAt d m))) q)) v) ⌝ }
+    ensures { λ v. ⌜ ((q : W.Position) → positioned at ≡ q → Judges (now (fs .entry)) (now (es .entry)) (now (fp .entry)) (now (ep .entry)) (now (memo .entry)) known (λ d p t. L.givenBoth (pairSides (leftAt d p t known l) (leftAt d p t known m)) (expressionAt d p t known r) (storedJudged (Tests.both (mayStore sign (kindAt d l)) (mayStore sign (kindAt d m))) q)) v) ⌝ }
 {
     let a = walk::left(fs, es, fp, ep, memo, known, l);
     let b = walk::left(fs, es, fp, ep, memo, known, m);
@@ -125,7 +126,7 @@ pub fn store_pair(
 
 // Whether `@` may set a reference of that kind and length.
 fn may_set(kind: FacilityKind, length: u16) -> bool
-    ensures { λ r. ⌜ r ≡ L.both (isPlain (kindMeant kind)) (eqb length 1) ⌝ }
+    ensures { λ r. ⌜ r ≡ Tests.both (isPlain (kindMeant kind)) (eqb length 1) ⌝ }
 {
     if kinds::is_plain(kind) {
         return length == 1;

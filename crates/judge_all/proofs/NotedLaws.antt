@@ -74,13 +74,13 @@ module _ (x : Sections) (q : Beside) where
       ∙ ap (take (nameLengthIn stateSize 0 (x .states) n))
       (sym (drop-drop (namesLength n 0 stateSize (x .states)) (namesLength (length (x .facilities) / facilitySize) 2 facilitySize (x .facilities) + namesLength (length (x .operations) / operationSize) 0 operationSize (x .operations)) (x .names)))
 
-  state-read : (n : ℕ) (y : S.State) → StateRead (x .states) n y → stateMeant (stateAt (notedDescription x q) n .name) y ≡ stateAt (notedDescription x q) n
+  state-read : (n : ℕ) (y : S.StateRecord) → StateRead (x .states) n y → stateMeant (stateAt (notedDescription x q) n .name) y ≡ stateAt (notedDescription x q) n
   state-read n y r =
       let m = r .meaning (nameNo n) in
       let k : stateAt (notedDescription x q) n .name ≡ nameNo n = ap (λ (z : State). z .name) (state-is n ∙ sym m) in
       ap (λ (z : List ℕ). stateMeant z y) k ∙ m ∙ sym (state-is n)
 
-  body-read : (n : ℕ) (o : O.Operation) → OperationRead (x .operations) n o → runMeant (o .body) ≡ operationAt (notedDescription x q) n .body
+  body-read : (n : ℕ) (o : O.OperationRecord) → OperationRead (x .operations) n o → runMeant (o .body) ≡ operationAt (notedDescription x q) n .body
   body-read n o r =
       ap (λ (z : Operation). z .body)
       (r .meaning (named (operationPart (x .facilities) (length (x .facilities) / facilitySize) (x .operations) n) (x .names)) ∙ sym (operation-noted x q n ∙ operation-described x n))

@@ -12,10 +12,11 @@ use Rattle.language.specs.ActionRules.{operationBelow, runJudged}
 use Rattle.language.specs.Decode.{nodeOf}
 use Rattle.language.specs.Description.{Description, Places, StatePlaces, constantValue, nodeAt, stateAt, statePlace, Run}
 use Rattle.language.specs.Encode.{operationSize, stateSize}
-use Rattle.language.specs.Judging.{both, Judged}
+use Rattle.language.specs.Judging.{Judged}
 use Rattle.language.specs.Rules as R
 use Rattle.judge_records.specs.Read.{placeOf}
 use Rattle.judge_all.specs.Declared.{Acting}
+use Rattle.language.specs.Tests.{both}
 
 -- The length of the sequencing register; 0 stands for none.
 unfoldable pub wantedLength : ℕ → Option ℕ

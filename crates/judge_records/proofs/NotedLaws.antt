@@ -25,7 +25,7 @@ use Rattle.judge_records.specs.Noted.{Beside, facilityPlacesNo, largeNo,
 use Rattle.judge_records.specs.Read.{facilityMeant, placeOf}
 
 -- A facility that was read and its widened bounds.
-pub widened-fields : (s : List ℕ) (n : ℕ) (f : F.Facility) {g : Facility} {name : Name} (w b : Bounds) → I.facilityMeant name f ≡ g
+pub widened-fields : (s : List ℕ) (n : ℕ) (f : F.FacilityRecord) {g : Facility} {name : Name} (w b : Bounds) → I.facilityMeant name f ≡ g
     → boundsMeant w ≡ widened (I.shortMeant (f .words)) (largeNo s (6 * n + 1)) (largeNo s (6 * n + 1 + 1))
     → boundsMeant b ≡ widened (I.shortMeant (f .bits)) (largeNo s (6 * n + 3)) (largeNo s (6 * n + 3 + 1))
     → facilityMeant name (record { kind = f .kind; dimensions = f .dimensions; words = w; bits = b; expression = f .place }) ≡ widenedFacility s n g

@@ -46,7 +46,7 @@ onPlace (Located.stuck s) on = stuck s
 
 -- ---- Arms.
 
--- The arm `back` arms after the one at record i, where m records are left: its first action's number and how many it has.
+-- How many actions an arm's record holds.
 abbrev pub armSize : Action → Option ℕ
 armSize (D.store k l r) = none
 armSize (D.storePair k l m r) = none
@@ -60,6 +60,7 @@ armSize (D.choose e n x) = none
 armSize (D.arm x) = some x
 armSize D.Action.broken = none
 
+-- Past the arm of record i to what comes after it, and the arm itself, where m records are left and the arm is one of them.
 abbrev pub armOr : ℕ → ℕ → (ℕ → ℕ → Option Run) → Option ℕ → Option Run
 armOr i m on none = none
 armOr i m on (some x) = cond (ltb x m) (on (i + 1 + x) (m - (x + 1))) none
@@ -68,6 +69,7 @@ abbrev pub armRun : ℕ → ℕ → Option ℕ → Option Run
 armRun i m none = none
 armRun i m (some x) = cond (ltb x m) (some (record { first = i + 1; count = x })) none
 
+-- The arm `back` arms after the one at record i, where m records are left: its first action's number and how many it has.
 unfoldable pub armAt : Description → ℕ → ℕ → ℕ → Option Run
 armAt d zero i m = armRun i m (armSize (actionAt d i))
 armAt d (suc back) i m = armOr i m (armAt d back) (armSize (actionAt d i))
@@ -104,7 +106,7 @@ module _ {X : Type 0} (S : Stores X) (d : Description) where
   abbrev pub write : Place → ℕ → Write
   write p n = record { at = p; number = n }
 
-  -- The right one of two references takes the low bits and lands later.
+  -- Writes that land at once, one after the other.
   unfoldable pub putAll : X → List Write → X
   putAll x [] = x
   putAll x (w ∷ ws) = putAll (S .put x w) ws
@@ -123,6 +125,7 @@ module _ {X : Type 0} (S : Stores X) (d : Description) where
       onPlace (side (c .store) l) (λ p. onValue (evalAt S d (c .store) r) (λ v.
       storing k (p .count) (storable k p) (onSequencing p) v (write p (v .number) ∷ []) c))
 
+  -- The right one of two references takes the low bits and lands later.
   abbrev pub storeToPair : ℕ → ℕ → ℕ → ℕ → Doing X → Ran X
   storeToPair k l m r c =
       onPlace (side (c .store) l) (λ p. onPlace (side (c .store) m) (λ q. onValue (evalAt S d (c .store) r) (λ v.

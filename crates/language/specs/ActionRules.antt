@@ -8,13 +8,14 @@ use lib.ListN.{length}
 use Rattle.language.specs.Description as D
 use Rattle.language.specs.Description.{Action, Description, Places, Run, actionAt, actionPlace, facilityAt, nodeAt, operationAt, stateAt}
 use Rattle.language.specs.Expressions.{expressionAt, leftAt, ownWork, selects, terminalBelow}
-use Rattle.language.specs.Judging.{Judged, Worth, both, given, givenBoth, orFaulty, refuse, unless, worth}
+use Rattle.language.specs.Judging.{Judged, Worth, given, givenBoth, orFaulty, refuse, unless, worth}
 use Rattle.language.specs.Recursion.{below}
 use Rattle.language.specs.References.{Reference, referenceOf}
 use Rattle.language.specs.declared.refusals.Refusal.the-variants.{BadLength, BadName, BadStore, NoContinuation}
 use Rattle.language.specs.Storing.{isPlain, mayStore}
 use Rattle.language.specs.Tree.{Kind, computed}
 use Rattle.language.specs.Words.{Position}
+use Rattle.language.specs.Tests.{both}
 
 abbrev pub kindNamed : Description → Option Reference → Kind
 kindNamed d none = computed

@@ -8,7 +8,6 @@ use lib.ListN.{drop, length, take}
 use Rattle.language.specs.Decode.{decode}
 use Rattle.language.specs.Description.{Description, sequencingOf}
 use Rattle.language.specs.Image.{passes}
-use Rattle.language.specs.Judging.{both}
 use Rattle.language.specs.Layout.{storeSize, storeSizeOf}
 use Rattle.language.specs.Reading.{filled, zeroes}
 use Rattle.language.specs.RecordBytes.{marked, recordBytes, recordFrom, recordSize, sound}
@@ -18,6 +17,7 @@ use Rattle.language.specs.Step.{Outcome, completed, openRecord, setRegis
 use Rattle.language.specs.Step as Step
 use Rattle.language.specs.declared.stops.Stop.{Stop}
 use Rattle.language.specs.Store.{Words, fromBytes, inputsOf, narrow, toBytes, zeroWords}
+use Rattle.language.specs.Tests.{both}
 
 -- A refusal, if there is one.
 abbrev pub first : Bool → Refusal → Option Refusal → Option Refusal

@@ -8,11 +8,11 @@ use lib.ListN.{length}
 use Rattle.language.specs.Characters.{isDigit, within}
 use Rattle.language.specs.Description as D
 use Rattle.language.specs.Description.{Action, Bounds, Description, Facility, Node, State}
-use Rattle.language.specs.Judging.{both}
 use Rattle.language.specs.Machine.{mostCounted, mostFacilities, mostOperations, mostStates}
 use Rattle.language.specs.Order.{runsRight, treesRight}
 use Rattle.language.specs.Scan.{longestName, reservedKind}
 use Rattle.language.specs.Tree.{Kind, Name, computed, input, memory, plain, register, sequencing}
+use Rattle.language.specs.Tests.{both}
 
 -- ---- Facilities: registers, memories, terminals in this order; bounds only where there are dimensions; a terminal with a function has at most one.
 

@@ -147,7 +147,7 @@ statesAt (suc k) at s names =
     let l = getD s at 0 in
     record { name = take l names; value = valueOf (halfAt (at + 1) s); actions = runAt (at + 3) s } ∷ statesAt k (at + stateSize) s (drop l names)
 
--- The bytes that the first k records of a section give to names; their lengths stand `inside` each.
+-- The bytes that k records of a section give to names, where the first one's length stands at `at` and the records are `size` bytes apart.
 unfoldable pub namesLength : ℕ → ℕ → ℕ → List ℕ → ℕ
 namesLength zero at size s = 0
 namesLength (suc k) at size s = getD s at 0 + namesLength k (at + size) size s

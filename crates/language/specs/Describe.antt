@@ -21,10 +21,11 @@ noted n p = record { node = n; places = nodePlaces p }
 abbrev pub notedPart : Node → Position → Ends → Noted
 notedPart n p x = record { node = n; places = record { at = p; first = x .firstAt; last = x .lastAt } }
 
--- No rule tells bounds and ends of parts above 65,535 apart, nor counts above 256: 65,536 and 65,535 stand for what is more.
+-- No rule tells bounds and ends of parts above 65,535 apart: 65,536 stands for what is more.
 unfoldable pub bound : ℕ → ℕ
 bound n = min n 65536
 
+-- Nor counts above 256: 65,535 stands for what is more.
 unfoldable pub count : ℕ → ℕ
 count n = min n 65535
 

@@ -5,7 +5,7 @@ use Prim.Native.Nat.{ℕ, suc, _+_, _^_}
 use lib.Dec.{eqb, leb}
 use Rattle.language.specs.Description as D
 use Rattle.language.specs.Description.{Description, Node, NodePlaces, Places, facilityAt, nodeAt, nodePlace}
-use Rattle.language.specs.Judging.{Judged, Worth, armList, both, given, givenBoth, proper, refuse, sized, worth}
+use Rattle.language.specs.Judging.{Judged, Worth, armList, given, givenBoth, proper, refuse, sized, worth}
 use Rattle.language.specs.Operators.{binaryLength, cutLengthOf, prefixLength}
 use Rattle.language.specs.Recursion.{below}
 use Rattle.language.specs.ReferenceRules.{referenceJudged}
@@ -13,6 +13,7 @@ use Rattle.language.specs.References.{Reference, part, referenceOf, two,
 use Rattle.language.specs.References as R
 use Rattle.language.specs.declared.refusals.Refusal.the-variants.{BadLength, BadName, NoContinuation}
 use Rattle.language.specs.Words.{Position}
+use Rattle.language.specs.Tests.{both}
 
 -- CASE takes up to 6 bits.
 unfoldable pub longestSelector : ℕ

@@ -13,7 +13,6 @@ use Rattle.language.specs.DescribeText.{describe}
 use Rattle.language.specs.Description.{Description, noPlaces}
 use Rattle.language.specs.Encode.{encode, headerSize, lengthField}
 use Rattle.language.specs.Grammar.{Is}
-use Rattle.language.specs.Judging.{both}
 use Rattle.language.specs.Notions.{text, wholeText}
 use Rattle.language.specs.Rules.{faults}
 use Rattle.language.specs.Scan.{same}
@@ -21,6 +20,7 @@ use Rattle.language.specs.Tree.{Text}
 use Rattle.language.specs.Words as W
 use Rattle.language.specs.Words.{Constant, Word}
 use Rattle.language.specs.Value.{longest}
+use Rattle.language.specs.Tests.{both}
 
 -- ---- In words: the image of a legal text.
 

@@ -59,10 +59,6 @@ abbrev pub unless : Bool → Position → Refusal → List Fault
 unless true p r = []
 unless false p r = fault p r ∷ []
 
-abbrev pub both : Bool → Bool → Bool
-both true b = b
-both false b = false
-
 -- Faults of parts, and else what comes after them.
 abbrev pub orFaulty : List Fault → Judged → Judged
 orFaulty [] j = j

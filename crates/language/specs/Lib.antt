@@ -1,4 +1,5 @@
 -- The meaning of DDL-P, in the order in which it is best read.
+pub mod Tests
 -- Values and constants (the manual, 2.3 and 5.3).
 pub mod Value
 pub mod Constants

@@ -10,6 +10,7 @@ use Rattle.language.specs.declared.refusals.Refusal.the-variants.{Ceilin
 use Rattle.language.specs.Scan.{same}
 use Rattle.language.specs.Steps.{Step, Steps}
 use Rattle.language.specs.Words.{Fault, Position, Word, fault, kindOf, position, wordAt}
+use Rattle.language.specs.Tests.{both}
 
 -- ---- Ceilings of this stage.
 
@@ -55,10 +56,6 @@ tallied (t ∷ ts) c = tallied ts (more t c)
 
 abbrev pub nested : ℕ → Counts → Counts
 nested n c = record { facilities = c .facilities; operations = c .operations; states = c .states; counted = c .counted; nesting = n }
-
-abbrev pub both : Bool → Bool → Bool
-both true b = b
-both false b = false
 
 unfoldable pub withinCeilings : Counts → Bool
 unfolding mostFacilities mostOperations mostStates mostCounted deepest

@@ -7,7 +7,6 @@ use lib.Dec.{eqb, leb, ltb}
 use lib.ListN.{length}
 use Rattle.language.specs.Description as D
 use Rattle.language.specs.Description.{Bounds, Description, Facility, Node, facilityAt, fromFirst, inBounds, isComputed, nodeAt, spanOf, wordLength}
-use Rattle.language.specs.Judging.{both}
 use Rattle.language.specs.Operators.{binaryOf, cutOf, prefixOf}
 use Rattle.language.specs.Recursion.{below}
 use Rattle.language.specs.References as R
@@ -16,6 +15,7 @@ use Rattle.language.specs.declared.stops.Stop.{Stop}
 use Rattle.language.specs.declared.stops.Stop.the-variants.{NoArm, OutsideBounds}
 use Rattle.language.specs.Value as Value
 use Rattle.language.specs.Value.{Made, Value, longest, made, value}
+use Rattle.language.specs.Tests.{both}
 
 -- A part of a word: facility, word, first bit from the left, number of bits.
 pub record Place : Type 0 where
@@ -116,7 +116,7 @@ module _ (d : Description) where
       (cond (rightCount (f .dimensions) (r .subscripts)) (located ev (r .facility) f (r .subscripts)) (Located.stuck wrongSubscripts))
       (Located.stuck noFacility)
 
-  -- The expression of the arm that is `back` arms before the one at record a.
+  -- An arm's own expression, or that of one before it.
   abbrev pub armHere : ℕ → (ℕ → Option ℕ) → Node → Option ℕ
   armHere zero before (D.firstArm e) = some e
   armHere (suc k) before (D.firstArm e) = none
@@ -135,18 +135,20 @@ module _ (d : Description) where
   armHere k before (D.choice e a n) = none
   armHere k before D.Node.broken = none
 
+  -- The expression of the arm that is so many arms before the one at record a.
   unfoldable pub armBack : ℕ → ℕ → Option ℕ
   armBack zero a = armHere 0 (λ b. none) (nodeAt d a)
   armBack (suc k) a = armHere 1 (armBack k) (nodeAt d a)
 
 module _ {X : Type 0} (S : Stores X) (d : Description) (x : X) where
-  -- Computed terminals are worked out when read; the others are loaded.
+  -- The part of a computed terminal's value, which is as long as the terminal.
   abbrev pub partOfValue : Facility → Place → Value → Answer
   partOfValue f p v =
       cond (eqb (v .length) (wordLength f))
       (is (value (p .count) (v .number / 2 ^ (v .length - (p .from + p .count)) % 2 ^ p .count)))
       (stuck lengthDiffers)
 
+  -- Computed terminals are worked out when read; the others are loaded.
   abbrev pub readAt : (ℕ → Answer) → Facility → Place → Answer
   readAt ev f p =
       let worked = after (ev (f .expression)) (partOfValue f p) in

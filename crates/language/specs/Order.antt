@@ -7,9 +7,9 @@ use lib.Dec.{eqb, ltb}
 use lib.ListN.{length}
 use Rattle.language.specs.Description as D
 use Rattle.language.specs.Description.{Action, Description, Facility, Node, Operation, State, actionAt, digitLength, furtherDigits, nodeAt}
-use Rattle.language.specs.Judging.{both}
 use Rattle.language.specs.Recursion.{below}
 use Rattle.language.specs.Tree.{Kind, computed, input, memory, plain, register, sequencing}
+use Rattle.language.specs.Tests.{both}
 
 -- ---- Expressions: a record's parts stand right before it, each whole; `Option` says where the tree that ends at a record begins.
 

@@ -8,9 +8,9 @@ use lib.ListN.{length}
 use Rattle.language.specs.Decode.{numberAt}
 use Rattle.language.specs.Description.{Description, sequencingOf}
 use Rattle.language.specs.Encode.{four}
-use Rattle.language.specs.Judging.{both}
 use Rattle.language.specs.Step.{Record, mostReturns, registerValue, stateNumber}
 use Rattle.language.specs.Store.{Words, narrow}
+use Rattle.language.specs.Tests.{both}
 
 -- The letters DDLP: neither 0 nor all ones.
 unfoldable pub openMark : ℕ

@@ -5,7 +5,7 @@ use Prim.Native.Nat.{ℕ}
 use lib.Dec.{eqb, leb}
 use Rattle.language.specs.Description as D
 use Rattle.language.specs.Description.{Bounds, Facility, Node, spanOf, wordLength}
-use Rattle.language.specs.Judging.{both}
+use Rattle.language.specs.Tests.{both}
 
 -- The five forms: X, X[e], X[c:d], X[e,e], X[e,c:d].
 pub data Subscripts : Type 0 where

@@ -9,13 +9,14 @@ use Rattle.language.specs.ActionRules.{operationBelow, operationJudged, 
 use Rattle.language.specs.Description as D
 use Rattle.language.specs.Description.{Description, Facility, FacilityPlaces, Places, State, StatePlaces, constantValue, facilityAt, facilityPlace, isComputed, isSequencing, nodeAt, sequencingOf, statePlace, wordLength}
 use Rattle.language.specs.Expressions.{terminalJudged}
-use Rattle.language.specs.Judging.{Judged, both, faultsOf, faulty, fine, unless}
+use Rattle.language.specs.Judging.{Judged, faultsOf, faulty, fine, unless}
 use Rattle.language.specs.Layout.{facilityBytes}
 use Rattle.language.specs.declared.refusals.Refusal.the-variants.{BadLength, BadName, BadSequencing, BadSubscript, CeilingPassed}
 use Rattle.language.specs.Scan.{same}
 use Rattle.language.specs.Tree.{Name}
 use Rattle.language.specs.Value.{longest, value}
 use Rattle.language.specs.Words.{Fault, Position, fault}
+use Rattle.language.specs.Tests.{both}
 
 -- ---- Ceilings of this stage.
 

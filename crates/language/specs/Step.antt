@@ -7,12 +7,12 @@ use lib.Dec.{eqb, leb, ltb}
 use lib.ListN.{getD, length, replicate, set}
 use Rattle.language.specs.Acting.{Doing, Ran, runActions, went}
 use Rattle.language.specs.Description.{Description, State, constantValue, nodeAt, sequencingOf, stateAt}
-use Rattle.language.specs.Judging.{both}
 use Rattle.language.specs.Meaning.{Stuck, noState, noStateValue}
 use Rattle.language.specs.declared.stops.Stop.{Stop}
 use Rattle.language.specs.declared.stops.Stop.the-variants.{LastCycleReached, NoNextState, NothingToReturn, TooManyCalls, TwoNextStates, ValueUnborne}
 use Rattle.language.specs.Store.{Held, Words, begin, conflicts, held, landAll, numbers, setWord, wordOf}
 use Rattle.language.specs.Value.{bit}
+use Rattle.language.specs.Tests.{both}
 
 -- ---- The run record: state, cycle number, and the return states held, up to 16, unused ones zero.
 
@@ -148,7 +148,7 @@ module _ (d : Description) where
       cond (leb lastCycle (r .cycle)) (stopped LastCycleReached)
       (cond (ltb (r .state) stateCount) done (stuck noState))
 
-  -- ---- Opening: everything zero, the first state, cycle 0, and the sequencing register set.
+  -- ---- The record that opening gives: the first state, cycle 0, and no return held.
 
   abbrev pub openRecord : Record
   openRecord = record { state = 0; cycle = 0; held = 0; returns = replicate mostReturns 0 }

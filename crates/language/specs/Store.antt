@@ -5,11 +5,11 @@ use Prim.Native.Nat.{ℕ, zero, suc, _+_, _-_, _/_, _%_, _^_}
 use lib.Dec.{eqb, ltb}
 use lib.ListN.{drop, getD, length, replicate, set, take}
 use Rattle.language.specs.Description.{Description, Facility, facilityAt, isComputed, wordCount, wordLength}
-use Rattle.language.specs.Judging.{both}
 use Rattle.language.specs.Layout.{facilityBytes, noSpareBits, wordBytes, wordFromBytes, wordToBytes}
 use Rattle.language.specs.Meaning.{Place, Stores, Write}
 use Rattle.language.specs.Tree.{Kind, computed, input, memory, plain, register, sequencing}
 use Rattle.language.specs.Value.{bit, replaced}
+use Rattle.language.specs.Tests.{both}
 
 -- A list of words for each facility; a computed terminal has none.
 abbrev pub Words : Type 0
@@ -131,7 +131,7 @@ inputsOf (f ∷ fs) =
     let rest = inputsOf fs in
     cond (isInput (f .kind)) (f ∷ rest) rest
 
--- A cycle begins: inputs are set, plain terminals cleared.
+-- The words of the first facility.
 abbrev pub headOf : Words → List ℕ
 headOf [] = []
 headOf (ws ∷ s) = ws
@@ -144,6 +144,7 @@ begun plain f ws ins = replicate (wordCount f) 0
 begun input f ws ins = headOf ins
 begun computed f ws ins = ws
 
+-- A cycle begins: inputs are set, plain terminals cleared.
 unfoldable pub begin : List Facility → Words → Words → Words
 begin [] s ins = []
 begin (f ∷ fs) s ins = begun (f .kind) f (headOf s) ins ∷ begin fs (drop 1 s) (cond (isInput (f .kind)) (drop 1 ins) ins)

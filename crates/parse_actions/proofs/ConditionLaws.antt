@@ -54,7 +54,7 @@ module _ (case : Bool) {text : List ℕ} {w : Word} {s : State} {t : Answer} (x 
       → runs text (ask (actionAsk q) ∷ K) w b s ≡ runs text (ask expression ∷ (conditionStack q case ++ K)) (t .next) (keepWord (signOf case w) b) (t .state)
   opened d e z q K b = condition-comes text w z b (countsOf s) case e q K ∙ took-done (x .done d) z (ask expression ∷ (conditionStack q case ++ K)) (keepWord (signOf case w) b)
 
-  pub word-not : (t .verdict ≡ Done → ⊥) → {n : M.Counts} {work work′ : List ℕ} → Condition case text n w s work work′ t
+  pub word-not : (t .verdict ≡ Done → ⊥) → {n : M.KnownNames} {work work′ : List ℕ} → Condition case text n w s work work′ t
   word-not m e q sc st = record {
     done = λ d. absurd (m d);
     refused = λ f d K b. condition-comes text w (st .seen) b (countsOf s) case e q K ∙ took-refused x f d (ask expression ∷ (conditionStack q case ++ K)) (keepWord (signOf case w) b);
@@ -63,7 +63,7 @@ module _ (case : Bool) {text : List ℕ} {w : Word} {s : State} {t : Answer} (x 
 
 -- ---- Its condition.
 
-module _ (case : Bool) {text : List ℕ} {n : M.Counts} {w : Word} {s : State} {work : List ℕ} {t : Answer} (x : Took text w (afterWord true Opens s) s t) (d₁ : t .verdict ≡ Done)
+module _ (case : Bool) {text : List ℕ} {n : M.KnownNames} {w : Word} {s : State} {work : List ℕ} {t : Answer} (x : Took text w (afterWord true Opens s) s t) (d₁ : t .verdict ≡ Done)
     {work₁ : List ℕ} {c : Answer} (y : Parses (ask expression ∷ []) same (t .state .nesting) text (t .next) (t .state) work work₁ c) (z : Spends text 0 (t .next) (t .state) c) where
   inside : {sc : Scope} → Standing text sc n w s (s .actions) work → Standing text sc n (t .next) (t .state) (s .actions) work
   inside st = standing-passed true Opens st (x .done d₁)

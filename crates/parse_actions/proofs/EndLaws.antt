@@ -80,7 +80,7 @@ paid-whole {s} {s₁} {s₂} {s₃} a f p c k =
       actions = omega (arith, a .counted, p .actions, k .actions, f);
     }
 
-pub concluded : (q : Bool) {text : List ℕ} {sc : Scope} {n : M.Counts} {w : Word} {s : State} {work : List ℕ} → Standing text sc n w s (s .actions) work → {s₁ : State} → Entered s s₁ → s₁ .actions ≡ s .actions + 1
+pub concluded : (q : Bool) {text : List ℕ} {sc : Scope} {n : M.KnownNames} {w : Word} {s : State} {work : List ℕ} → Standing text sc n w s (s .actions) work → {s₁ : State} → Entered s s₁ → s₁ .actions ≡ s .actions + 1
     → {w₂ : Word} {s₂ : State} {work₂ work₃ : List ℕ} → Paid s₁ (s₁ .actions + 1) s₂ → Standing text sc n w₂ s₂ (s₂ .actions) work₂ → length work₃ ≡ workSize
     → (whole : Actions) → Written sc whole s work s₂ work₃ → {k : ℕ} {t : Answer} → Expected text k Closes w₂ s₂ t → 3 ≤ k → (f : Step Built) (mid : Built → Built)
     → ((K : Stack) (b : Built) → runs text (ask (actionAsk q) ∷ K) w b s ≡ runs text (word k closes ∷ make f ∷ K) w₂ (mid b) s₂) → ((b : Built) (p : L.Position) → f p (mid b) ≡ grown whole b)

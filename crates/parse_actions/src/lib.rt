@@ -89,7 +89,7 @@ pub fn action(
 
 // A conditional up to its first arm. Its record is written again when those that belong to it are counted.
 fn condition(s: State, case: bool, text: &[u8], w: Word, work: &mut Work) -> Answer
-    ensures { λ r. ⌜ ((m : M.Counts) → Condition case (now (text .entry)) m w s (now (work .entry)) (now (work .exit)) r) × Deeper s r ⌝ }
+    ensures { λ r. ⌜ ((m : M.KnownNames) → Condition case (now (text .entry)) m w s (now (work .entry)) (now (work .exit)) r) × Deeper s r ⌝ }
 {
     let opened = taking::take(text, w, s, true, Bearing::Opens);
     if parse_step::unread(opened) {

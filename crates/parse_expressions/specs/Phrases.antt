@@ -11,7 +11,7 @@ use Rattle.language.specs.Describe.{armsOf}
 use Rattle.language.specs.Description.{Node, nodePlaces}
 use Rattle.language.specs.Encode.{nodeBytes}
 use Rattle.language.specs.Kinds.{caseWord, doWord, elseWord, endCaseWord, endIfWord, ifWord, thenWord}
-use Rattle.language.specs.Machine.{Ask, ask, both, expression, level, make, moreArms, refused, word}
+use Rattle.language.specs.Machine.{Ask, ask, expression, level, make, moreArms, refused, word}
 use Rattle.language.specs.Naming.{Scope}
 use Rattle.language.specs.Tree.{Expression}
 use Rattle.language.specs.Words as L
@@ -35,6 +35,7 @@ use Rattle.parse_levels.specs.Orders.{again, headOf, operatorsOf, prefixLevel, 
 use Rattle.parse_operands.specs.Brackets.{bracketAsk, bracketEnd}
 use Rattle.parse_operands.specs.References.{lettersOf}
 use Rattle.parse_expressions.specs.declared.pieces.Armed.{Armed}
+use Rattle.language.specs.Tests.{both}
 
 -- Nothing is kept before; or a name is.
 abbrev pub same : List ℕ → Built → Built

@@ -11,7 +11,6 @@ use lib.ListN.{length}
 use Rattle.language.specs.Describe.{Noted, armsOf, bound, boundsOf, constantNodes, constantSize, count, digitsAbove, expressionSize, lastOf, noted, nodesOf, notedPart}
 use Rattle.language.specs.Description as D
 use Rattle.language.specs.Description.{Description, Node, digitLength, furtherDigits, nodeAt}
-use Rattle.language.specs.Judging.{both}
 use Rattle.language.specs.Naming.{Meaning, Scope, facility, meaning, numberOf, ofFacility, operation, orElse, state, unknown}
 use Rattle.language.specs.Order.{constantStart, digitsStand, startAt, startNode}
 use Rattle.language.specs.Scan.{same}
@@ -25,6 +24,7 @@ use Rattle.about_rules.specs.Tidy.{ExpressionTidy}
 use Rattle.about_images.specs.Back.{NodeInRange}
 use Rattle.parse_held.specs.NearTexts.{EndsNear, ExpressionNear}
 use Rattle.parse_held.specs.Standing.{Marked, Near, endsOf, narrowNode}
+use Rattle.language.specs.Tests.{both}
 
 -- ---- What names mean.
 

@@ -12,7 +12,7 @@ use Rattle.language.specs.Alternatives.{always, followed}
 use Rattle.language.specs.Building.{Built}
 use Rattle.language.specs.Declaring.{treeSteps}
 use Rattle.language.specs.Kinds.{differenceSign, minus}
-use Rattle.language.specs.Machine.{Alternative, Ask, Counts, Parsed, adjustment, andTail, arithmetic, arithmeticTail, ask, both, complement, conTail, cutTail, exclusiveTail, expression, finish, minterm, orTail, product, reading, reduction, relationTail, run, term, withinCeilings}
+use Rattle.language.specs.Machine.{Alternative, Ask, Counts, Parsed, adjustment, andTail, arithmetic, arithmeticTail, ask, complement, conTail, cutTail, exclusiveTail, expression, finish, minterm, orTail, product, reading, reduction, relationTail, run, term, withinCeilings}
 use Rattle.language.specs.Operators.{reductions}
 use Rattle.language.specs.Sections.{ruleOf}
 use Rattle.language.specs.Ways.{arithmeticWays, complementWays, mintermWays, productWays, reductionWays, termWays}
@@ -23,6 +23,7 @@ use Rattle.parse_levels.specs.declared.Level.{Level}
 use Rattle.parse_levels.specs.declared.Level.the-variants as E
 use Rattle.parse_levels.specs.declared.Rank.the-variants as R
 use Rattle.parse_levels.specs.Orders.{levelNo, stackOf, tailsFrom}
+use Rattle.language.specs.Tests.{both}
 
 module _ (text : List ℕ) (w : Word) (z : Seen text w) (b : Built) (c : Counts) where
   abbrev on : Stack → Parsed Built

@@ -5,11 +5,11 @@ use Prim.Native.Nat.{ℕ}
 use lib.Dec.{eqb, leb}
 use Rattle.about_grammar.specs.Following.{among}
 use Rattle.language.specs.Kinds.{differenceSign, minus}
-use Rattle.language.specs.Machine.{both}
 use Rattle.language.specs.Operators.{reductions}
 use Rattle.parse_levels.specs.declared.Lead.the-variants as H
 use Rattle.parse_levels.specs.declared.Level.{Level}
 use Rattle.parse_levels.specs.Orders.{headOf, levelNo}
+use Rattle.language.specs.Tests.{both}
 
 module _ (l : Level) (k n : ℕ) {a : Bool} (e : n ≡ levelNo l) (p : a ≡ both (leb 5 n) (eqb k minus)) where
   pub complement-head : a ≡ true → H.Complement ≡ headOf l k

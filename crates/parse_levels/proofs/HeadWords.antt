@@ -10,7 +10,7 @@ use Rattle.about_grammar.specs.Following.{among}
 use Rattle.language.specs.Building.{Built, keepWord}
 use Rattle.language.specs.Declaring.{treeSteps}
 use Rattle.language.specs.Kinds.{differenceSign, exclusiveSign, minus, plus, redWord, star, sumSign}
-use Rattle.language.specs.Machine.{Counts, adjustment, arithmetic, arithmeticTail, ask, both, choose, complement, conTail, ease, feed, level, make, reduction, run, tallied, term, word}
+use Rattle.language.specs.Machine.{Counts, adjustment, arithmetic, arithmeticTail, ask, choose, complement, conTail, ease, feed, level, make, reduction, run, tallied, term, word}
 use Rattle.language.specs.Operators.{reductions}
 use Rattle.language.specs.Sections.{ruleOf}
 use Rattle.language.specs.Words as L
@@ -27,6 +27,7 @@ use Rattle.parse_levels.specs.declared.Level.the-variants as E
 use Rattle.parse_levels.specs.declared.Rank.the-variants as R
 use Rattle.parse_levels.specs.Orders.{headOf, levelNo, prefixStack, rankAfter, stackOf, tailsFrom}
 use Rattle.parse_levels.proofs.Descent.{down-arithmetic, down-complement, down-reduction, down-term}
+use Rattle.language.specs.Tests.{both}
 
 -- ---- What the tests say.
 

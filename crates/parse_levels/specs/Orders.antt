@@ -7,7 +7,7 @@ use lib.ListN.{drop, take}
 use Rattle.about_grammar.specs.Following.{among}
 use Rattle.language.specs.Alternatives.{plainWord}
 use Rattle.language.specs.Kinds.{conWord, differenceSign, exclusiveSign, minus, plus, redWord, star}
-use Rattle.language.specs.Machine.{adjustment, andTail, arithmetic, arithmeticTail, ask, both, complement, conTail, cutTail, exclusiveTail, expression, minterm, orTail, product, reduction, relationTail, term}
+use Rattle.language.specs.Machine.{adjustment, andTail, arithmetic, arithmeticTail, ask, complement, conTail, cutTail, exclusiveTail, expression, minterm, orTail, product, reduction, relationTail, term}
 use Rattle.language.specs.Operators.{cuts, reductions, relations, sums}
 use Rattle.parse_step.specs.Course.{Stack}
 use Rattle.parse_levels.specs.declared.Lead.{Lead}
@@ -16,6 +16,7 @@ use Rattle.parse_levels.specs.declared.Level.{Level}
 use Rattle.parse_levels.specs.declared.Level.the-variants as E
 use Rattle.parse_levels.specs.declared.Rank.{Rank}
 use Rattle.parse_levels.specs.declared.Rank.the-variants as R
+use Rattle.language.specs.Tests.{both}
 
 abbrev pub operatorsOf : Rank → List ℕ
 operatorsOf R.Sum = sums

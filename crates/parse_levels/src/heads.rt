@@ -5,8 +5,8 @@ use crate::Rank;
 use crate::kinds::member;
 use value_operators::operators;
 ghost use mathlib.Core.Path.{_≡_};
-ghost use Rattle.language.specs.Machine as L;
 ghost use Rattle.parse_levels.specs.Orders.{headOf, levelNo, prefixLevel, rankAfter};
+ghost use Rattle.language.specs.Tests as Tests;
 
 // Levels in order.
 fn level_number(level: Level) -> u8
@@ -26,7 +26,7 @@ fn level_number(level: Level) -> u8
 }
 
 fn both(a: bool, b: bool) -> bool
-    ensures { λ r. ⌜ r ≡ L.both a b ⌝ }
+    ensures { λ r. ⌜ r ≡ Tests.both a b ⌝ }
 {
     if a { b } else { false }
 }

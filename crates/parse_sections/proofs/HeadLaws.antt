@@ -92,7 +92,7 @@ module _ {text : List ℕ} {w : Word} {s : State} {a : Answer} (x : Names text w
 
 -- ---- The body and `]`.
 
-module _ {text : List ℕ} {n : M.Counts} {w : Word} {s : State} {work work₁ : List ℕ} {r : Answer} (x : Acts (listStack false) same text n w s work work₁ r) where
+module _ {text : List ℕ} {n : M.KnownNames} {w : Word} {s : State} {work work₁ : List ℕ} {r : Answer} (x : Acts (listStack false) same text n w s work work₁ r) where
   pub body-not : (r .verdict ≡ Done → ⊥) → Body text n w s work work₁ r
   body-not m sc st = let t = x sc st in record { done = λ d. absurd (m d); refused = λ f d K b. t .refused f d (word closeBracket closes ∷ K) b; full = t .full }
 

@@ -6,7 +6,7 @@ use Prim.Native.Nat.{ℕ, suc, _≤_}
 use lib.Dec.{eqb}
 use Rattle.language.specs.Building.{Built, keepWord}
 use Rattle.language.specs.Kinds.{aConstant, colon}
-use Rattle.language.specs.Machine.{Counts, both, keep, refused, withinCeilings, word}
+use Rattle.language.specs.Machine.{Counts, keep, refused, withinCeilings, word}
 use Rattle.language.specs.declared.refusals.Refusal.{Refusal}
 use Rattle.language.specs.declared.refusals.Refusal.the-variants.{CeilingPassed}
 use Rattle.language.specs.Scan.{written}
@@ -20,6 +20,7 @@ use Rattle.parse_step.specs.declared.Bearing.{Bearing}
 use Rattle.parse_step.specs.declared.State.{State}
 use Rattle.parse_step.specs.declared.ReadVerdict.the-variants.{Done, Full, Refused}
 use Rattle.parse_step.specs.Course.{Seen, Stack, ahead, bearingOf, behind, borne, counts5, countsOf, runs, kindNo}
+use Rattle.language.specs.Tests.{both}
 
 abbrev pub tallyOf : ℕ → Bool → ℕ
 tallyOf n true = suc n

@@ -29,7 +29,7 @@ use Rattle.parse_stores.specs.Leaves.{KeepsName}
 use Rattle.parse_stores.specs.Reached.{Ends, Reached}
 
 -- Where nothing came before the end, it is all.
-pub reads-ended : {text : List ℕ} {sc : Scope} {n : M.Counts} {P : Stack} {pre : Built → Built} {w : Word} {s : State} {work work′ : List ℕ} {r : Answer}
+pub reads-ended : {text : List ℕ} {sc : Scope} {n : M.KnownNames} {P : Stack} {pre : Built → Built} {w : Word} {s : State} {work work′ : List ℕ} {r : Answer}
     → Ends text sc n P pre w s s work work′ r → Reads text sc n P [] pre w s work work′ r
 reads-ended x = record {
   done = λ d. let y = x .done d in record { tree = y .tree; course = y .course; written = y .written; paid = y .paid; standing = y .standing };
@@ -37,7 +37,7 @@ reads-ended x = record {
   full = x .full;
 }
 
-module _ {text : List ℕ} {sc : Scope} {n : M.Counts} {P : Stack} {pre : Built → Built} {w : Word} {s s₀ : State} {work work′ : List ℕ} where
+module _ {text : List ℕ} {sc : Scope} {n : M.KnownNames} {P : Stack} {pre : Built → Built} {w : Word} {s s₀ : State} {work work′ : List ℕ} where
   -- Behind a course.
   pub ends-through : {r : Answer} {P₁ : Stack} {pre₁ : Built → Built} {w₁ : Word} {s₁ : State} → Ends text sc n P₁ pre₁ w₁ s₁ s₀ work work′ r
       → ((K : Stack) (b : Built) → runs text (P ++ K) w (pre b) s ≡ runs text (P₁ ++ K) w₁ (pre₁ b) s₁) → Ends text sc n P pre w s s₀ work work′ r

@@ -78,7 +78,7 @@ cheaper {s₁ = s₁} x h = record {
   nodes = x .nodes;
 }
 
-module _ {text : List ℕ} {sc : Scope} {n : M.Counts} {w : Word} {s : State} {acts : ℕ} {work : List ℕ} (st : Standing text sc n w s acts work) where
+module _ {text : List ℕ} {sc : Scope} {n : M.KnownNames} {w : Word} {s : State} {acts : ℕ} {work : List ℕ} (st : Standing text sc n w s acts work) where
   pub start-reached : Reached text sc 0 0 [] 0 s work w s work
   start-reached = record {
     seen = st .seen;
@@ -166,7 +166,7 @@ module _ {text : List ℕ} {sc : Scope} {n : M.Counts} {w : Word} {s : State} {a
 
 -- ---- The record of the action.
 
-module _ {text : List ℕ} {sc : Scope} {n : M.Counts} {w : Word} {s : State} {work : List ℕ} (st : Standing text sc n w s (s .actions) work)
+module _ {text : List ℕ} {sc : Scope} {n : M.KnownNames} {w : Word} {s : State} {work : List ℕ} (st : Standing text sc n w s (s .actions) work)
     {ns : List Noted} {size : ℕ} {w₁ : Word} {s₁ : State} {work₁ : List ℕ} (x : Reached text sc 1 0 ns size s work w₁ s₁ work₁) {a : D.Action} {at : Position} {work₂ : List ℕ} {r : Answer} (y : Puts a at w₁ s₁ work₁ work₂ r)
     (t : Actions) (e₁ : expressionsIn t ≡ size) (e₂ : nodesIn sc (s .nodes) t ≡ ns) (e₃ : actionsIn t ≡ 1) (e₄ : actionsOf sc (s .nodes) t ≡ act a (positioned at) ∷ []) where
   abbrev after : State

@@ -44,7 +44,7 @@ use Rattle.parse_stores.specs.Reached.{Arrows, Reached, arrowAction, arr
 
 -- ---- An operation performed.
 
-module _ {text : List ℕ} {n : M.Counts} {name w : Word} {s : State} {work : List ℕ} {a : Answer} (t : Went name w (afterWord true Level s) s a) where
+module _ {text : List ℕ} {n : M.KnownNames} {name w : Word} {s : State} {work : List ℕ} {a : Answer} (t : Went name w (afterWord true Level s) s a) where
   pub unperformed : (a .verdict ≡ Done → ⊥) → Performs name text n w s work work a
   unperformed m q g sc st = record {
     done = λ d. absurd (m d);
@@ -92,7 +92,7 @@ unfolding expressionsIn nodesIn actionsIn actionsOf wordNo listNo
 arrow-laws sc false m p = record { size = refl; nodes = λ i. refl; count = refl; records = λ i. refl; step = λ b q. refl }
 arrow-laws sc true m p = record { size = refl; nodes = λ i. refl; count = refl; records = λ i. refl; step = λ b q. refl }
 
-module _ {text : List ℕ} {n : M.Counts} {w₁ : Word} {s₁ : State} {work₁ : List ℕ} {a : Answer} (t : KeepsName text w₁ s₁ a) where
+module _ {text : List ℕ} {n : M.KnownNames} {w₁ : Word} {s₁ : State} {work₁ : List ℕ} {a : Answer} (t : KeepsName text w₁ s₁ a) where
   pub arrow-unnamed : (call : Bool) → (a .verdict ≡ Done → ⊥) → Arrows call text n w₁ s₁ work₁ work₁ a
   arrow-unnamed call m sc w s work st x = ends-unnamed t m (x .seen) (within-reached st x) (λ K. make (arrowStep call) ∷ K) (λ b. b) (λ K b. refl)
 
@@ -118,7 +118,7 @@ module _ (text : List ℕ) (w : Word) (s : State) (e : among (kindNo (w .kind)) 
       among-first-or i callSign (returnWord ∷ []) e₁ (λ q. call-comes text w z b (countsOf s) q K ∙ ap (λ (j : ℕ). onTaken text w (keep aName ∷ make (arrowStep (eqb j 28)) ∷ K) b (afterWord true Level s)) (sym q)) λ e₂.
       among-first-or i returnWord [] e₂ (λ q. absurd (m q)) (among-none i)
 
-  module _ {n : M.Counts} {work : List ℕ} {a : Answer} (t : Took text w (afterWord true Level s) s a) where
+  module _ {n : M.KnownNames} {work : List ℕ} {a : Answer} (t : Took text w (afterWord true Level s) s a) where
     pub sign-untaken : (a .verdict ≡ Done → ⊥) → Acts (ask stateAction ∷ []) same text n w s work work a
     sign-untaken m sc st =
         let i = kindNo (w .kind) in

@@ -14,7 +14,7 @@ use Rattle.parse_step.specs.declared.State.{State}
 use Rattle.parse_step.specs.Course.{Seen, countsOf}
 use Rattle.parse_step.specs.Says.{Here}
 use Rattle.parse_step.specs.Taken.{Passed, afterWord, tallyOf}
-use Rattle.language.specs.Machine.{Counts, both, deepest, mostCounted, mostFacilities, mostOperations, mostStates, withinCeilings}
+use Rattle.language.specs.Machine.{Counts, deepest, mostCounted, mostFacilities, mostOperations, mostStates, withinCeilings}
 use Rattle.language.specs.Naming.{Scope}
 use Rattle.language.specs.Tree.{Actions}
 use Rattle.parse_tables.specs.declared.meaning.KnownNames as M
@@ -23,6 +23,7 @@ use Rattle.parse_tables.specs.Names.{facilityNames}
 use Rattle.parse_array.specs.Layout.{workSize}
 use Rattle.parse_stores.proofs.Keeping.{known-kept}
 use Rattle.parse_stores.specs.Actions.{Paid, Standing, Written}
+use Rattle.language.specs.Tests.{both}
 
 -- ---- Ceilings.
 
@@ -50,7 +51,7 @@ within-more c d e f o s k n =
 
 -- ---- Standing.
 
-module _ {text : List ℕ} {sc : Scope} {n : M.Counts} {w : Word} {s : State} {acts : ℕ} {work : List ℕ} where
+module _ {text : List ℕ} {sc : Scope} {n : M.KnownNames} {w : Word} {s : State} {acts : ℕ} {work : List ℕ} where
   pub here-of : Standing text sc n w s acts work → Here text sc w s work
   here-of st = record { seen = st .seen; names = st .known .facilities ∙ ap (facilityNames text work) (st .facilities) }
 
@@ -88,7 +89,7 @@ module _ {text : List ℕ} {sc : Scope} {n : M.Counts} {w : Word} {s : State} {a
   }
 
 -- Behind a word, with the action records that are written there.
-pub standing-word : {text : List ℕ} {sc : Scope} {n : M.Counts} {w : Word} {s : State} {work : List ℕ} (counts : Bool) (b : Bearing) {a : Answer} → Standing text sc n w s (s .actions) work
+pub standing-word : {text : List ℕ} {sc : Scope} {n : M.KnownNames} {w : Word} {s : State} {work : List ℕ} (counts : Bool) (b : Bearing) {a : Answer} → Standing text sc n w s (s .actions) work
     → Passed text w (afterWord counts b s) s a → Standing text sc n (a .next) (a .state) (a .state .actions) work
 standing-word {text} {sc} {n} {work = work} counts b {a} st p =
     subst (λ (m : ℕ). Standing text sc n (a .next) (a .state) m work) (sym (p .kept .actions)) (standing-passed counts b st p)

@@ -168,7 +168,7 @@ module _ {text : List ℕ} {w₁ : Word} {s₁ : State} {work₁ work₂ : List 
 
 -- ---- A name that is referred to.
 
-module _ {text : List ℕ} (name : Word) {w : Word} {s : State} {work work₁ : List ℕ} {n : M.Counts} (a q : Ask)
+module _ {text : List ℕ} (name : Word) {w : Word} {s : State} {work work₁ : List ℕ} {n : M.KnownNames} (a q : Ask)
     (c : Seen text w → (K : Stack) (b : Built) → runs text (ask a ∷ K) w b s ≡ runs text (ask subscripts ∷ ask q ∷ K) w b s)
     {i : Answer} (f : Parses (ask subscripts ∷ []) (afterName name) (s .nesting) text w s work work₁ i) (p : Spends text 2 w s i) where
   pub unreferred : (i .verdict ≡ Done → ⊥) → Acts (ask a ∷ []) (afterName name) text n w s work work₁ i

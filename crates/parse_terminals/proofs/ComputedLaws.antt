@@ -23,7 +23,7 @@ use Rattle.language.specs.Declaring.{makeComputed}
 use Rattle.language.specs.Describe.{Noted, expressionSize, nodesOf}
 use Rattle.language.specs.DescribeText.{facilityNodes, facilitySize}
 use Rattle.language.specs.Encode as Encode
-use Rattle.language.specs.Machine.{ask, both, deepest, expression, functionOf, make, mostCounted, mostFacilities, mostOperations, mostStates, withinCeilings}
+use Rattle.language.specs.Machine.{ask, deepest, expression, functionOf, make, mostCounted, mostFacilities, mostOperations, mostStates, withinCeilings}
 use Rattle.language.specs.Naming.{Scope}
 use Rattle.language.specs.Tree as T
 use Rattle.language.specs.Tree.{Declaration, Expression, Extent}
@@ -42,6 +42,7 @@ use Rattle.parse_array.specs.Layout.{mostNodes}
 use Rattle.parse_terminals.specs.Functions.{Computes, FunctionRead}
 use Rattle.parse_terminals.specs.Inputs.{atFunction, withOne}
 use Rattle.parse_terminals.proofs.FunctionWords.{expression-first}
+use Rattle.language.specs.Tests.{both}
 
 -- ---- The tables lie behind the expressions.
 

@@ -12,7 +12,6 @@ use Rattle.language.specs.Calls.{afterStep, cycle, cycleRefusal, roomy, soundBy
 use Rattle.language.specs.Decode.{decode}
 use Rattle.language.specs.Description.{Description}
 use Rattle.language.specs.Image.{passes}
-use Rattle.language.specs.Judging.{both}
 use Rattle.language.specs.Layout.{storeSize}
 use Rattle.language.specs.RecordBytes.{marked, recordFrom, recordSize, returnsSound, sound}
 use Rattle.language.specs.Step.{mostReturns, step}
@@ -23,6 +22,7 @@ use Rattle.about_bytes.specs.StaysSound.{Unrefused, unrefused}
 use Rattle.store_layout.proofs.Inverse.{bytes-again, words-same}
 use Rattle.store_layout.proofs.StoreWords.{shaped-from}
 use Rattle.store_layout.specs.Layout.{Bytes}
+use Rattle.language.specs.Tests.{both}
 
 module _ (image store kept stimulus : List ℕ) (scratch : ℕ) (free : cycleRefusal image store kept stimulus scratch ≡ none) where
   abbrev d : Description

@@ -11,13 +11,13 @@ use lib.ListN.{drop, length}
 use lib.Seq.{drop-cons, drop-drop}
 use Rattle.language.specs.Calls.{stimulusSize, wellFormed}
 use Rattle.language.specs.Description.{Description, Facility, facilityAt, noFacility, wordCount, wordLength}
-use Rattle.language.specs.Judging.{both}
 use Rattle.language.specs.Layout.{facilityBytes, storeSizeOf, wordBytes}
 use Rattle.language.specs.Store.{allNarrow, facilityWords, fromBytes, inputsOf, isInput, narrow, wordsFrom}
 use Rattle.store_layout.proofs.SpareLaws.{facility-narrow}
 use Rattle.store_layout.specs.Spare.{narrowAt}
 use Rattle.run_begin.proofs.SizeLaws.{fits-input, fits-other, input-not, input-stored, input-whole, stored-bytes}
 use Rattle.run_begin.specs.InBytes.{fitsAt, inputBytes}
+use Rattle.language.specs.Tests.{both}
 
 -- What is left of the stimulus from `at` on is what these facilities take of it.
 unfoldable pub wellFrom : List Facility → List ℕ → ℕ → Bool

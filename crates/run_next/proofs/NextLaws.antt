@@ -10,7 +10,6 @@ use lib.Dec.{eqb, leb, ltb}
 use lib.ListN.{getD, length, set}
 use Rattle.language.specs.Acting as T
 use Rattle.language.specs.Description.{Description}
-use Rattle.language.specs.Judging.{both}
 use Rattle.language.specs.Step as S
 use Rattle.language.specs.Step.{mostReturns}
 use Rattle.language.specs.Store.{Held}
@@ -18,6 +17,7 @@ use Rattle.language.specs.Value.{bit}
 use Rattle.run_stores.specs.Seen.{States}
 use Rattle.run_stores.specs.declared.doing.Doing.{Doing}
 use Rattle.run_next.specs.Seen.{Sees, isNone, leftSeen, nextSeen, orZero, recordSeen, stopSeen}
+use Rattle.language.specs.Tests.{both}
 
 -- ---- Past the end of a list.
 

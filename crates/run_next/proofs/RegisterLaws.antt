@@ -64,7 +64,7 @@ module _ (B : List ℕ) (are : Bytes B) (at l : ℕ) (fits : at + wordBytes l �
       (ap (λ (x : ℕ). x / 1 % 2 ^ w) whole-in ∙ (ap (λ (x : ℕ). x % 2 ^ w) (div-one (wordIn B at l)) ∙ mod-eq-of-lt (word-lt B at l fits are)))
 
 -- So it is the word of the store.
-module _ {d : Description} {F E : List ℕ} (h : Describes d F E) (n : ℕ) (f : Read.Facility) (g : FacilityRead F n f) (l : n < length (d .facilities)) where
+module _ {d : Description} {F E : List ℕ} (h : Describes d F E) (n : ℕ) (f : Read.FacilityRecord) (g : FacilityRead F n f) (l : n < length (d .facilities)) where
   pub first-word : isComputed (facilityMeant (nameOf h n f g) f .kind) ≡ false → 0 < wordCount (facilityAt d n) → (B : List ℕ) → Bytes B → storeSizeOf (d .facilities) ≤ length B
       → 8 * wordBytes (wordLength (facilityMeant (nameOf h n f g) f)) ≤ 256
       → loaded B (f .place) (8 * wordBytes (wordLength (facilityMeant (nameOf h n f g) f))) 0 (8 * wordBytes (wordLength (facilityMeant (nameOf h n f g) f))) .number ≡ wordOf (fromBytes (d .facilities) B) n 0

@@ -6,7 +6,6 @@ use Prim.Native.Nat.{ℕ, suc, _+_, _-_, min}
 use lib.Dec.{eqb, leb, ltb}
 use lib.ListN.{getD, set}
 use Rattle.language.specs.Acting as T
-use Rattle.language.specs.Judging.{both}
 use Rattle.language.specs.Step as S
 use Rattle.language.specs.declared.stops.Stop.{Stop}
 use Rattle.language.specs.declared.stops.Stop.the-variants.{NoNextState, NothingToReturn, TooManyCalls, TwoNextStates, ValueUnborne}
@@ -15,6 +14,7 @@ use Rattle.language.specs.Value.{bit}
 use Rattle.run_stores.specs.Seen.{named, statesSeen}
 use Rattle.run_stores.specs.declared.doing.Doing.{Doing}
 use Rattle.run_next.specs.declared.record.Record.{Record}
+use Rattle.language.specs.Tests.{both}
 
 abbrev pub recordMeant : Record → S.Record
 recordMeant r = record { state = r .state; cycle = r .cycle; held = r .held; returns = r .returns }

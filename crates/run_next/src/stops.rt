@@ -8,10 +8,10 @@ use run_stores::doing::Doing;
 ghost use mathlib.Core.Bool.{_||_};
 ghost use mathlib.Core.Path.{_≡_};
 ghost use Prim.Native.Nat.{_<_};
-ghost use Rattle.language.specs.Judging as J;
 ghost use Rattle.language.specs.Stops.{halted};
 ghost use Rattle.run_references.specs.Places.{foundMeant};
 ghost use Rattle.run_next.specs.Seen.{isNone, plainSeen, recordMeant, stopSeen};
+ghost use Rattle.language.specs.Tests as Tests;
 
 // How many plain next states are named, as far as it matters.
 fn plain_count(g: Doing) -> u32
@@ -23,7 +23,7 @@ fn plain_count(g: Doing) -> u32
 }
 
 fn both(a: bool, b: bool) -> bool
-    ensures { λ r. ⌜ r ≡ J.both a b ⌝ }
+    ensures { λ r. ⌜ r ≡ Tests.both a b ⌝ }
 {
     if a { b } else { false }
 }

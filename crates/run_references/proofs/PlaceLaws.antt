@@ -9,7 +9,6 @@ use lib.Dec.{eqb, leb, ltb}
 use lib.ListN.{length}
 use Rattle.language.specs.Description as D
 use Rattle.language.specs.Description.{Description, facilityAt, fromFirst, inBounds, isComputed, wordLength}
-use Rattle.language.specs.Judging.{both}
 use Rattle.language.specs.Layout.{placeIn, wordBytes}
 use Rattle.language.specs.Meaning as M
 use Rattle.language.specs.Meaning.{Answer, Located, Place, located, narrow, placeOf, readAt}
@@ -24,6 +23,7 @@ use Rattle.image_sections.specs.declared.facilities.FacilityRecord.{FacilityRec
 use Rattle.store_layout.specs.InBytes.{InBytes, bytes, loadBytes, placeOfWord}
 use Rattle.store_layout.specs.Parts.{loaded}
 use Rattle.run_references.specs.Described.{Describes}
+use Rattle.language.specs.Tests.{both}
 
 -- ---- When a reference has a place.
 

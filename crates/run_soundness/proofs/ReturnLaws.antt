@@ -8,8 +8,8 @@ use borrow.Author.Tests.{le-ltb, lt-ltb, ltb-false, ltb-true}
 use lib.Dec.{eqb, ltb}
 use lib.ListN.{drop, drop-of-length-le, getD, length}
 use lib.Seq.{drop-cons}
-use Rattle.language.specs.Judging.{both}
 use Rattle.language.specs.RecordBytes.{returnsSound}
+use Rattle.language.specs.Tests.{both}
 
 first-return : (states k x : ℕ) (xs : List ℕ) → returnsSound states k (x ∷ xs) ≡ both (cond (ltb 0 k) (ltb x states) (eqb x 0)) (returnsSound states (k - 1) xs)
 unfolding returnsSound

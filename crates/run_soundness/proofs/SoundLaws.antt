@@ -7,11 +7,11 @@ use lib.ListN.{length}
 use Prim.Native.Nat.{ℕ}
 use Rattle.language.specs.Calls.{soundBytes}
 use Rattle.language.specs.Description.{Description, sequencingOf}
-use Rattle.language.specs.Judging.{both}
 use Rattle.language.specs.RecordBytes.{agrees, marked, recordFrom, returnsSound, sound}
 use Rattle.language.specs.Step.{Record, mostReturns, registerValue, stateNumber}
 use Rattle.language.specs.Store.{fromBytes, narrow}
 use Rattle.run_soundness.specs.Tested.{recordSound}
+use Rattle.language.specs.Tests.{both}
 
 both-thrice : (a b c x : Bool) → both a (both b (both c x)) ≡ both (both a (both b c)) x
 both-thrice true true c x = refl

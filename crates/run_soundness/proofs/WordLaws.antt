@@ -7,7 +7,6 @@ use native.Mathlib.Omega.{arith}
 use lib.ListN.{drop, drop-of-length-le, getD, length}
 use lib.Seq.{drop-drop}
 use Rattle.language.specs.Description.{Facility, isComputed, noFacility, wordCount, wordLength}
-use Rattle.language.specs.Judging.{both}
 use Rattle.language.specs.Layout.{facilityBytes, placeIn, storeSizeOf, wordBytes}
 use Rattle.language.specs.Store.{allNarrow, facilityWords, fromBytes, narrow}
 use Rattle.store_layout.proofs.SpareLaws.{facility-narrow, one-word}
@@ -16,6 +15,7 @@ use Rattle.store_layout.specs.InBytes.{placeOfWord}
 use Rattle.store_layout.specs.Spare.{narrowAt}
 use Rattle.about_running.specs.StateValues.{some-word}
 use Rattle.run_soundness.specs.Tested.{narrowIn}
+use Rattle.language.specs.Tests.{both}
 
 pub narrow-computed : (B : List ℕ) (at : ℕ) (f : Facility) → isComputed (f .kind) ≡ true → narrowIn B at f ≡ true
 unfolding narrowIn

@@ -8,12 +8,12 @@ use lib.Dec.{leb, ltb}
 use lib.ListN.{length}
 use Rattle.language.specs.Description.{Description, Facility, facilityAt, isComputed, sequencingOf, wordCount, wordLength}
 use Rattle.language.specs.Encode.{stateSize}
-use Rattle.language.specs.Judging.{both}
 use Rattle.language.specs.RecordBytes.{returnsSound}
 use Rattle.language.specs.Step.{Record, mostReturns}
 use Rattle.store_layout.specs.Spare.{narrowAt}
 use Rattle.run_references.specs.Described.{Describes}
 use Rattle.run_next.specs.Values.{Valued}
+use Rattle.language.specs.Tests.{both}
 
 -- The sections of facilities, expressions and states describe d, and the sequencing register's word is no longer than a value.
 pub record Testable (d : Description) (F E T : List ℕ) : Type 0 where

@@ -10,7 +10,6 @@ use lib.ListN.{drop, length, length-append, length-drop, take}
 use lib.Pow.{pow-mono}
 use lib.Seq.{drop-at, length-take-le, take-add, take-at}
 use Rattle.language.specs.Description.{Facility, isComputed, wordCount, wordLength}
-use Rattle.language.specs.Judging.{both}
 use Rattle.language.specs.Layout.{facilityBytes, noSpareBits, storeSizeOf, wordBytes, wordFromBytes, wordToBytes}
 use Rattle.language.specs.Store.{Words, allNarrow, facilityWords, fromBytes, narrow, toBytes, wordsFrom, wordsTo}
 use Rattle.store_layout.specs.InBytes.{Shaped, rowLength}
@@ -18,6 +17,7 @@ use Rattle.store_layout.specs.Layout.{Bytes}
 use Rattle.store_layout.proofs.ByteLists.{bytes-drop, bytes-take}
 use Rattle.store_layout.proofs.ByteOrder.{length-word, word-room}
 use Rattle.store_layout.proofs.Words.{from-to, to-from}
+use Rattle.language.specs.Tests.{both}
 
 -- ---- From bytes, and back.
 

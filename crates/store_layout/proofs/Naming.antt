@@ -7,11 +7,11 @@ use native.Mathlib.Omega.{arith}
 use borrow.Author.Tests.{eq-eqb, eqb-true, le-leb, leb-true, lt-ltb, ltb-true}
 use lib.Dec.{eqb, leb, ltb}
 use Rattle.language.specs.Description.{Description, facilityAt, wordLength}
-use Rattle.language.specs.Judging.{both}
 use Rattle.language.specs.Meaning.{Place, Write}
 use Rattle.language.specs.Store.{lowOf, meet, meetsAny}
 use Rattle.store_layout.specs.InBytes.{There}
 use Rattle.store_layout.proofs.Inverse.{both-true}
+use Rattle.language.specs.Tests.{both}
 
 module _ (d : Description) where
   -- The place p has the bit k, from the right, of word w of facility f.

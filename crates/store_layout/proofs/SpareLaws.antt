@@ -11,7 +11,6 @@ use lib.ListN.{drop, length}
 use lib.Pow.{shr-mod}
 use lib.Seq.{drop-drop}
 use Rattle.language.specs.Description.{Facility, isComputed, wordCount, wordLength}
-use Rattle.language.specs.Judging.{both}
 use Rattle.language.specs.Layout.{facilityBytes, noSpareBits, wordBytes}
 use Rattle.language.specs.Store.{allNarrow, facilityWords, wordsFrom}
 use Rattle.store_layout.specs.Layout.{Bytes, wordIn}
@@ -20,6 +19,7 @@ use Rattle.store_layout.specs.Spare.{narrowAt}
 use Rattle.store_layout.proofs.ByteOrder.{word-room}
 use Rattle.store_layout.proofs.Numbers.{below-pow}
 use Rattle.store_layout.proofs.Words.{word-lt}
+use Rattle.language.specs.Tests.{both}
 
 module _ (B : List ℕ) (at l : ℕ) (fits : at + wordBytes l ≤ length B) (bytes : Bytes B) where
   spare-all : partIn B at l l (8 * wordBytes l - l) ≡ wordIn B at l / 2 ^ l

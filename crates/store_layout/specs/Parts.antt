@@ -4,10 +4,10 @@ use mathlib.Core.List.{List}
 use Prim.Native.Nat.{ℕ, _+_, _-_, _/_, _%_, _^_}
 use lib.Dec.{leb}
 use lib.ListN.{length}
-use Rattle.language.specs.Judging.{both}
 use Rattle.language.specs.Layout.{wordBytes}
 use Rattle.language.specs.Value.{Value, longest, replaced, value}
 use Rattle.store_layout.specs.Layout.{withWord, wordIn}
+use Rattle.language.specs.Tests.{both}
 
 -- The c bits above the lowest `low` ones of the word of l bits at `at`.
 unfoldable pub partIn : List ℕ → ℕ → ℕ → ℕ → ℕ → ℕ

@@ -11,7 +11,6 @@ use lib.Dec.{leb}
 use lib.ListN.{getD, length, set}
 use lib.Pow.{mod-pow-add, pow-pos, shr-shr}
 use Rattle.language.specs.Layout.{wordBytes}
-use Rattle.language.specs.Judging.{both}
 use Rattle.language.specs.Value.{longest, replaced, value}
 use Rattle.value_limbs.specs.Limbs.{cat, four}
 use Rattle.value_limbs.specs.declared.Four.{Four}
@@ -23,6 +22,7 @@ use Rattle.store_words.specs.declared.parts.Runs.{Runs}
 use Rattle.store_layout.proofs.ByteOrder.{word-room}
 use Rattle.store_layout.proofs.Numbers.{Apart, bit-low, part-apart, part-limb, part-replaced, part-same, replaced-cat, replaced-commute, replaced-in-digit, replaced-limb, replaced-lt, replaced-none}
 use Rattle.store_layout.proofs.Words.{bytes-with, digit-in, length-with, set-digit, with-apart, with-with, with-word, word-apart, word-lt, word-with}
+use Rattle.language.specs.Tests.{both}
 
 pub part-lt : (B : List ℕ) (at l low c : ℕ) → partIn B at l low c < 2 ^ c
 unfolding partIn

@@ -139,7 +139,7 @@ module _ (text : List ℕ) (at : ℕ) (i : Item) (h : at < length text)
   unfolding wordsFrom
   here-words q = go (i .kind) q ∙ sym (ap (λ (r : Scanned). r .words) walked)
     where
-      go : (k : S.Kind) → isEnd (wordKind k) ≡ false → inFront letters constant (position at) (rest .words) (wordKind k) ≡ noted (position at) (itemOf letters constant k) rest .words
+      go : (k : S.ItemKind) → isEnd (wordKind k) ≡ false → inFront letters constant (position at) (rest .words) (wordKind k) ≡ noted (position at) (itemOf letters constant k) rest .words
       go I.Gap q = absurd (false≢true (sym q))
       go I.Name q = refl
       go I.Constant q = refl
@@ -159,7 +159,7 @@ module _ (text : List ℕ) (at : ℕ) (i : Item) (h : at < length text)
   unfolding wordsFrom
   word-next q = ap (λ (r : Scanned). r .words) walked ∙ go (i .kind) q
     where
-      go : (k : S.Kind) → isEnd (wordKind k) ≡ true → noted (position at) (itemOf letters constant k) rest .words ≡ rest .words
+      go : (k : S.ItemKind) → isEnd (wordKind k) ≡ true → noted (position at) (itemOf letters constant k) rest .words ≡ rest .words
       go I.Gap q = refl
       go I.Name q = absurd (false≢true q)
       go I.Constant q = absurd (false≢true q)
@@ -174,7 +174,7 @@ module _ (text : List ℕ) (at : ℕ) (i : Item) (h : at < length text)
   pub fault-here : (f : Fault) → kindFault (i .kind) at ≡ some f → some f ≡ least (scanned text at .faults)
   fault-here f q = go (i .kind) q ∙ sym (ap (λ (r : Scanned). least (r .faults)) walked)
     where
-      go : (k : S.Kind) → kindFault k at ≡ some f → some f ≡ least (noted (position at) (itemOf letters constant k) rest .faults)
+      go : (k : S.ItemKind) → kindFault k at ≡ some f → some f ≡ least (noted (position at) (itemOf letters constant k) rest .faults)
       go I.Gap q = absurd (never q)
       go I.Name q = absurd (never q)
       go I.Constant q = absurd (never q)
@@ -184,7 +184,7 @@ module _ (text : List ℕ) (at : ℕ) (i : Item) (h : at < length text)
   pub fault-next : kindFault (i .kind) at ≡ none → least (scanned text at .faults) ≡ least (scanned text (at + i .size) .faults)
   fault-next q = ap (λ (r : Scanned). least (r .faults)) walked ∙ go (i .kind) q
     where
-      go : (k : S.Kind) → kindFault k at ≡ none → least (noted (position at) (itemOf letters constant k) rest .faults) ≡ least (rest .faults)
+      go : (k : S.ItemKind) → kindFault k at ≡ none → least (noted (position at) (itemOf letters constant k) rest .faults) ≡ least (rest .faults)
       go I.Gap q = refl
       go I.Name q = refl
       go I.Constant q = refl

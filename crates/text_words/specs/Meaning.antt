@@ -52,7 +52,7 @@ isEnd K.Name = false
 isEnd K.Constant = false
 isEnd (K.Sign k) = false
 
-abbrev pub wordKind : S.Kind → WordKind
+abbrev pub wordKind : S.ItemKind → WordKind
 wordKind I.Gap = K.End
 wordKind I.Name = K.Name
 wordKind I.Constant = K.Constant
@@ -84,7 +84,7 @@ judged (Refused f) = some (faulted f)
 abbrev pub refusedAt : ℕ → Refusal → Option L.Fault
 refusedAt p r = some (fault (position p) r)
 
-abbrev pub kindFault : S.Kind → ℕ → Option L.Fault
+abbrev pub kindFault : S.ItemKind → ℕ → Option L.Fault
 kindFault I.Gap p = none
 kindFault I.Name p = none
 kindFault I.Constant p = none

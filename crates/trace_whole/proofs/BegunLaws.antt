@@ -91,7 +91,7 @@ runs {text} {n} {m} {kept} {size} {space} {I} {S} {R} f e k o =
     runs-so f q
 
 -- The first bytes of a buffer B, which opening left as X.
-module _ (image : List ℕ) (passed : passes image ≡ true) (B X : List ℕ) (a : O.Answer) {size kept : ℕ} {K : List ℕ} where
+module _ (image : List ℕ) (passed : passes image ≡ true) (B X : List ℕ) (a : O.OpenReply) {size kept : ℕ} {K : List ℕ} where
   pub opened-is : 16384 ≤ length B → size ≡ storeSize (decode image) → length X ≡ length (take (size - 0) B) → Opening.called a X K ≡ open′ image (length (take (size - 0) B)) kept
       → Opened image kept size (length B) (X ++ drop (size - 0) B) K
   unfolding storeSize

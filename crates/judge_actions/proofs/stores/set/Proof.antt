@@ -15,6 +15,7 @@ use mathlib.Core.Bool.{Bool}
 use borrow.Author.Needs.{needs}
 use Rattle.judge_actions.proofs.stores.set.Statement.{statement}
 use Rattle.judge_actions.proofs.stores.set.Tie as tie
+use Rattle.language.specs.Tests as Tests
 
 kind-at-requires : tie.Need-kind-at-requires
 kind-at-requires c κs = search needs
@@ -45,7 +46,7 @@ returns c =
     λ q z d p t sh. one-fine _ _ _ (sym (c .before .before .before .before .before .a .given .1) ∙ c .before .before .before .before .before .before .before .left .ensures d p t sh)
     (λ x m. c .or-faulty .ensures _ _
     (c .before .before .unless .ensures ∙ ap₂ (λ (b : Bool) (u : W.Position). least (L.unless b u BadStore))
-    (c .before .before .before .may-set .ensures ∙ ap₂ (λ (k : Kind) (l : ℕ). L.both (isPlain k) (eqb l 1)) (c .before .before .before .before .before .before .before .before .kind-at .ensures .kind d p t _ _ _ sh) (ap (λ (v : Worth). v .length) m)) z)
+    (c .before .before .before .may-set .ensures ∙ ap₂ (λ (k : Kind) (l : ℕ). Tests.both (isPlain k) (eqb l 1)) (c .before .before .before .before .before .before .before .before .kind-at .ensures .kind d p t _ _ _ sh) (ap (λ (v : Worth). v .length) m)) z)
     (worth-seen 1 0 _ refl (sym (capped-small 0 (omega arith))) (c .before .with-one .ensures _ (ap (λ (v : Worth). v .work) m))))
 
 returns-2 : tie.Need-returns-2

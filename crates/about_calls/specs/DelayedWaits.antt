@@ -1,29 +1,27 @@
--- What a completed cycle did: a delayed store fixes place and value when executed and changes no word; all land at the end, in order of execution, and the conflicts are counted from them; what no executed store names is kept. Assumes nothing.
+-- A delayed store fixes place and value when executed and changes no word; two of them swap two registers; what no executed store names is kept. Assumes nothing.
 use mathlib.Core.Bool.{Bool, true, false, cond, _||_}
 use mathlib.Core.List.{List, [], _∷_, _++_}
-use mathlib.Core.Option.{Option, none, some}
-use mathlib.Core.Path.{_≡_, refl, sym, ap, _∙_}
+use mathlib.Core.Option.{some}
+use mathlib.Core.Path.{_≡_, refl, sym, ap}
 use native.Mathlib.Omega.{arith}
 use Prim.Native.Nat.{ℕ, _+_, _/_, _%_, _^_, _<_}
-use lib.Dec.{eqb, leb, ltb}
+use lib.Dec.{eqb}
 use lib.ListN.{length}
-use Rattle.language.specs.Acting.{Doing, Ran, landing, onPlace, onSequencing, onValue, onward, runActions, side, storable, storeTo, storeToPair, storing, went, withStore, write}
+use Rattle.language.specs.Acting.{Doing, Ran, landing, onPlace, onSequencing, onValue, onward, side, storable, storeTo, storeToPair, storing, went, withStore, write}
 use Rattle.language.specs.Description as D
-use Rattle.language.specs.Description.{Description, facilityAt, nodeAt, sequencingOf, stateAt, wordLength}
+use Rattle.language.specs.Description.{Description, facilityAt, nodeAt, sequencingOf, wordLength}
 use Rattle.language.specs.Kinds.{delayedSign}
-use Rattle.language.specs.Meaning.{Answer, Located, Place, Write, evalAt, is, noState, notStorable, place, sidesDiffer, stops, stuck}
-use Rattle.language.specs.Step.{Outcome, Record, afterActions, completed, entered, finished, landed, lastCycle, nextRecord, nothingDone, orStopped, setRegister, stateCount, stateNumber, step, stopAfter}
-use Rattle.language.specs.declared.stops.Stop.{Stop}
-use Rattle.language.specs.declared.stops.Stop.the-variants.{LastCycleReached}
-use Rattle.language.specs.Store.{Held, Words, begin, conflicts, held, landAll, loadPart, numbers, wordOf}
+use Rattle.language.specs.Meaning.{Answer, Located, Place, Write, evalAt, is, notStorable, place, sidesDiffer, stops, stuck}
+use Rattle.language.specs.Step.{Record, completed, step}
+use Rattle.language.specs.Store.{Held, Words, begin, held, landAll, loadPart, numbers, wordOf}
 use Rattle.language.specs.Value.{Value}
 use Rattle.about_running.specs.BitsKept.{NoneHas, NoneHasAny, bitOf}
 use Rattle.about_running.specs.Fitting.{Fit}
-use Rattle.about_running.specs.Kept.{Noted, executed, kept, noting, steady}
+use Rattle.about_running.specs.Kept.{Noted, Stands, alike, executed, joins, kept, noting, steady}
+use Rattle.about_running.specs.LandsLast.{lands-last}
 use Rattle.about_running.specs.LandsTogether.{Register, swaps, whole-waits}
 use Rattle.about_running.specs.SameActions as Actions
-use Rattle.about_running.specs.SameActions.{Joins}
-use Rattle.about_running.specs.SameRuns.{Alike, actions-alike}
+use Rattle.about_running.specs.SameRuns.{Alike}
 
 module _ (d : Description) where
   -- ---- A delayed store is executed.
@@ -121,59 +119,9 @@ module _ (d : Description) where
       let y = swaps d f g (c .store .words) a b same apart fits in
       record { done = after-two; executed-both = rw one two; first-has = rw none-yet (y .0); second-has = rw none-yet (y .1) }
 
-  -- ---- A cycle that completed.
+  -- ---- A cycle that completed: what no executed store names.
 
   module _ (s : Words) (r : Record) (ins : Words) (t : Words) (q : Record) (n : ℕ) where
-    abbrev run : Ran Held
-    run = runActions (numbers d) d (stateAt d (r .state) .actions) (nothingDone d (begin (d .facilities) s ins))
-
-    -- Its actions were carried out; then the delayed stores landed in the order of their execution, and the sequencing register was set; the conflicts are theirs.
-    pub record Did : Type 0 where
-      pub done : Doing Held
-      pub ran : runActions (numbers d) d (stateAt d (r .state) .actions) (nothingDone d (begin (d .facilities) s ins)) ≡ went done
-      pub lands : setRegister d (sequencingOf d) (stateNumber d (q .state)) (landAll d (done .store .words) (done .store .waits)) ≡ some t
-      pub counted : n ≡ conflicts [] (done .store .waits)
-
-    did-enter : (c : Doing Held) → run ≡ went c → (x : Option Words) → setRegister d (sequencingOf d) (stateNumber d (nextRecord d r c .state)) (landed d r c) ≡ x → entered d r c x ≡ completed t q n → Did
-    did-enter c h none k e = absurd (let z : _≡_ {A = ℕ} 0 1 = cc in omega arith)
-    did-enter c h (some u) k e =
-        let same : u ≡ t = cc in
-        let next : nextRecord d r c ≡ q = cc in
-        record { done = c; ran = h; lands = rw (← next) (k ∙ ap some same); counted = cc }
-
-    did-finish : (c : Doing Held) → run ≡ went c → (x : Option Stop) → orStopped d r c x ≡ completed t q n → Did
-    did-finish c h none e = did-enter c h (setRegister d (sequencingOf d) (stateNumber d (nextRecord d r c .state)) (landed d r c)) refl e
-    did-finish c h (some m) e = absurd (let z : _≡_ {A = ℕ} 0 1 = cc in omega arith)
-
-    did-after : (x : Ran Held) → run ≡ x → afterActions d r x ≡ completed t q n → Did
-    unfolding finished
-    did-after (went c) h e = did-finish c h (stopAfter d r c) e
-    did-after (Ran.stopped m) h e = absurd (let z : _≡_ {A = ℕ} 0 1 = cc in omega arith)
-    did-after (Ran.stuck x) h e = absurd (let z : _≡_ {A = ℕ} 0 1 = cc in omega arith)
-
-    pub lands-last : step d s r ins ≡ completed t q n → Did
-    unfolding step
-    lands-last e = go (leb lastCycle (r .cycle)) (ltb (r .state) (stateCount d)) e
-      where
-        go : (a b : Bool) → cond a (Outcome.stopped LastCycleReached) (cond b (afterActions d r run) (Outcome.stuck noState)) ≡ completed t q n → Did
-        go true b h = absurd (let z : _≡_ {A = ℕ} 0 1 = cc in omega arith)
-        go false false h = absurd (let z : _≡_ {A = ℕ} 0 1 = cc in omega arith)
-        go false true h = did-after run refl h
-
-    -- ---- What no executed store names.
-
-    -- Noting every write changes nothing else.
-    abbrev Stands : Held → Noted → Type 0
-    Stands x y = x ≡ y .store
-
-    joins : Joins (numbers d) (noting d) d Stands
-    unfolding noting
-    joins = record {
-      loads = λ x y h p k. rw h refl;
-      puts = λ x y w h k. rw h refl;
-      delays = λ x y ws h k. rw h refl;
-    }
-
     -- The actions as executed with every write noted, and every bit that neither a write, nor a delayed store, nor the begin of the cycle or the change of state names.
     pub record Keeps : Type 0 where
       pub noted : Doing Noted
@@ -182,19 +130,10 @@ module _ (d : Description) where
           → NoneHas d f w k (noted .store .writes) → NoneHasAny d f w k (noted .store .store .waits) → bitOf (wordOf t f w) k ≡ bitOf (wordOf s f w) k
 
     pub rest-kept : step d s r ins ≡ completed t q n → Keeps
-    unfolding executed
-    rest-kept e = go (executed d s r ins) refl (rw (did .ran) at alike)
+    rest-kept e = go (executed d s r ins) refl (rw (lands-last d s r ins t q n e .ran) at (alike d s r ins))
       where
-        did : Did
-        did = lands-last e
+        begins : Words
+        begins = begin (d .facilities) s ins
 
-        start : Doing Noted
-        start = record { store = record { store = held (begin (d .facilities) s ins) []; writes = [] }; gotos = []; returns = 0; calls = []; sequenced = false }
-
-        alike : Alike (numbers d) (noting d) d Stands joins run (runActions (noting d) d (stateAt d (r .state) .actions) start)
-        alike =
-            actions-alike (numbers d) (noting d) d Stands joins (stateAt d (r .state) .actions) (nothingDone d (begin (d .facilities) s ins)) start
-            (record { stores = refl; gotos-same = refl; returns-same = refl; calls-same = refl; sequenced-same = refl })
-
-        go : (y : Ran Noted) → executed d s r ins ≡ y → Alike (numbers d) (noting d) d Stands joins (went (did .done)) y → Keeps
+        go : (y : Ran Noted) → executed d s r ins ≡ y → Alike (numbers d) (noting d) d (Stands d begins) (joins d begins) (went (lands-last d s r ins t q n e .done)) y → Keeps
         go (went c) k (Actions.go-on h) = record { noted = c; executed-so = k; rest = λ f w i a b z x y. kept d s r ins c k t q n e f w i a b z x y }
