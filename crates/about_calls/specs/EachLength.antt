@@ -1,10 +1,10 @@
 -- EACH-LENGTH: in a passing image every record that a run can work out has one length, by the sentences of 01 and before the run; on every store it comes to a value of exactly that length, or to S1. So do the parts that references name, and what HEAD and TAIL take. Assumes nothing.
 use mathlib.Core.Bool.{Bool, true, false, cond}
 use mathlib.Core.List.{List}
-use mathlib.Core.Option.{Option, none, some}
+use mathlib.Core.Option.{some}
 use mathlib.Core.Path.{_≡_, refl, sym, ap, subst, _∙_}
 use native.Mathlib.Omega.{arith}
-use Prim.Native.Nat.{ℕ, _≤_, _<_}
+use Prim.Native.Nat.{ℕ, _≤_}
 use borrow.Author.Tests.{leb-true}
 use lib.Dec.{leb}
 use lib.ListN.{length}
@@ -23,33 +23,30 @@ use Rattle.about_running.specs.Gives.{Gives, gives, stopped}
 use Rattle.about_running.specs.Judged.{given-fine, proper-fine, sized-fine}
 use Rattle.about_running.specs.LegalForm.{Legal}
 use Rattle.about_running.specs.NeverStuck.{legal-image}
+use Rattle.about_rules.specs.ActionsRight.{Has}
 use Rattle.about_rules.specs.FineIsLong.{fine-is-long}
 use Rattle.about_rules.specs.HasLength as H
-use Rattle.about_rules.specs.HasLength.{HasLength, Substring, mostBits}
-use Rattle.about_rules.specs.LengthsJudged.{one-length}
-use Rattle.about_rules.specs.LongIsFine.{judge-lt, judged, long-is-fine}
-use Rattle.about_calls.specs.EveryAction.{side-fine}
+use Rattle.about_rules.specs.HasLength.{Substring, mostBits}
+use Rattle.about_rules.specs.LengthsJudged.{fine-long, one-length}
+use Rattle.about_rules.specs.LongIsFine.{judge-lt, long-is-fine}
+use Rattle.about_calls.specs.EveryAction.{side-long}
 use Rattle.about_calls.specs.MoreKnown.{more-known}
 use Rattle.about_calls.specs.OnStores.{Loads, NamesPart, settled-gives, settled-names}
 use Rattle.about_calls.specs.PartsStand.{at-node, part-stands, properOf}
-use Rattle.about_calls.specs.Settled.{Settled, acts-roots, computed-in, settled, side-judged}
+use Rattle.about_calls.specs.Settled.{Settled, acts-roots, computed-in, settled, subscripts-of}
 use Rattle.about_calls.specs.WorkedOut as W
 use Rattle.about_calls.specs.WorkedOut.{Acts, LeftSide, WorkedOut}
-
--- The record n has l bits where every facility may be named.
-abbrev pub Bits : Description → ℕ → ℕ → Type 0
-Bits d n l = HasLength d (length (d .facilities)) n l
 
 -- A record with one length, from 1 to 256, which it keeps on every store, whatever that holds.
 pub record OneLength (d : Description) (n : ℕ) : Type 1 where
   pub bits : ℕ
-  pub long : Bits d n bits
-  pub only : (m : ℕ) → Bits d n m → m ≡ bits
+  pub long : Has d n bits
+  pub only : (m : ℕ) → Has d n m → m ≡ bits
   pub some-bit : 1 ≤ bits
   pub most : bits ≤ mostBits
   pub kept : {X : Type 0} (S : Stores X) (x : X) → Loads S x → Gives bits (evalAt S d x n)
 
-settled-long : {d : Description} {n : ℕ} (s : Settled d n) → Bits d n (s .proper .worth .length)
+settled-long : {d : Description} {n : ℕ} (s : Settled d n) → Has d n (s .proper .worth .length)
 settled-long {d} {n} s = more-known (s .within) (fine-is-long d noPlaces (s .known) n (s .proper .stands .same) (s .proper .none))
 
 -- The length that judging works out for HEAD and TAIL, where it is one.
@@ -96,36 +93,36 @@ module _ (image : List ℕ) (passing : passes image ≡ true) where
   each-worth o S x loads s e = not-stuck s (each-length o .kept S x loads) e
 
   -- A computed terminal has its declared length.
-  pub terminal-declared : (f : ℕ) → isComputed (facilityAt (decode image) f .kind) ≡ true → Bits (decode image) (facilityAt (decode image) f .expression) (wordLength (facilityAt (decode image) f))
+  pub terminal-declared : (f : ℕ) → isComputed (facilityAt (decode image) f .kind) ≡ true → Has (decode image) (facilityAt (decode image) f .expression) (wordLength (facilityAt (decode image) f))
   unfolding terminalJudged
   terminal-declared f c =
       let h = computed-in d f c in
       let j = L .terminals f h c in
-      let y = proper-fine _ (judged d noPlaces f (facilityAt d f .expression)) (j .1) in
-      rw (j .2) (more-known (omega arith) (fine-is-long d noPlaces f (facilityAt d f .expression) (y .same) (y .arms)))
+      rw (j .2) (more-known (omega arith) (fine-long d noPlaces f (facilityAt d f .expression) (j .1)))
 
   -- ---- Parts of facilities.
 
   -- What a reference of l bits names lies in its facility and has l bits.
-  pub each-part : {n l : ℕ} {r : Reference} → WorkedOut (decode image) n → Bits (decode image) n l → referenceOf (nodeAt (decode image) n) ≡ some r
+  pub each-part : {n l : ℕ} {r : Reference} → WorkedOut (decode image) n → Has (decode image) n l → referenceOf (nodeAt (decode image) n) ≡ some r
       → {X : Type 0} (S : Stores X) (x : X) → Loads S x → NamesPart (decode image) (r .facility) l (placeOf (decode image) (evalBelow S (decode image) x n) r)
   each-part {n} {l} {r} o h q S x loads =
       let s = settled d L o in
       rw (one-length h (settled-long s)) (settled-names d L s S x loads r q)
 
   -- So does what the left side of a store names, which is a reference.
-  pub each-left : {i n l : ℕ} → Acts (decode image) i → LeftSide (actionAt (decode image) i) n → Bits (decode image) n l
+  pub each-left : {i n l : ℕ} → Acts (decode image) i → LeftSide (actionAt (decode image) i) n → Has (decode image) n l
       → {X : Type 0} (S : Stores X) (x : X) → Loads S x → (f : ℕ) × NamesPart (decode image) f l (side S (decode image) x n)
   unfolding side
   each-left {i} {n} {l} a k h S x loads =
-      let y = side-judged d (length (d .facilities)) n (side-fine d noPlaces (actionAt d i) n (acts-roots d L a) k .1) in
-      (y .reference .facility, rw (y .refers) (each-part (W.left-side a k) h (y .refers) S x loads))
+      let y = side-long d (actionAt d i) n (acts-roots d L a) k in
+      let u = subscripts-of (y .1 .1 .0) in
+      (y .0, rw (u .1) (each-part (W.left-side a k) h (u .1) S x loads))
 
   -- ---- Substrings.
 
   -- HEAD c or TAIL c of what has m bits has c bits: at least one, and no more than m.
-  pub each-substring : {n k a c m : ℕ} → WorkedOut (decode image) n → Substring k → nodeAt (decode image) n ≡ D.cut k a c → Bits (decode image) a m
-      → Bits (decode image) n c × (1 ≤ c) × (c ≤ m)
+  pub each-substring : {n k a c m : ℕ} → WorkedOut (decode image) n → Substring k → nodeAt (decode image) n ≡ D.cut k a c → Has (decode image) a m
+      → Has (decode image) n c × (1 ≤ c) × (c ≤ m)
   unfolding judgeNode
   each-substring {n} {k} {a} {c} {m} o t q h =
       let s = settled d L o in
@@ -137,4 +134,4 @@ module _ (image : List ℕ) (passing : passes image ≡ true) where
       let j = proper-fine _ (judgeBelow d noPlaces (terminalBelow d noPlaces (s .known)) (s .known) n a) (y .part) in
       let g = more-known (s .within) (fine-is-long d noPlaces (s .known) a (sym (judge-lt d noPlaces (s .known) n a (i .0)) ∙ j .same) (j .arms)) in
       let v : s .proper .worth .length ≡ c = ap (λ (w : Worth). w .length) (z .same) ∙ u .0 in
-      (subst (Bits d n) v (settled-long s), u .1, rw (one-length h g) (u .2))
+      (subst (Has d n) v (settled-long s), u .1, rw (one-length h g) (u .2))

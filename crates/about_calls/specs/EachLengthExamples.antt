@@ -21,9 +21,10 @@ use Rattle.language.specs.Store.{Held, held, numbers}
 use Rattle.language.specs.Value.{value}
 use Rattle.language.specs.declared.stops.Stop.the-variants.{OutsideBounds}
 use Rattle.about_running.specs.Gives.{Gives}
+use Rattle.about_rules.specs.ActionsRight.{Has}
 use Rattle.about_rules.specs.HasLength as H
 use Rattle.about_rules.specs.LengthsJudged.{has-length}
-use Rattle.about_calls.specs.EachLength.{Bits, each-left, each-length, each-substring, terminal-declared}
+use Rattle.about_calls.specs.EachLength.{each-left, each-length, each-substring, terminal-declared}
 use Rattle.about_calls.specs.OnStores.{NamesPart, numbers-load}
 use Rattle.about_calls.specs.WorkedOut as W
 use Rattle.about_calls.specs.WorkedOut.{Acts, LeftSide, Valued, WorkedOut}
@@ -106,27 +107,27 @@ else-out = W.part choice-out (W.arm choice (W.last second-arm))
 
 -- ---- Lengths, as the rules work them out, and so the only ones.
 
-sum-5 : Bits d 2 5
+sum-5 : Has d 2 5
 unfolding computing text image
 sum-5 = has-length d noPlaces 3 2 5 .1 (3, refl)
 
-tail-4 : Bits d 5 4
+tail-4 : Has d 5 4
 unfolding computing text image
 tail-4 = has-length d noPlaces 3 5 4 .1 (5, refl)
 
-s-5 : Bits d 4 5
+s-5 : Has d 4 5
 unfolding computing text image
 s-5 = has-length d noPlaces 3 4 5 .1 (4, refl)
 
-left-2 : Bits d 6 2
+left-2 : Has d 6 2
 unfolding computing text image
 left-2 = has-length d noPlaces 3 6 2 .1 (1, refl)
 
-condition-1 : Bits d 8 1
+condition-1 : Has d 8 1
 unfolding computing text image
 condition-1 = has-length d noPlaces 3 8 1 .1 (2, refl)
 
-choice-2 : Bits d 13 2
+choice-2 : Has d 13 2
 unfolding computing text image
 choice-2 = has-length d noPlaces 3 13 2 .1 (5, refl)
 
@@ -138,7 +139,7 @@ s-computed : isComputed (facilityAt d 2 .kind) ≡ true
 unfolding computing text image
 s-computed = refl
 
-sum-declared : Bits d (facilityAt d 2 .expression) 5
+sum-declared : Has d (facilityAt d 2 .expression) 5
 unfolding computing text image
 sum-declared = terminal-declared image passing 2 s-computed
 
@@ -147,7 +148,7 @@ unfolding computing text image
 tail = refl
 
 -- TAIL 4 of five bits: four.
-tail-within : Bits d 5 4 × (1 ≤ 4) × (4 ≤ 5)
+tail-within : Has d 5 4 × (1 ≤ 4) × (4 ≤ 5)
 tail-within = each-substring image passing tail-out H.tail tail s-5
 
 -- ---- What they come to, on two stores: with B 0 the subscript is outside the bounds of A.

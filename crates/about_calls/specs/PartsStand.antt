@@ -1,17 +1,16 @@
 -- A record that is judged fine and whose tree stands in order has parts of which the same holds. Assumes nothing.
 use mathlib.Core.Option.{some}
-use mathlib.Core.Path.{_≡_, refl, sym, subst, _∙_}
+use mathlib.Core.Path.{_≡_, sym, subst, _∙_}
 use native.Mathlib.Omega.{arith}
 use Prim.Native.Nat.{ℕ, _≤_, _<_}
-use Rattle.language.specs.Description as D
-use Rattle.language.specs.Description.{Description, Node, facilityAt, noPlaces, nodeAt, nodePlace}
+use Rattle.language.specs.Description.{Description, Node, noPlaces, nodeAt, nodePlace}
 use Rattle.language.specs.Expressions.{judgeAt, judgeBelow, judgeNode, ownWork, terminalBelow}
 use Rattle.language.specs.Judging.{Judged, Worth, armList, fine, proper}
 use Rattle.language.specs.Meaning as M
 use Rattle.language.specs.Order.{justBefore, startAt, startBelow, startNode, twoBefore}
 use Rattle.language.specs.ReferenceRules.{referenceJudged, subscriptsJudged}
 use Rattle.language.specs.References as R
-use Rattle.language.specs.References.{Reference, Subscripts}
+use Rattle.language.specs.References.{Subscripts}
 use Rattle.language.specs.Words.{Position}
 use Rattle.language.specs.declared.stops.Stop.the-variants.{OutsideBounds}
 use Rattle.about_running.specs.Finds.{Refers, reference-fine}

@@ -1,32 +1,31 @@
 -- In a description in legal form every record that a run can work out is judged fine and stands in order, behind the computed terminals that it may name. Assumes nothing.
-use mathlib.Core.Bool.{Bool, true, false, cond}
-use mathlib.Core.Option.{Option, none, some}
-use mathlib.Core.Path.{_≡_, refl, sym, ap, subst, _∙_}
+use mathlib.Core.Bool.{Bool, true, false}
+use mathlib.Core.Option.{none, some}
+use mathlib.Core.Path.{_≡_, refl, ap, subst, _∙_}
 use native.Mathlib.Omega.{arith}
-use Prim.Native.Nat.{ℕ, _≤_, _<_}
+use Prim.Native.Nat.{ℕ, suc, _≤_, _<_}
 use borrow.Author.Tests.{ltb-false, ltb-true}
-use lib.Dec.{eqb, ltb}
+use lib.Dec.{ltb}
 use lib.ListN.{List·getD-eq-default, length}
-use Rattle.language.specs.ActionRules.{operationBelow, operationJudged, runJudged}
+use Rattle.language.specs.ActionRules.{operationJudged}
 use Rattle.language.specs.Description as D
-use Rattle.language.specs.Description.{Action, Description, Facility, Node, NodePlaces, actionAt, facilityAt, isComputed, noFacility, noPlaces, nodeAt, nodePlace, operationAt, stateAt}
-use Rattle.language.specs.Expressions.{judgeAt, judgeBelow, judgeNode, leftAt, leftOf, ownWork, terminalBelow, terminalJudged}
-use Rattle.language.specs.Judging.{Judged, Worth, fine, refuse, worth}
-use Rattle.language.specs.Meaning as M
+use Rattle.language.specs.Description.{Action, Description, Facility, Node, NodePlaces, actionAt, facilityAt, isComputed, noFacility, noPlaces, nodeAt, nodePlace, stateAt}
+use Rattle.language.specs.Expressions.{judgeAt, judgeBelow, judgeNode, ownWork, terminalBelow, terminalJudged}
+use Rattle.language.specs.Judging.{Judged}
 use Rattle.language.specs.Order.{actionRoots, startAt}
 use Rattle.language.specs.ReferenceRules.{referenceJudged}
 use Rattle.language.specs.References as R
-use Rattle.language.specs.References.{Reference, Subscripts, referenceOf, takenLength}
-use Rattle.language.specs.declared.refusals.Refusal.the-variants.{NoContinuation}
-use Rattle.language.specs.declared.stops.Stop.the-variants.{OutsideBounds}
-use Rattle.about_running.specs.Finds.{reference-fine}
-use Rattle.about_running.specs.Judged.{faulty-fine, proper-fine}
+use Rattle.language.specs.References.{Reference, Subscripts, referenceOf}
+use Rattle.about_running.specs.Judged.{proper-fine}
 use Rattle.about_running.specs.LegalForm.{Legal}
 use Rattle.about_running.specs.Ordered.{InOrder}
 use Rattle.about_running.specs.Terminals.{roots}
-use Rattle.about_rules.specs.JudgedFine.{fine-reference}
-use Rattle.about_rules.specs.LongIsFine.{judged}
-use Rattle.about_calls.specs.EveryAction.{Roots, run-roots, side-fine, value-fine}
+use Rattle.about_rules.specs.ActionsJudged.{right-run}
+use Rattle.about_rules.specs.ActionsRight as A
+use Rattle.about_rules.specs.ActionsRight.{Has, RefersTo}
+use Rattle.about_rules.specs.FineIsRight.{operations-right}
+use Rattle.about_rules.specs.LongIsFine.{judged, long-is-fine}
+use Rattle.about_calls.specs.EveryAction.{Roots, every-action, side-long, value-long}
 use Rattle.about_calls.specs.PartsStand.{Proper, part-stands}
 use Rattle.about_calls.specs.WorkedOut as W
 use Rattle.about_calls.specs.WorkedOut.{Acts, LeftSide, Valued, WorkedOut}
@@ -63,6 +62,14 @@ reference-node (D.nextArm a b) e = no-reference e
 reference-node (D.choice a b n) e = no-reference e
 reference-node D.Node.broken e = no-reference e
 
+-- The subscripts of a reference to the facility f.
+pub subscripts-of : {nd : Node} {f : ℕ} → RefersTo nd f → (u : Subscripts) × (referenceOf nd ≡ R.referTo f u)
+subscripts-of A.whole = (R.whole, refl)
+subscripts-of (A.one {e = e}) = (R.one e, refl)
+subscripts-of (A.part {b = x}) = (R.part x, refl)
+subscripts-of (A.two {e = e} {g = g}) = (R.two e g, refl)
+subscripts-of (A.word-part {e = e} {b = x}) = (R.wordPart e x, refl)
+
 module _ (d : Description) (known n : ℕ) where
   abbrev terminals : ℕ → Judged
   terminals = terminalBelow d noPlaces known
@@ -82,35 +89,6 @@ module _ (d : Description) (known n : ℕ) where
   pub operand-judged : {r : Reference} → referenceOf (nodeAt d n) ≡ some r → judged d noPlaces known n ≡ referenceJudged d noPlaces terminals ev ownWork known r (nodePlace noPlaces n)
   unfolding judgeAt
   operand-judged {r} q = ap (judgeNode d noPlaces terminals known ev (nodePlace noPlaces n)) (reference-node (nodeAt d n) q) ∙ with-judged (nodePlace noPlaces n) (r .facility) (r .subscripts)
-
-  -- A left side without fault is a reference that would have none as an operand, of the same length.
-  pub record Side : Type 0 where
-    pub reference : Reference
-    pub refers : referenceOf (nodeAt d n) ≡ some reference
-    pub worth-so : Worth
-    pub same : judged d noPlaces known n ≡ fine worth-so
-    pub arms : worth-so .arms ≡ 0
-
-  pub side-judged : {w : Worth} → leftAt d noPlaces terminals known n ≡ fine w → Side
-  unfolding leftAt
-  side-judged {w} e = go (referenceOf (nodeAt d n)) refl e
-    where
-      go : (x : Option Reference) → referenceOf (nodeAt d n) ≡ x → leftOf d noPlaces terminals known n x ≡ fine w → Side
-      go none q k = faulty-fine k
-      go (some r) q k =
-          let y = reference-fine d noPlaces terminals ev (λ e. M.Answer.stops OutsideBounds) (λ e. ⊥) (λ e w q h. absurd q) 0 known r (nodePlace noPlaces n) k in
-          let z = fine-reference d noPlaces terminals ev ownWork known r (nodePlace noPlaces n) (record {
-            known-here = y .known-here;
-            count = y .right .count;
-            worked = y .right .worked;
-            bound = y .right .bound;
-            direction = y .right .direction;
-            terminal = y .worked;
-            taken = refl;
-            some = y .some-bits;
-            most = y .right .short;
-          }) in
-          record { reference = r; refers = q; worth-so = _; same = operand-judged q ∙ z; arms = refl }
 
 -- ---- Every record that a run can work out.
 
@@ -150,29 +128,25 @@ module _ (d : Description) (L : Legal d) where
   value-order (D.when c x) n o W.when = (o .0 .0, o .0 .1, o .0 .2)
   value-order (D.choose c m x) n o W.choose = (o .0 .0, o .0 .1, o .0 .2)
 
-  body-fine : (o : ℕ) {w : Worth} → operationJudged d noPlaces o ≡ fine w → runJudged d noPlaces false (operationBelow d noPlaces o) (operationAt d o .body) ≡ fine w
+  -- What an action of a state or an operation holds.
+  pub acts-roots : {i : ℕ} → Acts d i → Roots d (actionAt d i)
   unfolding operationJudged
-  body-fine o {w} e = go (eqb (operationAt d o .body .count) 0) e
-    where
-      go : (b : Bool) → cond b (refuse D.nowhere NoContinuation) (runJudged d noPlaces false (operationBelow d noPlaces o) (operationAt d o .body)) ≡ fine w
-          → runJudged d noPlaces false (operationBelow d noPlaces o) (operationAt d o .body) ≡ fine w
-      go true k = faulty-fine k
-      go false k = k
-
-  pub acts-roots : {i : ℕ} → Acts d i → Roots d noPlaces (actionAt d i)
-  acts-roots {i} (W.of-state {s = s} l h) = run-roots d noPlaces true (operationBelow d noPlaces (length (d .operations))) (stateAt d s .actions) (L .states s l .1 .1 .run-fine) i h
-  acts-roots {i} (W.of-operation {o = o} l h) = run-roots d noPlaces false (operationBelow d noPlaces o) (operationAt d o .body) (body-fine o (L .operations o l .1)) i h
+  acts-roots {i} (W.of-state {s = s} l h) =
+      every-action d i (right-run d noPlaces true (length (d .operations)) (stateAt d s .actions) (L .states s l .1 .1 .run-fine)) (h .0) (h .1)
+  acts-roots {i} (W.of-operation {o = o} l h) = every-action d i (operations-right d noPlaces (suc o) o _ (omega arith) (L .operations o l .1) .1) (h .0) (h .1)
 
   -- A record that an action holds may name every facility.
-  root-settled : {n : ℕ} {w : Worth} → Ordered n → judged d noPlaces (length (d .facilities)) n ≡ fine w → w .arms ≡ 0 → Settled d n
+  root-settled : {n l : ℕ} → Ordered n → Has d n l → Settled d n
   unfolding facilityAt
-  root-settled {w = w} o e a = record {
-    known = length (d .facilities);
-    base = L .base;
-    within = omega arith;
-    before = λ f h c. roots d (d .facilities) 0 (L .base) f (L .terminals-order) h c .end;
-    proper = record { worth = w; stands = record { same = e; start = o .0; starts = o .1; low = o .2 }; none = a };
-  }
+  root-settled o h =
+      let j = long-is-fine d noPlaces h in
+      record {
+        known = length (d .facilities);
+        base = L .base;
+        within = omega arith;
+        before = λ f h c. roots d (d .facilities) 0 (L .base) f (L .terminals-order) h c .end;
+        proper = record { worth = _; stands = record { same = j .same; start = o .0; starts = o .1; low = o .2 }; none = refl };
+      }
 
   -- The expression of a computed terminal, only those before it.
   terminal-settled : (f : ℕ) → isComputed (facilityAt d f .kind) ≡ true → Settled d (facilityAt d f .expression)
@@ -191,12 +165,8 @@ module _ (d : Description) (L : Legal d) where
       }
 
   pub settled : {n : ℕ} → WorkedOut d n → Settled d n
-  settled {n} (W.left-side {i = i} a h) =
-      let y = side-judged d (length (d .facilities)) n (side-fine d noPlaces (actionAt d i) n (acts-roots a) h .1) in
-      root-settled (side-order (actionAt d i) n (L .actions-order i) h) (y .same) (y .arms)
-  settled {n} (W.valued {i = i} a h) =
-      let y = proper-fine _ (judged d noPlaces (length (d .facilities)) n) (value-fine d noPlaces (actionAt d i) n (acts-roots a) h .1) in
-      root-settled (value-order (actionAt d i) n (L .actions-order i) h) (y .same) (y .arms)
+  settled {n} (W.left-side {i = i} a h) = root-settled (side-order (actionAt d i) n (L .actions-order i) h) (side-long d (actionAt d i) n (acts-roots a) h .1 .1 .1)
+  settled {n} (W.valued {i = i} a h) = root-settled (value-order (actionAt d i) n (L .actions-order i) h) (value-long d (actionAt d i) n (acts-roots a) h .1)
   settled (W.terminal f c q) = subst (Settled d) q (terminal-settled f c)
   settled (W.part o h) =
       let s = settled o in
