@@ -10,6 +10,7 @@ pub mod WorkedOut
 pub mod EveryAction
 pub mod PartsStand
 pub mod Settled
+pub mod NoOther
 pub mod MoreKnown
 pub mod OnStores
 pub mod EachLength

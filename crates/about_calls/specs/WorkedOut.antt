@@ -1,4 +1,4 @@
--- WHICH RECORDS A RUN CAN WORK OUT, read off the description alone: no rule stands behind this relation. EachLength shows that in a passing image each of them has a length.
+-- WHICH RECORDS A RUN CAN WORK OUT, read off the description alone: no rule stands behind this relation. EachLength shows that in a passing image each of them has a length, NoOther that what they come to hangs on no others.
 use mathlib.Core.Bool.{true}
 use mathlib.Core.Path.{_≡_}
 use Prim.Native.Nat.{ℕ, _+_, _≤_, _<_}
