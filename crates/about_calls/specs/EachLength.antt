@@ -89,8 +89,8 @@ module _ (image : List ℕ) (passing : passes image ≡ true) where
   not-stuck s (gives h k) e = let z : _≡_ {A = ℕ} 0 1 = cc in omega arith
   not-stuck s stopped e = let z : _≡_ {A = ℕ} 0 1 = cc in omega arith
 
-  pub each-worth : {n : ℕ} → WorkedOut (decode image) n → {X : Type 0} (S : Stores X) (x : X) → Loads S x → (s : Stuck) → evalAt S (decode image) x n ≡ stuck s → ⊥
-  each-worth o S x loads s e = not-stuck s (each-length o .kept S x loads) e
+  pub each-never-stuck : {n : ℕ} → WorkedOut (decode image) n → {X : Type 0} (S : Stores X) (x : X) → Loads S x → (s : Stuck) → evalAt S (decode image) x n ≡ stuck s → ⊥
+  each-never-stuck o S x loads s e = not-stuck s (each-length o .kept S x loads) e
 
   -- A computed terminal has its declared length.
   pub terminal-declared : (f : ℕ) → isComputed (facilityAt (decode image) f .kind) ≡ true → Has (decode image) (facilityAt (decode image) f .expression) (wordLength (facilityAt (decode image) f))
