@@ -5,8 +5,17 @@ pub mod PassesExactly
 -- ---- A cycle that is not refused completes, or stops for the first of 01's conditions that holds.
 pub mod StopsFirst
 pub mod EachCycle
--- ---- Every expression has the length worked out before, and no part is longer than what it is a part of.
-pub mod Lengths
+-- ---- Every record that a run can work out has one length, worked out before; no part is longer than what it is a part of. Read WorkedOut and EachLength.
+pub mod WorkedOut
+pub mod EveryAction
+pub mod PartsStand
+pub mod Settled
+pub mod NoOther
+pub mod MoreKnown
+pub mod OnStores
+pub mod EachLength
+pub mod EachLengthExamples
+pub mod Substrings
 -- ---- What a completed cycle did: its delayed stores, and what no store names.
 pub mod DelayedWaits
 -- ---- What has no bearing: bytes beyond store and record, and past the image.
