@@ -9,7 +9,7 @@ use Rattle.language.specs.Ceilings.{WithinCeilings, countedActions, countedExpr
 use Rattle.language.specs.Describe.{Noted, NotedAction, actionsIn, actionsOf, armsIn, armsOf, constantNodes, digitsAbove, expressionSize, expressionsIn, leftNodes, leftSize, nodesIn, nodesOf, storeOf}
 use Rattle.language.specs.DescribeText.{bitBounds, describe, dimensionsOf, facilitiesOf, facilityNodes, facilitySize, functionNodes, functionNumber, functionSize, labelOf, operationActions, operationExpressions, operationNodes, operationRecords, operationScope, operationsOf, stateActions, stateNodes, stateSize, statesOf, valueNodes, valueNumber, valueSize, wordBounds}
 use Rattle.language.specs.Description.{Action, Node}
-use Rattle.language.specs.Naming.{Scope}
+use Rattle.language.specs.Naming.{Scope, noState}
 use Rattle.language.specs.Tree as T
 use Rattle.language.specs.Tree.{Actions, Declaration, Expression, Extent, Function, Label, Left, Name, Operation, State, StateValue, Text}
 use Rattle.language.specs.Value.{Value}
@@ -261,7 +261,7 @@ facility-nodes-same : (before : List Name) (base : ℕ) (ds : List Declaration) 
 unfolding facilityNodes
 facility-nodes-same before base [] = refl
 facility-nodes-same before base (d ∷ ds) =
-    simp (map-append, function-nodes-same (record { facilities = before; operations = []; states = [] }) base (d .function), function-size-same (d .function), facility-nodes-same (before ++ d .name ∷ []) (base + functionSize (d .function)) ds)
+    simp (map-append, function-nodes-same (record { facilities = before; operations = []; stateNamed = noState }) base (d .function), function-size-same (d .function), facility-nodes-same (before ++ d .name ∷ []) (base + functionSize (d .function)) ds)
 
 facility-size-same : (ds : List Declaration) → facilitySize (bare ds) ≡ facilitySize ds
 unfolding facilitySize
