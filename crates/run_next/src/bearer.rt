@@ -34,7 +34,7 @@ fn bears(expressions: &[u8], value: StateValue, x: Value) -> bool
 // The first state that bears x.
 pub fn bearer(expressions: &[u8], section: &[u8], x: Value) -> Found
     requires { ⌜ length (now section) / stateSize ≤ 65536 ⌝ }
-    ensures { λ r. ⌜ ((d : Description) → Valued d (now (expressions .entry)) (now (section .entry)) → foundMeant r ≡ S.bearer d (length (now (section .entry)) / 7) 0 (number (x .limbs))) ⌝ }
+    ensures { λ r. ⌜ ((d : Description) → Valued d (now (expressions .entry)) (now (section .entry)) → foundMeant r ≡ S.bearer d (length (now (section .entry)) / stateSize) 0 (number (x .limbs))) ⌝ }
 {
     let count = section.len() / record_sizes::STATE;
     let mut n: usize = 0;

@@ -38,7 +38,7 @@ pub fn step(
     mask: &mut [u8],
 ) -> Stepped
     requires { ⌜ (length (now facilities) / facilitySize ≤ 65536) × (length (now states) / stateSize ≤ 65536) × (r .held ≤ 16) ⌝ }
-    ensures { λ a. ⌜ ((d : Description) → Enters d (now (facilities .entry)) (now (expressions .entry)) (now (states .entry)) → Acts d (now (facilities .entry)) (now (operations .entry)) (now (expressions .entry)) (now (actions .entry)) (length (now (states .entry)) / 7) → length (d .operations) ≡ length (now (operations .entry)) / operationSize → storeSizeOf (d .facilities) ≤ length (now (store .entry)) → stimulusSize d ≤ length (now (stimulus .entry)) → Clear (now (store .entry)) (now (pending .entry)) (now (mask .entry)) → stepped (d .facilities) a (now (store .exit)) ≡ counted (S.step d (fromBytes (d .facilities) (now (store .entry))) (recordMeant r) (fromBytes (inputsOf (d .facilities)) (now (stimulus .entry))))) ⌝ }
+    ensures { λ a. ⌜ ((d : Description) → Enters d (now (facilities .entry)) (now (expressions .entry)) (now (states .entry)) → Acts d (now (facilities .entry)) (now (operations .entry)) (now (expressions .entry)) (now (actions .entry)) (length (now (states .entry)) / stateSize) → length (d .operations) ≡ length (now (operations .entry)) / operationSize → storeSizeOf (d .facilities) ≤ length (now (store .entry)) → stimulusSize d ≤ length (now (stimulus .entry)) → Clear (now (store .entry)) (now (pending .entry)) (now (mask .entry)) → stepped (d .facilities) a (now (store .exit)) ≡ counted (S.step d (fromBytes (d .facilities) (now (store .entry))) (recordMeant r) (fromBytes (inputsOf (d .facilities)) (now (stimulus .entry))))) ⌝ }
 {
     if ceilings::CYCLE <= r.cycle {
         return outcome::without(CycleEnd::Stopped(Stop::LastCycleReached), r);

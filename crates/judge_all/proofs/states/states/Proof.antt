@@ -21,7 +21,7 @@ abbrev Inv-loop : tie.InvT-loop
 Inv-loop fs es fp ep memo acts ap ss labels os kept sp wanted ops n₀ all₀ n all = (n ≤ length ss / stateSize) × ((d : Description) (p : Places) → Stated fs es fp ep memo acts ap ss labels os sp d p → Performed kept (length os / operationSize) d p → lesser (judged all) (statesFrom d p (sequencingLength d p) n) ≡ least (statesFaults d p (sequencingLength d p) [] 0 (d .states)))
 
 abbrev μ-loop : tie.MeasureT-loop
-μ-loop fs es fp ep memo acts ap ss labels os kept sp wanted ops n₀ all₀ n all = length ss / 7 - n
+μ-loop fs es fp ep memo acts ap ss labels os kept sp wanted ops n₀ all₀ n all = length ss / stateSize - n
 
 sequencing-length-requires : tie.Need-sequencing-length-requires Inv-loop μ-loop
 sequencing-length-requires c κs = search needs
