@@ -1,4 +1,4 @@
--- The stage of grammar, computed: precedence, what 01 leaves out refused at its word, ceilings.
+-- The stage of grammar, computed: what 01 leaves out refused at its word, and precedence.
 use mathlib.Core.Bool.{Bool, true, false, cond, _&&_}
 use mathlib.Core.List.{List, [], _∷_, _++_}
 use mathlib.Core.Option.{Option, none, some}

@@ -1,4 +1,4 @@
-// The ceilings of document 01, and the size of a run record, as the definitions name them.
+// The ceilings of document 01, and the size of a run record: all code takes them from here.
 
 // Bytes of a text, columns of a line, letters and digits of a name.
 pub const TEXT: usize = 32768;
