@@ -8,7 +8,7 @@ use lib.ListN.{length}
 use Rattle.language.specs.Description as D
 use Rattle.language.specs.Description.{Action, Description, Run, actionAt, facilityAt, isSequencing, nodeAt, operationAt}
 use Rattle.language.specs.Kinds.{delayedSign}
-use Rattle.language.specs.Meaning.{Answer, Located, Place, Stores, Stuck, Write, armNumber, evalAt, evalBelow, is, noOperation, noState, notOneBit, notStorable, placeOf, runsOver, sidesDiffer, stops, wrongRecord}
+use Rattle.language.specs.Meaning.{Answer, Located, Place, Stores, Stuck, Write, armNumber, decides, evalAt, evalBelow, is, missingArm, noOperation, noState, notOneBit, notStorable, placeOf, runsOver, sidesDiffer, stops, wrongRecord}
 use Rattle.language.specs.Recursion.{below}
 use Rattle.language.specs.References.{Reference, referenceOf}
 use Rattle.language.specs.declared.stops.Stop.{Stop}
@@ -139,23 +139,8 @@ module _ {X : Type 0} (S : Stores X) (d : Description) where
       (cond (eqb (p .count) 1) (went (withStore (S .put (c .store) (write p 1)) false c)) (stuck sidesDiffer))
       (stuck notStorable)
 
-  -- ---- One action, with what its operations do.
-
   abbrev pub toState : ℕ → (ℕ → Doing X → Doing X) → Doing X → Ran X
   toState s f c = cond (ltb s (length (d .states))) (went (f s c)) (stuck noState)
-
-  unfoldable pub simple : (ℕ → Doing X → Ran X) → Action → Doing X → Ran X
-  simple perform (D.store k l r) c = storeTo k l r c
-  simple perform (D.storePair k l m r) c = storeToPair k l m r c
-  simple perform (D.set l) c = onPlace (side (c .store) l) (λ p. setting p c)
-  simple perform (D.perform o) c = perform o c
-  simple perform (D.goto s) c = toState s goingTo c
-  simple perform (D.call s) c = toState s calling c
-  simple perform D.return c = went (returning c)
-  simple perform (D.when e x) c = stuck wrongRecord
-  simple perform (D.choose e n x) c = stuck wrongRecord
-  simple perform (D.arm x) c = stuck wrongRecord
-  simple perform D.Action.broken c = stuck wrongRecord
 
   -- ---- Lists: k records from i on. `ev` executes fewer.
 
@@ -166,7 +151,7 @@ module _ {X : Type 0} (S : Stores X) (d : Description) where
       passing x c = cond (leb x m) (ev (m - x) (i + 1 + x) c) (stuck runsOver)
 
       abbrev pub inArm : ℕ → Option Run → Doing X → Ran X
-      inArm x none c = stuck runsOver
+      inArm x none c = stuck missingArm
       inArm x (some r) c = onward (ev (r .count) (r .first) c) (passing x)
 
       abbrev pub armChosen : ℕ → Option ℕ → Doing X → Ran X
@@ -178,19 +163,23 @@ module _ {X : Type 0} (S : Stores X) (d : Description) where
       whenWorth x v c =
           cond (eqb (v .length) 1) (cond (eqb (v .number) 0) (passing x c) (inArm x (armAt d 0 (i + 1) x) c)) (stuck notOneBit)
 
-      abbrev pub plainly : Action → Doing X → Ran X
-      plainly a c = onward (simple perform a c) (ev m (i + 1))
+      -- CASE, and IF with ELSE.
+      abbrev pub chooseWorth : ℕ → ℕ → Value → Doing X → Ran X
+      chooseWorth n x v c = cond (decides n v) (armChosen x (armNumber n (v .number)) c) (stuck notOneBit)
+
+      abbrev pub andOn : Ran X → Ran X
+      andOn r = onward r (ev m (i + 1))
 
       unfoldable pub listAct : Action → Doing X → Ran X
-      listAct (D.store k l r) c = plainly (D.store k l r) c
-      listAct (D.storePair k l n r) c = plainly (D.storePair k l n r) c
-      listAct (D.set l) c = plainly (D.set l) c
-      listAct (D.perform o) c = plainly (D.perform o) c
-      listAct (D.goto s) c = plainly (D.goto s) c
-      listAct (D.call s) c = plainly (D.call s) c
-      listAct D.return c = plainly D.return c
+      listAct (D.store k l r) c = andOn (storeTo k l r c)
+      listAct (D.storePair k l n r) c = andOn (storeToPair k l n r c)
+      listAct (D.set l) c = andOn (onPlace (side (c .store) l) (λ p. setting p c))
+      listAct (D.perform o) c = andOn (perform o c)
+      listAct (D.goto s) c = andOn (toState s goingTo c)
+      listAct (D.call s) c = andOn (toState s calling c)
+      listAct D.return c = andOn (went (returning c))
       listAct (D.when e x) c = onValue (evalAt S d (c .store) e) (λ v. whenWorth x v c)
-      listAct (D.choose e n x) c = onValue (evalAt S d (c .store) e) (λ v. armChosen x (armNumber n (v .number)) c)
+      listAct (D.choose e n x) c = onValue (evalAt S d (c .store) e) (λ v. chooseWorth n x v c)
       listAct (D.arm x) c = stuck wrongRecord
       listAct D.Action.broken c = stuck wrongRecord
 

@@ -6,14 +6,14 @@ use Prim.Native.Nat.{ℕ, zero, suc, _+_, _*_}
 use lib.Dec.{eqb, leb}
 use lib.ListN.{drop, length, take}
 use Rattle.language.specs.Decode.{decode}
-use Rattle.language.specs.Description.{Description, sequencingOf}
+use Rattle.language.specs.Description.{Description, sequencingOf, stateAt}
 use Rattle.language.specs.Image.{passes}
 use Rattle.language.specs.Layout.{storeSize, storeSizeOf}
 use Rattle.language.specs.Reading.{filled, zeroes}
 use Rattle.language.specs.RecordBytes.{marked, recordBytes, recordFrom, recordSize, sound}
 use Rattle.language.specs.declared.refusals.Refusal.{Refusal}
 use Rattle.language.specs.declared.refusals.Refusal.the-variants.{BadStimulus, BufferTooShort, ImageFails, Unsound}
-use Rattle.language.specs.Step.{Outcome, completed, openRecord, setRegister, stateNumber, step}
+use Rattle.language.specs.Step.{Entered, Outcome, completed, into, openRecord, setRegister, step}
 use Rattle.language.specs.Step as Step
 use Rattle.language.specs.declared.stops.Stop.{Stop}
 use Rattle.language.specs.Store.{Words, fromBytes, inputsOf, narrow, toBytes, zeroWords}
@@ -45,13 +45,13 @@ openRefusal image store record′ =
     first (not (passes image)) ImageFails
     (first (not (both (leb (storeSize (decode image)) store) (leb recordSize record′))) BufferTooShort none)
 
-abbrev pub orZeroWords : Words → Option Words → Words
-orZeroWords s none = s
-orZeroWords s (some t) = t
+abbrev pub orZeroWords : Words → Entered → Words
+orZeroWords s (into t) = t
+orZeroWords s (Entered.stuck r) = s
 
 -- Zero, but for the sequencing register, which has the first state's value.
 unfoldable pub openWords : Description → Words
-openWords d = let s = zeroWords (d .facilities) in orZeroWords s (setRegister d (sequencingOf d) (stateNumber d 0) s)
+openWords d = let s = zeroWords (d .facilities) in orZeroWords s (setRegister d (sequencingOf d) (stateAt d 0 .value) s)
 
 abbrev pub openWith : Description → ℕ → ℕ → Option Refusal → OpenCall
 openWith d store record′ (some n) = record { answer = refused n; store = zeroes store; record′ = zeroes record′ }

@@ -66,7 +66,7 @@ image = tt
 
 -- A cycle: expressions, actions, the store, the next state.
 unfoldable pub cycle : Unit {0}
-unfolding Meaning.located Meaning.armNumber Meaning.placeOf Meaning.armBack Meaning.evalNode Meaning.evalBelow Meaning.evalAt Acting.side Acting.putAll Acting.landing Acting.storing Acting.simple Acting.armAt Acting.listAct Acting.listBelow Acting.runList Acting.operationBelow Acting.runActions Store.wordOf Store.setWord Store.loadPart Store.putPart Store.putParts Store.landAll Store.meet Store.meetsAny Store.anyMeets Store.conflicts Store.wordsFrom Store.wordsTo Store.fromBytes Store.toBytes Store.allNarrow Store.narrow Store.zeroWords Store.inputsOf Store.begin Step.mostReturns Step.lastCycle Step.stateNumber Step.bearer Step.plainNext Step.stopAfter Step.nextRecord Step.finished Step.step
+unfolding Meaning.located Meaning.fitting Meaning.decides Meaning.armNumber Meaning.placeOf Meaning.armBack Meaning.evalNode Meaning.evalBelow Meaning.evalAt Acting.side Acting.putAll Acting.landing Acting.storing Acting.armAt Acting.listAct Acting.listBelow Acting.runList Acting.operationBelow Acting.runActions Store.wordOf Store.setWord Store.loadPart Store.putPart Store.putParts Store.landAll Store.meet Store.meetsAny Store.anyMeets Store.conflicts Store.wordsFrom Store.wordsTo Store.fromBytes Store.toBytes Store.allNarrow Store.narrow Store.zeroWords Store.inputsOf Store.begin Step.mostReturns Step.lastCycle Step.stateNumber Step.bearer Step.plainNext Step.stopAfter Step.nextRecord Step.finished Step.step
 cycle = tt
 
 -- The public calls to the byte, and the trace.

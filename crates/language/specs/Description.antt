@@ -85,22 +85,30 @@ pub data Node : Type 0 where
   -- a name that means nothing here, or a record that no reading writes
   broken : Node
 
--- The value of a record that is one constant; any other has no bits.
+-- The constant that a record is, if it is one.
+abbrev pub constantIn : Node → Option Value
+constantIn (constant v) = some v
+constantIn (more n) = none
+constantIn (whole f) = none
+constantIn (one f e) = none
+constantIn (part f b) = none
+constantIn (two f e g) = none
+constantIn (wordPart f e b) = none
+constantIn (binary k a b) = none
+constantIn (prefix k a) = none
+constantIn (cut k a c) = none
+constantIn (firstArm e) = none
+constantIn (nextArm a e) = none
+constantIn (choice e a n) = none
+constantIn Node.broken = none
+
+abbrev pub orNoBits : Option Value → Value
+orNoBits none = value 0 0
+orNoBits (some v) = v
+
+-- The value of such a record; any other has no bits.
 abbrev pub constantValue : Node → Value
-constantValue (constant v) = v
-constantValue (more n) = value 0 0
-constantValue (whole f) = value 0 0
-constantValue (one f e) = value 0 0
-constantValue (part f b) = value 0 0
-constantValue (two f e g) = value 0 0
-constantValue (wordPart f e b) = value 0 0
-constantValue (binary k a b) = value 0 0
-constantValue (prefix k a) = value 0 0
-constantValue (cut k a c) = value 0 0
-constantValue (firstArm e) = value 0 0
-constantValue (nextArm a e) = value 0 0
-constantValue (choice e a n) = value 0 0
-constantValue Node.broken = value 0 0
+constantValue n = orNoBits (constantIn n)
 
 -- A constant of l bits takes a record for each 48 bits or part of them.
 unfoldable pub digitLength : ℕ

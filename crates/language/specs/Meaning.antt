@@ -1,5 +1,5 @@
 -- What an expression is worth (01, "One cycle"; the manual, 5), over any store that can load a part of a word. It knows nothing of the rules: each way in which a bad image could leave it without a meaning has its own stuck case.
-use mathlib.Core.Bool.{cond}
+use mathlib.Core.Bool.{Bool, true, cond}
 use mathlib.Core.List.{List}
 use mathlib.Core.Option.{Option, none, some}
 use Prim.Native.Nat.{ℕ, zero, suc, _+_, _-_, _/_, _%_, _^_}
@@ -7,7 +7,7 @@ use lib.Dec.{eqb, leb, ltb}
 use lib.ListN.{length}
 use Rattle.language.specs.Description as D
 use Rattle.language.specs.Description.{Bounds, Description, Facility, Node, facilityAt, fromFirst, inBounds, isComputed, nodeAt, spanOf, wordLength}
-use Rattle.language.specs.Operators.{binaryOf, cutOf, prefixOf}
+use Rattle.language.specs.Operators.{binaryOf, cutOf, isBinary, isCut, isPrefix, prefixOf}
 use Rattle.language.specs.Recursion.{below}
 use Rattle.language.specs.References as R
 use Rattle.language.specs.References.{Reference, Subscripts, part, rightCount, sameDirection, two, whole, wordPart}
@@ -40,19 +40,19 @@ pub record Stores (X : Type 0) : Type 0 where
 
 -- The ways to be stuck. No passing image reaches one.
 pub data Stuck : Type 0 where
-  -- a part whose record is not before its owner's; a record of the wrong kind
-  notBefore wrongRecord : Stuck
-  -- a facility, an operation or a state that is not there
-  noFacility noOperation noState : Stuck
+  -- a part whose record is not before its owner's; a record of the wrong kind; a chosen arm that is not where it should be
+  notBefore wrongRecord missingArm : Stuck
+  -- a facility, an operation, a state or an operator that is not there
+  noFacility noOperation noState noOperator : Stuck
   -- subscripts that do not fit the dimensions; a part that leaves its word
   wrongSubscripts outside : Stuck
-  -- a value of 0 or more than 256 bits; HEAD, TAIL or EXT of too little or too much
-  wrongLength wrongCount : Stuck
+  -- a value of 0 or more than 256 bits; a constant whose number does not fit its length; HEAD, TAIL or EXT of too little or too much
+  wrongLength tooLarge wrongCount : Stuck
   -- a computed terminal of another length than its expression; a condition of more than one bit; sides of a store of different lengths
   lengthDiffers notOneBit sidesDiffer : Stuck
   -- a store to what may not be stored to
   notStorable : Stuck
-  -- actions that run past what holds them; a state without the value that the sequencing register wants
+  -- actions that run past what holds them; a state without the value that the sequencing register takes
   runsOver noStateValue : Stuck
 
 -- What an expression gives: a value, a stop, or nothing.
@@ -69,6 +69,17 @@ after (stuck s) on = stuck s
 abbrev pub worthOr : Stuck → Made → Answer
 worthOr s (made v) = is v
 worthOr s Value.none = stuck s
+
+-- Why an operator makes nothing: it is none, or this.
+abbrev pub missed : Bool → Stuck → Stuck
+missed known s = cond known s noOperator
+
+-- Whether a number fits its length.
+unfoldable pub fitting : Value → Bool
+fitting v = ltb (v .number) (2 ^ v .length)
+
+abbrev pub constantWorth : Value → Answer
+constantWorth v = cond (fitting v) (is v) (stuck tooLarge)
 
 -- A part found, or why it is not.
 pub data Located : Type 0 where
@@ -103,6 +114,10 @@ located ev n f (R.one e) =
 located ev n f (part x) = partOf (f .bits) x (λ b c. narrow (place n 0 b c))
 located ev n f (two e g) = subscript (ev e) (f .words) (λ w. subscript (ev g) (f .bits) (λ b. narrow (place n w b 1)))
 located ev n f (wordPart e x) = subscript (ev e) (f .words) (λ w. partOf (f .bits) x (λ b c. narrow (place n w b c)))
+
+-- IF with ELSE is the conditional of two arms, and its condition has one bit.
+unfoldable pub decides : ℕ → Value → Bool
+decides n v = cond (eqb n 2) (eqb (v .length) 1) true
 
 -- Arm k of n: a value v from 1 to n - 1 takes arm v, 0 takes arm n; any other has no arm.
 unfoldable pub armNumber : ℕ → ℕ → Option ℕ
@@ -164,7 +179,7 @@ module _ {X : Type 0} (S : Stores X) (d : Description) (x : X) where
 
   -- Only the chosen arm is worked out.
   abbrev pub armWorth : (ℕ → Answer) → Option ℕ → Answer
-  armWorth ev none = stuck wrongRecord
+  armWorth ev none = stuck missingArm
   armWorth ev (some e) = ev e
 
   -- S8: a CASE value without an arm.
@@ -172,20 +187,23 @@ module _ {X : Type 0} (S : Stores X) (d : Description) (x : X) where
   chosen ev a n none = stops NoArm
   chosen ev a n (some k) = armWorth ev (armBack d (n - k) a)
 
+  abbrev pub choiceWorth : (ℕ → Answer) → ℕ → ℕ → Value → Answer
+  choiceWorth ev a n v = cond (decides n v) (chosen ev a n (armNumber n (v .number))) (stuck notOneBit)
+
   unfoldable pub evalNode : (ℕ → Answer) → Node → Answer
-  evalNode ev (D.constant v) = is v
+  evalNode ev (D.constant v) = constantWorth v
   evalNode ev (D.more n) = stuck wrongRecord
   evalNode ev (D.whole f) = operand ev f whole
   evalNode ev (D.one f e) = operand ev f (R.one e)
   evalNode ev (D.part f b) = operand ev f (part b)
   evalNode ev (D.two f e g) = operand ev f (two e g)
   evalNode ev (D.wordPart f e b) = operand ev f (wordPart e b)
-  evalNode ev (D.binary k a b) = after (ev a) (λ v. after (ev b) (λ w. worthOr wrongLength (binaryOf k v w)))
-  evalNode ev (D.prefix k a) = after (ev a) (λ v. worthOr wrongLength (prefixOf k v))
-  evalNode ev (D.cut k a c) = after (ev a) (λ v. worthOr wrongCount (cutOf k v c))
+  evalNode ev (D.binary k a b) = after (ev a) (λ v. after (ev b) (λ w. worthOr (missed (isBinary k) wrongLength) (binaryOf k v w)))
+  evalNode ev (D.prefix k a) = after (ev a) (λ v. worthOr (missed (isPrefix k) wrongLength) (prefixOf k v))
+  evalNode ev (D.cut k a c) = after (ev a) (λ v. worthOr (missed (isCut k) wrongCount) (cutOf k v c))
   evalNode ev (D.firstArm e) = stuck wrongRecord
   evalNode ev (D.nextArm a e) = stuck wrongRecord
-  evalNode ev (D.choice e a n) = after (ev e) (λ v. chosen ev a n (armNumber n (v .number)))
+  evalNode ev (D.choice e a n) = after (ev e) (choiceWorth ev a n)
   evalNode ev D.Node.broken = stuck wrongRecord
 
   abbrev pub evalStep : (ℕ → Answer) → ℕ → Answer

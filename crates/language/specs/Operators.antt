@@ -33,6 +33,13 @@ reductions = plus ∷ star ∷ exclusiveSign ∷ sumSign ∷ []
 abbrev pub isReduction : ℕ → Bool
 isReduction k = eqb k plus || eqb k star || eqb k exclusiveSign || eqb k sumSign
 
+-- The operators between two operands, and those before one.
+abbrev pub isBinary : ℕ → Bool
+isBinary k = isArithmetic k || eqb k conWord || eqb k plus || eqb k star || eqb k exclusiveSign || isRelation k
+
+abbrev pub isPrefix : ℕ → Bool
+isPrefix k = eqb k minus || eqb k differenceSign || isReduction k
+
 -- ---- Lengths.
 
 -- An operand of m bits on the left, one of n bits on the right.

@@ -6,12 +6,12 @@ use Prim.Native.Nat.{ℕ, zero, suc, _+_, _-_}
 use lib.Dec.{eqb, leb, ltb}
 use lib.ListN.{getD, length, replicate, set}
 use Rattle.language.specs.Acting.{Doing, Ran, runActions, went}
-use Rattle.language.specs.Description.{Description, State, constantValue, nodeAt, sequencingOf, stateAt}
-use Rattle.language.specs.Meaning.{Stuck, noState, noStateValue}
+use Rattle.language.specs.Description.{Description, State, constantIn, facilityAt, nodeAt, sequencingOf, stateAt, wordLength}
+use Rattle.language.specs.Meaning.{Stuck, fitting, noState, noStateValue, sidesDiffer, tooLarge, wrongRecord}
 use Rattle.language.specs.declared.stops.Stop.{Stop}
 use Rattle.language.specs.declared.stops.Stop.the-variants.{LastCycleReached, NoNextState, NothingToReturn, TooManyCalls, TwoNextStates, ValueUnborne}
 use Rattle.language.specs.Store.{Held, Words, begin, conflicts, held, landAll, numbers, setWord, wordOf}
-use Rattle.language.specs.Value.{bit}
+use Rattle.language.specs.Value.{Value, bit}
 use Rattle.language.specs.Tests.{both}
 
 -- ---- The run record: state, cycle number, and the return states held, up to 16, unused ones zero.
@@ -28,6 +28,11 @@ mostReturns = 16
 unfoldable pub lastCycle : ℕ
 lastCycle = 4294967295
 
+-- A state entered: the words then, or nothing.
+pub data Entered : Type 0 where
+  into : Words → Entered
+  stuck : Stuck → Entered
+
 -- What a cycle gives: the words and the record after it with the conflict count; a stop; or nothing.
 pub data Outcome : Type 0 where
   completed : Words → Record → ℕ → Outcome
@@ -37,13 +42,17 @@ pub data Outcome : Type 0 where
 module _ (d : Description) where
   -- ---- State values.
 
-  abbrev pub numberAt : Option ℕ → Option ℕ
-  numberAt none = none
-  numberAt (some n) = some (constantValue (nodeAt d n) .number)
+  abbrev pub numberIn : Option Value → Option ℕ
+  numberIn none = none
+  numberIn (some v) = some (v .number)
 
-  -- The value that a state bears.
+  abbrev pub numberOf : Option ℕ → Option ℕ
+  numberOf none = none
+  numberOf (some n) = numberIn (constantIn (nodeAt d n))
+
+  -- The number that a state bears: that of its value, which is a constant.
   unfoldable pub stateNumber : ℕ → Option ℕ
-  stateNumber s = numberAt (stateAt d s .value)
+  stateNumber s = numberOf (stateAt d s .value)
 
   abbrev pub bears : Option ℕ → ℕ → Bool
   bears none x = false
@@ -68,11 +77,19 @@ module _ (d : Description) where
   abbrev pub sequencedState : Words → Option ℕ
   sequencedState s = bearer stateCount 0 (registerValue (sequencingOf d) s)
 
-  -- The sequencing register takes the value of the state entered.
-  abbrev pub setRegister : Option ℕ → Option ℕ → Words → Option Words
-  setRegister none v s = some s
-  setRegister (some f) none s = none
-  setRegister (some f) (some x) s = some (setWord s f 0 x)
+  -- The sequencing register f takes a value of its own length.
+  abbrev pub taking : ℕ → Words → Option Value → Entered
+  taking f s none = stuck wrongRecord
+  taking f s (some v) =
+      cond (eqb (v .length) (wordLength (facilityAt d f)))
+      (cond (fitting v) (into (setWord s f 0 (v .number))) (stuck tooLarge))
+      (stuck sidesDiffer)
+
+  -- The sequencing register, if there is one, takes the value of the state entered.
+  abbrev pub setRegister : Option ℕ → Option ℕ → Words → Entered
+  setRegister none v s = into s
+  setRegister (some f) none s = stuck noStateValue
+  setRegister (some f) (some n) s = taking f s (constantIn (nodeAt d n))
 
   -- ---- The next state.
 
@@ -121,12 +138,12 @@ module _ (d : Description) where
         (record { state = getD (c .calls) 0 0; cycle = suc (r .cycle); held = suc returnsLeft; returns = set popped returnsLeft plainNext })
         (record { state = plainNext; cycle = suc (r .cycle); held = returnsLeft; returns = popped })
 
-    abbrev pub entered : Option Words → Outcome
-    entered none = stuck noStateValue
-    entered (some s) = completed s nextRecord (conflicts [] (c .store .waits))
+    abbrev pub entered : Entered → Outcome
+    entered (into s) = completed s nextRecord (conflicts [] (c .store .waits))
+    entered (Entered.stuck s) = stuck s
 
     abbrev pub orStopped : Option Stop → Outcome
-    orStopped none = entered (setRegister (sequencingOf d) (stateNumber (nextRecord .state)) landed)
+    orStopped none = entered (setRegister (sequencingOf d) (stateAt d (nextRecord .state) .value) landed)
     orStopped (some n) = stopped n
 
     unfoldable pub finished : Outcome
