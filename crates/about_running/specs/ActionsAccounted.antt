@@ -8,16 +8,17 @@ use Prim.Native.Nat.{ℕ, zero, suc, _+_, _-_, _<_}
 use borrow.Author.Tests.{eqb-false, eqb-true, ltb-false, ltb-true}
 use lib.Dec.{eqb, leb, ltb}
 use lib.ListN.{length}
-use Rattle.language.specs.Acting.{Doing, Ran, armAt, armChosen, calling, goingTo, inArm, landing, listAct, listBelow, listStep, onPlace, onSequencing, onValue, onward, operationBelow, operationStep, passing, plainly, putAll, returning, runActions, runList, side, simple, storing, went, whenWorth, withStore, write}
+use Rattle.language.specs.Acting.{Doing, Ran, armAt, armChosen, calling, goingTo, inArm, landing, listAct, listBelow, listStep, onPlace, onSequencing, onValue, onward, operationBelow, operationStep, passing, putAll, returning, runActions, runList, side, storing, went, whenWorth, withStore, write}
 use Rattle.language.specs.Description as D
 use Rattle.language.specs.Description.{Action, Description, Run, actionAt, facilityAt, nodeAt, operationAt}
 use Rattle.language.specs.Kinds.{delayedSign}
-use Rattle.language.specs.Meaning.{Answer, Located, Place, Stores, Stuck, Write, armNumber, evalAt, is, noOperation, noState, notOneBit, notStorable, runsOver, sidesDiffer, stops, stuck}
+use Rattle.language.specs.Meaning.{Answer, Located, Place, Stores, Stuck, Write, armNumber, decides, evalAt, is, noOperation, noState, notOneBit, notStorable, runsOver, sidesDiffer, stops, stuck}
 use Rattle.language.specs.Recursion.{below-ge, below-lt}
 use Rattle.language.specs.References.{Reference, referenceOf}
 use Rattle.language.specs.Storing.{isPlain}
 use Rattle.language.specs.declared.stops.Stop.{Stop}
 use Rattle.language.specs.Value.{Value}
+use Rattle.about_running.specs.OneAction.{plainly, simple}
 use Rattle.about_running.specs.Account as Account
 use Rattle.about_running.specs.Account.{Comes, End, Executed, Executes, Meets, Met, Work, Worth, action, heldBy, list, meets, names, naming, numberFor, putEach, recordAt, stands, stopFor, stores, toRegister}
 use Rattle.about_running.specs.OneAccount.{one-course, over-apart}
@@ -202,7 +203,7 @@ module _ {X : Type 0} (S : Stores X) (d : Description) where
       choose-told e n x q c v h (some m) y = arm-told (D.choose e n x) x q refl c (armAt d (m - 1) (i + 1) x) (λ t z es f g. Account.chosen-arm h (arm-so n (v .number) m y) z g)
 
       act-told : (a : Action) → actionAt d i ≡ a → (c : Doing X) → ToldRun (list (suc k) i) c (listAct S d perform ev k i a c)
-      unfolding listAct
+      unfolding listAct simple
       act-told (D.store s l r) q c = plain-told (D.store s l r) q refl c
       act-told (D.storePair s l n r) q c = plain-told (D.storePair s l n r) q refl c
       act-told (D.set l) q c = plain-told (D.set l) q refl c
@@ -212,7 +213,7 @@ module _ {X : Type 0} (S : Stores X) (d : Description) where
       act-told D.return q c = plain-told D.return q refl c
       act-told (D.when e x) q c = value-run e (evalAt S d (c .store) e) _ (value-told S d (c .store) e) (λ v h. when-told e x q c v h) (λ o h. met-first k i (D.when e x) q (Account.when-meets h))
       act-told (D.choose e n x) q c =
-          value-run e (evalAt S d (c .store) e) _ (value-told S d (c .store) e) (λ v h. choose-told e n x q c v h (armNumber n (v .number)) refl) (λ o h. met-first k i (D.choose e n x) q (Account.choose-meets h))
+          value-run e (evalAt S d (c .store) e) _ (value-told S d (c .store) e) (λ v h. either-run (decides n v) _ (Ran.stuck notOneBit) (choose-told e n x q c v h (armNumber n (v .number)) refl) told-nothing) (λ o h. met-first k i (D.choose e n x) q (Account.choose-meets h))
       act-told (D.arm x) q c = told-nothing
       act-told D.Action.broken q c = told-nothing
 

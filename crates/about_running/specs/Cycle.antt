@@ -126,12 +126,12 @@ module _ (d : Description) (L : Legal d) where
 
   enter-well : (r : Record) (c : Doing Held) (n : ℕ) (x : Option ℕ) → sequencingOf d ≡ x → nextRecord d r c .state < length (d .states)
       → Returns d (nextRecord d r c .held) (nextRecord d r c .returns) → Fit (d .facilities) (landed d r c)
-      → Well d (entered d r c (setRegister d x (stateNumber d (nextRecord d r c .state)) (landed d r c)))
+      → Well d (entered d r c (setRegister d x (stateAt d (nextRecord d r c .state) .value) (landed d r c)))
   unfolding facilityAt
   enter-well r c n none q i k h = completes (record { words = h; state-in = i; returns-in = k; register-so = rw q refl })
   enter-well r c n (some f) q i k h =
       let v = bears-value d L f q (nextRecord d r c .state) i in
-      rw (v .borne) (completes (record {
+      rw (v .enters (landed d r c)) (completes (record {
         words = fit-set (d .facilities) (landed d r c) f 0 (v .number) h (v .fits);
         state-in = i;
         returns-in = k;

@@ -9,9 +9,9 @@ use Prim.Native.Nat.{ℕ, suc, _+_, _-_, _^_, _≤_, _<_}
 use lib.ListN.{drop, getD, length, length-append, replicate, set}
 use lib.Seq.{getD-append-seam, getD-at, set-append-seam, set-at}
 use Rattle.language.specs.Acting.{Doing, Ran, went}
-use Rattle.language.specs.Description.{Description, Facility, facilityAt, isComputed, isSequencing, noFacility, sequencingOf, wordCount, wordLength}
+use Rattle.language.specs.Description.{Description, Facility, facilityAt, isComputed, isSequencing, noFacility, sequencingOf, stateAt, wordCount, wordLength}
 use Rattle.language.specs.Meaning.{Place, Write, place}
-use Rattle.language.specs.Step.{Record, completed, setRegister, stateNumber, step}
+use Rattle.language.specs.Step.{Record, completed, into, setRegister, stateNumber, step}
 use Rattle.language.specs.Store.{Held, Words, begin, begun, headOf, inputsOf, isInput, landAll, numbers, putPart, putParts, setWord, wordOf}
 use Rattle.language.specs.Tree.{Kind, computed, input, memory, plain, register, sequencing}
 use Rattle.language.specs.Value.{replaced}
@@ -241,22 +241,19 @@ module _ (d : Description) where
           whole-in f (facilityAt d f) refl l (not-computed (facilityAt d f .kind) t) 0 (x ∷ []) (omega arith)
 
   module _ (L : Legal d) where
-    state-puts : (u t : Words) (state : ℕ) → state < length (d .states) → Fit (d .facilities) u → setRegister d (sequencingOf d) (stateNumber d state) u ≡ some t → t ≡ putParts d u (stateWrites d state)
+    state-puts : (u t : Words) (state : ℕ) → state < length (d .states) → Fit (d .facilities) u → setRegister d (sequencingOf d) (stateAt d state .value) u ≡ into t → t ≡ putParts d u (stateWrites d state)
     unfolding facilityAt putParts stateWrites wholeWords
     state-puts u t state l h e = go (sequencingOf d) refl e
       where
-        borne : (f : ℕ) → sequencingOf d ≡ some f → (v : Option ℕ) → stateNumber d state ≡ v → setRegister d (some f) v u ≡ some t → t ≡ putParts d u (registerWrites d (some f) v)
-        borne f q none z k = absurd (let y : _≡_ {A = ℕ} 0 1 = cc in omega arith)
-        borne f q (some x) z k =
+        borne : (f : ℕ) → sequencingOf d ≡ some f → setRegister d (some f) (stateAt d state .value) u ≡ into t → t ≡ putParts d u (registerWrites d (some f) (stateNumber d state))
+        borne f q k =
             let v = bears-value d L f q state l in
-            let same : v .number ≡ x = let y : some (v .number) ≡ some x = sym (v .borne) ∙ z in cc in
-            let small : x < 2 ^ wordLength (facilityAt d f) = rw (← same) (v .fits) in
-            let set-so : setWord u f 0 x ≡ t = cc in
-            sym set-so ∙ sym (put-whole u f 0 x (wordLength (facilityAt d f)) refl (fit-word (d .facilities) u f 0 h) small)
+            let set-so : setWord u f 0 (v .number) ≡ t = let y : into (setWord u f 0 (v .number)) ≡ into t = sym (v .enters u) ∙ k in cc in
+            rw (v .borne) (sym set-so ∙ sym (put-whole u f 0 (v .number) (wordLength (facilityAt d f)) refl (fit-word (d .facilities) u f 0 h) (v .fits)))
 
-        go : (x : Option ℕ) → sequencingOf d ≡ x → setRegister d x (stateNumber d state) u ≡ some t → t ≡ putParts d u (registerWrites d x (stateNumber d state))
+        go : (x : Option ℕ) → sequencingOf d ≡ x → setRegister d x (stateAt d state .value) u ≡ into t → t ≡ putParts d u (registerWrites d x (stateNumber d state))
         go none q k = let z : u ≡ t = cc in sym z
-        go (some f) q k = borne f q (stateNumber d state) refl k
+        go (some f) q k = borne f q k
 
 -- ---- The cycle.
 

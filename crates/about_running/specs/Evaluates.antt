@@ -14,7 +14,7 @@ use Rattle.language.specs.Description.{Description, Facility, Node, NodePlaces,
 use Rattle.language.specs.Expressions.{choiceJudged, evenly, judgeAt, judgeBelow, judgeNode, judgeStep, longestSelector, notBefore, operandAt, ownWork, properAt, selects}
 use Rattle.language.specs.Judging.{Judged, Worth, armList, fine, proper, refuse, sized, worth}
 use Rattle.language.specs.Meaning as M
-use Rattle.language.specs.Meaning.{Answer, Located, Place, Stores, Stuck, after, armBack, armNumber, armWorth, chosen, evalAt, evalBelow, evalNode, evalStep, is, operand, partOfValue, read, stops, worthOr, wrongCount, wrongLength}
+use Rattle.language.specs.Meaning.{Answer, Located, Place, Stores, Stuck, after, armBack, armNumber, armWorth, chosen, evalAt, evalBelow, evalNode, evalStep, fitting, is, operand, partOfValue, read, stops, worthOr, wrongCount, wrongLength}
 use Rattle.language.specs.Operators.{binaryLength, binaryOf, cutLengthOf, cutOf, prefixLength, prefixOf}
 use Rattle.language.specs.Order.{justBefore, startAt, startBelow, startNode}
 use Rattle.language.specs.Recursion.{below-lt}
@@ -24,6 +24,7 @@ use Rattle.language.specs.References.{Subscripts, part, takenLength, two, whole
 use Rattle.language.specs.declared.refusals.Refusal.the-variants.{BadLength}
 use Rattle.language.specs.Value.{Made, Value, value}
 use Rattle.language.specs.Words.{Position}
+use Rattle.about_running.specs.Conditionals.{arm-number, decided, selected}
 use Rattle.about_running.specs.Finds.{Each, Finds, finds, outside, reference-fine, reference-finds}
 use Rattle.about_running.specs.Gives.{Gives, Normal, after-gives, fits-gives, gives, stopped}
 use Rattle.about_running.specs.Judged.{arms-fine, both-fine, faulty-fine, given-fine, proper-fine, sized-fine}
@@ -121,14 +122,6 @@ module _ {X : Type 0} (S : Stores X) (d : Description) (p : Places) (x : X) (loa
         let y = arms (m - k) (omega arith) in
         rw (y .found) (rw (eval-lt n (y .arm) (omega (arith, y .below))) (y .gives-it))
 
-    arm-number : (m v : ℕ) → 0 < m → v < m → (k : ℕ) × (armNumber m v ≡ some k) × (0 < k) × (k ≤ m)
-    unfolding armNumber
-    arm-number m v h l = go (eqb v 0) refl
-      where
-        go : (t : Bool) → eqb v 0 ≡ t → (k : ℕ) × (cond t (some m) (cond (ltb v m) (some v) none) ≡ some k) × (0 < k) × (k ≤ m)
-        go true e = (m, refl, h, omega arith)
-        go false e = let z : v ≡ 0 → ⊥ = eqb-false v 0 e in (v, rw (lt-ltb v m l), omega arith, omega arith)
-
     -- A value below the number of arms has one.
     selects-gives : (a m l v : ℕ) → a < n → ((j : ℕ) → j < m → ArmAt S d x j a l) → v < m → Gives l (chosen S d x EV a m (armNumber m v))
     selects-gives a m l v h arms q =
@@ -136,14 +129,6 @@ module _ {X : Type 0} (S : Stores X) (d : Description) (p : Places) (x : X) (loa
         rw (y .1) (chosen-gives a m (y .0) l h arms (y .2) (y .3))
 
     -- ---- Every kind of record, as an expression.
-
-    selected : (c m : ℕ) → selects c m ≡ true → m ≡ 2 ^ c
-    unfolding selects
-    selected c m h = go (leb c longestSelector) h
-      where
-        go : (t : Bool) → both t (eqb m (2 ^ c)) ≡ true → m ≡ 2 ^ c
-        go true e = eqb-true m (2 ^ c) e
-        go false e = absurd (let z : _≡_ {A = ℕ} 0 1 = cc in omega arith)
 
     both-true : (a b : Bool) → both a b ≡ true → (a ≡ true) × (b ≡ true)
     both-true true b h = (refl, h)
@@ -177,11 +162,11 @@ module _ {X : Type 0} (S : Stores X) (d : Description) (p : Places) (x : X) (loa
       one-own e o = let y = one-before d e n s o in (omega (arith, y .last), (s, y .start, b))
 
       value-node : (nd : Node) {w : Worth} → judgeNode d p terminals known ev at nd ≡ fine w → w .arms ≡ 0 → startNode d (startBelow d n) n nd ≡ some s → Gives (w .length) (evalNode S d x EV nd)
-      unfolding judgeNode startNode evalNode
+      unfolding judgeNode startNode evalNode fitting
       value-node (D.constant v) {w} e z o =
           let y = sized-fine (at .at) (v .length) ownWork e in
           let h : w .length ≡ v .length = ap (λ (u : Worth). u .length) (y .same) in
-          rw h (gives refl (constant-fits d n (v .length) (v .number) s o))
+          rw (h, lt-ltb (v .number) (2 ^ v .length) (constant-fits d n (v .length) (v .number) s o)) (gives refl (constant-fits d n (v .length) (v .number) s o))
       value-node (D.more m) e z o = none-some o
       value-node (D.whole f) e z o = operand-gives f s b t whole at tt e
       value-node (D.one f a) e z o = operand-gives f s b t (R.one a) at (one-own a o) e
@@ -195,19 +180,19 @@ module _ {X : Type 0} (S : Stores X) (d : Description) (p : Places) (x : X) (loa
           let r = both-fine (properAt d p terminals known ev a) (properAt d p terminals known ev c) _ e in
           after-gives _ (part-gives a s _ (y .left-below) (y .left) b (r .left)) (λ v nv.
           after-gives _ (part-gives c (y .middle) _ (y .right-below) (y .right) (omega (arith, y .after)) (r .right)) (λ u nu.
-          sized-gives wrongLength (binaryOf k v u) (binaryLength k (r .u .length) (r .v .length)) _ (at .at) (r .own)
+          sized-gives _ (binaryOf k v u) (binaryLength k (r .u .length) (r .v .length)) _ (at .at) (r .own)
           (λ h. rw (← (nv .length), ← (nu .length)) (binary-fits v u k (rw (nv .length, nu .length) h)))))
       value-node (D.prefix k a) e z o =
           let y = one-before d a n s o in
           let r = given-fine (properAt d p terminals known ev a) _ e in
           after-gives _ (part-gives a s _ (omega (arith, y .last)) (y .start) b (r .part)) (λ v nv.
-          sized-gives wrongLength (prefixOf k v) (prefixLength k (r .v .length)) _ (at .at) (r .own)
+          sized-gives _ (prefixOf k v) (prefixLength k (r .v .length)) _ (at .at) (r .own)
           (λ h. rw (← (nv .length)) (prefix-fits v k (rw (nv .length) h))))
       value-node (D.cut k a c) e z o =
           let y = one-before d a n s o in
           let r = given-fine (properAt d p terminals known ev a) _ e in
           after-gives _ (part-gives a s _ (omega (arith, y .last)) (y .start) b (r .part)) (λ v nv.
-          sized-gives wrongCount (cutOf k v c) (cutLengthOf k (r .v .length) c) _ (at .at) (r .own)
+          sized-gives _ (cutOf k v c) (cutLengthOf k (r .v .length) c) _ (at .at) (r .own)
           (λ h. rw (← (nv .length)) (cut-fits v k c (rw (nv .length) h))))
       value-node (D.firstArm a) e z o = let r = given-fine (properAt d p terminals known ev a) _ e in absent _ _ _ (r .own) z
       value-node (D.nextArm a g) e z o =
@@ -221,8 +206,9 @@ module _ {X : Type 0} (S : Stores X) (d : Description) (p : Places) (x : X) (loa
           let arms : (j : ℕ) → j < m → ArmAt S d x j a (r .v .length) =
           λ j h. ih a (y .right-below) .as-arms (sym (judge-lt n a (y .right-below)) ∙ k .same) (k .some) (y .right) (omega (arith, y .after)) (c .some-bits) j (omega (arith, c .all)) in
           after-gives _ (part-gives g s _ (y .left-below) (y .left) b (r .left)) (λ v nv.
-          subst (λ (l : ℕ). Gives l (chosen S d x EV a m (armNumber m (v .number)))) (sym (c .same))
-          (selects-gives a m (r .v .length) (v .number) (y .right-below) arms (rw (c .arms) (nv .fits))))
+          rw (decided m (r .u .length) v (nv .length) (c .arms))
+          (subst (λ (l : ℕ). Gives l (chosen S d x EV a m (armNumber m (v .number)))) (sym (c .same))
+          (selects-gives a m (r .v .length) (v .number) (y .right-below) arms (rw (c .arms) (nv .fits)))))
       value-node D.Node.broken e z o = none-some o
 
       -- ---- Arms: the last one, and those before it.

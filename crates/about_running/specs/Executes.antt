@@ -10,7 +10,7 @@ use borrow.Author.Tests.{eq-eqb, eqb-true, lt-ltb, ltb-false, ltb-true}
 use lib.Dec.{eqb, ltb}
 use lib.ListN.{List·getD-eq-default, length}
 use lib.Pow.{pow-add, pow-pos}
-use Rattle.language.specs.Acting.{Doing, Ran, landing, onPlace, onValue, putAll, setting, side, sideOf, simple, storeTo, storeToPair, storing, toState, went, withStore, write}
+use Rattle.language.specs.Acting.{Doing, Ran, landing, onPlace, onValue, putAll, setting, side, sideOf, storeTo, storeToPair, storing, toState, went, withStore, write}
 use Rattle.language.specs.ActionRules as J
 use Rattle.language.specs.ActionRules.{kindAt, simpleJudged}
 use Rattle.language.specs.Description as D
@@ -30,6 +30,7 @@ use Rattle.language.specs.Tree as T
 use Rattle.language.specs.Tree.{Kind}
 use Rattle.language.specs.Value.{Value}
 use Rattle.language.specs.Words.{Position}
+use Rattle.about_running.specs.OneAction.{simple}
 use Rattle.about_running.specs.Evaluates.{Claim, Terminal, evaluates, eval-lt, judge-lt}
 use Rattle.about_running.specs.Finds.{Each, Finds, finds, outside, reference-fine, reference-finds}
 use Rattle.about_running.specs.Gives.{Gives, gives, stopped}

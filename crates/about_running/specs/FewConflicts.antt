@@ -13,7 +13,7 @@ use Rattle.language.specs.Acting.{Doing, Ran, went}
 use Rattle.language.specs.Description.{Description, noPlaces, sequencingOf, stateAt}
 use Rattle.language.specs.Meaning.{Write, noState}
 use Rattle.language.specs.Rules.{mostWork}
-use Rattle.language.specs.Step.{Outcome, Record, afterActions, completed, entered, finished, landed, lastCycle, nextRecord, nothingDone, orStopped, setRegister, stateNumber, step, stopAfter}
+use Rattle.language.specs.Step.{Entered, Outcome, Record, afterActions, completed, entered, finished, into, landed, lastCycle, nextRecord, nothingDone, orStopped, setRegister, step, stopAfter}
 use Rattle.language.specs.declared.stops.Stop.{Stop}
 use Rattle.language.specs.declared.stops.Stop.the-variants.{LastCycleReached}
 use Rattle.language.specs.Store.{Held, Words, anyMeets, begin, conflicts, numbers}
@@ -48,12 +48,12 @@ no-more-conflicts earlier (g ∷ gs) =
     omega (arith, one, rest)
 
 module _ (d : Description) (L : Legal d) where
-  entered-count : (r : Record) (c : Doing Held) (x : Option Words) {s : Words} {r′ : Record} {n : ℕ} → entered d r c x ≡ completed s r′ n → n ≡ conflicts [] (c .store .waits)
-  entered-count r c none e = absurd (let z : _≡_ {A = ℕ} 0 1 = cc in omega arith)
-  entered-count r c (some t) e = cc
+  entered-count : (r : Record) (c : Doing Held) (x : Entered) {s : Words} {r′ : Record} {n : ℕ} → entered d r c x ≡ completed s r′ n → n ≡ conflicts [] (c .store .waits)
+  entered-count r c (Entered.stuck y) e = absurd (let z : _≡_ {A = ℕ} 0 1 = cc in omega arith)
+  entered-count r c (into t) e = cc
 
   finished-count : (r : Record) (c : Doing Held) (x : Option Stop) {s : Words} {r′ : Record} {n : ℕ} → orStopped d r c x ≡ completed s r′ n → n ≡ conflicts [] (c .store .waits)
-  finished-count r c none e = entered-count r c (setRegister d (sequencingOf d) (stateNumber d (nextRecord d r c .state)) (landed d r c)) e
+  finished-count r c none e = entered-count r c (setRegister d (sequencingOf d) (stateAt d (nextRecord d r c .state) .value) (landed d r c)) e
   finished-count r c (some m) e = absurd (let z : _≡_ {A = ℕ} 0 1 = cc in omega arith)
 
   after-count : (r : Record) (x : Ran Held) (k : ℕ) → F.Few (numbers d) d noPlaces delayed (counts d) k x → {s : Words} {r′ : Record} {n : ℕ} → afterActions d r x ≡ completed s r′ n → n ≤ k

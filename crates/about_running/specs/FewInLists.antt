@@ -15,10 +15,11 @@ use Rattle.language.specs.Description as D
 use Rattle.language.specs.Description.{Action, Description, Places, Run, actionAt, actionPlace, operationAt}
 use Rattle.language.specs.Expressions.{ownWork, selects}
 use Rattle.language.specs.Judging.{Judged, Worth, fine, givenBoth, refuse, worth}
-use Rattle.language.specs.Meaning.{Stores, armNumber, evalAt, is, noOperation, runsOver}
+use Rattle.language.specs.Meaning.{Stores, armNumber, decides, evalAt, is, noOperation, runsOver}
 use Rattle.language.specs.Recursion.{below-ge, below-lt}
 use Rattle.language.specs.declared.refusals.Refusal.the-variants.{BadLength, NoContinuation}
 use Rattle.language.specs.Words.{Position}
+use Rattle.about_running.specs.OneAction.{plainly, simple}
 use Rattle.about_running.specs.Judged.{both-fine, faulty-fine}
 use Rattle.about_running.specs.FewStores as F
 use Rattle.about_running.specs.FewStores.{Counts, carried, stopped-so, stuck-so}
@@ -65,7 +66,7 @@ module _ {X : Type 0} (S : Stores X) (d : Description) (p : Places) (delayed : X
       fewer : (a i′ : ℕ) {w : Worth} (c : Doing X) → a < suc m → ev a i′ actions ≡ fine w → Few (delayed (c .store) + w .work) (EV a i′ c)
       fewer a i′ c l e = rw (exec-lt (suc m) a i′ c l) (ih a l .as-list i′ c (sym (judged-lt (suc m) a i′ actions l) ∙ e))
 
-      plain-few : (a : Action) {w : Worth} (c : Doing X) → actionAt d i ≡ a → J.plainly d p inState works ev m i ≡ fine w → Few (delayed (c .store) + w .work) (A.plainly S d perform EV m i a c)
+      plain-few : (a : Action) {w : Worth} (c : Doing X) → actionAt d i ≡ a → J.plainly d p inState works ev m i ≡ fine w → Few (delayed (c .store) + w .work) (plainly S d perform EV m i a c)
       plain-few a {w} c q e =
           let y = both-fine (simpleJudged d p inState works (actionPlace p i) (actionAt d i)) (ev m (i + 1) actions) _ e in
           let l : simpleJudged d p inState works (actionPlace p i) a ≡ fine (y .u) = ap (simpleJudged d p inState works (actionPlace p i)) (sym q) ∙ y .left in
@@ -137,14 +138,15 @@ module _ {X : Type 0} (S : Stores X) (d : Description) (p : Places) (delayed : X
       unfolding J.listJudged A.listAct
       choose-few e n x {w} c k =
           let y = held e x (λ v w. both (selects (v .length) n) (eqb (w .arms) n)) k in
-          F.value-few S d p delayed count (evalAt S d (c .store) e) _ (λ v. go y (armNumber n (v .number)))
+          F.value-few S d p delayed count (evalAt S d (c .store) e) _ (λ v.
+          F.chosen-few S d p delayed count (decides n v) (go y (armNumber n (v .number))) stuck-so)
         where
           go : Held x (w .work) → (a : Option ℕ) → Few (delayed (c .store) + w .work) (A.armChosen S d perform EV m i x a c)
           go y none = stopped-so
           go y (some a) = arm-few x (a - 1) c y
 
       list-few : (a : Action) {w : Worth} (c : Doing X) → actionAt d i ≡ a → J.listJudged d p inState works ev m i a ≡ fine w → Few (delayed (c .store) + w .work) (A.listAct S d perform EV m i a c)
-      unfolding J.listJudged A.listAct
+      unfolding J.listJudged A.listAct simple
       list-few (D.store k l r) c q e = plain-few (D.store k l r) c q e
       list-few (D.storePair k l n r) c q e = plain-few (D.storePair k l n r) c q e
       list-few (D.set l) c q e = plain-few (D.set l) c q e

@@ -7,7 +7,7 @@ use Prim.Native.Nat.{ℕ, suc, _+_, _-_, _/_, _%_, _^_, _≤_}
 use lib.Dec.{eqb, ltb}
 use lib.ListN.{length}
 use Rattle.language.specs.Acting as A
-use Rattle.language.specs.Acting.{Doing, Ran, landing, onPlace, onValue, onward, putAll, setting, side, simple, storing, toState, went}
+use Rattle.language.specs.Acting.{Doing, Ran, landing, onPlace, onValue, onward, putAll, setting, side, storing, toState, went}
 use Rattle.language.specs.ActionRules as J
 use Rattle.language.specs.ActionRules.{actions, simpleJudged}
 use Rattle.language.specs.Description as D
@@ -21,6 +21,7 @@ use Rattle.language.specs.declared.stops.Stop.{Stop}
 use Rattle.language.specs.Storing.{isPlain, mayStore}
 use Rattle.language.specs.Value.{Value}
 use Rattle.language.specs.Words.{Position}
+use Rattle.about_running.specs.OneAction.{simple}
 use Rattle.about_running.specs.Judged.{both-fine, clean-fine, faulty-fine, given-fine}
 use Rattle.language.specs.Tests.{both}
 

@@ -9,7 +9,8 @@ use lib.ListN.{drop, getD, length}
 use Rattle.language.specs.Acting.{Doing, Ran, runActions, went}
 use Rattle.language.specs.Description.{Description, Facility, facilityAt, noFacility, sequencingOf, stateAt}
 use Rattle.language.specs.Meaning.{Stores, Write}
-use Rattle.language.specs.Step.{Record, completed, nothingDone, setRegister, stateNumber, step}
+use Rattle.language.specs.Step.{Record, completed, into, nothingDone, setRegister, step}
+use Rattle.about_running.specs.Entering.{took}
 use Rattle.language.specs.Store.{Held, Words, begin, begun, headOf, held, isInput, landAll, loadPart, numbers, putPart, putParts, wordOf, setWord}
 use Rattle.language.specs.Tree.{Kind, computed, input, memory, plain, register, sequencing}
 use Rattle.about_running.specs.BitsKept.{NoneHas, NoneHasAny, bitOf, land-keeps, other-facility, puts-keep}
@@ -155,17 +156,16 @@ module _ (d : Description) (s : Words) (r : Record) (ins : Words) where
 
     module _ (f w k : ℕ) (inside : f < length (d .facilities)) (is-steady : steady (facilityAt d f .kind) ≡ true) (not-register : (g : ℕ) → sequencingOf d ≡ some g → f ≡ g → ⊥)
         (none-at-once : NoneHas d f w k (c .store .writes)) (none-later : NoneHasAny d f w k (c .store .store .waits)) where
-      set-keeps : (x v : Option ℕ) (u : Words) → sequencingOf d ≡ x → setRegister d x v u ≡ some t → wordOf t f w ≡ wordOf u f w
+      set-keeps : (x v : Option ℕ) (u : Words) → sequencingOf d ≡ x → setRegister d x v u ≡ into t → wordOf t f w ≡ wordOf u f w
       set-keeps none v u z h = let y : u ≡ t = cc in rw y refl
-      set-keeps (some g) none u z h = absurd (let y : _≡_ {A = ℕ} 0 1 = cc in omega arith)
-      set-keeps (some g) (some x) u z h =
-          let y : setWord u g 0 x ≡ t = cc in
-          ap (λ (o : Words). wordOf o f w) (sym y) ∙ other-facility u f g w 0 x (not-register g z)
+      set-keeps (some g) v u z h =
+          let y = took d g v u t h in
+          ap (λ (o : Words). wordOf o f w) (sym (y .same)) ∙ other-facility u f g w 0 (y .number) (not-register g z)
 
       pub kept : bitOf (wordOf t f w) k ≡ bitOf (wordOf s f w) k
       unfolding facilityAt
       kept =
-          let there : wordOf t f w ≡ wordOf (landAll d (did .done .store .words) (did .done .store .waits)) f w = set-keeps (sequencingOf d) (stateNumber d (q .state)) _ refl (did .lands) in
+          let there : wordOf t f w ≡ wordOf (landAll d (did .done .store .words) (did .done .store .waits)) f w = set-keeps (sequencingOf d) (stateAt d (q .state) .value) _ refl (did .lands) in
           ap (λ (o : ℕ). bitOf o k) there ∙ (ap (λ (o : Held). bitOf (wordOf (landAll d (o .words) (o .waits)) f w) k) (stands .same)
           ∙ (land-keeps d f w k (c .store .store .words) (c .store .store .waits) none-later ∙ (ap (λ (o : Words). bitOf (wordOf o f w) k) (stands .put-so)
           ∙ (puts-keep d f w k begins (c .store .writes) none-at-once ∙ ap (λ (o : ℕ). bitOf o k) (begin-keeps (d .facilities) s ins f w inside is-steady)))))

@@ -9,7 +9,7 @@ use lib.Dec.{leb, ltb}
 use Rattle.language.specs.Acting.{Doing, Ran, runActions, went}
 use Rattle.language.specs.Description.{Description, sequencingOf, stateAt}
 use Rattle.language.specs.Meaning.{noState}
-use Rattle.language.specs.Step.{Outcome, Record, afterActions, completed, entered, finished, landed, lastCycle, nextRecord, nothingDone, orStopped, setRegister, stateCount, stateNumber, step, stopAfter}
+use Rattle.language.specs.Step.{Entered, Outcome, Record, afterActions, completed, entered, finished, into, landed, lastCycle, nextRecord, nothingDone, orStopped, setRegister, stateCount, step, stopAfter}
 use Rattle.language.specs.declared.stops.Stop.{Stop}
 use Rattle.language.specs.declared.stops.Stop.the-variants.{LastCycleReached}
 use Rattle.language.specs.Store.{Held, Words, begin, conflicts, landAll, numbers}
@@ -22,18 +22,18 @@ module _ (d : Description) (s : Words) (r : Record) (ins : Words) (t : Words) (q
   pub record Did : Type 0 where
     pub done : Doing Held
     pub ran : runActions (numbers d) d (stateAt d (r .state) .actions) (nothingDone d (begin (d .facilities) s ins)) ≡ went done
-    pub lands : setRegister d (sequencingOf d) (stateNumber d (q .state)) (landAll d (done .store .words) (done .store .waits)) ≡ some t
+    pub lands : setRegister d (sequencingOf d) (stateAt d (q .state) .value) (landAll d (done .store .words) (done .store .waits)) ≡ into t
     pub counted : n ≡ conflicts [] (done .store .waits)
 
-  did-enter : (c : Doing Held) → run ≡ went c → (x : Option Words) → setRegister d (sequencingOf d) (stateNumber d (nextRecord d r c .state)) (landed d r c) ≡ x → entered d r c x ≡ completed t q n → Did
-  did-enter c h none k e = absurd (let z : _≡_ {A = ℕ} 0 1 = cc in omega arith)
-  did-enter c h (some u) k e =
+  did-enter : (c : Doing Held) → run ≡ went c → (x : Entered) → setRegister d (sequencingOf d) (stateAt d (nextRecord d r c .state) .value) (landed d r c) ≡ x → entered d r c x ≡ completed t q n → Did
+  did-enter c h (Entered.stuck x) k e = absurd (let z : _≡_ {A = ℕ} 0 1 = cc in omega arith)
+  did-enter c h (into u) k e =
       let same : u ≡ t = cc in
       let next : nextRecord d r c ≡ q = cc in
-      record { done = c; ran = h; lands = rw (← next) (k ∙ ap some same); counted = cc }
+      record { done = c; ran = h; lands = rw (← next) (k ∙ ap into same); counted = cc }
 
   did-finish : (c : Doing Held) → run ≡ went c → (x : Option Stop) → orStopped d r c x ≡ completed t q n → Did
-  did-finish c h none e = did-enter c h (setRegister d (sequencingOf d) (stateNumber d (nextRecord d r c .state)) (landed d r c)) refl e
+  did-finish c h none e = did-enter c h (setRegister d (sequencingOf d) (stateAt d (nextRecord d r c .state) .value) (landed d r c)) refl e
   did-finish c h (some m) e = absurd (let z : _≡_ {A = ℕ} 0 1 = cc in omega arith)
 
   did-after : (x : Ran Held) → run ≡ x → afterActions d r x ≡ completed t q n → Did

@@ -2,12 +2,14 @@
 
 -- ---- What no fault means, part by part.
 pub mod Judged
+pub mod OneAction
 pub mod Operators
 pub mod Gives
 pub mod InBounds
 pub mod Finds
 pub mod Starts
 -- ---- An expression without fault has a value of the length worked out before, or meets S1; actions without fault are carried out to the end, or meet S1.
+pub mod Entering
 pub mod Evaluates
 pub mod Terminals
 pub mod Executes
@@ -37,6 +39,7 @@ pub mod MetThere
 pub mod ValuesAccounted
 pub mod ActionsAccounted
 -- ---- 01's conditions for a stop, of what is executed; every stop in 01's order.
+pub mod Conditionals
 pub mod Conditions
 pub mod AccountExamples
 pub mod Decided

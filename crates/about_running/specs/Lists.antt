@@ -16,7 +16,9 @@ use Rattle.language.specs.Description.{Action, Description, Places, Run, action
 use Rattle.language.specs.Expressions.{expressionAt, longestSelector, selects, terminalBelow}
 use Rattle.language.specs.Judging.{Judged, Worth, fine, givenBoth, refuse, worth}
 use Rattle.language.specs.Meaning.{Stores, armNumber, runsOver}
+use Rattle.about_running.specs.Conditionals.{arm-number, decided, selected}
 use Rattle.language.specs.Recursion.{below-lt}
+use Rattle.about_running.specs.OneAction.{plainly, simple}
 use Rattle.about_running.specs.Evaluates.{Terminal}
 use Rattle.about_running.specs.Executes as E
 use Rattle.about_running.specs.Executes.{Keeps, Ready, Rooted}
@@ -27,18 +29,6 @@ use Rattle.language.specs.Tests.{both}
 both-true : (a b : Bool) → both a b ≡ true → (a ≡ true) × (b ≡ true)
 both-true true b h = (refl, h)
 both-true false b h = absurd (let z : _≡_ {A = ℕ} 0 1 = cc in omega arith)
-
-selected : (c m : ℕ) → selects c m ≡ true → m ≡ 2 ^ c
-unfolding selects
-selected c m h = eqb-true m (2 ^ c) (both-true (leb c longestSelector) (eqb m (2 ^ c)) h .1)
-
-arm-number : (m v : ℕ) → 0 < m → v < m → (k : ℕ) × (armNumber m v ≡ some k) × (0 < k) × (k ≤ m)
-unfolding armNumber
-arm-number m v h l = go (eqb v 0) refl
-  where
-    go : (t : Bool) → eqb v 0 ≡ t → (k : ℕ) × (cond t (some m) (cond (ltb v m) (some v) none) ≡ some k) × (0 < k) × (k ≤ m)
-    go true e = (m, refl, h, omega arith)
-    go false e = let z : v ≡ 0 → ⊥ = eqb-false v 0 e in (v, rw (lt-ltb v m l), omega arith, omega arith)
 
 module _ {X : Type 0} (S : Stores X) (d : Description) (p : Places) (Inv : X → Type 0) (keeps : Keeps S d Inv) (base : ℕ)
     (terms : (x : X) (f : ℕ) (w : Worth) → f < length (d .facilities) → _≡_ {A = Bool} (D.isComputed (facilityAt d f .kind)) true
@@ -95,7 +85,7 @@ module _ {X : Type 0} (S : Stores X) (d : Description) (p : Places) (Inv : X →
       passing-good : (x : ℕ) {w : Worth} (c : Doing X) → x ≤ m → ev (m - x) (i + 1 + x) actions ≡ fine w → Set c → Good (A.passing S d perform EV m i x c)
       passing-good x c l e h = rw (le-leb x m l) (fewer (m - x) (i + 1 + x) c (omega arith) e h)
 
-      plain-good : (a : Action) {w : Worth} (c : Doing X) → actionAt d i ≡ a → J.plainly d p inState works ev m i ≡ fine w → Set c → Good (A.plainly S d perform EV m i a c)
+      plain-good : (a : Action) {w : Worth} (c : Doing X) → actionAt d i ≡ a → J.plainly d p inState works ev m i ≡ fine w → Set c → Good (plainly S d perform EV m i a c)
       plain-good a c q e h =
           let y = both-fine (simpleJudged d p inState works (actionPlace p i) (actionAt d i)) (ev m (i + 1) actions) _ e in
           let l : simpleJudged d p inState works (actionPlace p i) a ≡ fine (y .u) = ap (simpleJudged d p inState works (actionPlace p i)) (sym q) ∙ y .left in
@@ -177,7 +167,7 @@ module _ {X : Type 0} (S : Stores X) (d : Description) (p : Places) (Inv : X →
           E.on-value S d p Inv keeps base terms _ (E.right-gives S d p Inv keeps base terms (c .store) e own (y .condition-fine)) (λ v lv fv.
           let l : v .number < n = rw (selected (y .condition .length) n (t .0)) fv in
           let z = arm-number n (v .number) (omega arith) l in
-          rw (z .1) (arm-good x (z .0 - 1) c (y .fits) (y .inner-fine) (omega (arith, z .2, z .3)) (y .rest-fine) h))
+          rw (decided n (y .condition .length) v lv (selected (y .condition .length) n (t .0)), z .1) (arm-good x (z .0 - 1) c (y .fits) (y .inner-fine) (omega (arith, z .2, z .3)) (y .rest-fine) h))
 
       -- An arm, and a broken record, are no action.
       none-such : Action → Bool
@@ -208,7 +198,7 @@ module _ {X : Type 0} (S : Stores X) (d : Description) (p : Places) (Inv : X →
       not-simple D.Action.broken q t e = faulty-fine (rw q at e)
 
       list-good : (a : Action) {w : Worth} (c : Doing X) → actionAt d i ≡ a → J.listJudged d p inState works ev m i a ≡ fine w → Set c → Good (A.listAct S d perform EV m i a c)
-      unfolding J.listJudged A.listAct none-such
+      unfolding J.listJudged A.listAct none-such simple
       list-good (D.store k l r) c q e h = plain-good (D.store k l r) c q e h
       list-good (D.storePair k l n r) c q e h = plain-good (D.storePair k l n r) c q e h
       list-good (D.set l) c q e h = plain-good (D.set l) c q e h

@@ -10,7 +10,7 @@ use lib.Dec.{eqb, leb}
 use lib.ListN.{getD, length, replicate, take}
 use Rattle.language.specs.Calls.{cycleRefusal, first, not, openWords, orZeroWords, roomy, soundBytes, stimulusSize, wellFormed}
 use Rattle.language.specs.Decode.{decode}
-use Rattle.language.specs.Description.{Description, Facility, facilityAt, isComputed, sequencingOf, wordCount, wordLength}
+use Rattle.language.specs.Description.{Description, Facility, facilityAt, isComputed, sequencingOf, stateAt, wordCount, wordLength}
 use Rattle.language.specs.Encode.{encode, headerSize}
 use Rattle.language.specs.Image.{legalForm, passes, totalLength}
 use Rattle.language.specs.RecordBytes.{marked, recordFrom, sound}
@@ -103,12 +103,12 @@ module _ (image : List ℕ) (passes-so : passes image ≡ true) where
       zeros : Words
       zeros = zeroWords (opened .facilities)
 
-      go : (x : Option ℕ) → sequencingOf opened ≡ x → Sound opened (orZeroWords zeros (setRegister opened x (stateNumber opened 0) zeros)) (openRecord opened)
+      go : (x : Option ℕ) → sequencingOf opened ≡ x → Sound opened (orZeroWords zeros (setRegister opened x (stateAt opened 0 .value) zeros)) (openRecord opened)
       go none q = record { words = zero-fit (opened .facilities); state-in = legal-image image passes-so .some-state; returns-in = no-returns; register-so = rw q refl }
       go (some f) q =
           let L = legal-image image passes-so in
           let v = bears-value opened L f q 0 (L .some-state) in
-          rw (v .borne) (record {
+          rw (v .enters zeros) (record {
             words = fit-set (opened .facilities) zeros f 0 (v .number) (zero-fit (opened .facilities)) (v .fits);
             state-in = L .some-state;
             returns-in = no-returns;

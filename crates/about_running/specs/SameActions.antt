@@ -7,7 +7,7 @@ use native.Mathlib.Omega.{arith}
 use Prim.Native.Nat.{ℕ, suc, _+_, _/_, _%_, _^_}
 use lib.Dec.{eqb, ltb}
 use lib.ListN.{length}
-use Rattle.language.specs.Acting.{Doing, Ran, calling, goingTo, landing, onPlace, onSequencing, onValue, onward, putAll, returning, setting, side, sideOf, simple, storable, storeTo, storeToPair, storing, toState, went, withStore, write}
+use Rattle.language.specs.Acting.{Doing, Ran, calling, goingTo, landing, onPlace, onSequencing, onValue, onward, putAll, returning, setting, side, sideOf, storable, storeTo, storeToPair, storing, toState, went, withStore, write}
 use Rattle.language.specs.Description as D
 use Rattle.language.specs.Description.{Action, Description, facilityAt, isComputed, nodeAt}
 use Rattle.language.specs.Kinds.{delayedSign, equalSign}
@@ -17,6 +17,7 @@ use Rattle.language.specs.declared.stops.Stop.{Stop}
 use Rattle.language.specs.Storing.{isPlain, mayStore}
 use Rattle.language.specs.Tree.{Kind, computed, input, memory, plain, register, sequencing}
 use Rattle.language.specs.Value.{Value}
+use Rattle.about_running.specs.OneAction.{simple}
 use Rattle.about_running.specs.PlaceFound.{Taken, found-taken}
 use Rattle.about_running.specs.SameValues.{Stored, below-same, place-same, value-same}
 

@@ -7,12 +7,13 @@ use Prim.Native.Nat.{ℕ, zero, suc, _+_, _-_, _≤_, _<_}
 use borrow.Author.Tests.{ltb-false, ltb-true}
 use lib.Dec.{eqb, leb, ltb}
 use lib.ListN.{length}
-use Rattle.language.specs.Acting.{Doing, Ran, armAt, armChosen, inArm, listAct, listBelow, listStep, operationBelow, operationStep, passing, plainly, runActions, runList, went, whenWorth}
+use Rattle.language.specs.Acting.{Doing, Ran, armAt, armChosen, chooseWorth, inArm, listAct, listBelow, listStep, operationBelow, operationStep, passing, runActions, runList, went, whenWorth}
 use Rattle.language.specs.Description as D
 use Rattle.language.specs.Description.{Action, Description, Run, actionAt, operationAt}
-use Rattle.language.specs.Meaning.{Stores, armNumber, noOperation, notOneBit, runsOver}
+use Rattle.language.specs.Meaning.{Stores, armNumber, decides, noOperation, notOneBit, runsOver}
 use Rattle.language.specs.Recursion.{below-ge, below-lt}
 use Rattle.language.specs.Value.{Value}
+use Rattle.about_running.specs.OneAction.{plainly, simple}
 use Rattle.about_running.specs.SameActions as Actions
 use Rattle.about_running.specs.SameActions.{Joins}
 
@@ -56,12 +57,19 @@ module _ {X Y : Type 0} (S : Stores X) (T : Stores Y) (d : Description) (R : X �
           go true false = arm-alike x (armAt d 0 (i + 1) x) c e h
           go false b = Actions.stick
 
+      choose-alike : (n x : ℕ) (v : Value) → Onward (chooseWorth S d perform ev m i n x v) (chooseWorth T d perform′ ev′ m i n x v)
+      choose-alike n x v c e h = go (decides n v)
+        where
+          go : (b : Bool) → Alike (cond b (armChosen S d perform ev m i x (armNumber n (v .number)) c) (Ran.stuck notOneBit)) (cond b (armChosen T d perform′ ev′ m i x (armNumber n (v .number)) e) (Ran.stuck notOneBit))
+          go true = chosen-alike x (armNumber n (v .number)) c e h
+          go false = Actions.stick
+
       plainly-alike : (a : Action) → Onward (plainly S d perform ev m i a) (plainly T d perform′ ev′ m i a)
       plainly-alike a c e h =
           Actions.onward-alike S T d R joins _ _ (Actions.simple-alike S T d R joins c e h perform perform′ (λ o. performs o c e h) a) (evs m (i + 1))
 
       act-alike : (a : Action) → Onward (listAct S d perform ev m i a) (listAct T d perform′ ev′ m i a)
-      unfolding listAct
+      unfolding listAct simple
       act-alike (D.store k l r) c e h = plainly-alike (D.store k l r) c e h
       act-alike (D.storePair k l n r) c e h = plainly-alike (D.storePair k l n r) c e h
       act-alike (D.set l) c e h = plainly-alike (D.set l) c e h
@@ -70,7 +78,7 @@ module _ {X Y : Type 0} (S : Stores X) (T : Stores Y) (d : Description) (R : X �
       act-alike (D.call s) c e h = plainly-alike (D.call s) c e h
       act-alike D.return c e h = plainly-alike D.return c e h
       act-alike (D.when a x) c e h = Actions.value-alike S T d R joins _ _ (Actions.value-at S T d R joins c e h a) (λ v. when-alike x v c e h)
-      act-alike (D.choose a n x) c e h = Actions.value-alike S T d R joins _ _ (Actions.value-at S T d R joins c e h a) (λ v. chosen-alike x (armNumber n (v .number)) c e h)
+      act-alike (D.choose a n x) c e h = Actions.value-alike S T d R joins _ _ (Actions.value-at S T d R joins c e h a) (λ v. choose-alike n x v c e h)
       act-alike (D.arm x) c e h = Actions.stick
       act-alike D.Action.broken c e h = Actions.stick
 

@@ -8,8 +8,8 @@ use borrow.Author.Tests.{ltb-false, ltb-true}
 use lib.Dec.{ltb}
 use Rattle.language.specs.Description as D
 use Rattle.language.specs.Description.{Bounds, Description, Facility, Node, facilityAt, isComputed, nodeAt, wordLength}
-use Rattle.language.specs.Meaning.{Answer, Located, Place, Stores, after, armNumber, armBack, armWorth, chosen, evalAt, evalBelow, evalNode, is, located, narrow, notBefore, partOf, partOfValue, place, placeOf, read, stops, stuck, subscript, worthOr, wrongCount, wrongLength, evalStep}
-use Rattle.language.specs.Operators.{binaryOf, cutOf, prefixOf}
+use Rattle.language.specs.Meaning.{Answer, Located, Place, Stores, after, armBack, armNumber, armWorth, choiceWorth, chosen, decides, evalAt, evalBelow, evalNode, evalStep, is, located, missed, narrow, notBefore, notOneBit, partOf, partOfValue, place, placeOf, read, stops, stuck, subscript, worthOr, wrongCount, wrongLength}
+use Rattle.language.specs.Operators.{binaryOf, cutOf, isBinary, isCut, isPrefix, prefixOf}
 use Rattle.language.specs.Recursion.{below-ge, below-lt}
 use Rattle.language.specs.References as R
 use Rattle.language.specs.References.{Reference, Subscripts, part, two, whole, wordPart}
@@ -92,6 +92,9 @@ module _ {X Y : Type 0} (S : Stores X) (T : Stores Y) (d : Description) (x : X) 
         go none = refl
         go (some e) = alike e
 
+    choice-same : (a n : ℕ) (v : Value) → choiceWorth S d x ev a n v ≡ choiceWorth T d y ev′ a n v
+    choice-same a n v = ap (λ (z : Answer). cond (decides n v) z (stuck notOneBit)) (chosen-same a n (armNumber n (v .number)))
+
     node-same : (n : Node) → evalNode S d x ev n ≡ evalNode T d y ev′ n
     unfolding evalNode
     node-same (D.constant v) = refl
@@ -102,12 +105,12 @@ module _ {X Y : Type 0} (S : Stores X) (T : Stores Y) (d : Description) (x : X) 
     node-same (D.two f e g) = operand-same f (two e g)
     node-same (D.wordPart f e b) = operand-same f (wordPart e b)
     node-same (D.binary k a b) =
-        after-same _ _ (alike a) (λ v. after-same (λ w. worthOr wrongLength (binaryOf k v w)) _ (alike b) (λ w. refl))
-    node-same (D.prefix k a) = after-same (λ v. worthOr wrongLength (prefixOf k v)) _ (alike a) (λ v. refl)
-    node-same (D.cut k a c) = after-same (λ v. worthOr wrongCount (cutOf k v c)) _ (alike a) (λ v. refl)
+        after-same _ _ (alike a) (λ v. after-same (λ w. worthOr (missed (isBinary k) wrongLength) (binaryOf k v w)) _ (alike b) (λ w. refl))
+    node-same (D.prefix k a) = after-same (λ v. worthOr (missed (isPrefix k) wrongLength) (prefixOf k v)) _ (alike a) (λ v. refl)
+    node-same (D.cut k a c) = after-same (λ v. worthOr (missed (isCut k) wrongCount) (cutOf k v c)) _ (alike a) (λ v. refl)
     node-same (D.firstArm e) = refl
     node-same (D.nextArm a e) = refl
-    node-same (D.choice e a n) = after-same _ _ (alike e) (λ v. chosen-same a n (armNumber n (v .number)))
+    node-same (D.choice e a n) = after-same _ _ (alike e) (λ v. choice-same a n v)
     node-same D.Node.broken = refl
 
   below-step : (n : ℕ) → ((m : ℕ) → m < n → (a : ℕ) → evalBelow S d x m a ≡ evalBelow T d y m a) → (a : ℕ) → evalBelow S d x n a ≡ evalBelow T d y n a

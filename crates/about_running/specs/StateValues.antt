@@ -10,13 +10,15 @@ use lib.Dec.{eqb, leb}
 use lib.ListN.{getD, length}
 use lib.Pow.{pow-pos}
 use Rattle.language.specs.Description as D
-use Rattle.language.specs.Description.{Description, Facility, Node, constantValue, facilityAt, isSequencing, noFacility, noPlaces, nodeAt, sequencingFrom, sequencingOf, spanOf, stateAt, wordCount, wordLength}
+use Rattle.language.specs.Description.{Description, Facility, Node, constantIn, constantValue, facilityAt, isSequencing, noFacility, noPlaces, nodeAt, orNoBits, sequencingFrom, sequencingOf, spanOf, stateAt, wordCount, wordLength}
 use Rattle.language.specs.Order.{startAt, startBelow, startNode}
 use Rattle.language.specs.declared.refusals.Refusal.the-variants.{BadSequencing}
 use Rattle.language.specs.Rules.{missing, repeated, sequencingLength, valueFaults}
-use Rattle.language.specs.Step.{numberAt, stateNumber}
+use Rattle.language.specs.Step.{into, numberIn, numberOf, setRegister, stateNumber}
+use Rattle.language.specs.Store.{Words, setWord}
 use Rattle.language.specs.Value.{Value}
 use Rattle.language.specs.Words.{Position}
+use Rattle.about_running.specs.Entering.{takes}
 use Rattle.about_running.specs.Judged.{unless-none}
 use Rattle.about_running.specs.LegalForm.{Legal, left-of}
 use Rattle.about_running.specs.Starts.{constant-fits}
@@ -31,6 +33,24 @@ some-word f = go (eqb (f .dimensions) 2) (leb (f .words .first) (f .words .last)
     go true true = omega arith
     go true false = omega arith
     go false b = omega arith
+
+-- A word has a bit at least.
+pub some-bits : (f : Facility) → 0 < wordLength f
+unfolding wordLength spanOf
+some-bits f = go (eqb (f .dimensions) 0) (leb (f .bits .first) (f .bits .last))
+  where
+    go : (a b : Bool) → 0 < cond a 1 (cond b (f .bits .last - f .bits .first + 1) (f .bits .first - f .bits .last + 1))
+    go true b = omega arith
+    go false true = omega arith
+    go false false = omega arith
+
+-- A record whose value has bits is a constant.
+pub constant-there : (x : Node) → 0 < constantValue x .length → constantIn x ≡ some (constantValue x)
+constant-there x h = go (constantIn x) h
+  where
+    go : (c : Option Value) → 0 < orNoBits c .length → c ≡ some (orNoBits c)
+    go none k = absurd (omega arith)
+    go (some v) k = refl
 
 -- The sequencing register is one of the facilities.
 pub record Found (fs : List Facility) (k : ℕ) : Type 0 where
@@ -88,6 +108,7 @@ module _ (d : Description) (L : Legal d) (f : ℕ) (is-register : sequencingOf d
     pub number : ℕ
     pub borne : stateNumber d s ≡ some number
     pub fits : number < 2 ^ wordLength (facilityAt d f)
+    pub enters : (u : Words) → setRegister d (some f) (stateAt d s .value) u ≡ into (setWord u f 0 number)
 
   pub bears-value : (s : ℕ) → s < length (d .states) → Bears s
   unfolding stateNumber startAt
@@ -98,4 +119,10 @@ module _ (d : Description) (L : Legal d) (f : ℕ) (is-register : sequencingOf d
       let o = L .values s n h (v .1) in
       let x : Value = constantValue (nodeAt d n) in
       let b : x .number < 2 ^ x .length = node-fits d n (o .0) (nodeAt d n) (o .1) in
-      record { number = x .number; borne = ap (numberAt d) (v .1); fits = rw (v .2) at b }
+      let c : constantIn (nodeAt d n) ≡ some x = constant-there (nodeAt d n) (omega (arith, v .2, some-bits (facilityAt d f))) in
+      record {
+        number = x .number;
+        borne = ap (numberOf d) (v .1) ∙ ap (numberIn d) c;
+        fits = rw (v .2) at b;
+        enters = λ u. ap (λ (y : Option ℕ). setRegister d (some f) y u) (v .1) ∙ takes d f n x u c (v .2) b;
+      }

@@ -11,7 +11,7 @@ use lib.ListN.{length}
 use Rattle.language.specs.Acting as A
 use Rattle.language.specs.Acting.{Doing, Ran, went}
 use Rattle.language.specs.Description.{Description, inBounds, sequencingOf, stateAt}
-use Rattle.language.specs.Step.{Outcome, Record, afterActions, bearer, bears, completed, entered, finished, isNone, lastCycle, mostReturns, nextRecord, nothingDone, orStopped, setRegister, stateCount, stateNumber, step, stopAfter}
+use Rattle.language.specs.Step.{Entered, Outcome, Record, afterActions, bearer, bears, completed, entered, finished, into, isNone, lastCycle, mostReturns, nextRecord, nothingDone, orStopped, setRegister, stateCount, stateNumber, step, stopAfter}
 use Rattle.language.specs.Step as Step
 use Rattle.language.specs.declared.stops.Stop.{Stop}
 use Rattle.language.specs.declared.stops.Stop.the-variants.{LastCycleReached, NoArm, NoNextState, NothingToReturn, OutsideBounds, TooManyCalls, TwoNextStates, ValueUnborne}
@@ -157,16 +157,16 @@ module _ (d : Description) (L : Legal d) (s : Words) (r : Record) (ins : Words) 
   run = A.runActions (numbers d) d (stateAt d (r .state) .actions) (nothingDone d (begin (d .facilities) s ins))
 
   -- Entering the next state is no stop.
-  entered-on : (c : Doing Held) (t : Option Words) → stopOf (entered d r c t) ≡ none
-  entered-on c none = refl
-  entered-on c (some t) = refl
+  entered-on : (c : Doing Held) (t : Entered) → stopOf (entered d r c t) ≡ none
+  entered-on c (into t) = refl
+  entered-on c (Entered.stuck x) = refl
 
   finished-stop : (c : Doing Held) → stopOf (finished d r c) ≡ stopAfter d r c
   unfolding finished
   finished-stop c = go (stopAfter d r c)
     where
       go : (x : Option Stop) → stopOf (orStopped d r c x) ≡ x
-      go none = entered-on c (setRegister d (sequencingOf d) (stateNumber d (nextRecord d r c .state)) (Step.landed d r c))
+      go none = entered-on c (setRegister d (sequencingOf d) (stateAt d (nextRecord d r c .state) .value) (Step.landed d r c))
       go (some n) = refl
 
   pub stops-in-order : FirstOf (Condition d s r ins) order (stopOf (step d s r ins))

@@ -11,7 +11,7 @@ use lib.ListN.{length}
 use Rattle.language.specs.Acting.{side, sideOf}
 use Rattle.language.specs.Description as D
 use Rattle.language.specs.Description.{Bounds, Description, Facility, Node, facilityAt, fromFirst, inBounds, isComputed, nodeAt, spanOf, wordLength}
-use Rattle.language.specs.Meaning.{Answer, Located, Place, Stores, Stuck, after, armBack, armNumber, armWorth, chosen, evalAt, evalBelow, evalNode, evalStep, is, lengthDiffers, located, narrow, noFacility, notBefore, partOf, partOfValue, place, placeOf, read, stops, stuck, subscript, worthOr, wrongCount, wrongLength, wrongSubscripts, outside}
+use Rattle.language.specs.Meaning.{Answer, Located, Place, Stores, Stuck, after, armBack, armNumber, armWorth, chosen, decides, evalAt, evalBelow, evalNode, evalStep, fitting, is, lengthDiffers, located, narrow, noFacility, notBefore, notOneBit, outside, partOf, partOfValue, place, placeOf, read, stops, stuck, subscript, tooLarge, worthOr, wrongCount, wrongLength, wrongSubscripts}
 use Rattle.language.specs.Operators.{binaryOf, cutOf, prefixOf}
 use Rattle.language.specs.Recursion.{below-ge, below-lt}
 use Rattle.language.specs.References as R
@@ -180,9 +180,13 @@ module _ {X : Type 0} (S : Stores X) (d : Description) (x : X) where
         go none k = told-stuck
         go (some g) k = renamed (λ r i. Account.chosen h (arm-so n (v .number) m q) k i) (evs g)
 
+    either-told : {t : Task} (b : Bool) (a c : Answer) → Told t a → Told t c → Told t (cond b a c)
+    either-told true a c h i = h
+    either-told false a c h i = i
+
     node-told : (n : Node) → Told (expression n) (evalNode S d x ev n)
     unfolding evalNode
-    node-told (D.constant v) = told-worth Account.constant
+    node-told (D.constant v) = either-told (fitting v) (is v) (stuck tooLarge) (told-worth Account.constant) told-stuck
     node-told (D.more n) = told-stuck
     node-told (D.whole f) = renamed (λ r h. Account.reads-whole h) (operand-told (record { facility = f; subscripts = whole }))
     node-told (D.one f e) = renamed (λ r h. Account.reads-one h) (operand-told (record { facility = f; subscripts = R.one e }))
@@ -191,13 +195,13 @@ module _ {X : Type 0} (S : Stores X) (d : Description) (x : X) where
     node-told (D.wordPart f e b) = renamed (λ r h. Account.reads-word-part h) (operand-told (record { facility = f; subscripts = wordPart e b }))
     node-told (D.binary k a b) =
         part-of a (ev a) _ (evs a)
-        (λ v h. part-of b (ev b) _ (evs b) (λ w i. made-told wrongLength (binaryOf k v w) (λ u q. Account.binary h i q)) (λ o i. Account.right-meets h i))
+        (λ v h. part-of b (ev b) _ (evs b) (λ w i. made-told _ (binaryOf k v w) (λ u q. Account.binary h i q)) (λ o i. Account.right-meets h i))
         (λ o h. Account.left-meets h)
-    node-told (D.prefix k a) = part-of a (ev a) _ (evs a) (λ v h. made-told wrongLength (prefixOf k v) (λ u q. Account.prefix h q)) (λ o h. Account.prefix-meets h)
-    node-told (D.cut k a c) = part-of a (ev a) _ (evs a) (λ v h. made-told wrongCount (cutOf k v c) (λ u q. Account.cut h q)) (λ o h. Account.cut-meets h)
+    node-told (D.prefix k a) = part-of a (ev a) _ (evs a) (λ v h. made-told _ (prefixOf k v) (λ u q. Account.prefix h q)) (λ o h. Account.prefix-meets h)
+    node-told (D.cut k a c) = part-of a (ev a) _ (evs a) (λ v h. made-told _ (cutOf k v c) (λ u q. Account.cut h q)) (λ o h. Account.cut-meets h)
     node-told (D.firstArm e) = told-stuck
     node-told (D.nextArm a e) = told-stuck
-    node-told (D.choice e a n) = part-of e (ev e) _ (evs e) (λ v h. chosen-told e a n v h (armNumber n (v .number)) refl) (λ o h. Account.condition-meets h)
+    node-told (D.choice e a n) = part-of e (ev e) _ (evs e) (λ v h. either-told (decides n v) (chosen S d x ev a n (armNumber n (v .number))) (stuck notOneBit) (chosen-told e a n v h (armNumber n (v .number)) refl) told-stuck) (λ o h. Account.condition-meets h)
     node-told D.Node.broken = told-stuck
 
   below-step : (n : ℕ) → ((m : ℕ) → m < n → (a : ℕ) → Told (recordAt d a) (evalBelow S d x m a)) → (a : ℕ) → Told (recordAt d a) (evalBelow S d x n a)
