@@ -20,7 +20,7 @@ use Rattle.language.specs.Meaning.{noState}
 use Rattle.language.specs.RecordBytes.{fours, recordBytes, recordFrom, recordSize, returnsSound, sound}
 use Rattle.language.specs.declared.refusals.Refusal.the-variants.{BadStimulus, BufferTooShort, ImageFails, Unsound}
 use Rattle.language.specs.Step as Step
-use Rattle.language.specs.Step.{Outcome, Record, afterActions, completed, entered, finished, landed, lastCycle, mostReturns, nextRecord, orStopped, setRegister, stateNumber, step, stopAfter}
+use Rattle.language.specs.Step.{Entered, Outcome, Record, afterActions, completed, entered, finished, into, landed, lastCycle, mostReturns, nextRecord, orStopped, setRegister, step, stopAfter}
 use Rattle.language.specs.declared.stops.Stop.{Stop}
 use Rattle.language.specs.declared.stops.Stop.the-variants.{LastCycleReached}
 use Rattle.language.specs.Store.{Held, Words, begin, fromBytes, inputsOf, numbers, toBytes}
@@ -75,12 +75,12 @@ module _ (d : Description) where
       go true = refl
       go false = refl
 
-  entered-cycle : (r : Record) (c : Doing Held) (x : Option Words) {s : Words} {q : Record} {n : ℕ} → entered d r c x ≡ completed s q n → q .cycle ≡ suc (r .cycle)
-  entered-cycle r c none e = absurd (let z : _≡_ {A = ℕ} 0 1 = cc in omega arith)
-  entered-cycle r c (some t) {s} {q} {n} e = let z : nextRecord d r c ≡ q = cc in rw (← z) (next-cycle r c)
+  entered-cycle : (r : Record) (c : Doing Held) (x : Entered) {s : Words} {q : Record} {n : ℕ} → entered d r c x ≡ completed s q n → q .cycle ≡ suc (r .cycle)
+  entered-cycle r c (Entered.stuck y) e = absurd (let z : _≡_ {A = ℕ} 0 1 = cc in omega arith)
+  entered-cycle r c (into t) {s} {q} {n} e = let z : nextRecord d r c ≡ q = cc in rw (← z) (next-cycle r c)
 
   finished-cycle : (r : Record) (c : Doing Held) (x : Option Stop) {s : Words} {q : Record} {n : ℕ} → orStopped d r c x ≡ completed s q n → q .cycle ≡ suc (r .cycle)
-  finished-cycle r c none e = entered-cycle r c (setRegister d (sequencingOf d) (stateNumber d (nextRecord d r c .state)) (landed d r c)) e
+  finished-cycle r c none e = entered-cycle r c (setRegister d (sequencingOf d) (stateAt d (nextRecord d r c .state) .value) (landed d r c)) e
   finished-cycle r c (some m) e = none-completed e
 
   after-cycle : (r : Record) (x : Ran Held) {s : Words} {q : Record} {n : ℕ} → afterActions d r x ≡ completed s q n → q .cycle ≡ suc (r .cycle)

@@ -7,7 +7,7 @@ use Prim.Native.Nat.{ℕ, zero, suc, _-_}
 use Rattle.language.specs.Description as D
 use Rattle.language.specs.Description.{Description, Facility, Node, facilityAt, isComputed, nodeAt}
 use Rattle.language.specs.Meaning as M
-use Rattle.language.specs.Meaning.{Answer, Located, Place, Stores, after, armBack, armHere, armNumber, armWorth, chosen, evalNode, evalStep, is, located, operand, partOfValue, placeOf, read, stops, stuck, subscript}
+use Rattle.language.specs.Meaning.{Answer, Located, Place, Stores, after, armBack, armHere, armNumber, armWorth, chosen, decides, evalNode, evalStep, is, located, notOneBit, operand, partOfValue, placeOf, read, stops, stuck, subscript}
 use Rattle.language.specs.References as R
 use Rattle.language.specs.References.{Reference, Subscripts, referenceOf}
 use Rattle.language.specs.Value.{Value, value}
@@ -130,7 +130,7 @@ module _ {X : Type 0} (S : Stores X) (d : Description) (x : X) (ev ev′ : ℕ �
   node-alike (D.cut k a c) o q = after-alike (alike a (W.part o (W.source q))) (λ v. refl)
   node-alike (D.firstArm e) o q = refl
   node-alike (D.nextArm a e) o q = refl
-  node-alike (D.choice e a m) o q = after-alike (alike e (W.part o (W.condition q))) (λ v. chosen-alike o q (armNumber m (v .number)))
+  node-alike (D.choice e a m) o q = after-alike (alike e (W.part o (W.condition q))) (λ v. ap (λ (y : Answer). cond (decides m v) y (stuck notOneBit)) (chosen-alike o q (armNumber m (v .number))))
   node-alike D.Node.broken o q = refl
 
   -- The value of a record that a run can work out is the same by both.

@@ -105,7 +105,10 @@ module _ (d : Description) (L : Legal d) (f : ℕ) (is-register : sequencingOf d
 
   -- The value that state s bears.
   pub record Bears (s : ℕ) : Type 0 where
+    pub at : ℕ
+    pub stands : stateAt d s .value ≡ some at
     pub number : ℕ
+    pub is : constantValue (nodeAt d at) .number ≡ number
     pub borne : stateNumber d s ≡ some number
     pub fits : number < 2 ^ wordLength (facilityAt d f)
     pub enters : (u : Words) → setRegister d (some f) (stateAt d s .value) u ≡ into (setWord u f 0 number)
@@ -121,8 +124,20 @@ module _ (d : Description) (L : Legal d) (f : ℕ) (is-register : sequencingOf d
       let b : x .number < 2 ^ x .length = node-fits d n (o .0) (nodeAt d n) (o .1) in
       let c : constantIn (nodeAt d n) ≡ some x = constant-there (nodeAt d n) (omega (arith, v .2, some-bits (facilityAt d f))) in
       record {
+        at = n;
+        stands = v .1;
         number = x .number;
+        is = refl;
         borne = ap (numberOf d) (v .1) ∙ ap (numberIn d) c;
         fits = rw (v .2) at b;
         enters = λ u. ap (λ (y : Option ℕ). setRegister d (some f) y u) (v .1) ∙ takes d f n x u c (v .2) b;
       }
+
+-- Without a sequencing register no state bears one.
+pub none-borne : (d : Description) (L : Legal d) (s : ℕ) → s < length (d .states) → sequencingOf d ≡ none → stateAt d s .value ≡ none
+unfolding sequencingLength
+none-borne d L s h q = let r = L .states s h in go (r .0) (r .1 .0 .value) (stateAt d s .value) (rw q at (r .1 .1 .value-right))
+  where
+    go : (before : List ℕ) (at : Position) (v : Option ℕ) → valueFaults d noPlaces none before at v ≡ [] → v ≡ none
+    go before at none e = refl
+    go before at (some n) e = absurd (let z : _≡_ {A = ℕ} 0 1 = cc in omega arith)

@@ -9,11 +9,12 @@ use lib.ListN.{drop, length, length-replicate, take}
 use lib.Seq.{length-take-le, take-all, take-append-seam}
 use Rattle.language.specs.Calls.{openWords, orZeroWords, over}
 use Rattle.language.specs.Decode.{decode, sectionAt}
-use Rattle.language.specs.Description.{Description, sequencingOf}
+use Rattle.language.specs.Description.{Description, sequencingOf, stateAt}
 use Rattle.language.specs.Image.{passes}
 use Rattle.language.specs.Layout.{storeSize, storeSizeOf}
+use Rattle.language.specs.Meaning.{noStateValue}
 use Rattle.language.specs.Reading.{filled, zeroes}
-use Rattle.language.specs.Step.{setRegister, stateNumber}
+use Rattle.language.specs.Step.{Entered, setRegister}
 use Rattle.language.specs.Store.{Words, fromBytes, toBytes, zeroWords}
 use Rattle.about_running.specs.NeverStuck.{legal-image}
 use Rattle.about_running.specs.StateValues.{bears-value}
@@ -25,7 +26,7 @@ use Rattle.run_references.specs.Described.{Describes}
 use Rattle.image_lookups.proofs.PassLaws.{states-many}
 use Rattle.language.specs.Encode.{expressionsSection, facilitiesSection, facilitySize, nodeSize, stateSize, statesSection}
 use Rattle.run_begin.proofs.BeginLaws.{bytes-zeros, zeros}
-use Rattle.run_soundness.proofs.PassedLaws.{passed-described, passed-facilities, passed-fits, passed-register, passed-size, passed-valued}
+use Rattle.run_soundness.proofs.PassedLaws.{passed-described, passed-facilities, passed-fits, passed-register, passed-size, passed-takes, passed-valued}
 use Rattle.run_end.specs.Register.{Enters, entered}
 
 drop-zeroes : (k n : ℕ) → drop k (zeroes n) ≡ zeroes (n - k)
@@ -53,7 +54,7 @@ module _ (image : List ℕ) (passed : passes image ≡ true) where
   passed-enters = record {
     described = passed-described image passed;
     valued = passed-valued image passed;
-    register = record { short = passed-register image passed; fits = passed-fits image passed };
+    register = record { short = passed-register image passed; fits = passed-fits image passed; takes = λ f s n u q v. passed-takes image passed f s n q v u };
     states = states-many image;
   }
 
@@ -70,17 +71,17 @@ module _ (image : List ℕ) (passed : passes image ≡ true) where
   size-known e f = f d (sectionAt expressionsSection nodeSize image) (rw e (passed-described image passed)) (passed-size image passed)
 
   -- The first state has a value where there is a register.
-  has-value : (s : Words) → none ≡ setRegister d (sequencingOf d) (stateNumber d 0) s → ⊥
+  has-value : (s : Words) → Entered.stuck noStateValue ≡ setRegister d (sequencingOf d) (stateAt d 0 .value) s → ⊥
   has-value s = go (sequencingOf d) refl
     where
-      go : (x : Option ℕ) → sequencingOf d ≡ x → none ≡ setRegister d x (stateNumber d 0) s → ⊥
+      go : (x : Option ℕ) → sequencingOf d ≡ x → Entered.stuck noStateValue ≡ setRegister d x (stateAt d 0 .value) s → ⊥
       go none q e = let z : _≡_ {A = ℕ} 0 1 = cc in omega arith
       go (some f) q e =
           let L = legal-image image passed in
-          let y = rw (bears-value d L f q 0 (L .some-state) .borne) at e in
+          let y = e ∙ bears-value d L f q 0 (L .some-state) .enters s in
           let z : _≡_ {A = ℕ} 0 1 = cc in omega arith
 
-  words-opened : (r : Bool) (s : Words) → entered r s ≡ setRegister d (sequencingOf d) (stateNumber d 0) (zeroWords (d .facilities)) → s ≡ openWords d
+  words-opened : (r : Bool) (s : Words) → entered r s ≡ setRegister d (sequencingOf d) (stateAt d 0 .value) (zeroWords (d .facilities)) → s ≡ openWords d
   unfolding openWords
   words-opened true s e = ap (orZeroWords (zeroWords (d .facilities))) e
   words-opened false s e = absurd (has-value (zeroWords (d .facilities)) e)
@@ -88,7 +89,7 @@ module _ (image : List ℕ) (passed : passes image ≡ true) where
   -- X is what is left of as many bytes as the store has.
   module _ (n : ℕ) (room : storeSize (decode image) ≤ n) (X : List ℕ) (are : Bytes X) (size : length X ≡ storeSize (decode image)) where
     store-opened : (r : Bool)
-        → entered r (fromBytes (d .facilities) X) ≡ setRegister d (sequencingOf d) (stateNumber d 0) (fromBytes (d .facilities) (take (storeSize (decode image)) (zeroes n)))
+        → entered r (fromBytes (d .facilities) X) ≡ setRegister d (sequencingOf d) (stateAt d 0 .value) (fromBytes (d .facilities) (take (storeSize (decode image)) (zeroes n)))
         → over X (zeroes n) ≡ filled n (toBytes (decode image .facilities) (openWords (decode image)))
     unfolding storeSize
     store-opened r e =
@@ -104,11 +105,11 @@ module _ (image : List ℕ) (passed : passes image ≡ true) where
 
   -- The same of the first bytes of a slice B, which a call left as X.
   pub front-opened : (B X : List ℕ) {size : ℕ} → B ≡ zeroes (length B) → storeSize (decode image) ≤ length B → size ≡ storeSize (decode image) → Bytes X → length X ≡ length (take (size - 0) B) → (r : Bool)
-      → entered r (fromBytes (decode image .facilities) X) ≡ setRegister (decode image) (sequencingOf (decode image)) (stateNumber (decode image) 0) (fromBytes (decode image .facilities) (take (size - 0) B))
+      → entered r (fromBytes (decode image .facilities) X) ≡ setRegister (decode image) (sequencingOf (decode image)) (stateAt (decode image) 0 .value) (fromBytes (decode image .facilities) (take (size - 0) B))
       → X ++ drop (size - 0) B ≡ filled (length B) (toBytes (decode image .facilities) (openWords (decode image)))
   front-opened B X {size} z room s are l r e =
       let k : size - 0 ≡ storeSize d = omega arith in
       let m : length X ≡ storeSize d = l ∙ (ap (λ (i : ℕ). length (take i B)) k ∙ length-take-le (storeSize d) B room) in
       let t : take (size - 0) B ≡ take (storeSize d) (zeroes (length B)) = ap (λ (i : ℕ). take i B) k ∙ ap (take (storeSize d)) z in
       let y : drop (size - 0) B ≡ drop (length X) (zeroes (length B)) = ap (λ (i : ℕ). drop i B) (k ∙ sym m) ∙ ap (drop (length X)) z in
-      ap (λ (Y : List ℕ). X ++ Y) y ∙ store-opened (length B) room X are m r (e ∙ ap (λ (Y : List ℕ). setRegister d (sequencingOf d) (stateNumber d 0) (fromBytes (d .facilities) Y)) t)
+      ap (λ (Y : List ℕ). X ++ Y) y ∙ store-opened (length B) room X are m r (e ∙ ap (λ (Y : List ℕ). setRegister d (sequencingOf d) (stateAt d 0 .value) (fromBytes (d .facilities) Y)) t)

@@ -18,7 +18,7 @@ use Rattle.run_actions.proofs.SectionLaws.{sections-act}
 use Rattle.run_actions.specs.Acts.{Acts}
 use Rattle.image_lookups.proofs.PassLaws.{states-many}
 use Rattle.language.specs.Encode.{actionSize, actionsSection, expressionsSection, facilitiesSection, facilitySize, nodeSize, operationSize, operationsSection, stateSize, statesSection}
-use Rattle.run_soundness.proofs.PassedLaws.{passed-described, passed-fits, passed-register, passed-valued}
+use Rattle.run_soundness.proofs.PassedLaws.{passed-described, passed-fits, passed-register, passed-takes, passed-valued}
 use Rattle.run_end.specs.Register.{Enters}
 use Rattle.run_end.specs.Stepped.{counted}
 
@@ -30,7 +30,7 @@ module _ (image : List ℕ) (passed : passes image ≡ true) where
   passed-enters = record {
     described = passed-described image passed;
     valued = passed-valued image passed;
-    register = record { short = passed-register image passed; fits = passed-fits image passed };
+    register = record { short = passed-register image passed; fits = passed-fits image passed; takes = λ f s n u q v. passed-takes image passed f s n q v u };
     states = states-many image;
   }
 

@@ -6,7 +6,7 @@ use mathlib.Core.Path.{_≡_, sym, ap, _∙_}
 use Prim.Native.Nat.{ℕ}
 use lib.ListN.{length}
 use Rattle.language.specs.Acting as T
-use Rattle.language.specs.Description.{Description, sequencingOf}
+use Rattle.language.specs.Description.{Description, sequencingOf, stateAt}
 use Rattle.language.specs.Meaning.{noStateValue}
 use Rattle.language.specs.Step as S
 use Rattle.language.specs.Store.{Held, Words, fromBytes}
@@ -34,15 +34,15 @@ module _ (d : Description) (r : S.Record) (c : T.Doing Held) (g : Doing) (B : Li
 
   -- The state entered.
   module _ (after : S.Record) (p : after ≡ S.nextRecord d r c) where
-    set-so : {x : Option Words} → x ≡ S.setRegister d (sequencingOf d) (S.stateNumber d (after .state)) (fromBytes (d .facilities) B)
-        → x ≡ S.setRegister d (sequencingOf d) (S.stateNumber d (S.nextRecord d r c .state)) (S.landed d r c)
+    set-so : {x : S.Entered} → x ≡ S.setRegister d (sequencingOf d) (stateAt d (after .state) .value) (fromBytes (d .facilities) B)
+        → x ≡ S.setRegister d (sequencingOf d) (stateAt d (S.nextRecord d r c .state) .value) (S.landed d r c)
     set-so e =
         e
-        ∙ (ap (λ (n : S.Record). S.setRegister d (sequencingOf d) (S.stateNumber d (n .state)) (fromBytes (d .facilities) B)) p
-        ∙ ap (S.setRegister d (sequencingOf d) (S.stateNumber d (S.nextRecord d r c .state))) (sym (l .lands)))
+        ∙ (ap (λ (n : S.Record). S.setRegister d (sequencingOf d) (stateAt d (n .state) .value) (fromBytes (d .facilities) B)) p
+        ∙ ap (S.setRegister d (sequencingOf d) (stateAt d (S.nextRecord d r c .state) .value)) (sym (l .lands)))
 
-    pub entered-none : none ≡ S.setRegister d (sequencingOf d) (S.stateNumber d (after .state)) (fromBytes (d .facilities) B) → S.stuck noStateValue ≡ counted (S.orStopped d r c none)
-    entered-none e = ap (λ (x : Option Words). counted (S.entered d r c x)) (set-so e)
+    pub entered-none : S.Entered.stuck noStateValue ≡ S.setRegister d (sequencingOf d) (stateAt d (after .state) .value) (fromBytes (d .facilities) B) → S.stuck noStateValue ≡ counted (S.orStopped d r c none)
+    entered-none e = ap (λ (x : S.Entered). counted (S.entered d r c x)) (set-so e)
 
-    pub entered-some : {A : Words} → some A ≡ S.setRegister d (sequencingOf d) (S.stateNumber d (after .state)) (fromBytes (d .facilities) B) → S.completed A after (g .conflicts) ≡ counted (S.orStopped d r c none)
-    entered-some e = rw (p, l .counts) (ap (λ (x : Option Words). counted (S.entered d r c x)) (set-so e))
+    pub entered-some : {A : Words} → S.into A ≡ S.setRegister d (sequencingOf d) (stateAt d (after .state) .value) (fromBytes (d .facilities) B) → S.completed A after (g .conflicts) ≡ counted (S.orStopped d r c none)
+    entered-some e = rw (p, l .counts) (ap (λ (x : S.Entered). counted (S.entered d r c x)) (set-so e))

@@ -10,9 +10,8 @@ use lib.ListN.{getD, length}
 use lib.Pow.{pow-mono}
 use Rattle.language.specs.Decode.{nodeOf}
 use Rattle.language.specs.Description as D
-use Rattle.language.specs.Description.{Description, constantValue, facilityAt, isComputed, isSequencing, noFacility, nodeAt, sequencingOf, wordLength}
+use Rattle.language.specs.Description.{Description, constantValue, facilityAt, isComputed, isSequencing, noFacility, nodeAt, sequencingOf, stateAt, wordLength}
 use Rattle.language.specs.Layout.{storeSizeOf, wordBytes}
-use Rattle.language.specs.Step.{numberAt, stateNumber}
 use Rattle.language.specs.Store.{fromBytes, setWord, wordOf}
 use Rattle.language.specs.Tree.{Kind, computed, input, memory, plain, register, sequencing}
 use Rattle.language.specs.Value as L
@@ -58,9 +57,8 @@ short-bytes l h = omega arith
 -- ---- The value of a state.
 
 module _ {d : Description} {F E T : List ℕ} (h : Enters d F E T) where
-  pub value-read : (s : ℕ) (x : StateRecord) → StateRead T s x → stateNumber d s ≡ numberAt d (valueMeant (x .value))
-  unfolding stateNumber
-  value-read s x r = ap (λ (y : D.State). numberAt d (y .value)) (h .valued .states s .is ∙ sym (r .meaning (h .valued .states s .name)))
+  pub value-read : (s : ℕ) (x : StateRecord) → StateRead T s x → stateAt d s .value ≡ valueMeant (x .value)
+  value-read s x r = ap (λ (y : D.State). y .value) (h .valued .states s .is ∙ sym (r .meaning (h .valued .states s .name)))
 
   pub number-read : (n : ℕ) (x : Value) → valued x ≡ held (constantValue (nodeOf E n)) → number (x .limbs) ≡ constantValue (nodeAt d n) .number
   number-read n x e =

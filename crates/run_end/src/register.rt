@@ -14,9 +14,9 @@ ghost use mathlib.Core.List.{List};
 ghost use mathlib.Core.Path.{_≡_};
 ghost use Prim.Native.Nat.{ℕ, _*_, _/_, _≤_};
 ghost use lib.ListN.{length};
-ghost use Rattle.language.specs.Description.{Description, sequencingOf, wordLength};
+ghost use Rattle.language.specs.Description.{Description, sequencingOf, stateAt, wordLength};
 ghost use Rattle.language.specs.Layout.{storeSizeOf, wordBytes};
-ghost use Rattle.language.specs.Step.{registerValue, setRegister, stateNumber};
+ghost use Rattle.language.specs.Step.{registerValue, setRegister};
 ghost use Rattle.language.specs.Store.{fromBytes};
 ghost use Rattle.language.specs.Tree.{Name};
 ghost use Rattle.value_limbs.specs.Limbs.{number};
@@ -47,7 +47,7 @@ pub fn set_register(
     s: u32,
 ) -> bool
     requires { ⌜ length (now facilities) / facilitySize ≤ 65536 ⌝ }
-    ensures { λ r. ⌜ ((d : Description) → Enters d (now (facilities .entry)) (now (expressions .entry)) (now (states .entry)) → storeSizeOf (d .facilities) ≤ length (now (store .entry)) → entered r (fromBytes (d .facilities) (now (store .exit))) ≡ setRegister d (sequencingOf d) (stateNumber d s) (fromBytes (d .facilities) (now (store .entry)))) ⌝ }
+    ensures { λ r. ⌜ ((d : Description) → Enters d (now (facilities .entry)) (now (expressions .entry)) (now (states .entry)) → storeSizeOf (d .facilities) ≤ length (now (store .entry)) → entered r (fromBytes (d .facilities) (now (store .exit))) ≡ setRegister d (sequencingOf d) (stateAt d s .value) (fromBytes (d .facilities) (now (store .entry)))) ⌝ }
 {
     let Found::At(f) = register::sequencing(facilities) else {
         return true;

@@ -10,7 +10,7 @@ ghost use mathlib.Core.Path.{_≡_};
 ghost use mathlib.Core.List.{List};
 ghost use Prim.Native.Nat.{ℕ, _/_, _≤_};
 ghost use lib.ListN.{length};
-ghost use Rattle.language.specs.Description.{Description};
+ghost use Rattle.language.specs.Description.{Description, stateAt};
 ghost use Rattle.language.specs.Step as S;
 ghost use Rattle.value_limbs.specs.Limbs.{number};
 ghost use Rattle.image_sections.specs.Declarations.{valueMeant};
@@ -18,9 +18,9 @@ ghost use Rattle.language.specs.Encode.{stateSize};
 ghost use Rattle.run_references.specs.Places.{foundMeant};
 ghost use Rattle.run_next.specs.Values.{Valued};
 
-// Whether a state with this value bears x.
+// Whether a state, by its value, bears x.
 fn bears(expressions: &[u8], value: StateValue, x: Value) -> bool
-    ensures { λ r. ⌜ ((d : Description) (T : List ℕ) → Valued d (now (expressions .entry)) T → r ≡ S.bears d (S.numberAt d (valueMeant value)) (number (x .limbs))) ⌝ }
+    ensures { λ r. ⌜ ((d : Description) (T : List ℕ) (s : ℕ) → Valued d (now (expressions .entry)) T → stateAt d s .value ≡ valueMeant value → r ≡ S.bears d (S.stateNumber d s) (number (x .limbs))) ⌝ }
 {
     match value {
         StateValue::At(n) => {

@@ -1,8 +1,8 @@
 -- What is known of an image that passes: its sections describe it, constants and the sequencing register are no longer than a value, and the store is no larger than a store may be. Assumes nothing.
 use mathlib.Core.Bool.{Bool, true, false, cond, _||_}
 use mathlib.Core.List.{List, [], _∷_}
-use mathlib.Core.Option.{some}
-use mathlib.Core.Path.{_≡_, refl, sym, subst, _∙_}
+use mathlib.Core.Option.{Option, none, some}
+use mathlib.Core.Path.{_≡_, refl, sym, ap, subst, _∙_}
 use Prim.Native.Nat.{ℕ, suc, _+_, _*_, _/_, _^_, _≤_, _<_}
 use native.Mathlib.Nat.{lt-of-lt-of-le}
 use native.Mathlib.Omega.{arith}
@@ -18,11 +18,12 @@ use Rattle.language.specs.Image.{passes}
 use Rattle.language.specs.Layout.{facilityBytes, placeIn, storeSizeOf}
 use Rattle.language.specs.declared.refusals.Refusal.the-variants.{BadSequencing}
 use Rattle.language.specs.Rules.{boundsFaults, facilitiesFaults, facilityFaults, orElse, sequencingRight}
-use Rattle.language.specs.Step.{stateNumber}
-use Rattle.language.specs.Value.{longest}
+use Rattle.language.specs.Step.{into, setRegister}
+use Rattle.language.specs.Store.{Words, setWord}
+use Rattle.language.specs.Value.{Value, longest}
 use Rattle.about_running.specs.Judged.{append-none-left, append-none-right, unless-none}
 use Rattle.about_running.specs.NeverStuck.{legal-image}
-use Rattle.about_running.specs.StateValues.{bears-value}
+use Rattle.about_running.specs.StateValues.{Bears, bears-value, none-borne}
 use Rattle.about_running.specs.LegalForm.{after-names, facility-none, no-faults, or-else-both, right-of}
 use Rattle.image_records.proofs.NodeBack.{half-back}
 use Rattle.image_sections.proofs.DeclarationLaws.{place-whole}
@@ -57,24 +58,6 @@ store-small d n another before (f ∷ fs) e b =
     let rest = append-none-right (orElse d noPlaces (boundsFaults d noPlaces f at) (facilityFaults d noPlaces n another before f at)) _ e in
     omega (arith, store-small d (suc n) (another || isSequencing (f .kind)) (before + facilityBytes f) fs rest m)
 
--- ---- Constants in range.
-
-value-small : (d : Description) (n : ℕ) (x : Node) → NodeInRange d n x → constantValue x .number < 2 ^ 256
-value-small d n (D.constant v) h = lt-of-lt-of-le (h .2) (pow-mono (h .1))
-value-small d n (D.more m) h = pow-pos 256
-value-small d n (D.whole f) h = pow-pos 256
-value-small d n (D.one f e) h = pow-pos 256
-value-small d n (D.part f b) h = pow-pos 256
-value-small d n (D.two f e g) h = pow-pos 256
-value-small d n (D.wordPart f e b) h = pow-pos 256
-value-small d n (D.binary k a b) h = pow-pos 256
-value-small d n (D.prefix k a) h = pow-pos 256
-value-small d n (D.cut k a c) h = pow-pos 256
-value-small d n (D.firstArm e) h = pow-pos 256
-value-small d n (D.nextArm a e) h = pow-pos 256
-value-small d n (D.choice e a m) h = pow-pos 256
-value-small d n D.Node.broken h = pow-pos 256
-
 -- ---- The image.
 
 module _ (image : List ℕ) (passed : passes image ≡ true) where
@@ -94,13 +77,32 @@ module _ (image : List ℕ) (passed : passes image ≡ true) where
       let y = facility-none d noPlaces (d .facilities) 0 f false 0 facilities-right (r .inside) in
       register-short d (0 + f) (y .0) (y .1 .0) (facilityAt d f) (y .1 .1) (r .sequencing)
 
-  pub passed-value : (n : ℕ) → constantValue (nodeAt d n) .number < 2 ^ 256
+  passed-constant : (n : ℕ) (v : Value) → nodeAt d n ≡ D.constant v → (v .number < 2 ^ v .length) × (v .length ≤ 256)
   unfolding nodeAt
-  passed-value n = by-test (ltb n (length (d .expressions))) refl
+  passed-constant n v e = by-test (ltb n (length (d .expressions))) refl
     where
-      by-test : (b : Bool) → ltb n (length (d .expressions)) ≡ b → constantValue (nodeAt d n) .number < 2 ^ 256
-      by-test true t = value-small d n (nodeAt d n) (range-so image passed .expressions n (ltb-true n (length (d .expressions)) t))
-      by-test false t = rw (List·getD-eq-default (d .expressions) D.Node.broken (ltb-false n (length (d .expressions)) t)) (pow-pos 256)
+      by-test : (b : Bool) → ltb n (length (d .expressions)) ≡ b → (v .number < 2 ^ v .length) × (v .length ≤ 256)
+      by-test true t = let h = subst (NodeInRange d n) e (range-so image passed .expressions n (ltb-true n (length (d .expressions)) t)) in (h .2, h .1)
+      by-test false t = absurd (let z = sym (List·getD-eq-default (d .expressions) D.Node.broken (ltb-false n (length (d .expressions)) t)) ∙ e in let y : _≡_ {A = ℕ} 0 1 = cc in omega arith)
+
+  passed-value : (n : ℕ) → constantValue (nodeAt d n) .number < 2 ^ 256
+  passed-value n = go (nodeAt d n) refl
+    where
+      go : (x : Node) → nodeAt d n ≡ x → constantValue x .number < 2 ^ 256
+      go (D.constant v) e = let h = passed-constant n v e in lt-of-lt-of-le (h .0) (pow-mono (h .1))
+      go (D.more m) e = pow-pos 256
+      go (D.whole f) e = pow-pos 256
+      go (D.one f a) e = pow-pos 256
+      go (D.part f b) e = pow-pos 256
+      go (D.two f a g) e = pow-pos 256
+      go (D.wordPart f a b) e = pow-pos 256
+      go (D.binary k a b) e = pow-pos 256
+      go (D.prefix k a) e = pow-pos 256
+      go (D.cut k a c) e = pow-pos 256
+      go (D.firstArm a) e = pow-pos 256
+      go (D.nextArm a b) e = pow-pos 256
+      go (D.choice a b m) e = pow-pos 256
+      go D.Node.broken e = pow-pos 256
 
   passed-place : (n : ℕ) → n < length (d .facilities) → isComputed (facilityAt d n .kind) ≡ false → placeFieldIn (sectionAt facilitiesSection facilitySize image) n ≡ placeIn (d .facilities) n
   unfolding facilityAt facilityRecord little
@@ -114,25 +116,54 @@ module _ (image : List ℕ) (passed : passes image ≡ true) where
 
   pub passed-described : Describes d (sectionAt facilitiesSection facilitySize image) (sectionAt expressionsSection nodeSize image)
   unfolding decode sectionsIn
-  passed-described = sections-describe (sectionsIn image) passed-place (λ n v e. subst (λ (x : Node). constantValue x .number < 2 ^ 256) e (passed-value n))
+  passed-described = sections-describe (sectionsIn image) passed-place passed-constant
+
+  -- What is known of the value of a state: there is a sequencing register, and it takes that value.
+  record Borne (s n : ℕ) : Type 0 where
+    register : ℕ
+    registered : sequencingOf d ≡ some register
+    bears : Bears d (legal-image image passed) register registered s
+    same : bears .at ≡ n
+
+  value-borne : (s n : ℕ) → stateAt d s .value ≡ some n → Borne s n
+  unfolding stateAt
+  value-borne s n v = by-test (ltb s (length (d .states))) refl
+    where
+      no-value : {A : Type 0} → none ≡ some n → A
+      no-value e = absurd (let z : _≡_ {A = ℕ} 0 1 = cc in omega arith)
+
+      by-register : s < length (d .states) → (x : Option ℕ) → sequencingOf d ≡ x → Borne s n
+      by-register l none q = no-value (sym (none-borne d (legal-image image passed) s l q) ∙ v)
+      by-register l (some f) q =
+          let b = bears-value d (legal-image image passed) f q s l in
+          record { register = f; registered = q; bears = b; same = let e = sym (b .stands) ∙ v in cc }
+
+      by-test : (b : Bool) → ltb s (length (d .states)) ≡ b → Borne s n
+      by-test true t = by-register (ltb-true s (length (d .states)) t) (sequencingOf d) refl
+      by-test false t = no-value (sym (ap (λ (y : D.State). y .value) (List·getD-eq-default (d .states) _ (ltb-false s (length (d .states)) t))) ∙ v)
 
   pub passed-valued : Valued d (sectionAt expressionsSection nodeSize image) (sectionAt statesSection stateSize image)
   unfolding decode sectionsIn
-  passed-valued = record { nodes = passed-described .nodes; states = λ n. record { name = _; is = state-described (sectionsIn image) n }; fit = passed-value }
+  passed-valued = record {
+    nodes = passed-described .nodes;
+    states = λ n. record { name = _; is = state-described (sectionsIn image) n };
+    fit = passed-value;
+    constants = λ s n v. let b = value-borne s n v in rw (← b .same, b .bears .is) (b .bears .borne);
+  }
 
-  -- The value of a state fits the sequencing register.
-  pub passed-fits : (f s x : ℕ) → sequencingOf d ≡ some f → stateNumber d s ≡ some x → x < 2 ^ wordLength (facilityAt d f)
-  unfolding stateNumber stateAt
-  passed-fits f s x q v = by-test (ltb s (length (d .states))) refl
-    where
-      by-test : (b : Bool) → ltb s (length (d .states)) ≡ b → x < 2 ^ wordLength (facilityAt d f)
-      by-test true t =
-          let b = bears-value d (legal-image image passed) f q s (ltb-true s (length (d .states)) t) in
-          let z : b .number ≡ x = let e = sym (b .borne) ∙ v in cc in
-          rw z at (b .fits)
-      by-test false t =
-          let e = rw (List·getD-eq-default (d .states) _ (ltb-false s (length (d .states)) t)) at v in
-          absurd (let z : _≡_ {A = ℕ} 0 1 = cc in omega arith)
+  -- The value of a state fits the sequencing register, which takes it.
+  module _ (f s n : ℕ) (q : sequencingOf (decode image) ≡ some f) (v : stateAt (decode image) s .value ≡ some n) where
+    pub passed-fits : constantValue (nodeAt (decode image) n) .number < 2 ^ wordLength (facilityAt (decode image) f)
+    passed-fits =
+        let b = value-borne s n v in
+        let z : b .register ≡ f = let e = sym (b .registered) ∙ q in cc in
+        rw (← b .same, b .bears .is, ← z) (b .bears .fits)
+
+    pub passed-takes : (u : Words) → setRegister (decode image) (some f) (some n) u ≡ into (setWord u f 0 (constantValue (nodeAt (decode image) n) .number))
+    passed-takes u =
+        let b = value-borne s n v in
+        let z : b .register ≡ f = let e = sym (b .registered) ∙ q in cc in
+        rw (← v, ← z) (b .bears .enters u ∙ ap (λ (m : ℕ). into (setWord u (b .register) 0 m)) (sym (b .bears .is) ∙ ap (λ (k : ℕ). constantValue (nodeAt d k) .number) (b .same)))
 
   -- Few enough records.
   pub passed-facilities : length (sectionAt facilitiesSection facilitySize image) / facilitySize ≤ 65536

@@ -11,7 +11,7 @@ ghost use mathlib.Core.Option.{some};
 ghost use mathlib.Core.Path.{_≡_};
 ghost use Prim.Native.Nat.{ℕ, _/_, _≤_};
 ghost use lib.ListN.{length};
-ghost use Rattle.language.specs.Description.{Description, sequencingOf};
+ghost use Rattle.language.specs.Description.{Description, sequencingOf, stateAt};
 ghost use Rattle.language.specs.Layout.{storeSizeOf};
 ghost use Rattle.language.specs.RecordBytes as L;
 ghost use Rattle.language.specs.Step as S;
@@ -20,9 +20,9 @@ ghost use Rattle.image_sections.specs.Declarations.{valueMeant};
 ghost use Rattle.language.specs.Encode.{facilitySize};
 ghost use Rattle.run_soundness.specs.Tested.{Testable};
 
-// Whether facility n, the sequencing register, has this value.
+// Whether facility n, the sequencing register, has the value of a state.
 fn has_value(facilities: &[u8], expressions: &[u8], store: &[u8], n: u16, value: StateValue) -> bool
-    ensures { λ r. ⌜ ((d : Description) (T : List ℕ) → Testable d (now (facilities .entry)) (now (expressions .entry)) T → sequencingOf d ≡ some n → storeSizeOf (d .facilities) ≤ length (now (store .entry)) → r ≡ L.agrees (some n) (S.numberAt d (valueMeant value)) (wordOf (fromBytes (d .facilities) (now (store .entry))) n 0)) ⌝ }
+    ensures { λ r. ⌜ ((d : Description) (T : List ℕ) (s : ℕ) → Testable d (now (facilities .entry)) (now (expressions .entry)) T → sequencingOf d ≡ some n → stateAt d s .value ≡ valueMeant value → storeSizeOf (d .facilities) ≤ length (now (store .entry)) → r ≡ L.agrees (some n) (S.stateNumber d s) (wordOf (fromBytes (d .facilities) (now (store .entry))) n 0)) ⌝ }
 {
     match value {
         StateValue::At(k) => {

@@ -1,6 +1,6 @@
-use mathlib.Core.Option.{some}
-use mathlib.Core.Path.{sym, ap}
+use mathlib.Core.Path.{sym, ap, _∙_}
 use Rattle.language.specs.Description.{constantValue, nodeAt}
+use Rattle.language.specs.Step.{into}
 use Rattle.run_references.proofs.PlaceLaws.{nameOf}
 use Rattle.run_end.proofs.RegisterLaws.{number-read, register-put, short-read, value-read}
 use borrow.Author.Needs.{needs}
@@ -72,7 +72,8 @@ returns-3 c =
     let g = c .before .before .before .before .facility-at in
     let are = c .before .before .before .before .before .before .before .before .before .before .before .before .before .before .slice-known .given in
     let p = c .before .before .put-first-word .ensures (nameOf (h .described) f (g .result) (g .ensures)) (short-read (h .described) (h .register) f (sym q) (g .result) (g .ensures)) in
-    rw (← q, v, p, k) (ap some (register-put (h .described) (h .register) f (sym q) (g .result) (g .ensures) (a .store .now) (λ i. are i .fits) room (constantValue (nodeAt d n) .number) (h .register .fits f (a .s) _ (sym q) v)))
+    let put = register-put (h .described) (h .register) f (sym q) (g .result) (g .ensures) (a .store .now) (λ i. are i .fits) room (constantValue (nodeAt d n) .number) (h .register .fits f (a .s) n (sym q) v) in
+    rw (← q, v, p, k) (ap into put ∙ sym (h .register .takes f (a .s) n _ (sym q) v))
 
 pub set-register-spec : {M : Type 1} → statement M
 set-register-spec =

@@ -37,7 +37,6 @@ cast-t11 c =
     omega arith
 
 returns : tie.Need-returns Inv-loop μ-loop
-unfolding S.stateNumber
 returns c =
     λ d h.
     let a = c .before .before .before .before .before .before .before .args in
@@ -45,7 +44,8 @@ returns c =
     let k : ℕ = length (a .section .now) / stateSize in
     let e : k - l .n ≡ suc (k - l .n - 1) = omega arith in
     let s = h .states (l .n) in
-    let b = ap (λ (y : D.State). S.bears d (S.numberAt d (y .value)) (number (a .x .limbs))) (s .is ∙ sym (c .before .before .state-at .ensures .meaning (s .name))) ∙ (sym (c .before .bears .ensures d (a .section .now) h) ∙ c .if1 .taken) in
+    let v = ap (λ (y : D.State). y .value) (s .is ∙ sym (c .before .before .state-at .ensures .meaning (s .name))) in
+    let b = sym (c .before .bears .ensures d (a .section .now) (l .n) h v) ∙ c .if1 .taken in
     bearer-here d (number (a .x .limbs)) (l .n) (k - l .n) (k - l .n - 1) e b ∙ l .inv .1 d h
 
 add-n : tie.Need-add-n Inv-loop μ-loop
@@ -57,7 +57,6 @@ loop-less c =
     omega arith
 
 loop-again : tie.Need-loop-again Inv-loop μ-loop
-unfolding S.stateNumber
 loop-again c = (
   omega arith,
   λ d h.
@@ -68,7 +67,8 @@ loop-again c = (
       let m : k - (l .n + 1) ≡ k - l .n - 1 = omega arith in
       let p : l .n + 1 ≡ suc (l .n) = omega arith in
       let s = h .states (l .n) in
-      let b = ap (λ (y : D.State). S.bears d (S.numberAt d (y .value)) (number (a .x .limbs))) (s .is ∙ sym (c .before .before .state-at .ensures .meaning (s .name))) ∙ (sym (c .before .bears .ensures d (a .section .now) h) ∙ c .if1 .left) in
+      let v = ap (λ (y : D.State). y .value) (s .is ∙ sym (c .before .before .state-at .ensures .meaning (s .name))) in
+      let b = sym (c .before .bears .ensures d (a .section .now) (l .n) h v) ∙ c .if1 .left in
       rw (m, p) (sym (bearer-later d (number (a .x .limbs)) (l .n) (k - l .n) (k - l .n - 1) e b) ∙ l .inv .1 d h),
 )
 

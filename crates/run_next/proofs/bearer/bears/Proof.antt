@@ -2,6 +2,7 @@ use mathlib.Core.Path.{sym, ap, _∙_}
 use lib.Dec.{eqb}
 use Rattle.language.specs.Description as D
 use Rattle.language.specs.Description.{constantValue}
+use Rattle.language.specs.Step as S
 use Rattle.language.specs.Value.{Value}
 use Rattle.value_limbs.specs.Limbs.{number}
 use Rattle.image_records.specs.Nodes.{held}
@@ -27,14 +28,15 @@ enum-told c = search needs
 
 returns : tie.Need-returns
 returns c =
-    λ d T h.
+    λ d T s h e.
     let n = c .before .before .before .value .given .0 .0 in
     let v = ap (λ (z : D.Node). held (constantValue z)) (sym (h .nodes n)) ∙ held-whole _ (h .fit n) in
-    rw (c .before .before .before .value .given .1) (c .same .ensures ∙ ap (eqb (number (c .before .before .before .before .before .before .args .x .limbs))) (ap (λ (z : Value). z .number) (c .before .constant-at .ensures ∙ v)))
+    rw (h .constants s n (rw (c .before .before .before .value .given .1) at e)) (c .same .ensures ∙ ap (eqb (number (c .before .before .before .before .before .before .args .x .limbs))) (ap (λ (z : Value). z .number) (c .before .constant-at .ensures ∙ v)))
 
 returns-2 : tie.Need-returns-2
+unfolding S.stateNumber
 returns-2 c =
-    λ d T h. rw (c .enum-told .given .1)
+    λ d T s h e. rw (rw (c .enum-told .given .1) at e)
 
 pub bears-spec : {M : Type 1} → statement M
 bears-spec =

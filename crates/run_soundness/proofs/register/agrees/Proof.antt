@@ -1,6 +1,5 @@
 use mathlib.Core.Path.{sym, ap, _∙_}
 use Rattle.language.specs.Description as D
-use Rattle.language.specs.Step as S
 use Rattle.run_references.specs.Places.{foundMeant}
 use borrow.Author.Needs.{needs}
 use Rattle.run_soundness.proofs.register.agrees.Statement.{statement}
@@ -22,14 +21,13 @@ enum-told : tie.Need-enum-told
 enum-told c = search needs
 
 returns : tie.Need-returns
-unfolding S.stateNumber
 returns c =
     λ d h room.
     let a = c .before .before .before .before .before .before .before .before .before .before .args in
     let q = sym (c .before .before .before .before .before .sequencing .ensures d _ (h .described)) ∙ ap foundMeant (c .before .before .before .n .given .1) in
     let s = h .valued .states (a .state) in
-    let e = ap (λ (y : D.State). S.numberAt d (y .value)) (s .is ∙ sym (c .before .state-at .ensures .meaning (s .name))) in
-    rw (q, e) (c .has-value .ensures d _ h q room)
+    let e = ap (λ (y : D.State). y .value) (s .is ∙ sym (c .before .state-at .ensures .meaning (s .name))) in
+    rw q (c .has-value .ensures d _ (a .state) h q e room)
 
 returns-2 : tie.Need-returns-2
 returns-2 c =
