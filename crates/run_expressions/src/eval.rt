@@ -29,7 +29,7 @@ ghost use mathlib.Core.Path.{_≡_};
 ghost use Rattle.language.specs.Acting.{side};
 ghost use Rattle.language.specs.Meaning as M;
 ghost use Rattle.language.specs.Meaning.{evalAt, evalBelow, placeOf};
-ghost use Rattle.language.specs.Operators.{binaryOf};
+ghost use Rattle.language.specs.Operators.{binaryOf, isBinary};
 ghost use Rattle.language.specs.References.{referenceOf};
 ghost use Rattle.language.specs.Tree.{Name};
 ghost use Rattle.image_sections.specs.Declarations.{facilityMeant, shortMeant};
@@ -175,7 +175,7 @@ fn arm(
     let back = lengths::minus(count as u32, k as u32);
     match arms::arm_back(expressions, last, back) {
         Found::At(e) => part(section, expressions, store, n, e),
-        Found::Nowhere => worth::sticks(Stuck::WrongRecord),
+        Found::Nowhere => worth::sticks(Stuck::MissingArm),
     }
 }
 
@@ -189,13 +189,16 @@ fn choice(
     last: u16,
     count: u16,
 ) -> Worth
-    ensures { λ r. ⌜ ForEach (now (section .entry)) (now (expressions .entry)) (now (store .entry)) (λ d x. answered r ≡ M.after (evalBelow (bytes d) d x n e) (λ v. M.chosen (bytes d) d x (evalBelow (bytes d) d x n) last count (M.armNumber count (v .number)))) ⌝ }
+    ensures { λ r. ⌜ ForEach (now (section .entry)) (now (expressions .entry)) (now (store .entry)) (λ d x. answered r ≡ M.after (evalBelow (bytes d) d x n e) (M.choiceWorth (bytes d) d x (evalBelow (bytes d) d x n) last count)) ⌝ }
 {
     let w = part(section, expressions, store, n, e);
     let outcome = w.outcome;
     match outcome {
         Outcome::Is => {
             let v = w.value;
+            if !arms::decides(count, v) {
+                return worth::sticks(Stuck::NotOneBit);
+            }
             let number = arms::arm_number(count, v);
             arm(section, expressions, store, n, last, count, number)
         }
@@ -214,7 +217,7 @@ fn binary(
     a: u16,
     b: u16,
 ) -> Worth
-    ensures { λ r. ⌜ ForEach (now (section .entry)) (now (expressions .entry)) (now (store .entry)) (λ d x. answered r ≡ M.after (evalBelow (bytes d) d x n a) (λ v. M.after (evalBelow (bytes d) d x n b) (λ w. M.worthOr M.wrongLength (binaryOf kind v w)))) ⌝ }
+    ensures { λ r. ⌜ ForEach (now (section .entry)) (now (expressions .entry)) (now (store .entry)) (λ d x. answered r ≡ M.after (evalBelow (bytes d) d x n a) (λ v. M.after (evalBelow (bytes d) d x n b) (λ w. M.worthOr (M.missed (isBinary kind) M.wrongLength) (binaryOf kind v w)))) ⌝ }
 {
     let x = part(section, expressions, store, n, a);
     let outcome = x.outcome;

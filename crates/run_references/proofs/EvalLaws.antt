@@ -2,13 +2,15 @@
 use mathlib.Core.List.{List, [], _∷_}
 use mathlib.Core.Path.{_≡_, refl, sym, ap, _∙_}
 use Prim.Native.Nat.{ℕ, _^_, _<_, _≤_}
-use native.Mathlib.Nat.{mod-eq-of-lt}
+use native.Mathlib.Nat.{lt-of-lt-of-le, mod-eq-of-lt}
+use borrow.Author.Tests.{lt-ltb}
 use denote.Enum.Declared.{tagOf}
+use lib.Pow.{pow-mono}
 use types.Run.{OneOf, miss}
 use Rattle.language.specs.Decode.{nodeOf}
 use Rattle.language.specs.Description as D
 use Rattle.language.specs.Description.{Description, nodeAt}
-use Rattle.language.specs.Meaning.{Answer, Stores, evalAt, evalBelow, evalNode, evalStep, notBefore}
+use Rattle.language.specs.Meaning.{Answer, Stores, constantWorth, evalAt, evalBelow, evalNode, evalStep, fitting, notBefore}
 use Rattle.language.specs.Recursion.{below-ge, below-lt}
 use Rattle.language.specs.References.{referenceOf}
 use Rattle.language.specs.Value.{Value, value}
@@ -23,6 +25,14 @@ use Rattle.run_references.specs.Places.{referred}
 pub held-whole : (v : Value) → v .number < 2 ^ 256 → held v ≡ v
 unfolding held
 held-whole v h = ap (value (v .length)) (mod-eq-of-lt h)
+
+-- A number that fits its length, of up to 256 bits, is held whole.
+pub held-fitting : (v : Value) → v .number < 2 ^ v .length → v .length ≤ 256 → held v ≡ v
+held-fitting v h l = held-whole v (lt-of-lt-of-le h (pow-mono l))
+
+pub constant-worth : (v : Value) → v .number < 2 ^ v .length → constantWorth v ≡ Answer.is v
+unfolding fitting
+constant-worth v h = rw (lt-ltb (v .number) (2 ^ v .length) h)
 
 -- Record n of the description is the node that was read.
 pub node-read : (d : Description) (E : List ℕ) (n : ℕ) → Nodes d E → {r : Node} (nd : Node) → meant (constantNumber n E) r ≡ nodeOf E n → r ≡ nd

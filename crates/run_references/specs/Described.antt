@@ -2,7 +2,7 @@
 use mathlib.Core.Bool.{false}
 use mathlib.Core.List.{List}
 use mathlib.Core.Path.{_≡_}
-use Prim.Native.Nat.{ℕ, _/_, _^_, _<_}
+use Prim.Native.Nat.{ℕ, _/_, _^_, _<_, _≤_}
 use lib.ListN.{length}
 use Rattle.language.specs.Decode.{nodeOf}
 use Rattle.language.specs.Description as D
@@ -24,13 +24,13 @@ pub record FacilityOf (d : Description) (F : List ℕ) (n : ℕ) : Type 0 where
   pub name : Name
   pub is : facilityAt d n ≡ facilityIn F n name
 
--- The sections F and E describe d; each stored facility's record has its place in the store; and a constant's number is one that a value holds.
+-- The sections F and E describe d; each stored facility's record has its place in the store; and a constant's number fits its length, which is one that a value has.
 pub record Describes (d : Description) (F E : List ℕ) : Type 0 where
   pub nodes : Nodes d E
   pub facilities : (n : ℕ) → FacilityOf d F n
   pub count : length (d .facilities) ≡ length F / facilitySize
   pub places : (n : ℕ) → n < length (d .facilities) → isComputed (facilityAt d n .kind) ≡ false → placeFieldIn F n ≡ placeIn (d .facilities) n
-  pub fit : (n : ℕ) (v : Value) → nodeAt d n ≡ D.constant v → v .number < 2 ^ 256
+  pub fit : (n : ℕ) (v : Value) → nodeAt d n ≡ D.constant v → (v .number < 2 ^ v .length) × (v .length ≤ 256)
 
 -- A claim about each description by the sections F and E, and each store of the bytes B.
 abbrev pub ForEach : List ℕ → List ℕ → List ℕ → (Description → InBytes → Type 0) → Type 0

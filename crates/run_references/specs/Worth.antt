@@ -11,12 +11,15 @@ use Rattle.run_references.specs.declared.worth.Worth.{Worth}
 abbrev pub stuckMeant : Stuck → M.Stuck
 stuckMeant S.NotBefore = M.notBefore
 stuckMeant S.WrongRecord = M.wrongRecord
+stuckMeant S.MissingArm = M.missingArm
 stuckMeant S.NoFacility = M.noFacility
 stuckMeant S.NoOperation = M.noOperation
 stuckMeant S.NoState = M.noState
+stuckMeant S.NoOperator = M.noOperator
 stuckMeant S.WrongSubscripts = M.wrongSubscripts
 stuckMeant S.Outside = M.outside
 stuckMeant S.WrongLength = M.wrongLength
+stuckMeant S.TooLarge = M.tooLarge
 stuckMeant S.WrongCount = M.wrongCount
 stuckMeant S.LengthDiffers = M.lengthDiffers
 stuckMeant S.NotOneBit = M.notOneBit

@@ -5,14 +5,23 @@ use image_records::nodes::Node;
 use value_operators::Value;
 ghost use mathlib.Core.Path.{_≡_};
 ghost use Rattle.language.specs.Description.{Description};
+ghost use Rattle.language.specs.Meaning as M;
 ghost use Rattle.language.specs.Meaning.{armBack, armNumber};
 ghost use Rattle.value_limbs.specs.Limbs.{number};
+ghost use Rattle.value_operators.specs.Meaning.{valued};
 ghost use Rattle.run_references.specs.Described.{Nodes};
 ghost use Rattle.run_references.specs.Places.{armExpression, foundMeant};
 
 pub enum Found {
     At(u16),
     Nowhere,
+}
+
+// Whether a condition's value may choose between n arms: of two, only one bit may.
+pub fn decides(n: u16, v: Value) -> bool
+    ensures { λ r. ⌜ r ≡ M.decides n (valued v) ⌝ }
+{
+    if n == 2 { v.length == 1 } else { true }
 }
 
 // The number of the arm that a value takes, of n arms.

@@ -1,24 +1,26 @@
 // What an expression gives, and what an operator makes of its operands' worth.
 use language::stops::Stop;
-use value_operators::Made;
 use value_operators::Value;
 use value_operators::operators;
 ghost use mathlib.Core.Path.{_≡_};
 ghost use Rattle.language.specs.Meaning as M;
-ghost use Rattle.language.specs.Operators.{binaryOf, cutOf, prefixOf};
-ghost use Rattle.value_operators.specs.Meaning.{meant, valued};
+ghost use Rattle.language.specs.Operators.{binaryOf, cutOf, isBinary, isCut, isPrefix, prefixOf};
+ghost use Rattle.value_operators.specs.Meaning.{valued};
 ghost use Rattle.run_references.specs.Worth.{answered, stuckMeant};
 
 // The ways to be stuck, which no passing image reaches.
 pub enum Stuck {
     NotBefore,
     WrongRecord,
+    MissingArm,
     NoFacility,
     NoOperation,
     NoState,
+    NoOperator,
     WrongSubscripts,
     Outside,
     WrongLength,
+    TooLarge,
     WrongCount,
     LengthDiffers,
     NotOneBit,
@@ -78,26 +80,27 @@ pub fn sticks(s: Stuck) -> Worth
     }
 }
 
-// What an operator made, or stuck where that is nothing.
-pub fn worth_or(s: Stuck, made: Made) -> Worth
-    ensures { λ r. ⌜ answered r ≡ M.worthOr (stuckMeant s) (meant made) ⌝ }
+// Why an operator made nothing: it is none, or s.
+fn missed(known: bool, s: Stuck) -> Stuck
+    ensures { λ r. ⌜ stuckMeant r ≡ M.missed known (stuckMeant s) ⌝ }
 {
-    if made.fits {
-        let v = made.value;
-        return is(v);
-    }
-    sticks(s)
+    if known { s } else { Stuck::NoOperator }
 }
 
 // An operator between a value and what comes after it.
 pub fn binary(kind: u8, x: Value, y: Worth) -> Worth
-    ensures { λ r. ⌜ answered r ≡ M.after (answered y) (λ w. M.worthOr M.wrongLength (binaryOf kind (valued x) w)) ⌝ }
+    ensures { λ r. ⌜ answered r ≡ M.after (answered y) (λ w. M.worthOr (M.missed (isBinary kind) M.wrongLength) (binaryOf kind (valued x) w)) ⌝ }
 {
     let outcome = y.outcome;
     match outcome {
         Outcome::Is => {
             let v = y.value;
-            worth_or(Stuck::WrongLength, operators::binary(kind, x, v))
+            let made = operators::binary(kind, x, v);
+            if made.fits {
+                let z = made.value;
+                return is(z);
+            }
+            sticks(missed(operators::is_binary(kind), Stuck::WrongLength))
         }
         Outcome::Stops(_) => y,
         Outcome::Stuck(_) => y,
@@ -106,13 +109,18 @@ pub fn binary(kind: u8, x: Value, y: Worth) -> Worth
 
 // An operator before its operand.
 pub fn prefix(kind: u8, x: Worth) -> Worth
-    ensures { λ r. ⌜ answered r ≡ M.after (answered x) (λ v. M.worthOr M.wrongLength (prefixOf kind v)) ⌝ }
+    ensures { λ r. ⌜ answered r ≡ M.after (answered x) (λ v. M.worthOr (M.missed (isPrefix kind) M.wrongLength) (prefixOf kind v)) ⌝ }
 {
     let outcome = x.outcome;
     match outcome {
         Outcome::Is => {
             let v = x.value;
-            worth_or(Stuck::WrongLength, operators::prefix(kind, v))
+            let made = operators::prefix(kind, v);
+            if made.fits {
+                let z = made.value;
+                return is(z);
+            }
+            sticks(missed(operators::is_prefix(kind), Stuck::WrongLength))
         }
         Outcome::Stops(_) => x,
         Outcome::Stuck(_) => x,
@@ -121,13 +129,18 @@ pub fn prefix(kind: u8, x: Worth) -> Worth
 
 // HEAD, TAIL and EXT with their count.
 pub fn cut(kind: u8, x: Worth, c: u16) -> Worth
-    ensures { λ r. ⌜ answered r ≡ M.after (answered x) (λ v. M.worthOr M.wrongCount (cutOf kind v c)) ⌝ }
+    ensures { λ r. ⌜ answered r ≡ M.after (answered x) (λ v. M.worthOr (M.missed (isCut kind) M.wrongCount) (cutOf kind v c)) ⌝ }
 {
     let outcome = x.outcome;
     match outcome {
         Outcome::Is => {
             let v = x.value;
-            worth_or(Stuck::WrongCount, operators::cut(kind, v, c))
+            let made = operators::cut(kind, v, c);
+            if made.fits {
+                let z = made.value;
+                return is(z);
+            }
+            sticks(missed(operators::is_cut(kind), Stuck::WrongCount))
         }
         Outcome::Stops(_) => x,
         Outcome::Stuck(_) => x,

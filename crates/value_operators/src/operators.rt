@@ -9,7 +9,7 @@ use crate::reductions;
 use crate::relations;
 use crate::substrings;
 ghost use mathlib.Core.Path.{_≡_};
-ghost use Rattle.language.specs.Operators.{binaryLength, binaryOf, cutLengthOf, cutOf, isRelation, prefixLength, prefixOf};
+ghost use Rattle.language.specs.Operators.{binaryLength, binaryOf, cutLengthOf, cutOf, isBinary, isCut, isPrefix, isRelation, prefixLength, prefixOf};
 ghost use Rattle.value_operators.specs.Meaning.{Means, valued};
 
 // ---- The operators of which a level has several.
@@ -101,6 +101,26 @@ pub fn cut_length(kind: u8, m: u16, c: u16) -> u32
         language::kinds::EXT => lengths::repeat_length(m, c),
         _ => 0,
     }
+}
+
+// ---- Which words are operators: those that have a length where the operands have one bit each.
+
+pub fn is_binary(kind: u8) -> bool
+    ensures { λ r. ⌜ r ≡ isBinary kind ⌝ }
+{
+    0 < binary_length(kind, 1, 1)
+}
+
+pub fn is_prefix(kind: u8) -> bool
+    ensures { λ r. ⌜ r ≡ isPrefix kind ⌝ }
+{
+    0 < prefix_length(kind, 1)
+}
+
+pub fn is_cut(kind: u8) -> bool
+    ensures { λ r. ⌜ r ≡ isCut kind ⌝ }
+{
+    0 < cut_length(kind, 1, 1)
 }
 
 // ---- What it is.

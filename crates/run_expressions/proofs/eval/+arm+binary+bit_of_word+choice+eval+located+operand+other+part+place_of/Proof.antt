@@ -14,7 +14,7 @@ use Rattle.store_layout.specs.InBytes.{bytes, loadBytes}
 use Rattle.run_references.specs.Places.{foundMeant, locatedMeant, placeMeant, refersTo}
 use Rattle.image_records.specs.References.{referenceMeant}
 use Rattle.run_expressions.specs.Sides.{sideMeant}
-use Rattle.run_references.proofs.EvalLaws.{eval-before, eval-node, eval-not-before, held-whole, node-read, other-worth}
+use Rattle.run_references.proofs.EvalLaws.{constant-worth, eval-before, eval-node, eval-not-before, held-fitting, node-read, other-worth}
 use Rattle.run_references.proofs.PlaceLaws.{computed-read, facility-known, nameOf, no-facility, place-of-facility, place-there, right-subscripts, stored-load, stored-read, wrong-subscripts}
 use Prim.Native.Nat.{ℕ, _+_, _*_, _<_}
 use borrow.Author.Needs.{needs}
@@ -52,6 +52,7 @@ use Rattle.run_expressions.proofs.eval.place_of.Kinds as place-of-kinds
 use Rattle.run_expressions.proofs.eval.+arm+binary+bit_of_word+choice+eval+located+operand+other+part+place_of.Lts-place_of as place-of-lts
 use Rattle.run_references.proofs.arms.arm_back.Reads as arm-back-reads
 use Rattle.run_references.proofs.arms.arm_number.Reads as arm-number-reads
+use Rattle.run_references.proofs.arms.decides.Reads as decides-reads
 use Rattle.run_references.proofs.bounds.word_length.Reads as word-length-reads
 use Rattle.run_references.proofs.places.bit.Reads as bit-reads
 use Rattle.run_references.proofs.places.constant_part.Reads as constant-part-reads
@@ -180,7 +181,7 @@ abbrev bit-of-word-calls : ℕ → bit-of-word-lts.Claims
 bit-of-word-calls t = (part-below t, part.Post, subscript-reads.Asked, subscript-reads.Learnt, bit-reads.Asked, bit-reads.Learnt)
 
 abbrev choice-calls : ℕ → choice-lts.Claims
-choice-calls t = (part-below t, part.Post, arm-number-reads.Asked, arm-number-reads.Learnt, arm-below t, arm.Post)
+choice-calls t = (part-below t, part.Post, decides-reads.Asked, decides-reads.Learnt, sticks-reads.Asked, sticks-reads.Learnt, arm-number-reads.Asked, arm-number-reads.Learnt, arm-below t, arm.Post)
 
 abbrev eval-calls : ℕ → eval-lts.Claims
 eval-calls t = (node-at-reads.Asked, node-at-reads.Learnt, constant-at-reads.Asked, constant-at-reads.Learnt, is-reads.Asked, is-reads.Learnt, binary-below t, binary.Post, part-below t, part.Post, prefix-reads.Asked, prefix-reads.Learnt, cut-reads.Asked, cut-reads.Learnt, choice-below t, choice.Post, other-below t, other.Post)
@@ -312,6 +313,16 @@ choice-part-requires t c κs = search needs
 choice-enum-told : (t : ℕ) → choice-lts.Need-enum-told (choice-calls t) (choice-at t) choice.Post
 choice-enum-told t c = search needs
 
+choice-decides-requires : (t : ℕ) → choice-lts.Need-decides-requires (choice-calls t) (choice-at t) choice.Post
+choice-decides-requires t c κs = search needs
+
+choice-sticks-requires : (t : ℕ) → choice-lts.Need-sticks-requires (choice-calls t) (choice-at t) choice.Post
+choice-sticks-requires t c κs = search needs
+
+choice-returns : (t : ℕ) → choice-lts.Need-returns (choice-calls t) (choice-at t) choice.Post
+choice-returns t c =
+    λ d x h e. rw (← (c .before .before .before .before .before .before .part .ensures d x h e), c .before .before .before .before .enum-told .given .1, sym (c .before .before .decides .ensures) ∙ not-true _ (c .before .if1 .taken)) (c .sticks .ensures)
+
 choice-arm-number-requires : (t : ℕ) → choice-lts.Need-arm-number-requires (choice-calls t) (choice-at t) choice.Post
 choice-arm-number-requires t c κs = search needs
 
@@ -324,16 +335,16 @@ choice-enum-told-2 t c = search needs
 choice-enum-told-3 : (t : ℕ) → choice-lts.Need-enum-told-3 (choice-calls t) (choice-at t) choice.Post
 choice-enum-told-3 t c = search needs
 
-choice-returns : (t : ℕ) → choice-lts.Need-returns (choice-calls t) (choice-at t) choice.Post
-choice-returns t c =
-    λ d x h e. rw (← (c .before .before .before .before .before .part .ensures d x h e), c .before .before .before .enum-told .given .1, ← (c .before .arm-number .ensures)) (c .arm .ensures d x h e)
-
 choice-returns-2 : (t : ℕ) → choice-lts.Need-returns-2 (choice-calls t) (choice-at t) choice.Post
 choice-returns-2 t c =
-    λ d x h e. rw (← (c .before .before .part .ensures d x h e), c .enum-told2 .given .1)
+    λ d x h e. rw (← (c .before .before .before .before .before .before .before .part .ensures d x h e), c .before .before .before .before .before .enum-told .given .1, sym (c .before .before .before .decides .ensures) ∙ not-false _ (c .before .before .if1 .left), ← (c .before .arm-number .ensures)) (c .arm .ensures d x h e)
 
 choice-returns-3 : (t : ℕ) → choice-lts.Need-returns-3 (choice-calls t) (choice-at t) choice.Post
 choice-returns-3 t c =
+    λ d x h e. rw (← (c .before .before .part .ensures d x h e), c .enum-told2 .given .1)
+
+choice-returns-4 : (t : ℕ) → choice-lts.Need-returns-4 (choice-calls t) (choice-at t) choice.Post
+choice-returns-4 t c =
     λ d x h e. rw (← (c .before .before .part .ensures d x h e), c .enum-told3 .given .1)
 
 eval-node-at-requires : (t : ℕ) → eval-lts.Need-node-at-requires (eval-calls t) (eval-at t) eval.Post
@@ -388,7 +399,8 @@ eval-returns t c =
     let a = c .before .before .before .before .before .before .before .before .args in
     let q = node-read d (a .expressions .now) (a .n) (h .nodes) _ (c .before .before .before .before .node-at .ensures) (c .before .before .enum-told .given .1) in
     let v = sym (h .nodes (a .n)) ∙ q in
-    c .is .ensures ∙ ap M.Answer.is (c .before .constant-at .ensures ∙ (ap (λ (m : D.Node). held (constantValue m)) v ∙ held-whole _ (h .fit (a .n) _ q))) ∙ sym (eval-node (bytes d) d x (a .n) _ q)
+    let f = h .fit (a .n) _ q in
+    c .is .ensures ∙ ap M.Answer.is (c .before .constant-at .ensures ∙ (ap (λ (m : D.Node). held (constantValue m)) v ∙ held-fitting _ (f .0) (f .1))) ∙ sym (constant-worth _ (f .0)) ∙ sym (eval-node (bytes d) d x (a .n) _ q)
 
 eval-returns-2 : (t : ℕ) → eval-lts.Need-returns-2 (eval-calls t) (eval-at t) eval.Post
 unfolding evalNode
@@ -749,13 +761,16 @@ pub +arm+binary+bit-of-word+choice+eval+located+operand+other+part+place-of-spec
     choice.Post
     (choice-part-requires t)
     (choice-enum-told t)
+    (choice-decides-requires t)
+    (choice-sticks-requires t)
+    (choice-returns t)
     (choice-arm-number-requires t)
     (choice-arm-requires t)
     (choice-enum-told-2 t)
     (choice-enum-told-3 t)
-    (choice-returns t)
     (choice-returns-2 t)
-    (choice-returns-3 t))
+    (choice-returns-3 t)
+    (choice-returns-4 t))
     (λ t. eval-lts.spec (eval-calls t)
     (eval-at t)
     eval.Post
