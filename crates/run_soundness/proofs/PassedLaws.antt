@@ -163,7 +163,10 @@ module _ (image : List ℕ) (passed : passes image ≡ true) where
     passed-takes u =
         let b = value-borne s n v in
         let z : b .register ≡ f = let e = sym (b .registered) ∙ q in cc in
-        rw (← v, ← z) (b .bears .enters u ∙ ap (λ (m : ℕ). into (setWord u (b .register) 0 m)) (sym (b .bears .is) ∙ ap (λ (k : ℕ). constantValue (nodeAt d k) .number) (b .same)))
+        let taken : setRegister d (some (b .register)) (stateAt d s .value) u ≡ into (setWord u (b .register) 0 (constantValue (nodeAt d n) .number)) =
+        b .bears .enters u ∙ ap (λ (m : ℕ). into (setWord u (b .register) 0 m)) (sym (b .bears .is) ∙ ap (λ (k : ℕ). constantValue (nodeAt d k) .number) (b .same))
+        in
+        ap (λ (y : Option ℕ). setRegister d (some f) y u) (sym v) ∙ subst (λ (g : ℕ). setRegister d (some g) (stateAt d s .value) u ≡ into (setWord u g 0 (constantValue (nodeAt d n) .number))) z taken
 
   -- Few enough records.
   pub passed-facilities : length (sectionAt facilitiesSection facilitySize image) / facilitySize ≤ 65536
