@@ -13,7 +13,7 @@ use Rattle.image_records.proofs.actions.Action.{the-type}
 use Rattle.image_records.specs.Actions.{meant}
 use Rattle.image_records.specs.declared.actions.Action.{Action}
 use Rattle.image_records.specs.declared.actions.Action.the-variants as A
-use Rattle.run_actions.specs.Acts.{passedOf, runOf}
+use Rattle.run_actions.specs.Acts.{passedOf, runOf, simpleDone}
 
 abbrev no-arms : List ℕ
 no-arms = 0 ∷ 1 ∷ 2 ∷ 3 ∷ 4 ∷ 5 ∷ 6 ∷ 7 ∷ 8 ∷ 10 ∷ []
@@ -51,8 +51,8 @@ abbrev not-simples : List ℕ
 not-simples = 3 ∷ 7 ∷ 8 ∷ 9 ∷ 10 ∷ []
 
 module _ {X : Type 0} (S : M.Stores X) (d : Description) (c : T.Doing X) where
-  pub not-simple : (r : Action) → OneOf not-simples (tagOf the-type r) → T.simple S d (λ o x. T.stuck M.wrongRecord) (meant r) c ≡ T.stuck M.wrongRecord
-  unfolding T.simple
+  pub not-simple : (r : Action) → OneOf not-simples (tagOf the-type r) → simpleDone S d (meant r) c ≡ T.stuck M.wrongRecord
+  unfolding simpleDone
   not-simple (A.Store k l r) o = absurd (miss not-simples 0 tt o)
   not-simple (A.StorePair k l m r) o = absurd (miss not-simples 1 tt o)
   not-simple (A.Set l) o = absurd (miss not-simples 2 tt o)

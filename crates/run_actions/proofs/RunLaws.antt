@@ -26,7 +26,7 @@ use Rattle.run_stores.proofs.doing.Did.{the-type as did-type}
 use Rattle.run_stores.specs.Seen.{Ran, View, did, ranSeen, seen, stopped, stuck, went}
 use Rattle.run_stores.specs.declared.doing.Did.{Did}
 use Rattle.run_stores.specs.declared.doing.Did.the-variants as G
-use Rattle.run_actions.specs.Acts.{armDone, chosenDone, oneDone, passedOf, runOf, whenDone}
+use Rattle.run_actions.specs.Acts.{armDone, chooseDone, chosenDone, oneDone, passedOf, runOf, simpleDone, whenDone}
 
 -- ---- Lists.
 
@@ -84,6 +84,15 @@ module _ {X : Type 0} (S : M.Stores X) (d : Description) (perform : ℕ → T.Do
     chosen-passes x none c = refl
     chosen-passes x (some k) c = arm-passes x (T.armAt d (k - 1) (i + 1) x) c
 
+    choose-passes : (n x : ℕ) (v : Value) (c : T.Doing X) → T.chooseWorth S d perform ev m i n x v c ≡ T.onward (chooseDone S d perform ev n i x v c) (T.passing S d perform ev m i x)
+    choose-passes n x v c = by-test (M.decides n v)
+      where
+        by-test : (b : Bool)
+            → cond b (T.armChosen S d perform ev m i x (M.armNumber n (v .number)) c) (T.stuck M.notOneBit)
+            ≡ T.onward (cond b (chosenDone S d perform ev i x (M.armNumber n (v .number)) c) (T.stuck M.notOneBit)) (T.passing S d perform ev m i x)
+        by-test true = chosen-passes x (M.armNumber n (v .number)) c
+        by-test false = refl
+
     value-passes : (a : M.Answer) (x : ℕ) (f g : Value → T.Ran X) → ((v : Value) → f v ≡ T.onward (g v) (T.passing S d perform ev m i x))
         → T.onValue a f ≡ T.onward (T.onValue a g) (T.passing S d perform ev m i x)
     value-passes (M.Answer.is v) x f g h = h v
@@ -94,17 +103,16 @@ module _ {X : Type 0} (S : M.Stores X) (d : Description) (perform : ℕ → T.Do
     pub act-passes : (a : Action) (c : T.Doing X)
         → T.listAct S d perform ev m i (meant a) c ≡ T.onward (oneDone S d perform ev i (meant a) c) (T.passing S d perform ev m i (passedOf a))
     unfolding T.listAct
-    act-passes (A.Store k l r) c = on-same (T.simple S d perform (D.store k l r) c) (ev m (i + 1)) (T.passing S d perform ev m i 0) at-once
-    act-passes (A.StorePair k l n r) c = on-same (T.simple S d perform (D.storePair k l n r) c) (ev m (i + 1)) (T.passing S d perform ev m i 0) at-once
-    act-passes (A.Set l) c = on-same (T.simple S d perform (D.set l) c) (ev m (i + 1)) (T.passing S d perform ev m i 0) at-once
-    act-passes (A.Perform o) c = on-same (T.simple S d perform (D.perform o) c) (ev m (i + 1)) (T.passing S d perform ev m i 0) at-once
-    act-passes (A.Goto s) c = on-same (T.simple S d perform (D.goto s) c) (ev m (i + 1)) (T.passing S d perform ev m i 0) at-once
-    act-passes (A.Call s) c = on-same (T.simple S d perform (D.call s) c) (ev m (i + 1)) (T.passing S d perform ev m i 0) at-once
-    act-passes A.Return c = on-same (T.simple S d perform D.return c) (ev m (i + 1)) (T.passing S d perform ev m i 0) at-once
+    act-passes (A.Store k l r) c = on-same (T.storeTo S d k l r c) (ev m (i + 1)) (T.passing S d perform ev m i 0) at-once
+    act-passes (A.StorePair k l n r) c = on-same (T.storeToPair S d k l n r c) (ev m (i + 1)) (T.passing S d perform ev m i 0) at-once
+    act-passes (A.Set l) c = on-same (T.onPlace (T.side S d (c .store) l) (λ p. T.setting S d p c)) (ev m (i + 1)) (T.passing S d perform ev m i 0) at-once
+    act-passes (A.Perform o) c = on-same (perform o c) (ev m (i + 1)) (T.passing S d perform ev m i 0) at-once
+    act-passes (A.Goto s) c = on-same (T.toState S d s (T.goingTo S d) c) (ev m (i + 1)) (T.passing S d perform ev m i 0) at-once
+    act-passes (A.Call s) c = on-same (T.toState S d s (T.calling S d) c) (ev m (i + 1)) (T.passing S d perform ev m i 0) at-once
+    act-passes A.Return c = on-same (T.went (T.returning S d c)) (ev m (i + 1)) (T.passing S d perform ev m i 0) at-once
     act-passes (A.When e x) c = value-passes (M.evalAt S d (c .store) e) x (λ v. T.whenWorth S d perform ev m i x v c) (λ v. whenDone S d perform ev i x v c) (λ v. when-passes x v c)
     act-passes (A.Choose e n x) c =
-        value-passes (M.evalAt S d (c .store) e) x (λ v. T.armChosen S d perform ev m i x (M.armNumber n (v .number)) c) (λ v. chosenDone S d perform ev i x (M.armNumber n (v .number)) c)
-        (λ v. chosen-passes x (M.armNumber n (v .number)) c)
+        value-passes (M.evalAt S d (c .store) e) x (λ v. T.chooseWorth S d perform ev m i n x v c) (λ v. chooseDone S d perform ev n i x v c) (λ v. choose-passes n x v c)
     act-passes (A.Arm x) c = refl
     act-passes A.Broken c = refl
 
@@ -113,8 +121,8 @@ module _ {X : Type 0} (S : M.Stores X) (d : Description) (perform : ℕ → T.Do
 
     -- Neither an operation nor a conditional.
     pub one-simple : (a : Action) (c : T.Doing X) → OneOf plains (tagOf the-type a)
-        → T.simple S d (λ o x. T.stuck M.wrongRecord) (meant a) c ≡ oneDone S d perform ev i (meant a) c
-    unfolding T.simple
+        → simpleDone S d (meant a) c ≡ oneDone S d perform ev i (meant a) c
+    unfolding simpleDone
     one-simple (A.Store k l r) c o = refl
     one-simple (A.StorePair k l n r) c o = refl
     one-simple (A.Set l) c o = refl

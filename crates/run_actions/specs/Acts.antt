@@ -77,9 +77,24 @@ passedOf (A.Choose e n x) = x
 passedOf (A.Arm x) = 0
 passedOf A.Broken = 0
 
+module _ {X : Type 0} (S : M.Stores X) (d : Description) where
+  -- What an action that holds no others does.
+  unfoldable pub simpleDone : D.Action → T.Doing X → T.Ran X
+  simpleDone (D.store k l r) c = T.storeTo S d k l r c
+  simpleDone (D.storePair k l m r) c = T.storeToPair S d k l m r c
+  simpleDone (D.set l) c = T.onPlace (T.side S d (c .store) l) (λ p. T.setting S d p c)
+  simpleDone (D.perform o) c = T.stuck M.wrongRecord
+  simpleDone (D.goto s) c = T.toState S d s (T.goingTo S d) c
+  simpleDone (D.call s) c = T.toState S d s (T.calling S d) c
+  simpleDone D.return c = T.went (T.returning S d c)
+  simpleDone (D.when e x) c = T.stuck M.wrongRecord
+  simpleDone (D.choose e n x) c = T.stuck M.wrongRecord
+  simpleDone (D.arm x) c = T.stuck M.wrongRecord
+  simpleDone D.Action.broken c = T.stuck M.wrongRecord
+
 module _ {X : Type 0} (S : M.Stores X) (d : Description) (perform : ℕ → T.Doing X → T.Ran X) (ev : ℕ → ℕ → T.Doing X → T.Ran X) where
   abbrev pub armDone : Option D.Run → T.Doing X → T.Ran X
-  armDone none c = T.stuck M.runsOver
+  armDone none c = T.stuck M.missingArm
   armDone (some r) c = ev (r .count) (r .first) c
 
   abbrev pub whenDone : ℕ → ℕ → Value → T.Doing X → T.Ran X
@@ -90,16 +105,19 @@ module _ {X : Type 0} (S : M.Stores X) (d : Description) (perform : ℕ → T.Do
   chosenDone i x none c = T.stopped NoArm
   chosenDone i x (some k) c = armDone (T.armAt d (k - 1) (i + 1) x) c
 
+  abbrev pub chooseDone : ℕ → ℕ → ℕ → Value → T.Doing X → T.Ran X
+  chooseDone n i x v c = cond (M.decides n v) (chosenDone i x (M.armNumber n (v .number)) c) (T.stuck M.notOneBit)
+
   -- What the action at record i does.
   abbrev pub oneDone : ℕ → D.Action → T.Doing X → T.Ran X
-  oneDone i (D.store k l r) c = T.simple S d perform (D.store k l r) c
-  oneDone i (D.storePair k l m r) c = T.simple S d perform (D.storePair k l m r) c
-  oneDone i (D.set l) c = T.simple S d perform (D.set l) c
-  oneDone i (D.perform o) c = T.simple S d perform (D.perform o) c
-  oneDone i (D.goto s) c = T.simple S d perform (D.goto s) c
-  oneDone i (D.call s) c = T.simple S d perform (D.call s) c
-  oneDone i D.return c = T.simple S d perform D.return c
+  oneDone i (D.store k l r) c = T.storeTo S d k l r c
+  oneDone i (D.storePair k l m r) c = T.storeToPair S d k l m r c
+  oneDone i (D.set l) c = T.onPlace (T.side S d (c .store) l) (λ p. T.setting S d p c)
+  oneDone i (D.perform o) c = perform o c
+  oneDone i (D.goto s) c = T.toState S d s (T.goingTo S d) c
+  oneDone i (D.call s) c = T.toState S d s (T.calling S d) c
+  oneDone i D.return c = T.went (T.returning S d c)
   oneDone i (D.when e x) c = T.onValue (M.evalAt S d (c .store) e) (λ v. whenDone i x v c)
-  oneDone i (D.choose e n x) c = T.onValue (M.evalAt S d (c .store) e) (λ v. chosenDone i x (M.armNumber n (v .number)) c)
+  oneDone i (D.choose e n x) c = T.onValue (M.evalAt S d (c .store) e) (λ v. chooseDone n i x v c)
   oneDone i (D.arm x) c = T.stuck M.wrongRecord
   oneDone i D.Action.broken c = T.stuck M.wrongRecord

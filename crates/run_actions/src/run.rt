@@ -21,7 +21,7 @@ ghost use Rattle.image_records.specs.Actions.{meant};
 ghost use Rattle.language.specs.Encode.{actionSize, operationSize};
 ghost use Rattle.store_layout.specs.InBytes.{bytes};
 ghost use Rattle.run_stores.specs.Seen.{did, ranSeen, viewed};
-ghost use Rattle.run_actions.specs.Acts.{ForActs, armDone, armMeant, chosenDone, oneDone, runOf, whenDone};
+ghost use Rattle.run_actions.specs.Acts.{ForActs, armDone, armMeant, chooseDone, oneDone, runOf, whenDone};
 
 // The actions of an arm; m records stand after the conditional's own.
 fn arm(
@@ -41,7 +41,7 @@ fn arm(
     ensures { λ r. ⌜ ForActs (now (facilities .entry)) (now (operations .entry)) (now (expressions .entry)) (now (actions .entry)) states (viewed g (now (store .entry)) (now (pending .entry)) (now (mask .entry))) (λ d c. did r (now (store .exit)) (now (pending .exit)) (now (mask .exit)) ≡ ranSeen (armDone (bytes d) d (T.operationBelow (bytes d) d limit) (T.listBelow (bytes d) d (T.operationBelow (bytes d) d limit) (suc m)) (armMeant a) c)) ⌝ }
 {
     let Arm::At(first, count) = a else {
-        return Did::Stuck(Stuck::RunsOver);
+        return Did::Stuck(Stuck::MissingArm);
     };
     if m < count {
         return Did::Stuck(Stuck::RunsOver);
@@ -133,13 +133,16 @@ fn choose(
     g: Doing,
 ) -> Did
     requires { ⌜ i < length (now actions) / actionSize ⌝ }
-    ensures { λ r. ⌜ ForActs (now (facilities .entry)) (now (operations .entry)) (now (expressions .entry)) (now (actions .entry)) states (viewed g (now (store .entry)) (now (pending .entry)) (now (mask .entry))) (λ d c. did r (now (store .exit)) (now (pending .exit)) (now (mask .exit)) ≡ ranSeen (T.onValue (M.evalAt (bytes d) d (c .store) e) (λ v. chosenDone (bytes d) d (T.operationBelow (bytes d) d limit) (T.listBelow (bytes d) d (T.operationBelow (bytes d) d limit) (suc m)) i x (M.armNumber n (v .number)) c))) ⌝ }
+    ensures { λ r. ⌜ ForActs (now (facilities .entry)) (now (operations .entry)) (now (expressions .entry)) (now (actions .entry)) states (viewed g (now (store .entry)) (now (pending .entry)) (now (mask .entry))) (λ d c. did r (now (store .exit)) (now (pending .exit)) (now (mask .exit)) ≡ ranSeen (T.onValue (M.evalAt (bytes d) d (c .store) e) (λ v. chooseDone (bytes d) d (T.operationBelow (bytes d) d limit) (T.listBelow (bytes d) d (T.operationBelow (bytes d) d limit) (suc m)) n i x v c))) ⌝ }
 {
     let w = eval::eval(facilities, expressions, store, e as usize);
     let outcome = w.outcome;
     match outcome {
         Outcome::Is => {
             let v = w.value;
+            if !run_references::arms::decides(n, v) {
+                return Did::Stuck(Stuck::NotOneBit);
+            }
             let Found::At(k) = run_references::arms::arm_number(n, v) else {
                 return Did::Stopped(Stop::NoArm);
             };

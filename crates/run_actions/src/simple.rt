@@ -7,11 +7,10 @@ use run_stores::doing::Did;
 use run_stores::doing::Doing;
 ghost use mathlib.Core.Path.{_≡_};
 ghost use lib.ListN.{length};
-ghost use Rattle.language.specs.Acting as T;
-ghost use Rattle.language.specs.Meaning as M;
 ghost use Rattle.image_records.specs.Actions.{meant};
 ghost use Rattle.store_layout.specs.InBytes.{bytes};
 ghost use Rattle.run_stores.specs.Seen.{ForDoing, did, ranSeen, viewed};
+ghost use Rattle.run_actions.specs.Acts.{simpleDone};
 
 // What such an action does; states are named by numbers below `states`.
 pub fn simple(
@@ -24,7 +23,7 @@ pub fn simple(
     a: Action,
     g: Doing,
 ) -> Did
-    ensures { λ r. ⌜ ForDoing (now (section .entry)) (now (expressions .entry)) (viewed g (now (store .entry)) (now (pending .entry)) (now (mask .entry))) (λ d c. (length (d .states) ≡ states → did r (now (store .exit)) (now (pending .exit)) (now (mask .exit)) ≡ ranSeen (T.simple (bytes d) d (λ o x. T.stuck M.wrongRecord) (meant a) c))) ⌝ }
+    ensures { λ r. ⌜ ForDoing (now (section .entry)) (now (expressions .entry)) (viewed g (now (store .entry)) (now (pending .entry)) (now (mask .entry))) (λ d c. (length (d .states) ≡ states → did r (now (store .exit)) (now (pending .exit)) (now (mask .exit)) ≡ ranSeen (simpleDone (bytes d) d (meant a) c))) ⌝ }
 {
     match a {
         Action::Store(k, l, r) => sides::store_to(

@@ -1,5 +1,5 @@
 use mathlib.Core.Path.{_≡_, refl, sym, ap, _∙_}
-use borrow.Author.Tests.{eq-eqb, ne-eqb}
+use borrow.Author.Tests.{eq-eqb, ne-eqb, not-false, not-true}
 use Rattle.language.specs.Acting as T
 use Rattle.language.specs.Description as D
 use Rattle.value_limbs.specs.Limbs.{number}
@@ -42,6 +42,7 @@ use Rattle.run_actions.proofs.arms.before.Reads as before-reads
 use Rattle.run_actions.proofs.arms.passed.Reads as passed-reads
 use Rattle.run_actions.proofs.simple.simple.Reads as simple-reads
 use Rattle.run_references.proofs.arms.arm_number.Reads as arm-number-reads
+use Rattle.run_references.proofs.arms.decides.Reads as decides-reads
 use Rattle.run_references.proofs.bounds.small.Reads as small-reads
 use Rattle.run_expressions.proofs.eval.eval.Reads as eval-reads
 use Rattle.image_sections.proofs.operations.operation_at.Reads as operation-at-reads
@@ -108,7 +109,7 @@ abbrev arm-calls : ℕ → arm-lts.Claims
 arm-calls t = (run-list-below t, run-list.Post)
 
 abbrev choose-calls : ℕ → choose-lts.Claims
-choose-calls t = (eval-reads.Asked, eval-reads.Learnt, arm-number-reads.Asked, arm-number-reads.Learnt, before-reads.Asked, before-reads.Learnt, arm-at-reads.Asked, arm-at-reads.Learnt, arm-below t, arm.Post)
+choose-calls t = (eval-reads.Asked, eval-reads.Learnt, decides-reads.Asked, decides-reads.Learnt, arm-number-reads.Asked, arm-number-reads.Learnt, before-reads.Asked, before-reads.Learnt, arm-at-reads.Asked, arm-at-reads.Learnt, arm-below t, arm.Post)
 
 abbrev one-calls : ℕ → one-lts.Claims
 one-calls t = (perform-below t, perform.Post, when-below t, when.Post, choose-below t, choose.Post, simple-reads.Asked, simple-reads.Learnt)
@@ -166,6 +167,19 @@ choose-eval-requires t c κs = search needs
 choose-enum-told : (t : ℕ) → choose-lts.Need-enum-told (choose-calls t) (choose-at t) choose.Post
 choose-enum-told t c = search needs
 
+choose-decides-requires : (t : ℕ) → choose-lts.Need-decides-requires (choose-calls t) (choose-at t) choose.Post
+choose-decides-requires t c κs = search needs
+
+choose-same-length : (t : ℕ) → choose-lts.Need-same-length (choose-calls t) (choose-at t) choose.Post
+choose-same-length t c = search needs
+
+choose-returns : (t : ℕ) → choose-lts.Need-returns (choose-calls t) (choose-at t) choose.Post
+choose-returns t c =
+    λ d x h e.
+    let a = c .before .before .before .before .before .before .before .before .before .before .before .before .before .before .args in
+    let b = bytes-seen d x (a .g) (a .store .now) (a .pending .now) (a .mask .now) e in
+    rw (← (c .before .before .before .before .before .eval .ensures d (x .store) (h .described) b), c .before .before .before .enum-told .given .1, sym (c .before .decides .ensures) ∙ not-true _ (c .if1 .taken))
+
 choose-arm-number-requires : (t : ℕ) → choose-lts.Need-arm-number-requires (choose-calls t) (choose-at t) choose.Post
 choose-arm-number-requires t c κs = search needs
 
@@ -175,15 +189,15 @@ choose-enum-known-k t c = search needs
 choose-enum-told-2 : (t : ℕ) → choose-lts.Need-enum-told-2 (choose-calls t) (choose-at t) choose.Post
 choose-enum-told-2 t c = search needs
 
-choose-same-length : (t : ℕ) → choose-lts.Need-same-length (choose-calls t) (choose-at t) choose.Post
-choose-same-length t c = search needs
+choose-same-length-2 : (t : ℕ) → choose-lts.Need-same-length-2 (choose-calls t) (choose-at t) choose.Post
+choose-same-length-2 t c = search needs
 
-choose-returns : (t : ℕ) → choose-lts.Need-returns (choose-calls t) (choose-at t) choose.Post
-choose-returns t c =
+choose-returns-2 : (t : ℕ) → choose-lts.Need-returns-2 (choose-calls t) (choose-at t) choose.Post
+choose-returns-2 t c =
     λ d x h e.
-    let a = c .before .before .before .before .before .before .before .before .before .before .before .before .before .before .before .args in
+    let a = c .before .before .before .before .before .before .before .before .before .before .before .before .before .before .before .before .before .args in
     let b = bytes-seen d x (a .g) (a .store .now) (a .pending .now) (a .mask .now) e in
-    rw (← (c .before .before .before .before .before .before .eval .ensures d (x .store) (h .described) b), c .before .before .before .before .enum-told .given .1, ← (c .before .before .arm-number .ensures), c .enum-told2 .given .1)
+    rw (← (c .before .before .before .before .before .before .before .before .eval .ensures d (x .store) (h .described) b), c .before .before .before .before .before .before .enum-told .given .1, sym (c .before .before .before .before .decides .ensures) ∙ not-false _ (c .before .before .before .if1 .left), ← (c .before .before .arm-number .ensures), c .enum-told2 .given .1)
 
 choose-before-requires : (t : ℕ) → choose-lts.Need-before-requires (choose-calls t) (choose-at t) choose.Post
 choose-before-requires t c κs = search needs
@@ -203,21 +217,11 @@ choose-enum-known-outcome t c = search needs
 choose-enum-known-outcome-2 : (t : ℕ) → choose-lts.Need-enum-known-outcome-2 (choose-calls t) (choose-at t) choose.Post
 choose-enum-known-outcome-2 t c = search needs
 
-choose-same-length-2 : (t : ℕ) → choose-lts.Need-same-length-2 (choose-calls t) (choose-at t) choose.Post
-choose-same-length-2 t c = search needs
-
 choose-same-length-3 : (t : ℕ) → choose-lts.Need-same-length-3 (choose-calls t) (choose-at t) choose.Post
 choose-same-length-3 t c = search needs
 
 choose-same-length-4 : (t : ℕ) → choose-lts.Need-same-length-4 (choose-calls t) (choose-at t) choose.Post
 choose-same-length-4 t c = search needs
-
-choose-returns-2 : (t : ℕ) → choose-lts.Need-returns-2 (choose-calls t) (choose-at t) choose.Post
-choose-returns-2 t c =
-    λ d x h e.
-    let a = c .before .before .before .before .before .before .before .before .before .before .before .before .before .before .before .before .before .before .before .before .before .before .before .before .before .before .before .before .args in
-    let b = bytes-seen d x (a .g) (a .store .now) (a .pending .now) (a .mask .now) e in
-    rw (← (c .before .before .before .before .before .before .before .before .before .before .before .before .before .before .before .before .before .before .before .eval .ensures d (x .store) (h .described) b), c .before .before .before .before .before .before .before .before .before .before .before .before .before .before .before .before .before .enum-told .given .1, ← (c .before .before .before .before .before .before .before .before .before .before .before .before .before .before .before .arm-number .ensures), c .before .before .before .before .before .before .before .before .before .before .before .before .before .k .given .1, ← (c .before .before .before .before .before .before .before .before .before .before .before .before2 .ensures), ← (c .before .before .before .before .before .before .before .before .before .before .arm-at .ensures d (h .actions))) (c .before .before .before .before .before .before .arm .ensures d x h e)
 
 choose-same-length-5 : (t : ℕ) → choose-lts.Need-same-length-5 (choose-calls t) (choose-at t) choose.Post
 choose-same-length-5 t c = search needs
@@ -225,15 +229,25 @@ choose-same-length-5 t c = search needs
 choose-returns-3 : (t : ℕ) → choose-lts.Need-returns-3 (choose-calls t) (choose-at t) choose.Post
 choose-returns-3 t c =
     λ d x h e.
-    let a = c .before .before .before .before .before .before .before .before .before .before .before .before .args in
+    let a = c .before .before .before .before .before .before .before .before .before .before .before .before .before .before .before .before .before .before .before .before .before .before .before .before .before .before .before .before .before .before .args in
     let b = bytes-seen d x (a .g) (a .store .now) (a .pending .now) (a .mask .now) e in
-    rw (← (c .before .before .before .eval .ensures d (x .store) (h .described) b), c .before .outcome .given .1)
+    rw (← (c .before .before .before .before .before .before .before .before .before .before .before .before .before .before .before .before .before .before .before .before .before .eval .ensures d (x .store) (h .described) b), c .before .before .before .before .before .before .before .before .before .before .before .before .before .before .before .before .before .before .before .enum-told .given .1, sym (c .before .before .before .before .before .before .before .before .before .before .before .before .before .before .before .before .before .decides .ensures) ∙ not-false _ (c .before .before .before .before .before .before .before .before .before .before .before .before .before .before .before .before .if1 .left), ← (c .before .before .before .before .before .before .before .before .before .before .before .before .before .before .before .arm-number .ensures), c .before .before .before .before .before .before .before .before .before .before .before .before .before .k .given .1, ← (c .before .before .before .before .before .before .before .before .before .before .before .before2 .ensures), ← (c .before .before .before .before .before .before .before .before .before .before .arm-at .ensures d (h .actions))) (c .before .before .before .before .before .before .arm .ensures d x h e)
 
 choose-same-length-6 : (t : ℕ) → choose-lts.Need-same-length-6 (choose-calls t) (choose-at t) choose.Post
 choose-same-length-6 t c = search needs
 
 choose-returns-4 : (t : ℕ) → choose-lts.Need-returns-4 (choose-calls t) (choose-at t) choose.Post
 choose-returns-4 t c =
+    λ d x h e.
+    let a = c .before .before .before .before .before .before .before .before .before .before .before .before .args in
+    let b = bytes-seen d x (a .g) (a .store .now) (a .pending .now) (a .mask .now) e in
+    rw (← (c .before .before .before .eval .ensures d (x .store) (h .described) b), c .before .outcome .given .1)
+
+choose-same-length-7 : (t : ℕ) → choose-lts.Need-same-length-7 (choose-calls t) (choose-at t) choose.Post
+choose-same-length-7 t c = search needs
+
+choose-returns-5 : (t : ℕ) → choose-lts.Need-returns-5 (choose-calls t) (choose-at t) choose.Post
+choose-returns-5 t c =
     λ d x h e.
     let a = c .before .before .before .before .before .before .before .before .before .before .before .before .args in
     let b = bytes-seen d x (a .g) (a .store .now) (a .pending .now) (a .mask .now) e in
@@ -270,7 +284,6 @@ one-same-length-3 : (t : ℕ) → one-lts.Need-same-length-3 (one-calls t) (one-
 one-same-length-3 t c = search needs
 
 one-returns : (t : ℕ) → one-lts.Need-returns (one-calls t) (one-at t) one.Post
-unfolding T.simple
 one-returns t c =
     λ d x h e. rw (c .before .before .before .before .before .before .before .before .before .before .before .a .given .1) (c .before .before .before .before .before .before .perform .ensures d x h e)
 
@@ -592,25 +605,28 @@ pub +arm+choose+one+perform+run-list+when-spec : {M : Type 1} → statement M
     choose.Post
     (choose-eval-requires t)
     (choose-enum-told t)
+    (choose-decides-requires t)
+    (choose-same-length t)
+    (choose-returns t)
     (choose-arm-number-requires t)
     (choose-enum-known-k t)
     (choose-enum-told-2 t)
-    (choose-same-length t)
-    (choose-returns t)
+    (choose-same-length-2 t)
+    (choose-returns-2 t)
     (choose-before-requires t)
     (choose-add-arm-at t)
     (choose-arm-at-requires t)
     (choose-arm-requires t)
     (choose-enum-known-outcome t)
     (choose-enum-known-outcome-2 t)
-    (choose-same-length-2 t)
     (choose-same-length-3 t)
     (choose-same-length-4 t)
-    (choose-returns-2 t)
     (choose-same-length-5 t)
     (choose-returns-3 t)
     (choose-same-length-6 t)
-    (choose-returns-4 t))
+    (choose-returns-4 t)
+    (choose-same-length-7 t)
+    (choose-returns-5 t))
     (λ t. one-lts.spec (one-calls t)
     (one-at t)
     one.Post

@@ -1,8 +1,8 @@
 use mathlib.Core.Path.{sym, ap}
 use borrow.Author.Tests.{le-ltb, lt-ltb}
-use Rattle.language.specs.Acting as T
 use Rattle.store_layout.specs.InBytes.{bytes}
 use Rattle.run_stores.specs.Seen.{ranSeen, went}
+use Rattle.run_actions.specs.Acts.{simpleDone}
 use Rattle.run_actions.proofs.ActionLaws.{not-simple}
 use borrow.Author.Needs.{needs}
 use Rattle.run_actions.proofs.simple.simple.Statement.{statement}
@@ -33,7 +33,7 @@ cast-if1 : tie.Need-cast-if1
 cast-if1 c = search needs
 
 returns : tie.Need-returns
-unfolding T.simple
+unfolding simpleDone
 returns c =
     λ d x h e k. rw (c .before .before .a4 .given .1, k, le-ltb _ _ (c .if1 .taken))
 
@@ -47,7 +47,7 @@ cast-if2 : tie.Need-cast-if2
 cast-if2 c = search needs
 
 returns-2 : tie.Need-returns-2
-unfolding T.simple
+unfolding simpleDone
 returns-2 c =
     λ d x h e k. rw (c .before .before .a5 .given .1, k, le-ltb _ _ (c .if2 .taken))
 
@@ -70,7 +70,7 @@ same-length-3 : tie.Need-same-length-3
 same-length-3 c = search needs
 
 returns-3 : tie.Need-returns-3
-unfolding T.simple
+unfolding simpleDone
 returns-3 c =
     λ d x h e k. rw (c .before .before .before .before .before .before .before .before .before .before .before .a .given .1) (c .before .before .before .before .before .before .store-to .ensures d x h e)
 
@@ -84,7 +84,7 @@ same-length-6 : tie.Need-same-length-6
 same-length-6 c = search needs
 
 returns-4 : tie.Need-returns-4
-unfolding T.simple
+unfolding simpleDone
 returns-4 c =
     λ d x h e k. rw (c .before .before .before .before .before .before .before .before .before .before .before .a2 .given .1) (c .before .before .before .before .before .before .store-to-pair .ensures d x h e)
 
@@ -92,22 +92,22 @@ same-length-7 : tie.Need-same-length-7
 same-length-7 c = search needs
 
 returns-5 : tie.Need-returns-5
-unfolding T.simple
+unfolding simpleDone
 returns-5 c =
     λ d x h e k. rw (c .before .before .before .before .before .a3 .given .1) (c .before .before .set-at .ensures (c .before .before .before .before .before .before .before .before .before .before .before .before .args .pending .now) (c .before .before .before .before .before .before .before .before .before .before .before .before .args .mask .now) d x h e)
 
 returns-6 : tie.Need-returns-6
-unfolding T.simple
+unfolding simpleDone
 returns-6 c =
     λ d x h e k. rw (c .before .before .before .a4 .given .1, k, lt-ltb _ _ (c .before .if1 .left)) (ap went (c .going-to .ensures d x (c .before .before .before .before .before .before .before .before .before .before .args .store .now) (c .before .before .before .before .before .before .before .before .before .before .args .pending .now) (c .before .before .before .before .before .before .before .before .before .before .args .mask .now) e))
 
 returns-7 : tie.Need-returns-7
-unfolding T.simple
+unfolding simpleDone
 returns-7 c =
     λ d x h e k. rw (c .before .before .before .a5 .given .1, k, lt-ltb _ _ (c .before .if2 .left)) (ap went (c .calling .ensures d x (c .before .before .before .before .before .before .before .before .before .before .args .store .now) (c .before .before .before .before .before .before .before .before .before .before .args .pending .now) (c .before .before .before .before .before .before .before .before .before .before .args .mask .now) e))
 
 returns-8 : tie.Need-returns-8
-unfolding T.simple
+unfolding simpleDone
 returns-8 c =
     λ d x h e k. rw (c .before .enum-told .given .1) (ap went (c .returning .ensures d x (c .before .before .before .before .before .before .before .before .args .store .now) (c .before .before .before .before .before .before .before .before .args .pending .now) (c .before .before .before .before .before .before .before .before .args .mask .now) e))
 
