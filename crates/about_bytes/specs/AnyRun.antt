@@ -16,7 +16,7 @@ use Rattle.language.specs.Layout.{storeSize}
 use Rattle.language.specs.Reading.{filled, zeroes}
 use Rattle.language.specs.RecordBytes.{recordBytes, recordFrom, recordSize}
 use Rattle.language.specs.declared.refusals.Refusal.the-variants.{BufferTooShort, ImageFails}
-use Rattle.language.specs.Rules.{mostWork}
+use Rattle.language.specs.Ceilings.{mostWork}
 use Rattle.language.specs.Step.{Outcome, completed, openRecord, step}
 use Rattle.language.specs.declared.stops.Stop.{Stop}
 use Rattle.language.specs.Store.{fromBytes, inputsOf, toBytes}

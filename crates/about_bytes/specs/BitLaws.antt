@@ -13,7 +13,7 @@ use lib.Seq.{getD-drop, getD-take}
 use Rattle.language.specs.Description.{Description, Facility, facilityAt, isComputed, noFacility, wordCount, wordLength}
 use Rattle.language.specs.Layout.{facilityBytes, placeIn, storeSizeOf, wordBytes, wordFromBytes}
 use Rattle.language.specs.Meaning.{Place, Write}
-use Rattle.language.specs.Store.{Words, fromBytes, lowOf, putPart, putParts, wordOf}
+use Rattle.language.specs.Store.{StoreWords, fromBytes, lowOf, putPart, putParts, wordOf}
 use Rattle.language.specs.Value.{replaced}
 use Rattle.about_bytes.specs.StaysSound.{both-left, both-right}
 use Rattle.about_bytes.specs.StoreBack.{both-so}
@@ -187,13 +187,13 @@ module _ (d : Description) where
 
   -- ---- Writes one after the other.
 
-  puts-fit : (s : Words) (ws : List Write) → AllInStore d ws → Fit (d .facilities) s → Fit (d .facilities) (putParts d s ws)
+  puts-fit : (s : StoreWords) (ws : List Write) → AllInStore d ws → Fit (d .facilities) s → Fit (d .facilities) (putParts d s ws)
   unfolding putParts
   puts-fit s [] h k = k
   puts-fit s (w ∷ ws) h k = puts-fit (putPart d s w) ws (h .1) (fit-put d s w (h .0 .there) k)
 
   -- What is put there is found there.
-  put-lands : (s : Words) (x : Write) (k : ℕ) → InStore d (x .at) → Fit (d .facilities) s → lowOf d (x .at) ≤ k → k < lowOf d (x .at) + x .at .count
+  put-lands : (s : StoreWords) (x : Write) (k : ℕ) → InStore d (x .at) → Fit (d .facilities) s → lowOf d (x .at) ≤ k → k < lowOf d (x .at) + x .at .count
       → bitOf (wordOf (putPart d s x) (x .at .facility) (x .at .word)) k ≡ bitOf (x .number) (k - lowOf d (x .at))
   unfolding facilityAt putPart stored
   put-lands s x k h fit low high =
@@ -208,14 +208,14 @@ module _ (d : Description) where
   in-front (x ∷ xs) ys h = let y = in-front xs ys (h .1) in ((h .0, y .0), y .1)
 
   -- The last write that has a bit gives it.
-  last-lands : (s : Words) (xs : List Write) (x : Write) (ys : List Write) (k : ℕ) → AllInStore d (xs ++ x ∷ ys) → Fit (d .facilities) s → lowOf d (x .at) ≤ k → k < lowOf d (x .at) + x .at .count
+  last-lands : (s : StoreWords) (xs : List Write) (x : Write) (ys : List Write) (k : ℕ) → AllInStore d (xs ++ x ∷ ys) → Fit (d .facilities) s → lowOf d (x .at) ≤ k → k < lowOf d (x .at) + x .at .count
       → NoneHas d (x .at .facility) (x .at .word) k ys
       → bitOf (wordOf (putParts d s (xs ++ x ∷ ys)) (x .at .facility) (x .at .word)) k ≡ bitOf (x .number) (k - lowOf d (x .at))
   unfolding bitOf BitsKept.bitOf putParts
   last-lands s xs x ys k h fit low high later =
       let y = in-front xs (x ∷ ys) h in
-      let before : Words = putParts d s xs in
-      ap (λ (o : Words). bitOf (wordOf o (x .at .facility) (x .at .word)) k) (puts-append d s xs (x ∷ ys))
+      let before : StoreWords = putParts d s xs in
+      ap (λ (o : StoreWords). bitOf (wordOf o (x .at .facility) (x .at .word)) k) (puts-append d s xs (x ∷ ys))
       ∙ (puts-keep d (x .at .facility) (x .at .word) k (putPart d before x) ys later ∙ put-lands before x k (y .1 .0) (puts-fit s xs (y .0) fit) low high)
 
   -- ---- The same in bytes: A holds what the writes leave of the store in B.
@@ -230,7 +230,7 @@ module _ (d : Description) where
         let w : ℕ = y .word in
         let k : ℕ = height (d .facilities) f w i b in
         bit-of-word (d .facilities) A bytes-a enough-a f w (y .is-stored) i b l (y .from-first) (y .before-end)
-        ∙ (ap (λ (o : Words). bitOf (wordOf o f w) k) words-so
+        ∙ (ap (λ (o : StoreWords). bitOf (wordOf o f w) k) words-so
         ∙ (puts-keep d f w k (fromBytes (d .facilities) B) ws (none-has f w i b l (y .from-first) (y .before-end) ws places-in e)
         ∙ sym (bit-of-word (d .facilities) B bytes-b enough-b f w (y .is-stored) i b l (y .from-first) (y .before-end))))
 
@@ -245,7 +245,7 @@ module _ (d : Description) where
         let at-word : Stored (d .facilities) (p .facility) (p .word) = record { there = here .0 .there .facility-in; kept = here .0 .kept; below = here .0 .there .word-in } in
         let k : ℕ = height (d .facilities) (p .facility) (p .word) i b in
         bit-of-word (d .facilities) A bytes-a enough-a (p .facility) (p .word) at-word i b l (y .0 .from-first) (y .0 .before-end)
-        ∙ (ap (λ (o : Words). bitOf (wordOf o (p .facility) (p .word)) k) (words-so ∙ ap (λ (o : List Write). putParts d (fromBytes (d .facilities) B) o) split)
+        ∙ (ap (λ (o : StoreWords). bitOf (wordOf o (p .facility) (p .word)) k) (words-so ∙ ap (λ (o : List Write). putParts d (fromBytes (d .facilities) B) o) split)
         ∙ (last-lands (fromBytes (d .facilities) B) xs w ys k all fit (y .0 .from-low) (y .0 .below-high) (none-has (p .facility) (p .word) i b l (y .0 .from-first) (y .0 .before-end) ys (here .1) later)
         ∙ ap (λ (o : ℕ). bitOf (w .number) o) (y .1)))
 

@@ -20,7 +20,7 @@ use Rattle.language.specs.Meaning.{Write}
 use Rattle.language.specs.RecordBytes.{marked, recordBytes, recordFrom}
 use Rattle.language.specs.declared.refusals.Refusal.{Refusal}
 use Rattle.language.specs.Step.{Outcome, Record, completed, step}
-use Rattle.language.specs.Store.{Words, fromBytes, inputsOf, putParts, toBytes, wordsTo}
+use Rattle.language.specs.Store.{StoreWords, fromBytes, inputsOf, putParts, toBytes, wordsTo}
 use Rattle.about_bytes.specs.BitLaws.{bits-kept, bits-land, none-named, spare-zero}
 use Rattle.about_bytes.specs.StaysSound.{Unrefused, both-left, completed-back, unrefused}
 use Rattle.about_bytes.specs.StoreBack.{store-back, store-length}
@@ -44,7 +44,7 @@ unfolding wordsTo
 bytes-words l [] = λ i. omega arith
 bytes-words l (x ∷ xs) = bytes-append (wordToBytes l x) (wordsTo l xs) (bytes-word l x) (bytes-words l xs)
 
-bytes-to : (fs : List Facility) (s : Words) → Bytes (toBytes fs s)
+bytes-to : (fs : List Facility) (s : StoreWords) → Bytes (toBytes fs s)
 unfolding toBytes
 bytes-to [] s = λ i. omega arith
 bytes-to (f ∷ fs) [] = λ i. omega arith
@@ -64,7 +64,7 @@ module _ (image store record′ stimulus : List ℕ) (scratch : ℕ) where
   stateAfter = recordFrom (cycle image store record′ stimulus scratch .record′) .state
 
   -- The stimulus as words of the input terminals.
-  abbrev pub inputWords : Words
+  abbrev pub inputWords : StoreWords
   inputWords = fromBytes (inputsOf (decode image .facilities)) stimulus
 
   -- The actions of the cycle's state, executed with every write noted.
@@ -98,7 +98,7 @@ module _ (image store record′ stimulus : List ℕ) (scratch : ℕ) where
 
     -- The words and the record with which the step completed.
     record Stepped : Type 0 where
-      words : Words
+      words : StoreWords
       after : Record
       count : ℕ
       step-so : outcome ≡ completed words after count

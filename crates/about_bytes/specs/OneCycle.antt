@@ -18,7 +18,7 @@ use Rattle.language.specs.Image.{passes}
 use Rattle.language.specs.Layout.{storeSize}
 use Rattle.language.specs.Reading.{zeroes}
 use Rattle.language.specs.RecordBytes.{recordFrom}
-use Rattle.language.specs.Rules.{mostWork}
+use Rattle.language.specs.Ceilings.{mostWork}
 use Rattle.language.specs.Step.{Outcome, completed, step}
 use Rattle.language.specs.Store.{fromBytes, inputsOf}
 use Rattle.language.specs.declared.refusals.Refusal.{Refusal}

@@ -10,7 +10,8 @@ use lib.ListN.{getD, length, length-append}
 use Rattle.language.specs.Decode.{numberAt}
 use Rattle.language.specs.Encode.{four, little}
 use Rattle.language.specs.RecordBytes.{fours, marked, openMark, recordBytes, recordFrom, returnsFrom}
-use Rattle.language.specs.Step.{Record, mostReturns}
+use Rattle.language.specs.Step.{Record}
+use Rattle.language.specs.Ceilings.{mostReturns}
 
 append-assoc : {A : Type 0} (xs ys zs : List A) → (xs ++ ys) ++ zs ≡ xs ++ (ys ++ zs)
 append-assoc [] ys zs = refl

@@ -15,15 +15,15 @@ use Rattle.language.specs.Description.{Description, sequencingOf, stateAt}
 use Rattle.language.specs.Encode.{little}
 use Rattle.language.specs.Image.{passes}
 use Rattle.language.specs.Layout.{storeSize}
-use Rattle.language.specs.Machine.{mostStates}
+use Rattle.language.specs.Ceilings.{lastCycle, mostReturns, mostStates}
 use Rattle.language.specs.Meaning.{noState}
 use Rattle.language.specs.RecordBytes.{fours, recordBytes, recordFrom, recordSize, returnsSound, sound}
 use Rattle.language.specs.declared.refusals.Refusal.the-variants.{BadStimulus, BufferTooShort, ImageFails, Unsound}
 use Rattle.language.specs.Step as Step
-use Rattle.language.specs.Step.{Entered, Outcome, Record, afterActions, completed, entered, finished, into, landed, lastCycle, mostReturns, nextRecord, orStopped, setRegister, step, stopAfter}
+use Rattle.language.specs.Step.{Entered, Outcome, Record, afterActions, completed, entered, finished, into, landed, nextRecord, orStopped, setRegister, step, stopAfter}
 use Rattle.language.specs.declared.stops.Stop.{Stop}
 use Rattle.language.specs.declared.stops.Stop.the-variants.{LastCycleReached}
-use Rattle.language.specs.Store.{Held, Words, begin, fromBytes, inputsOf, numbers, toBytes}
+use Rattle.language.specs.Store.{Held, StoreWords, begin, fromBytes, inputsOf, numbers, toBytes}
 use Rattle.about_bytes.specs.RecordBack.{InWords, Words32, record-back, record-marked}
 use Rattle.about_bytes.specs.StoreBack.{both-so, fit-narrow, store-back, store-length}
 use Rattle.about_running.specs.Cycle.{Sound, Well, completes}
@@ -38,7 +38,7 @@ returns-so n k [] f z = refl
 returns-so n zero (x ∷ xs) f z = both-so (eq-eqb x 0 (z 0 (omega arith))) (returns-so n zero xs (λ i h. absurd (omega arith)) (λ i h. z (suc i) (omega arith)))
 returns-so n (suc k) (x ∷ xs) f z = both-so (lt-ltb x n (f 0 (omega arith))) (returns-so n k xs (λ i h. f (suc i) (omega arith)) (λ i h. z (suc i) (omega arith)))
 
-pub sound-test : (d : Description) (s : Words) (r : Record) → Sound d s r → sound d s r ≡ true
+pub sound-test : (d : Description) (s : StoreWords) (r : Record) → Sound d s r → sound d s r ≡ true
 unfolding sound
 sound-test d s r h =
     both-so (lt-ltb (r .state) (length (d .states)) (h .state-in))
@@ -53,7 +53,7 @@ returns-small n k [] l f z = tt
 returns-small n zero (x ∷ xs) l f z = (let e = z 0 (omega arith) in omega (arith, e), returns-small n zero xs l (λ i h. absurd (omega arith)) (λ i h. z (suc i) (omega arith)))
 returns-small n (suc k) (x ∷ xs) l f z = (let e = f 0 (omega arith) in omega (arith, e, l), returns-small n k xs l (λ i h. f (suc i) (omega arith)) (λ i h. z (suc i) (omega arith)))
 
-in-words : (d : Description) (s : Words) (r : Record) → Sound d s r → length (d .states) ≤ 256 → r .cycle < 256 ^ 4 → InWords r
+in-words : (d : Description) (s : StoreWords) (r : Record) → Sound d s r → length (d .states) ≤ 256 → r .cycle < 256 ^ 4 → InWords r
 unfolding mostReturns
 in-words d s r h l c = (
   omega (arith, h .state-in, l),
@@ -63,7 +63,7 @@ in-words d s r h l c = (
 -- ---- The cycle number after a cycle.
 
 module _ (d : Description) where
-  none-completed : {A : Type 0} {n : Stop} {m : ℕ} {s : Words} {r : Record} → Outcome.stopped n ≡ completed s r m → A
+  none-completed : {A : Type 0} {n : Stop} {m : ℕ} {s : StoreWords} {r : Record} → Outcome.stopped n ≡ completed s r m → A
   none-completed e = absurd (let z : _≡_ {A = ℕ} 0 1 = cc in omega arith)
 
   next-cycle : (r : Record) (c : Doing Held) → nextRecord d r c .cycle ≡ suc (r .cycle)
@@ -75,21 +75,21 @@ module _ (d : Description) where
       go true = refl
       go false = refl
 
-  entered-cycle : (r : Record) (c : Doing Held) (x : Entered) {s : Words} {q : Record} {n : ℕ} → entered d r c x ≡ completed s q n → q .cycle ≡ suc (r .cycle)
+  entered-cycle : (r : Record) (c : Doing Held) (x : Entered) {s : StoreWords} {q : Record} {n : ℕ} → entered d r c x ≡ completed s q n → q .cycle ≡ suc (r .cycle)
   entered-cycle r c (Entered.stuck y) e = absurd (let z : _≡_ {A = ℕ} 0 1 = cc in omega arith)
   entered-cycle r c (into t) {s} {q} {n} e = let z : nextRecord d r c ≡ q = cc in rw (← z) (next-cycle r c)
 
-  finished-cycle : (r : Record) (c : Doing Held) (x : Option Stop) {s : Words} {q : Record} {n : ℕ} → orStopped d r c x ≡ completed s q n → q .cycle ≡ suc (r .cycle)
+  finished-cycle : (r : Record) (c : Doing Held) (x : Option Stop) {s : StoreWords} {q : Record} {n : ℕ} → orStopped d r c x ≡ completed s q n → q .cycle ≡ suc (r .cycle)
   finished-cycle r c none e = entered-cycle r c (setRegister d (sequencingOf d) (stateAt d (nextRecord d r c .state) .value) (landed d r c)) e
   finished-cycle r c (some m) e = none-completed e
 
-  after-cycle : (r : Record) (x : Ran Held) {s : Words} {q : Record} {n : ℕ} → afterActions d r x ≡ completed s q n → q .cycle ≡ suc (r .cycle)
+  after-cycle : (r : Record) (x : Ran Held) {s : StoreWords} {q : Record} {n : ℕ} → afterActions d r x ≡ completed s q n → q .cycle ≡ suc (r .cycle)
   unfolding finished
   after-cycle r (went c) e = finished-cycle r c (stopAfter d r c) e
   after-cycle r (Ran.stopped m) e = none-completed e
   after-cycle r (Ran.stuck x) e = absurd (let z : _≡_ {A = ℕ} 0 1 = cc in omega arith)
 
-  pub step-cycle : (s : Words) (r : Record) (ins : Words) {t : Words} {q : Record} {n : ℕ} → step d s r ins ≡ completed t q n → (q .cycle ≡ suc (r .cycle)) × (r .cycle < lastCycle)
+  pub step-cycle : (s : StoreWords) (r : Record) (ins : StoreWords) {t : StoreWords} {q : Record} {n : ℕ} → step d s r ins ≡ completed t q n → (q .cycle ≡ suc (r .cycle)) × (r .cycle < lastCycle)
   unfolding step
   step-cycle s r ins {t} {q} {n} e = go (leb lastCycle (r .cycle)) refl (ltb (r .state) (Step.stateCount d)) e
     where
@@ -137,7 +137,7 @@ module _ (image : List ℕ) (passing : passes image ≡ true) where
   unfolding mostStates
   few = legal-image image passing .few-states
 
-  pub written-sound : (s : Words) (r : Record) (more after : List ℕ) → Sound d s r → r .cycle < 256 ^ 4 → soundBytes d (toBytes (d .facilities) s ++ more) (recordBytes r ++ after) ≡ true
+  pub written-sound : (s : StoreWords) (r : Record) (more after : List ℕ) → Sound d s r → r .cycle < 256 ^ 4 → soundBytes d (toBytes (d .facilities) s ++ more) (recordBytes r ++ after) ≡ true
   unfolding soundBytes
   written-sound s r more after h c =
       both-so (record-marked r after)
@@ -157,7 +157,7 @@ pub both-right : (a b : Bool) → both a b ≡ true → b ≡ true
 both-right true b h = h
 both-right false b h = absurd (let z : _≡_ {A = ℕ} 0 1 = cc in omega arith)
 
-store-fits : {d : Description} {s : Words} {r : Record} (n m scratch : ℕ) → Sound d s r → roomy d n m scratch ≡ true → length (toBytes (d .facilities) s) ≤ n
+store-fits : {d : Description} {s : StoreWords} {r : Record} (n m scratch : ℕ) → Sound d s r → roomy d n m scratch ≡ true → length (toBytes (d .facilities) s) ≤ n
 unfolding roomy storeSize
 store-fits {d} {s} {r} n m scratch h e = let a = leb-true (storeSize d) n (both-left _ _ e) in let b = store-length (d .facilities) s (h .words) in omega (arith, a, b)
 
@@ -208,7 +208,7 @@ module _ (image store record′ stimulus : List ℕ) (scratch : ℕ) (none-refus
       go (Outcome.stopped m) q h k = absurd (let z : _≡_ {A = ℕ} 0 1 = cc in omega arith)
 
   -- The record of a completed cycle is read back from its bytes, and these are as many as any record's.
-  pub completed-back : (K : List ℕ) {s : Words} {r : Record} {n : ℕ} → step (decode image) (fromBytes (decode image .facilities) store) (recordFrom record′) (fromBytes (inputsOf (decode image .facilities)) stimulus) ≡ completed s r n
+  pub completed-back : (K : List ℕ) {s : StoreWords} {r : Record} {n : ℕ} → step (decode image) (fromBytes (decode image .facilities) store) (recordFrom record′) (fromBytes (inputsOf (decode image .facilities)) stimulus) ≡ completed s r n
       → (recordFrom (over (recordBytes r) K) ≡ r) × (length (recordBytes r) ≡ recordSize)
   completed-back K {s} {r} {n} q = go (rw q at (never-stuck image store record′ stimulus scratch none-refused))
     where

@@ -1,4 +1,4 @@
--- Words that fit, written and read back, whatever lies behind them. Assumes nothing.
+-- StoreWords that fit, written and read back, whatever lies behind them. Assumes nothing.
 use mathlib.Core.Bool.{Bool, true, false, cond}
 use mathlib.Core.List.{List, [], _∷_, _++_}
 use mathlib.Core.Path.{_≡_, refl, ap, _∙_}
@@ -9,7 +9,7 @@ use borrow.Author.Tests.{lt-ltb}
 use lib.ListN.{drop, length, length-drop, take}
 use Rattle.language.specs.Description.{Facility, isComputed, wordCount, wordLength}
 use Rattle.language.specs.Layout.{facilityBytes, noSpareBits, storeSizeOf, wordBytes, wordFromBytes}
-use Rattle.language.specs.Store.{Words, allNarrow, facilityWords, fromBytes, narrow, toBytes, wordsFrom}
+use Rattle.language.specs.Store.{StoreWords, allNarrow, facilityWords, fromBytes, narrow, toBytes, wordsFrom}
 use Rattle.store_layout.proofs.Inverse.{length-to, words-same}
 use Rattle.store_layout.specs.InBytes.{Shaped, rowLength}
 use Rattle.about_running.specs.Fitting.{AllBelow, Fit, stored}
@@ -18,20 +18,20 @@ use Rattle.language.specs.Tests.{both}
 pub both-so : {a b : Bool} → a ≡ true → b ≡ true → both a b ≡ true
 both-so p q = rw p q
 
--- ---- Words that fit are narrow, and shaped as their facilities say.
+-- ---- StoreWords that fit are narrow, and shaped as their facilities say.
 
 all-narrow : (l : ℕ) (ws : List ℕ) → AllBelow (2 ^ l) ws → allNarrow l ws ≡ true
 unfolding allNarrow noSpareBits
 all-narrow l [] h = refl
 all-narrow l (x ∷ xs) h = both-so (lt-ltb x (2 ^ l) (h .0)) (all-narrow l xs (h .1))
 
-pub fit-narrow : (fs : List Facility) (s : Words) → Fit fs s → narrow fs s ≡ true
+pub fit-narrow : (fs : List Facility) (s : StoreWords) → Fit fs s → narrow fs s ≡ true
 unfolding narrow
 fit-narrow [] s h = refl
 fit-narrow (f ∷ fs) [] h = refl
 fit-narrow (f ∷ fs) (ws ∷ s) h = both-so (all-narrow (wordLength f) ws (h .0 .small)) (fit-narrow fs s (h .1))
 
-pub fit-shaped : (fs : List Facility) (s : Words) → Fit fs s → Shaped fs s
+pub fit-shaped : (fs : List Facility) (s : StoreWords) → Fit fs s → Shaped fs s
 unfolding rowLength stored
 fit-shaped [] [] h = tt
 fit-shaped [] (ws ∷ s) h = absurd h
@@ -76,14 +76,14 @@ from-front (f ∷ fs) bs rest h =
     let a : facilityBytes f ≤ length bs = omega arith in
     let d = length-drop (facilityBytes f) bs in
     rw (facility-front f bs rest a, drop-front (facilityBytes f) bs rest a)
-    (ap (λ (s : Words). facilityWords f bs ∷ s) (from-front fs (drop (facilityBytes f) bs) rest (omega (arith, h, d))))
+    (ap (λ (s : StoreWords). facilityWords f bs ∷ s) (from-front fs (drop (facilityBytes f) bs) rest (omega (arith, h, d))))
 
--- ---- Words that fit are read back.
+-- ---- StoreWords that fit are read back.
 
-pub store-back : (fs : List Facility) (s : Words) (rest : List ℕ) → Fit fs s → fromBytes fs (toBytes fs s ++ rest) ≡ s
+pub store-back : (fs : List Facility) (s : StoreWords) (rest : List ℕ) → Fit fs s → fromBytes fs (toBytes fs s ++ rest) ≡ s
 store-back fs s rest h =
     let n = length-to fs s (fit-shaped fs s h) in
     from-front fs (toBytes fs s) rest (omega (arith, n)) ∙ words-same fs s (fit-shaped fs s h) (fit-narrow fs s h)
 
-pub store-length : (fs : List Facility) (s : Words) → Fit fs s → length (toBytes fs s) ≡ storeSizeOf fs
+pub store-length : (fs : List Facility) (s : StoreWords) → Fit fs s → length (toBytes fs s) ≡ storeSizeOf fs
 store-length fs s h = length-to fs s (fit-shaped fs s h)

@@ -15,8 +15,9 @@ use Rattle.language.specs.Description.{Description, Facility, isComputed, wordC
 use Rattle.language.specs.Layout.{facilityBytes, storeSize, storeSizeOf, wordBytes, wordFromBytes}
 use Rattle.language.specs.RecordBytes.{marked, recordBytes, recordFrom, recordSize, returnsFrom}
 use Rattle.language.specs.declared.refusals.Refusal.{Refusal}
-use Rattle.language.specs.Step.{Outcome, Record, completed, mostReturns, step}
-use Rattle.language.specs.Store.{Words, facilityWords, fromBytes, inputsOf, toBytes, wordsFrom}
+use Rattle.language.specs.Step.{Outcome, Record, completed, step}
+use Rattle.language.specs.Ceilings.{mostReturns}
+use Rattle.language.specs.Store.{StoreWords, facilityWords, fromBytes, inputsOf, toBytes, wordsFrom}
 use Rattle.about_running.specs.Cycle.{Well, completes}
 use Rattle.about_running.specs.NeverStuck.{never-stuck}
 use Rattle.about_bytes.specs.StaysSound.{record-length}
@@ -50,7 +51,7 @@ store-front [] s x h = refl
 store-front (f ∷ fs) s x h =
     let a : facilityBytes f ≤ length s = omega arith in
     let r = store-front fs (drop (facilityBytes f) s) x (let k = length-drop (facilityBytes f) s in omega (arith, k)) in
-    ap₂ (λ (w : List ℕ) (ws : Words). w ∷ ws) (facility-front f s x a) (ap (fromBytes fs) (drop-append-le (facilityBytes f) s x a) ∙ r)
+    ap₂ (λ (w : List ℕ) (ws : StoreWords). w ∷ ws) (facility-front f s x a) (ap (fromBytes fs) (drop-append-le (facilityBytes f) s x a) ∙ r)
 
 -- ---- So is the record.
 
@@ -123,7 +124,7 @@ module _ (image store record′ stimulus : List ℕ) (scratch : ℕ) (store-long
   unfolding cycle storeSize
   beyond-kept = rw refusal-same (by-refusal (cycleRefusal image store record′ stimulus scratch) refl)
     where
-      completed-same : (s : Words) (r : Record) (n : ℕ) → length (toBytes (d .facilities) s) ≤ length store → length (recordBytes r) ≤ length record′
+      completed-same : (s : StoreWords) (r : Record) (n : ℕ) → length (toBytes (d .facilities) s) ≤ length store → length (recordBytes r) ≤ length record′
           → afterStep d (store ++ x) (record′ ++ u) scratch (completed s r n) ≡ behind x u (afterStep d store record′ scratch (completed s r n))
       completed-same s r n h k = rw (over-front (toBytes (d .facilities) s) store x h, over-front (recordBytes r) record′ u k) refl
 

@@ -13,7 +13,7 @@ use Rattle.language.specs.Description.{Description, facilityAt, nodeAt, sequenc
 use Rattle.language.specs.Kinds.{delayedSign}
 use Rattle.language.specs.Meaning.{Answer, Located, Place, Write, evalAt, is, notStorable, place, sidesDiffer, stops, stuck}
 use Rattle.language.specs.Step.{Record, completed, step}
-use Rattle.language.specs.Store.{Held, Words, begin, held, landAll, loadPart, numbers, wordOf}
+use Rattle.language.specs.Store.{Held, StoreWords, begin, held, landAll, loadPart, numbers, wordOf}
 use Rattle.language.specs.Value.{Value}
 use Rattle.about_running.specs.BitsKept.{NoneHas, NoneHasAny, bitOf}
 use Rattle.about_running.specs.Fitting.{Fit}
@@ -121,7 +121,7 @@ module _ (d : Description) where
 
   -- ---- A cycle that completed: what no executed store names.
 
-  module _ (s : Words) (r : Record) (ins : Words) (t : Words) (q : Record) (n : ℕ) where
+  module _ (s : StoreWords) (r : Record) (ins : StoreWords) (t : StoreWords) (q : Record) (n : ℕ) where
     -- The actions as executed with every write noted, and every bit that neither a write, nor a delayed store, nor the begin of the cycle or the change of state names.
     pub record Keeps : Type 0 where
       pub noted : Doing Noted
@@ -132,7 +132,7 @@ module _ (d : Description) where
     pub rest-kept : step d s r ins ≡ completed t q n → Keeps
     rest-kept e = go (executed d s r ins) refl (rw (lands-last d s r ins t q n e .ran) at (alike d s r ins))
       where
-        begins : Words
+        begins : StoreWords
         begins = begin (d .facilities) s ins
 
         go : (y : Ran Noted) → executed d s r ins ≡ y → Alike (numbers d) (noting d) d (Stands d begins) (joins d begins) (went (lands-last d s r ins t q n e .done)) y → Keeps

@@ -6,16 +6,15 @@ use native.Mathlib.Omega.{arith}
 use Prim.Native.Nat.{ℕ, _+_, _*_, _≤_}
 use lib.ListN.{length, length-append, length-map}
 use Rattle.language.specs.Canonical.{total}
-use Rattle.language.specs.Ceilings.{countedWords}
+use Rattle.language.specs.CountedWords.{countedWords}
 use Rattle.language.specs.Describe.{Noted, NotedAction, actionsIn}
 use Rattle.language.specs.DescribeText as X
 use Rattle.language.specs.DescribeText.{describe, facilitiesOf, facilityNodes, functionSize, lengthAt, operationActions, operationExpressions, operationNodes, operationRecords, operationsOf, stateActions, stateNodes, statesOf}
 use Rattle.language.specs.Description as D
 use Rattle.language.specs.Description.{Description, Facility, sequencingFrom}
 use Rattle.language.specs.Encode.{concat, encode, facilitySize, headerSize, nameBytes, operationSize, stateSize}
-use Rattle.language.specs.Machine.{mostCounted, mostFacilities, mostOperations, mostStates}
+use Rattle.language.specs.Ceilings.{longestText, mostCounted, mostFacilities, mostOperations, mostStates}
 use Rattle.language.specs.Naming.{Scope}
-use Rattle.language.specs.Reading.{longestText}
 use Rattle.language.specs.Tree.{Declaration, Operation, State, Text}
 use Rattle.about_rules.specs.InOrder.{stateExpressions}
 use Rattle.about_rules.specs.LegalTexts.{facilities-nodes, operations-nodes, states-nodes}
@@ -55,7 +54,7 @@ operation-letters a (o ∷ os) = omega (arith, operation-letters (a + actionsIn 
 state-letters : (l : Option ℕ) (base a : ℕ) (ss : List State) → total (λ (s : D.State). length (s .name)) (statesOf l base a ss) ≡ labelLetters ss
 unfolding total statesOf
 state-letters l base a [] = refl
-state-letters l base a (s ∷ ss) = omega (arith, state-letters l (base + X.stateSize l s) (a + actionsIn (s .actions)) ss)
+state-letters l base a (s ∷ ss) = omega (arith, state-letters l (base + X.expressionsOfState l s) (a + actionsIn (s .actions)) ss)
 
 declared-append : (xs ys : List Declaration) → declaredLetters (xs ++ ys) ≡ declaredLetters xs + declaredLetters ys
 unfolding total
@@ -71,7 +70,7 @@ module _ (t : Text) (l : Option ℕ) (scope : Scope) (first second : ℕ) where
   abbrev allActions : List NotedAction
   allActions = operationActions (namesIn t) [] first (t .operations) ++ stateActions l scope second (t .states)
 
-  nodes-length : length (map (λ (n : Noted). n .node) allNodes) ≡ X.facilitySize (declarationsOf t) + operationExpressions (t .operations) + stateExpressions l (t .states)
+  nodes-length : length (map (λ (n : Noted). n .node) allNodes) ≡ X.functionSizes (declarationsOf t) + operationExpressions (t .operations) + stateExpressions l (t .states)
   nodes-length =
       let fs = facilityNodes [] 0 (declarationsOf t) in
       let os = operationNodes (namesIn t) [] first (t .operations) in
@@ -104,7 +103,7 @@ module _ (t : Text) where
   unfolding describe
   states-long = states-count _ _ _ (t .states)
 
-  expressions-long : length (describe t .description .expressions) ≡ X.facilitySize (declarationsOf t) + operationExpressions (t .operations) + stateExpressions (lentIn t) (t .states)
+  expressions-long : length (describe t .description .expressions) ≡ X.functionSizes (declarationsOf t) + operationExpressions (t .operations) + stateExpressions (lentIn t) (t .states)
   unfolding describe
   expressions-long = nodes-length t _ _ _ _
 

@@ -12,7 +12,7 @@ use Rattle.language.specs.Description.{Description}
 use Rattle.language.specs.Layout.{storeSize}
 use Rattle.language.specs.Reading.{accepted, read}
 use Rattle.language.specs.RecordBytes.{recordSize}
-use Rattle.language.specs.Rules.{mostWork}
+use Rattle.language.specs.Ceilings.{mostWork}
 use Rattle.about_calls.specs.EachCycle.{ready-again}
 use Rattle.about_calls.specs.EndToEnd.{not-refused}
 use Rattle.about_calls.specs.StopsFirst.{Ends, goes-on, halts-for, stops-first}

@@ -13,7 +13,7 @@ use Rattle.language.specs.Reading as Reading
 use Rattle.language.specs.Reading.{ReadCall, accepted, read}
 use Rattle.language.specs.Scan.{bytes}
 use Rattle.language.specs.Step.{Outcome, Record, completed, step}
-use Rattle.language.specs.Store.{Words}
+use Rattle.language.specs.Store.{StoreWords}
 use Rattle.language.specs.declared.refusals.Refusal.{Refusal}
 use mathlib.Core.Option.{none}
 
@@ -29,7 +29,7 @@ abbrev pub Run : Type 0
 Run = List ℕ → List ℕ → List ℕ → List ℕ → ℕ → ℕ → ℕ → RunCall
 
 abbrev pub Stepping : Type 0
-Stepping = Description → Words → Record → Words → Outcome
+Stepping = Description → StoreWords → Record → StoreWords → Outcome
 
 -- On every input what the definition gives.
 abbrev pub Reads : Reader → Type 0
@@ -43,7 +43,7 @@ Runs f =
     (image store record′ stimuli : List ℕ) (count scratch trace : ℕ) → f image store record′ stimuli count scratch trace ≡ run image store record′ stimuli count scratch trace
 
 abbrev pub Steps : Stepping → Type 0
-Steps f = (d : Description) (s : Words) (r : Record) (ins : Words) → f d s r ins ≡ step d s r ins
+Steps f = (d : Description) (s : StoreWords) (r : Record) (ins : StoreWords) → f d s r ins ≡ step d s r ins
 
 -- ---- The texts: 01's example, two that store another number, and two whose delayed stores meet and do not.
 
@@ -258,15 +258,15 @@ atSecond = record { state = 1; cycle = 1; held = 0; returns = replicate 16 0 }
 abbrev atFirst : Record
 atFirst = record { state = 0; cycle = 2; held = 0; returns = replicate 16 0 }
 
-abbrev words : ℕ → ℕ → Words
+abbrev words : ℕ → ℕ → StoreWords
 words a b = (a ∷ []) ∷ (b ∷ []) ∷ (0 ∷ []) ∷ []
 
 loads : step described (words 0 0) atSecond ((0 ∷ []) ∷ []) ≡ completed (words 9 12) atFirst 0
 unfolding computing example imageOf described
 loads = refl
 
-pub not-idle : (f : Stepping) → Steps f → ((d : Description) (s t : Words) (r q : Record) (ins : Words) (n : ℕ) → f d s r ins ≡ completed t q n → t ≡ s) → ⊥
+pub not-idle : (f : Stepping) → Steps f → ((d : Description) (s t : StoreWords) (r q : Record) (ins : StoreWords) (n : ℕ) → f d s r ins ≡ completed t q n → t ≡ s) → ⊥
 not-idle f steps idle =
     let e : words 9 12 ≡ words 0 0 = idle described (words 0 0) (words 9 12) atSecond atFirst ((0 ∷ []) ∷ []) 0 (steps described (words 0 0) atSecond ((0 ∷ []) ∷ []) ∙ loads) in
-    let z : _≡_ {A = ℕ} 9 0 = ap (λ (s : Words). getD (getD s 0 []) 0 0) e in
+    let z : _≡_ {A = ℕ} 9 0 = ap (λ (s : StoreWords). getD (getD s 0 []) 0 0) e in
     omega arith

@@ -10,9 +10,9 @@ use Rattle.language.specs.Calls.{CycleAnswer, afterStep, cycle, cycleRefusal, c
 use Rattle.language.specs.Decode.{decode}
 use Rattle.language.specs.Description.{Description}
 use Rattle.language.specs.RecordBytes.{marked, recordFrom}
-use Rattle.language.specs.Rules.{mostWork}
-use Rattle.language.specs.Step.{Outcome, Record, completed, lastCycle, step}
-use Rattle.language.specs.Store.{Words, fromBytes, inputsOf}
+use Rattle.language.specs.Ceilings.{lastCycle, mostWork}
+use Rattle.language.specs.Step.{Outcome, Record, completed, step}
+use Rattle.language.specs.Store.{StoreWords, fromBytes, inputsOf}
 use Rattle.language.specs.declared.stops.Stop.{Stop}
 use Rattle.language.specs.declared.stops.Stop.the-variants.{NoArm, OutsideBounds}
 use Rattle.about_running.specs.Conditions.{Condition, FirstOf, order}
@@ -41,13 +41,13 @@ module _ (image store record′ stimulus : List ℕ) (scratch : ℕ) (none-refus
   abbrev d : Description
   d = decode image
 
-  abbrev words : Words
+  abbrev words : StoreWords
   words = fromBytes (d .facilities) store
 
   abbrev kept : Record
   kept = recordFrom record′
 
-  abbrev inputs : Words
+  abbrev inputs : StoreWords
   inputs = fromBytes (inputsOf (d .facilities)) stimulus
 
   abbrev there : Unrefused image store record′ stimulus scratch

@@ -8,7 +8,8 @@ use lib.Dec.{eqb, leb, ltb}
 use Rattle.language.specs.Kinds.{extWord, headWord, tailWord}
 use Rattle.language.specs.Operators.{cutOf}
 use Rattle.language.specs.Value as Values
-use Rattle.language.specs.Value.{Value, cutLength, extended, fit, head, longest, made, tail, value}
+use Rattle.language.specs.Value.{Value, cutLength, extended, fit, head, made, tail, value}
+use Rattle.language.specs.Ceilings.{longest}
 
 -- A part of `count` bits of a value of so many.
 pub record Within (source count : ℕ) (w : Value) : Type 0 where

@@ -7,6 +7,7 @@ use native.Mathlib.Omega.{arith}
 use Prim.Native.Nat.{ℕ, zero, suc, _-_, _*_, _≤_}
 use borrow.Author.Tests.{le-leb}
 use lib.ListN.{length}
+use Rattle.language.specs.Ceilings.{mostReturns}
 use Rattle.language.specs.Calls.{CycleCall, afterStep, cycle, cycleRefusal, cycled, open′, openRefusal, openWith, openWords, opened, stoppedFor}
 use Rattle.language.specs.Decode.{decode}
 use Rattle.language.specs.DescribeText.{describe}
@@ -19,7 +20,7 @@ use Rattle.language.specs.Reading as Reading
 use Rattle.language.specs.RecordBytes.{recordBytes, recordFrom, recordSize}
 use Rattle.language.specs.Step as Step
 use Rattle.language.specs.Step.{Outcome, Record, completed, openRecord, step, stopped}
-use Rattle.language.specs.Store.{Words, fromBytes, inputsOf, toBytes}
+use Rattle.language.specs.Store.{StoreWords, fromBytes, inputsOf, toBytes}
 use Rattle.language.specs.Tree.{Text}
 use Rattle.language.specs.declared.stops.Stop.{Stop}
 use Rattle.about_running.specs.Cycle.{Well, completes}
@@ -65,20 +66,20 @@ module _ (text : List ℕ) (room : ℕ) where
 
 module _ (d : Description) where
   -- A completed cycle hands on its words and its record; a stop leaves both as found.
-  pub data Course : Words → Record → List Words → List Outcome → Type 0 where
-    over : {s : Words} {r : Record} → Course s r [] []
-    goes-on : {s t : Words} {r q : Record} {n : ℕ} {i : Words} {is : List Words} {os : List Outcome} → step d s r i ≡ completed t q n → Course t q is os → Course s r (i ∷ is) (completed t q n ∷ os)
-    stops : {s : Words} {r : Record} {n : Stop} {i : Words} {is : List Words} {os : List Outcome} → step d s r i ≡ stopped n → Course s r is os → Course s r (i ∷ is) (stopped n ∷ os)
+  pub data Course : StoreWords → Record → List StoreWords → List Outcome → Type 0 where
+    over : {s : StoreWords} {r : Record} → Course s r [] []
+    goes-on : {s t : StoreWords} {r q : Record} {n : ℕ} {i : StoreWords} {is : List StoreWords} {os : List Outcome} → step d s r i ≡ completed t q n → Course t q is os → Course s r (i ∷ is) (completed t q n ∷ os)
+    stops : {s : StoreWords} {r : Record} {n : Stop} {i : StoreWords} {is : List StoreWords} {os : List Outcome} → step d s r i ≡ stopped n → Course s r is os → Course s r (i ∷ is) (stopped n ∷ os)
 
-  not-both : {A : Type 0} {o : Outcome} {s : Words} {r : Record} {n : ℕ} {m : Stop} → o ≡ completed s r n → o ≡ stopped m → A
+  not-both : {A : Type 0} {o : Outcome} {s : StoreWords} {r : Record} {n : ℕ} {m : Stop} → o ≡ completed s r n → o ≡ stopped m → A
   not-both e f = absurd (let z : _≡_ {A = ℕ} 0 1 = cc in omega arith)
 
   -- From equal words and records.
-  course-from : {s t : Words} {r q : Record} {is : List Words} {os : List Outcome} → s ≡ t → r ≡ q → Course s r is os → Course t q is os
+  course-from : {s t : StoreWords} {r q : Record} {is : List StoreWords} {os : List Outcome} → s ≡ t → r ≡ q → Course s r is os → Course t q is os
   course-from a b h = rw (← a, ← b) h
 
   -- There is one at most.
-  pub one-course : {s : Words} {r : Record} {is : List Words} {os ps : List Outcome} → Course s r is os → Course s r is ps → os ≡ ps
+  pub one-course : {s : StoreWords} {r : Record} {is : List StoreWords} {os ps : List Outcome} → Course s r is os → Course s r is ps → os ≡ ps
   one-course over over = refl
   one-course (goes-on {t} {q} e h) (goes-on {t = u} {q = v} f k) =
       let a : t ≡ u = cc in
@@ -110,7 +111,7 @@ module _ (d : Description) where
     a-cycle : {n : ℕ} → c .answer ≡ cycled n → Shows c (completed (fromBytes (d .facilities) (c .store)) (recordFrom (c .record′)) n)
     a-stop : {n : Stop} → c .answer ≡ stoppedFor n → Shows c (stopped n)
 
-  shows-from : {c : CycleCall} {s t : Words} {r q : Record} {n : ℕ} → s ≡ t → r ≡ q → Shows c (completed s r n) → Shows c (completed t q n)
+  shows-from : {c : CycleCall} {s t : StoreWords} {r q : Record} {n : ℕ} → s ≡ t → r ≡ q → Shows c (completed s r n) → Shows c (completed t q n)
   shows-from a b h = rw (← a, ← b) h
 
   pub data AllShow : List CycleCall → List Outcome → Type 0 where
@@ -128,18 +129,18 @@ module _ (d : Description) where
   all-shown (and-more e h) (and-more f k) = ap₂ (λ (x : Outcome) (xs : List Outcome). x ∷ xs) (one-shown e f) (all-shown h k)
 
   -- The words of the input terminals in stimuli.
-  unfoldable pub inputs : List (List ℕ) → List Words
+  unfoldable pub inputs : List (List ℕ) → List StoreWords
   inputs [] = []
   inputs (i ∷ is) = fromBytes (inputsOf (d .facilities)) i ∷ inputs is
 
   -- The calls on a store and a record go through the course from these words and this record.
-  pub record Through (image : List ℕ) (scratch : ℕ) (store record′ : List ℕ) (s : Words) (r : Record) (is : List (List ℕ)) : Type 0 where
+  pub record Through (image : List ℕ) (scratch : ℕ) (store record′ : List ℕ) (s : StoreWords) (r : Record) (is : List (List ℕ)) : Type 0 where
     pub outcomes : List Outcome
     pub course : Course d s r (inputs is) outcomes
     pub exact : calls image scratch store record′ is ≡ owed scratch store record′ outcomes
     pub shown : AllShow (calls image scratch store record′ is) outcomes
 
-  module _ {image : List ℕ} {scratch : ℕ} {store record′ : List ℕ} {s : Words} {r : Record} {is : List (List ℕ)} (h : Through image scratch store record′ s r is) where
+  module _ {image : List ℕ} {scratch : ℕ} {store record′ : List ℕ} {s : StoreWords} {r : Record} {is : List (List ℕ)} (h : Through image scratch store record′ s r is) where
     -- Both ways: what the calls show is the course, and the course is what they show; and their bytes are the course's.
     pub course-shown : {os : List Outcome} → Course d s r (inputs is) os → AllShow (calls image scratch store record′ is) os
     course-shown k = rw (one-course d k (h .course)) (h .shown)
@@ -214,7 +215,7 @@ module _ (image : List ℕ) (scratch : ℕ) where
     opens-as = rw unrefused refl
 
     zero-record : InWords (openRecord (decode image))
-    unfolding Step.mostReturns
+    unfolding mostReturns
     zero-record = (omega arith, (omega arith, (omega arith, zeroes-small 16)))
 
     opened-words : fromBytes (e .facilities) (open′ image store record′ .store) ≡ openWords e

@@ -13,8 +13,8 @@ use Rattle.language.specs.Declaring.{treeSteps}
 use Rattle.language.specs.Kinds.{aConstant, aName}
 use Rattle.language.specs.Machine.{Alternative, Ask, Bearing, Counts, Fed, Parsed, Without, after, ask, bears, choose, closes, counted, ease, feed, finish, keptIf, leave, leaveAtEnd, level, make, may, more, must, nested, opens, operand, parsed, reading, refused, run, takeWay, taken, tallied, took, wrong}
 use Rattle.language.specs.declared.refusals.Refusal.the-variants.{CeilingPassed}
-use Rattle.language.specs.Sections.{ruleOf}
-use Rattle.language.specs.Steps.{Step}
+use Rattle.language.specs.SectionWays.{ruleOf}
+use Rattle.language.specs.BuildSteps.{Step}
 use Rattle.language.specs.Tree.{Name}
 use Rattle.language.specs.Words as W
 use Rattle.language.specs.Words.{Constant, Fault, Position, Word, fault, kindOf, position, sign, wordAt}

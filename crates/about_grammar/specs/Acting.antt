@@ -5,12 +5,12 @@ use mathlib.Core.Path.{_≡_, refl}
 use Prim.Native.Nat.{ℕ, suc, _-_}
 use Rattle.language.specs.Alternatives.{closing, lead, noStep, plainWord}
 use Rattle.language.specs.Building.{Built, beginList, joined, keepWord, makeArm, makeChoose, makeIf, makeWhen, withLists}
-use Rattle.language.specs.Ceilings.{countedActions}
+use Rattle.language.specs.CountedWords.{countedActions}
 use Rattle.language.specs.Kinds.{aName, atSign, caseWord, colon, comma, delayedSign, doWord, elseWord, endCaseWord, endIfWord, endWord, equalSign, ifWord, openParen, period, slash, thenWord}
 use Rattle.language.specs.Machine as M
 use Rattle.language.specs.Machine.{Ask, Counts, Reading, ask, choose, counted, feed, make, more, nested, operationAction, operationArms, operationIfRest, operationMore, operationName, reading, run, stateAction, stateArms, stateIfRest, stateMore, stateName, stateRest, tallied}
 use Rattle.language.specs.Notions.{Section, inOperation, inState}
-use Rattle.language.specs.Sections.{ruleOf}
+use Rattle.language.specs.SectionWays.{ruleOf}
 use Rattle.language.specs.Tree.{Actions}
 use Rattle.language.specs.Words as W
 use Rattle.language.specs.Words.{Position, Word, sign}

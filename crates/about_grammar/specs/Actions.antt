@@ -6,12 +6,12 @@ use Prim.Native.Nat.{ℕ}
 use native.Mathlib.Omega.{arith}
 use Rattle.language.specs.Alternatives.{afterStep, enter}
 use Rattle.language.specs.Building.{Built, expressionNo, joined, keepWord, listNo, makeCall, makeGoto, makePerform, makeReturn, makeStore, makeWhole, withLefts, withLists, wordNo}
-use Rattle.language.specs.Ceilings.{countedActions}
+use Rattle.language.specs.CountedWords.{countedActions}
 use Rattle.language.specs.Declaring.{treeSteps}
 use Rattle.language.specs.Kinds.{aName, atSign, callSign, colon, conWord, delayedSign, equalSign, gotoSign, openBracket, openParen, returnWord}
 use Rattle.language.specs.Machine.{Counts, Reading, ask, choose, counted, feed, keep, leftRest, make, more, operationName, reading, run, setSign, stateAction, stateName, subscript, subscripts, tallied}
 use Rattle.language.specs.Notions.{Section, expression, inOperation, inState, isStore}
-use Rattle.language.specs.Sections.{ruleOf}
+use Rattle.language.specs.SectionWays.{ruleOf}
 use Rattle.language.specs.Tree as T
 use Rattle.language.specs.Tree.{Actions, Expression, Left, Name}
 use Rattle.language.specs.Ways.{leftWays, stateNameWays}

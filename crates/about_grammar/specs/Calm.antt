@@ -7,7 +7,7 @@ use Rattle.language.specs.Building.{Built}
 use Rattle.language.specs.Declaring.{treeSteps}
 use Rattle.language.specs.Machine
 use Rattle.language.specs.Machine.{Alternative, Ask, Sym, Without, again, ask, ease, keep, make, may, must, operand, word}
-use Rattle.language.specs.Sections.{ruleOf}
+use Rattle.language.specs.SectionWays.{ruleOf}
 use Rattle.about_grammar.specs.Courses.{Stack}
 use Rattle.about_grammar.specs.FineWays.{both-first, both-second}
 use Rattle.language.specs.Tests.{both}

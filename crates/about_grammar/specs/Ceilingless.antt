@@ -10,7 +10,7 @@ use Rattle.language.specs.Kinds.{aName}
 use Rattle.language.specs.Machine.{Alternative, Ask, Bearing, Counts, Fed, Parsed, Reading, Rule, Sym, Without, again, ask, bears, choose, countKept, ease, feed, finish, keep, keptAt, keptIf, leave, leaveAtEnd, make, may, must, nested, operand, parsed, reading, refused, tallied, took, word, wrong}
 use Rattle.language.specs.declared.refusals.Refusal.the-variants.{CeilingPassed, NoContinuation}
 use Rattle.language.specs.Scan.{same}
-use Rattle.language.specs.Steps.{Step, Steps}
+use Rattle.language.specs.BuildSteps.{Step, Steps}
 use Rattle.language.specs.Words.{Position, Word, fault, kindOf, position, wordAt}
 use Rattle.about_grammar.specs.Following.{Follows, among}
 use Rattle.about_grammar.specs.Stacks.{choose-none, false-true, kindsOf}

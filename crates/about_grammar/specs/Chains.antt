@@ -9,8 +9,8 @@ use Rattle.language.specs.Building.{Built, wordNo}
 use Rattle.language.specs.Declaring.{treeSteps}
 use Rattle.language.specs.Machine
 use Rattle.language.specs.Machine.{Ask, Counts, Fed, Reading, Tally, after, ask, counted, facility, feed, finish, leave, more, nested, noCounts, operand, operation, parsed, reading, run, sections, state, tallied, took, withinCeilings}
-use Rattle.language.specs.Sections.{parseWith, ruleOf}
-use Rattle.language.specs.Steps.{Step}
+use Rattle.language.specs.SectionWays.{parseWith, ruleOf}
+use Rattle.language.specs.BuildSteps.{Step}
 use Rattle.language.specs.Words.{Word, position}
 use Rattle.about_grammar.specs.Accepting.{Proper}
 use Rattle.about_grammar.specs.Calm.{calm, counts, topWaits, waits}

@@ -7,12 +7,13 @@ use native.Mathlib.Omega.{arith}
 use borrow.Author.Tests.{le-leb}
 use lib.Dec.{leb}
 use Rattle.language.specs.Building.{Built, nothingBuilt}
-use Rattle.language.specs.Ceilings.{WithinCeilings}
+use Rattle.language.specs.CountedWords.{WithinCeilings}
 use Rattle.language.specs.Declaring.{treeSteps}
 use Rattle.language.specs.Grammar.{Is}
-use Rattle.language.specs.Machine.{Counts, deepest, mostCounted, mostFacilities, mostOperations, mostStates, parsed, withinCeilings}
+use Rattle.language.specs.Machine.{Counts, parsed, withinCeilings}
+use Rattle.language.specs.Ceilings.{deepest, mostCounted, mostFacilities, mostOperations, mostStates}
 use Rattle.language.specs.Notions.{text, wholeText}
-use Rattle.language.specs.Sections.{parse, parseWith}
+use Rattle.language.specs.SectionWays.{parse, parseWith}
 use Rattle.language.specs.Tree.{Text}
 use Rattle.language.specs.Words.{Word}
 use Rattle.about_grammar.specs.Courses.{Ceiling, Under}

@@ -8,7 +8,7 @@ use Rattle.language.specs.Declaring.{treeSteps}
 use Rattle.language.specs.Kinds.{comma, doWord}
 use Rattle.language.specs.Machine
 use Rattle.language.specs.Machine.{Alternative, Ask, Counts, again, ask, ease, finish, keep, make, run, word}
-use Rattle.language.specs.Sections.{ruleOf}
+use Rattle.language.specs.SectionWays.{ruleOf}
 use Rattle.language.specs.Ways.{andWays, arithmeticTailWays, conWays, cutWays, exclusiveWays, orWays, relationWays}
 use Rattle.about_grammar.specs.Completing.{Completed, eases, keeps, makes, omitted, repeats, words}
 use Rattle.about_grammar.specs.CompletingNotions.{by-adjustment, by-afterConstant, by-afterMemories, by-afterRegisters, by-afterSecondConstant, by-afterSubscript, by-afterTerminals, by-arithmetic, by-complement, by-control, by-dimensionRest, by-dimensions, by-dollarOption, by-expression, by-firstName, by-functionOf, by-leftRest, by-memoryMore, by-memorySpec, by-minterm, by-operandRest, by-operationAction, by-operationIfRest, by-operationName, by-operationSpec, by-operationsMore, by-product, by-rangeRest, by-reduction, by-registerMore, by-registerSpec, by-second, by-secondEnd, by-secondOption, by-secondRest, by-sections, by-sequencingSpec, by-setSign, by-stateAction, by-stateBody, by-stateIfRest, by-stateName, by-stateRest, by-stateStart, by-statesMore, by-storeSign, by-subscript, by-subscripts, by-term, by-terminalDimensions, by-terminalFunction, by-terminalMore, by-terminalRest, by-terminalSpec}

@@ -12,8 +12,8 @@ use Rattle.language.specs.Kinds.{aConstant, aName}
 use Rattle.language.specs.Machine
 use Rattle.language.specs.Machine.{Alternative, Ask, Bearing, Counts, Parsed, after, again, ask, bears, ease, feed, finish, keep, make, nested, parsed, reading, run, word}
 use Rattle.language.specs.Notions.{oneBound}
-use Rattle.language.specs.Sections.{ruleOf}
-use Rattle.language.specs.Steps.{Step}
+use Rattle.language.specs.SectionWays.{ruleOf}
+use Rattle.language.specs.BuildSteps.{Step}
 use Rattle.language.specs.Ways.{andWays, arithmeticTailWays, conWays, cutWays, exclusiveWays, orWays, relationWays}
 use Rattle.language.specs.Words as W
 use Rattle.language.specs.Words.{Position, Word, kindOf, position, sign, wordAt}

@@ -9,7 +9,7 @@ use Rattle.language.specs.Declaring.{makeBoth, makeInput, makeMemory, makeOpera
 use Rattle.language.specs.Kinds.{atSign, closeBracket, closeParen, colon, comma, controlWord, dollar, endIfWord, equalSign, inputWord, openBracket, openParen, period, returnWord, slash, terminalWord}
 use Rattle.language.specs.Machine
 use Rattle.language.specs.Machine.{Counts, again, ask, choose, feed, make, run, tallied}
-use Rattle.language.specs.Sections.{ruleOf}
+use Rattle.language.specs.SectionWays.{ruleOf}
 use Rattle.about_grammar.specs.Courses.{Stack}
 use Rattle.about_grammar.specs.Fine.{headOf}
 use Rattle.about_grammar.specs.Following.{afterAnd, afterCon, afterCut, afterExclusive, afterOr, afterSum, among, within}

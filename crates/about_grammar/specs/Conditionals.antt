@@ -5,7 +5,7 @@ use Prim.Native.Nat.{ℕ, suc}
 use native.Mathlib.Omega.{arith}
 use Rattle.language.specs.Alternatives.{closing, plainWord}
 use Rattle.language.specs.Building.{Built, beginList, expressionNo, joined, keepWord, listNo, makeArm, makeChoose, makeIf, withLists, wordNo}
-use Rattle.language.specs.Ceilings.{countedActions}
+use Rattle.language.specs.CountedWords.{countedActions}
 use Rattle.language.specs.Kinds.{atSign, caseWord, colon, comma, delayedSign, doWord, elseWord, endCaseWord, endIfWord, equalSign, ifWord, openParen, thenWord}
 use Rattle.language.specs.Machine.{Counts, Reading, ask, counted, make, more, reading}
 use Rattle.language.specs.Notions.{Section, expression}

@@ -8,13 +8,13 @@ use native.Mathlib.Omega.{arith}
 use lib.ListN.{length}
 use Rattle.language.specs.Alternatives.{followed, lead}
 use Rattle.language.specs.Building.{Built, joined, listNo, withLists, withStates, withText}
-use Rattle.language.specs.Ceilings.{countedActions, countedStates}
+use Rattle.language.specs.CountedWords.{countedActions, countedStates}
 use Rattle.language.specs.Declaring.{makeState, treeSteps}
 use Rattle.language.specs.Kinds.{aName, controlWord, endWord, period, slash}
 use Rattle.language.specs.Machine.{Ask, Counts, Reading, ask, choose, dollarOption, feed, make, more, reading, run, stateAction, stateBody, stateRest, stateStart, statesMore, stuck, tallied}
 use Rattle.language.specs.Machine as M
 use Rattle.language.specs.Notions.{firstPlace, inState, stateOf}
-use Rattle.language.specs.Sections.{ruleOf}
+use Rattle.language.specs.SectionWays.{ruleOf}
 use Rattle.language.specs.Tree as T
 use Rattle.language.specs.Tree.{Actions, Label, State, StateValue, Text}
 use Rattle.language.specs.Words as W

@@ -7,7 +7,7 @@ use Rattle.language.specs.Building.{Built}
 use Rattle.language.specs.Declaring.{treeSteps}
 use Rattle.language.specs.Machine.{Counts, Parsed, Reading, Sym, after, reading, run, taken, took, wrong}
 use Rattle.language.specs.declared.refusals.Refusal.the-variants.{CeilingPassed}
-use Rattle.language.specs.Sections.{ruleOf}
+use Rattle.language.specs.SectionWays.{ruleOf}
 use Rattle.language.specs.Words.{Position, Word, fault}
 use Rattle.about_grammar.specs.Following.{Follows, among}
 

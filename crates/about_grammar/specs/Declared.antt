@@ -8,11 +8,11 @@ use borrow.Author.Tests.{eqb-true}
 use lib.Dec.{eqb}
 use lib.ListN.{length}
 use Rattle.language.specs.Building.{Built, withText}
-use Rattle.language.specs.Ceilings.{countedTerminals}
+use Rattle.language.specs.CountedWords.{countedTerminals}
 use Rattle.language.specs.Kinds.{comma, controlWord, endWord, memoryWord, operationWord, period, registerWord, terminalWord}
 use Rattle.language.specs.Machine.{Ask, Counts, afterMemories, afterRegisters, afterTerminals, ask, choose, dollarOption, feed, operationSpec, operationsMore, reading, run, sections, stateStart, statesMore, tallied}
 use Rattle.language.specs.Notions.{endsSection}
-use Rattle.language.specs.Sections.{ruleOf}
+use Rattle.language.specs.SectionWays.{ruleOf}
 use Rattle.language.specs.Tree.{Declaration, Text}
 use Rattle.language.specs.Words.{Position, Word, sign}
 use Rattle.about_grammar.specs.Conditionals.{rebuilt}

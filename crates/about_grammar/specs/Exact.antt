@@ -5,10 +5,11 @@ use native.Mathlib.Omega.{arith}
 use Prim.Native.Nat.{ℕ}
 use Rattle.language.specs.Building.{Built}
 use Rattle.language.specs.Declaring.{treeSteps}
-use Rattle.language.specs.Machine.{Fed, Parsed, Reading, after, deepest, feed, parsed, refused, run, took, withinCeilings}
+use Rattle.language.specs.Machine.{Fed, Parsed, Reading, after, feed, parsed, refused, run, took, withinCeilings}
+use Rattle.language.specs.Ceilings.{deepest}
 use Rattle.language.specs.Notions.{text}
 use Rattle.language.specs.declared.refusals.Refusal.the-variants.{CeilingPassed, NoContinuation}
-use Rattle.language.specs.Sections.{parse, parseWith, ruleOf}
+use Rattle.language.specs.SectionWays.{parse, parseWith, ruleOf}
 use Rattle.language.specs.Tree.{Text}
 use Rattle.language.specs.WordStage.{scan}
 use Rattle.language.specs.Words.{Fault, Position, Word, fault, position, wordAt}

@@ -9,7 +9,7 @@ use Rattle.language.specs.GrammarExamples.{faultIn, grammar-open}
 use Rattle.language.specs.declared.refusals.Refusal.{Refusal}
 use Rattle.language.specs.declared.refusals.Refusal.the-variants.{NoContinuation}
 use Rattle.language.specs.Scan.{bytes}
-use Rattle.language.specs.Sections.{parse}
+use Rattle.language.specs.SectionWays.{parse}
 use Rattle.language.specs.WordStage.{scan}
 use Rattle.language.specs.Words.{Fault, fault, position}
 

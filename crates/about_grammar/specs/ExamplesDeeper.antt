@@ -13,7 +13,7 @@ use Rattle.language.specs.Machine.{Parsed, parsed, refused}
 use Rattle.language.specs.declared.refusals.Refusal.{Refusal}
 use Rattle.language.specs.declared.refusals.Refusal.the-variants.{CeilingPassed, NoContinuation}
 use Rattle.language.specs.Scan.{bytes}
-use Rattle.language.specs.Sections.{parse, parseWith}
+use Rattle.language.specs.SectionWays.{parse, parseWith}
 use Rattle.language.specs.Tree as T
 use Rattle.language.specs.Tree.{Actions, Expression, Operation}
 use Rattle.language.specs.WordStage.{scan}

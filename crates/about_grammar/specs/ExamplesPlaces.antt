@@ -11,7 +11,7 @@ use Rattle.language.specs.Machine.{Parsed, parsed, refused}
 use Rattle.language.specs.declared.refusals.Refusal.{Refusal}
 use Rattle.language.specs.declared.refusals.Refusal.the-variants.{CeilingPassed, NoContinuation}
 use Rattle.language.specs.Scan.{bytes}
-use Rattle.language.specs.Sections.{parse}
+use Rattle.language.specs.SectionWays.{parse}
 use Rattle.language.specs.WordStage.{scan}
 use Rattle.language.specs.Words.{Fault, fault, position}
 use Rattle.about_grammar.specs.Exact.{refusal-of-text, refused-text}

@@ -4,7 +4,7 @@ use mathlib.Core.Path.{_≡_, sym, refl, subst}
 use Prim.Native.Nat.{ℕ, suc, _+_}
 use native.Mathlib.Omega.{arith}
 use Rattle.language.specs.Building.{Built, expressionNo, keepWord, makeBinary, wordNo}
-use Rattle.language.specs.Ceilings.{countedExpression, countedReference}
+use Rattle.language.specs.CountedWords.{countedExpression, countedReference}
 use Rattle.language.specs.Grammar.{Is}
 use Rattle.language.specs.Machine as M
 use Rattle.language.specs.Machine.{Ask, Counts, ask, counted, make, more}

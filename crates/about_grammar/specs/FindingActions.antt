@@ -6,7 +6,7 @@ use Prim.Native.Nat.{ℕ, suc}
 use native.Mathlib.Omega.{arith}
 use Rattle.language.specs.Alternatives.{closing, lead, shut}
 use Rattle.language.specs.Building.{Built, beginList, joined, makeArm, makeIf, makeWhen, withLists}
-use Rattle.language.specs.Ceilings.{countedActions}
+use Rattle.language.specs.CountedWords.{countedActions}
 use Rattle.language.specs.Grammar as G
 use Rattle.language.specs.Grammar.{Is}
 use Rattle.language.specs.Kinds.{comma, doWord, elseWord, endIfWord}
@@ -14,7 +14,7 @@ use Rattle.language.specs.Machine as M
 use Rattle.language.specs.Machine.{Ask, Counts, ask, make, tallied}
 use Rattle.language.specs.Notions as N
 use Rattle.language.specs.Notions.{Section, actions, inOperation, inState}
-use Rattle.language.specs.Sections.{ruleOf}
+use Rattle.language.specs.SectionWays.{ruleOf}
 use Rattle.language.specs.Tree as T
 use Rattle.language.specs.Tree.{Actions}
 use Rattle.language.specs.Words.{Position, Word, sign}

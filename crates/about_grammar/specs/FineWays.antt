@@ -7,7 +7,7 @@ use Rattle.language.specs.Building.{Built}
 use Rattle.language.specs.Declaring.{treeSteps}
 use Rattle.language.specs.Machine
 use Rattle.language.specs.Machine.{Alternative, Ask, again, ask, ease, keep, make, word}
-use Rattle.language.specs.Sections.{ruleOf}
+use Rattle.language.specs.SectionWays.{ruleOf}
 use Rattle.about_grammar.specs.Courses.{Stack}
 use Rattle.about_grammar.specs.Following.{among, among-within, within}
 use Rattle.about_grammar.specs.Fine.{Fine, bad, firstOf, headOf, skips}

@@ -6,7 +6,7 @@ use native.Mathlib.Omega.{arith}
 use lib.ListN.{length}
 use Rattle.language.specs.Machine.{refused}
 use Rattle.language.specs.declared.refusals.Refusal.the-variants.{NoContinuation}
-use Rattle.language.specs.Sections.{parse, parseWith}
+use Rattle.language.specs.SectionWays.{parse, parseWith}
 use Rattle.language.specs.Words.{Fault, Position, Word, fault, wordAt}
 use Rattle.about_grammar.specs.Accepting.{Proper}
 use Rattle.about_grammar.specs.Completed.{completed}

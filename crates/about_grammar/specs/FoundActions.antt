@@ -7,7 +7,7 @@ use Prim.Native.Nat.{ℕ, suc, _+_}
 use native.Mathlib.Omega.{arith}
 use Rattle.language.specs.Alternatives.{afterStep, enter}
 use Rattle.language.specs.Building.{Built, expressionNo, joined, keepWord, listNo, makePair, makePerform, makeSet, makeStore, makeWhole, withLefts, withLists, wordNo}
-use Rattle.language.specs.Ceilings.{countedActions, countedExpression, countedLeft, countedReference}
+use Rattle.language.specs.CountedWords.{countedActions, countedExpression, countedLeft, countedReference}
 use Rattle.language.specs.Declaring.{treeSteps}
 use Rattle.language.specs.Grammar as G
 use Rattle.language.specs.Grammar.{Is}
@@ -16,7 +16,7 @@ use Rattle.language.specs.Machine as M
 use Rattle.language.specs.Machine.{Ask, Counts, ask, choose, counted, feed, leftRest, make, more, operationName, run, setSign, stateName, storeSign, subscript, subscripts, tallied}
 use Rattle.language.specs.Notions as N
 use Rattle.language.specs.Notions.{Section, actions, expression, inOperation, inState, isStore, left}
-use Rattle.language.specs.Sections.{ruleOf}
+use Rattle.language.specs.SectionWays.{ruleOf}
 use Rattle.language.specs.Tree as T
 use Rattle.language.specs.Tree.{Actions, Expression, Left, Name}
 use Rattle.language.specs.Ways.{leftWays, setWay, stateNameWays, storeWays}

@@ -6,7 +6,7 @@ use Prim.Native.Nat.{ℕ, zero, suc, _+_}
 use native.Mathlib.Omega.{arith}
 use Rattle.language.specs.Alternatives.{closing, kept, plainWord}
 use Rattle.language.specs.Building.{Built, beginList, expressionNo, joined, keepWord, listNo, makeArm, makeCall, makeChoose, makeGoto, makeIf, makeReturn, makeWhen, withLists, wordNo}
-use Rattle.language.specs.Ceilings.{countedActions, countedExpression}
+use Rattle.language.specs.CountedWords.{countedActions, countedExpression}
 use Rattle.language.specs.Declaring.{treeSteps}
 use Rattle.language.specs.Grammar as G
 use Rattle.language.specs.Grammar.{Is}
@@ -15,7 +15,7 @@ use Rattle.language.specs.Machine as M
 use Rattle.language.specs.Machine.{Ask, Counts, ask, closes, counted, level, make, more, tallied}
 use Rattle.language.specs.Notions as N
 use Rattle.language.specs.Notions.{Section, actions, expression, inOperation, inState}
-use Rattle.language.specs.Sections.{ruleOf}
+use Rattle.language.specs.SectionWays.{ruleOf}
 use Rattle.language.specs.Tree as T
 use Rattle.language.specs.Tree.{Actions, Expression}
 use Rattle.language.specs.Ways.{operationActionWays, signedStateWays}

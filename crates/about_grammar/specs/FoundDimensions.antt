@@ -14,7 +14,7 @@ use Rattle.language.specs.Machine as M
 use Rattle.language.specs.Machine.{Counts, ask, closes, dimensionRest, dimensions, keep, make, rangeRest, tallied}
 use Rattle.language.specs.Notions as N
 use Rattle.language.specs.Notions.{ends, extent, oneBound, pairOf}
-use Rattle.language.specs.Sections.{ruleOf}
+use Rattle.language.specs.SectionWays.{ruleOf}
 use Rattle.language.specs.Tree as T
 use Rattle.language.specs.Tree.{Ends, Extent, row, table}
 use Rattle.language.specs.Words as W

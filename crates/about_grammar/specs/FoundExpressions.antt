@@ -6,7 +6,7 @@ use mathlib.Core.Path.{_≡_, refl, subst}
 use Prim.Native.Nat.{ℕ, zero, suc}
 use native.Mathlib.Omega.{arith}
 use Rattle.language.specs.Building.{Built, expressionNo, keepWord, makePrefix, wordNo}
-use Rattle.language.specs.Ceilings.{countedExpression}
+use Rattle.language.specs.CountedWords.{countedExpression}
 use Rattle.language.specs.Declaring.{treeSteps}
 use Rattle.language.specs.Grammar as G
 use Rattle.language.specs.Grammar.{Is}
@@ -15,7 +15,7 @@ use Rattle.language.specs.Machine as M
 use Rattle.language.specs.Machine.{Counts, ask, counted, ease, level, make, more, tallied}
 use Rattle.language.specs.Notions as N
 use Rattle.language.specs.Notions.{Notion, expression}
-use Rattle.language.specs.Sections.{ruleOf}
+use Rattle.language.specs.SectionWays.{ruleOf}
 use Rattle.language.specs.Tree.{Expression, prefix}
 use Rattle.language.specs.Ways.{adjustmentWays, arithmeticWays, complementWays, mintermWays, productWays, reductionWays, termWays}
 use Rattle.language.specs.Words.{Position, Word, sign}

@@ -7,7 +7,7 @@ use native.Mathlib.Omega.{arith}
 use lib.ListN.{length}
 use Rattle.language.specs.Alternatives.{closing, plainWord}
 use Rattle.language.specs.Building.{Built, beginList, joined, keepWord, listNo, withText, wordNo}
-use Rattle.language.specs.Ceilings.{countedActions, countedOperations}
+use Rattle.language.specs.CountedWords.{countedActions, countedOperations}
 use Rattle.language.specs.Declaring.{makeOperation, treeSteps}
 use Rattle.language.specs.Grammar as G
 use Rattle.language.specs.Grammar.{Is}
@@ -16,7 +16,7 @@ use Rattle.language.specs.Machine as M
 use Rattle.language.specs.Machine.{Counts, ask, closes, control, dollarOption, level, make, more, opens, operationAction, operationMore, operationSpec, operationsMore, stateStart, statesMore, tallied, word}
 use Rattle.language.specs.Notions as N
 use Rattle.language.specs.Notions.{inOperation, operationOf, operations}
-use Rattle.language.specs.Sections.{ruleOf}
+use Rattle.language.specs.SectionWays.{ruleOf}
 use Rattle.language.specs.Tree as T
 use Rattle.language.specs.Tree.{Actions, Name, Operation, Text}
 use Rattle.language.specs.Words as W

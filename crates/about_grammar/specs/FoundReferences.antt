@@ -6,7 +6,7 @@ use Prim.Native.Nat.{ℕ, suc}
 use native.Mathlib.Omega.{arith}
 use Rattle.language.specs.Alternatives.{enter}
 use Rattle.language.specs.Building.{Built, expressionNo, keepWord, makeOne, makeWhole, wordNo}
-use Rattle.language.specs.Ceilings.{countedExpression}
+use Rattle.language.specs.CountedWords.{countedExpression}
 use Rattle.language.specs.Declaring.{treeSteps}
 use Rattle.language.specs.Grammar as G
 use Rattle.language.specs.Grammar.{Is}
@@ -15,7 +15,7 @@ use Rattle.language.specs.Machine as M
 use Rattle.language.specs.Machine.{Counts, afterSubscript, ask, second, secondEnd, secondOption, subscript, subscripts, tallied}
 use Rattle.language.specs.Notions as N
 use Rattle.language.specs.Notions.{expression, pairOf}
-use Rattle.language.specs.Sections.{ruleOf}
+use Rattle.language.specs.SectionWays.{ruleOf}
 use Rattle.language.specs.Tree.{Expression, Name, one, part, two, whole, wordPart}
 use Rattle.language.specs.Ways.{afterSubscriptWays, secondEndWays}
 use Rattle.language.specs.Words as W

@@ -9,7 +9,7 @@ use native.Mathlib.Omega.{arith}
 use lib.ListN.{length, length-append}
 use Rattle.language.specs.Alternatives.{closing, plainWord}
 use Rattle.language.specs.Building.{Built, keepWord, makePerform, withStates, withText, wordNo}
-use Rattle.language.specs.Ceilings.{countedStates}
+use Rattle.language.specs.CountedWords.{countedStates}
 use Rattle.language.specs.Declaring.{beginAtName, beginValued, treeSteps}
 use Rattle.language.specs.Grammar as G
 use Rattle.language.specs.Grammar.{Is}
@@ -18,7 +18,7 @@ use Rattle.language.specs.Machine as M
 use Rattle.language.specs.Machine.{Counts, ask, choose, closes, feed, firstName, keep, level, make, more, run, stateBody, stateName, stateRest, stateStart, statesMore, tallied}
 use Rattle.language.specs.Notions as N
 use Rattle.language.specs.Notions.{endsSection, inState, label, stateOf, states}
-use Rattle.language.specs.Sections.{ruleOf}
+use Rattle.language.specs.SectionWays.{ruleOf}
 use Rattle.language.specs.Tree as T
 use Rattle.language.specs.Tree.{Name, State, Text}
 use Rattle.language.specs.Words as W

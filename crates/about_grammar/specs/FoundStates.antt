@@ -8,7 +8,7 @@ use Prim.Native.Nat.{ℕ, suc}
 use native.Mathlib.Omega.{arith}
 use Rattle.language.specs.Alternatives.{lead}
 use Rattle.language.specs.Building.{Built, joined, listNo, withLists, withStates, withText}
-use Rattle.language.specs.Ceilings.{countedActions}
+use Rattle.language.specs.CountedWords.{countedActions}
 use Rattle.language.specs.Declaring.{makeState, treeSteps}
 use Rattle.language.specs.Grammar as G
 use Rattle.language.specs.Grammar.{Is}
@@ -17,7 +17,7 @@ use Rattle.language.specs.Machine as M
 use Rattle.language.specs.Machine.{Counts, ask, make, noCounts, stateBody, stateRest, tallied}
 use Rattle.language.specs.Notions as N
 use Rattle.language.specs.Notions.{actions, firstPlace, inState, label, stateOf, states}
-use Rattle.language.specs.Sections.{ruleOf}
+use Rattle.language.specs.SectionWays.{ruleOf}
 use Rattle.language.specs.Tree as T
 use Rattle.language.specs.Tree.{Actions, Label, Name, State, StateValue}
 use Rattle.language.specs.Words as W

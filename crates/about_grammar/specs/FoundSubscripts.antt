@@ -9,7 +9,7 @@ use lib.Dec.{eqb}
 use lib.ListN.{length}
 use Rattle.language.specs.Alternatives.{closing, followed, kept}
 use Rattle.language.specs.Building.{Built, keepWord, makeConstant, makePart, makeWordPart, wordNo}
-use Rattle.language.specs.Ceilings.{countedExpression}
+use Rattle.language.specs.CountedWords.{countedExpression}
 use Rattle.language.specs.Declaring.{treeSteps}
 use Rattle.language.specs.Grammar as G
 use Rattle.language.specs.Kinds.{aConstant, aName, closeBracket, colon}
@@ -17,7 +17,7 @@ use Rattle.language.specs.Machine as M
 use Rattle.language.specs.Machine.{Counts, Reading, afterConstant, afterSecondConstant, afterSubscript, andTail, arithmeticTail, ask, choose, closes, conTail, counted, cutTail, exclusiveTail, feed, finish, keep, level, make, more, operandRest, orTail, reading, relationTail, run, second, secondEnd, secondRest, stuck, subscript, tallied}
 use Rattle.language.specs.Notions as N
 use Rattle.language.specs.Notions.{expression}
-use Rattle.language.specs.Sections.{ruleOf}
+use Rattle.language.specs.SectionWays.{ruleOf}
 use Rattle.language.specs.Tree.{constant}
 use Rattle.language.specs.Ways.{colonInstead, expressionWays, otherTermWays}
 use Rattle.language.specs.Words as W

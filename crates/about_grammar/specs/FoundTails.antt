@@ -7,16 +7,16 @@ use Prim.Native.Nat.{ℕ, suc}
 use native.Mathlib.Omega.{arith}
 use Rattle.language.specs.Alternatives.{lead}
 use Rattle.language.specs.Building.{Built, expressionNo, keepWord, makeBinary, makeCut, makeNextArm, wordNo}
-use Rattle.language.specs.Ceilings.{countedExpression}
+use Rattle.language.specs.CountedWords.{countedExpression}
 use Rattle.language.specs.Declaring.{treeSteps}
 use Rattle.language.specs.Grammar as G
 use Rattle.language.specs.Grammar.{Is}
-use Rattle.language.specs.Kinds.{aConstant, atLeastSign, atMostSign, differenceSign, doWord, equalsSign, extWord, greaterSign, hash, headWord, lessSign, sumSign, tailWord}
+use Rattle.language.specs.Kinds.{aConstant, atLeastSign, atMostSign, differenceSign, doWord, extWord, greaterSign, hash, headWord, lessSign, sameSign, sumSign, tailWord}
 use Rattle.language.specs.Machine as M
 use Rattle.language.specs.Machine.{Counts, ask, counted, keep, make, more, tallied}
 use Rattle.language.specs.Notions as N
 use Rattle.language.specs.Notions.{expression}
-use Rattle.language.specs.Sections.{ruleOf}
+use Rattle.language.specs.SectionWays.{ruleOf}
 use Rattle.language.specs.Tree.{Expression, binary, cut, nextArm}
 use Rattle.language.specs.Ways.{andWays, arithmeticTailWays, conWays, cutWays, exclusiveWays, orWays, relationWays}
 use Rattle.language.specs.Words as W
@@ -115,7 +115,7 @@ module _ (J : Judge) (n : ℕ) (ih : (m : ℕ) → n ≡ suc m → Inverts J m) 
       by k q p vs m s y = by₂ k q p m s (ih m s .arithmetic _ _ _ _ _ y)
 
       go : {ws : List Word} → Picks J (relationWays treeSteps) K n h (push e b) c ws ⊎ Leaves J (M.may (λ p d. d)) K n h (push e b) c ws → Extended J N.relation K n h xs e b c ws
-      go (inl (inl (at-sign p vs y))) = by equalsSign refl p vs (y .0) (y .1) (y .2)
+      go (inl (inl (at-sign p vs y))) = by sameSign refl p vs (y .0) (y .1) (y .2)
       go (inl (inr (inl (at-sign p vs y)))) = by hash refl p vs (y .0) (y .1) (y .2)
       go (inl (inr (inr (inl (at-sign p vs y))))) = by lessSign refl p vs (y .0) (y .1) (y .2)
       go (inl (inr (inr (inr (inl (at-sign p vs y)))))) = by greaterSign refl p vs (y .0) (y .1) (y .2)

@@ -6,7 +6,7 @@ use Prim.Native.Nat.{ℕ, suc}
 use native.Mathlib.Omega.{arith}
 use Rattle.language.specs.Alternatives.{closing, plainWord}
 use Rattle.language.specs.Building.{Built, expressionNo, keepWord, makeChoice, makeFirstArm, makeNextArm, wordNo}
-use Rattle.language.specs.Ceilings.{countedExpression}
+use Rattle.language.specs.CountedWords.{countedExpression}
 use Rattle.language.specs.Declaring.{treeSteps}
 use Rattle.language.specs.Grammar as G
 use Rattle.language.specs.Kinds.{caseWord, closeParen, doWord, elseWord, endCaseWord, endIfWord, ifWord, openParen, thenWord}
@@ -14,7 +14,7 @@ use Rattle.language.specs.Machine as M
 use Rattle.language.specs.Machine.{Counts, ask, closes, counted, level, make, more, tallied}
 use Rattle.language.specs.Notions as N
 use Rattle.language.specs.Notions.{Notion, expression}
-use Rattle.language.specs.Sections.{ruleOf}
+use Rattle.language.specs.SectionWays.{ruleOf}
 use Rattle.language.specs.Tree.{Name, choice, constant, firstArm, nextArm}
 use Rattle.language.specs.Ways.{termWays}
 use Rattle.language.specs.Words as W

@@ -7,7 +7,7 @@ use Prim.Native.Nat.{ℕ, _+_}
 use native.Mathlib.Omega.{arith}
 use lib.ListN.{length}
 use Rattle.language.specs.Building.{Built, nothingBuilt, withText}
-use Rattle.language.specs.Ceilings.{countedOperations, countedStates, countedTerminals, countedWords}
+use Rattle.language.specs.CountedWords.{countedOperations, countedStates, countedTerminals, countedWords}
 use Rattle.language.specs.Declaring.{treeSteps}
 use Rattle.language.specs.Grammar as G
 use Rattle.language.specs.Grammar.{Is}
@@ -16,7 +16,7 @@ use Rattle.language.specs.Machine as M
 use Rattle.language.specs.Machine.{Counts, afterMemories, afterRegisters, afterTerminals, ask, control, dollarOption, feed, finish, noCounts, operationSpec, operationsMore, run, sections, stateStart, statesMore, tallied}
 use Rattle.language.specs.Notions as N
 use Rattle.language.specs.Notions.{declared, facilities, nothing, operations, states, text, wholeText}
-use Rattle.language.specs.Sections.{ruleOf}
+use Rattle.language.specs.SectionWays.{ruleOf}
 use Rattle.language.specs.Tree.{Declaration, Operation, State, Text}
 use Rattle.language.specs.Words.{Position, Word, sign}
 use Rattle.about_grammar.specs.Accepting.{Accepts, Judge, Leaves, Picks, at-sign, chosen, never, weaken}

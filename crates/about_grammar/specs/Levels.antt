@@ -9,7 +9,7 @@ use Rattle.language.specs.Declaring.{treeSteps}
 use Rattle.language.specs.Kinds.{differenceSign, minus, redWord}
 use Rattle.language.specs.Machine.{Alternative, Reading, adjustment, andTail, arithmetic, arithmeticTail, ask, complement, conTail, cutTail, ease, exclusiveTail, expression, make, minterm, orTail, product, reading, reduction, relationTail, term}
 use Rattle.language.specs.Notions.{Tree}
-use Rattle.language.specs.Sections.{ruleOf}
+use Rattle.language.specs.SectionWays.{ruleOf}
 use Rattle.language.specs.Ways.{adjustmentWays, andWays, arithmeticTailWays, arithmeticWays, complementWays, conWays, cutWays, exclusiveWays, mintermWays, orWays, productWays, reductionWays, relationWays, termWays}
 use Rattle.language.specs.Words.{Word, kindOf}
 use Rattle.about_grammar.specs.Courses.{Ceiling, Comes, Stack, comes, runs}

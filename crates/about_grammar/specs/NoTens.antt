@@ -9,7 +9,7 @@ use lib.ListN.{length, take}
 use Rattle.language.specs.Building.{Built, nothingBuilt}
 use Rattle.language.specs.Declaring.{treeSteps}
 use Rattle.language.specs.Machine.{Counts, Fed, Reading, Without, after, again, ask, counted, ease, feed, keep, make, may, more, must, noCounts, operand, parsed, run, tallied, took, withinCeilings, word, wrong}
-use Rattle.language.specs.Sections.{parseWith, ruleOf}
+use Rattle.language.specs.SectionWays.{parseWith, ruleOf}
 use Rattle.language.specs.Words.{Position, Word, kindOf, wordAt}
 use Rattle.about_grammar.specs.Accepting.{Proper}
 use Rattle.about_grammar.specs.Ceilingless.{all}

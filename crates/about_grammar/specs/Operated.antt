@@ -6,12 +6,12 @@ use native.Mathlib.Omega.{arith}
 use lib.ListN.{length}
 use Rattle.language.specs.Alternatives.{closing, plainWord}
 use Rattle.language.specs.Building.{Built, beginList, joined, keepWord, listNo, withText, wordNo}
-use Rattle.language.specs.Ceilings.{countedOperations}
+use Rattle.language.specs.CountedWords.{countedOperations}
 use Rattle.language.specs.Declaring.{makeOperation}
 use Rattle.language.specs.Kinds.{closeBracket, comma, equalSign, openBracket, operationWord}
 use Rattle.language.specs.Machine.{Ask, Counts, ask, choose, control, feed, make, more, operation, operationAction, operationMore, operationSpec, operationsMore, opens, reading, run, tallied, word}
 use Rattle.language.specs.Notions.{inOperation, operationOf}
-use Rattle.language.specs.Sections.{ruleOf}
+use Rattle.language.specs.SectionWays.{ruleOf}
 use Rattle.language.specs.Tree as T
 use Rattle.language.specs.Tree.{Actions, Name, Operation, Text}
 use Rattle.language.specs.Words as W

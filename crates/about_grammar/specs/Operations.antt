@@ -8,12 +8,12 @@ use borrow.Author.Tests.{eq-eqb, eqb-true}
 use lib.Dec.{eqb}
 use Rattle.language.specs.Alternatives.{plainWord}
 use Rattle.language.specs.Building.{Built, expressionNo, keepWord, makeBinary, makeCut, wordNo}
-use Rattle.language.specs.Ceilings.{countedExpression}
+use Rattle.language.specs.CountedWords.{countedExpression}
 use Rattle.language.specs.Declaring.{treeSteps}
-use Rattle.language.specs.Kinds.{aConstant, atLeastSign, atMostSign, colon, conWord, differenceSign, equalsSign, exclusiveSign, extWord, greaterSign, hash, headWord, lessSign, minus, plus, redWord, star, sumSign, tailWord}
+use Rattle.language.specs.Kinds.{aConstant, atLeastSign, atMostSign, colon, conWord, differenceSign, exclusiveSign, extWord, greaterSign, hash, headWord, lessSign, minus, plus, redWord, sameSign, star, sumSign, tailWord}
 use Rattle.language.specs.Machine.{Counts, adjustment, after, arithmetic, ask, choose, counted, cutTail, feed, keep, make, more, reading, relationTail, run, stuck, taken, tallied}
 use Rattle.language.specs.Notions.{expression}
-use Rattle.language.specs.Sections.{ruleOf}
+use Rattle.language.specs.SectionWays.{ruleOf}
 use Rattle.language.specs.Tree.{Expression, binary, cut, prefix}
 use Rattle.language.specs.Words as W
 use Rattle.language.specs.Words.{Constant, Position, Word, sign}
@@ -60,12 +60,12 @@ reduction-kinds P x y z v k h =
     one-of P k sumSign (eqb k plus || eqb k star || eqb k exclusiveSign)
     (one-of P k exclusiveSign (eqb k plus || eqb k star) (one-of P k star (eqb k plus) (the-one P k plus x) y) z) v h
 
-pub relation-kinds : (P : ℕ → Type 0) → P equalsSign → P hash → P lessSign → P greaterSign → P atMostSign → P atLeastSign → (k : ℕ) → isRelation k ≡ true → P k
+pub relation-kinds : (P : ℕ → Type 0) → P sameSign → P hash → P lessSign → P greaterSign → P atMostSign → P atLeastSign → (k : ℕ) → isRelation k ≡ true → P k
 relation-kinds P x y z v u w k h =
-    one-of P k atLeastSign (eqb k equalsSign || eqb k hash || eqb k lessSign || eqb k greaterSign || eqb k atMostSign)
-    (one-of P k atMostSign (eqb k equalsSign || eqb k hash || eqb k lessSign || eqb k greaterSign)
-    (one-of P k greaterSign (eqb k equalsSign || eqb k hash || eqb k lessSign)
-    (one-of P k lessSign (eqb k equalsSign || eqb k hash) (one-of P k hash (eqb k equalsSign) (the-one P k equalsSign x) y) z) v) u) w h
+    one-of P k atLeastSign (eqb k sameSign || eqb k hash || eqb k lessSign || eqb k greaterSign || eqb k atMostSign)
+    (one-of P k atMostSign (eqb k sameSign || eqb k hash || eqb k lessSign || eqb k greaterSign)
+    (one-of P k greaterSign (eqb k sameSign || eqb k hash || eqb k lessSign)
+    (one-of P k lessSign (eqb k sameSign || eqb k hash) (one-of P k hash (eqb k sameSign) (the-one P k sameSign x) y) z) v) u) w h
 
 -- A word taken by the machine's own computation.
 module _ {C : Ceiling} {h : ℕ} {us vs : List Word} {p : Position} {e f : Expression} where
@@ -102,7 +102,7 @@ module _ {C : Ceiling} {h : ℕ} {us vs : List Word} {p : Position} {e f : Expre
   relation-of k a x y =
       asking-more relations
       (relation-kinds (λ k. Phrase C notAdjustment (ask arithmetic ∷ ask relationTail ∷ []) [] afterSum h (us ++ sign k p ∷ vs) (expression (binary k p e f)))
-      (relation-by equalsSign refl refl (λ K b c u. comes (λ ws end _. took-it C _ _ _ _ u _)) x y)
+      (relation-by sameSign refl refl (λ K b c u. comes (λ ws end _. took-it C _ _ _ _ u _)) x y)
       (relation-by hash refl refl (λ K b c u. comes (λ ws end _. took-it C _ _ _ _ u _)) x y)
       (relation-by lessSign refl refl (λ K b c u. comes (λ ws end _. took-it C _ _ _ _ u _)) x y)
       (relation-by greaterSign refl refl (λ K b c u. comes (λ ws end _. took-it C _ _ _ _ u _)) x y)

@@ -7,13 +7,13 @@ use native.Mathlib.Omega.{arith}
 use lib.Dec.{eqb}
 use Rattle.language.specs.Alternatives.{noStep}
 use Rattle.language.specs.Building.{Built, expressionNo, keepWord, makeBinary, makePrefix, wordNo}
-use Rattle.language.specs.Ceilings.{countedExpression}
+use Rattle.language.specs.CountedWords.{countedExpression}
 use Rattle.language.specs.Declaring.{treeSteps}
 use Rattle.language.specs.Kinds.{aConstant, colon}
 use Rattle.language.specs.Machine.{Alternative, Ask, Counts, ask, counted, ease, feed, finish, leave, leaveAtEnd, make, may, more, nested, operand, reading, run, Rule}
 use Rattle.language.specs.Notions.{Tree, expression}
-use Rattle.language.specs.Sections.{ruleOf}
-use Rattle.language.specs.Steps.{Step}
+use Rattle.language.specs.SectionWays.{ruleOf}
+use Rattle.language.specs.BuildSteps.{Step}
 use Rattle.language.specs.Tree.{Expression, binary, prefix}
 use Rattle.language.specs.Words.{Position, Word, kindOf, position, sign, wordAt}
 use Rattle.about_grammar.specs.Courses.{Ceiling, Comes, Stack, Under, _⊳_, asking, before, comes, ends-in, runs, then-move, then-words}

@@ -13,7 +13,7 @@ use Rattle.language.specs.Declaring.{treeSteps}
 use Rattle.language.specs.Kinds.{aConstant, aName}
 use Rattle.language.specs.Machine.{Alternative, Ask, Bearing, Counts, after, again, ask, bears, choose, feed, finish, keep, nested, parsed, reading, run, stuck, taken, took, word}
 use Rattle.language.specs.Scan.{same}
-use Rattle.language.specs.Sections.{ruleOf}
+use Rattle.language.specs.SectionWays.{ruleOf}
 use Rattle.language.specs.Tree.{Name}
 use Rattle.language.specs.Words as W
 use Rattle.language.specs.Words.{Constant, Position, Word, kindOf, sign, wordAt}

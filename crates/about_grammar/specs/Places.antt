@@ -4,9 +4,10 @@ use mathlib.Core.List.{List, [], _∷_, _++_}
 use mathlib.Core.Path.{_≡_}
 use Prim.Native.Nat.{ℕ}
 use lib.ListN.{length, take}
-use Rattle.language.specs.Ceilings.{WithinCeilings}
+use Rattle.language.specs.CountedWords.{WithinCeilings}
 use Rattle.language.specs.Grammar.{Is}
-use Rattle.language.specs.Machine.{Counts, deepest, noCounts, withinCeilings}
+use Rattle.language.specs.Machine.{Counts, noCounts, withinCeilings}
+use Rattle.language.specs.Ceilings.{deepest}
 use Rattle.language.specs.Notions.{text, wholeText}
 use Rattle.language.specs.declared.refusals.Refusal.the-variants.{CeilingPassed, NoContinuation}
 use Rattle.language.specs.Tree.{Text}

@@ -6,12 +6,12 @@ use Prim.Native.Nat.{ℕ, zero, suc, _+_, _^_}
 use lib.Dec.{eqb, leb, ltb}
 use lib.ListN.{drop, getD, length, take}
 use Rattle.language.specs.Characters.{blankClass, classOf, digitClass, folded, letterClass, quoteClass, symbolClass}
-use Rattle.language.specs.Constants.{bareConstant, bareLargest, decimalConstant, digitsNumber}
+use Rattle.language.specs.Constants.{bareConstant, decimalConstant, digitsNumber}
 use Rattle.language.specs.Kinds.{aConstant, aName}
 use Rattle.language.specs.declared.refusals.Refusal.the-variants.{BadConstant, BadName}
 use Rattle.language.specs.Scan as S
-use Rattle.language.specs.Scan.{Found, Item, Reserved, Spelled, bareAt, basedItem, binaryAt, commentAt, constantAt, decimalAt, digitBits, digitsOf, isDecimalBase, isNamePart, itemAt, longestName, nameAt, nameItem, reservedAmong, reservedKind, reservedWords, same, span, spelledSymbols, symbolAmong, written}
-use Rattle.language.specs.Value.{longest}
+use Rattle.language.specs.Scan.{Found, Item, Reserved, Spelled, bareAt, basedItem, binaryAt, commentAt, constantAt, decimalAt, digitBits, digitsOf, isDecimalBase, isNamePart, itemAt, nameAt, nameItem, reservedAmong, reservedKind, reservedWords, same, span, spelledSymbols, symbolAmong, written}
+use Rattle.language.specs.Ceilings.{bareLargest, longest, longestName}
 use Rattle.language.specs.WordStage.{Scanned, noted, scan, scanFrom}
 use Rattle.language.specs.Words.{Constant, Position, position}
 use Rattle.about_grammar.specs.Accepting.{Proper}

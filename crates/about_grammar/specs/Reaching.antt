@@ -4,7 +4,7 @@ use mathlib.Core.Path.{_≡_, ap}
 use Prim.Native.Nat.{ℕ, _+_, _≤_}
 use lib.ListN.{length}
 use Rattle.language.specs.Building.{Built, withText}
-use Rattle.language.specs.Ceilings.{countedTerminals}
+use Rattle.language.specs.CountedWords.{countedTerminals}
 use Rattle.language.specs.Kinds.{equalSign}
 use Rattle.language.specs.Machine.{Ask, Counts, ask, memoryMore, memorySpec, reading, registerMore, registerSpec, terminalMore, terminalSpec}
 use Rattle.language.specs.Tree.{Declaration, Text}

@@ -5,11 +5,11 @@ use Prim.Native.Nat.{ℕ, suc, _-_}
 use native.Mathlib.Omega.{arith}
 use Rattle.language.specs.Alternatives.{closing, enter}
 use Rattle.language.specs.Building.{Built, expressionNo, keepWord, makeOne, makePart, makeTwo, makeWhole, makeWordPart, wordNo}
-use Rattle.language.specs.Ceilings.{countedExpression}
+use Rattle.language.specs.CountedWords.{countedExpression}
 use Rattle.language.specs.Kinds.{aConstant, closeBracket, colon, comma, openBracket}
 use Rattle.language.specs.Machine.{Counts, afterConstant, afterSecondConstant, afterSubscript, ask, choose, feed, keep, make, nested, operandRest, reading, run, second, secondEnd, secondOption, secondRest, subscript, subscripts, tallied}
 use Rattle.language.specs.Notions.{betweenSubscripts, expression, pairOf}
-use Rattle.language.specs.Sections.{ruleOf}
+use Rattle.language.specs.SectionWays.{ruleOf}
 use Rattle.language.specs.Tree.{Expression, Name, one, part, two, whole, wordPart}
 use Rattle.language.specs.Words as W
 use Rattle.language.specs.Words.{Constant, Position, Word, sign}

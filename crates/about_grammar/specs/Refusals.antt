@@ -8,9 +8,10 @@ use borrow.Author.Tests.{leb-true}
 use lib.Dec.{leb}
 use Rattle.language.specs.Building.{Built, nothingBuilt}
 use Rattle.language.specs.Declaring.{treeSteps}
-use Rattle.language.specs.Machine.{Counts, Fed, Reading, after, ask, deepest, mostCounted, mostFacilities, mostOperations, mostStates, nested, noCounts, parsed, reading, refused, run, sections, withinCeilings}
+use Rattle.language.specs.Machine.{Counts, Fed, Reading, after, ask, nested, noCounts, parsed, reading, refused, run, sections, withinCeilings}
+use Rattle.language.specs.Ceilings.{deepest, mostCounted, mostFacilities, mostOperations, mostStates}
 use Rattle.language.specs.declared.refusals.Refusal.the-variants.{CeilingPassed, NoContinuation}
-use Rattle.language.specs.Sections.{parse, parseWith, ruleOf}
+use Rattle.language.specs.SectionWays.{parse, parseWith, ruleOf}
 use Rattle.language.specs.Words.{Fault, Word}
 use Rattle.about_grammar.specs.Ceilingless.{Passes, all}
 use Rattle.about_grammar.specs.Complete.{complete-unbounded, fits-under, most}

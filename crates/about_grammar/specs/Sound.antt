@@ -6,12 +6,13 @@ use Prim.Native.Nat.{ℕ, zero, suc, _+_, _≤_}
 use native.Mathlib.Omega.{arith}
 use lib.ListN.{length}
 use Rattle.language.specs.Building.{Built, nothingBuilt}
-use Rattle.language.specs.Ceilings.{WithinCeilings}
+use Rattle.language.specs.CountedWords.{WithinCeilings}
 use Rattle.language.specs.Declaring.{treeSteps}
 use Rattle.language.specs.Grammar.{Is}
-use Rattle.language.specs.Machine.{Counts, deepest, mostCounted, mostFacilities, mostOperations, mostStates, nested, noCounts, parsed, withinCeilings}
+use Rattle.language.specs.Machine.{Counts, nested, noCounts, parsed, withinCeilings}
+use Rattle.language.specs.Ceilings.{deepest, mostCounted, mostFacilities, mostOperations, mostStates}
 use Rattle.language.specs.Notions.{text, wholeText}
-use Rattle.language.specs.Sections.{parse, parseWith}
+use Rattle.language.specs.SectionWays.{parse, parseWith}
 use Rattle.language.specs.Tree.{Text}
 use Rattle.language.specs.Words.{Word}
 use Rattle.about_grammar.specs.Accepting.{Judge, Proper}

@@ -6,7 +6,7 @@ use Prim.Native.Nat.{ℕ}
 use lib.Dec.{eqb}
 use Rattle.language.specs.Alternatives.{always, followed}
 use Rattle.language.specs.Machine.{Alternative, Ask, Counts, Fed, Parsed, Reading, Rule, Sym, after, ask, choose, feed, finish, leave, leaveAtEnd, make, may, reading, run, stuck, takeWay}
-use Rattle.language.specs.Steps.{Step, Steps}
+use Rattle.language.specs.BuildSteps.{Step, Steps}
 use Rattle.language.specs.Words.{Position, Word, kindOf, position, wordAt}
 use Rattle.about_grammar.specs.Following.{Follows, among, among-first, among-rest}
 

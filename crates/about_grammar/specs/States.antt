@@ -12,7 +12,7 @@ use Rattle.language.specs.Declaring.{beginLabelled, beginValued, treeSteps}
 use Rattle.language.specs.Kinds.{aConstant, aName, closeParen, colon, endWord, openParen, period, slash}
 use Rattle.language.specs.Machine.{Counts, ask, choose, feed, finish, firstName, keep, leave, make, more, reading, run, state, stateAction, stateBody, stateName, stateRest, stateStart, stuck, tallied}
 use Rattle.language.specs.Notions.{stateOf}
-use Rattle.language.specs.Sections.{ruleOf}
+use Rattle.language.specs.SectionWays.{ruleOf}
 use Rattle.language.specs.Tree as T
 use Rattle.language.specs.Tree.{Label, Name, StateValue}
 use Rattle.language.specs.Words as W

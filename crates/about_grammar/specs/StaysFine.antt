@@ -10,7 +10,7 @@ use Rattle.language.specs.Declaring.{treeSteps}
 use Rattle.language.specs.Kinds.{aName}
 use Rattle.language.specs.Machine.{Alternative, Fed, Reading, Without, again, ask, choose, ease, feed, keep, leave, make, may, must, operand, took, word, wrong}
 use Rattle.language.specs.Scan.{same}
-use Rattle.language.specs.Sections.{ruleOf}
+use Rattle.language.specs.SectionWays.{ruleOf}
 use Rattle.language.specs.Words.{Fault, Word, kindOf}
 use Rattle.about_grammar.specs.Ceilingless.{all}
 use Rattle.about_grammar.specs.Courses.{Stack}

@@ -12,7 +12,7 @@ use Rattle.language.specs.Declaring.{treeSteps}
 use Rattle.language.specs.Kinds.{aName}
 use Rattle.language.specs.Machine.{Alternative, Ask, Bearing, Counts, Fed, Reading, Sym, Tally, Without, again, ask, bears, choose, closes, counted, ease, facility, feed, keep, keptIf, leave, level, make, may, more, must, nested, opens, operand, operation, reading, state, stuck, tallied, took, word, wrong}
 use Rattle.language.specs.Scan.{same}
-use Rattle.language.specs.Sections.{ruleOf}
+use Rattle.language.specs.SectionWays.{ruleOf}
 use Rattle.language.specs.Words.{Fault, Word, kindOf, wordAt}
 use Rattle.about_grammar.specs.Calm.{all-right, allRight, calm, calm-append, calm-below, calm-top, counts, not-so, onTop, topWaits, waits}
 use Rattle.about_grammar.specs.Ceilingless.{all}

@@ -6,7 +6,7 @@ use Prim.Native.Nat.{ℕ, _-_}
 use native.Mathlib.Omega.{arith}
 use Rattle.language.specs.Machine.{Ask, Counts, Fed, Parsed, Reading, Rule, Sym, after, feed, finish, nested, parsed, refused, run, took, wrong}
 use Rattle.language.specs.declared.refusals.Refusal.the-variants.{CeilingPassed, NoContinuation}
-use Rattle.language.specs.Steps.{Steps}
+use Rattle.language.specs.BuildSteps.{Steps}
 use Rattle.language.specs.Words.{Position, Fault, Word, fault, position, wordAt}
 use Rattle.about_grammar.specs.Ceilingless.{Alike, AlikeAtEnd, Passes, all, feed-alike, finish-alike, parsed-both, past, past-at-end, refused-both, stuck-both, taken-both}
 

@@ -7,12 +7,12 @@ use native.Mathlib.Omega.{arith}
 use lib.Dec.{eqb}
 use borrow.Author.Tests.{eqb-true}
 use Rattle.language.specs.Building.{Built, expressionNo, keepWord, makePair, makeSet, makeStore, withLefts}
-use Rattle.language.specs.Ceilings.{countedLeft}
+use Rattle.language.specs.CountedWords.{countedLeft}
 use Rattle.language.specs.Kinds.{aName, atSign, colon, conWord, delayedSign, equalSign, openBracket, openParen}
 use Rattle.language.specs.Machine as M
 use Rattle.language.specs.Machine.{Ask, Counts, Reading, ask, choose, counted, feed, keep, leftRest, make, more, operationName, reading, run, setSign, storeSign, subscripts, tallied}
 use Rattle.language.specs.Notions.{Section, expression, inOperation, inState, isStore}
-use Rattle.language.specs.Sections.{ruleOf}
+use Rattle.language.specs.SectionWays.{ruleOf}
 use Rattle.language.specs.Tree as T
 use Rattle.language.specs.Tree.{Expression, Left, Name}
 use Rattle.language.specs.Words as W

@@ -8,13 +8,13 @@ use lib.Dec.{eqb}
 use lib.ListN.{drop, take}
 use Rattle.language.specs.Alternatives.{always, closing, followed, counts, kept}
 use Rattle.language.specs.Building.{Built, keepWord, makeConstant, makePart, makeWordPart}
-use Rattle.language.specs.Ceilings.{countedExpression}
+use Rattle.language.specs.CountedWords.{countedExpression}
 use Rattle.language.specs.Declaring.{treeSteps}
 use Rattle.language.specs.Kinds.{aConstant, closeBracket, colon}
 use Rattle.language.specs.Machine as M
 use Rattle.language.specs.Machine.{Ask, Counts, Fed, Reading, Sym, afterConstant, afterSecondConstant, afterSubscript, andTail, arithmeticTail, ask, choose, conTail, counted, cutTail, exclusiveTail, feed, finish, keep, make, more, operandRest, orTail, reading, relationTail, run, second, secondEnd, secondRest, stuck, subscript, tallied}
 use Rattle.language.specs.Notions.{expression}
-use Rattle.language.specs.Sections.{ruleOf}
+use Rattle.language.specs.SectionWays.{ruleOf}
 use Rattle.language.specs.Tree as T
 use Rattle.language.specs.Tree.{Expression}
 use Rattle.language.specs.Ways.{colonInstead, expressionWays, otherTermWays, subscriptWays, termWays}

@@ -5,7 +5,7 @@ use mathlib.Core.Path.{_≡_}
 use Prim.Native.Nat.{ℕ, suc}
 use lib.Dec.{eqb}
 use Rattle.language.specs.Building.{Built, withExpressions, keepWord}
-use Rattle.language.specs.Ceilings.{countedExpression, countedReference}
+use Rattle.language.specs.CountedWords.{countedExpression, countedReference}
 use Rattle.language.specs.Kinds.{aConstant, colon, differenceSign, inputWord, minus, openBracket}
 use Rattle.language.specs.Machine.{Counts, ask, reading, subscripts}
 use Rattle.language.specs.Notions as N

@@ -11,8 +11,8 @@ use Rattle.language.specs.Building.{Built}
 use Rattle.language.specs.Declaring.{treeSteps}
 use Rattle.language.specs.Kinds.{aName}
 use Rattle.language.specs.Machine.{Alternative, Ask, Bearing, Tally, Without, again, ask, closes, counted, ease, keep, level, make, may, must, opens, operand, word}
-use Rattle.language.specs.Sections.{ruleOf}
-use Rattle.language.specs.Steps.{Step}
+use Rattle.language.specs.SectionWays.{ruleOf}
+use Rattle.language.specs.BuildSteps.{Step}
 use Rattle.language.specs.Words.{Word, kindOf}
 use Rattle.about_grammar.specs.Counting.{Mark}
 use Rattle.about_grammar.specs.Courses.{Stack}

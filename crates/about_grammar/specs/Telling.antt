@@ -6,12 +6,12 @@ use Prim.Native.Nat.{ℕ, suc}
 use Rattle.language.specs.Alternatives.{closing, plainWord}
 use Rattle.language.specs.Building.{Built, makeBinary, makeCut, makePrefix}
 use Rattle.language.specs.Declaring.{treeSteps}
-use Rattle.language.specs.Kinds.{conWord, differenceSign, equalsSign, exclusiveSign, extWord, greaterSign, hash, atLeastSign, atMostSign, headWord, lessSign, minus, plus, redWord, star, sumSign, tailWord}
+use Rattle.language.specs.Kinds.{atLeastSign, atMostSign, conWord, differenceSign, exclusiveSign, extWord, greaterSign, hash, headWord, lessSign, minus, plus, redWord, sameSign, star, sumSign, tailWord}
 use Rattle.language.specs.Machine as M
 use Rattle.language.specs.Machine.{Alternative, Ask, adjustment, andTail, arithmetic, arithmeticTail, ask, complement, conTail, counted, cutTail, ease, exclusiveTail, make, minterm, orTail, product, reduction, relationTail, term}
 use Rattle.language.specs.Operators.{isArithmetic, isCut, isReduction, isRelation, relations}
-use Rattle.language.specs.Sections.{ruleOf}
-use Rattle.language.specs.Steps.{Step}
+use Rattle.language.specs.SectionWays.{ruleOf}
+use Rattle.language.specs.BuildSteps.{Step}
 use Rattle.language.specs.Ways.{adjustmentWays, andWays, arithmeticTailWays, arithmeticWays, complementWays, conWays, cutWays, exclusiveWays, mintermWays, orWays, productWays, reductionWays, relationWays, termWays}
 use Rattle.language.specs.Words as W
 use Rattle.language.specs.Words.{Constant, Position, Word, kindOf, sign}
@@ -219,7 +219,7 @@ module _ {us vs : List Word} {f g : Marks} (p : Position) where
   unfolding tale eat pick waitsFor ruleOf among
   relation-of k a x y =
       relation-kinds (λ k. Relation (us ++ sign k p ∷ vs) (λ n ms. f n (one counted n ∷ g n ms)))
-      (relation-by equalsSign refl (λ K n ws. refl) x y) (relation-by hash refl (λ K n ws. refl) x y) (relation-by lessSign refl (λ K n ws. refl) x y)
+      (relation-by sameSign refl (λ K n ws. refl) x y) (relation-by hash refl (λ K n ws. refl) x y) (relation-by lessSign refl (λ K n ws. refl) x y)
       (relation-by greaterSign refl (λ K n ws. refl) x y) (relation-by atMostSign refl (λ K n ws. refl) x y) (relation-by atLeastSign refl (λ K n ws. refl) x y) k a
 
 module _ {us : List Word} {f : Marks} (p : Position) where

@@ -11,7 +11,7 @@ use Rattle.language.specs.Kinds.{atSign, callSign, caseWord, colon, comma, conW
 use Rattle.language.specs.Machine as M
 use Rattle.language.specs.Machine.{Ask, ask, counted, leftRest, make, operationAction, operationArms, operationMore, operationName, setSign, stateAction, stateArms, stateMore, stateName, stateRest, storeSign, subscripts}
 use Rattle.language.specs.Notions.{Section, inOperation, inState, isStore}
-use Rattle.language.specs.Sections.{ruleOf}
+use Rattle.language.specs.SectionWays.{ruleOf}
 use Rattle.language.specs.Tree.{Name}
 use Rattle.language.specs.Words as W
 use Rattle.language.specs.Words.{Position, Word, sign}

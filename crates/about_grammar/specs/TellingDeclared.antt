@@ -10,7 +10,7 @@ use Rattle.language.specs.Kinds.{aConstant, closeBracket, closeParen, colon, co
 use Rattle.language.specs.Machine as M
 use Rattle.language.specs.Machine.{Ask, afterMemories, afterRegisters, afterTerminals, again, ask, control, dimensionRest, dimensions, dollarOption, facility, functionOf, keep, make, operation, operationAction, operationMore, operationSpec, operationsMore, opens, rangeRest, registerSpec, sections, sequencingSpec, memorySpec, stateStart, statesMore, terminalDimensions, terminalFunction, terminalRest, terminalSpec, word}
 use Rattle.language.specs.Notions.{AtMostOne, endsSection, inOperation}
-use Rattle.language.specs.Sections.{ruleOf}
+use Rattle.language.specs.SectionWays.{ruleOf}
 use Rattle.language.specs.Tree as Tr
 use Rattle.language.specs.Tree.{Ends, Extent, Name, row, table}
 use Rattle.language.specs.Ways.{expressionWays, termWays}

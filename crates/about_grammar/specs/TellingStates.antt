@@ -12,8 +12,8 @@ use Rattle.language.specs.Declaring.{beginLabelled, beginValued, makeState, tre
 use Rattle.language.specs.Kinds.{aName, atSign, closeParen, colon, controlWord, dollar, endWord, openBracket, openParen, period, slash}
 use Rattle.language.specs.Machine.{Alternative, Ask, Tally, ask, counted, dollarOption, firstName, make, sections, state, stateAction, stateBody, stateName, stateRest, stateStart, statesMore}
 use Rattle.language.specs.Notions.{inState}
-use Rattle.language.specs.Sections.{ruleOf}
-use Rattle.language.specs.Steps.{Step}
+use Rattle.language.specs.SectionWays.{ruleOf}
+use Rattle.language.specs.BuildSteps.{Step}
 use Rattle.language.specs.Tree.{Name}
 use Rattle.language.specs.Ways.{signedStateWays}
 use Rattle.language.specs.Words as W

@@ -13,7 +13,7 @@ use Rattle.language.specs.Kinds.{aConstant, caseWord, closeBracket, closeParen,
 use Rattle.language.specs.Machine as M
 use Rattle.language.specs.Machine.{Ask, Sym, afterConstant, afterSecondConstant, afterSubscript, andTail, arithmeticTail, ask, conTail, counted, cutTail, exclusiveTail, keep, make, moreArms, operandRest, orTail, relationTail, second, secondEnd, secondOption, secondRest, subscript, subscripts, term}
 use Rattle.language.specs.Notions.{betweenSubscripts}
-use Rattle.language.specs.Sections.{ruleOf}
+use Rattle.language.specs.SectionWays.{ruleOf}
 use Rattle.language.specs.Ways.{colonInstead, expressionWays, otherTermWays, subscriptWays, termWays}
 use Rattle.language.specs.Words as W
 use Rattle.language.specs.Words.{Constant, Position, Word, sign}

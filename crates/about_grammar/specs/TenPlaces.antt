@@ -9,8 +9,8 @@ use Rattle.language.specs.Building.{Built, wordNo}
 use Rattle.language.specs.Declaring.{treeSteps}
 use Rattle.language.specs.Machine.{Ask, Counts, Reading, Without, ask, counted, more, must, may, operand, refused, tallied, withinCeilings, again, ease, keep, make, word}
 use Rattle.language.specs.declared.refusals.Refusal.the-variants.{CeilingPassed}
-use Rattle.language.specs.Sections.{parse, ruleOf}
-use Rattle.language.specs.Steps.{Step}
+use Rattle.language.specs.SectionWays.{parse, ruleOf}
+use Rattle.language.specs.BuildSteps.{Step}
 use Rattle.language.specs.Words.{Position, Word, fault, wordAt}
 use Rattle.about_grammar.specs.Accepting.{Proper}
 use Rattle.about_grammar.specs.Calm.{counts, not-so, topWaits, waits}

@@ -7,8 +7,8 @@ use lib.ListN.{drop}
 use Rattle.language.specs.Building.{Built, wordNo}
 use Rattle.language.specs.Declaring.{treeSteps}
 use Rattle.language.specs.Machine.{Ask, Counts, Reading, ask, bears, counted, feed, leave, may, more, nested, operand, reading, tallied, took, withinCeilings}
-use Rattle.language.specs.Sections.{ruleOf}
-use Rattle.language.specs.Steps.{Step}
+use Rattle.language.specs.SectionWays.{ruleOf}
+use Rattle.language.specs.BuildSteps.{Step}
 use Rattle.language.specs.Words.{Position, Word, kindOf, wordAt}
 use Rattle.about_grammar.specs.Calm.{calm, calm-below, calm-top, counts, topWaits, waits}
 use Rattle.about_grammar.specs.Ceilingless.{Passes, all, by-counting, by-ease, by-kept, by-leaving, by-make, by-way, by-word}

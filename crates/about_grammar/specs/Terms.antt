@@ -7,13 +7,13 @@ use native.Mathlib.Omega.{arith}
 use borrow.Author.Tests.{eq-eqb}
 use Rattle.language.specs.Alternatives.{closing, lead, plainWord}
 use Rattle.language.specs.Building.{Built, expressionNo, keepWord, makeChoice, makeConstant, makeFirstArm, makeNextArm, wordNo}
-use Rattle.language.specs.Ceilings.{countedExpression}
+use Rattle.language.specs.CountedWords.{countedExpression}
 use Rattle.language.specs.Declaring.{treeSteps}
 use Rattle.language.specs.Kinds.{caseWord, closeParen, doWord, elseWord, endCaseWord, endIfWord, ifWord, openParen, thenWord}
 use Rattle.language.specs.Machine as M
 use Rattle.language.specs.Machine.{Counts, after, ask, choose, counted, feed, make, more, moreArms, nested, reading, run, stuck, taken, tallied, term}
 use Rattle.language.specs.Notions.{Tree, expression}
-use Rattle.language.specs.Sections.{ruleOf}
+use Rattle.language.specs.SectionWays.{ruleOf}
 use Rattle.language.specs.Tree.{Expression, choice, constant, firstArm, nextArm}
 use Rattle.language.specs.Words as W
 use Rattle.language.specs.Words.{Constant, Position, Word, sign}

@@ -5,10 +5,10 @@ use Prim.Native.Nat.{ℕ, _+_}
 use native.Mathlib.Omega.{arith}
 use lib.ListN.{length}
 use Rattle.language.specs.Building.{Built, nothingBuilt, withText}
-use Rattle.language.specs.Ceilings.{countedWords}
+use Rattle.language.specs.CountedWords.{countedWords}
 use Rattle.language.specs.Kinds.{dollar}
 use Rattle.language.specs.Machine.{Counts, ask, choose, dollarOption, feed, finish, noCounts, parsed, reading, run, sections, tallied}
-use Rattle.language.specs.Sections.{ruleOf}
+use Rattle.language.specs.SectionWays.{ruleOf}
 use Rattle.language.specs.Tree.{Declaration, Operation, State, Text}
 use Rattle.language.specs.Words.{Position, Word, sign}
 use Rattle.about_grammar.specs.Control.{Controlled, stated}

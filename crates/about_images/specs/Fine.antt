@@ -21,7 +21,8 @@ use Rattle.language.specs.ReferenceRules.{boundFaults, endFaults, referenceJudg
 use Rattle.language.specs.References as R
 use Rattle.language.specs.References.{Subscripts, referenceOf}
 use Rattle.language.specs.declared.refusals.Refusal.the-variants.{BadLength, BadSubscript}
-use Rattle.language.specs.Value.{Value, longest}
+use Rattle.language.specs.Value.{Value}
+use Rattle.language.specs.Ceilings.{longest}
 use Rattle.about_running.specs.Finds.{Refers, reference-fine}
 use Rattle.about_running.specs.Judged.{append-none-left, append-none-right, arms-fine, both-fine, faulty-fine, given-fine, proper-fine, sized-fine, unless-none}
 use Rattle.about_running.specs.Starts.{none-some, one-before, start-le, start-lt, two-before}

@@ -17,14 +17,14 @@ use Rattle.language.specs.Expressions.{terminalBelow, terminalJudged}
 use Rattle.language.specs.Image.{legalForm}
 use Rattle.language.specs.Judging.{Judged, Worth, fine, refuse, unless}
 use Rattle.language.specs.Layout.{facilityBytes}
-use Rattle.language.specs.Machine.{mostCounted, mostFacilities, mostOperations, mostStates}
+use Rattle.language.specs.Ceilings.{largestBound, longest, longestName, mostCounted, mostFacilities, mostOperations, mostStates}
 use Rattle.language.specs.Order.{facilityRoots, operationRoots, startAt, startNode, stateRoots, valueRoot}
 use Rattle.language.specs.Recursion.{below-ge}
 use Rattle.language.specs.declared.refusals.Refusal.the-variants.{BadSequencing, BadSubscript, NoContinuation}
-use Rattle.language.specs.Rules.{boundsFaults, facilitiesFaults, facilityFaults, largestBound, lengthAt, orElse, repeated, sequencingLength, sequencingRight, valueFaults}
-use Rattle.language.specs.Scan.{longestName, reservedKind}
+use Rattle.language.specs.Rules.{boundsFaults, facilitiesFaults, facilityFaults, firstFaults, registerLength, repeated, sequencingLength, sequencingRight, valueFaults}
+use Rattle.language.specs.Scan.{reservedKind}
 use Rattle.language.specs.Tree.{Kind, Name, computed, input, memory, plain, register, sequencing}
-use Rattle.language.specs.Value.{Value, longest}
+use Rattle.language.specs.Value.{Value}
 use Rattle.language.specs.Words.{Fault, Position}
 use Rattle.about_running.specs.Judged.{append-none-left, append-none-right, faulty-fine, unless-none}
 use Rattle.about_running.specs.LegalForm.{Legal, after-names, canonical-so, counts-so, facility-none, left-of, legal, no-faults, right-of, runs-so, trees-so}
@@ -87,7 +87,7 @@ unfolding facilitiesFaults boundsFaults largestBound
 bounds-at d n another before [] e i h = absurd (omega arith)
 bounds-at d n another before (f ∷ fs) e zero h = roomy (or-left _ _ (append-none-left _ _ e))
   where
-    or-left : (xs ys : List Fault) → orElse d noPlaces xs ys ≡ [] → xs ≡ []
+    or-left : (xs ys : List Fault) → firstFaults d noPlaces xs ys ≡ [] → xs ≡ []
     or-left [] ys e = refl
     or-left (x ∷ xs) ys e = e
 
@@ -105,7 +105,7 @@ bounds-at d n another before (f ∷ fs) e zero h = roomy (or-left _ _ (append-no
         }
 bounds-at d n another before (f ∷ fs) e (suc i) h =
     bounds-at d (suc n) (another || isSequencing (f .kind)) (before + facilityBytes f) fs
-    (append-none-right (orElse d noPlaces (boundsFaults d noPlaces f (facilityPlace noPlaces n)) (facilityFaults d noPlaces n another before f (facilityPlace noPlaces n))) _ e) i (omega arith)
+    (append-none-right (firstFaults d noPlaces (boundsFaults d noPlaces f (facilityPlace noPlaces n)) (facilityFaults d noPlaces n another before f (facilityPlace noPlaces n))) _ e) i (omega arith)
 
 -- ---- Constants.
 
@@ -282,7 +282,7 @@ module _ (d : Description) (h : legalForm d ≡ true) where
   unfolding sequencingLength
   register-long l e = go (sequencingOf d) refl e
     where
-      go : (x : Option ℕ) → sequencingOf d ≡ x → lengthAt d noPlaces x ≡ some l → (1 ≤ l) × (l ≤ 256)
+      go : (x : Option ℕ) → sequencingOf d ≡ x → registerLength d noPlaces x ≡ some l → (1 ≤ l) × (l ≤ 256)
       go none q k = absurd (let z : _≡_ {A = ℕ} 0 1 = cc in omega arith)
       go (some f) q k =
           let z : wordLength (facilityAt d f) ≡ l = cc in

@@ -21,7 +21,7 @@ use Rattle.image_records.proofs.NodeBack.{Half}
 use Rattle.about_images.specs.Counted.{count, count-add, count-more, count-one}
 use Rattle.about_images.specs.Depth.{depth-leaf, depthAt}
 use Rattle.language.specs.Encode.{nodeSize}
-use Rattle.language.specs.Kinds.{atLeastSign, atMostSign, conWord, differenceSign, equalsSign, exclusiveSign, extWord, greaterSign, hash, headWord, lessSign, minus, plus, star, sumSign, tailWord}
+use Rattle.language.specs.Kinds.{atLeastSign, atMostSign, conWord, differenceSign, exclusiveSign, extWord, greaterSign, hash, headWord, lessSign, minus, plus, sameSign, star, sumSign, tailWord}
 
 -- ---- Sane records: what they name stands before them.
 
@@ -183,7 +183,7 @@ binary-kind k m n h = below-so k 64 (λ g.
       ne-eqb k plus (λ e. omega arith),
       ne-eqb k star (λ e. omega arith),
       ne-eqb k exclusiveSign (λ e. omega arith),
-      ne-eqb k equalsSign (λ e. omega arith),
+      ne-eqb k sameSign (λ e. omega arith),
       ne-eqb k hash (λ e. omega arith),
       ne-eqb k lessSign (λ e. omega arith),
       ne-eqb k greaterSign (λ e. omega arith),

@@ -5,6 +5,7 @@ use mathlib.Core.Option.{Option, none, some}
 use Prim.Native.Nat.{ℕ, zero, suc, _+_, _-_}
 use lib.Dec.{eqb, leb, ltb}
 use lib.ListN.{length}
+use Rattle.language.specs.Ceilings.{largestBound, largestStore, mostWork}
 use Rattle.language.specs.ActionRules as J
 use Rattle.language.specs.ActionRules.{Shape, actions, arms, kindAt, listJudged, armsJudged, operationBelow, simpleJudged}
 use Rattle.language.specs.Description as D
@@ -155,12 +156,12 @@ module _ (Here : Position → Type 0) (d : Description) (p : Places) (all : AllH
 
   -- ---- Facilities.
 
-  or-else : {xs ys : List Fault} → Stands xs → Stands ys → Stands (L.orElse d p xs ys)
+  or-else : {xs ys : List Fault} → Stands xs → Stands ys → Stands (L.firstFaults d p xs ys)
   or-else S.no-fault k = k
   or-else (S.a-fault x h) k = S.a-fault x h
 
   bound-stands : (n : ℕ) (at : Position) → Here at → Stands (L.boundFault d p n at)
-  bound-stands n at h = S.unless-stand Here (leb n L.largestBound) at BadSubscript h
+  bound-stands n at h = S.unless-stand Here (leb n largestBound) at BadSubscript h
 
   bounds-stand : (f : Facility) (at : FacilityPlaces) → FacilityHere Here at → Stands (L.boundsFaults d p f at)
   unfolding L.boundsFaults
@@ -177,7 +178,7 @@ module _ (Here : Position → Type 0) (d : Description) (p : Places) (all : AllH
   unfolding L.facilityFaults
   facility-stands n another before f at h =
       S.append-stand Here (S.unless-stand Here (cond (isSequencing (f .kind)) (L.sequencingRight d p another f) true) (at .name) BadSequencing (h .name))
-      (S.append-stand Here (S.unless-stand Here (leb (before + facilityBytes f) L.largestStore) (at .name) CeilingPassed (h .name))
+      (S.append-stand Here (S.unless-stand Here (leb (before + facilityBytes f) largestStore) (at .name) CeilingPassed (h .name))
       (S.cond-stand Here (isComputed (f .kind)) (length-stands (wordLength f) (at .equals) (h .equals) (terminal-judges Here d p all n)) S.no-fault))
 
   facilities-stand : (n : ℕ) (another : Bool) (before : ℕ) (fs : List Facility) → Stands (L.facilitiesFaults d p n another before fs)
@@ -198,7 +199,7 @@ module _ (Here : Position → Type 0) (d : Description) (p : Places) (all : AllH
       S.unless-stand Here (both (eqb (v .length) l) (cond (L.repeated d p (v .number) before) false true)) at BadSequencing h
 
   own-stands : (l : Option ℕ) (at : Position) (s : State) {j : Judged} → Here at → Is j → Stands (L.ownFaults d p l at s j)
-  own-stands l at s h (S.is-fine {w = w}) = S.append-stand Here (S.unless-stand Here (cond (L.missing d p l (s .value)) false true) at BadSequencing h) (S.unless-stand Here (leb (w .work) L.mostWork) at CeilingPassed h)
+  own-stands l at s h (S.is-fine {w = w}) = S.append-stand Here (S.unless-stand Here (cond (L.missing d p l (s .value)) false true) at BadSequencing h) (S.unless-stand Here (leb (w .work) mostWork) at CeilingPassed h)
   own-stands l at s h (S.is-faulty x y) = S.a-fault x y
 
   state-stands : (l : Option ℕ) (before : List ℕ) (at : StatePlaces) (s : State) → Here (at .at) × Here (at .value) → Stands (L.stateFaults d p l before at s)

@@ -12,7 +12,7 @@ use Rattle.language.specs.Machine
 use Rattle.language.specs.Machine.{Alternative, Counts, Fed, Parsed, Reading, Without, after, again, ask, bears, choose, countKept, ease, feed, finish, keep, keptIf, leave, leaveAtEnd, make, may, must, nested, noCounts, operand, parsed, reading, refused, run, taken, tallied, took, withinCeilings, word, wrong}
 use Rattle.language.specs.declared.refusals.Refusal.the-variants.{CeilingPassed, NoContinuation}
 use Rattle.language.specs.Scan.{same}
-use Rattle.language.specs.Sections.{parse, parseWith, ruleOf}
+use Rattle.language.specs.SectionWays.{parse, parseWith, ruleOf}
 use Rattle.language.specs.Words.{Fault, Position, Word, fault, kindOf, position, wordAt}
 use Rattle.about_grammar.specs.Calm.{all-right, allRight, calm, calm-append, calm-below, calm-top, counts, not-so, onTop, topWaits, waits}
 use Rattle.about_grammar.specs.Courses.{Stack}

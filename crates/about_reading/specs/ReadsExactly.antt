@@ -9,17 +9,18 @@ use borrow.Author.Tests.{le-ltb, lt-ltb, ltb-false, ltb-true}
 use lib.Dec.{ltb}
 use lib.ListN.{length}
 use Rattle.language.specs.Building.{Built}
-use Rattle.language.specs.Ceilings.{WithinCeilings}
+use Rattle.language.specs.CountedWords.{WithinCeilings}
 use Rattle.language.specs.DescribeText.{describe}
 use Rattle.language.specs.Description.{Description}
 use Rattle.language.specs.Grammar.{Is}
 use Rattle.language.specs.Image as Image
-use Rattle.language.specs.Machine.{Parsed, deepest, parsed, refused}
+use Rattle.language.specs.Machine.{Parsed, parsed, refused}
+use Rattle.language.specs.Ceilings.{deepest, longestText}
 use Rattle.language.specs.Notions.{text, wholeText}
-use Rattle.language.specs.Reading.{afterGrammar, afterWords, legal, longestText, orLegal, readText, refusedAt, restOf}
+use Rattle.language.specs.Reading.{afterGrammar, afterWords, legal, orLegal, readText, refusedAt, restOf}
 use Rattle.language.specs.declared.refusals.Refusal.the-variants.{TextTooLong}
 use Rattle.language.specs.Rules.{faults}
-use Rattle.language.specs.Sections.{parse}
+use Rattle.language.specs.SectionWays.{parse}
 use Rattle.language.specs.Tree.{Text}
 use Rattle.language.specs.WordStage.{least, scan, wordFault, wordFaults}
 use Rattle.language.specs.Words.{Fault, fault, position}

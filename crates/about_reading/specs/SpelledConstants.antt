@@ -13,7 +13,7 @@ use Rattle.language.specs.Constants.{binaryConstant, digitsNumber}
 use Rattle.language.specs.Scan as Scan
 use Rattle.language.specs.Scan.{Found, bareAt, based, basedItem, binaryAt, constantAt, decimalAt, digitBits, digitsOf, isDecimalBase, isDigitOf, span}
 use Rattle.language.specs.declared.refusals.Refusal.the-variants.{BadConstant}
-use Rattle.language.specs.Value.{longest}
+use Rattle.language.specs.Ceilings.{longest}
 use Rattle.language.specs.Words.{Constant}
 use Rattle.about_reading.specs.SpelledBytes.{Pass, all-map, bits-designator, decimal-tens, designator-bits, designator-small, digit-test, span-all, span-exact, span-le, span-most, span-stop, tens-decimal, test-digit}
 use Rattle.about_reading.specs.SpelledSymbols.{Taken}

@@ -6,7 +6,7 @@ use lib.Dec.{eqb, leb, ltb}
 use Rattle.language.specs.Judging.{Judged, Worth, armList, faultsOf, faulty, fine, given, givenBoth, orFaulty, proper, refuse, sized, unless}
 use Rattle.language.specs.Recursion.{below}
 use Rattle.language.specs.declared.refusals.Refusal.{Refusal}
-use Rattle.language.specs.Value.{longest}
+use Rattle.language.specs.Ceilings.{longest}
 use Rattle.language.specs.Words.{Fault, Position}
 
 module _ (Here : Position → Type 0) where

@@ -6,7 +6,7 @@ use mathlib.Core.Path.{_≡_}
 use native.Mathlib.Omega.{arith}
 use Prim.Native.Nat.{ℕ, zero, suc, _+_, _<_, _≤_}
 use lib.ListN.{drop, length, length-drop}
-use Rattle.language.specs.Lines.{longLines, passes, widthAfter}
+use Rattle.language.specs.Columns.{longLines, tooWideAfter, widthAfter}
 use Rattle.language.specs.declared.refusals.Refusal.the-variants.{BadCharacter}
 use Rattle.language.specs.Scan as S
 use Rattle.language.specs.Scan.{Item, itemAt}
@@ -52,7 +52,7 @@ module _ (end : ℕ) where
   lines-before : (w at : ℕ) (s : List ℕ) → at + length s ≤ end → Stand Before (longLines w at s)
   unfolding longLines
   lines-before w at [] h = no-fault
-  lines-before w at (b ∷ t) h = go (passes w (widthAfter w b t)) (lines-before (widthAfter w b t) (suc at) t (omega arith))
+  lines-before w at (b ∷ t) h = go (tooWideAfter w (widthAfter w b t)) (lines-before (widthAfter w b t) (suc at) t (omega arith))
     where
       go : (z : Bool) {fs : List Fault} → Stand Before fs → Stand Before (cond z (fault (position at) BadCharacter ∷ fs) fs)
       go true k = a-fault {f = fault (position at) BadCharacter} (omega arith) k

@@ -9,7 +9,7 @@ use lib.ListN.{length}
 use Rattle.language.specs.Judging.{Judged, Worth, armList, faultsOf, faulty, fine, given, givenBoth, orFaulty, proper, sized, unless}
 use Rattle.language.specs.Recursion.{below}
 use Rattle.language.specs.declared.refusals.Refusal.{Refusal}
-use Rattle.language.specs.Value.{longest}
+use Rattle.language.specs.Ceilings.{longest}
 use Rattle.language.specs.Words.{Fault, Position}
 
 pub data Alike : Judged → Judged → Type 0 where

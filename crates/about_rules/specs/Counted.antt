@@ -5,7 +5,7 @@ use mathlib.Core.Path.{_≡_, refl}
 use native.Mathlib.Omega.{arith}
 use Prim.Native.Nat.{ℕ, zero, suc, _+_, _-_, _≤_}
 use Rattle.language.specs.Canonical.{actionCount, leftCount, nodeCount, total}
-use Rattle.language.specs.Ceilings.{countedActions, countedExpression, countedLeft, countedReference}
+use Rattle.language.specs.CountedWords.{countedActions, countedExpression, countedLeft, countedReference}
 use Rattle.language.specs.Describe as B
 use Rattle.language.specs.Describe.{Noted, NotedAction, actionsOf, constantNodes, digitsAbove, expressionSize, expressionsIn, leftNodes, leftSize, nodesIn, nodesOf, storeOf}
 use Rattle.language.specs.Description as D

@@ -8,7 +8,7 @@ use Prim.Native.Nat.{ℕ, _+_, _≤_}
 use borrow.Author.Tests.{le-leb}
 use lib.Dec.{leb}
 use Rattle.language.specs.Canonical.{all, facilitiesRight, facilityRight, labelRight, mostDimensions, nameRight, noBounds}
-use Rattle.language.specs.DescribeText.{bitBounds, dimensionsOf, facilitiesOf, facilityOf, functionSize, labelOf, operationsOf, stateSize, statesOf, valueNumber, wordBounds}
+use Rattle.language.specs.DescribeText.{bitBounds, dimensionsOf, expressionsOfState, facilitiesOf, facilityDeclared, functionSize, labelOf, operationsOf, statesOf, valueNumber, wordBounds}
 use Rattle.language.specs.Describe.{actionsIn}
 use Rattle.language.specs.Tree as T
 use Rattle.language.specs.Tree.{Declaration, Extent, Function, Kind, Label, Name, Operation, State, StateValue}
@@ -46,7 +46,7 @@ bounds-right T.single = refl
 bounds-right (T.row y) = refl
 bounds-right (T.table y z) = refl
 
-facility-right : (base : ℕ) (d : Declaration) → Suits (d .kind) (d .extent) (d .function) → facilityRight (facilityOf base d) ≡ true
+facility-right : (base : ℕ) (d : Declaration) → Suits (d .kind) (d .extent) (d .function) → facilityRight (facilityDeclared base d) ≡ true
 unfolding facilityRight
 facility-right base d h = both-so (dimensions-right (d .kind) (d .extent) (d .function) h) (bounds-right (d .extent))
 
@@ -107,4 +107,4 @@ pub labels-right : (l : Option ℕ) (base a : ℕ) (ss : List State) → StatesT
 unfolding all statesOf
 labels-right l base a [] h = refl
 labels-right l base a (s ∷ ss) h =
-    both-so (label-right base l (s .label) (s .value) (h .0 .0)) (labels-right l (base + stateSize l s) (a + actionsIn (s .actions)) ss (h .1))
+    both-so (label-right base l (s .label) (s .value) (h .0 .0)) (labels-right l (base + expressionsOfState l s) (a + actionsIn (s .actions)) ss (h .1))

@@ -3,14 +3,14 @@ use mathlib.Core.Option.{Option, none, some}
 use Prim.Native.Nat.{ℕ, _+_}
 use lib.Dec.{eqb, ltb}
 use Rattle.language.specs.Description as D
-use Rattle.language.specs.Description.{Bounds, Description, Facility, Node, NodePlaces, Places, facilityAt, inBounds, isComputed, nodeAt, nodePlace}
+use Rattle.language.specs.Description.{Bounds, Description, Facility, Node, NodePlaces, Places, constantNumber, facilityAt, inBounds, isComputed, nodeAt, nodePlace}
 use Rattle.language.specs.Expressions as E
 use Rattle.language.specs.Expressions.{judgeNode, ownWork, selects}
 use Rattle.language.specs.Judging.{Judged}
 use Rattle.language.specs.ReferenceRules as RR
 use Rattle.language.specs.ReferenceRules.{boundFaults, directionFaults, referenceJudged, subscriptsJudged}
 use Rattle.language.specs.References as R
-use Rattle.language.specs.References.{Reference, Subscripts, constantOf, part, referenceOf, rightCount, sameDirection, two, whole, wordPart}
+use Rattle.language.specs.References.{Reference, Subscripts, part, referenceOf, rightCount, sameDirection, two, whole, wordPart}
 use Rattle.about_rules.specs.Alike.{Alike, Together, append-together, arms-alike, below-related, both-alike, both-faulty, both-fine, cond-alike, cond-together, faults-together, given-alike, no-fault, or-alike, proper-alike, sized-alike, unless-together}
 use Rattle.language.specs.declared.refusals.Refusal.the-variants.{BadSubscript}
 use Rattle.language.specs.Tests.{both}
@@ -20,7 +20,7 @@ module _ (d : Description) (p q : Places) where
 
   module _ (t u : ℕ → Judged) where
     subscript-together : (b : Bounds) (e : ℕ) → Together (RR.subscriptFaults d p t b e) (RR.subscriptFaults d q u b e)
-    subscript-together b e = go (constantOf (nodeAt d e))
+    subscript-together b e = go (constantNumber (nodeAt d e))
       where
         go : (x : Option ℕ) → Together (RR.constantFaults d p t b (nodePlace p e .at) x) (RR.constantFaults d q u b (nodePlace q e .at) x)
         go none = no-fault

@@ -6,6 +6,7 @@ use mathlib.Core.Path.{_≡_, ap, refl}
 use Prim.Native.Nat.{ℕ, zero, suc, _+_, _-_}
 use lib.Dec.{eqb, leb, ltb}
 use lib.ListN.{length}
+use Rattle.language.specs.Ceilings.{largestBound, largestStore, mostWork}
 use Rattle.language.specs.ActionRules as J
 use Rattle.language.specs.ActionRules.{Shape, actions, arms, kindAt, listJudged, armsJudged, operationBelow, simpleJudged}
 use Rattle.language.specs.Description as D
@@ -147,12 +148,12 @@ module _ (d : Description) (p q : Places) where
 
   -- ---- Facilities.
 
-  or-else-together : {xs ys zs ws : List Fault} → Together xs ys → Together zs ws → Together (L.orElse d p xs zs) (L.orElse d q ys ws)
+  or-else-together : {xs ys zs ws : List Fault} → Together xs ys → Together zs ws → Together (L.firstFaults d p xs zs) (L.firstFaults d q ys ws)
   or-else-together no-fault h = h
   or-else-together some-fault h = some-fault
 
   bound-together : (n : ℕ) (at to : Position) → Together (L.boundFault d p n at) (L.boundFault d q n to)
-  bound-together n at to = unless-together (leb n L.largestBound) at to BadSubscript
+  bound-together n at to = unless-together (leb n largestBound) at to BadSubscript
 
   bounds-together : (f : Facility) (at to : FacilityPlaces) → Together (L.boundsFaults d p f at) (L.boundsFaults d q f to)
   unfolding L.boundsFaults
@@ -169,7 +170,7 @@ module _ (d : Description) (p q : Places) where
   unfolding L.facilityFaults L.sequencingRight
   facility-together n another before f at to =
       append-together (unless-together (cond (isSequencing (f .kind)) (L.sequencingRight d p another f) true) (at .name) (to .name) BadSequencing)
-      (append-together (unless-together (leb (before + facilityBytes f) L.largestStore) (at .name) (to .name) CeilingPassed)
+      (append-together (unless-together (leb (before + facilityBytes f) largestStore) (at .name) (to .name) CeilingPassed)
       (cond-together (isComputed (f .kind)) (length-together (wordLength f) (at .equals) (to .equals) (terminal-alike d p q n)) no-fault))
 
   facilities-together : (n : ℕ) (another : Bool) (before : ℕ) (fs : List Facility) → Together (L.facilitiesFaults d p n another before fs) (L.facilitiesFaults d q n another before fs)
@@ -201,7 +202,7 @@ module _ (d : Description) (p q : Places) where
 
   own-together : (l : Option ℕ) (at to : Position) (s : State) {i j : Judged} → Alike i j → Together (L.ownFaults d p l at s i) (L.ownFaults d q l to s j)
   own-together l at to s (both-fine {w = w}) =
-      rw (missing-same l (s .value)) (append-together (unless-together (cond (L.missing d q l (s .value)) false true) at to BadSequencing) (unless-together (leb (w .work) L.mostWork) at to CeilingPassed))
+      rw (missing-same l (s .value)) (append-together (unless-together (cond (L.missing d q l (s .value)) false true) at to BadSequencing) (unless-together (leb (w .work) mostWork) at to CeilingPassed))
   own-together l at to s both-faulty = some-fault
 
   state-together : (l : Option ℕ) (before : List ℕ) (at to : StatePlaces) (s : State) → Together (L.stateFaults d p l before at s) (L.stateFaults d q l before to s)
@@ -239,7 +240,7 @@ module _ (d : Description) (p q : Places) where
   unfolding L.sequencingLength
   sequencing-same = go (D.sequencingOf d)
     where
-      go : (x : Option ℕ) → L.lengthAt d p x ≡ L.lengthAt d q x
+      go : (x : Option ℕ) → L.registerLength d p x ≡ L.registerLength d q x
       go none = refl
       go (some n) = refl
 

@@ -11,7 +11,7 @@ use Rattle.language.specs.Description as D
 use Rattle.language.specs.Description.{Bounds, Description, Node, Places, facilityAt, inBounds, isComputed, nodeAt, nodePlace, wordLength}
 use Rattle.language.specs.Expressions.{evenly, expressionAt, judgeAt, judgeBelow, judgeNode, judgeStep, longestSelector, notBefore, ownWork, selects, terminalBelow}
 use Rattle.language.specs.Judging.{Judged, Worth, armList, fine, proper, refuse, sized, unless, worth}
-use Rattle.language.specs.Kinds.{atLeastSign, atMostSign, conWord, differenceSign, equalsSign, exclusiveSign, extWord, greaterSign, hash, headWord, lessSign, minus, plus, star, sumSign, tailWord}
+use Rattle.language.specs.Kinds.{atLeastSign, atMostSign, conWord, differenceSign, exclusiveSign, extWord, greaterSign, hash, headWord, lessSign, minus, plus, sameSign, star, sumSign, tailWord}
 use Rattle.language.specs.Meaning as M
 use Rattle.language.specs.Operators.{binaryLength, cutLengthOf, prefixLength}
 use Rattle.language.specs.Recursion.{below-ge}
@@ -47,7 +47,7 @@ module _ (d : Description) (known n a b l m : ℕ) (left : Long d known expressi
       by-kind BinaryLong k plus (λ e h j. H.logical H.either e left right) (λ e4.
       by-kind BinaryLong k star (λ e h j. H.logical H.each e left right) (λ e5.
       by-kind BinaryLong k exclusiveSign (λ e h j. H.logical H.exclusive e left right) (λ e6.
-      by-kind BinaryLong k equalsSign (λ e h j. H.relation H.equals e left right) (λ e7.
+      by-kind BinaryLong k sameSign (λ e h j. H.relation H.equals e left right) (λ e7.
       by-kind BinaryLong k hash (λ e h j. H.relation H.unequal e left right) (λ e8.
       by-kind BinaryLong k lessSign (λ e h j. H.relation H.less e left right) (λ e9.
       by-kind BinaryLong k greaterSign (λ e h j. H.relation H.greater e left right) (λ ea.
@@ -56,7 +56,7 @@ module _ (d : Description) (known n a b l m : ℕ) (left : Long d known expressi
       λ e h j. absurd (other e1 e2 e3 e4 e5 e6 e7 e8 e9 ea eb ec h)))))))))))))
     where
       other : eqb k sumSign ≡ false → eqb k differenceSign ≡ false → eqb k conWord ≡ false → eqb k plus ≡ false → eqb k star ≡ false → eqb k exclusiveSign ≡ false
-          → eqb k equalsSign ≡ false → eqb k hash ≡ false → eqb k lessSign ≡ false → eqb k greaterSign ≡ false → eqb k atMostSign ≡ false → eqb k atLeastSign ≡ false
+          → eqb k sameSign ≡ false → eqb k hash ≡ false → eqb k lessSign ≡ false → eqb k greaterSign ≡ false → eqb k atMostSign ≡ false → eqb k atLeastSign ≡ false
           → 1 ≤ binaryLength k l m → ⊥
       other e1 e2 e3 e4 e5 e6 e7 e8 e9 ea eb ec h = let z = rw (e1, e2, e3, e4, e5, e6, e7, e8, e9, ea, eb, ec) at h in omega arith
 

@@ -4,7 +4,7 @@ use mathlib.Core.Path.{_≡_}
 use Prim.Native.Nat.{ℕ, _+_, _-_, _*_, _^_, _≤_, _<_, max}
 use Rattle.language.specs.Description as D
 use Rattle.language.specs.Description.{Bounds, Description, facilityAt, isComputed, nodeAt, wordLength}
-use Rattle.language.specs.Kinds.{atLeastSign, atMostSign, conWord, differenceSign, equalsSign, exclusiveSign, extWord, greaterSign, hash, headWord, lessSign, minus, plus, star, sumSign, tailWord}
+use Rattle.language.specs.Kinds.{atLeastSign, atMostSign, conWord, differenceSign, exclusiveSign, extWord, greaterSign, hash, headWord, lessSign, minus, plus, sameSign, star, sumSign, tailWord}
 use Rattle.language.specs.Value.{Value}
 
 -- ---- The numbers of 01, "Lengths".
@@ -25,7 +25,7 @@ mostCaseBits = 6
 
 -- "relational": (=) # < > <= >=
 pub data Relational : ℕ → Type 0 where
-  equals : Relational equalsSign
+  equals : Relational sameSign
   unequal : Relational hash
   less : Relational lessSign
   greater : Relational greaterSign

@@ -12,7 +12,7 @@ use Rattle.language.specs.ActionRules as J
 use Rattle.language.specs.ActionRules.{operationBelow, operationJudged, runJudged}
 use Rattle.language.specs.Describe.{actionsIn, actionsOf, constantSize, expressionSize, expressionsIn, lastOf, nodesIn, nodesOf}
 use Rattle.language.specs.DescribeText as X
-use Rattle.language.specs.DescribeText.{facilitiesOf, facilityNodes, facilityOf, facilitySize, functionNodes, functionSize, operationActions, operationExpressions, operationNodes, operationScope, operationsOf, stateActions, stateConstant, stateNodes, stateSize, statesOf, valueNodes, valueNumber, valueSize}
+use Rattle.language.specs.DescribeText.{expressionsOfState, facilitiesOf, facilityDeclared, facilityNodes, functionNodes, functionSize, functionSizes, operationActions, operationExpressions, operationNodes, operationScope, operationsOf, stateActions, stateConstant, stateNodes, statesOf, valueNodes, valueNumber, valueSize}
 use Rattle.language.specs.Description as D
 use Rattle.language.specs.Description.{Description, Facility, Operation, State, facilityAt, nodePlace, noPlaces, operationAt, stateAt}
 use Rattle.language.specs.Expressions.{judgeAt, terminalBelow, terminalJudged}
@@ -51,7 +51,7 @@ last-suited r (d ∷ ds) h = ((h .0 .suits, h .0 .function-tidy), last-suited r 
 -- The expression records of states.
 unfoldable pub stateExpressions : Option ℕ → List T.State → ℕ
 stateExpressions l [] = 0
-stateExpressions l (s ∷ ss) = stateSize l s + stateExpressions l ss
+stateExpressions l (s ∷ ss) = expressionsOfState l s + stateExpressions l ss
 
 module _ (d : Description) (faultless : faults d noPlaces ≡ []) where
   -- ---- What stands at the numbers of a section.
@@ -90,9 +90,9 @@ module _ (d : Description) (faultless : faults d noPlaces ≡ []) where
       tree-then d base (lastOf base n) rs e (omega arith) ∙ ap (λ (m : ℕ). treesEnd d m rs) z
 
   function-roots : (n base : ℕ) (before : List Name) (x : Declaration) (rs : List ℕ) → Suits (x .kind) (x .extent) (x .function) → FunctionTidy (x .function)
-      → facilityAt d n ≡ facilityOf base x → n < length (d .facilities) → base + functionSize (x .function) ≤ length (d .expressions)
+      → facilityAt d n ≡ facilityDeclared base x → n < length (d .facilities) → base + functionSize (x .function) ≤ length (d .expressions)
       → Stand d base (functionNodes (record { facilities = before; operations = []; stateNamed = noState }) base (x .function))
-      → treesEnd d base (functionRoot d (facilityOf base x) (x .kind) ++ rs) ≡ treesEnd d (base + functionSize (x .function)) rs
+      → treesEnd d base (functionRoot d (facilityDeclared base x) (x .kind) ++ rs) ≡ treesEnd d (base + functionSize (x .function)) rs
   function-roots n base before x rs h t q l b k = go (x .kind) (x .function) h t refl refl b k
     where
       none-more : treesEnd d base rs ≡ treesEnd d (base + 0) rs
@@ -100,7 +100,7 @@ module _ (d : Description) (faultless : faults d noPlaces ≡ []) where
 
       go : (c : Kind) (f : Function) → Suits c (x .extent) f → FunctionTidy f → x .kind ≡ c → x .function ≡ f → base + functionSize f ≤ length (d .expressions)
           → Stand d base (functionNodes (record { facilities = before; operations = []; stateNamed = noState }) base f)
-          → treesEnd d base (functionRoot d (facilityOf base x) c ++ rs) ≡ treesEnd d (base + functionSize f) rs
+          → treesEnd d base (functionRoot d (facilityDeclared base x) c ++ rs) ≡ treesEnd d (base + functionSize f) rs
       go T.register T.unspecified s u i j b k = none-more
       go T.register T.fromInput s u i j b k = absurd s
       go T.register (T.given p e) s u i j b k = absurd s
@@ -119,17 +119,17 @@ module _ (d : Description) (faultless : faults d noPlaces ≡ []) where
       go T.computed T.unspecified s u i j b k = absurd s
       go T.computed T.fromInput s u i j b k = absurd s
       go T.computed (T.given p e) s u i j b k =
-          let z : facilityOf base x .expression ≡ lastOf base (expressionSize e) = ap (X.functionNumber base) j in
-          rw z (one-root base (expressionSize e) rs (some-records e) b (terminal-starts n base before (facilityOf base x) e u q l (rw i refl) z k))
+          let z : facilityDeclared base x .expression ≡ lastOf base (expressionSize e) = ap (X.functionNumber base) j in
+          rw z (one-root base (expressionSize e) rs (some-records e) b (terminal-starts n base before (facilityDeclared base x) e u q l (rw i refl) z k))
 
-  pub facilities-end : (n base : ℕ) (before : List Name) (ds : List Declaration) → Suited ds → Facilities n (facilitiesOf base ds) → base + facilitySize ds ≤ length (d .expressions)
-      → Stand d base (facilityNodes before base ds) → Ends base (base + facilitySize ds) (facilityRoots d (facilitiesOf base ds))
-  unfolding facilitiesOf facilityNodes facilitySize facilityRoots treesEnd
+  pub facilities-end : (n base : ℕ) (before : List Name) (ds : List Declaration) → Suited ds → Facilities n (facilitiesOf base ds) → base + functionSizes ds ≤ length (d .expressions)
+      → Stand d base (facilityNodes before base ds) → Ends base (base + functionSizes ds) (facilityRoots d (facilitiesOf base ds))
+  unfolding facilitiesOf facilityNodes functionSizes facilityRoots treesEnd
   facilities-end n base before [] h f l k = let z : base ≡ base + 0 = omega arith in ap some z
   facilities-end n base before (x ∷ ds) h f l k =
       let s : Scope = record { facilities = before; operations = []; stateNamed = noState } in
       let next = base + functionSize (x .function) in
-      let z : next + facilitySize ds ≡ base + (functionSize (x .function) + facilitySize ds) = omega arith in
+      let z : next + functionSizes ds ≡ base + (functionSize (x .function) + functionSizes ds) = omega arith in
       function-roots n base before x (facilityRoots d (facilitiesOf next ds)) (h .0 .0) (h .0 .1) (f .0 .0) (f .0 .1) (omega arith) (stand-left d base (functionNodes s base (x .function)) _ k)
       ∙ facilities-end (suc n) next (before ++ x .name ∷ []) ds (h .1) (f .1) (omega arith)
       (stand-right d base (functionNodes s base (x .function)) _ k next (let y = function-size s base (x .function) in omega (arith, y))) ∙ ap some z
@@ -195,8 +195,8 @@ module _ (d : Description) (faultless : faults d noPlaces ≡ []) where
   states-end l scope n base a [] h f b k x = let z : base ≡ base + 0 = omega arith in ap some z
   states-end l scope n base a (s ∷ ss) h f b k x =
       let from = base + valueSize l (s .value) in
-      let next = base + stateSize l s in
-      let z : next + stateExpressions l ss ≡ base + (stateSize l s + stateExpressions l ss) = omega arith in
+      let next = base + expressionsOfState l s in
+      let z : next + stateExpressions l ss ≡ base + (expressionsOfState l s + stateExpressions l ss) = omega arith in
       let nodes = stand-right d base (valueNodes l (s .value)) _ k from (let y = value-size l (s .value) in omega (arith, y)) in
       let e : from + expressionsIn (s .actions) ≡ next = omega arith in
       let y = run-fine n _ (f .0 .0) (f .0 .1) in

@@ -10,7 +10,7 @@ use Rattle.language.specs.Judging.{Judged, Worth, armList, faultsOf, fine, give
 use Rattle.language.specs.ReferenceRules.{boundFaults, computedWork, countedRight, directionFaults, referenceJudged, subscriptsJudged}
 use Rattle.language.specs.References.{Reference, rightCount, takenLength}
 use Rattle.language.specs.declared.refusals.Refusal.{Refusal}
-use Rattle.language.specs.Value.{longest}
+use Rattle.language.specs.Ceilings.{longest}
 use Rattle.language.specs.Words.{Fault, Position}
 
 pub fine-given : (j : Judged) (k : Worth → Judged) {v w : Worth} → j ≡ fine v → k v ≡ fine w → given j k ≡ fine w

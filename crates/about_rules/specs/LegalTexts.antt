@@ -10,7 +10,7 @@ use lib.ListN.{getD, length, length-append, length-map}
 use Rattle.language.specs.Canonical.{canonical}
 use Rattle.language.specs.Describe.{Noted, NotedAction, expressionsIn, nodesIn}
 use Rattle.language.specs.DescribeText as X
-use Rattle.language.specs.DescribeText.{describe, facilitiesOf, facilityNodes, facilitySize, functionSize, operationActions, operationExpressions, operationNodes, operationRecords, operationsOf, stateActions, stateNodes, statesOf}
+use Rattle.language.specs.DescribeText.{describe, facilitiesOf, facilityNodes, functionSize, functionSizes, operationActions, operationExpressions, operationNodes, operationRecords, operationsOf, stateActions, stateNodes, statesOf}
 use Rattle.language.specs.Description as D
 use Rattle.language.specs.Description.{Description, Facility, Operation, State, actionAt, facilityAt, nodeAt, noPlaces, operationAt, stateAt}
 use Rattle.language.specs.Image as Image
@@ -67,8 +67,8 @@ module _ (d : Description) where
 
 -- ---- How many expression records the sections have.
 
-pub facilities-nodes : (before : List Name) (base : ℕ) (ds : List Declaration) → length (facilityNodes before base ds) ≡ facilitySize ds
-unfolding facilityNodes facilitySize
+pub facilities-nodes : (before : List Name) (base : ℕ) (ds : List Declaration) → length (facilityNodes before base ds) ≡ functionSizes ds
+unfolding facilityNodes functionSizes
 facilities-nodes before base [] = refl
 facilities-nodes before base (d ∷ ds) =
     let s : Scope = record { facilities = before; operations = []; stateNamed = noState } in
@@ -88,7 +88,7 @@ unfolding stateNodes stateExpressions
 states-nodes l scope base [] = refl
 states-nodes l scope base (s ∷ ss) =
     let from = base + X.valueSize l (s .value) in
-    let next = base + X.stateSize l s in
+    let next = base + X.expressionsOfState l s in
     omega (
       arith,
       length-append (X.valueNodes l (s .value)) (nodesIn scope from (s .actions) ++ stateNodes l scope next ss),
@@ -102,7 +102,7 @@ states-nodes l scope base (s ∷ ss) =
 
 module _ (t : Text) (h : TextTidy t) (l : Option ℕ) (scope : Scope) where
   abbrev first : ℕ
-  first = facilitySize (declarationsOf t)
+  first = functionSizes (declarationsOf t)
 
   abbrev second : ℕ
   second = first + operationExpressions (t .operations)

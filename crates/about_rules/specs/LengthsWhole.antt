@@ -16,7 +16,8 @@ use Rattle.language.specs.Expressions.{terminalJudged}
 use Rattle.language.specs.Judging.{Worth, fine, unless, worth}
 use Rattle.language.specs.Layout.{facilityBytes}
 use Rattle.language.specs.Rules as Rules
-use Rattle.language.specs.Rules.{boundsFaults, facilitiesFaults, facilityFaults, faults, largestBound, largestStore, mostWork, nameFaults, namePlaces, namesOf, operationsFaults, orElse, ownFaults, sameLength, sequencingLength, sequencingRight, stateFaults, statesFaults, twice, valueFaults}
+use Rattle.language.specs.Rules.{boundsFaults, facilitiesFaults, facilityFaults, faults, firstFaults, nameFaults, namePlaces, namesOf, operationsFaults, ownFaults, sameLength, sequencingLength, sequencingRight, stateFaults, statesFaults, twice, valueFaults}
+use Rattle.language.specs.Ceilings.{largestBound, largestStore, mostWork}
 use Rattle.language.specs.Tree.{Name}
 use Rattle.language.specs.declared.refusals.Refusal.{Refusal}
 use Rattle.language.specs.declared.refusals.Refusal.the-variants.{BadLength, BadName, BadSequencing, BadSubscript, CeilingPassed}
@@ -98,7 +99,7 @@ module _ (d : Description) (p : Places) where
       others-append (others-bound (f .words .first) (at .wordsFirst))
       (others-append (others-bound (f .words .last) (at .wordsLast)) (others-append (others-bound (f .bits .first) (at .bitsFirst)) (others-bound (f .bits .last) (at .bitsLast))))
 
-  others-else : (xs ys : List Fault) → Others xs → Others ys → Others (orElse d p xs ys)
+  others-else : (xs ys : List Fault) → Others xs → Others ys → Others (firstFaults d p xs ys)
   others-else [] ys h k = k
   others-else (x ∷ xs) ys h k = h
 

@@ -10,7 +10,7 @@ use Prim.Native.Nat.{ℕ, suc, _+_, _^_, _≤_, _<_, max}
 use borrow.Author.Tests.{eq-eqb, le-leb, ne-eqb}
 use lib.Pow.{pow-pos}
 use Rattle.language.specs.Description as D
-use Rattle.language.specs.Description.{Bounds, Description, Node, NodePlaces, Places, facilityAt, isComputed, nodeAt, nodePlace, wordLength}
+use Rattle.language.specs.Description.{Bounds, Description, Node, NodePlaces, Places, constantNumber, facilityAt, isComputed, nodeAt, nodePlace, wordLength}
 use Rattle.language.specs.Expressions.{choiceJudged, evenly, expressionAt, judgeAt, judgeBelow, judgeNode, judgeStep, longestSelector, notBefore, ownWork, selects, terminalBelow, terminalStep}
 use Rattle.language.specs.Judging.{Judged, Worth, armList, fine, proper, refuse, sized, worth}
 use Rattle.language.specs.Operators.{binaryLength, cutLengthOf, prefixLength}
@@ -20,7 +20,8 @@ use Rattle.language.specs.ReferenceRules as RR
 use Rattle.language.specs.References as R
 use Rattle.language.specs.References.{Subscripts, rightCount, takenLength}
 use Rattle.language.specs.declared.refusals.Refusal.the-variants.{BadName}
-use Rattle.language.specs.Value.{Value, complementLength, countLength, cutLength, differenceLength, joinLength, logicalLength, longest, negationLength, reductionLength, relationLength, repeatLength, sumLength}
+use Rattle.language.specs.Value.{Value, complementLength, countLength, cutLength, differenceLength, joinLength, logicalLength, negationLength, reductionLength, relationLength, repeatLength, sumLength}
+use Rattle.language.specs.Ceilings.{longest}
 use Rattle.language.specs.Words.{Position}
 use Rattle.about_running.specs.PlaceFound.{some-length}
 use Rattle.about_rules.specs.Declared.{both-so}
@@ -172,7 +173,7 @@ module _ (d : Description) (p : Places) where
     subscript-clean : (b : Bounds) (e : ℕ) → Subscript d b e → subscriptFaults d p terminals b e ≡ []
     subscript-clean b e h = go (nodeAt d e) refl
       where
-        go : (x : Node) → nodeAt d e ≡ x → RR.constantFaults d p terminals b (nodePlace p e .at) (R.constantOf x) ≡ []
+        go : (x : Node) → nodeAt d e ≡ x → RR.constantFaults d p terminals b (nodePlace p e .at) (constantNumber x) ≡ []
         go (D.constant v) q = none-unless _ _ _ (within-in b _ (h v q))
         go (D.more m) q = refl
         go (D.whole f) q = refl

@@ -11,12 +11,13 @@ use lib.ListN.{drop, getD, length, take}
 use lib.Pow.{pow-add, pow-pos, shl-lt, shr-lt}
 use Rattle.language.specs.Canonical.{isCapital, nameParts, nameRight}
 use Rattle.language.specs.Characters.{blankClass, classOf, digitClass, digitWorth, folded, isBlank, isDigit, isLetter, letterClass, member, quote, quoteClass, symbolClass, symbols, within}
-use Rattle.language.specs.Constants.{bareConstant, bareLargest, bareLength, binaryConstant, decimalConstant, digitsAfter, digitsNumber, leftJustified, rightJustified}
+use Rattle.language.specs.Constants.{bareConstant, bareLength, binaryConstant, decimalConstant, digitsAfter, digitsNumber, leftJustified, rightJustified}
 use Rattle.language.specs.Image.{ConstantRight, WordsRight}
 use Rattle.language.specs.declared.refusals.Refusal.{Refusal}
 use Rattle.language.specs.Scan as S
-use Rattle.language.specs.Scan.{Found, Item, bareAt, basedItem, binaryAt, commentAt, constantAt, decimalAt, digitBits, digitsOf, isDecimalBase, isDigitOf, isNamePart, itemAt, longestName, nameAt, nameItem, reservedKind, same, span, spelledSymbols, symbolAmong, written}
-use Rattle.language.specs.Value.{Value, longest}
+use Rattle.language.specs.Scan.{Found, Item, bareAt, basedItem, binaryAt, commentAt, constantAt, decimalAt, digitBits, digitsOf, isDecimalBase, isDigitOf, isNamePart, itemAt, nameAt, nameItem, reservedKind, same, span, spelledSymbols, symbolAmong, written}
+use Rattle.language.specs.Ceilings.{bareLargest, longest, longestName}
+use Rattle.language.specs.Value.{Value}
 use Rattle.language.specs.WordStage.{Scanned, noted, scan, scanFrom}
 use Rattle.language.specs.Words.{Constant, Position, position}
 use Rattle.about_rules.specs.Declared.{both-so}

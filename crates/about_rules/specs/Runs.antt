@@ -9,7 +9,7 @@ use borrow.Author.Tests.{eq-eqb}
 use lib.ListN.{length, length-append, length-map}
 use Rattle.language.specs.Describe.{NotedAction, actionsIn, actionsOf, expressionsIn}
 use Rattle.language.specs.DescribeText as X
-use Rattle.language.specs.DescribeText.{describe, operationActions, operationRecords, operationsOf, stateActions, stateSize, statesOf, valueSize}
+use Rattle.language.specs.DescribeText.{describe, expressionsOfState, operationActions, operationRecords, operationsOf, stateActions, statesOf, valueSize}
 use Rattle.language.specs.Description.{Description}
 use Rattle.language.specs.Naming.{Scope}
 use Rattle.language.specs.Order.{ending, endsAt, operationsEnd, runsRight, statesEnd}
@@ -34,7 +34,7 @@ states-end d l base at [] = ap some (let z : at ≡ at + 0 = omega arith in z)
 states-end d l base at (s ∷ ss) =
     let n = actionsIn (s .actions) in
     let z : at + n + stateRecords ss ≡ at + (n + stateRecords ss) = omega arith in
-    rw (eq-eqb at at refl) (states-end d l (base + stateSize l s) (at + n) ss ∙ ap some z)
+    rw (eq-eqb at at refl) (states-end d l (base + expressionsOfState l s) (at + n) ss ∙ ap some z)
 
 pub operations-size : (facilities before : List Name) (base : ℕ) (os : List Operation) → length (operationActions facilities before base os) ≡ operationRecords os
 unfolding operationActions operationRecords
@@ -48,8 +48,8 @@ pub states-size : (l : Option ℕ) (scope : Scope) (base : ℕ) (ss : List State
 unfolding stateActions stateRecords
 states-size l scope base [] = refl
 states-size l scope base (s ∷ ss) =
-    let a = length-append (actionsOf scope (base + valueSize l (s .value)) (s .actions)) (stateActions l scope (base + stateSize l s) ss) in
-    omega (arith, a, actions-size scope (base + valueSize l (s .value)) (s .actions), states-size l scope (base + stateSize l s) ss)
+    let a = length-append (actionsOf scope (base + valueSize l (s .value)) (s .actions)) (stateActions l scope (base + expressionsOfState l s) ss) in
+    omega (arith, a, actions-size scope (base + valueSize l (s .value)) (s .actions), states-size l scope (base + expressionsOfState l s) ss)
 
 -- The ends meet.
 ends-so : (d : Description) {m n : ℕ} → m ≡ n → endsAt d n (some m) ≡ true

@@ -8,7 +8,7 @@ use lib.ListN.{length, length-append}
 use Rattle.language.specs.Describe as B
 use Rattle.language.specs.Describe.{Noted, actionsIn, actionsOf, constantNodes, constantSize, digitsAbove, expressionSize, expressionsIn, leftNodes, leftSize, nodesIn, nodesOf}
 use Rattle.language.specs.DescribeText as X
-use Rattle.language.specs.DescribeText.{facilitiesOf, functionNodes, functionSize, operationsOf, stateSize, statesOf, valueNodes, valueSize}
+use Rattle.language.specs.DescribeText.{expressionsOfState, facilitiesOf, functionNodes, functionSize, operationsOf, statesOf, valueNodes, valueSize}
 use Rattle.language.specs.Description as D
 use Rattle.language.specs.Description.{furtherDigits}
 use Rattle.language.specs.Naming.{Scope}
@@ -116,7 +116,7 @@ operations-count a (o ∷ os) = ap suc (operations-count (a + actionsIn (o .body
 pub states-count : (l : Option ℕ) (base a : ℕ) (ss : List State) → length (statesOf l base a ss) ≡ length ss
 unfolding statesOf
 states-count l base a [] = refl
-states-count l base a (s ∷ ss) = ap suc (states-count l (base + stateSize l s) (a + actionsIn (s .actions)) ss)
+states-count l base a (s ∷ ss) = ap suc (states-count l (base + expressionsOfState l s) (a + actionsIn (s .actions)) ss)
 
 pub function-size : (s : Scope) (base : ℕ) (f : Function) → length (functionNodes s base f) ≡ functionSize f
 function-size s base T.unspecified = refl

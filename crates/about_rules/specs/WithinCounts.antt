@@ -8,12 +8,12 @@ use Prim.Native.Nat.{ℕ, _+_, _-_, _≤_, _<_}
 use borrow.Author.Tests.{le-leb, lt-ltb}
 use lib.ListN.{length, length-append}
 use Rattle.language.specs.Canonical.{countedRecords, countsRight, rankOf, total, valueCount}
-use Rattle.language.specs.Ceilings.{WithinCeilings, countedFunction, countedOperations, countedStates, countedTerminals, countedWords}
+use Rattle.language.specs.CountedWords.{WithinCeilings, countedFunction, countedOperations, countedStates, countedTerminals, countedWords}
 use Rattle.language.specs.Describe.{Noted, NotedAction, actionsIn, actionsOf, expressionsIn, nodesIn}
 use Rattle.language.specs.DescribeText as X
-use Rattle.language.specs.DescribeText.{describe, facilitiesOf, facilityNodes, functionNodes, functionSize, operationActions, operationNodes, operationScope, operationsOf, stateActions, stateConstant, stateNodes, stateSize, statesOf, valueNodes, valueNumber, valueSize}
+use Rattle.language.specs.DescribeText.{describe, expressionsOfState, facilitiesOf, facilityNodes, functionNodes, functionSize, operationActions, operationNodes, operationScope, operationsOf, stateActions, stateConstant, stateNodes, statesOf, valueNodes, valueNumber, valueSize}
 use Rattle.language.specs.Description.{Description}
-use Rattle.language.specs.Machine.{mostCounted, mostFacilities, mostOperations, mostStates}
+use Rattle.language.specs.Ceilings.{mostCounted, mostFacilities, mostOperations, mostStates}
 use Rattle.language.specs.Naming.{Scope, noState}
 use Rattle.language.specs.Tree as T
 use Rattle.language.specs.Tree.{Declaration, Extent, Function, Kind, Name, Operation, State, StateValue, Text}
@@ -98,7 +98,7 @@ unfolding stateNodes stateActions countedStates total Within values statesOf
 states-counted l scope base a [] h = omega arith
 states-counted l scope base a (s ∷ ss) h =
     let from = base + valueSize l (s .value) in
-    let next = base + stateSize l s in
+    let next = base + expressionsOfState l s in
     let rest = stateNodes l scope next ss in
     let own : valueCount (record { name = X.labelOf (s .label); value = valueNumber base l (s .value); actions = X.runOf a (actionsIn (s .actions)) }) ≡ oneIf (s .value) = value-so (s .value) in
     omega (

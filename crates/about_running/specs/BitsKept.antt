@@ -12,7 +12,7 @@ use lib.Pow.{pow-add, pow-pos}
 use lib.Seq.{getD-set-other}
 use Rattle.language.specs.Description.{Description}
 use Rattle.language.specs.Meaning.{Place, Write}
-use Rattle.language.specs.Store.{Words, landAll, lowOf, putPart, putParts, setWord, wordOf}
+use Rattle.language.specs.Store.{StoreWords, landAll, lowOf, putPart, putParts, setWord, wordOf}
 use Rattle.language.specs.Value.{replaced}
 
 -- Bit k from the right.
@@ -84,23 +84,23 @@ set-either P (y ∷ xs) zero x def h k = h
 set-either P (y ∷ xs) (suc i) x def h k = set-either P xs i x def h k
 
 -- Another word is not touched.
-pub other-facility : (s : Words) (f g w v x : ℕ) → (f ≡ g → ⊥) → wordOf (setWord s g v x) f w ≡ wordOf s f w
+pub other-facility : (s : StoreWords) (f g w v x : ℕ) → (f ≡ g → ⊥) → wordOf (setWord s g v x) f w ≡ wordOf s f w
 unfolding wordOf setWord
 other-facility s f g w v x h = ap (λ (row : List ℕ). getD row w 0) (getD-set-other s g f (set (getD s g []) v x) [] h)
 
-other-word : (s : Words) (f g w v x : ℕ) → g ≡ f → (w ≡ v → ⊥) → wordOf (setWord s g v x) f w ≡ wordOf s f w
+other-word : (s : StoreWords) (f g w v x : ℕ) → g ≡ f → (w ≡ v → ⊥) → wordOf (setWord s g v x) f w ≡ wordOf s f w
 unfolding wordOf setWord
 other-word s f g w v x e h =
     rw e (set-either (λ row. getD row w 0 ≡ getD (getD s f []) w 0) s f (set (getD s f []) v x) [] (getD-set-other (getD s f []) v w x 0 h) refl)
 
-this-word : (s : Words) (f w x k : ℕ) → bitOf x k ≡ bitOf (wordOf s f w) k → bitOf (wordOf (setWord s f w x) f w) k ≡ bitOf (wordOf s f w) k
+this-word : (s : StoreWords) (f w x k : ℕ) → bitOf x k ≡ bitOf (wordOf s f w) k → bitOf (wordOf (setWord s f w x) f w) k ≡ bitOf (wordOf s f w) k
 unfolding wordOf setWord
 this-word s f w x k h =
     set-either (λ row. bitOf (getD row w 0) k ≡ bitOf (getD (getD s f []) w 0) k) s f (set (getD s f []) w x) []
     (set-either (λ n. bitOf n k ≡ bitOf (getD (getD s f []) w 0) k) (getD s f []) w x 0 h refl) refl
 
 module _ (d : Description) (f w k : ℕ) where
-  pub put-keeps : (s : Words) (x : Write) → (Has d f w k (x .at) → ⊥) → bitOf (wordOf (putPart d s x) f w) k ≡ bitOf (wordOf s f w) k
+  pub put-keeps : (s : StoreWords) (x : Write) → (Has d f w k (x .at) → ⊥) → bitOf (wordOf (putPart d s x) f w) k ≡ bitOf (wordOf s f w) k
   unfolding putPart
   put-keeps s x h = go (eqb (x .at .facility) f) refl (eqb (x .at .word) w) refl (leb (lowOf d p) k) refl (ltb k (lowOf d p + p .count)) refl
     where
@@ -124,13 +124,13 @@ module _ (d : Description) (f w k : ℕ) where
       go true q true r true t false u = here (eqb-true _ _ q) (eqb-true _ _ r) (replaced-above (wordOf s (p .facility) (p .word)) (lowOf d p) (p .count) (x .number) k (ltb-false _ _ u))
       go true q true r true t true u = absurd (h (record { facility-so = eqb-true _ _ q; word-so = eqb-true _ _ r; from-low = leb-true _ _ t; below-high = ltb-true _ _ u }))
 
-  pub puts-keep : (s : Words) (xs : List Write) → NoneHas d f w k xs → bitOf (wordOf (putParts d s xs) f w) k ≡ bitOf (wordOf s f w) k
+  pub puts-keep : (s : StoreWords) (xs : List Write) → NoneHas d f w k xs → bitOf (wordOf (putParts d s xs) f w) k ≡ bitOf (wordOf s f w) k
   unfolding putParts
   puts-keep s [] h = refl
   puts-keep s (x ∷ xs) h = puts-keep (putPart d s x) xs (h .1) ∙ put-keeps s x (h .0)
 
   -- What lands leaves every bit that it does not name.
-  pub land-keeps : (s : Words) (gs : List (List Write)) → NoneHasAny d f w k gs → bitOf (wordOf (landAll d s gs) f w) k ≡ bitOf (wordOf s f w) k
+  pub land-keeps : (s : StoreWords) (gs : List (List Write)) → NoneHasAny d f w k gs → bitOf (wordOf (landAll d s gs) f w) k ≡ bitOf (wordOf s f w) k
   unfolding landAll
   land-keeps s [] h = refl
   land-keeps s (g ∷ gs) h = land-keeps (putParts d s g) gs (h .1) ∙ puts-keep s g (h .0)

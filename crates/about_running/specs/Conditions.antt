@@ -7,8 +7,9 @@ use Prim.Native.Nat.{ℕ, _+_, _-_, _≤_, _<_}
 use lib.Dec.{leb}
 use lib.ListN.{length}
 use Rattle.language.specs.Description.{Description, sequencingOf, stateAt}
-use Rattle.language.specs.Step.{Record, lastCycle, mostReturns, registerValue, stateNumber}
-use Rattle.language.specs.Store.{Held, Words, begin, held, landAll, numbers}
+use Rattle.language.specs.Step.{Record, registerValue, stateNumber}
+use Rattle.language.specs.Ceilings.{lastCycle, mostReturns}
+use Rattle.language.specs.Store.{Held, StoreWords, begin, held, landAll, numbers}
 use Rattle.language.specs.declared.stops.Stop.{Stop}
 use Rattle.language.specs.declared.stops.Stop.the-variants.{LastCycleReached, NoArm, NoNextState, NothingToReturn, OutsideBounds, TooManyCalls, TwoNextStates, ValueUnborne}
 use Rattle.language.specs.Value.{Value, bit}
@@ -72,7 +73,7 @@ pub record Borne (d : Description) (x : ℕ) : Type 0 where
   pub there : state < length (d .states)
   pub bears : stateNumber d state ≡ some x
 
-module _ (d : Description) (s : Words) (r : Record) (ins : Words) where
+module _ (d : Description) (s : StoreWords) (r : Record) (ins : StoreWords) where
   -- The store that a cycle begins with, and the actions of its state.
   abbrev pub begun : Held
   begun = held (begin (d .facilities) s ins) []

@@ -15,10 +15,11 @@ use Rattle.language.specs.Description.{Description, Facility, facilityAt, isCom
 use Rattle.language.specs.Kinds.{delayedSign}
 use Rattle.language.specs.Meaning.{Write}
 use Rattle.language.specs.RecordBytes.{agrees}
-use Rattle.language.specs.Step.{Outcome, Record, afterActions, completed, finished, landed, lastCycle, nextRecord, nothingDone, orStopped, registerValue, setRegister, stateNumber, step, stopAfter, entered}
+use Rattle.language.specs.Step.{Outcome, Record, afterActions, completed, finished, landed, nextRecord, nothingDone, orStopped, registerValue, setRegister, stateNumber, step, stopAfter, entered}
+use Rattle.language.specs.Ceilings.{lastCycle}
 use Rattle.language.specs.declared.stops.Stop.{Stop}
 use Rattle.language.specs.declared.stops.Stop.the-variants.{LastCycleReached}
-use Rattle.language.specs.Store.{Held, Words, begin, begun, headOf, held, inputsOf, isInput, landAll, numbers, putParts, setWord, wordOf, putPart}
+use Rattle.language.specs.Store.{Held, StoreWords, begin, begun, headOf, held, inputsOf, isInput, landAll, numbers, putPart, putParts, setWord, wordOf}
 use Rattle.language.specs.Tree.{Kind, computed, input, memory, plain, register, sequencing}
 use Rattle.about_running.specs.Acts.{Good, state-acts}
 use Rattle.about_running.specs.Executes as E
@@ -43,17 +44,17 @@ pub plain-row : (f : Facility) → f .kind ≡ plain → Row f (replicate (wordC
 unfolding stored
 plain-row f q = record { count = zeros-length (wordCount f) ∙ rw q refl; small = zeros-below (wordCount f) (wordLength f) }
 
-pub begin-fit : (fs : List Facility) (s ins : Words) → Fit fs s → Fit (inputsOf fs) ins → Fit fs (begin fs s ins)
+pub begin-fit : (fs : List Facility) (s ins : StoreWords) → Fit fs s → Fit (inputsOf fs) ins → Fit fs (begin fs s ins)
 unfolding begin inputsOf
 begin-fit [] s ins h k = tt
 begin-fit (f ∷ fs) [] ins h k = absurd h
 begin-fit (f ∷ fs) (ws ∷ s) ins h k = go (λ more q. begin-fit fs s more (h .1) q) (f .kind) refl k
   where
-    taken : ((more : Words) → Fit (inputsOf fs) more → Fit fs (begin fs s more)) → (more : Words) → Fit (f ∷ inputsOf fs) more → Row f (headOf more) × Fit fs (begin fs s (drop 1 more))
+    taken : ((more : StoreWords) → Fit (inputsOf fs) more → Fit fs (begin fs s more)) → (more : StoreWords) → Fit (f ∷ inputsOf fs) more → Row f (headOf more) × Fit fs (begin fs s (drop 1 more))
     taken on [] q = absurd q
     taken on (x ∷ xs) q = (q .0, on xs (q .1))
 
-    go : ((more : Words) → Fit (inputsOf fs) more → Fit fs (begin fs s more)) → (t : Kind) → f .kind ≡ t → Fit (cond (isInput t) (f ∷ inputsOf fs) (inputsOf fs)) ins
+    go : ((more : StoreWords) → Fit (inputsOf fs) more → Fit fs (begin fs s more)) → (t : Kind) → f .kind ≡ t → Fit (cond (isInput t) (f ∷ inputsOf fs) (inputsOf fs)) ins
         → Fit (f ∷ fs) (begun t f ws ins ∷ begin fs s (cond (isInput t) (drop 1 ins) ins))
     go on register q i = (h .0, on ins i)
     go on sequencing q i = (h .0, on ins i)
@@ -63,7 +64,7 @@ begin-fit (f ∷ fs) (ws ∷ s) ins h k = go (λ more q. begin-fit fs s more (h 
     go on computed q i = (h .0, on ins i)
 
 -- What a sound store and record are.
-pub record Sound (d : Description) (s : Words) (r : Record) : Type 0 where
+pub record Sound (d : Description) (s : StoreWords) (r : Record) : Type 0 where
   pub words : Fit (d .facilities) s
   pub state-in : r .state < length (d .states)
   pub returns-in : Returns d (r .held) (r .returns)
@@ -71,24 +72,24 @@ pub record Sound (d : Description) (s : Words) (r : Record) : Type 0 where
 
 -- A cycle has not been stuck; where it completed, all is sound.
 pub data Well (d : Description) : Outcome → Type 0 where
-  completes : {s : Words} {r : Record} {n : ℕ} → Sound d s r → Well d (completed s r n)
+  completes : {s : StoreWords} {r : Record} {n : ℕ} → Sound d s r → Well d (completed s r n)
   stops : {n : Stop} → Well d (Outcome.stopped n)
 
 -- ---- Delayed stores land.
 
 module _ (d : Description) where
-  puts-fit : (s : Words) (ws : List Write) → AllRight d delayedSign ws → Fit (d .facilities) s → Fit (d .facilities) (putParts d s ws)
+  puts-fit : (s : StoreWords) (ws : List Write) → AllRight d delayedSign ws → Fit (d .facilities) s → Fit (d .facilities) (putParts d s ws)
   unfolding putParts
   puts-fit s [] r h = h
   puts-fit s (w ∷ ws) r h = puts-fit (putPart d s w) ws (r .1) (fit-put d s w (r .0 .there) h)
 
-  pub land-fit : (s : Words) (gs : List (List Write)) → AllWaits d gs → Fit (d .facilities) s → Fit (d .facilities) (landAll d s gs)
+  pub land-fit : (s : StoreWords) (gs : List (List Write)) → AllWaits d gs → Fit (d .facilities) s → Fit (d .facilities) (landAll d s gs)
   unfolding landAll
   land-fit s [] r h = h
   land-fit s (g ∷ gs) r h = land-fit (putParts d s g) gs (r .1) (puts-fit s g (r .0) h)
 
 -- A word that is there is what was set.
-pub row-of : (fs : List Facility) (s : Words) (n : ℕ) → Fit fs s → n < length fs → (n < length s) × (length (getD s n []) ≡ stored (getD fs n noFacility))
+pub row-of : (fs : List Facility) (s : StoreWords) (n : ℕ) → Fit fs s → n < length fs → (n < length s) × (length (getD s n []) ≡ stored (getD fs n noFacility))
 row-of [] [] n h l = absurd (omega arith)
 row-of [] (ws ∷ s) n h l = absurd h
 row-of (f ∷ fs) [] n h l = absurd h
@@ -107,14 +108,14 @@ sequencing-stored f e = go (f .kind) e
     go input q = absurd (let z : _≡_ {A = ℕ} 0 1 = cc in omega arith)
     go computed q = absurd (let z : _≡_ {A = ℕ} 0 1 = cc in omega arith)
 
-pub set-same : (s : Words) (n x : ℕ) → n < length s → 0 < length (getD s n []) → wordOf (setWord s n 0 x) n 0 ≡ x
+pub set-same : (s : StoreWords) (n x : ℕ) → n < length s → 0 < length (getD s n []) → wordOf (setWord s n 0 x) n 0 ≡ x
 unfolding wordOf setWord
 set-same s n x h k = rw (getD-set-same s n (set (getD s n []) 0 x) [] h) (getD-set-same (getD s n []) 0 x 0 k)
 
 module _ (d : Description) (L : Legal d) where
   -- ---- The sequencing register takes the value of the state entered.
 
-  pub register-set : (s : Words) (n f x : ℕ) → sequencingOf d ≡ some f → Fit (d .facilities) s → wordOf (setWord s f 0 x) f 0 ≡ x
+  pub register-set : (s : StoreWords) (n f x : ℕ) → sequencingOf d ≡ some f → Fit (d .facilities) s → wordOf (setWord s f 0 x) f 0 ≡ x
   unfolding sequencingOf
   register-set s n f x q h =
       let y = found-from 0 f (d .facilities) q in
@@ -138,7 +139,7 @@ module _ (d : Description) (L : Legal d) where
         register-so = rw (q, v .borne) (eq-eqb _ _ (register-set (landed d r c) n f (v .number) q h));
       }))
 
-  finish-well : (s : Words) (r : Record) (c : Doing Held) → Sound d s r → Inv d (c .store) → AllStates d (c .gotos) → AllStates d (c .calls) → Well d (finished d r c)
+  finish-well : (s : StoreWords) (r : Record) (c : Doing Held) → Sound d s r → Inv d (c .store) → AllStates d (c .gotos) → AllStates d (c .calls) → Well d (finished d r c)
   unfolding finished
   finish-well s r c h i g k = go (stopAfter d r c) refl
     where
@@ -150,7 +151,7 @@ module _ (d : Description) (L : Legal d) where
 
   -- The cycle.
 
-  module _ (s : Words) (r : Record) (ins : Words) (h : Sound d s r) (k : Fit (inputsOf (d .facilities)) ins) where
+  module _ (s : StoreWords) (r : Record) (ins : StoreWords) (h : Sound d s r) (k : Fit (inputsOf (d .facilities)) ins) where
     abbrev first : Doing Held
     first = nothingDone d (begin (d .facilities) s ins)
 

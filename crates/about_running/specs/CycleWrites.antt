@@ -12,7 +12,7 @@ use Rattle.language.specs.Acting.{Doing, Ran, went}
 use Rattle.language.specs.Description.{Description, Facility, facilityAt, isComputed, isSequencing, noFacility, sequencingOf, stateAt, wordCount, wordLength}
 use Rattle.language.specs.Meaning.{Place, Write, place}
 use Rattle.language.specs.Step.{Record, completed, into, setRegister, stateNumber, step}
-use Rattle.language.specs.Store.{Held, Words, begin, begun, headOf, inputsOf, isInput, landAll, numbers, putPart, putParts, setWord, wordOf}
+use Rattle.language.specs.Store.{Held, StoreWords, begin, begun, headOf, inputsOf, isInput, landAll, numbers, putPart, putParts, setWord, wordOf}
 use Rattle.language.specs.Tree.{Kind, computed, input, memory, plain, register, sequencing}
 use Rattle.language.specs.Value.{replaced}
 use Rattle.about_running.specs.Acts.{Good}
@@ -28,13 +28,13 @@ use Rattle.about_running.specs.StateValues.{bears-value, found-from, som
 
 -- ---- The writes of a cycle.
 
--- Words of facility f, of l bits, written whole from word w on.
+-- StoreWords of facility f, of l bits, written whole from word w on.
 unfoldable pub wholeWords : ℕ → ℕ → ℕ → List ℕ → List Write
 wholeWords f l w [] = []
 wholeWords f l w (x ∷ xs) = record { at = place f w 0 l; number = x } ∷ wholeWords f l (suc w) xs
 
 -- The words that a facility takes when a cycle begins: an input terminal the stimulus's, a plain terminal zero, any other none.
-abbrev pub takes : Kind → Facility → Words → List ℕ
+abbrev pub takes : Kind → Facility → StoreWords → List ℕ
 takes register f ins = []
 takes sequencing f ins = []
 takes memory f ins = []
@@ -43,7 +43,7 @@ takes input f ins = headOf ins
 takes computed f ins = []
 
 -- The begin of a cycle, for the facilities from number n on.
-unfoldable pub beginWrites : ℕ → List Facility → Words → List Write
+unfoldable pub beginWrites : ℕ → List Facility → StoreWords → List Write
 beginWrites n [] ins = []
 beginWrites n (f ∷ fs) ins = wholeWords n (wordLength f) 0 (takes (f .kind) f ins) ++ beginWrites (suc n) fs (cond (isInput (f .kind)) (drop 1 ins) ins)
 
@@ -59,7 +59,7 @@ module _ (d : Description) where
   stateWrites state = registerWrites (sequencingOf d) (stateNumber d state)
 
   -- All of them: the begin, the stores carried out at once, the delayed stores, and the state entered.
-  unfoldable pub cycleWrites : Words → Doing Noted → ℕ → List Write
+  unfoldable pub cycleWrites : StoreWords → Doing Noted → ℕ → List Write
   cycleWrites ins c state = beginWrites 0 (d .facilities) ins ++ (c .store .writes ++ (joined (c .store .store .waits) ++ stateWrites state))
 
 -- A part of a word that has a place in the store.
@@ -79,7 +79,7 @@ replaced-whole w l x h k =
     rw (zero-add, div-eq-of-lt h, mod-eq-of-lt k, zero-mul, zero-add, mul-one, mod-one, add-zero) refl
 
 module _ (d : Description) where
-  put-whole : (s : Words) (f w x l : ℕ) → wordLength (facilityAt d f) ≡ l → wordOf s f w < 2 ^ l → x < 2 ^ l → putPart d s (record { at = place f w 0 l; number = x }) ≡ setWord s f w x
+  put-whole : (s : StoreWords) (f w x l : ℕ) → wordLength (facilityAt d f) ≡ l → wordOf s f w < 2 ^ l → x < 2 ^ l → putPart d s (record { at = place f w 0 l; number = x }) ≡ setWord s f w x
   unfolding putPart
   put-whole s f w x l e h k =
       let low : wordLength (facilityAt d f) - (0 + l) ≡ 0 = omega arith in
@@ -87,12 +87,12 @@ module _ (d : Description) where
 
   -- ---- The begin.
 
-  module _ (before after : Words) (n l : ℕ) (length-so : wordLength (facilityAt d n) ≡ l) (number-so : length before ≡ n) where
-    word-there : (s : Words) (done old : List ℕ) (y : ℕ) → getD s n [] ≡ done ++ y ∷ old → wordOf s n (length done) ≡ y
+  module _ (before after : StoreWords) (n l : ℕ) (length-so : wordLength (facilityAt d n) ≡ l) (number-so : length before ≡ n) where
+    word-there : (s : StoreWords) (done old : List ℕ) (y : ℕ) → getD s n [] ≡ done ++ y ∷ old → wordOf s n (length done) ≡ y
     unfolding wordOf
     word-there s done old y q = rw q (getD-append-seam done y old 0)
 
-    set-there : (s : Words) (done old : List ℕ) (x y : ℕ) → getD s n [] ≡ done ++ y ∷ old → set s n (done ++ x ∷ old) ≡ before ++ (done ++ x ∷ old) ∷ after
+    set-there : (s : StoreWords) (done old : List ℕ) (x y : ℕ) → getD s n [] ≡ done ++ y ∷ old → set s n (done ++ x ∷ old) ≡ before ++ (done ++ x ∷ old) ∷ after
         → setWord s n (length done) x ≡ before ++ ((done ++ x ∷ []) ++ old) ∷ after
     unfolding setWord
     set-there s done old x y q z = rw q (ap (λ (r : List ℕ). set s n r) (set-append-seam done y old x) ∙ (z ∙ ap (λ (r : List ℕ). before ++ r ∷ after) (sym (append-assoc done (x ∷ []) old))))
@@ -104,18 +104,18 @@ module _ (d : Description) where
     row-puts done (y ∷ old) [] e h k = absurd (omega arith)
     row-puts done [] (x ∷ new) e h k = absurd (omega arith)
     row-puts done (y ∷ old) (x ∷ new) e h k =
-        let s : Words = before ++ (done ++ y ∷ old) ∷ after in
+        let s : StoreWords = before ++ (done ++ y ∷ old) ∷ after in
         let row : getD s n [] ≡ done ++ y ∷ old = getD-at before (done ++ y ∷ old) after [] n number-so in
         let there : wordOf s n (length done) ≡ y = word-there s done old y row in
         let put-so : putPart d s (record { at = place n (length done) 0 l; number = x }) ≡ setWord s n (length done) x = put-whole s n (length done) x l length-so (rw there (h .0)) (k .0) in
         let set-so : setWord s n (length done) x ≡ before ++ ((done ++ x ∷ []) ++ old) ∷ after = set-there s done old x y row (set-at before (done ++ y ∷ old) after (done ++ x ∷ old) n number-so) in
         let count : length (done ++ x ∷ []) ≡ suc (length done) = length-append done (x ∷ []) ∙ omega arith in
         let later = row-puts (done ++ x ∷ []) old new (omega arith) (h .1) (k .1) in
-        ap (λ (z : Words). putParts d z (wholeWords n l (suc (length done)) new)) (put-so ∙ set-so)
+        ap (λ (z : StoreWords). putParts d z (wholeWords n l (suc (length done)) new)) (put-so ∙ set-so)
         ∙ (ap (λ (z : ℕ). putParts d (before ++ ((done ++ x ∷ []) ++ old) ∷ after) (wholeWords n l z new)) (sym count)
         ∙ (later ∙ ap (λ (z : List ℕ). before ++ z ∷ after) (append-assoc done (x ∷ []) new)))
 
-  begin-puts : (n : ℕ) (front fs : List Facility) (before s ins : Words) → d .facilities ≡ front ++ fs → length front ≡ n → length before ≡ n → Fit fs s → Fit (inputsOf fs) ins
+  begin-puts : (n : ℕ) (front fs : List Facility) (before s ins : StoreWords) → d .facilities ≡ front ++ fs → length front ≡ n → length before ≡ n → Fit fs s → Fit (inputsOf fs) ins
       → putParts d (before ++ s) (beginWrites n fs ins) ≡ before ++ begin fs s ins
   unfolding beginWrites begin facilityAt inputsOf putParts wholeWords
   begin-puts n front [] before [] ins e p q h k = refl
@@ -125,7 +125,7 @@ module _ (d : Description) where
       go (λ b more z i. begin-puts (suc n) (front ++ f ∷ []) fs b s more (e ∙ sym (append-assoc front (f ∷ []) fs)) (length-append front (f ∷ []) ∙ omega arith) z (h .1) i) (f .kind) refl k
     where
       Later : Type 0
-      Later = (b more : Words) → length b ≡ suc n → Fit (inputsOf fs) more → putParts d (b ++ s) (beginWrites (suc n) fs more) ≡ b ++ begin fs s more
+      Later = (b more : StoreWords) → length b ≡ suc n → Fit (inputsOf fs) more → putParts d (b ++ s) (beginWrites (suc n) fs more) ≡ b ++ begin fs s more
 
       l : ℕ
       l = wordLength f
@@ -134,12 +134,12 @@ module _ (d : Description) where
       length-so = rw e (ap wordLength (getD-at front f fs noFacility n p))
 
       -- What the first facility takes is put, then what the others take.
-      onward : Later → (new row : List ℕ) (more : Words) → putParts d (before ++ r ∷ s) (wholeWords n l 0 new) ≡ before ++ row ∷ s → Fit (inputsOf fs) more
+      onward : Later → (new row : List ℕ) (more : StoreWords) → putParts d (before ++ r ∷ s) (wholeWords n l 0 new) ≡ before ++ row ∷ s → Fit (inputsOf fs) more
           → putParts d (before ++ r ∷ s) (wholeWords n l 0 new ++ beginWrites (suc n) fs more) ≡ before ++ row ∷ begin fs s more
       onward on new row more z i =
           let later = on (before ++ row ∷ []) more (length-append before (row ∷ []) ∙ omega arith) i in
           puts-append d (before ++ r ∷ s) (wholeWords n l 0 new) (beginWrites (suc n) fs more)
-          ∙ (ap (λ (x : Words). putParts d x (beginWrites (suc n) fs more)) (z ∙ sym (append-assoc before (row ∷ []) s)) ∙ (later ∙ append-assoc before (row ∷ []) (begin fs s more)))
+          ∙ (ap (λ (x : StoreWords). putParts d x (beginWrites (suc n) fs more)) (z ∙ sym (append-assoc before (row ∷ []) s)) ∙ (later ∙ append-assoc before (row ∷ []) (begin fs s more)))
 
       none-new : putParts d (before ++ r ∷ s) (wholeWords n l 0 []) ≡ before ++ r ∷ s
       none-new = refl
@@ -147,7 +147,7 @@ module _ (d : Description) where
       set-row : (new : List ℕ) → Row f new → putParts d (before ++ r ∷ s) (wholeWords n l 0 new) ≡ before ++ new ∷ s
       set-row new i = row-puts before s n l length-so q [] r new (h .0 .count ∙ sym (i .count)) (h .0 .small) (i .small)
 
-      taken : Later → (ins : Words) → Fit (f ∷ inputsOf fs) ins → putParts d (before ++ r ∷ s) (wholeWords n l 0 (headOf ins) ++ beginWrites (suc n) fs (drop 1 ins)) ≡ before ++ headOf ins ∷ begin fs s (drop 1 ins)
+      taken : Later → (ins : StoreWords) → Fit (f ∷ inputsOf fs) ins → putParts d (before ++ r ∷ s) (wholeWords n l 0 (headOf ins) ++ beginWrites (suc n) fs (drop 1 ins)) ≡ before ++ headOf ins ∷ begin fs s (drop 1 ins)
       taken on [] i = absurd i
       taken on (x ∷ ins) i = onward on x x ins (set-row x (i .0)) (i .1)
 
@@ -184,14 +184,14 @@ module _ (d : Description) where
     whole-in n f e l c (suc w) xs (omega arith),
   )
 
-  begin-in : (n : ℕ) (front fs : List Facility) (ins : Words) → d .facilities ≡ front ++ fs → length front ≡ n → Fit (inputsOf fs) ins → AllInStore d (beginWrites n fs ins)
+  begin-in : (n : ℕ) (front fs : List Facility) (ins : StoreWords) → d .facilities ≡ front ++ fs → length front ≡ n → Fit (inputsOf fs) ins → AllInStore d (beginWrites n fs ins)
   unfolding beginWrites facilityAt inputsOf stored wholeWords
   begin-in n front [] ins e p k = tt
   begin-in n front (f ∷ fs) ins e p k =
       go (λ more i. begin-in (suc n) (front ++ f ∷ []) fs more (e ∙ sym (append-assoc front (f ∷ []) fs)) (length-append front (f ∷ []) ∙ omega arith) i) (f .kind) refl k
     where
       Later : Type 0
-      Later = (more : Words) → Fit (inputsOf fs) more → AllInStore d (beginWrites (suc n) fs more)
+      Later = (more : StoreWords) → Fit (inputsOf fs) more → AllInStore d (beginWrites (suc n) fs more)
 
       found : getD (d .facilities) n noFacility ≡ f
       found = rw e (getD-at front f fs noFacility n p)
@@ -202,7 +202,7 @@ module _ (d : Description) where
       row-in : (new : List ℕ) → isComputed (f .kind) ≡ false → Row f new → AllInStore d (wholeWords n (wordLength f) 0 new)
       row-in new z i = whole-in n f found inside z 0 new (let c : length new ≡ wordCount f = i .count ∙ rw z refl in omega arith)
 
-      taken : Later → (ins : Words) → f .kind ≡ input → Fit (f ∷ inputsOf fs) ins → AllInStore d (wholeWords n (wordLength f) 0 (headOf ins) ++ beginWrites (suc n) fs (drop 1 ins))
+      taken : Later → (ins : StoreWords) → f .kind ≡ input → Fit (f ∷ inputsOf fs) ins → AllInStore d (wholeWords n (wordLength f) 0 (headOf ins) ++ beginWrites (suc n) fs (drop 1 ins))
       taken on [] z i = absurd i
       taken on (x ∷ ins) z i = in-append (wholeWords n (wordLength f) 0 x) (beginWrites (suc n) fs ins) (row-in x (rw z refl) (i .0)) (on ins (i .1))
 
@@ -241,7 +241,7 @@ module _ (d : Description) where
           whole-in f (facilityAt d f) refl l (not-computed (facilityAt d f .kind) t) 0 (x ∷ []) (omega arith)
 
   module _ (L : Legal d) where
-    state-puts : (u t : Words) (state : ℕ) → state < length (d .states) → Fit (d .facilities) u → setRegister d (sequencingOf d) (stateAt d state .value) u ≡ into t → t ≡ putParts d u (stateWrites d state)
+    state-puts : (u t : StoreWords) (state : ℕ) → state < length (d .states) → Fit (d .facilities) u → setRegister d (sequencingOf d) (stateAt d state .value) u ≡ into t → t ≡ putParts d u (stateWrites d state)
     unfolding facilityAt putParts stateWrites wholeWords
     state-puts u t state l h e = go (sequencingOf d) refl e
       where
@@ -257,7 +257,7 @@ module _ (d : Description) where
 
 -- ---- The cycle.
 
-module _ (d : Description) (s : Words) (r : Record) (ins t : Words) (q : Record) where
+module _ (d : Description) (s : StoreWords) (r : Record) (ins t : StoreWords) (q : Record) where
   -- The actions as executed with every write noted; the words after the cycle are those before it with its writes put there, each to a place in the store.
   pub record Wrote : Type 0 where
     pub noted : Doing Noted
@@ -266,7 +266,7 @@ module _ (d : Description) (s : Words) (r : Record) (ins t : Words) (q : Record)
     pub places-in : AllInStore d (cycleWrites d ins noted (q .state))
 
   module _ (L : Legal d) (n : ℕ) (is-sound : Sound d s r) (fits : Fit (inputsOf (d .facilities)) ins) (completes-so : step d s r ins ≡ completed t q n) where
-    abbrev begins : Words
+    abbrev begins : StoreWords
     begins = begin (d .facilities) s ins
 
     abbrev did : Did d s r ins t q n
@@ -291,10 +291,10 @@ module _ (d : Description) (s : Words) (r : Record) (ins t : Words) (q : Record)
         let first : begins ≡ putParts d s (beginWrites 0 (d .facilities) ins) = sym (begin-puts d 0 [] (d .facilities) [] s ins refl refl refl (is-sound .words) fits) in
         let last = state-puts d L (landAll d (did .done .store .words) (did .done .store .waits)) t (q .state) state-there landed-fit (did .lands) in
         let lands : landAll d (did .done .store .words) (did .done .store .waits) ≡ putParts d (putParts d begins (c .store .writes)) (joined (c .store .store .waits)) =
-        ap (λ (x : Held). landAll d (x .words) (x .waits)) (h .same) ∙ (land-puts d (c .store .store .words) (c .store .store .waits) ∙ ap (λ (x : Words). putParts d x (joined (c .store .store .waits))) (h .put-so))
+        ap (λ (x : Held). landAll d (x .words) (x .waits)) (h .same) ∙ (land-puts d (c .store .store .words) (c .store .store .waits) ∙ ap (λ (x : StoreWords). putParts d x (joined (c .store .store .waits))) (h .put-so))
         in
         let whole : t ≡ putParts d (putParts d (putParts d (putParts d s (beginWrites 0 (d .facilities) ins)) (c .store .writes)) (joined (c .store .store .waits))) (stateWrites d (q .state)) =
-        last ∙ (ap (λ (x : Words). putParts d x (stateWrites d (q .state))) lands ∙ ap (λ (x : Words). putParts d (putParts d (putParts d x (c .store .writes)) (joined (c .store .store .waits))) (stateWrites d (q .state))) first)
+        last ∙ (ap (λ (x : StoreWords). putParts d x (stateWrites d (q .state))) lands ∙ ap (λ (x : StoreWords). putParts d (putParts d (putParts d x (c .store .writes)) (joined (c .store .store .waits))) (stateWrites d (q .state))) first)
         in
         whole ∙ sym (puts-append d s (beginWrites 0 (d .facilities) ins) _ ∙ (puts-append d _ (c .store .writes) _ ∙ puts-append d _ (joined (c .store .store .waits)) (stateWrites d (q .state))))
 

@@ -12,11 +12,11 @@ use Rattle.language.specs.Acting as A
 use Rattle.language.specs.Acting.{Doing, Ran, went}
 use Rattle.language.specs.Description.{Description, noPlaces, sequencingOf, stateAt}
 use Rattle.language.specs.Meaning.{Write, noState}
-use Rattle.language.specs.Rules.{mostWork}
-use Rattle.language.specs.Step.{Entered, Outcome, Record, afterActions, completed, entered, finished, into, landed, lastCycle, nextRecord, nothingDone, orStopped, setRegister, step, stopAfter}
+use Rattle.language.specs.Ceilings.{lastCycle, mostWork}
+use Rattle.language.specs.Step.{Entered, Outcome, Record, afterActions, completed, entered, finished, into, landed, nextRecord, nothingDone, orStopped, setRegister, step, stopAfter}
 use Rattle.language.specs.declared.stops.Stop.{Stop}
 use Rattle.language.specs.declared.stops.Stop.the-variants.{LastCycleReached}
-use Rattle.language.specs.Store.{Held, Words, anyMeets, begin, conflicts, numbers}
+use Rattle.language.specs.Store.{Held, StoreWords, anyMeets, begin, conflicts, numbers}
 use Rattle.language.specs.Value.{bit}
 use Rattle.about_running.specs.FewInLists.{few-stores}
 use Rattle.about_running.specs.FewStores as F
@@ -48,15 +48,15 @@ no-more-conflicts earlier (g ∷ gs) =
     omega (arith, one, rest)
 
 module _ (d : Description) (L : Legal d) where
-  entered-count : (r : Record) (c : Doing Held) (x : Entered) {s : Words} {r′ : Record} {n : ℕ} → entered d r c x ≡ completed s r′ n → n ≡ conflicts [] (c .store .waits)
+  entered-count : (r : Record) (c : Doing Held) (x : Entered) {s : StoreWords} {r′ : Record} {n : ℕ} → entered d r c x ≡ completed s r′ n → n ≡ conflicts [] (c .store .waits)
   entered-count r c (Entered.stuck y) e = absurd (let z : _≡_ {A = ℕ} 0 1 = cc in omega arith)
   entered-count r c (into t) e = cc
 
-  finished-count : (r : Record) (c : Doing Held) (x : Option Stop) {s : Words} {r′ : Record} {n : ℕ} → orStopped d r c x ≡ completed s r′ n → n ≡ conflicts [] (c .store .waits)
+  finished-count : (r : Record) (c : Doing Held) (x : Option Stop) {s : StoreWords} {r′ : Record} {n : ℕ} → orStopped d r c x ≡ completed s r′ n → n ≡ conflicts [] (c .store .waits)
   finished-count r c none e = entered-count r c (setRegister d (sequencingOf d) (stateAt d (nextRecord d r c .state) .value) (landed d r c)) e
   finished-count r c (some m) e = absurd (let z : _≡_ {A = ℕ} 0 1 = cc in omega arith)
 
-  after-count : (r : Record) (x : Ran Held) (k : ℕ) → F.Few (numbers d) d noPlaces delayed (counts d) k x → {s : Words} {r′ : Record} {n : ℕ} → afterActions d r x ≡ completed s r′ n → n ≤ k
+  after-count : (r : Record) (x : Ran Held) (k : ℕ) → F.Few (numbers d) d noPlaces delayed (counts d) k x → {s : StoreWords} {r′ : Record} {n : ℕ} → afterActions d r x ≡ completed s r′ n → n ≤ k
   unfolding finished delayed
   after-count r (went c) k (carried h) e =
       let q = finished-count r c (stopAfter d r c) e in
@@ -65,7 +65,7 @@ module _ (d : Description) (L : Legal d) where
   after-count r (Ran.stopped m) k h e = absurd (let z : _≡_ {A = ℕ} 0 1 = cc in omega arith)
   after-count r (Ran.stuck x) k h e = absurd (let z : _≡_ {A = ℕ} 0 1 = cc in omega arith)
 
-  pub few-conflicts : (s : Words) (r : Record) (ins : Words) {s′ : Words} {r′ : Record} {n : ℕ} → step d s r ins ≡ completed s′ r′ n → n ≤ mostWork
+  pub few-conflicts : (s : StoreWords) (r : Record) (ins : StoreWords) {s′ : StoreWords} {r′ : Record} {n : ℕ} → step d s r ins ≡ completed s′ r′ n → n ≤ mostWork
   unfolding step delayed
   few-conflicts s r ins {s′} {r′} {n} e = go (leb lastCycle (r .cycle)) (ltb (r .state) (length (d .states))) refl e
     where

@@ -1,4 +1,4 @@
--- Words that fit their facilities: as many as declared, none with a spare bit. A write to a part that is there keeps them so. Assumes nothing.
+-- StoreWords that fit their facilities: as many as declared, none with a spare bit. A write to a part that is there keeps them so. Assumes nothing.
 use mathlib.Core.Bool.{cond}
 use mathlib.Core.List.{List, [], _∷_, _++_}
 use mathlib.Core.Path.{_≡_, sym, ap, _∙_}
@@ -10,7 +10,7 @@ use lib.Pow.{pow-add, pow-pos}
 use Rattle.language.specs.Description.{Description, Facility, facilityAt, isComputed, noFacility, wordCount, wordLength}
 use Rattle.language.specs.Kinds.{delayedSign}
 use Rattle.language.specs.Meaning.{Write}
-use Rattle.language.specs.Store.{Held, Words, loadPart, lowOf, numbers, putPart, setWord, wordOf}
+use Rattle.language.specs.Store.{Held, StoreWords, loadPart, lowOf, numbers, putPart, setWord, wordOf}
 use Rattle.language.specs.Value.{replaced}
 use Rattle.about_running.specs.Executes.{AllRight, Keeps, There}
 
@@ -59,13 +59,13 @@ pub record Row (f : Facility) (ws : List ℕ) : Type 0 where
   pub count : length ws ≡ stored f
   pub small : AllBelow (2 ^ wordLength f) ws
 
-abbrev pub Fit : List Facility → Words → Type 0
+abbrev pub Fit : List Facility → StoreWords → Type 0
 Fit [] [] = Unit {0}
 Fit [] (ws ∷ s) = ⊥
 Fit (f ∷ fs) [] = ⊥
 Fit (f ∷ fs) (ws ∷ s) = Row f ws × Fit fs s
 
-pub fit-word : (fs : List Facility) (s : Words) (n w : ℕ) → Fit fs s → wordOf s n w < 2 ^ wordLength (getD fs n noFacility)
+pub fit-word : (fs : List Facility) (s : StoreWords) (n w : ℕ) → Fit fs s → wordOf s n w < 2 ^ wordLength (getD fs n noFacility)
 unfolding wordOf
 fit-word [] [] n w h = pow-pos (wordLength noFacility)
 fit-word [] (ws ∷ s) n w h = absurd h
@@ -73,7 +73,7 @@ fit-word (f ∷ fs) [] n w h = absurd h
 fit-word (f ∷ fs) (ws ∷ s) zero w h = below-at (2 ^ wordLength f) ws w (pow-pos (wordLength f)) (h .0 .small)
 fit-word (f ∷ fs) (ws ∷ s) (suc n) w h = fit-word fs s n w (h .1)
 
-pub fit-set : (fs : List Facility) (s : Words) (n w x : ℕ) → Fit fs s → x < 2 ^ wordLength (getD fs n noFacility) → Fit fs (setWord s n w x)
+pub fit-set : (fs : List Facility) (s : StoreWords) (n w x : ℕ) → Fit fs s → x < 2 ^ wordLength (getD fs n noFacility) → Fit fs (setWord s n w x)
 unfolding setWord
 fit-set [] [] n w x h l = tt
 fit-set [] (ws ∷ s) n w x h l = absurd h
@@ -83,7 +83,7 @@ fit-set (f ∷ fs) (ws ∷ s) (suc n) w x h l = (h .0, fit-set fs s n w x (h .1)
 
 module _ (d : Description) where
   -- A write to a part that is there.
-  pub fit-put : (s : Words) (w : Write) → There d (w .at) → Fit (d .facilities) s → Fit (d .facilities) (putPart d s w)
+  pub fit-put : (s : StoreWords) (w : Write) → There d (w .at) → Fit (d .facilities) s → Fit (d .facilities) (putPart d s w)
   unfolding putPart facilityAt
   fit-put s w t h =
       let q = w .at in

@@ -6,7 +6,8 @@ use borrow.Author.Tests.{le-leb, lt-ltb}
 use lib.Pow.{pow-pos}
 use Rattle.language.specs.Meaning.{Answer, Stuck, after, is, stops, worthOr}
 use Rattle.language.specs.declared.stops.Stop.the-variants.{OutsideBounds}
-use Rattle.language.specs.Value.{Made, Value, fit, longest, made, value}
+use Rattle.language.specs.Value.{Made, Value, fit, made, value}
+use Rattle.language.specs.Ceilings.{longest}
 use Rattle.about_running.specs.Operators.{Fits}
 
 pub data Gives (l : ℕ) : Answer → Type 0 where

@@ -9,7 +9,7 @@ use lib.Dec.{eqb, leb, ltb}
 use Rattle.language.specs.Judging.{Judged, Worth, armList, faulty, fine, given, givenBoth, orFaulty, proper, refuse, sized, unless, worth}
 use Rattle.language.specs.declared.refusals.Refusal.{Refusal}
 use Rattle.language.specs.declared.refusals.Refusal.the-variants.{BadLength, NoContinuation}
-use Rattle.language.specs.Value.{longest}
+use Rattle.language.specs.Ceilings.{longest}
 use Rattle.language.specs.Words.{Fault, Position}
 
 pub faulty-fine : {A : Type 0} {f : Fault} {fs : List Fault} {w : Worth} → faulty f fs ≡ fine w → A

@@ -11,7 +11,7 @@ use Rattle.language.specs.Description.{Description, Facility, facilityAt, noFac
 use Rattle.language.specs.Meaning.{Stores, Write}
 use Rattle.language.specs.Step.{Record, completed, into, nothingDone, setRegister, step}
 use Rattle.about_running.specs.Entering.{took}
-use Rattle.language.specs.Store.{Held, Words, begin, begun, headOf, held, isInput, landAll, loadPart, numbers, putPart, putParts, wordOf, setWord}
+use Rattle.language.specs.Store.{Held, StoreWords, begin, begun, headOf, held, isInput, landAll, loadPart, numbers, putPart, putParts, setWord, wordOf}
 use Rattle.language.specs.Tree.{Kind, computed, input, memory, plain, register, sequencing}
 use Rattle.about_running.specs.BitsKept.{NoneHas, NoneHasAny, bitOf, land-keeps, other-facility, puts-keep}
 use Rattle.about_running.specs.LandsLast.{Did, lands-last}
@@ -44,13 +44,13 @@ AllStoredIn d (g ∷ gs) = AllStored d g × AllStoredIn d gs
 -- ---- Writes one after the other.
 
 module _ (d : Description) where
-  pub puts-append : (s : Words) (xs ys : List Write) → putParts d s (xs ++ ys) ≡ putParts d (putParts d s xs) ys
+  pub puts-append : (s : StoreWords) (xs ys : List Write) → putParts d s (xs ++ ys) ≡ putParts d (putParts d s xs) ys
   unfolding putParts
   puts-append s [] ys = refl
   puts-append s (x ∷ xs) ys = puts-append (putPart d s x) xs ys
 
   -- To land is to put the writes one after the other.
-  pub land-puts : (s : Words) (gs : List (List Write)) → landAll d s gs ≡ putParts d s (joined gs)
+  pub land-puts : (s : StoreWords) (gs : List (List Write)) → landAll d s gs ≡ putParts d s (joined gs)
   unfolding landAll joined putParts
   land-puts s [] = refl
   land-puts s (g ∷ gs) = land-puts (putParts d s g) gs ∙ sym (puts-append s g (joined gs))
@@ -63,7 +63,7 @@ module _ (d : Description) where
   more-stored [] g h k = (k, tt)
   more-stored (x ∷ gs) g h k = (h .0, more-stored gs g (h .1) k)
 
-module _ (d : Description) (start : Words) where
+module _ (d : Description) (start : StoreWords) where
   -- The store is the one noted; its words are those at the start with the noted writes put there; and every place written, or waiting to be, is in the store.
   pub record Stands (x : Held) (y : Noted) : Type 0 where
     pub same : x ≡ y .store
@@ -77,7 +77,7 @@ module _ (d : Description) (start : Words) where
     loads = λ x y h p s. ap (λ (z : Held). loadPart d (z .words) p) (h .same);
     puts = λ x y w h s. record {
       same = ap (λ (z : Held). held (putPart d (z .words) w) (z .waits)) (h .same);
-      put-so = ap (λ (z : Words). putPart d z w) (h .put-so) ∙ sym (puts-append d start (y .writes) (w ∷ []));
+      put-so = ap (λ (z : StoreWords). putPart d z w) (h .put-so) ∙ sym (puts-append d start (y .writes) (w ∷ []));
       once-stored = stored-append d (y .writes) (w ∷ []) (h .once-stored) (s, tt);
       later-stored = h .later-stored;
     };
@@ -99,12 +99,12 @@ steady plain = false
 steady input = false
 steady computed = true
 
-begin-keeps : (fs : List Facility) (s ins : Words) (f w : ℕ) → f < length fs → steady (getD fs f noFacility .kind) ≡ true → wordOf (begin fs s ins) f w ≡ wordOf s f w
+begin-keeps : (fs : List Facility) (s ins : StoreWords) (f w : ℕ) → f < length fs → steady (getD fs f noFacility .kind) ≡ true → wordOf (begin fs s ins) f w ≡ wordOf s f w
 unfolding begin wordOf
 begin-keeps [] s ins f w h q = absurd (omega arith)
 begin-keeps (x ∷ fs) s ins zero w h q = go (x .kind) q s
   where
-    go : (t : Kind) → steady t ≡ true → (s : Words) → getD (begun t x (headOf s) ins) w 0 ≡ getD (getD s 0 []) w 0
+    go : (t : Kind) → steady t ≡ true → (s : StoreWords) → getD (begun t x (headOf s) ins) w 0 ≡ getD (getD s 0 []) w 0
     go register e [] = refl
     go register e (r ∷ s) = refl
     go memory e [] = refl
@@ -116,14 +116,14 @@ begin-keeps (x ∷ fs) s ins zero w h q = go (x .kind) q s
     go input e s = absurd (let z : _≡_ {A = ℕ} 0 1 = cc in omega arith)
 begin-keeps (x ∷ fs) s ins (suc f) w h q = begin-keeps fs (drop 1 s) (cond (isInput (x .kind)) (drop 1 ins) ins) f w (omega arith) q ∙ dropped s
   where
-    dropped : (s : Words) → getD (getD (drop 1 s) f []) w 0 ≡ getD (getD s (suc f) []) w 0
+    dropped : (s : StoreWords) → getD (getD (drop 1 s) f []) w 0 ≡ getD (getD s (suc f) []) w 0
     dropped [] = refl
     dropped (r ∷ s) = refl
 
 -- ---- The cycle.
 
-module _ (d : Description) (s : Words) (r : Record) (ins : Words) where
-  abbrev begins : Words
+module _ (d : Description) (s : StoreWords) (r : Record) (ins : StoreWords) where
+  abbrev begins : StoreWords
   begins = begin (d .facilities) s ins
 
   abbrev first : Doing Noted
@@ -147,7 +147,7 @@ module _ (d : Description) (s : Words) (r : Record) (ins : Words) where
       go : Alike (numbers d) (noting d) d (Stands d begins) (joins d begins) (went e) (went c) → Stands d begins (e .store) (c .store)
       go (Actions.go-on h) = h .stores
 
-  module _ (c : Doing Noted) (executed-so : executed ≡ went c) (t : Words) (q : Record) (n : ℕ) (completes : step d s r ins ≡ completed t q n) where
+  module _ (c : Doing Noted) (executed-so : executed ≡ went c) (t : StoreWords) (q : Record) (n : ℕ) (completes : step d s r ins ≡ completed t q n) where
     abbrev did : Did d s r ins t q n
     did = lands-last d s r ins t q n completes
 
@@ -156,16 +156,16 @@ module _ (d : Description) (s : Words) (r : Record) (ins : Words) where
 
     module _ (f w k : ℕ) (inside : f < length (d .facilities)) (is-steady : steady (facilityAt d f .kind) ≡ true) (not-register : (g : ℕ) → sequencingOf d ≡ some g → f ≡ g → ⊥)
         (none-at-once : NoneHas d f w k (c .store .writes)) (none-later : NoneHasAny d f w k (c .store .store .waits)) where
-      set-keeps : (x v : Option ℕ) (u : Words) → sequencingOf d ≡ x → setRegister d x v u ≡ into t → wordOf t f w ≡ wordOf u f w
+      set-keeps : (x v : Option ℕ) (u : StoreWords) → sequencingOf d ≡ x → setRegister d x v u ≡ into t → wordOf t f w ≡ wordOf u f w
       set-keeps none v u z h = let y : u ≡ t = cc in rw y refl
       set-keeps (some g) v u z h =
           let y = took d g v u t h in
-          ap (λ (o : Words). wordOf o f w) (sym (y .same)) ∙ other-facility u f g w 0 (y .number) (not-register g z)
+          ap (λ (o : StoreWords). wordOf o f w) (sym (y .same)) ∙ other-facility u f g w 0 (y .number) (not-register g z)
 
       pub kept : bitOf (wordOf t f w) k ≡ bitOf (wordOf s f w) k
       unfolding facilityAt
       kept =
           let there : wordOf t f w ≡ wordOf (landAll d (did .done .store .words) (did .done .store .waits)) f w = set-keeps (sequencingOf d) (stateAt d (q .state) .value) _ refl (did .lands) in
           ap (λ (o : ℕ). bitOf o k) there ∙ (ap (λ (o : Held). bitOf (wordOf (landAll d (o .words) (o .waits)) f w) k) (stands .same)
-          ∙ (land-keeps d f w k (c .store .store .words) (c .store .store .waits) none-later ∙ (ap (λ (o : Words). bitOf (wordOf o f w) k) (stands .put-so)
+          ∙ (land-keeps d f w k (c .store .store .words) (c .store .store .waits) none-later ∙ (ap (λ (o : StoreWords). bitOf (wordOf o f w) k) (stands .put-so)
           ∙ (puts-keep d f w k begins (c .store .writes) none-at-once ∙ ap (λ (o : ℕ). bitOf o k) (begin-keeps (d .facilities) s ins f w inside is-steady)))))

@@ -9,12 +9,13 @@ use lib.Dec.{leb, ltb}
 use Rattle.language.specs.Acting.{Doing, Ran, runActions, went}
 use Rattle.language.specs.Description.{Description, sequencingOf, stateAt}
 use Rattle.language.specs.Meaning.{noState}
-use Rattle.language.specs.Step.{Entered, Outcome, Record, afterActions, completed, entered, finished, into, landed, lastCycle, nextRecord, nothingDone, orStopped, setRegister, stateCount, step, stopAfter}
+use Rattle.language.specs.Step.{Entered, Outcome, Record, afterActions, completed, entered, finished, into, landed, nextRecord, nothingDone, orStopped, setRegister, stateCount, step, stopAfter}
+use Rattle.language.specs.Ceilings.{lastCycle}
 use Rattle.language.specs.declared.stops.Stop.{Stop}
 use Rattle.language.specs.declared.stops.Stop.the-variants.{LastCycleReached}
-use Rattle.language.specs.Store.{Held, Words, begin, conflicts, landAll, numbers}
+use Rattle.language.specs.Store.{Held, StoreWords, begin, conflicts, landAll, numbers}
 
-module _ (d : Description) (s : Words) (r : Record) (ins : Words) (t : Words) (q : Record) (n : ℕ) where
+module _ (d : Description) (s : StoreWords) (r : Record) (ins : StoreWords) (t : StoreWords) (q : Record) (n : ℕ) where
   abbrev run : Ran Held
   run = runActions (numbers d) d (stateAt d (r .state) .actions) (nothingDone d (begin (d .facilities) s ins))
 

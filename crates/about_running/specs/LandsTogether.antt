@@ -16,9 +16,10 @@ use Rattle.language.specs.Kinds.{delayedSign}
 use Rattle.language.specs.Meaning.{Answer, Located, Place, Write, evalAt, evalBelow, evalNode, is, located, place, placeOf}
 use Rattle.language.specs.References.{rightCount, whole}
 use Rattle.language.specs.Storing.{mayStore}
-use Rattle.language.specs.Store.{Held, Words, held, landAll, loadPart, numbers, putPart, putParts, setWord, wordOf}
+use Rattle.language.specs.Store.{Held, StoreWords, held, landAll, loadPart, numbers, putPart, putParts, setWord, wordOf}
 use Rattle.language.specs.Tree.{register}
-use Rattle.language.specs.Value.{longest, replaced, value}
+use Rattle.language.specs.Value.{replaced, value}
+use Rattle.language.specs.Ceilings.{longest}
 use Rattle.about_running.specs.BitsKept.{other-facility}
 use Rattle.about_running.specs.Cycle.{row-of, set-same}
 use Rattle.about_running.specs.Fitting.{Fit, fit-set, fit-word, stored}
@@ -61,7 +62,7 @@ module _ (d : Description) where
   -- ---- Landing.
 
   -- The whole of a word that fits.
-  whole-load : (s : Words) (f : ℕ) → Fit (d .facilities) s → loadPart d s (all-of f) ≡ wordOf s f 0
+  whole-load : (s : StoreWords) (f : ℕ) → Fit (d .facilities) s → loadPart d s (all-of f) ≡ wordOf s f 0
   unfolding loadPart facilityAt
   whole-load s f h =
       let L : ℕ = wordLength (facilityAt d f) in
@@ -69,7 +70,7 @@ module _ (d : Description) where
       let y : wordOf s f 0 / 2 ^ 0 ≡ wordOf s f 0 = div-one (wordOf s f 0) in
       rw (z, y) (mod-eq-of-lt (fit-word (d .facilities) s f 0 h))
 
-  whole-put : (s : Words) (f x : ℕ) → Fit (d .facilities) s → x < 2 ^ wordLength (facilityAt d f) → putPart d s (write (numbers d) d (all-of f) x) ≡ setWord s f 0 x
+  whole-put : (s : StoreWords) (f x : ℕ) → Fit (d .facilities) s → x < 2 ^ wordLength (facilityAt d f) → putPart d s (write (numbers d) d (all-of f) x) ≡ setWord s f 0 x
   unfolding putPart replaced facilityAt
   whole-put s f x h l =
       let L : ℕ = wordLength (facilityAt d f) in
@@ -82,8 +83,8 @@ module _ (d : Description) where
       rw (z, u, old, new, one, e) refl
 
   -- F <- G, G <- F: each has the other's value.
-  module _ (f g : ℕ) (s : Words) (a : Register d f) (b : Register d g) (same : wordLength (facilityAt d f) ≡ wordLength (facilityAt d g)) (apart : f ≡ g → ⊥) (h : Fit (d .facilities) s) where
-    abbrev after-both : Words
+  module _ (f g : ℕ) (s : StoreWords) (a : Register d f) (b : Register d g) (same : wordLength (facilityAt d f) ≡ wordLength (facilityAt d g)) (apart : f ≡ g → ⊥) (h : Fit (d .facilities) s) where
+    abbrev after-both : StoreWords
     after-both = landAll d s ((write (numbers d) d (all-of f) (loadPart d s (all-of g)) ∷ []) ∷ (write (numbers d) d (all-of g) (loadPart d s (all-of f)) ∷ []) ∷ [])
 
     small : (n : ℕ) → wordOf s n 0 < 2 ^ wordLength (facilityAt d n)
@@ -100,7 +101,7 @@ module _ (d : Description) where
         rw (whole-load s g h, whole-load s f h, whole-put s f (wordOf s g 0) h (rw same (small g)))
         (whole-put (setWord s f 0 (wordOf s g 0)) g (wordOf s f 0) first-fit (rw (← same) (small f)))
 
-    has-word : (n : ℕ) (t : Words) → Register d n → Fit (d .facilities) t → (n < length t) × (0 < length (getD t n []))
+    has-word : (n : ℕ) (t : StoreWords) → Register d n → Fit (d .facilities) t → (n < length t) × (0 < length (getD t n []))
     unfolding facilityAt stored
     has-word n t r k =
         let y = row-of (d .facilities) t n k (r .inside) in
@@ -111,6 +112,6 @@ module _ (d : Description) where
     swaps =
         let one = has-word f s a h in
         let two = has-word g (setWord s f 0 (wordOf s g 0)) b first-fit in (
-          ap (λ (t : Words). wordOf t f 0) both-set ∙ (other-facility (setWord s f 0 (wordOf s g 0)) f g 0 0 (wordOf s f 0) apart ∙ set-same s f (wordOf s g 0) (one .0) (one .1)),
-          ap (λ (t : Words). wordOf t g 0) both-set ∙ set-same (setWord s f 0 (wordOf s g 0)) g (wordOf s f 0) (two .0) (two .1),
+          ap (λ (t : StoreWords). wordOf t f 0) both-set ∙ (other-facility (setWord s f 0 (wordOf s g 0)) f g 0 0 (wordOf s f 0) apart ∙ set-same s f (wordOf s g 0) (one .0) (one .1)),
+          ap (λ (t : StoreWords). wordOf t g 0) both-set ∙ set-same (setWord s f 0 (wordOf s g 0)) g (wordOf s f 0) (two .0) (two .1),
         )

@@ -16,11 +16,11 @@ use Rattle.language.specs.Expressions.{terminalJudged}
 use Rattle.language.specs.Image.{legalForm}
 use Rattle.language.specs.Judging.{Judged, Worth, faultsOf, faulty, fine, unless}
 use Rattle.language.specs.Layout.{facilityBytes}
-use Rattle.language.specs.Machine.{mostFacilities, mostOperations, mostStates}
+use Rattle.language.specs.Ceilings.{largestStore, mostFacilities, mostOperations, mostStates, mostWork}
 use Rattle.language.specs.Order.{actionRoots, endsAt, facilityRoots, operationRoots, operationsEnd, runRoots, runsRight, startAt, stateRoots, statesEnd, treesEnd, treesRight, valueRoot, ending}
 use Rattle.language.specs.declared.refusals.Refusal.the-variants.{BadLength, BadSequencing, CeilingPassed}
 use Rattle.language.specs.Rules as Rules
-use Rattle.language.specs.Rules.{boundsFaults, largestStore, mostWork, sequencingRight, facilitiesFaults, facilityFaults, faults, missing, nameFaults, namePlaces, namesOf, operationsFaults, orElse, ownFaults, sameLength, sequencingLength, stateFaults, statesFaults, valueFaults}
+use Rattle.language.specs.Rules.{boundsFaults, facilitiesFaults, facilityFaults, faults, firstFaults, missing, nameFaults, namePlaces, namesOf, operationsFaults, ownFaults, sameLength, sequencingLength, sequencingRight, stateFaults, statesFaults, valueFaults}
 use Rattle.language.specs.Words.{Fault, Position}
 use Rattle.about_running.specs.Judged.{append-none-left, append-none-right, unless-none}
 use Rattle.about_running.specs.Ordered.{InOrder, Split, in-order, operations-order, order-left, order-right, states-order, trees-split}
@@ -49,7 +49,7 @@ ends-so d n (some m) e = ap some (eqb-true m n e)
 module _ (d : Description) (p : Places) where
   -- ---- Facilities.
 
-  pub or-else-both : (xs ys : List Fault) → orElse d p xs ys ≡ [] → ys ≡ []
+  pub or-else-both : (xs ys : List Fault) → firstFaults d p xs ys ≡ [] → ys ≡ []
   or-else-both [] ys e = e
   or-else-both (x ∷ xs) ys e = absurd (let z : _≡_ {A = ℕ} 0 1 = cc in omega arith)
 
@@ -64,7 +64,7 @@ module _ (d : Description) (p : Places) where
   facility-none (f ∷ fs) n (suc i) another before e h =
       let z : n + suc i ≡ suc n + i = omega arith in
       rw z (facility-none fs (suc n) i (another || isSequencing (f .kind)) (before + facilityBytes f)
-      (append-none-right (orElse d p (boundsFaults d p f (facilityPlace p n)) (facilityFaults d p n another before f (facilityPlace p n))) _ e) (omega arith))
+      (append-none-right (firstFaults d p (boundsFaults d p f (facilityPlace p n)) (facilityFaults d p n another before f (facilityPlace p n))) _ e) (omega arith))
 
   same-so : (l : ℕ) (at : Position) (j : Judged) → sameLength d p l at j ≡ [] → (w : Worth) × (j ≡ fine w) × (l ≡ w .length)
   same-so l at (fine w) e = (w, refl, eqb-true _ _ (unless-none (eqb l (w .length)) at BadLength e))

@@ -17,8 +17,9 @@ use Rattle.language.specs.RecordBytes.{marked, recordFrom, sound}
 use Rattle.language.specs.declared.refusals.Refusal.{Refusal}
 use Rattle.language.specs.declared.refusals.Refusal.the-variants.{BadStimulus, BufferTooShort, ImageFails, Unsound}
 use Rattle.language.specs.Scan.{same}
-use Rattle.language.specs.Step.{mostReturns, openRecord, setRegister, stateNumber, step}
-use Rattle.language.specs.Store.{Words, fromBytes, inputsOf, narrow, zeroWords}
+use Rattle.language.specs.Step.{openRecord, setRegister, stateNumber, step}
+use Rattle.language.specs.Ceilings.{mostReturns}
+use Rattle.language.specs.Store.{StoreWords, fromBytes, inputsOf, narrow, zeroWords}
 use Rattle.about_running.specs.Cycle.{Sound, Well, cycle-well, register-set, zeros-below, zeros-length}
 use Rattle.about_running.specs.Fitting.{AllBelow, Fit, Row, fit-set, stored}
 use Rattle.about_running.specs.LegalForm.{Legal, legal, right-of}
@@ -100,7 +101,7 @@ module _ (image : List ℕ) (passes-so : passes image ≡ true) where
   unfolding openWords facilityAt
   opens-sound = go (sequencingOf opened) refl
     where
-      zeros : Words
+      zeros : StoreWords
       zeros = zeroWords (opened .facilities)
 
       go : (x : Option ℕ) → sequencingOf opened ≡ x → Sound opened (orZeroWords zeros (setRegister opened x (stateAt opened 0 .value) zeros)) (openRecord opened)

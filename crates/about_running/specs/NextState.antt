@@ -11,7 +11,8 @@ use lib.ListN.{getD, length, length-set, set}
 use lib.Seq.{getD-set-other, getD-set-same}
 use Rattle.language.specs.Acting.{Doing}
 use Rattle.language.specs.Description.{Description}
-use Rattle.language.specs.Step.{Record, isNone, landed, mostReturns, nextRecord, orZero, plainCount, plainNext, popped, returnsLeft, sequencedState, stateCount, stopAfter}
+use Rattle.language.specs.Step.{Record, isNone, landed, nextRecord, orZero, plainCount, plainNext, popped, returnsLeft, sequencedState, stateCount, stopAfter}
+use Rattle.language.specs.Ceilings.{mostReturns}
 use Rattle.language.specs.declared.stops.Stop.{Stop}
 use Rattle.language.specs.Store.{Held}
 use Rattle.language.specs.Value.{bit}

@@ -5,7 +5,7 @@ use native.Mathlib.Omega.{arith}
 use Prim.Native.Nat.{ℕ, _≤_}
 use borrow.Author.Tests.{eqb-true}
 use lib.Dec.{eqb}
-use Rattle.language.specs.Kinds.{atLeastSign, atMostSign, conWord, differenceSign, equalsSign, exclusiveSign, extWord, greaterSign, hash, headWord, lessSign, minus, plus, star, sumSign, tailWord}
+use Rattle.language.specs.Kinds.{atLeastSign, atMostSign, conWord, differenceSign, exclusiveSign, extWord, greaterSign, hash, headWord, lessSign, minus, plus, sameSign, star, sumSign, tailWord}
 use Rattle.language.specs.Operators.{binaryLength, binaryOf, cutLengthOf, cutOf, prefixLength, prefixOf}
 use Rattle.language.specs.Value.{Made, Value, andReduction, atLeast, atMost, complement, conjunction, difference, disjunction, equal, exclusive, exclusiveReduction, extended, fit, greater, head, join, less, negation, orReduction, related, sum, sumReduction, tail, unequal}
 
@@ -35,7 +35,7 @@ module _ (x y : Value) where
       by-kind Right k plus (λ h. record { number = _; same = refl }) (λ e4.
       by-kind Right k star (λ h. record { number = _; same = refl }) (λ e5.
       by-kind Right k exclusiveSign (λ h. record { number = _; same = refl }) (λ e6.
-      by-kind Right k equalsSign (λ h. record { number = _; same = refl }) (λ e7.
+      by-kind Right k sameSign (λ h. record { number = _; same = refl }) (λ e7.
       by-kind Right k hash (λ h. record { number = _; same = refl }) (λ e8.
       by-kind Right k lessSign (λ h. record { number = _; same = refl }) (λ e9.
       by-kind Right k greaterSign (λ h. record { number = _; same = refl }) (λ ea.
@@ -44,7 +44,7 @@ module _ (x y : Value) where
       λ h. absurd (other e1 e2 e3 e4 e5 e6 e7 e8 e9 ea eb ec h)))))))))))))
     where
       other : eqb k sumSign ≡ false → eqb k differenceSign ≡ false → eqb k conWord ≡ false → eqb k plus ≡ false → eqb k star ≡ false → eqb k exclusiveSign ≡ false
-          → eqb k equalsSign ≡ false → eqb k hash ≡ false → eqb k lessSign ≡ false → eqb k greaterSign ≡ false → eqb k atMostSign ≡ false → eqb k atLeastSign ≡ false
+          → eqb k sameSign ≡ false → eqb k hash ≡ false → eqb k lessSign ≡ false → eqb k greaterSign ≡ false → eqb k atMostSign ≡ false → eqb k atLeastSign ≡ false
           → 1 ≤ binaryLength k (x .length) (y .length) → ⊥
       other e1 e2 e3 e4 e5 e6 e7 e8 e9 ea eb ec h = let z = rw (e1, e2, e3, e4, e5, e6, e7, e8, e9, ea, eb, ec) at h in omega arith
 

@@ -10,13 +10,14 @@ use lib.ListN.{drop, getD, length}
 use Rattle.language.specs.Description.{Description, Facility, isComputed, wordCount, wordLength}
 use Rattle.language.specs.Layout.{noSpareBits, wordBytes, facilityBytes}
 use Rattle.language.specs.RecordBytes.{recordFrom, returnsFrom, returnsSound, sound}
-use Rattle.language.specs.Step.{Record, mostReturns}
-use Rattle.language.specs.Store.{Words, allNarrow, facilityWords, fromBytes, narrow, wordsFrom}
+use Rattle.language.specs.Step.{Record}
+use Rattle.language.specs.Ceilings.{mostReturns}
+use Rattle.language.specs.Store.{StoreWords, allNarrow, facilityWords, fromBytes, narrow, wordsFrom}
 use Rattle.about_running.specs.Cycle.{Sound}
 use Rattle.about_running.specs.Fitting.{AllBelow, Fit, stored}
 use Rattle.about_running.specs.LegalForm.{left-of, right-of}
 
--- ---- Words.
+-- ---- StoreWords.
 
 pub narrow-below : (l : ℕ) (ws : List ℕ) → allNarrow l ws ≡ true → AllBelow (2 ^ l) ws
 unfolding allNarrow noSpareBits
@@ -71,7 +72,7 @@ module _ (d : Description) (store bytes : List ℕ) (is-sound : sound d (fromByt
   abbrev there : Record
   there = recordFrom bytes
 
-  abbrev words : Words
+  abbrev words : StoreWords
   words = fromBytes (d .facilities) store
 
   places-so : length (there .returns) ≡ mostReturns

@@ -10,12 +10,12 @@ use lib.Dec.{eqb, leb}
 use lib.ListN.{getD, length}
 use lib.Pow.{pow-pos}
 use Rattle.language.specs.Description as D
-use Rattle.language.specs.Description.{Description, Facility, Node, constantIn, constantValue, facilityAt, isSequencing, noFacility, noPlaces, nodeAt, orNoBits, sequencingFrom, sequencingOf, spanOf, stateAt, wordCount, wordLength}
+use Rattle.language.specs.Description.{Description, Facility, Node, constantIn, constantValue, facilityAt, isSequencing, noFacility, noPlaces, nodeAt, numberIn, orNoBits, sequencingFrom, sequencingOf, spanOf, stateAt, wordCount, wordLength}
 use Rattle.language.specs.Order.{startAt, startBelow, startNode}
 use Rattle.language.specs.declared.refusals.Refusal.the-variants.{BadSequencing}
 use Rattle.language.specs.Rules.{missing, repeated, sequencingLength, valueFaults}
-use Rattle.language.specs.Step.{into, numberIn, numberOf, setRegister, stateNumber}
-use Rattle.language.specs.Store.{Words, setWord}
+use Rattle.language.specs.Step.{into, numberOf, setRegister, stateNumber}
+use Rattle.language.specs.Store.{StoreWords, setWord}
 use Rattle.language.specs.Value.{Value}
 use Rattle.language.specs.Words.{Position}
 use Rattle.about_running.specs.Entering.{takes}
@@ -111,7 +111,7 @@ module _ (d : Description) (L : Legal d) (f : ℕ) (is-register : sequencingOf d
     pub is : constantValue (nodeAt d at) .number ≡ number
     pub borne : stateNumber d s ≡ some number
     pub fits : number < 2 ^ wordLength (facilityAt d f)
-    pub enters : (u : Words) → setRegister d (some f) (stateAt d s .value) u ≡ into (setWord u f 0 number)
+    pub enters : (u : StoreWords) → setRegister d (some f) (stateAt d s .value) u ≡ into (setWord u f 0 number)
 
   pub bears-value : (s : ℕ) → s < length (d .states) → Bears s
   unfolding stateNumber startAt
@@ -128,7 +128,7 @@ module _ (d : Description) (L : Legal d) (f : ℕ) (is-register : sequencingOf d
         stands = v .1;
         number = x .number;
         is = refl;
-        borne = ap (numberOf d) (v .1) ∙ ap (numberIn d) c;
+        borne = ap (numberOf d) (v .1) ∙ ap numberIn c;
         fits = rw (v .2) at b;
         enters = λ u. ap (λ (y : Option ℕ). setRegister d (some f) y u) (v .1) ∙ takes d f n x u c (v .2) b;
       }

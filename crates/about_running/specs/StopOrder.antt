@@ -11,11 +11,12 @@ use lib.ListN.{length}
 use Rattle.language.specs.Acting as A
 use Rattle.language.specs.Acting.{Doing, Ran, went}
 use Rattle.language.specs.Description.{Description, inBounds, sequencingOf, stateAt}
-use Rattle.language.specs.Step.{Entered, Outcome, Record, afterActions, bearer, bears, completed, entered, finished, into, isNone, lastCycle, mostReturns, nextRecord, nothingDone, orStopped, setRegister, stateCount, stateNumber, step, stopAfter}
+use Rattle.language.specs.Step.{Entered, Outcome, Record, afterActions, bearer, bears, completed, entered, finished, into, isNone, nextRecord, nothingDone, orStopped, setRegister, stateCount, stateNumber, step, stopAfter}
+use Rattle.language.specs.Ceilings.{lastCycle, mostReturns}
 use Rattle.language.specs.Step as Step
 use Rattle.language.specs.declared.stops.Stop.{Stop}
 use Rattle.language.specs.declared.stops.Stop.the-variants.{LastCycleReached, NoArm, NoNextState, NothingToReturn, OutsideBounds, TooManyCalls, TwoNextStates, ValueUnborne}
-use Rattle.language.specs.Store.{Held, Words, begin, inputsOf, numbers}
+use Rattle.language.specs.Store.{Held, StoreWords, begin, inputsOf, numbers}
 use Rattle.language.specs.Value.{Value}
 use Rattle.about_running.specs.Account as Account
 use Rattle.about_running.specs.Account.{Executed, Met, Subscript, Worth, armless, outside, stands, stopFor}
@@ -53,7 +54,7 @@ stopOf (completed s r n) = none
 stopOf (Outcome.stopped n) = some n
 stopOf (Outcome.stuck s) = none
 
-module _ (d : Description) (s : Words) (r : Record) (ins : Words) where
+module _ (d : Description) (s : StoreWords) (r : Record) (ins : StoreWords) where
   abbrev first : Doing Held
   first = nothingDone d (begin (d .facilities) s ins)
 
@@ -131,7 +132,7 @@ module _ (d : Description) (s : Words) (r : Record) (ins : Words) where
   no-other h (C.subscript-outside k) = let q = met-alone h k in let z : _≡_ {A = ℕ} 0 1 = cc in omega arith
 
 -- The first subscript outside its bounds that a cycle works out: what was executed before it, and its value on the store that stands then.
-pub record FirstOutside (d : Description) (s : Words) (r : Record) (ins : Words) : Type 0 where
+pub record FirstOutside (d : Description) (s : StoreWords) (r : Record) (ins : StoreWords) : Type 0 where
   pub before : List Executed
   pub subscript : Subscript
   pub worth : Value
@@ -139,7 +140,7 @@ pub record FirstOutside (d : Description) (s : Words) (r : Record) (ins : Words)
   pub worked-out : Worth (numbers d) d (stands (numbers d) (begun d s r ins) before) (subscript .expression) worth
   pub beyond : inBounds (subscript .bounds) (worth .number) ≡ false
 
-module _ (d : Description) (s : Words) (r : Record) (ins : Words) where
+module _ (d : Description) (s : StoreWords) (r : Record) (ins : StoreWords) where
   there-outside : Condition d s r ins OutsideBounds → FirstOutside d s r ins
   there-outside (C.subscript-outside {es = es} {t = t} {v = v} h) = go (course-there (numbers d) d h)
     where
@@ -152,7 +153,7 @@ pub first-holds : {P : Stop → Type 0} {ns : List Stop} {n : Stop} → FirstOf 
 first-holds (this-one h) = h
 first-holds (a-later-one f h) = first-holds h
 
-module _ (d : Description) (L : Legal d) (s : Words) (r : Record) (ins : Words) (sound : Sound d s r) (fitting : Fit (inputsOf (d .facilities)) ins) where
+module _ (d : Description) (L : Legal d) (s : StoreWords) (r : Record) (ins : StoreWords) (sound : Sound d s r) (fitting : Fit (inputsOf (d .facilities)) ins) where
   abbrev run : Ran Held
   run = A.runActions (numbers d) d (stateAt d (r .state) .actions) (nothingDone d (begin (d .facilities) s ins))
 

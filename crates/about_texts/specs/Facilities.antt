@@ -9,8 +9,8 @@ use borrow.Author.Tests.{leb-true}
 use lib.Dec.{leb}
 use lib.ListN.{List·getD-map, getD, length, length-map, length-take, take}
 use Rattle.language.specs.Canonical.{facilitiesRight, facilityRight, mostDimensions, nameRight, rankOf, total}
-use Rattle.language.specs.Ceilings.{countedTerminals}
-use Rattle.language.specs.DescribeText.{facilitiesOf, facilityNodes, facilitySize, functionNodes, functionSize}
+use Rattle.language.specs.CountedWords.{countedTerminals}
+use Rattle.language.specs.DescribeText.{facilitiesOf, facilityNodes, functionNodes, functionSize, functionSizes}
 use Rattle.language.specs.Description as D
 use Rattle.language.specs.Description.{Description, Facility, facilityAt, isComputed, nodePlace, noPlaces}
 use Rattle.language.specs.Expressions as E
@@ -190,14 +190,14 @@ module _ (d : Description) (none-there : faults d noPlaces ≡ [])
     pub no-registers : 1 ≤ rank → registers ≡ []
     pub no-memories : 2 ≤ rank → memories ≡ []
     pub stands : Stand d s (facilityNodes before s (registers ++ (memories ++ terminals)))
-    pub size : s + facilitySize (registers ++ (memories ++ terminals)) ≡ m
+    pub size : s + functionSizes (registers ++ (memories ++ terminals)) ≡ m
     pub counted : nodes (facilityNodes before s (registers ++ (memories ++ terminals))) ≡ countedTerminals (registers ++ (memories ++ terminals))
     pub register-specs : Specs 0 registers
     pub memory-specs : Specs 1 memories
     pub terminal-specs : Specs 2 terminals
 
   none-left : (rank n s m : ℕ) (before : List Name) → s ≡ m → Sections rank n s m before []
-  unfolding facilitiesOf facilityNodes facilitySize countedTerminals total
+  unfolding facilitiesOf facilityNodes functionSizes countedTerminals total
   none-left rank n s m before e = record {
     registers = [];
     memories = [];
@@ -217,13 +217,13 @@ module _ (d : Description) (none-there : faults d noPlaces ≡ [])
   pub record InFront (f : Facility) (fs : List Facility) (s o m : ℕ) (before : List Name) (x : Declaration) (ds : List Declaration) : Type 0 where
     pub same : facilitiesOf s (x ∷ ds) ≡ f ∷ fs
     pub stands : Stand d s (facilityNodes before s (x ∷ ds))
-    pub size : s + facilitySize (x ∷ ds) ≡ m
+    pub size : s + functionSizes (x ∷ ds) ≡ m
     pub counted : nodes (facilityNodes before s (x ∷ ds)) ≡ countedTerminals (x ∷ ds)
 
   in-front : (f : Facility) (fs : List Facility) (s o m : ℕ) (before : List Name) (X : Declares d (scopeOf before) f s o) (ds : List Declaration) → X .declared .name ≡ f .name
-      → facilitiesOf o ds ≡ fs → Stand d o (facilityNodes (before ++ f .name ∷ []) o ds) → o + facilitySize ds ≡ m → nodes (facilityNodes (before ++ f .name ∷ []) o ds) ≡ countedTerminals ds
+      → facilitiesOf o ds ≡ fs → Stand d o (facilityNodes (before ++ f .name ∷ []) o ds) → o + functionSizes ds ≡ m → nodes (facilityNodes (before ++ f .name ∷ []) o ds) ≡ countedTerminals ds
       → InFront f fs s o m before (X .declared) ds
-  unfolding facilitiesOf facilityNodes facilitySize countedTerminals
+  unfolding facilitiesOf facilityNodes functionSizes countedTerminals
   in-front f fs s o m before X ds q e h z c =
       let os : s + functionSize (X .declared .function) ≡ o = X .size in
       let own = functionNodes (scopeOf before) s (X .declared .function) in

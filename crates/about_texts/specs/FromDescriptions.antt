@@ -9,10 +9,10 @@ use borrow.Author.Tests.{eqb-true, le-leb, leb-true, ltb-true}
 use lib.Dec.{eqb, leb, ltb}
 use lib.ListN.{getD, length, length-append}
 use Rattle.language.specs.Canonical.{actionCount, all, canonical, countedRecords, countsRight, facilitiesRight, labelRight, leftCount, nameRight, nodeCount, total}
-use Rattle.language.specs.Ceilings.{WithinCeilings, countedOperations, countedStates, countedTerminals, countedWords}
+use Rattle.language.specs.CountedWords.{WithinCeilings, countedOperations, countedStates, countedTerminals, countedWords}
 use Rattle.language.specs.Describe.{Noted, NotedAction, actionsIn}
 use Rattle.language.specs.DescribeText as X
-use Rattle.language.specs.DescribeText.{describe, facilitiesOf, facilityNodes, facilitySize, functionSize, operationActions, operationExpressions, operationNodes, operationRecords, operationsOf, stateActions, stateNodes, statesOf}
+use Rattle.language.specs.DescribeText.{describe, facilitiesOf, facilityNodes, functionSize, functionSizes, operationActions, operationExpressions, operationNodes, operationRecords, operationsOf, stateActions, stateNodes, statesOf}
 use Rattle.language.specs.Description as D
 use Rattle.language.specs.Description.{Action, Description, Facility, Node, Operation, State, actionAt, facilityAt, isComputed, isSequencing, nodeAt, noPlaces, operationAt, sequencingFrom, sequencingOf, stateAt, wordLength}
 use Rattle.language.specs.Grammar.{Is}
@@ -20,7 +20,7 @@ use Rattle.language.specs.Image as Image
 use Rattle.language.specs.Image.{legalForm}
 use Rattle.language.specs.Judging.{unless}
 use Rattle.language.specs.Layout.{facilityBytes}
-use Rattle.language.specs.Machine.{mostCounted, mostFacilities, mostOperations, mostStates}
+use Rattle.language.specs.Ceilings.{largestBound, longest, mostCounted, mostFacilities, mostOperations, mostStates}
 use Rattle.language.specs.Naming.{Scope, byLabels}
 use Rattle.language.specs.Notions as N
 use Rattle.language.specs.Order.{ending, endsAt, facilityRoots, operationRoots, operationsEnd, runsRight, stateRoots, statesEnd, treesEnd, treesRight}
@@ -29,7 +29,6 @@ use Rattle.language.specs.Rules as Rules
 use Rattle.language.specs.Rules.{faults, nameFaults, namePlaces, namesOf, sequencingLength}
 use Rattle.language.specs.Tree as T
 use Rattle.language.specs.Tree.{Declaration, Name, Text}
-use Rattle.language.specs.Value.{longest}
 use Rattle.language.specs.Words.{Fault, Position}
 use Rattle.about_rules.specs.Counted.{acts, acts-append, lefts, lefts-append, nodes, nodes-append}
 use Rattle.about_rules.specs.FaultsAlike.{faultless-anywhere}
@@ -93,7 +92,7 @@ operation-names a (o ∷ os) = ap (λ (ns : List Name). o .name ∷ ns) (operati
 
 -- ---- Bounds and the sequencing register, where there is no fault.
 
-or-none : (d : Description) (xs ys : List Fault) → Rules.orElse d noPlaces xs ys ≡ [] → (xs ≡ []) × (ys ≡ [])
+or-none : (d : Description) (xs ys : List Fault) → Rules.firstFaults d noPlaces xs ys ≡ [] → (xs ≡ []) × (ys ≡ [])
 or-none d [] ys e = (refl, e)
 or-none d (x ∷ xs) ys e = absurd (let z : _≡_ {A = ℕ} 0 1 = cc in omega arith)
 
@@ -104,12 +103,12 @@ module _ (d : Description) where
     pub bits : Small (f .bits)
     pub register : isSequencing (f .kind) ≡ true → wordLength f ≤ longest
 
-  clean-one : (n : ℕ) (another : Bool) (before : ℕ) (f : Facility) → Rules.orElse d noPlaces (Rules.boundsFaults d noPlaces f (D.facilityPlace noPlaces n)) (Rules.facilityFaults d noPlaces n another before f (D.facilityPlace noPlaces n)) ≡ [] → Clean f
-  unfolding Rules.boundsFaults Rules.facilityFaults Rules.sequencingRight Rules.largestBound
+  clean-one : (n : ℕ) (another : Bool) (before : ℕ) (f : Facility) → Rules.firstFaults d noPlaces (Rules.boundsFaults d noPlaces f (D.facilityPlace noPlaces n)) (Rules.facilityFaults d noPlaces n another before f (D.facilityPlace noPlaces n)) ≡ [] → Clean f
+  unfolding Rules.boundsFaults Rules.facilityFaults Rules.sequencingRight largestBound
   clean-one n another before f e =
       let p = D.facilityPlace noPlaces n in
       let y = or-none d (Rules.boundsFaults d noPlaces f p) _ e in
-      let bf : ℕ → Position → List Fault = λ k at. unless (leb k Rules.largestBound) at BadSubscript in
+      let bf : ℕ → Position → List Fault = λ k at. unless (leb k largestBound) at BadSubscript in
       let b1 = append-none-left (bf (f .words .first) (p .wordsFirst)) _ (y .0) in
       let r1 = append-none-right (bf (f .words .first) (p .wordsFirst)) _ (y .0) in
       let b2 = append-none-left (bf (f .words .last) (p .wordsLast)) _ r1 in
@@ -117,8 +116,8 @@ module _ (d : Description) where
       let b3 = append-none-left (bf (f .bits .first) (p .bitsFirst)) _ r2 in
       let b4 = append-none-right (bf (f .bits .first) (p .bitsFirst)) _ r2 in
       record {
-        words = record { first = leb-true _ _ (unless-none (leb (f .words .first) Rules.largestBound) (p .wordsFirst) BadSubscript b1); last = leb-true _ _ (unless-none (leb (f .words .last) Rules.largestBound) (p .wordsLast) BadSubscript b2) };
-        bits = record { first = leb-true _ _ (unless-none (leb (f .bits .first) Rules.largestBound) (p .bitsFirst) BadSubscript b3); last = leb-true _ _ (unless-none (leb (f .bits .last) Rules.largestBound) (p .bitsLast) BadSubscript b4) };
+        words = record { first = leb-true _ _ (unless-none (leb (f .words .first) largestBound) (p .wordsFirst) BadSubscript b1); last = leb-true _ _ (unless-none (leb (f .words .last) largestBound) (p .wordsLast) BadSubscript b2) };
+        bits = record { first = leb-true _ _ (unless-none (leb (f .bits .first) largestBound) (p .bitsFirst) BadSubscript b3); last = leb-true _ _ (unless-none (leb (f .bits .last) largestBound) (p .bitsLast) BadSubscript b4) };
         register = λ q. sequenced q (unless-none (cond (isSequencing (f .kind)) (Rules.sequencingRight d noPlaces another f) true) (p .name) BadSequencing (append-none-left _ _ (y .1)));
       }
     where
@@ -131,7 +130,7 @@ module _ (d : Description) where
   clean-at (f ∷ fs) n zero another before e l = clean-one n another before f (append-none-left _ _ e)
   clean-at (f ∷ fs) n (suc i) another before e l =
       clean-at fs (suc n) i (another || isSequencing (f .kind)) (before + facilityBytes f)
-      (append-none-right (Rules.orElse d noPlaces (Rules.boundsFaults d noPlaces f (D.facilityPlace noPlaces n)) (Rules.facilityFaults d noPlaces n another before f (D.facilityPlace noPlaces n))) _ e) (omega arith)
+      (append-none-right (Rules.firstFaults d noPlaces (Rules.boundsFaults d noPlaces f (D.facilityPlace noPlaces n)) (Rules.facilityFaults d noPlaces n another before f (D.facilityPlace noPlaces n))) _ e) (omega arith)
 
 -- A word has at least one bit.
 some-bits : (f : Facility) → 1 ≤ wordLength f
@@ -245,7 +244,7 @@ module _ (d : Description) (form : legalForm d ≡ true) (plain : (f : ℕ) → 
   unfolding sequencingLength sequencingOf facilityAt
   register-length l e = go (sequencingFrom 0 (d .facilities)) refl e
     where
-      go : (x : Option ℕ) → sequencingFrom 0 (d .facilities) ≡ x → Rules.lengthAt d noPlaces x ≡ some l → (1 ≤ l) × (l ≤ longest)
+      go : (x : Option ℕ) → sequencingFrom 0 (d .facilities) ≡ x → Rules.registerLength d noPlaces x ≡ some l → (1 ≤ l) × (l ≤ longest)
       go none q k = absurd (let z : _≡_ {A = ℕ} 0 1 = cc in omega arith)
       go (some n) q k =
           let y = found-from 0 n (d .facilities) q in
@@ -321,11 +320,11 @@ module _ (d : Description) (form : legalForm d ≡ true) (plain : (f : ℕ) → 
   unfolding sequencingLength sequencingOf facilityAt
   length-same = go (sequencingFrom 0 (d .facilities)) refl
     where
-      go : (x : Option ℕ) → sequencingFrom 0 (d .facilities) ≡ x → X.lengthAt (d .facilities) x ≡ Rules.lengthAt d noPlaces x
+      go : (x : Option ℕ) → sequencingFrom 0 (d .facilities) ≡ x → X.lengthAt (d .facilities) x ≡ Rules.registerLength d noPlaces x
       go none q = refl
-      go (some n) q = rw (le-leb (wordLength (facilityAt d n)) longest (register-length (wordLength (facilityAt d n)) (ap (Rules.lengthAt d noPlaces) q) .1))
+      go (some n) q = rw (le-leb (wordLength (facilityAt d n)) longest (register-length (wordLength (facilityAt d n)) (ap (Rules.registerLength d noPlaces) q) .1))
 
-  first-same : facilitySize declarations ≡ ends .first
+  first-same : functionSizes declarations ≡ ends .first
   first-same = let z = declared .size in omega (arith, z)
 
   second-same : ends .first + operationExpressions (defined .tree) ≡ ends .second
@@ -357,7 +356,7 @@ module _ (d : Description) (form : legalForm d ≡ true) (plain : (f : ℕ) → 
   }
 
   as-assembled : describe textOf .description ≡ assembled (facilitiesOf 0 declarations) (map (λ x. x .name) declarations) (map (λ o. o .name) (defined .tree)) (map (λ s. X.labelOf (s .label)) (stated .tree))
-      (X.lengthAt (facilitiesOf 0 declarations) (sequencingFrom 0 (facilitiesOf 0 declarations))) (facilitySize declarations) (facilitySize declarations + operationExpressions (defined .tree)) (operationRecords (defined .tree))
+      (X.lengthAt (facilitiesOf 0 declarations) (sequencingFrom 0 (facilitiesOf 0 declarations))) (functionSizes declarations) (functionSizes declarations + operationExpressions (defined .tree)) (operationRecords (defined .tree))
   unfolding describe assembled
   as-assembled = refl
 

@@ -12,7 +12,7 @@ use lib.Pow.{pow-pos}
 use Rattle.language.specs.ActionRules as J
 use Rattle.language.specs.ActionRules.{Shape, actions, arms, kindAt, simpleJudged}
 use Rattle.language.specs.Canonical.{actionCount, leftCount, nameRight, total}
-use Rattle.language.specs.Ceilings.{countedActions, countedExpression, countedReference}
+use Rattle.language.specs.CountedWords.{countedActions, countedExpression, countedReference}
 use Rattle.language.specs.Describe as B
 use Rattle.language.specs.Describe.{actionsIn, actionsOf, armsIn, expressionSize, expressionsIn, nodesIn, nodesOf}
 use Rattle.language.specs.Description as D

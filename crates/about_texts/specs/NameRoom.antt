@@ -9,16 +9,16 @@ use lib.Dec.{eqb, leb, ltb}
 use lib.ListN.{drop, getD, length, length-drop, length-map, length-take, take}
 use Rattle.language.specs.Canonical.{total}
 use Rattle.language.specs.Characters.{blankClass, classOf, digitClass, folded, letterClass, quoteClass, symbolClass}
-use Rattle.language.specs.Constants.{bareLargest, binaryConstant, decimalConstant, digitsNumber}
+use Rattle.language.specs.Constants.{binaryConstant, decimalConstant, digitsNumber}
 use Rattle.language.specs.DescribeText.{labelOf}
 use Rattle.language.specs.Grammar as G
 use Rattle.language.specs.Grammar.{Is}
 use Rattle.language.specs.Kinds.{closeBracket, comma, slash}
 use Rattle.language.specs.Notions as N
 use Rattle.language.specs.Scan as S
-use Rattle.language.specs.Scan.{Found, Item, bareAt, based, basedItem, binaryAt, commentAt, constantAt, decimalAt, digitBits, digitsOf, isDecimalBase, isNamePart, itemAt, longestName, nameAt, nameItem, reservedKind, same, span, spelledSymbols, symbolAmong, written}
+use Rattle.language.specs.Scan.{Found, Item, bareAt, based, basedItem, binaryAt, commentAt, constantAt, decimalAt, digitBits, digitsOf, isDecimalBase, isNamePart, itemAt, nameAt, nameItem, reservedKind, same, span, spelledSymbols, symbolAmong, written}
+use Rattle.language.specs.Ceilings.{bareLargest, longest, longestName}
 use Rattle.language.specs.Tree.{Declaration, Label, Operation, State, StateValue, Text}
-use Rattle.language.specs.Value.{longest}
 use Rattle.language.specs.WordStage.{Scanned, noted, scan, scanFrom}
 use Rattle.language.specs.Words as W
 use Rattle.language.specs.Words.{Constant, Position, Word, position}

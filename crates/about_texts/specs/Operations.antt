@@ -11,7 +11,7 @@ use lib.ListN.{List·getD-map, getD, length, length-append, length-map, length-t
 use Rattle.language.specs.ActionRules as J
 use Rattle.language.specs.ActionRules.{operationBelow, operationJudged, runJudged}
 use Rattle.language.specs.Canonical.{all, nameRight, total}
-use Rattle.language.specs.Ceilings.{countedOperations}
+use Rattle.language.specs.CountedWords.{countedOperations}
 use Rattle.language.specs.Describe.{actionsIn, actionsOf, expressionsIn, nodesIn}
 use Rattle.language.specs.DescribeText as X
 use Rattle.language.specs.DescribeText.{operationActions, operationExpressions, operationNodes, operationScope, operationsOf}

@@ -5,7 +5,7 @@ use native.Mathlib.Omega.{arith}
 use Prim.Native.Nat.{ℕ, suc, _+_}
 use lib.ListN.{length}
 use Rattle.language.specs.Canonical.{nodeCount, total}
-use Rattle.language.specs.Ceilings.{countedExpression}
+use Rattle.language.specs.CountedWords.{countedExpression}
 use Rattle.language.specs.Describe.{Noted, expressionSize, lastOf, nodesOf}
 use Rattle.language.specs.Description.{Description, nodeAt}
 use Rattle.language.specs.Naming.{Scope}

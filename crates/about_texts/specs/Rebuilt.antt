@@ -10,7 +10,7 @@ use borrow.Author.Tests.{eqb-true}
 use lib.Dec.{eqb, leb}
 use lib.Pow.{pow-pos}
 use Rattle.language.specs.Canonical.{nameRight, nodeCount}
-use Rattle.language.specs.Ceilings.{countedExpression, countedReference}
+use Rattle.language.specs.CountedWords.{countedExpression, countedReference}
 use Rattle.language.specs.Describe.{Noted, armsOf, boundsOf, expressionSize, lastOf, nodesOf, noted, notedPart}
 use Rattle.language.specs.Description as D
 use Rattle.language.specs.Description.{Bounds, Description, Node, facilityAt, inBounds, nodeAt, nodePlace, noPlaces}
@@ -35,7 +35,8 @@ use Rattle.language.specs.Tree as T
 use Rattle.language.specs.Tree.{Ends, Expression, Name}
 use Rattle.language.specs.Words as W
 use Rattle.language.specs.Words.{Word, sign}
-use Rattle.language.specs.Value.{Value, longest}
+use Rattle.language.specs.Value.{Value}
+use Rattle.language.specs.Ceilings.{longest}
 use Rattle.about_rules.specs.Counted.{constant-count}
 use Rattle.about_texts.specs.Constants.{constant-stands}
 use Rattle.about_texts.specs.Derivations.{binary-term, binaryWords, cut-term, cutWords, here, of-term, prefix-term, prefixBegins, prefixWords}

@@ -8,9 +8,9 @@ use Prim.Native.Nat.{ℕ, _+_, _-_, _*_, _≤_}
 use borrow.Author.Tests.{leb-true}
 use lib.Dec.{leb, ltb}
 use lib.ListN.{length}
-use Rattle.language.specs.Ceilings.{countedActions, countedExpression, countedFunction, countedLeft, countedOperations, countedReference, countedStates, countedTerminals}
+use Rattle.language.specs.CountedWords.{countedActions, countedExpression, countedFunction, countedLeft, countedOperations, countedReference, countedStates, countedTerminals}
 use Rattle.language.specs.Describe.{actionsIn, constantSize, expressionSize, expressionsIn, leftSize}
-use Rattle.language.specs.DescribeText.{facilitySize, functionSize, lengthAt, operationExpressions, operationRecords, stateConstant, valueSize}
+use Rattle.language.specs.DescribeText.{functionSize, functionSizes, lengthAt, operationExpressions, operationRecords, stateConstant, valueSize}
 use Rattle.language.specs.Description.{Facility, digitLength, furtherDigits}
 use Rattle.language.specs.Encode.{actionSize, nodeSize}
 use Rattle.language.specs.Grammar as G
@@ -19,7 +19,8 @@ use Rattle.language.specs.Image.{ConstantRight, WordsRight}
 use Rattle.language.specs.Notions as N
 use Rattle.language.specs.Notions.{Notion, Tree}
 use Rattle.language.specs.Tree.{Declaration, Expression}
-use Rattle.language.specs.Value.{Value, longest, value}
+use Rattle.language.specs.Value.{Value, value}
+use Rattle.language.specs.Ceilings.{longest}
 use Rattle.language.specs.Words.{Constant, Word}
 use Rattle.about_rules.specs.InOrder.{stateExpressions}
 use Rattle.about_rules.specs.Runs.{stateRecords}
@@ -63,8 +64,8 @@ state-constant (some l) c h r = go (c .bare) (ltb (c .value .number) _)
 
 -- ---- Trees, with the length that is lent to values of states.
 
-sizes-append : (xs ys : List Declaration) → (facilitySize (xs ++ ys) ≡ facilitySize xs + facilitySize ys) × (countedTerminals (xs ++ ys) ≡ countedTerminals xs + countedTerminals ys)
-unfolding facilitySize countedTerminals
+sizes-append : (xs ys : List Declaration) → (functionSizes (xs ++ ys) ≡ functionSizes xs + functionSizes ys) × (countedTerminals (xs ++ ys) ≡ countedTerminals xs + countedTerminals ys)
+unfolding functionSizes countedTerminals
 sizes-append [] ys = (omega arith, omega arith)
 sizes-append (x ∷ xs) ys = let h = sizes-append xs ys in (omega (arith, h .0), omega (arith, h .1))
 
@@ -77,13 +78,13 @@ module _ (l : Option ℕ) where
   roomOf (N.ends x) = 0
   roomOf (N.extent x) = 0
   roomOf (N.facility d) = nodeSize * functionSize (d .function)
-  roomOf (N.facilities ds) = nodeSize * facilitySize ds
-  roomOf (N.declared rs ms ts) = nodeSize * facilitySize (rs ++ (ms ++ ts))
+  roomOf (N.facilities ds) = nodeSize * functionSizes ds
+  roomOf (N.declared rs ms ts) = nodeSize * functionSizes (rs ++ (ms ++ ts))
   roomOf (N.operations os) = nodeSize * operationExpressions os + actionSize * operationRecords os
   roomOf (N.label n v) = nodeSize * valueSize l v
   roomOf (N.states ss) = nodeSize * stateExpressions l ss + actionSize * stateRecords ss
   roomOf (N.text t) =
-      nodeSize * facilitySize (t .registers ++ (t .memories ++ t .terminals)) + (nodeSize * operationExpressions (t .operations) + actionSize * operationRecords (t .operations))
+      nodeSize * functionSizes (t .registers ++ (t .memories ++ t .terminals)) + (nodeSize * operationExpressions (t .operations) + actionSize * operationRecords (t .operations))
       + (nodeSize * stateExpressions l (t .states) + actionSize * stateRecords (t .states))
   roomOf N.nothing = 0
 
@@ -176,7 +177,7 @@ reference-counts (G.ref-word-part-apart c k l m x) = omega arith
 
 module _ (l : Option ℕ) (fits : Lent l) where
   pub room : {n : Notion} {h : ℕ} {us : List Word} {t : Tree} → Is n h us t → WordsRight us → roomOf l t + left-over n ≤ wordRoom * countedOf t + uncounted t
-  unfolding expressionSize expressionsIn actionsIn countedExpression countedActions countedTerminals countedOperations countedStates facilitySize operationExpressions operationRecords stateExpressions stateRecords
+  unfolding expressionSize expressionsIn actionsIn countedExpression countedActions countedTerminals countedOperations countedStates functionSizes operationExpressions operationRecords stateExpressions stateRecords
   room G.ref-whole w = omega arith
   room (G.ref-one c {us = us} x) w = omega (arith, room x (words-left us _ (w .1 .1)))
   room G.ref-part w = omega arith

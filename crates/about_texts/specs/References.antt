@@ -17,7 +17,8 @@ use Rattle.language.specs.ReferenceRules as RR
 use Rattle.language.specs.ReferenceRules.{boundFaults, directionFaults, referenceJudged, subscriptsJudged}
 use Rattle.language.specs.References.{Reference, rightCount, takenLength}
 use Rattle.language.specs.declared.refusals.Refusal.the-variants.{BadName, BadSubscript}
-use Rattle.language.specs.Value.{cutLength, longest, repeatLength, value}
+use Rattle.language.specs.Value.{cutLength, repeatLength, value}
+use Rattle.language.specs.Ceilings.{longest}
 use Rattle.language.specs.Words.{Constant}
 use Rattle.about_running.specs.Judged.{append-none-right, both-fine, clean-fine, faulty-fine, sized-fine}
 

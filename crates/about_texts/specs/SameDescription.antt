@@ -5,9 +5,9 @@ use mathlib.Core.Path.{_≡_, refl, sym, ap, _∙_}
 use native.Mathlib.Omega.{arith}
 use Prim.Native.Nat.{ℕ, zero, suc, _+_}
 use lib.ListN.{length, length-map}
-use Rattle.language.specs.Ceilings.{WithinCeilings, countedActions, countedExpression, countedFunction, countedLeft, countedOperations, countedReference, countedStates, countedTerminals, countedWords}
+use Rattle.language.specs.CountedWords.{WithinCeilings, countedActions, countedExpression, countedFunction, countedLeft, countedOperations, countedReference, countedStates, countedTerminals, countedWords}
 use Rattle.language.specs.Describe.{Noted, NotedAction, actionsIn, actionsOf, armsIn, armsOf, constantNodes, digitsAbove, expressionSize, expressionsIn, leftNodes, leftSize, nodesIn, nodesOf, storeOf}
-use Rattle.language.specs.DescribeText.{bitBounds, describe, dimensionsOf, facilitiesOf, facilityNodes, facilitySize, functionNodes, functionNumber, functionSize, labelOf, operationActions, operationExpressions, operationNodes, operationRecords, operationScope, operationsOf, stateActions, stateNodes, stateSize, statesOf, valueNodes, valueNumber, valueSize, wordBounds}
+use Rattle.language.specs.DescribeText.{bitBounds, describe, dimensionsOf, expressionsOfState, facilitiesOf, facilityNodes, functionNodes, functionNumber, functionSize, functionSizes, labelOf, operationActions, operationExpressions, operationNodes, operationRecords, operationScope, operationsOf, stateActions, stateNodes, statesOf, valueNodes, valueNumber, valueSize, wordBounds}
 use Rattle.language.specs.Description.{Action, Node}
 use Rattle.language.specs.Naming.{Scope, noState}
 use Rattle.language.specs.Tree as T
@@ -263,8 +263,8 @@ facility-nodes-same before base [] = refl
 facility-nodes-same before base (d ∷ ds) =
     simp (map-append, function-nodes-same (record { facilities = before; operations = []; stateNamed = noState }) base (d .function), function-size-same (d .function), facility-nodes-same (before ++ d .name ∷ []) (base + functionSize (d .function)) ds)
 
-facility-size-same : (ds : List Declaration) → facilitySize (bare ds) ≡ facilitySize ds
-unfolding facilitySize
+facility-size-same : (ds : List Declaration) → functionSizes (bare ds) ≡ functionSizes ds
+unfolding functionSizes
 facility-size-same [] = refl
 facility-size-same (d ∷ ds) = simp (function-size-same (d .function), facility-size-same ds)
 
@@ -344,20 +344,20 @@ module _ (l : Option ℕ) where
   unfolding statesOf
   states-same base a [] = refl
   states-same base a (s ∷ ss) =
-      simp (label-same (s .label), value-number-same base l (s .value), value-size-same l (s .value), expressions-same (s .actions), records-same (s .actions), states-same (base + stateSize l s) (a + actionsIn (s .actions)) ss)
+      simp (label-same (s .label), value-number-same base l (s .value), value-size-same l (s .value), expressions-same (s .actions), records-same (s .actions), states-same (base + expressionsOfState l s) (a + actionsIn (s .actions)) ss)
 
   module _ (scope : Scope) where
     state-nodes-same : (base : ℕ) (ss : List State) → nodes (stateNodes l scope base (bareStates ss)) ≡ nodes (stateNodes l scope base ss)
     unfolding stateNodes
     state-nodes-same base [] = refl
     state-nodes-same base (s ∷ ss) =
-        simp (map-append, value-nodes-same l (s .value), value-size-same l (s .value), expressions-same (s .actions), nodes-in-same scope (base + valueSize l (s .value)) (s .actions), state-nodes-same (base + stateSize l s) ss)
+        simp (map-append, value-nodes-same l (s .value), value-size-same l (s .value), expressions-same (s .actions), nodes-in-same scope (base + valueSize l (s .value)) (s .actions), state-nodes-same (base + expressionsOfState l s) ss)
 
     state-acts-same : (base : ℕ) (ss : List State) → acts (stateActions l scope base (bareStates ss)) ≡ acts (stateActions l scope base ss)
     unfolding stateActions
     state-acts-same base [] = refl
     state-acts-same base (s ∷ ss) =
-        simp (map-append, value-size-same l (s .value), expressions-same (s .actions), acts-same scope (base + valueSize l (s .value)) (s .actions), state-acts-same (base + stateSize l s) ss)
+        simp (map-append, value-size-same l (s .value), expressions-same (s .actions), acts-same scope (base + valueSize l (s .value)) (s .actions), state-acts-same (base + expressionsOfState l s) ss)
 
 state-counted-same : (ss : List State) → countedStates (bareStates ss) ≡ countedStates ss
 unfolding countedStates

@@ -7,7 +7,7 @@ use borrow.Author.Tests.{eqb-true}
 use lib.Dec.{eqb}
 use Rattle.language.specs.Grammar as G
 use Rattle.language.specs.Grammar.{Is}
-use Rattle.language.specs.Kinds.{atLeastSign, atMostSign, delayedSign, differenceSign, endWord, equalSign, equalsSign, exclusiveSign, extWord, greaterSign, hash, headWord, lessSign, period, plus, star, sumSign, tailWord}
+use Rattle.language.specs.Kinds.{atLeastSign, atMostSign, delayedSign, differenceSign, endWord, equalSign, exclusiveSign, extWord, greaterSign, hash, headWord, lessSign, period, plus, sameSign, star, sumSign, tailWord}
 use Rattle.language.specs.Notions.{Notion, Tree, endsSection, isStore}
 use Rattle.language.specs.Operators.{isArithmetic, isCut, isReduction, isRelation}
 use Rattle.language.specs.Words.{Word}
@@ -35,7 +35,7 @@ cut-sign : (k : ℕ) → isCut k ≡ true → SignRight k
 cut-sign k = kind-of k extWord _ refl (kind-of k tailWord _ refl (this-kind k headWord refl))
 
 relation-sign : (k : ℕ) → isRelation k ≡ true → SignRight k
-relation-sign k = kind-of k atLeastSign _ refl (kind-of k atMostSign _ refl (kind-of k greaterSign _ refl (kind-of k lessSign _ refl (kind-of k hash _ refl (this-kind k equalsSign refl)))))
+relation-sign k = kind-of k atLeastSign _ refl (kind-of k atMostSign _ refl (kind-of k greaterSign _ refl (kind-of k lessSign _ refl (kind-of k hash _ refl (this-kind k sameSign refl)))))
 
 arithmetic-sign : (k : ℕ) → isArithmetic k ≡ true → SignRight k
 arithmetic-sign k = kind-of k differenceSign _ refl (this-kind k sumSign refl)

@@ -11,7 +11,7 @@ use lib.ListN.{List·getD-map, getD, length, length-append, length-map, take}
 use Rattle.language.specs.ActionRules as J
 use Rattle.language.specs.ActionRules.{operationBelow, runJudged}
 use Rattle.language.specs.Canonical.{labelRight, nameRight, total, valueCount}
-use Rattle.language.specs.Ceilings.{countedStates}
+use Rattle.language.specs.CountedWords.{countedStates}
 use Rattle.language.specs.Describe.{actionsIn, actionsOf, constantSize, expressionsIn, nodesIn}
 use Rattle.language.specs.DescribeText as X
 use Rattle.language.specs.DescribeText.{labelOf, stateActions, stateNodes, statesOf, valueNodes, valueNumber, valueSize}
@@ -32,7 +32,8 @@ use Rattle.language.specs.Rules as Rules
 use Rattle.language.specs.Rules.{faults, sequencingLength, valueFaults}
 use Rattle.language.specs.Tree as T
 use Rattle.language.specs.Tree.{Label, Name, StateValue}
-use Rattle.language.specs.Value.{Value, longest, value}
+use Rattle.language.specs.Value.{Value, value}
+use Rattle.language.specs.Ceilings.{longest}
 use Rattle.language.specs.Words as W
 use Rattle.language.specs.Words.{Position, Word, sign}
 use Rattle.about_rules.specs.Counted.{acts, acts-append, constant-count, lefts, lefts-append, nodes, nodes-append}

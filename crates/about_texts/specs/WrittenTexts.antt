@@ -5,7 +5,7 @@ use mathlib.Core.Path.{_≡_, refl, sym, ap, subst, _∙_}
 use native.Mathlib.Omega.{arith}
 use Prim.Native.Nat.{ℕ, suc, _+_}
 use lib.ListN.{getD}
-use Rattle.language.specs.Ceilings.{WithinCeilings}
+use Rattle.language.specs.CountedWords.{WithinCeilings}
 use Rattle.language.specs.DescribeText.{describe}
 use Rattle.language.specs.Grammar.{Is}
 use Rattle.language.specs.Image as Image

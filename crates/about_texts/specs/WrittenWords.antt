@@ -14,13 +14,14 @@ use lib.Seq.{drop-at, take-at}
 use Rattle.language.specs.Canonical.{isCapital, nameParts, nameRight}
 use Rattle.language.specs.Characters.{carriageReturn, classOf, digitWorth, folded, isDigit, lineFeed, tab, within}
 use Rattle.language.specs.Computing.{words}
-use Rattle.language.specs.Constants.{bareConstant, bareLargest, bareLength, binaryConstant, decimalConstant, digitsAfter, digitsNumber, rightJustified}
+use Rattle.language.specs.Constants.{bareConstant, bareLength, binaryConstant, decimalConstant, digitsAfter, digitsNumber, rightJustified}
 use Rattle.language.specs.Image.{ConstantRight, WordRight, WordsRight}
 use Rattle.language.specs.Kinds.{controlWord, hash}
-use Rattle.language.specs.Lines.{longLines, longestLine, passes, widthAfter}
+use Rattle.language.specs.Columns.{longLines, tooWideAfter, widthAfter}
+use Rattle.language.specs.Ceilings.{bareLargest, longest, longestLine, longestName}
 use Rattle.language.specs.Scan as S
-use Rattle.language.specs.Scan.{Found, Item, bareAt, binaryAt, bytes, constantAt, digitBits, digitsOf, found, isDigitOf, isNamePart, itemAt, longestName, nameAt, reservedKind, span, written}
-use Rattle.language.specs.Value.{longest, value}
+use Rattle.language.specs.Scan.{Found, Item, bareAt, binaryAt, bytes, constantAt, digitBits, digitsOf, found, isDigitOf, isNamePart, itemAt, nameAt, reservedKind, span, written}
+use Rattle.language.specs.Value.{value}
 use Rattle.language.specs.WordStage.{Scanned, least, noted, scan, scanFrom, wordFault, wordFaults}
 use Rattle.language.specs.Words as W
 use Rattle.language.specs.Words.{Constant, Position, Word, position}
@@ -580,8 +581,8 @@ scanned-back (w ∷ ws) (suc (suc k)) at h g l =
 
 -- ---- No line is too long.
 
-no-pass : (w v : ℕ) → v ≤ longestLine → passes w v ≡ false
-unfolding passes longestLine
+no-pass : (w v : ℕ) → v ≤ longestLine → tooWideAfter w v ≡ false
+unfolding tooWideAfter longestLine
 no-pass w v h = go (leb w 132) (ltb 132 v) refl
   where
     go : (a b : Bool) → ltb 132 v ≡ b → (a && b) ≡ false

@@ -14,7 +14,7 @@ use Rattle.language.specs.Description.{noPlaces}
 use Rattle.language.specs.DescribeText.{Described}
 use Rattle.language.specs.Encode.{Sections, actionSize, actionsSection, expressionsSection, facilitiesSection, facilitySize, nodeSize, operationSize, operationsSection}
 use Rattle.language.specs.Image.{passes}
-use Rattle.language.specs.Machine.{mostFacilities, mostOperations}
+use Rattle.language.specs.Ceilings.{mostFacilities, mostOperations}
 use Rattle.language.specs.Rules.{faults}
 use Rattle.language.specs.Words.{Fault}
 use Rattle.language.specs.WordStage.{least}

@@ -15,7 +15,7 @@ use Rattle.language.specs.Layout.{storeSize, storeSizeOf}
 use Rattle.language.specs.Meaning.{noStateValue}
 use Rattle.language.specs.Reading.{filled, zeroes}
 use Rattle.language.specs.Step.{Entered, setRegister}
-use Rattle.language.specs.Store.{Words, fromBytes, toBytes, zeroWords}
+use Rattle.language.specs.Store.{StoreWords, fromBytes, toBytes, zeroWords}
 use Rattle.about_running.specs.NeverStuck.{legal-image}
 use Rattle.about_running.specs.StateValues.{bears-value}
 use Rattle.store_layout.proofs.ByteLists.{bytes-take}
@@ -71,7 +71,7 @@ module _ (image : List ℕ) (passed : passes image ≡ true) where
   size-known e f = f d (sectionAt expressionsSection nodeSize image) (rw e (passed-described image passed)) (passed-size image passed)
 
   -- The first state has a value where there is a register.
-  has-value : (s : Words) → Entered.stuck noStateValue ≡ setRegister d (sequencingOf d) (stateAt d 0 .value) s → ⊥
+  has-value : (s : StoreWords) → Entered.stuck noStateValue ≡ setRegister d (sequencingOf d) (stateAt d 0 .value) s → ⊥
   has-value s = go (sequencingOf d) refl
     where
       go : (x : Option ℕ) → sequencingOf d ≡ x → Entered.stuck noStateValue ≡ setRegister d x (stateAt d 0 .value) s → ⊥
@@ -81,7 +81,7 @@ module _ (image : List ℕ) (passed : passes image ≡ true) where
           let y = e ∙ bears-value d L f q 0 (L .some-state) .enters s in
           let z : _≡_ {A = ℕ} 0 1 = cc in omega arith
 
-  words-opened : (r : Bool) (s : Words) → entered r s ≡ setRegister d (sequencingOf d) (stateAt d 0 .value) (zeroWords (d .facilities)) → s ≡ openWords d
+  words-opened : (r : Bool) (s : StoreWords) → entered r s ≡ setRegister d (sequencingOf d) (stateAt d 0 .value) (zeroWords (d .facilities)) → s ≡ openWords d
   unfolding openWords
   words-opened true s e = ap (orZeroWords (zeroWords (d .facilities))) e
   words-opened false s e = absurd (has-value (zeroWords (d .facilities)) e)

@@ -12,12 +12,13 @@ use Rattle.language.specs.Building.{Built}
 use Rattle.language.specs.DescribeText.{describe}
 use Rattle.language.specs.Encode.{imageOf}
 use Rattle.language.specs.Grammar.{Is}
-use Rattle.language.specs.Machine.{Parsed, deepest}
+use Rattle.language.specs.Machine.{Parsed}
+use Rattle.language.specs.Ceilings.{deepest}
 use Rattle.language.specs.Notions as N
 use Rattle.language.specs.Notions.{wholeText}
 use Rattle.language.specs.Reading.{ReadCall, afterGrammar, afterWords, orLegal, read, readCall, readRefused, restOf, withRoom}
 use Rattle.language.specs.Rules.{faults}
-use Rattle.language.specs.Sections.{parse}
+use Rattle.language.specs.SectionWays.{parse}
 use Rattle.language.specs.Tree.{Text}
 use Rattle.language.specs.Words as L
 use Rattle.language.specs.WordStage.{least, scan}

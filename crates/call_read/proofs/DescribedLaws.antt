@@ -16,10 +16,11 @@ use Rattle.language.specs.Building.{nothingBuilt, withText}
 use Rattle.language.specs.DescribeText.{facilitiesOf, lengthAt}
 use Rattle.language.specs.Description.{Facility, sequencingFrom}
 use Rattle.language.specs.Grammar.{Is}
-use Rattle.language.specs.Machine.{deepest, parsed}
+use Rattle.language.specs.Machine.{parsed}
+use Rattle.language.specs.Ceilings.{deepest}
 use Rattle.language.specs.Notions as N
 use Rattle.language.specs.Notions.{wholeText}
-use Rattle.language.specs.Sections.{parse}
+use Rattle.language.specs.SectionWays.{parse}
 use Rattle.language.specs.Tree as T
 use Rattle.language.specs.Tree.{Declaration, Text}
 use Rattle.language.specs.WordStage.{scan}

@@ -11,7 +11,7 @@ use Rattle.judge_all.specs.Declared.{Declared}
 use Rattle.judge_all.specs.Stated.{wantedLength}
 use Rattle.language.specs.Description.{Description, Places}
 use Rattle.language.specs.Rules.{sequencingLength}
-use Rattle.language.specs.Value.{longest}
+use Rattle.language.specs.Ceilings.{longest}
 use Rattle.parse_states.specs.Begins.{lengthOf}
 use Rattle.value_operators.specs.Meaning.{allowed}
 use Rattle.call_read.specs.Lengths.{lending}

@@ -9,7 +9,7 @@ use Rattle.parse_facilities.specs.Listed.{besides}
 use Rattle.judge_all.proofs.NotedLaws.{declared-noted}
 use Rattle.judge_all.specs.Declared.{Declared}
 use Rattle.language.specs.Describe.{Noted, actionsOf, nodesIn}
-use Rattle.language.specs.DescribeText.{facilitiesOf, facilityNodes, facilitySize, operationActions, operationNodes, operationsOf, stateActions, stateNodes, statesOf}
+use Rattle.language.specs.DescribeText.{facilitiesOf, facilityNodes, functionSizes, operationActions, operationNodes, operationsOf, stateActions, stateNodes, statesOf}
 use Rattle.language.specs.Description.{Description, Facility, Places, facilityAt, noFacility, nowhere, sequencingFrom, sequencingOf, wordLength}
 use Rattle.language.specs.Encode.{facilityRecords, sectionsOf}
 use Rattle.language.specs.Naming.{Scope, noState}
@@ -43,7 +43,7 @@ length-found : (d : Description) (p : Places) → sequencingLength d p ≡ regis
 unfolding sequencingLength sequencingOf facilityAt
 length-found d p = go (sequencingFrom 0 (d .facilities))
   where
-    go : (n : Option ℕ) → R.lengthAt d p n ≡ lengthNo (d .facilities) n
+    go : (n : Option ℕ) → R.registerLength d p n ≡ lengthNo (d .facilities) n
     go none = refl
     go (some n) = refl
 
@@ -57,7 +57,7 @@ lent-by d p l h f =
     shown = rw (description-back d p h) at (declared-noted (sectionsOf d) (besideOf d p))
 
 -- Of the facilities of a text: they are those of the text with one empty state and no operations, which is readable whatever its states are.
-module _ {text : List ℕ} (t : Text) (tidy : TextTidy t) (near : TextNear text t) (few : length (declarationsOf t) ≤ 256) (small : facilitySize (declarationsOf t) ≤ 65535) where
+module _ {text : List ℕ} (t : Text) (tidy : TextTidy t) (near : TextNear text t) (few : length (declarationsOf t) ≤ 256) (small : functionSizes (declarationsOf t) ≤ 65535) where
   abbrev bare : Text
   bare = record { registers = t .registers; memories = t .memories; terminals = t .terminals; operations = []; states = plainAt nowhere ∷ [] }
 

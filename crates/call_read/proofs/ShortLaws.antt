@@ -17,13 +17,14 @@ use Rattle.language.specs.Description as D
 use Rattle.language.specs.Description.{Description, actionPlace, facilityPlace, nodePlace, statePlace}
 use Rattle.language.specs.Encode.{Sections, encode, nodeSize}
 use Rattle.language.specs.Grammar.{Is}
-use Rattle.language.specs.Machine.{Parsed, deepest, refused}
+use Rattle.language.specs.Machine.{Parsed, refused}
+use Rattle.language.specs.Ceilings.{deepest, longestText}
 use Rattle.language.specs.Notions as N
 use Rattle.language.specs.Notions.{wholeText}
-use Rattle.language.specs.Reading.{accepted, afterGrammar, afterWords, filled, longestText, orLegal, read, readCall, readRefused, readText, refusedAt, restOf}
+use Rattle.language.specs.Reading.{accepted, afterGrammar, afterWords, filled, orLegal, read, readCall, readRefused, readText, refusedAt, restOf}
 use Rattle.language.specs.declared.refusals.Refusal.the-variants.{BufferTooShort, TextTooLong}
 use Rattle.language.specs.Rules.{faults}
-use Rattle.language.specs.Sections.{parse}
+use Rattle.language.specs.SectionWays.{parse}
 use Rattle.language.specs.Tree.{Text}
 use Rattle.language.specs.Words as L
 use Rattle.language.specs.Words.{Position}

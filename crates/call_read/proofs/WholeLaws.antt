@@ -7,7 +7,7 @@ use native.Mathlib.Omega.{arith}
 use Rattle.parse_step.specs.declared.State.{State}
 use Rattle.parse_facilities.specs.Listed.{besides, noneHeld}
 use Rattle.language.specs.Describe.{Noted, NotedAction}
-use Rattle.language.specs.DescribeText.{describe, facilitiesOf, facilityNodes, facilityOf, facilitySize, functionSize, labelOf, operationActions, operationExpressions, operationNodes, operationRecords, operationsOf, placesOf, stateActions, stateNodes, stateSize, statesOf, valuePlace}
+use Rattle.language.specs.DescribeText.{describe, expressionsOfState, facilitiesOf, facilityDeclared, facilityNodes, functionSize, functionSizes, labelOf, operationActions, operationExpressions, operationNodes, operationRecords, operationsOf, placesOf, stateActions, stateNodes, statesOf, valuePlace}
 use Rattle.language.specs.Describe.{actionsIn}
 use Rattle.language.specs.Description.{Facility, Operation, State as Said}
 use Rattle.language.specs.Encode.{actionBytes, concat, nodeBytes, stateRecord}
@@ -53,13 +53,13 @@ operations-named a (o ∷ os) = ap (λ (l : List Name). o .name ∷ l) (operatio
 states-named : (l : Option ℕ) (base a : ℕ) (ss : List T.State) → labelsOf ss ≡ map (λ (s : Said). s .name) (statesOf l base a ss)
 unfolding statesOf
 states-named l base a [] = refl
-states-named l base a (s ∷ ss) = ap (λ (n : List Name). labelOf (s .label) ∷ n) (states-named l (base + stateSize l s) (a + actionsIn (s .actions)) ss)
+states-named l base a (s ∷ ss) = ap (λ (n : List Name). labelOf (s .label) ∷ n) (states-named l (base + expressionsOfState l s) (a + actionsIn (s .actions)) ss)
 
 pub besides-zipped : (base : ℕ) (ds : List Declaration) → besides base ds ≡ zipped facilityBesideBytes (facilitiesOf base ds) (map (λ (d : Declaration). placesOf (d .at) (d .function) (d .extent)) ds)
 unfolding besides zipped facilitiesOf
 besides-zipped base [] = refl
 besides-zipped base (d ∷ ds) =
-    ap (λ (l : List ℕ). facilityBesideBytes (facilityOf base d) (placesOf (d .at) (d .function) (d .extent)) ++ l) (besides-zipped (base + functionSize (d .function)) ds)
+    ap (λ (l : List ℕ). facilityBesideBytes (facilityDeclared base d) (placesOf (d .at) (d .function) (d .extent)) ++ l) (besides-zipped (base + functionSize (d .function)) ds)
 
 -- Records of two lists, one behind the other.
 two-mapped : {A B : Type 0} (f : B → List ℕ) (g : A → B) (xs ys : List A) → concat (λ x. f (g x)) xs ++ concat (λ x. f (g x)) ys ≡ concat f (map g (xs ++ ys))
@@ -89,7 +89,7 @@ module _ (t : Text) {text : List ℕ} {w : Word} {s s′ : State} {l : ℕ} {w�
   sc = named ds (t .operations) (labelsOf (t .states))
 
   abbrev first : ℕ
-  first = facilitySize ds
+  first = functionSizes ds
 
   abbrev second : ℕ
   second = first + operationExpressions (t .operations)

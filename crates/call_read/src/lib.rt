@@ -15,7 +15,7 @@ ghost use mathlib.Core.Path.{_≡_};
 ghost use Prim.Native.Nat.{_≤_};
 ghost use lib.ListN.{length};
 ghost use Rattle.language.specs.Reading as L;
-ghost use Rattle.language.specs.Sections.{parse};
+ghost use Rattle.language.specs.SectionWays.{parse};
 ghost use Rattle.language.specs.WordStage.{scan};
 ghost use Rattle.call_answers.specs.Reading.{Short, called};
 ghost use Rattle.call_read.specs.Writes.{Writes};

@@ -13,7 +13,7 @@ use lib.Seq.{drop-cons}
 use Rattle.language.specs.Canonical.{actionCount, countedRecords, countsRight, leftCount, nodeCount, total, valueCount}
 use Rattle.language.specs.Description as D
 use Rattle.language.specs.Description.{Description, State, actionAt, noRun, nodeAt, stateAt}
-use Rattle.language.specs.Machine.{mostCounted, mostFacilities, mostOperations, mostStates}
+use Rattle.language.specs.Ceilings.{mostCounted, mostFacilities, mostOperations, mostStates}
 use Rattle.image_form.specs.Values.{valuesIn}
 
 -- ---- A sum over a list, n elements of which are done.

@@ -14,7 +14,8 @@ use Rattle.language.specs.Canonical.{all, isCapital, labelRight, nameParts, nam
 use Rattle.language.specs.Characters.{folded, isDigit}
 use Rattle.language.specs.Decode.{facilitiesAt, facilityOf, numberAt, operationsAt, statesAt, valueOf}
 use Rattle.language.specs.Description as D
-use Rattle.language.specs.Scan.{longestName, reservedKind}
+use Rattle.language.specs.Scan.{reservedKind}
+use Rattle.language.specs.Ceilings.{longestName}
 use Rattle.image_sections.proofs.DeclarationLaws.{name-first, state-whole}
 use Rattle.image_sections.specs.Declarations.{StateRead, valueMeant}
 use Rattle.image_sections.specs.declared.states.StateRecord.{StateRecord}

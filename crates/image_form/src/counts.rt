@@ -13,7 +13,7 @@ ghost use lib.Dec.{leb};
 ghost use lib.ListN.{length};
 ghost use Rattle.language.specs.Canonical.{actionCount, countedRecords, countsRight, leftCount, nodeCount, total, valueCount};
 ghost use Rattle.language.specs.Description.{Description};
-ghost use Rattle.language.specs.Machine.{mostCounted};
+ghost use Rattle.language.specs.Ceilings.{mostCounted};
 ghost use Rattle.image_sections.specs.Declarations.{valueMeant};
 ghost use Rattle.image_order.specs.Holds.{Actions, Facilities, Nodes, Operations, States};
 ghost use Rattle.image_records.specs.Actions as Acts;

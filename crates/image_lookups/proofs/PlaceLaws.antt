@@ -17,7 +17,8 @@ use Rattle.language.specs.Layout.{facilityBytes, placeIn}
 use Rattle.language.specs.Lookups as L
 use Rattle.language.specs.declared.refusals.Refusal.{Refusal}
 use Rattle.language.specs.declared.refusals.Refusal.the-variants.{BadSequencing, BadSubscript, CeilingPassed, ImageFails}
-use Rattle.language.specs.Rules.{boundsFaults, facilitiesFaults, facilityFaults, largestStore, orElse, sequencingRight}
+use Rattle.language.specs.Rules.{boundsFaults, facilitiesFaults, facilityFaults, firstFaults, sequencingRight}
+use Rattle.language.specs.Ceilings.{largestStore}
 use Rattle.about_running.specs.Judged.{append-none-left, append-none-right, unless-none}
 use Rattle.about_running.specs.LegalForm.{after-names, no-faults, or-else-both}
 use Rattle.image_records.proofs.NodeBack.{half-back}
@@ -50,7 +51,7 @@ place-low d n another before (f ∷ fs) e b (suc i) h =
     let at = facilityPlace noPlaces n in
     let own = or-else-both d noPlaces (boundsFaults d noPlaces f at) (facilityFaults d noPlaces n another before f at) (append-none-left _ _ e) in
     let m : before + facilityBytes f ≤ 16384 = store-fits d n another before f own in
-    let rest = append-none-right (orElse d noPlaces (boundsFaults d noPlaces f at) (facilityFaults d noPlaces n another before f at)) _ e in
+    let rest = append-none-right (firstFaults d noPlaces (boundsFaults d noPlaces f at) (facilityFaults d noPlaces n another before f at)) _ e in
     omega (arith, place-low d (suc n) (another || isSequencing (f .kind)) (before + facilityBytes f) fs rest m i (omega arith))
 
 module _ (image : List ℕ) (n : ℕ) where

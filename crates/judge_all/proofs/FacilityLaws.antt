@@ -18,7 +18,8 @@ use Rattle.language.specs.Judging.{Judged, refuse, unless}
 use Rattle.language.specs.Layout.{facilityBytes}
 use Rattle.language.specs.Recursion.{below-lt}
 use Rattle.language.specs.declared.refusals.Refusal.the-variants.{BadName, BadSequencing, CeilingPassed}
-use Rattle.language.specs.Rules.{boundsFaults, facilitiesFaults, facilityFaults, largestStore, orElse, sameLength, sequencingRight}
+use Rattle.language.specs.Rules.{boundsFaults, facilitiesFaults, facilityFaults, firstFaults, sameLength, sequencingRight}
+use Rattle.language.specs.Ceilings.{largestStore}
 use Rattle.language.specs.Tree.{Name}
 use Rattle.language.specs.WordStage.{least}
 use Rattle.language.specs.Words as W
@@ -90,14 +91,14 @@ module _ (d : Description) (p : Places) where
   unfolding facilitiesFaults
   same-places n another a [] = refl
   same-places n another a (f ∷ fs) =
-      ap₂ (λ (x y : List W.Fault). orElse d p (boundsFaults d p f (facilityPlace p n)) x ++ y) (same-place n another a f (facilityPlace p n))
+      ap₂ (λ (x y : List W.Fault). firstFaults d p (boundsFaults d p f (facilityPlace p n)) x ++ y) (same-place n another a f (facilityPlace p n))
       (sym (same-places (suc n) (another || isSequencing (f .kind)) (capped a + facilityBytes f) fs)
       ∙ ap (λ (k : ℕ). facilitiesFaults d p (suc n) (another || isSequencing (f .kind)) k fs) (capped-add a (facilityBytes f))
       ∙ same-places (suc n) (another || isSequencing (f .kind)) (a + facilityBytes f) fs)
 
   abbrev oneOf : ℕ → Bool → ℕ → List W.Fault
   oneOf n another before =
-      orElse d p (boundsFaults d p (facilityAt d n) (facilityPlace p n)) (facilityFaults d p n another before (facilityAt d n) (facilityPlace p n))
+      firstFaults d p (boundsFaults d p (facilityAt d n) (facilityPlace p n)) (facilityFaults d p n another before (facilityAt d n) (facilityPlace p n))
 
   pub next-facility : (n : ℕ) (another more : Bool) (before after : ℕ) → n < length (d .facilities)
       → after ≡ capped (before + facilityBytes (facilityAt d n)) → more ≡ (another || isSequencing (facilityAt d n .kind))
@@ -124,12 +125,12 @@ pub passed-none : none ≡ least []
 unfolding least
 passed-none = refl
 
-pub or-else-none : (d : Description) (p : Places) (x y : List W.Fault) {o : Option W.Fault} → none ≡ least x → o ≡ least y → o ≡ least (orElse d p x y)
+pub or-else-none : (d : Description) (p : Places) (x y : List W.Fault) {o : Option W.Fault} → none ≡ least x → o ≡ least y → o ≡ least (firstFaults d p x y)
 unfolding least
 or-else-none d p [] y e f = f
 or-else-none d p (g ∷ gs) y e f = absurd (let z : _≡_ {A = ℕ} 0 1 = cc in omega arith)
 
-pub or-else-some : (d : Description) (p : Places) (x y : List W.Fault) {a : J.Judged} (g : Fault) → a ≡ Refused g → judged a ≡ least x → judged a ≡ least (orElse d p x y)
+pub or-else-some : (d : Description) (p : Places) (x y : List W.Fault) {a : J.Judged} (g : Fault) → a ≡ Refused g → judged a ≡ least x → judged a ≡ least (firstFaults d p x y)
 unfolding least
 or-else-some d p [] y g q e = absurd (let w : some (faulted g) ≡ none = sym (ap judged q) ∙ e in let z : _≡_ {A = ℕ} 0 1 = cc in omega arith)
 or-else-some d p (h ∷ hs) y g q e = e

@@ -14,7 +14,8 @@ ghost use mathlib.Core.Path.{_≡_};
 ghost use lib.Dec.{leb};
 ghost use Rattle.language.specs.Description.{Description, Places, facilityPlace, isSequencing, wordLength};
 ghost use Rattle.language.specs.Judging as L;
-ghost use Rattle.language.specs.Rules.{boundsFaults, largestBound, largestStore, orElse, sameLength, sequencingRight};
+ghost use Rattle.language.specs.Rules.{boundsFaults, firstFaults, sameLength, sequencingRight};
+ghost use Rattle.language.specs.Ceilings.{largestBound, largestStore};
 ghost use Rattle.language.specs.Tree.{Name};
 ghost use Rattle.language.specs.WordStage.{least};
 ghost use Rattle.language.specs.Words as W;
@@ -79,7 +80,7 @@ fn same_length(length: u64, at: Position, v: Verdict) -> Judged
 
 // Faults, and else what comes after them.
 pub fn or_else(a: Judged, b: Judged) -> Judged
-    ensures { λ r. ⌜ ((d : Description) (p : Places) (x y : List W.Fault) → judged a ≡ least x → judged b ≡ least y → judged r ≡ least (orElse d p x y)) ⌝ }
+    ensures { λ r. ⌜ ((d : Description) (p : Places) (x y : List W.Fault) → judged a ≡ least x → judged b ≡ least y → judged r ≡ least (firstFaults d p x y)) ⌝ }
 {
     match a {
         Judged::Passed => b,

@@ -17,7 +17,7 @@ ghost use lib.ListN.{length};
 ghost use Rattle.language.specs.Description.{Description, Places, facilityAt, facilityPlace, isComputed};
 ghost use Rattle.language.specs.Expressions.{terminalJudged};
 ghost use Rattle.language.specs.Judging as L;
-ghost use Rattle.language.specs.Rules.{boundsFaults, facilitiesFaults, facilityFaults, orElse};
+ghost use Rattle.language.specs.Rules.{boundsFaults, facilitiesFaults, facilityFaults, firstFaults};
 ghost use Rattle.language.specs.WordStage.{least};
 ghost use Rattle.judge_records.specs.Read.{FacilityRead, facilityMeant};
 ghost use Rattle.judge_verdicts.specs.Meaning.{seen};
@@ -47,7 +47,7 @@ fn terminal(
 
 // The faults of facility n, after others that take up to `before` of the store.
 fn one(fp: &[u8], n: usize, another: bool, before: u32, f: Facility, v: Verdict) -> Judged
-    ensures { λ r. ⌜ ((d : Description) (p : Places) → facilityPlace p n ≡ facilityPlacesOf (now (fp .entry)) n → facilityMeant (facilityAt d n .name) f ≡ facilityAt d n → v ≡ seen (cond (isComputed (facilityAt d n .kind)) (terminalJudged d p n) (L.worth 1 0 0)) → judged r ≡ least (orElse d p (boundsFaults d p (facilityAt d n) (facilityPlace p n)) (facilityFaults d p n another before (facilityAt d n) (facilityPlace p n)))) ⌝ }
+    ensures { λ r. ⌜ ((d : Description) (p : Places) → facilityPlace p n ≡ facilityPlacesOf (now (fp .entry)) n → facilityMeant (facilityAt d n .name) f ≡ facilityAt d n → v ≡ seen (cond (isComputed (facilityAt d n .kind)) (terminalJudged d p n) (L.worth 1 0 0)) → judged r ≡ least (firstFaults d p (boundsFaults d p (facilityAt d n) (facilityPlace p n)) (facilityFaults d p n another before (facilityAt d n) (facilityPlace p n)))) ⌝ }
 {
     let kind = f.kind;
     let own = bounds::bounds_faults(fp, n, f);

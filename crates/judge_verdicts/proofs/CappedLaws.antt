@@ -6,7 +6,7 @@ use native.Mathlib.Omega.{arith}
 use Prim.Native.Nat.{ℕ, _+_, _-_, _<_, _≤_}
 use borrow.Author.Tests.{le-leb, leb-false, leb-true, lt-leb, ne-eqb}
 use lib.Dec.{eqb, leb}
-use Rattle.language.specs.Rules.{mostWork}
+use Rattle.language.specs.Ceilings.{mostWork}
 use Rattle.judge_verdicts.specs.Meaning.{capped}
 
 pub capped-small : (n : ℕ) → n ≤ 65536 → capped n ≡ n

@@ -8,7 +8,7 @@ use lib.ListN.{getD, length}
 use Rattle.language.specs.Decode.{pick}
 use Rattle.language.specs.Judging as L
 use Rattle.language.specs.Judging.{Judged, fine, faulty}
-use Rattle.language.specs.Rules.{mostWork}
+use Rattle.language.specs.Ceilings.{mostWork}
 use Rattle.language.specs.Words as W
 use Rattle.language.specs.WordStage.{before, least, smaller}
 use Rattle.language.specs.declared.refusals.Refusal.{Refusal}

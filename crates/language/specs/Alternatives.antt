@@ -3,7 +3,7 @@ use mathlib.Core.Bool.{Bool, true, false}
 use mathlib.Core.List.{List, [], _∷_, _++_, map}
 use Prim.Native.Nat.{ℕ}
 use Rattle.language.specs.Machine.{Alternative, Bearing, Rule, Sym, Tally, closes, counted, level, may, must, opens, word}
-use Rattle.language.specs.Steps.{Step}
+use Rattle.language.specs.BuildSteps.{Step}
 
 module _ {B : Type 0} where
   abbrev pub noStep : Step B

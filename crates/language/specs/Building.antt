@@ -4,7 +4,7 @@ use mathlib.Core.List.{List, [], _∷_}
 use Prim.Native.Nat.{ℕ}
 use lib.ListN.{drop, getD}
 use Rattle.language.specs.Notions.{pairOf}
-use Rattle.language.specs.Steps.{Step}
+use Rattle.language.specs.BuildSteps.{Step}
 use Rattle.language.specs.Tree as T
 use Rattle.language.specs.Tree.{Actions, Ends, Expression, Extent, Left, Name, State, Text}
 use Rattle.language.specs.Value.{value}

@@ -16,7 +16,7 @@ use Rattle.language.specs.declared.refusals.Refusal.the-variants.{BadSti
 use Rattle.language.specs.Step.{Entered, Outcome, completed, into, openRecord, setRegister, step}
 use Rattle.language.specs.Step as Step
 use Rattle.language.specs.declared.stops.Stop.{Stop}
-use Rattle.language.specs.Store.{Words, fromBytes, inputsOf, narrow, toBytes, zeroWords}
+use Rattle.language.specs.Store.{StoreWords, fromBytes, inputsOf, narrow, toBytes, zeroWords}
 use Rattle.language.specs.Tests.{both}
 
 -- A refusal, if there is one.
@@ -45,12 +45,12 @@ openRefusal image store record′ =
     first (not (passes image)) ImageFails
     (first (not (both (leb (storeSize (decode image)) store) (leb recordSize record′))) BufferTooShort none)
 
-abbrev pub orZeroWords : Words → Entered → Words
+abbrev pub orZeroWords : StoreWords → Entered → StoreWords
 orZeroWords s (into t) = t
 orZeroWords s (Entered.stuck r) = s
 
 -- Zero, but for the sequencing register, which has the first state's value.
-unfoldable pub openWords : Description → Words
+unfoldable pub openWords : Description → StoreWords
 openWords d = let s = zeroWords (d .facilities) in orZeroWords s (setRegister d (sequencingOf d) (stateAt d 0 .value) s)
 
 abbrev pub openWith : Description → ℕ → ℕ → Option Refusal → OpenCall

@@ -8,9 +8,9 @@ use lib.ListN.{length}
 use Rattle.language.specs.Characters.{isDigit, within}
 use Rattle.language.specs.Description as D
 use Rattle.language.specs.Description.{Action, Bounds, Description, Facility, Node, State}
-use Rattle.language.specs.Machine.{mostCounted, mostFacilities, mostOperations, mostStates}
+use Rattle.language.specs.Ceilings.{longestName, mostCounted, mostFacilities, mostOperations, mostStates}
 use Rattle.language.specs.Order.{runsRight, treesRight}
-use Rattle.language.specs.Scan.{longestName, reservedKind}
+use Rattle.language.specs.Scan.{reservedKind}
 use Rattle.language.specs.Tree.{Kind, Name, computed, input, memory, plain, register, sequencing}
 use Rattle.language.specs.Tests.{both}
 

@@ -37,7 +37,3 @@ bareLength = 16
 
 unfoldable pub bareConstant : List ℕ → Value
 bareConstant ds = decimalConstant bareLength ds
-
--- The largest bare constant.
-unfoldable pub bareLargest : ℕ
-bareLargest = 65535

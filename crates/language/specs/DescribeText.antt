@@ -11,7 +11,8 @@ use Rattle.language.specs.Description as D
 use Rattle.language.specs.Naming.{Scope, byLabels, noState}
 use Rattle.language.specs.Tree as T
 use Rattle.language.specs.Tree.{Declaration, Extent, Function, Name, StateValue, Text}
-use Rattle.language.specs.Value.{Value, longest, value}
+use Rattle.language.specs.Value.{Value, value}
+use Rattle.language.specs.Ceilings.{longest}
 use Rattle.language.specs.Words.{Constant, Position}
 
 -- ---- Facilities.
@@ -51,8 +52,8 @@ equalsPlace T.unspecified = nowhere
 equalsPlace T.fromInput = nowhere
 equalsPlace (T.given p e) = p
 
-abbrev pub facilityOf : ℕ → Declaration → Facility
-facilityOf base d = record {
+abbrev pub facilityDeclared : ℕ → Declaration → Facility
+facilityDeclared base d = record {
   name = d .name;
   kind = d .kind;
   dimensions = dimensionsOf (d .extent);
@@ -68,7 +69,7 @@ placesOf p f (T.table x y) = record { name = p; wordsFirst = x .firstAt; wordsLa
 
 unfoldable pub facilitiesOf : ℕ → List Declaration → List Facility
 facilitiesOf base [] = []
-facilitiesOf base (d ∷ ds) = facilityOf base d ∷ facilitiesOf (base + functionSize (d .function)) ds
+facilitiesOf base (d ∷ ds) = facilityDeclared base d ∷ facilitiesOf (base + functionSize (d .function)) ds
 
 -- A terminal's expression knows the facilities declared before it.
 unfoldable pub facilityNodes : List Name → ℕ → List Declaration → List Noted
@@ -77,9 +78,9 @@ facilityNodes before base (d ∷ ds) =
     functionNodes (record { facilities = before; operations = []; stateNamed = noState }) base (d .function)
     ++ facilityNodes (before ++ d .name ∷ []) (base + functionSize (d .function)) ds
 
-unfoldable pub facilitySize : List Declaration → ℕ
-facilitySize [] = 0
-facilitySize (d ∷ ds) = functionSize (d .function) + facilitySize ds
+unfoldable pub functionSizes : List Declaration → ℕ
+functionSizes [] = 0
+functionSizes (d ∷ ds) = functionSize (d .function) + functionSizes ds
 
 -- ---- Operations. An operation knows all facilities and the operations declared before it.
 
@@ -139,24 +140,24 @@ valuePlace none = nowhere
 valuePlace (some v) = v .at
 
 module _ (l : Option ℕ) where
-  abbrev pub stateSize : T.State → ℕ
-  stateSize s = valueSize l (s .value) + expressionsIn (s .actions)
+  abbrev pub expressionsOfState : T.State → ℕ
+  expressionsOfState s = valueSize l (s .value) + expressionsIn (s .actions)
 
   unfoldable pub statesOf : ℕ → ℕ → List T.State → List State
   statesOf base a [] = []
   statesOf base a (s ∷ ss) =
       record { name = labelOf (s .label); value = valueNumber base l (s .value); actions = runOf a (actionsIn (s .actions)) }
-      ∷ statesOf (base + stateSize s) (a + actionsIn (s .actions)) ss
+      ∷ statesOf (base + expressionsOfState s) (a + actionsIn (s .actions)) ss
 
   module _ (scope : Scope) where
     unfoldable pub stateNodes : ℕ → List T.State → List Noted
     stateNodes base [] = []
     stateNodes base (s ∷ ss) =
-        valueNodes l (s .value) ++ (nodesIn scope (base + valueSize l (s .value)) (s .actions) ++ stateNodes (base + stateSize s) ss)
+        valueNodes l (s .value) ++ (nodesIn scope (base + valueSize l (s .value)) (s .actions) ++ stateNodes (base + expressionsOfState s) ss)
 
     unfoldable pub stateActions : ℕ → List T.State → List NotedAction
     stateActions base [] = []
-    stateActions base (s ∷ ss) = actionsOf scope (base + valueSize l (s .value)) (s .actions) ++ stateActions (base + stateSize s) ss
+    stateActions base (s ∷ ss) = actionsOf scope (base + valueSize l (s .value)) (s .actions) ++ stateActions (base + expressionsOfState s) ss
 
 -- ---- The whole.
 
@@ -179,7 +180,7 @@ describe t =
     let facilities : List Facility = facilitiesOf 0 declared in
     let l : Option ℕ = lengthAt facilities (sequencingFrom 0 facilities) in
     let scope : Scope = record { facilities = names; operations = map (λ o. o .name) (t .operations); stateNamed = byLabels (map (λ s. labelOf (s .label)) (t .states)) } in
-    let first : ℕ = facilitySize declared in
+    let first : ℕ = functionSizes declared in
     let second : ℕ = first + operationExpressions (t .operations) in
     let nodes : List Noted = facilityNodes [] 0 declared ++ (operationNodes names [] first (t .operations) ++ stateNodes l scope second (t .states)) in
     let acts : List NotedAction = operationActions names [] first (t .operations) ++ stateActions l scope second (t .states) in

@@ -106,6 +106,13 @@ abbrev pub orNoBits : Option Value → Value
 orNoBits none = value 0 0
 orNoBits (some v) = v
 
+abbrev pub numberIn : Option Value → Option ℕ
+numberIn none = none
+numberIn (some v) = some (v .number)
+
+abbrev pub constantNumber : Node → Option ℕ
+constantNumber n = numberIn (constantIn n)
+
 -- The value of such a record; any other has no bits.
 abbrev pub constantValue : Node → Value
 constantValue n = orNoBits (constantIn n)

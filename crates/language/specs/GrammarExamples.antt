@@ -11,10 +11,11 @@ use Rattle.language.specs.Computing.{computing}
 use Rattle.language.specs.Reading.{readText}
 use Rattle.language.specs.StepExamples.{imageOf}
 use Rattle.language.specs.Building.{Built, expressionNo, joined, listNo, wordNo}
-use Rattle.language.specs.Machine.{Parsed, choose, deepest, feed, finish, mostCounted, mostFacilities, mostOperations, mostStates, parsed, refused, run, tallied, withinCeilings}
+use Rattle.language.specs.Machine.{Parsed, choose, feed, finish, parsed, refused, run, tallied, withinCeilings}
+use Rattle.language.specs.Ceilings.{deepest, mostCounted, mostFacilities, mostOperations, mostStates}
 use Rattle.language.specs.declared.refusals.Refusal.the-variants.{NoContinuation}
 use Rattle.language.specs.Scan.{bytes, same}
-use Rattle.language.specs.Sections.{parse, parseWith, ruleOf}
+use Rattle.language.specs.SectionWays.{parse, parseWith, ruleOf}
 use Rattle.language.specs.WordExamples.{words-open}
 use Rattle.language.specs.WordStage.{scan}
 use Rattle.language.specs.Words.{Fault, fault, position}

@@ -6,7 +6,7 @@ use Prim.Native.Nat.{ℕ, _≤_, _<_, _^_}
 use lib.Dec.{eqb, leb}
 use lib.ListN.{length, take}
 use Rattle.language.specs.Canonical.{canonical, nameRight}
-use Rattle.language.specs.Ceilings.{WithinCeilings}
+use Rattle.language.specs.CountedWords.{WithinCeilings}
 use Rattle.language.specs.Constants.{bareLength}
 use Rattle.language.specs.Decode.{decode, numberAt}
 use Rattle.language.specs.DescribeText.{describe}
@@ -19,7 +19,7 @@ use Rattle.language.specs.Scan.{same}
 use Rattle.language.specs.Tree.{Text}
 use Rattle.language.specs.Words as W
 use Rattle.language.specs.Words.{Constant, Word}
-use Rattle.language.specs.Value.{longest}
+use Rattle.language.specs.Ceilings.{longest}
 use Rattle.language.specs.Tests.{both}
 
 -- ---- In words: the image of a legal text.

@@ -5,7 +5,7 @@ use Prim.Native.Nat.{ℕ}
 use lib.Dec.{eqb, leb, ltb}
 use Rattle.language.specs.declared.refusals.Refusal.{Refusal}
 use Rattle.language.specs.declared.refusals.Refusal.the-variants.{BadLength, NoContinuation}
-use Rattle.language.specs.Value.{longest}
+use Rattle.language.specs.Ceilings.{longest}
 use Rattle.language.specs.Words.{Fault, Position, fault}
 
 -- What is known of an expression without fault: its length; its work (01, "Ceilings"); and, of a list of arms, how many there are, none of an expression proper. Arms of different lengths have the length 0.

@@ -73,8 +73,8 @@ sumSign = 22
 abbrev pub differenceSign : ℕ
 differenceSign = 23
 
-abbrev pub equalsSign : ℕ
-equalsSign = 24
+abbrev pub sameSign : ℕ
+sameSign = 24
 
 abbrev pub atLeastSign : ℕ
 atLeastSign = 25

@@ -5,26 +5,27 @@ pub mod Value
 pub mod Constants
 pub mod ValueExamples
 -- From bytes to words (the manual, 2).
+pub mod Ceilings
 pub mod Characters
 pub mod Kinds
 pub mod Refusals
 pub mod Words
 pub mod Scan
-pub mod Lines
+pub mod Columns
 pub mod WordStage
 pub mod WordExamples
 -- From words to a tree: the grammar (the manual, Appendix B), and the machine that follows it word by word.
 pub mod Tree
 pub mod Notions
 pub mod Grammar
-pub mod Steps
+pub mod BuildSteps
 pub mod Building
 pub mod Declaring
 pub mod Machine
 pub mod Alternatives
 pub mod Ways
-pub mod Sections
-pub mod Ceilings
+pub mod SectionWays
+pub mod CountedWords
 pub mod GrammarExamples
 -- From a tree to records, and the rules that they must keep.
 pub mod Recursion

@@ -4,31 +4,14 @@ use mathlib.Core.List.{List, [], _∷_, _++_}
 use Prim.Native.Nat.{ℕ, suc, _-_}
 use lib.Dec.{eqb, leb}
 use lib.ListN.{drop}
+use Rattle.language.specs.Ceilings.{deepest, mostCounted, mostFacilities, mostOperations, mostStates}
 use Rattle.language.specs.Building.{nameOf}
 use Rattle.language.specs.Kinds.{aName}
 use Rattle.language.specs.declared.refusals.Refusal.the-variants.{CeilingPassed, NoContinuation}
 use Rattle.language.specs.Scan.{same}
-use Rattle.language.specs.Steps.{Step, Steps}
+use Rattle.language.specs.BuildSteps.{Step, Steps}
 use Rattle.language.specs.Words.{Fault, Position, Word, fault, kindOf, position, wordAt}
 use Rattle.language.specs.Tests.{both}
-
--- ---- Ceilings of this stage.
-
-unfoldable pub mostFacilities : ℕ
-mostFacilities = 256
-
-unfoldable pub mostOperations : ℕ
-mostOperations = 128
-
-unfoldable pub mostStates : ℕ
-mostStates = 256
-
--- Operators, operands and actions.
-unfoldable pub mostCounted : ℕ
-mostCounted = 2048
-
-unfoldable pub deepest : ℕ
-deepest = 24
 
 pub data Tally : Type 0 where
   facility operation state counted : Tally

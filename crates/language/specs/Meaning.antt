@@ -14,7 +14,8 @@ use Rattle.language.specs.References.{Reference, Subscripts, part, right
 use Rattle.language.specs.declared.stops.Stop.{Stop}
 use Rattle.language.specs.declared.stops.Stop.the-variants.{NoArm, OutsideBounds}
 use Rattle.language.specs.Value as Value
-use Rattle.language.specs.Value.{Made, Value, longest, made, value}
+use Rattle.language.specs.Value.{Made, Value, made, value}
+use Rattle.language.specs.Ceilings.{longest}
 use Rattle.language.specs.Tests.{both}
 
 -- A part of a word: facility, word, first bit from the left, number of bits.
@@ -94,26 +95,26 @@ subscript (stops n) b on = Located.stops n
 subscript (stuck s) b on = Located.stuck s
 
 -- A constant part lies in its word, in the declared direction.
-abbrev pub partOf : Bounds → Bounds → (ℕ → ℕ → Located) → Located
-partOf b x on =
+abbrev pub constantPart : Bounds → Bounds → (ℕ → ℕ → Located) → Located
+constantPart b x on =
     cond (both (inBounds b (x .first)) (both (inBounds b (x .last)) (sameDirection b x)))
     (on (fromFirst b (x .first)) (spanOf x))
     (Located.stuck outside)
 
 -- At most 256 bits are taken.
-abbrev pub narrow : Place → Located
-narrow p = cond (leb (p .count) longest) (Located.at p) (Located.stuck wrongLength)
+abbrev pub bounded : Place → Located
+bounded p = cond (leb (p .count) longest) (Located.at p) (Located.stuck wrongLength)
 
 -- The place that subscripts name; `ev` gives their values.
 unfoldable pub located : (ℕ → Answer) → ℕ → Facility → Subscripts → Located
-located ev n f whole = narrow (place n 0 0 (wordLength f))
+located ev n f whole = bounded (place n 0 0 (wordLength f))
 located ev n f (R.one e) =
     cond (eqb (f .dimensions) 1)
-    (subscript (ev e) (f .bits) (λ b. narrow (place n 0 b 1)))
-    (subscript (ev e) (f .words) (λ w. narrow (place n w 0 (wordLength f))))
-located ev n f (part x) = partOf (f .bits) x (λ b c. narrow (place n 0 b c))
-located ev n f (two e g) = subscript (ev e) (f .words) (λ w. subscript (ev g) (f .bits) (λ b. narrow (place n w b 1)))
-located ev n f (wordPart e x) = subscript (ev e) (f .words) (λ w. partOf (f .bits) x (λ b c. narrow (place n w b c)))
+    (subscript (ev e) (f .bits) (λ b. bounded (place n 0 b 1)))
+    (subscript (ev e) (f .words) (λ w. bounded (place n w 0 (wordLength f))))
+located ev n f (part x) = constantPart (f .bits) x (λ b c. bounded (place n 0 b c))
+located ev n f (two e g) = subscript (ev e) (f .words) (λ w. subscript (ev g) (f .bits) (λ b. bounded (place n w b 1)))
+located ev n f (wordPart e x) = subscript (ev e) (f .words) (λ w. constantPart (f .bits) x (λ b c. bounded (place n w b c)))
 
 -- IF with ELSE is the conditional of two arms, and its condition has one bit.
 unfoldable pub decides : ℕ → Value → Bool

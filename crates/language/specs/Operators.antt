@@ -3,7 +3,7 @@ use mathlib.Core.Bool.{Bool, cond, _||_}
 use mathlib.Core.List.{List, [], _∷_}
 use Prim.Native.Nat.{ℕ}
 use lib.Dec.{eqb}
-use Rattle.language.specs.Kinds.{atLeastSign, atMostSign, conWord, differenceSign, equalsSign, exclusiveSign, extWord, greaterSign, hash, headWord, lessSign, minus, plus, star, sumSign, tailWord}
+use Rattle.language.specs.Kinds.{atLeastSign, atMostSign, conWord, differenceSign, exclusiveSign, extWord, greaterSign, hash, headWord, lessSign, minus, plus, sameSign, star, sumSign, tailWord}
 use Rattle.language.specs.Value.{Made, Value, andReduction, atLeast, atMost, complement, complementLength, conjunction, countLength, cutLength, difference, differenceLength, disjunction, equal, exclusive, exclusiveReduction, extended, greater, head, join, joinLength, less, logicalLength, negation, negationLength, none, orReduction, reductionLength, relationLength, repeatLength, sum, sumLength, sumReduction, tail, unequal}
 
 -- ---- The operators of which a level has several (the manual, Appendix B).
@@ -15,10 +15,10 @@ abbrev pub isArithmetic : ℕ → Bool
 isArithmetic k = eqb k sumSign || eqb k differenceSign
 
 abbrev pub relations : List ℕ
-relations = equalsSign ∷ hash ∷ lessSign ∷ greaterSign ∷ atMostSign ∷ atLeastSign ∷ []
+relations = sameSign ∷ hash ∷ lessSign ∷ greaterSign ∷ atMostSign ∷ atLeastSign ∷ []
 
 abbrev pub isRelation : ℕ → Bool
-isRelation k = eqb k equalsSign || eqb k hash || eqb k lessSign || eqb k greaterSign || eqb k atMostSign || eqb k atLeastSign
+isRelation k = eqb k sameSign || eqb k hash || eqb k lessSign || eqb k greaterSign || eqb k atMostSign || eqb k atLeastSign
 
 abbrev pub cuts : List ℕ
 cuts = headWord ∷ tailWord ∷ extWord ∷ []
@@ -74,7 +74,7 @@ binaryOf k x y =
     (cond (eqb k plus) (disjunction x y)
     (cond (eqb k star) (conjunction x y)
     (cond (eqb k exclusiveSign) (exclusive x y)
-    (cond (eqb k equalsSign) (equal x y)
+    (cond (eqb k sameSign) (equal x y)
     (cond (eqb k hash) (unequal x y)
     (cond (eqb k lessSign) (less x y)
     (cond (eqb k greaterSign) (greater x y)

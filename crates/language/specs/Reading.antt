@@ -5,6 +5,7 @@ use mathlib.Core.Option.{Option, none, some}
 use Prim.Native.Nat.{ℕ, _-_}
 use lib.Dec.{leb, ltb}
 use lib.ListN.{length, replicate}
+use Rattle.language.specs.Ceilings.{longestText}
 use Rattle.language.specs.Building.{Built}
 use Rattle.language.specs.DescribeText.{Described, describe}
 use Rattle.language.specs.Description.{Description}
@@ -13,7 +14,7 @@ use Rattle.language.specs.Machine.{Parsed, parsed, refused}
 use Rattle.language.specs.declared.refusals.Refusal.{Refusal}
 use Rattle.language.specs.declared.refusals.Refusal.the-variants.{BufferTooShort, TextTooLong}
 use Rattle.language.specs.Rules.{faults}
-use Rattle.language.specs.Sections.{parse}
+use Rattle.language.specs.SectionWays.{parse}
 use Rattle.language.specs.WordStage.{least, scan, wordFault}
 use Rattle.language.specs.Words.{Fault, fault, position}
 
@@ -24,9 +25,6 @@ zeroes n = replicate n 0
 -- A buffer of n bytes that begins with these and is zero beyond them.
 unfoldable pub filled : ℕ → List ℕ → List ℕ
 filled n bs = bs ++ zeroes (n - length bs)
-
-unfoldable pub longestText : ℕ
-longestText = 32768
 
 -- What a text is: a legal description, or a refusal.
 pub data Read : Type 0 where

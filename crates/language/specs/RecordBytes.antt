@@ -8,8 +8,9 @@ use lib.ListN.{length}
 use Rattle.language.specs.Decode.{numberAt}
 use Rattle.language.specs.Description.{Description, sequencingOf}
 use Rattle.language.specs.Encode.{four}
-use Rattle.language.specs.Step.{Record, mostReturns, registerValue, stateNumber}
-use Rattle.language.specs.Store.{Words, narrow}
+use Rattle.language.specs.Step.{Record, registerValue, stateNumber}
+use Rattle.language.specs.Ceilings.{mostReturns}
+use Rattle.language.specs.Store.{StoreWords, narrow}
 use Rattle.language.specs.Tests.{both}
 
 -- The letters DDLP: neither 0 nor all ones.
@@ -49,7 +50,7 @@ agrees (some f) none x = false
 agrees (some f) (some y) x = eqb x y
 
 -- The words have no spare bit set, and the sequencing register is the state's value.
-unfoldable pub sound : Description → Words → Record → Bool
+unfoldable pub sound : Description → StoreWords → Record → Bool
 unfolding returnsSound mostReturns
 sound d s r =
     both (ltb (r .state) (length (d .states)))

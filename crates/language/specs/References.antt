@@ -39,23 +39,6 @@ referenceOf (D.nextArm a e) = none
 referenceOf (D.choice e a n) = none
 referenceOf D.Node.broken = none
 
--- The number of a record that is one constant.
-abbrev pub constantOf : Node → Option ℕ
-constantOf (D.constant v) = some (v .number)
-constantOf (D.more n) = none
-constantOf (D.whole f) = none
-constantOf (D.one f e) = none
-constantOf (D.part f b) = none
-constantOf (D.two f e g) = none
-constantOf (D.wordPart f e b) = none
-constantOf (D.binary k a b) = none
-constantOf (D.prefix k a) = none
-constantOf (D.cut k a c) = none
-constantOf (D.firstArm e) = none
-constantOf (D.nextArm a e) = none
-constantOf (D.choice e a n) = none
-constantOf D.Node.broken = none
-
 -- The number of subscripts is right for the dimensions.
 unfoldable pub rightCount : ℕ → Subscripts → Bool
 rightCount n whole = leb n 1

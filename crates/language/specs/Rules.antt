@@ -14,20 +14,10 @@ use Rattle.language.specs.Layout.{facilityBytes}
 use Rattle.language.specs.declared.refusals.Refusal.the-variants.{BadLength, BadName, BadSequencing, BadSubscript, CeilingPassed}
 use Rattle.language.specs.Scan.{same}
 use Rattle.language.specs.Tree.{Name}
-use Rattle.language.specs.Value.{longest, value}
+use Rattle.language.specs.Value.{value}
+use Rattle.language.specs.Ceilings.{largestBound, largestStore, longest, mostWork}
 use Rattle.language.specs.Words.{Fault, Position, fault}
 use Rattle.language.specs.Tests.{both}
-
--- ---- Ceilings of this stage.
-
-unfoldable pub largestBound : ℕ
-largestBound = 65535
-
-unfoldable pub largestStore : ℕ
-largestStore = 16384
-
-unfoldable pub mostWork : ℕ
-mostWork = 65536
 
 -- ---- Names: one declared before is refused (4).
 
@@ -79,15 +69,15 @@ module _ (d : Description) (p : Places) where
       ++ cond (isComputed (f .kind)) (sameLength (wordLength f) (at .equals) (terminalJudged d p n)) [])
 
   -- A declaration with a bound too large has no further fault.
-  abbrev pub orElse : List Fault → List Fault → List Fault
-  orElse [] more = more
-  orElse (x ∷ xs) more = x ∷ xs
+  abbrev pub firstFaults : List Fault → List Fault → List Fault
+  firstFaults [] more = more
+  firstFaults (x ∷ xs) more = x ∷ xs
 
   unfoldable pub facilitiesFaults : ℕ → Bool → ℕ → List Facility → List Fault
   facilitiesFaults n another before [] = []
   facilitiesFaults n another before (f ∷ fs) =
       let at = facilityPlace p n in
-      orElse (boundsFaults f at) (facilityFaults n another before f at)
+      firstFaults (boundsFaults f at) (facilityFaults n another before f at)
       ++ facilitiesFaults (suc n) (another || isSequencing (f .kind)) (before + facilityBytes f) fs
 
   -- ---- Operations.
@@ -143,12 +133,12 @@ module _ (d : Description) (p : Places) where
       stateFaults l before (statePlace p n) s ++ statesFaults l (borne before (s .value)) (suc n) ss
 
   -- The length of the sequencing register, if there is one.
-  abbrev pub lengthAt : Option ℕ → Option ℕ
-  lengthAt none = none
-  lengthAt (some n) = some (wordLength (facilityAt d n))
+  abbrev pub registerLength : Option ℕ → Option ℕ
+  registerLength none = none
+  registerLength (some n) = some (wordLength (facilityAt d n))
 
   unfoldable pub sequencingLength : Option ℕ
-  sequencingLength = lengthAt (sequencingOf d)
+  sequencingLength = registerLength (sequencingOf d)
 
   -- ---- All faults of a description.
 

@@ -8,11 +8,12 @@ use Prim.Native.String.{String}
 use lib.Dec.{eqb, leb, ltb}
 use lib.ListN.{drop, getD, length, take}
 use Rattle.language.specs.Characters.{blankClass, classOf, digitClass, digitWorth, folded, isDigit, isLetter, letterClass, lineFeed, quote, quoteClass, symbolClass}
-use Rattle.language.specs.Constants.{bareConstant, bareLargest, binaryConstant, decimalConstant, digitsNumber}
-use Rattle.language.specs.Kinds.{atLeastSign, atMostSign, atSign, callSign, caseWord, closeBracket, closeParen, colon, comma, conWord, controlWord, delayedSign, differenceSign, doWord, dollar, elseWord, endCaseWord, endIfWord, endWord, equalSign, equalsSign, exclusiveSign, extWord, gotoSign, greaterSign, hash, headWord, ifWord, inputWord, lessSign, levelWord, memoryWord, minus, openBracket, openParen, operationWord, outputWord, period, plus, redWord, registerWord, returnWord, semicolon, slash, star, sumSign, tailWord, terminalWord, thenWord, timeWord}
+use Rattle.language.specs.Constants.{bareConstant, binaryConstant, decimalConstant, digitsNumber}
+use Rattle.language.specs.Kinds.{atLeastSign, atMostSign, atSign, callSign, caseWord, closeBracket, closeParen, colon, comma, conWord, controlWord, delayedSign, differenceSign, doWord, dollar, elseWord, endCaseWord, endIfWord, endWord, equalSign, exclusiveSign, extWord, gotoSign, greaterSign, hash, headWord, ifWord, inputWord, lessSign, levelWord, memoryWord, minus, openBracket, openParen, operationWord, outputWord, period, plus, redWord, registerWord, returnWord, sameSign, semicolon, slash, star, sumSign, tailWord, terminalWord, thenWord, timeWord}
 use Rattle.language.specs.declared.refusals.Refusal.{Refusal}
 use Rattle.language.specs.declared.refusals.Refusal.the-variants.{BadCharacter, BadConstant, BadName}
-use Rattle.language.specs.Value.{Value, longest}
+use Rattle.language.specs.Value.{Value}
+use Rattle.language.specs.Ceilings.{bareLargest, longest, longestName}
 use Rattle.language.specs.Words.{Constant}
 
 -- The bytes of a quoted text.
@@ -80,10 +81,6 @@ reservedAmong (r ∷ rs) s = let other = reservedAmong rs s in cond (same s (r .
 
 abbrev pub reservedKind : List ℕ → ℕ
 reservedKind s = reservedAmong reservedWords s
-
--- A name has at most 132 letters and digits.
-unfoldable pub longestName : ℕ
-longestName = 132
 
 -- ---- What stands at the start of a text.
 
@@ -183,7 +180,7 @@ spelledSymbols =
     spell "[+]" exclusiveSign
     ∷ spell "(+)" sumSign
     ∷ spell "(-)" differenceSign
-    ∷ spell "(=)" equalsSign
+    ∷ spell "(=)" sameSign
     ∷ spell ">=" atLeastSign
     ∷ spell "<=" atMostSign
     ∷ spell "->" gotoSign

@@ -5,12 +5,13 @@ use mathlib.Core.Option.{Option, none, some}
 use Prim.Native.Nat.{ℕ, zero, suc, _+_, _-_}
 use lib.Dec.{eqb, leb, ltb}
 use lib.ListN.{getD, length, replicate, set}
+use Rattle.language.specs.Ceilings.{lastCycle, mostReturns}
 use Rattle.language.specs.Acting.{Doing, Ran, runActions, went}
-use Rattle.language.specs.Description.{Description, State, constantIn, facilityAt, nodeAt, sequencingOf, stateAt, wordLength}
+use Rattle.language.specs.Description.{Description, State, constantIn, constantNumber, facilityAt, nodeAt, sequencingOf, stateAt, wordLength}
 use Rattle.language.specs.Meaning.{Stuck, fitting, noState, noStateValue, sidesDiffer, tooLarge, wrongRecord}
 use Rattle.language.specs.declared.stops.Stop.{Stop}
 use Rattle.language.specs.declared.stops.Stop.the-variants.{LastCycleReached, NoNextState, NothingToReturn, TooManyCalls, TwoNextStates, ValueUnborne}
-use Rattle.language.specs.Store.{Held, Words, begin, conflicts, held, landAll, numbers, setWord, wordOf}
+use Rattle.language.specs.Store.{Held, StoreWords, begin, conflicts, held, landAll, numbers, setWord, wordOf}
 use Rattle.language.specs.Value.{Value, bit}
 use Rattle.language.specs.Tests.{both}
 
@@ -22,33 +23,23 @@ pub record Record : Type 0 where
   pub held : ℕ
   pub returns : List ℕ
 
-unfoldable pub mostReturns : ℕ
-mostReturns = 16
-
-unfoldable pub lastCycle : ℕ
-lastCycle = 4294967295
-
 -- A state entered: the words then, or nothing.
 pub data Entered : Type 0 where
-  into : Words → Entered
+  into : StoreWords → Entered
   stuck : Stuck → Entered
 
 -- What a cycle gives: the words and the record after it with the conflict count; a stop; or nothing.
 pub data Outcome : Type 0 where
-  completed : Words → Record → ℕ → Outcome
+  completed : StoreWords → Record → ℕ → Outcome
   stopped : Stop → Outcome
   stuck : Stuck → Outcome
 
 module _ (d : Description) where
   -- ---- State values.
 
-  abbrev pub numberIn : Option Value → Option ℕ
-  numberIn none = none
-  numberIn (some v) = some (v .number)
-
   abbrev pub numberOf : Option ℕ → Option ℕ
   numberOf none = none
-  numberOf (some n) = numberIn (constantIn (nodeAt d n))
+  numberOf (some n) = constantNumber (nodeAt d n)
 
   -- The number that a state bears: that of its value, which is a constant.
   unfoldable pub stateNumber : ℕ → Option ℕ
@@ -69,16 +60,16 @@ module _ (d : Description) where
   stateCount = length (d .states)
 
   -- The sequencing register's value in a store.
-  abbrev pub registerValue : Option ℕ → Words → ℕ
+  abbrev pub registerValue : Option ℕ → StoreWords → ℕ
   registerValue none s = 0
   registerValue (some f) s = wordOf s f 0
 
   -- The state whose value the sequencing register has.
-  abbrev pub sequencedState : Words → Option ℕ
+  abbrev pub sequencedState : StoreWords → Option ℕ
   sequencedState s = bearer stateCount 0 (registerValue (sequencingOf d) s)
 
   -- The sequencing register f takes a value of its own length.
-  abbrev pub taking : ℕ → Words → Option Value → Entered
+  abbrev pub taking : ℕ → StoreWords → Option Value → Entered
   taking f s none = stuck wrongRecord
   taking f s (some v) =
       cond (eqb (v .length) (wordLength (facilityAt d f)))
@@ -86,7 +77,7 @@ module _ (d : Description) where
       (stuck sidesDiffer)
 
   -- The sequencing register, if there is one, takes the value of the state entered.
-  abbrev pub setRegister : Option ℕ → Option ℕ → Words → Entered
+  abbrev pub setRegister : Option ℕ → Option ℕ → StoreWords → Entered
   setRegister none v s = into s
   setRegister (some f) none s = stuck noStateValue
   setRegister (some f) (some n) s = taking f s (constantIn (nodeAt d n))
@@ -98,7 +89,7 @@ module _ (d : Description) where
     abbrev pub plainCount : ℕ
     plainCount = length (c .gotos) + c .returns + bit (c .sequenced)
 
-    abbrev pub landed : Words
+    abbrev pub landed : StoreWords
     landed = landAll d (c .store .words) (c .store .waits)
 
     abbrev pub returnsLeft : ℕ
@@ -154,11 +145,11 @@ module _ (d : Description) where
   afterActions r (Ran.stopped n) = stopped n
   afterActions r (Ran.stuck s) = stuck s
 
-  abbrev pub nothingDone : Words → Doing Held
+  abbrev pub nothingDone : StoreWords → Doing Held
   nothingDone s = record { store = held s []; gotos = []; returns = 0; calls = []; sequenced = false }
 
   -- A cycle with these input words.
-  unfoldable pub step : Words → Record → Words → Outcome
+  unfoldable pub step : StoreWords → Record → StoreWords → Outcome
   step s r ins =
       let run = runActions (numbers d) d (stateAt d (r .state) .actions) (nothingDone (begin (d .facilities) s ins)) in
       let done = afterActions r run in

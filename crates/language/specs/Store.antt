@@ -12,13 +12,13 @@ use Rattle.language.specs.Value.{bit, replaced}
 use Rattle.language.specs.Tests.{both}
 
 -- A list of words for each facility; a computed terminal has none.
-abbrev pub Words : Type 0
-Words = List (List ℕ)
+abbrev pub StoreWords : Type 0
+StoreWords = List (List ℕ)
 
-unfoldable pub wordOf : Words → ℕ → ℕ → ℕ
+unfoldable pub wordOf : StoreWords → ℕ → ℕ → ℕ
 wordOf s f w = getD (getD s f []) w 0
 
-unfoldable pub setWord : Words → ℕ → ℕ → ℕ → Words
+unfoldable pub setWord : StoreWords → ℕ → ℕ → ℕ → StoreWords
 setWord s f w x = set s f (set (getD s f []) w x)
 
 module _ (d : Description) where
@@ -26,21 +26,21 @@ module _ (d : Description) where
   abbrev pub lowOf : Place → ℕ
   lowOf p = wordLength (facilityAt d (p .facility)) - (p .from + p .count)
 
-  unfoldable pub loadPart : Words → Place → ℕ
+  unfoldable pub loadPart : StoreWords → Place → ℕ
   loadPart s p = wordOf s (p .facility) (p .word) / 2 ^ lowOf p % 2 ^ p .count
 
-  unfoldable pub putPart : Words → Write → Words
+  unfoldable pub putPart : StoreWords → Write → StoreWords
   putPart s w =
       let p = w .at in
       setWord s (p .facility) (p .word) (replaced (wordOf s (p .facility) (p .word)) (lowOf p) (p .count) (w .number))
 
   -- ---- Delayed stores wait, each with its one or two writes, and land in order.
 
-  unfoldable pub putParts : Words → List Write → Words
+  unfoldable pub putParts : StoreWords → List Write → StoreWords
   putParts s [] = s
   putParts s (w ∷ ws) = putParts (putPart s w) ws
 
-  unfoldable pub landAll : Words → List (List Write) → Words
+  unfoldable pub landAll : StoreWords → List (List Write) → StoreWords
   landAll s [] = s
   landAll s (g ∷ gs) = landAll (putParts s g) gs
 
@@ -65,10 +65,10 @@ conflicts earlier (g ∷ gs) = bit (anyMeets g earlier) + conflicts (earlier ++ 
 
 -- The store that a cycle works on.
 pub record Held : Type 0 where
-  pub words : Words
+  pub words : StoreWords
   pub waits : List (List Write)
 
-abbrev pub held : Words → List (List Write) → Held
+abbrev pub held : StoreWords → List (List Write) → Held
 held s ws = record { words = s; waits = ws }
 
 abbrev pub numbers : Description → Stores Held
@@ -91,11 +91,11 @@ wordsTo l (x ∷ xs) = wordToBytes l x ++ wordsTo l xs
 abbrev pub facilityWords : Facility → List ℕ → List ℕ
 facilityWords f bs = cond (isComputed (f .kind)) [] (wordsFrom (wordCount f) (wordLength f) bs)
 
-unfoldable pub fromBytes : List Facility → List ℕ → Words
+unfoldable pub fromBytes : List Facility → List ℕ → StoreWords
 fromBytes [] bs = []
 fromBytes (f ∷ fs) bs = facilityWords f bs ∷ fromBytes fs (drop (facilityBytes f) bs)
 
-unfoldable pub toBytes : List Facility → Words → List ℕ
+unfoldable pub toBytes : List Facility → StoreWords → List ℕ
 toBytes [] s = []
 toBytes (f ∷ fs) [] = []
 toBytes (f ∷ fs) (ws ∷ s) = wordsTo (wordLength f) ws ++ toBytes fs s
@@ -105,13 +105,13 @@ unfoldable pub allNarrow : ℕ → List ℕ → Bool
 allNarrow l [] = true
 allNarrow l (x ∷ xs) = both (noSpareBits l x) (allNarrow l xs)
 
-unfoldable pub narrow : List Facility → Words → Bool
+unfoldable pub narrow : List Facility → StoreWords → Bool
 narrow [] s = true
 narrow (f ∷ fs) [] = true
 narrow (f ∷ fs) (ws ∷ s) = both (allNarrow (wordLength f) ws) (narrow fs s)
 
 -- Everything zero, memories too.
-unfoldable pub zeroWords : List Facility → Words
+unfoldable pub zeroWords : List Facility → StoreWords
 zeroWords [] = []
 zeroWords (f ∷ fs) = cond (isComputed (f .kind)) [] (replicate (wordCount f) 0) ∷ zeroWords fs
 
@@ -132,11 +132,11 @@ inputsOf (f ∷ fs) =
     cond (isInput (f .kind)) (f ∷ rest) rest
 
 -- The words of the first facility.
-abbrev pub headOf : Words → List ℕ
+abbrev pub headOf : StoreWords → List ℕ
 headOf [] = []
 headOf (ws ∷ s) = ws
 
-abbrev pub begun : Kind → Facility → List ℕ → Words → List ℕ
+abbrev pub begun : Kind → Facility → List ℕ → StoreWords → List ℕ
 begun register f ws ins = ws
 begun sequencing f ws ins = ws
 begun memory f ws ins = ws
@@ -145,6 +145,6 @@ begun input f ws ins = headOf ins
 begun computed f ws ins = ws
 
 -- A cycle begins: inputs are set, plain terminals cleared.
-unfoldable pub begin : List Facility → Words → Words → Words
+unfoldable pub begin : List Facility → StoreWords → StoreWords → StoreWords
 begin [] s ins = []
 begin (f ∷ fs) s ins = begun (f .kind) f (headOf s) ins ∷ begin fs (drop 1 s) (cond (isInput (f .kind)) (drop 1 ins) ins)

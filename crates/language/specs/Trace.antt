@@ -18,7 +18,7 @@ use Rattle.language.specs.declared.refusals.Refusal.the-variants.{BadSti
 use Rattle.language.specs.Scan.{bytes}
 use Rattle.language.specs.Stops.{stopNumber}
 use Rattle.language.specs.declared.stops.Stop.{Stop}
-use Rattle.language.specs.Store.{Words, fromBytes, inputsOf, toBytes}
+use Rattle.language.specs.Store.{StoreWords, fromBytes, inputsOf, toBytes}
 use Rattle.language.specs.Tree.{Name}
 use Rattle.language.specs.Words.{faultNumber}
 
@@ -44,9 +44,9 @@ lineEnd = 10 ∷ []
 
 -- ---- A line of output: cycle, label, and all stored facilities of at most one dimension.
 
-abbrev pub labelOf : Name → List ℕ
-labelOf [] = bytes "-"
-labelOf (b ∷ n) = b ∷ n
+abbrev pub printedLabel : Name → List ℕ
+printedLabel [] = bytes "-"
+printedLabel (b ∷ n) = b ∷ n
 
 abbrev pub firstWord : List ℕ → ℕ
 firstWord [] = 0
@@ -55,7 +55,7 @@ firstWord (x ∷ xs) = x
 abbrev pub shown : Facility → Bool
 shown f = cond (isComputed (f .kind)) false (leb (f .dimensions) 1)
 
-unfoldable pub facilitiesLine : List Facility → Words → List ℕ
+unfoldable pub facilitiesLine : List Facility → StoreWords → List ℕ
 facilitiesLine [] s = []
 facilitiesLine (f ∷ fs) [] = []
 facilitiesLine (f ∷ fs) (ws ∷ s) =
@@ -65,7 +65,7 @@ facilitiesLine (f ∷ fs) (ws ∷ s) =
 
 unfoldable pub cycleLine : Description → ℕ → ℕ → List ℕ → List ℕ
 cycleLine d number state store =
-    decimal number ++ (bytes " " ++ (labelOf (stateAt d state .name) ++ (facilitiesLine (d .facilities) (fromBytes (d .facilities) store) ++ lineEnd)))
+    decimal number ++ (bytes " " ++ (printedLabel (stateAt d state .name) ++ (facilitiesLine (d .facilities) (fromBytes (d .facilities) store) ++ lineEnd)))
 
 -- ---- A line of input: the bits of all input terminals in declared order, nothing between or after them.
 
@@ -77,12 +77,12 @@ bitsNumber (suc k) x (b ∷ bs) =
     let oneBit = bitsNumber k (x * 2 + 1) bs in
     cond (eqb b 48) zeroBit (cond (eqb b 49) oneBit none)
 
-abbrev pub consWord : Option ℕ → Option Words → Option Words
+abbrev pub consWord : Option ℕ → Option StoreWords → Option StoreWords
 consWord none s = none
 consWord (some x) none = none
 consWord (some x) (some s) = some ((x ∷ []) ∷ s)
 
-unfoldable pub lineWords : List Facility → List ℕ → Option Words
+unfoldable pub lineWords : List Facility → List ℕ → Option StoreWords
 lineWords [] [] = some []
 lineWords [] (b ∷ bs) = none
 lineWords (f ∷ fs) bs = consWord (bitsNumber (wordLength f) 0 bs) (lineWords fs (drop (wordLength f) bs))
@@ -107,7 +107,7 @@ module _ (image : List ℕ) (d : Description) where
       byAnswer (stoppedFor n) = stopLine n
       byAnswer (refusedFor n) = refusedLine n
 
-  abbrev pub withInput : Option Words → (List ℕ → List ℕ) → List ℕ
+  abbrev pub withInput : Option StoreWords → (List ℕ → List ℕ) → List ℕ
   withInput none on = refusedLine BadStimulus
   withInput (some s) on = on (toBytes (inputsOf (d .facilities)) s)
 

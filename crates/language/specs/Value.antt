@@ -7,6 +7,7 @@ use lib.Bits.{bitAnd, bitOr, bitXor}
 use lib.Count.{ones}
 use lib.Dec.{eqb, leb, ltb}
 use lib.ListN.{length}
+use Rattle.language.specs.Ceilings.{longest}
 
 pub record Value : Type 0 where
   pub length : ℕ
@@ -19,10 +20,6 @@ value l n = record { length = l; number = n }
 pub data Made : Type 0 where
   made : Value → Made
   none : Made
-
--- A value is up to 256 bits long (01, "Lengths").
-unfoldable pub longest : ℕ
-longest = 256
 
 -- The low `l` bits of n as a value of l bits.
 unfoldable pub fit : ℕ → ℕ → Made

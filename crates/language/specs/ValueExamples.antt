@@ -2,7 +2,8 @@
 use mathlib.Core.Bool.{true, false}
 use mathlib.Core.List.{[], _∷_}
 use mathlib.Core.Path.{_≡_, refl}
-use Rattle.language.specs.Value.{value, made, none, fit, longest, sum, sumLength, difference, differenceLength, differenceNumber, negation, negationLength, equal, unequal, greater, atLeast, related, relationLength, complement, complementLength, complementNumber, conjunction, exclusive, disjunction, logicalLength, join, joinLength, extended, repeatLength, repeated, head, tail, cutLength, orReduction, andReduction, exclusiveReduction, sumReduction, reductionLength, countLength, part, replaced}
+use Rattle.language.specs.Value.{value, made, none, fit, sum, sumLength, difference, differenceLength, differenceNumber, negation, negationLength, equal, unequal, greater, atLeast, related, relationLength, complement, complementLength, complementNumber, conjunction, exclusive, disjunction, logicalLength, join, joinLength, extended, repeatLength, repeated, head, tail, cutLength, orReduction, andReduction, exclusiveReduction, sumReduction, reductionLength, countLength, part, replaced}
+use Rattle.language.specs.Ceilings.{longest}
 use Rattle.language.specs.Constants.{binaryConstant, decimalConstant, bareConstant, bareLength, digitsAfter, rightJustified, leftJustified}
 use lib.Count.{ones, onesIn}
 

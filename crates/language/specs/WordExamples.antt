@@ -5,18 +5,19 @@ use mathlib.Core.Option.{none, some}
 use mathlib.Core.Path.{_≡_, refl}
 use lib.ListN.{replicate}
 use Rattle.language.specs.Characters.{classOf, digitWorth, folded, member, symbols}
-use Rattle.language.specs.Constants.{bareConstant, bareLargest, bareLength, binaryConstant, decimalConstant, digitsAfter, leftJustified, rightJustified}
+use Rattle.language.specs.Constants.{bareConstant, bareLength, binaryConstant, decimalConstant, digitsAfter, leftJustified, rightJustified}
 use Rattle.language.specs.Kinds.{delayedSign, registerWord, sumSign}
-use Rattle.language.specs.Lines.{longLines, longestLine, passes, widthAfter}
+use Rattle.language.specs.Columns.{longLines, tooWideAfter, widthAfter}
+use Rattle.language.specs.Ceilings.{bareLargest, longest, longestLine, longestName}
 use Rattle.language.specs.declared.refusals.Refusal.the-variants.{BadCharacter, BadConstant, BadName}
-use Rattle.language.specs.Scan.{bareAt, binaryAt, bytes, commentAt, constantAt, decimalAt, digitBits, digitsOf, itemAt, longestName, nameAt, reservedAmong, reservedWords, same, span, spelledSymbols, symbolAmong, written}
-use Rattle.language.specs.Value.{longest, value}
+use Rattle.language.specs.Scan.{bareAt, binaryAt, bytes, commentAt, constantAt, decimalAt, digitBits, digitsOf, itemAt, nameAt, reservedAmong, reservedWords, same, span, spelledSymbols, symbolAmong, written}
+use Rattle.language.specs.Value.{value}
 use Rattle.language.specs.WordStage.{before, least, scan, scanFrom, wordFault, wordFaults}
 use Rattle.language.specs.Words.{constant, fault, name, position, sign}
 
 -- What the examples see through.
 unfoldable pub words-open : Unit {0}
-unfolding bytes classOf digitWorth folded member symbols bareConstant bareLargest bareLength binaryConstant decimalConstant digitsAfter leftJustified rightJustified longLines longestLine passes widthAfter bareAt binaryAt commentAt constantAt decimalAt digitBits digitsOf itemAt longestName nameAt reservedAmong reservedWords same span spelledSymbols symbolAmong longest before least scan scanFrom wordFault wordFaults
+unfolding bytes classOf digitWorth folded member symbols bareConstant bareLargest bareLength binaryConstant decimalConstant digitsAfter leftJustified rightJustified longLines longestLine tooWideAfter widthAfter bareAt binaryAt commentAt constantAt decimalAt digitBits digitsOf itemAt longestName nameAt reservedAmong reservedWords same span spelledSymbols symbolAmong longest before least scan scanFrom wordFault wordFaults
 words-open = tt
 
 -- `A<-B` always has the word `<-`, and letters match without regard to case.
@@ -62,7 +63,7 @@ not-allowed : wordFault (bytes "A \"!\"\n!") ≡ some (fault (position 6) BadCha
 unfolding words-open
 not-allowed = refl
 
--- A tab at column 129 passes column 132, one at column 128 does not.
+-- A tab at column 129 tooWideAfter column 132, one at column 128 does not.
 tab-129 : longLines 128 7 (9 ∷ []) ≡ fault (position 7) BadCharacter ∷ []
 unfolding words-open
 tab-129 = refl

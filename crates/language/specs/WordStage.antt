@@ -5,7 +5,7 @@ use mathlib.Core.Option.{Option, none, some}
 use Prim.Native.Nat.{ℕ, zero, suc, _+_}
 use lib.Dec.{eqb, ltb}
 use lib.ListN.{drop, length}
-use Rattle.language.specs.Lines.{longLines}
+use Rattle.language.specs.Columns.{longLines}
 use Rattle.language.specs.Scan.{Item, constant, gap, itemAt, named, sign, wrong}
 use Rattle.language.specs.Words as W
 use Rattle.language.specs.Words.{Fault, Position, Word, fault, faultNumber, position}

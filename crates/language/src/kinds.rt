@@ -49,7 +49,7 @@ pub const SUM: u8 = 22;
 
 pub const DIFFERENCE: u8 = 23;
 
-pub const EQUALS: u8 = 24;
+pub const SAME: u8 = 24;
 
 pub const AT_LEAST: u8 = 25;
 

@@ -16,7 +16,7 @@ use Rattle.language.specs.Describe.{act, actionsIn, actionsOf, armsIn, expressi
 use Rattle.language.specs.Description as D
 use Rattle.language.specs.Machine.{Counts, ask, closes, make, withinCeilings, word}
 use Rattle.language.specs.Naming.{Scope}
-use Rattle.language.specs.Steps.{Step}
+use Rattle.language.specs.BuildSteps.{Step}
 use Rattle.language.specs.Tree as T
 use Rattle.language.specs.Tree.{Actions, Expression}
 use Rattle.language.specs.Words as L

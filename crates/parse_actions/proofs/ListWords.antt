@@ -14,7 +14,7 @@ use Rattle.language.specs.Building.{Built, keepWord}
 use Rattle.language.specs.Declaring.{treeSteps}
 use Rattle.language.specs.Kinds.{aName, callSign, caseWord, comma, doWord, elseWord, endIfWord, gotoSign, ifWord, returnWord, thenWord}
 use Rattle.language.specs.Machine.{Counts, Parsed, ask, choose, closes, expression, feed, finish, level, make, refused, run, tallied, word}
-use Rattle.language.specs.Sections.{ruleOf}
+use Rattle.language.specs.SectionWays.{ruleOf}
 use Rattle.language.specs.Words as L
 use Rattle.language.specs.Words.{fault}
 use Rattle.parse_operands.proofs.TermWords.{countsAfter}

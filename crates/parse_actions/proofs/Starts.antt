@@ -9,7 +9,7 @@ use Rattle.language.specs.Building.{Built, wordNo}
 use Rattle.language.specs.Declaring.{treeSteps}
 use Rattle.language.specs.Kinds.{colon, openParen}
 use Rattle.language.specs.Machine.{Counts, Parsed, ask, choose, feed, finish, firstName, run, stateName}
-use Rattle.language.specs.Sections.{ruleOf}
+use Rattle.language.specs.SectionWays.{ruleOf}
 use Rattle.language.specs.Words as L
 use Rattle.text_words.specs.declared.Word.{Word}
 use Rattle.text_words.specs.Meaning.{positioned}

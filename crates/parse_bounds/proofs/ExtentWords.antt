@@ -15,7 +15,7 @@ use Rattle.language.specs.Building.{Built}
 use Rattle.language.specs.Declaring.{makeNoDimension, makePlain, makeRow, makeTable}
 use Rattle.language.specs.Kinds.{aConstant, closeBracket, comma, openBracket}
 use Rattle.language.specs.Machine.{ask, choose, dimensions, feed, finish, keep, make, rangeRest, refused, run, tallied, terminalFunction}
-use Rattle.language.specs.Sections.{ruleOf}
+use Rattle.language.specs.SectionWays.{ruleOf}
 use Rattle.language.specs.Tree as T
 use Rattle.language.specs.Words.{fault}
 use Rattle.text_words.specs.declared.Word.{Word}

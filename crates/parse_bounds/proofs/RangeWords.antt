@@ -16,7 +16,7 @@ use Rattle.language.specs.Building.{Built}
 use Rattle.language.specs.Declaring.{makeBoth, makeLast}
 use Rattle.language.specs.Kinds.{aConstant, colon}
 use Rattle.language.specs.Machine.{ask, choose, feed, keep, make, rangeRest, run, tallied}
-use Rattle.language.specs.Sections.{ruleOf}
+use Rattle.language.specs.SectionWays.{ruleOf}
 use Rattle.language.specs.Words as L
 use Rattle.text_words.specs.declared.Word.{Word}
 use Rattle.text_words.specs.Meaning.{positioned}

@@ -17,7 +17,7 @@ use Rattle.parse_bounds.specs.Telling.{same}
 use Rattle.language.specs.Building.{Built}
 use Rattle.language.specs.Kinds.{comma, endWord, period}
 use Rattle.language.specs.Machine.{ask, choose, feed, finish, refused, run, tallied}
-use Rattle.language.specs.Sections.{ruleOf}
+use Rattle.language.specs.SectionWays.{ruleOf}
 use Rattle.language.specs.Words.{fault}
 use Rattle.text_words.specs.declared.Word.{Word}
 use Rattle.text_words.specs.Meaning.{positioned}

@@ -9,7 +9,7 @@ use lib.Seq.{length-take-le, take-take}
 use Rattle.parse_step.specs.declared.State.{State}
 use Rattle.parse_step.specs.declared.ReadVerdict.the-variants.{Done}
 use Rattle.language.specs.Describe.{Noted}
-use Rattle.language.specs.DescribeText.{facilitiesOf, facilityNodes, facilityOf, facilitySize}
+use Rattle.language.specs.DescribeText.{facilitiesOf, facilityDeclared, facilityNodes, functionSizes}
 use Rattle.language.specs.Encode.{facilityRecords, nodeSize}
 use Rattle.language.specs.Layout.{facilityBytes, storeSizeOf}
 use Rattle.language.specs.Tree.{Declaration, Name}
@@ -48,7 +48,7 @@ front-held n w w′ l h e ns g = same-held (first ∙ ap (λ (x : Held). x .node
 mod-first : (m n : ℕ) → (m % 65536 + n) % 65536 ≡ (m + n) % 65536
 mod-first m n = omega arith
 
-module _ (text : List ℕ) (ds : List Declaration) (d : Declaration) (place : ℕ) (s : State) (x : Declared) (w w′ : List ℕ) (a : Awaiting text ds d place s w) (y : Says text (facilitySize ds) d x)
+module _ (text : List ℕ) (ds : List Declaration) (d : Declaration) (place : ℕ) (s : State) (x : Declared) (w w′ : List ℕ) (a : Awaiting text ds d place s w) (y : Says text (functionSizes ds) d x)
     (f : FacilityAdded (s .known) place x w w′) where
   n+1 : suc (s .known) ≡ s .known + 1
   n+1 = omega arith
@@ -57,12 +57,12 @@ module _ (text : List ℕ) (ds : List Declaration) (d : Declaration) (place : �
   records =
       ap (λ (n : ℕ). rows T.Facilities n w′) n+1 ∙ f .records (d .name) (storeSizeOf (facilitiesOf 0 ds)) (y .length) (a .tabled .store)
       ∙ rw (← y .facility, a .tabled .records)
-      (sym (ap (facilityRecords 0) (facilities-last 0 ds d) ∙ records-last 0 (facilitiesOf 0 ds) (facilityOf (0 + facilitySize ds) d)
-      ∙ rw (zero-add (facilitySize ds), zero-add (storeSizeOf (facilitiesOf 0 ds)))))
+      (sym (ap (facilityRecords 0) (facilities-last 0 ds d) ∙ records-last 0 (facilitiesOf 0 ds) (facilityDeclared (0 + functionSizes ds) d)
+      ∙ rw (zero-add (functionSizes ds), zero-add (storeSizeOf (facilitiesOf 0 ds)))))
 
   places : rows T.FacilityPlaces (suc (s .known)) w′ ≡ besides 0 (ds ++ d ∷ [])
   places =
-      ap (λ (n : ℕ). rows T.FacilityPlaces n w′) n+1 ∙ f .places (d .name) ∙ rw (← y .facility, ← y .places, a .tabled .places) (sym (besides-last 0 ds d ∙ rw (zero-add (facilitySize ds))))
+      ap (λ (n : ℕ). rows T.FacilityPlaces n w′) n+1 ∙ f .places (d .name) ∙ rw (← y .facility, ← y .places, a .tabled .places) (sym (besides-last 0 ds d ∙ rw (zero-add (functionSizes ds))))
 
   row-length : length (rows T.FacilityNames (s .known) w) ≡ 4 * s .known
   unfolding rows
@@ -79,7 +79,7 @@ module _ (text : List ℕ) (ds : List Declaration) (d : Declaration) (place : �
   after : {p : ℕ} → ((name : Name) → p ≡ (place + facilityBytes (facilitySaid name x)) % 65536) → p ≡ storeSizeOf (facilitiesOf 0 (ds ++ d ∷ [])) % 65536
   after {p} g =
       let e : storeSizeOf (facilitiesOf 0 (ds ++ d ∷ [])) ≡ storeSizeOf (facilitiesOf 0 ds) + facilityBytes (facilitySaid (d .name) x) =
-      ap storeSizeOf (facilities-last 0 ds d) ∙ store-last (facilitiesOf 0 ds) (facilityOf (0 + facilitySize ds) d) ∙ rw (zero-add (facilitySize ds), y .facility) in
+      ap storeSizeOf (facilities-last 0 ds d) ∙ store-last (facilitiesOf 0 ds) (facilityDeclared (0 + functionSizes ds) d) ∙ rw (zero-add (functionSizes ds), y .facility) in
       g (d .name) ∙ rw (e, a .tabled .store) (mod-first (storeSizeOf (facilitiesOf 0 ds)) (facilityBytes (facilitySaid (d .name) x)))
 
   listed : {p : ℕ} → ((name : Name) → p ≡ (place + facilityBytes (facilitySaid name x)) % 65536) → Listed text (ds ++ d ∷ []) p (knownState s) w′
@@ -94,7 +94,7 @@ module _ (text : List ℕ) (ds : List Declaration) (d : Declaration) (place : �
   }
 
 pub added : {next : Word} {s s′ : State} {place after : ℕ} {x : Declared} {w w′ : List ℕ} → (s .known < 256 → FacilityAdded (s .known) place x w w′) → (s .known < 256 → s′ ≡ knownState s)
-    → ((name : Name) → after ≡ (place + facilityBytes (facilitySaid name x)) % 65536) → (text : List ℕ) (ds : List Declaration) (d : Declaration) → Awaiting text ds d place s w → Says text (facilitySize ds) d x
+    → ((name : Name) → after ≡ (place + facilityBytes (facilitySaid name x)) % 65536) → (text : List ℕ) (ds : List Declaration) (d : Declaration) → Awaiting text ds d place s w → Says text (functionSizes ds) d x
     → Added text (ds ++ d ∷ []) next s w′ (record { answer = record { verdict = Done; next = next; state = s′ }; place = after })
 added {next} {s} {s′} {place} {after} {x} {w} {w′} f e g text ds d a y = record {
   verdict = refl;

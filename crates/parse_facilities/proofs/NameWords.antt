@@ -19,8 +19,9 @@ use Rattle.image_sections.specs.declared.facilities.FacilityKind.{FacilityKind}
 use Rattle.image_sections.specs.declared.facilities.FacilityKind.the-variants as F
 use Rattle.language.specs.Building.{Built, keepWord}
 use Rattle.language.specs.Kinds.{aName, hash}
-use Rattle.language.specs.Machine.{Counts, ask, choose, deepest, feed, finish, mostCounted, mostFacilities, mostOperations, mostStates, refused, run, tallied, withinCeilings}
-use Rattle.language.specs.Sections.{ruleOf}
+use Rattle.language.specs.Machine.{Counts, ask, choose, feed, finish, refused, run, tallied, withinCeilings}
+use Rattle.language.specs.Ceilings.{deepest, mostCounted, mostFacilities, mostOperations, mostStates}
+use Rattle.language.specs.SectionWays.{ruleOf}
 use Rattle.language.specs.Words.{fault}
 use Rattle.text_words.specs.declared.Word.{Word}
 use Rattle.text_words.specs.Meaning.{positioned}

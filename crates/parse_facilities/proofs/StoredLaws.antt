@@ -21,11 +21,11 @@ use Rattle.image_sections.specs.declared.facilities.FacilityKind.{FacilityKind}
 use Rattle.image_sections.specs.declared.facilities.FacilityKind.the-variants as F
 use Rattle.language.specs.Building.{Built, keepWord, withText, wordNo}
 use Rattle.language.specs.Declaring.{makeMemory, makeRegister, makeSequencing}
-use Rattle.language.specs.DescribeText.{facilitySize}
+use Rattle.language.specs.DescribeText.{functionSizes}
 use Rattle.language.specs.Description.{nowhere}
 use Rattle.language.specs.Kinds.{hash}
 use Rattle.language.specs.Machine.{ask, choose, feed, registerSpec, run, sequencingSpec, tallied, withinCeilings}
-use Rattle.language.specs.Sections.{ruleOf}
+use Rattle.language.specs.SectionWays.{ruleOf}
 use Rattle.language.specs.Tree as T
 use Rattle.language.specs.Tree.{Declaration, Extent}
 use Rattle.text_words.specs.declared.Position as P
@@ -105,7 +105,7 @@ module _ {text : List ℕ} {w : Word} {s : State} {place : ℕ} {k : FacilityKin
 
         v : Added text (ds ++ d ∷ []) (m .answer .next) (m .answer .state) work′ r
         v = f text ds d (subst (λ (j : State). Awaiting text ds d place j work) (sym counted) (bare-awaits text k w (z .tree) T.unspecified tt ds place s work (st .listed) (y .room)))
-            (bare-said text k w (z .tree) T.unspecified tt (facilitySize ds) (st .seen) (st .short) (z .extent) o)
+            (bare-said text k w (z .tree) T.unspecified tt (functionSizes ds) (st .seen) (st .short) (z .extent) o)
 
         known : r .answer .state ≡ knownState (moreState s)
         known = v .state ∙ ap knownState counted

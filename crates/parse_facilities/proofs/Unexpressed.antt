@@ -11,7 +11,7 @@ use Rattle.parse_bounds.specs.Extents.{Sized, bitsLeft, bitsRight, wordsLeft, w
 use Rattle.image_sections.specs.declared.facilities.FacilityKind.{FacilityKind}
 use Rattle.language.specs.Characters.{folded}
 use Rattle.language.specs.Describe.{Noted}
-use Rattle.language.specs.DescribeText.{equalsPlace, facilityNodes, facilitySize, functionNodes, functionNumber, functionSize, placesOf}
+use Rattle.language.specs.DescribeText.{equalsPlace, facilityNodes, functionNodes, functionNumber, functionSize, functionSizes, placesOf}
 use Rattle.language.specs.Description.{nowhere}
 use Rattle.language.specs.Naming.{Scope}
 use Rattle.language.specs.Tree as T
@@ -84,8 +84,8 @@ module _ (text : List ℕ) (k : FacilityKind) (w : Word) (x : Extent) (f : Funct
   pub bare-said : (base : ℕ) {e : C.Extent} {p : P.Position} → Seen text w → length text < 65536 → Sized x e → positioned p ≡ nowhere → Says text base (declarationOf text k w x f) (saidOf k w e 0 p)
   bare-said base z l g q = said text k w x f base z l g (bare-number base f h) (bare-place f h ∙ sym q)
 
-  none-more : (ds : List Declaration) → facilityNodes [] 0 ds ++ functionNodes (scopeOf (namesOf ds)) (0 + facilitySize ds) f ≡ facilityNodes [] 0 ds
-  none-more ds = ap (λ (l : List Noted). facilityNodes [] 0 ds ++ l) (bare-nodes f h (scopeOf (namesOf ds)) (0 + facilitySize ds)) ∙ append-nil (facilityNodes [] 0 ds)
+  none-more : (ds : List Declaration) → facilityNodes [] 0 ds ++ functionNodes (scopeOf (namesOf ds)) (0 + functionSizes ds) f ≡ facilityNodes [] 0 ds
+  none-more ds = ap (λ (l : List Noted). facilityNodes [] 0 ds ++ l) (bare-nodes f h (scopeOf (namesOf ds)) (0 + functionSizes ds)) ∙ append-nil (facilityNodes [] 0 ds)
 
   expressed-more : (ds : List Declaration) (n : ℕ) (work : List ℕ) → Expressed ds n work → Expressed (ds ++ declarationOf text k w x f ∷ []) n work
   expressed-more ds n work e = record {

@@ -5,7 +5,7 @@ use Prim.Native.Nat.{ℕ, suc, _+_, _%_, _<_, _≤_}
 use lib.ListN.{length}
 use Rattle.parse_step.specs.declared.State.{State}
 use Rattle.parse_step.specs.declared.ReadVerdict.the-variants.{Done}
-use Rattle.language.specs.DescribeText.{facilitiesOf, facilityNodes, facilityOf, facilitySize, functionSize, placesOf}
+use Rattle.language.specs.DescribeText.{facilitiesOf, facilityDeclared, facilityNodes, functionSize, functionSizes, placesOf}
 use Rattle.language.specs.Encode.{facilityRecords}
 use Rattle.language.specs.Layout.{storeSizeOf}
 use Rattle.language.specs.Tree.{Declaration}
@@ -24,7 +24,7 @@ use Rattle.parse_facilities.specs.declared.Progress.{Progress}
 -- The bytes of their places.
 unfoldable pub besides : ℕ → List Declaration → List ℕ
 besides base [] = []
-besides base (d ∷ ds) = facilityBesideBytes (facilityOf base d) (placesOf (d .at) (d .function) (d .extent)) ++ besides (base + functionSize (d .function)) ds
+besides base (d ∷ ds) = facilityBesideBytes (facilityDeclared base d) (placesOf (d .at) (d .function) (d .extent)) ++ besides (base + functionSize (d .function)) ds
 
 -- No expression yet.
 abbrev pub noneHeld : List ℕ → Held
@@ -40,7 +40,7 @@ pub record Tabled (text : List ℕ) (ds : List Declaration) (place n : ℕ) (wor
 
 -- The expressions hold those of ds.
 pub record Expressed (ds : List Declaration) (n : ℕ) (work : List ℕ) : Type 0 where
-  pub nodes : n ≡ facilitySize ds
+  pub nodes : n ≡ functionSizes ds
   pub few : n ≤ mostNodes
   pub records : held n work ≡ withNodes (noneHeld (otherIn work)) (facilityNodes [] 0 ds)
 
@@ -58,7 +58,7 @@ pub record Awaiting (text : List ℕ) (ds : List Declaration) (d : Declaration) 
 
 -- The code's declaration says what d does; the number of d's first expression record is `base`.
 pub record Says (text : List ℕ) (base : ℕ) (d : Declaration) (x : Declared) : Type 0 where
-  pub facility : facilityOf base d ≡ facilitySaid (d .name) x
+  pub facility : facilityDeclared base d ≡ facilitySaid (d .name) x
   pub places : placesOf (d .at) (d .function) (d .extent) ≡ placesSaid x
   pub name : d .name ≡ letters text (x .at .place) (x .size)
   pub length : length (d .name) ≡ x .size
@@ -78,5 +78,5 @@ pub record Added (text : List ℕ) (ds : List Declaration) (next : Word) (s : St
 
 abbrev pub Adds : Word → State → ℕ → Declared → List ℕ → List ℕ → Progress → Type 0
 Adds next s place x work work′ r =
-    (text : List ℕ) (ds : List Declaration) (d : Declaration) → Awaiting text ds d place s work → Says text (facilitySize ds) d x
+    (text : List ℕ) (ds : List Declaration) (d : Declaration) → Awaiting text ds d place s work → Says text (functionSizes ds) d x
     → Added text (ds ++ d ∷ []) next s work′ r

@@ -11,16 +11,17 @@ use lib.ListN.{getD, length}
 use Rattle.image_sections.proofs.DeclarationBack.{ValueFits}
 use Rattle.language.specs.Canonical.{isCapital, nameParts, nameRight}
 use Rattle.language.specs.Describe.{actionsIn, bound, constantSize}
-use Rattle.language.specs.DescribeText.{bitBounds, dimensionsOf, equalsPlace, facilitiesOf, facilitySize, functionNumber, functionSize, labelOf, operationRecords, operationsOf, placesOf, stateConstant, stateSize, statesOf, valueNumber, valuePlace, valueSize, wordBounds}
+use Rattle.language.specs.DescribeText.{bitBounds, dimensionsOf, equalsPlace, expressionsOfState, facilitiesOf, functionNumber, functionSize, functionSizes, labelOf, operationRecords, operationsOf, placesOf, stateConstant, statesOf, valueNumber, valuePlace, valueSize, wordBounds}
 use Rattle.language.specs.Description as D
 use Rattle.language.specs.Description.{Facility, isComputed}
 use Rattle.language.specs.Image.{ConstantRight}
-use Rattle.language.specs.Scan.{longestName, reservedKind}
+use Rattle.language.specs.Scan.{reservedKind}
+use Rattle.language.specs.Ceilings.{longest, longestName}
 use Rattle.language.specs.Tree as T
 use Rattle.language.specs.Tree.{Declaration, Extent, Function, Kind, Label, Name, Operation, State, StateValue}
-use Rattle.language.specs.Value.{Value, longest, value}
+use Rattle.language.specs.Value.{Value, value}
 use Rattle.language.specs.Words.{Constant, Position}
-use Rattle.about_rules.specs.InOrder.{stateExpressions}
+use Rattle.about_rules.specs.InOrder.{expressionsOfState}
 use Rattle.about_rules.specs.Runs.{stateRecords}
 use Rattle.about_rules.specs.Tidy.{DeclarationsTidy, FunctionTidy, LabelTidy, OperationsTidy, StatesTidy, Suits}
 use Rattle.image_records.proofs.NodeBack.{Half}
@@ -105,8 +106,8 @@ no-number base T.plain x (T.given p g) h e = absurd h
 no-number base T.input x (T.given p g) h e = absurd h
 no-number base T.computed x (T.given p g) h e = absurd (true≢false e)
 
-pub facilities-fit : (base : ℕ) (ds : List Declaration) → Each DeclarationFits ds → base + facilitySize ds ≤ 65535 → Each FacilityFit (facilitiesOf base ds)
-unfolding facilitiesOf facilitySize
+pub facilities-fit : (base : ℕ) (ds : List Declaration) → Each DeclarationFits ds → base + functionSizes ds ≤ 65535 → Each FacilityFit (facilitiesOf base ds)
+unfolding facilitiesOf functionSizes
 facilities-fit base [] f h = tt
 facilities-fit base (d ∷ ds) f h =
     let g = f .0 in
@@ -171,12 +172,12 @@ unfolding constantSize
 value-fits base l none h = tt
 value-fits base l (some v) h = omega arith
 
-pub states-fit : (l : Option ℕ) (base a : ℕ) (ss : List State) → StatesTidy ss → base + stateExpressions l ss ≤ 65535 → a + stateRecords ss ≤ 65535 → Each StateInRange (statesOf l base a ss)
-unfolding statesOf stateExpressions stateRecords
+pub states-fit : (l : Option ℕ) (base a : ℕ) (ss : List State) → StatesTidy ss → base + expressionsOfState l ss ≤ 65535 → a + stateRecords ss ≤ 65535 → Each StateInRange (statesOf l base a ss)
+unfolding statesOf expressionsOfState stateRecords
 states-fit l base a [] t h g = tt
 states-fit l base a (s ∷ ss) t h g = (
   record { name = omega (arith, label-short (s .label) (s .value) (t .0 .0)); value = value-fits base l (s .value) (omega arith); first = omega arith; count = omega arith },
-  states-fit l (base + stateSize l s) (a + actionsIn (s .actions)) ss (t .1) (omega arith) (omega arith),
+  states-fit l (base + expressionsOfState l s) (a + actionsIn (s .actions)) ss (t .1) (omega arith) (omega arith),
 )
 
 value-near : (v : Option StateValue) → ValueNear v → Near (valuePlace v)
@@ -190,7 +191,7 @@ state-places text (s ∷ ss) n = ((n .0 .0, value-near (s .value) (n .0 .1 .0)),
 pub state-names : (l : Option ℕ) (base a : ℕ) (ss : List State) → StatesTidy ss → Each (λ (s : D.State). length (s .name) ≤ 132) (statesOf l base a ss)
 unfolding statesOf
 state-names l base a [] t = tt
-state-names l base a (s ∷ ss) t = (label-short (s .label) (s .value) (t .0 .0), state-names l (base + stateSize l s) (a + actionsIn (s .actions)) ss (t .1))
+state-names l base a (s ∷ ss) t = (label-short (s .label) (s .value) (t .0 .0), state-names l (base + expressionsOfState l s) (a + actionsIn (s .actions)) ss (t .1))
 
 -- A state's value where the sequencing register has a length that values have.
 abbrev pub LengthFits : Option ℕ → Type 0

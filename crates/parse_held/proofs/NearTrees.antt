@@ -11,7 +11,7 @@ use lib.ListN.{drop, length, length-drop}
 use lib.Seq.{drop-drop}
 use Rattle.language.specs.Grammar as G
 use Rattle.language.specs.Grammar.{Is}
-use Rattle.language.specs.Kinds.{atLeastSign, atMostSign, delayedSign, differenceSign, equalSign, equalsSign, exclusiveSign, extWord, greaterSign, hash, headWord, lessSign, plus, slash, star, sumSign, tailWord}
+use Rattle.language.specs.Kinds.{atLeastSign, atMostSign, delayedSign, differenceSign, equalSign, exclusiveSign, extWord, greaterSign, hash, headWord, lessSign, plus, sameSign, slash, star, sumSign, tailWord}
 use Rattle.language.specs.Notions as N
 use Rattle.language.specs.Notions.{Notion, Tree, firstPlace, isStore}
 use Rattle.language.specs.Scan as S
@@ -36,7 +36,7 @@ kind k a h e = omega (arith, eqb-true k a e)
 
 relation-kind : (k : ℕ) → isRelation k ≡ true → k < 64
 relation-kind k =
-    either _ _ (either _ _ (either _ _ (either _ _ (either _ _ (kind k equalsSign (omega arith)) (kind k hash (omega arith))) (kind k lessSign (omega arith))) (kind k greaterSign (omega arith))) (kind k atMostSign (omega arith))) (kind k atLeastSign (omega arith))
+    either _ _ (either _ _ (either _ _ (either _ _ (either _ _ (kind k sameSign (omega arith)) (kind k hash (omega arith))) (kind k lessSign (omega arith))) (kind k greaterSign (omega arith))) (kind k atMostSign (omega arith))) (kind k atLeastSign (omega arith))
 
 arithmetic-kind : (k : ℕ) → isArithmetic k ≡ true → k < 64
 arithmetic-kind k = either _ _ (kind k sumSign (omega arith)) (kind k differenceSign (omega arith))

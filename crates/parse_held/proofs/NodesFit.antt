@@ -16,7 +16,8 @@ use Rattle.language.specs.Order.{constantStart, digitsStand, startAt, startNode
 use Rattle.language.specs.Scan.{same}
 use Rattle.language.specs.Tree as T
 use Rattle.language.specs.Tree.{Ends, Expression, Name}
-use Rattle.language.specs.Value.{Value, longest}
+use Rattle.language.specs.Value.{Value}
+use Rattle.language.specs.Ceilings.{longest}
 use Rattle.language.specs.Words.{Position}
 use Rattle.about_rules.specs.Sizes.{nodes-size}
 use Rattle.about_rules.specs.Starts.{Stand, constant-starts}

@@ -6,7 +6,7 @@ use mathlib.Core.Path.{_≡_, refl, sym, ap, _∙_}
 use Prim.Native.Nat.{ℕ, _+_}
 use lib.ListN.{length}
 use Rattle.language.specs.Describe.{NotedAction, act, actionsOf, expressionSize, expressionsIn, leftNodes, leftSize, nodesIn, nodesOf, storeOf}
-use Rattle.language.specs.DescribeText.{stateActions, stateNodes, stateSize, valueSize}
+use Rattle.language.specs.DescribeText.{expressionsOfState, stateActions, stateNodes, valueSize}
 use Rattle.language.specs.Description as D
 use Rattle.language.specs.Description.{Action, Node}
 use Rattle.language.specs.Naming.{Scope, byLabels, facility, meaning, numberOf, ofFacility, ofOperation, ofState, operation, orElse, state, unknown}
@@ -79,7 +79,7 @@ module _ (fs os labels : List Name) where
   pub states-same : (l : Option ℕ) (base : ℕ) (ss : List State) → stateNodes l awaiting base ss ≡ stateNodes l labelled base ss
   unfolding stateNodes
   states-same l base [] = refl
-  states-same l base (s ∷ ss) = rw (in-same (base + valueSize l (s .value)) (s .actions), states-same l (base + stateSize l s) ss)
+  states-same l base (s ∷ ss) = rw (in-same (base + valueSize l (s .value)) (s .actions), states-same l (base + expressionsOfState l s) ss)
 
   -- ---- Actions.
 
@@ -146,4 +146,4 @@ module _ (fs os labels : List Name) where
     resolved-states l base [] n = refl
     resolved-states l base (s ∷ ss) n =
         let from = base + valueSize l (s .value) in
-        both (actionsOf awaiting from (s .actions)) (stateActions l awaiting (base + stateSize l s) ss) (acts-same from (s .actions) (n .0 .1 .1)) (resolved-states l (base + stateSize l s) ss (n .1))
+        both (actionsOf awaiting from (s .actions)) (stateActions l awaiting (base + expressionsOfState l s) ss) (acts-same from (s .actions) (n .0 .1 .1)) (resolved-states l (base + expressionsOfState l s) ss (n .1))

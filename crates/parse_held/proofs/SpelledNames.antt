@@ -8,12 +8,12 @@ use lib.Dec.{eqb, leb, ltb}
 use lib.ListN.{drop, getD, length, length-map, length-take, take}
 use lib.Seq.{take-length, take-take}
 use Rattle.language.specs.Characters.{blankClass, classOf, digitClass, folded, letterClass, quoteClass, symbolClass}
-use Rattle.language.specs.Constants.{bareConstant, bareLargest, digitsNumber}
+use Rattle.language.specs.Constants.{bareConstant, digitsNumber}
 use Rattle.language.specs.declared.refusals.Refusal.the-variants.{BadConstant}
 use Rattle.language.specs.Scan as S
-use Rattle.language.specs.Scan.{Found, Item, Spelled, bareAt, basedItem, binaryAt, commentAt, constantAt, decimalAt, digitBits, digitsOf, isDecimalBase, isNamePart, itemAt, longestName, nameAt, nameItem, reservedKind, same, span, spelledSymbols, symbolAmong, written}
+use Rattle.language.specs.Scan.{Found, Item, Spelled, bareAt, basedItem, binaryAt, commentAt, constantAt, decimalAt, digitBits, digitsOf, isDecimalBase, isNamePart, itemAt, nameAt, nameItem, reservedKind, same, span, spelledSymbols, symbolAmong, written}
+use Rattle.language.specs.Ceilings.{bareLargest, longest, longestName}
 use Rattle.language.specs.Tree.{Name}
-use Rattle.language.specs.Value.{longest}
 use Rattle.language.specs.Words.{Constant, Position, position}
 use Rattle.parse_array.specs.Names.{letters}
 use Rattle.parse_held.specs.NearTexts.{StandsAt}

@@ -10,14 +10,14 @@ use borrow.Author.Tests.{leb-true}
 use lib.Dec.{eqb, leb}
 use lib.ListN.{List·getD-map, getD, length, length-append, length-map}
 use Rattle.language.specs.Describe.{Noted, NotedAction, noted}
-use Rattle.language.specs.DescribeText.{describe, facilitiesOf, facilityNodes, facilitySize, labelOf, lengthAt, operationActions, operationExpressions, operationNodes, operationRecords, operationsOf, placesOf, stateActions, stateNodes, statesOf, valuePlace}
+use Rattle.language.specs.DescribeText.{describe, facilitiesOf, facilityNodes, functionSizes, labelOf, lengthAt, operationActions, operationExpressions, operationNodes, operationRecords, operationsOf, placesOf, stateActions, stateNodes, statesOf, valuePlace}
 use Rattle.language.specs.Description as D
 use Rattle.language.specs.Description.{Description, Facility, Node, Operation, Places, State, actionAt, actionPlace, facilityAt, facilityPlace, noFacility, noRun, nodeAt, nodePlace, operationAt, operationPlace, sequencingFrom, spanOf, stateAt, statePlace, wordLength}
 use Rattle.language.specs.Encode.{concat, nameBytes}
 use Rattle.language.specs.Naming.{Scope, byLabels}
 use Rattle.language.specs.Tree as T
 use Rattle.language.specs.Tree.{Declaration, Name, Text}
-use Rattle.language.specs.Value.{longest}
+use Rattle.language.specs.Ceilings.{longest}
 use Rattle.about_rules.specs.InOrder.{stateExpressions}
 use Rattle.about_rules.specs.LegalTexts.{facilities-nodes, operations-nodes, states-nodes}
 use Rattle.about_rules.specs.Runs.{operations-size, stateRecords, states-size}
@@ -80,7 +80,7 @@ module _ {text : List ℕ} (t : Text) (tidy : TextTidy t) (near : TextNear text 
   ds = declarationsOf t
 
   abbrev first : ℕ
-  first = facilitySize ds
+  first = functionSizes ds
 
   abbrev second : ℕ
   second = first + operationExpressions (t .operations)
@@ -336,7 +336,7 @@ module _ {text : List ℕ} (t : Text) (tidy : TextTidy t) (near : TextNear text 
         arith,
         number-below n 0 labels e,
         few .states,
-        states-count length-of (facilitySize (declarationsOf t) + operationExpressions (t .operations)) (operationRecords (t .operations)) (t .states),
+        states-count length-of (functionSizes (declarationsOf t) + operationExpressions (t .operations)) (operationRecords (t .operations)) (t .states),
         length-map (t .states) (λ (s : T.State). labelOf (s .label)),
       )
 

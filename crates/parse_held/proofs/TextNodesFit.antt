@@ -6,12 +6,12 @@ use Prim.Native.Nat.{ℕ, suc, _+_, _≤_}
 use native.Mathlib.Omega.{arith}
 use lib.ListN.{length, length-append}
 use Rattle.language.specs.Describe.{Noted, actionsOf, expressionsIn, nodesIn}
-use Rattle.language.specs.DescribeText.{facilityNodes, facilitySize, functionNodes, functionSize, operationActions, operationExpressions, operationNodes, operationRecords, operationScope, stateActions, stateConstant, stateNodes, stateSize, valueNodes, valueSize}
+use Rattle.language.specs.DescribeText.{expressionsOfState, facilityNodes, functionNodes, functionSize, functionSizes, operationActions, operationExpressions, operationNodes, operationRecords, operationScope, stateActions, stateConstant, stateNodes, valueNodes, valueSize}
 use Rattle.language.specs.Description.{Description}
 use Rattle.language.specs.Naming.{Scope, noState}
 use Rattle.language.specs.Tree as T
 use Rattle.language.specs.Tree.{Declaration, Function, Label, Name, Operation, State, StateValue}
-use Rattle.about_rules.specs.InOrder.{stateExpressions}
+use Rattle.about_rules.specs.InOrder.{expressionsOfState}
 use Rattle.about_rules.specs.Runs.{stateRecords}
 use Rattle.about_rules.specs.Sizes.{function-size, in-size, value-size}
 use Rattle.about_rules.specs.Tidy.{FunctionTidy, LabelTidy, OperationsTidy, StatesTidy}
@@ -36,9 +36,9 @@ module _ (d : Description) where
   function-fits s few base T.fromInput t n l h = tt
   function-fits s few base (T.given p e) t n l h = nodes-fit d s few base e t (n .1) l h
 
-  pub facility-nodes : (before : List Name) (base : ℕ) (ds : List Declaration) → Each DeclarationFits ds → length before + length ds ≤ 256 → base + facilitySize ds ≤ 65535
+  pub facility-nodes : (before : List Name) (base : ℕ) (ds : List Declaration) → Each DeclarationFits ds → length before + length ds ≤ 256 → base + functionSizes ds ≤ 65535
       → Here d base (facilityNodes before base ds) → AllFit d base (facilityNodes before base ds)
-  unfolding facilityNodes facilitySize
+  unfolding facilityNodes functionSizes
   facility-nodes before base [] f k l h = tt
   facility-nodes before base (x ∷ ds) f k l h =
       let s : Scope = record { facilities = before; operations = []; stateNamed = noState } in
@@ -68,15 +68,15 @@ module _ (d : Description) where
         let r = state-constant l (v .constant) fits (t .1) in
         constant-fits d base (stateConstant l (v .constant)) (v .at) (r .0) (r .1) (r .2) n h
 
-    pub state-nodes : (base : ℕ) (ss : List State) → StatesTidy ss → StatesNear text ss → base + stateExpressions l ss ≤ 65535 → Here d base (stateNodes l scope base ss) → AllFit d base (stateNodes l scope base ss)
-    unfolding stateNodes stateExpressions
+    pub state-nodes : (base : ℕ) (ss : List State) → StatesTidy ss → StatesNear text ss → base + expressionsOfState l ss ≤ 65535 → Here d base (stateNodes l scope base ss) → AllFit d base (stateNodes l scope base ss)
+    unfolding stateNodes expressionsOfState
     state-nodes base [] t n k h = tt
     state-nodes base (s ∷ ss) t n k h =
         let from = base + valueSize l (s .value) in
-        let z : base + stateSize l s ≡ from + expressionsIn (s .actions) = omega arith in
+        let z : base + expressionsOfState l s ≡ from + expressionsIn (s .actions) = omega arith in
         two base (valueSize l (s .value)) (valueNodes l (s .value)) _ (value-size l (s .value)) h (value-nodes base (s .label) (s .value) (t .0 .0) (n .0 .1 .0))
         (λ g. two from (expressionsIn (s .actions)) (nodesIn scope from (s .actions)) _ (in-size scope from (s .actions)) g (in-fits d scope few text from (s .actions) (t .0 .1) (n .0 .1 .1) (omega arith))
-        (rw (← z) (state-nodes (base + stateSize l s) ss (t .1) (n .1) (omega arith))))
+        (rw (← z) (state-nodes (base + expressionsOfState l s) ss (t .1) (n .1) (omega arith))))
 
 -- ---- Actions.
 
@@ -93,11 +93,11 @@ operation-acts text facilities before base (o ∷ os) n k l m =
     acts-append (actionsOf s base (o .body)) _ (acts-fit text s (omega arith) (none-fit facilities before) base (o .body) (n .0 .1) (omega arith) (omega arith))
     (operation-acts text facilities (before ++ o .name ∷ []) (base + expressionsIn (o .body)) os (n .1) (omega (arith, last-length before (o .name))) (omega arith) (omega arith))
 
-pub state-acts : (text : List ℕ) (l : Option ℕ) (scope : Scope) → length (scope .operations) ≤ 65535 → StatesFit scope → (base : ℕ) (ss : List State) → StatesNear text ss → base + stateExpressions l ss ≤ 65535 → stateRecords ss ≤ 65535
+pub state-acts : (text : List ℕ) (l : Option ℕ) (scope : Scope) → length (scope .operations) ≤ 65535 → StatesFit scope → (base : ℕ) (ss : List State) → StatesNear text ss → base + expressionsOfState l ss ≤ 65535 → stateRecords ss ≤ 65535
     → ActsFit (stateActions l scope base ss)
-unfolding stateActions stateExpressions stateRecords
+unfolding stateActions expressionsOfState stateRecords
 state-acts text l scope o q base [] n k m = tt
 state-acts text l scope o q base (s ∷ ss) n k m =
     let from = base + valueSize l (s .value) in
     acts-append (actionsOf scope from (s .actions)) _ (acts-fit text scope o q from (s .actions) (n .0 .1 .1) (omega arith) (omega arith))
-    (state-acts text l scope o q (base + stateSize l s) ss (n .1) (omega arith) (omega arith))
+    (state-acts text l scope o q (base + expressionsOfState l s) ss (n .1) (omega arith) (omega arith))

@@ -14,7 +14,7 @@ use Rattle.language.specs.Declaring.{treeSteps}
 use Rattle.language.specs.Kinds.{differenceSign, minus}
 use Rattle.language.specs.Machine.{Alternative, Ask, Counts, Parsed, adjustment, andTail, arithmetic, arithmeticTail, ask, complement, conTail, cutTail, exclusiveTail, expression, finish, minterm, orTail, product, reading, reduction, relationTail, run, term, withinCeilings}
 use Rattle.language.specs.Operators.{reductions}
-use Rattle.language.specs.Sections.{ruleOf}
+use Rattle.language.specs.SectionWays.{ruleOf}
 use Rattle.language.specs.Ways.{arithmeticWays, complementWays, mintermWays, productWays, reductionWays, termWays}
 use Rattle.text_words.specs.declared.Word.{Word}
 use Rattle.parse_step.specs.Course.{Seen, Stack, ahead, behind, kindNo, runsOn}

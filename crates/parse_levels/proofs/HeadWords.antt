@@ -12,7 +12,7 @@ use Rattle.language.specs.Declaring.{treeSteps}
 use Rattle.language.specs.Kinds.{differenceSign, exclusiveSign, minus, plus, redWord, star, sumSign}
 use Rattle.language.specs.Machine.{Counts, adjustment, arithmetic, arithmeticTail, ask, choose, complement, conTail, ease, feed, level, make, reduction, run, tallied, term, word}
 use Rattle.language.specs.Operators.{reductions}
-use Rattle.language.specs.Sections.{ruleOf}
+use Rattle.language.specs.SectionWays.{ruleOf}
 use Rattle.language.specs.Words as L
 use Rattle.text_words.specs.declared.Word.{Word}
 use Rattle.text_words.specs.Meaning.{positioned}

@@ -14,9 +14,9 @@ use Rattle.about_grammar.specs.Following.{among}
 use Rattle.language.specs.Alternatives.{noStep}
 use Rattle.language.specs.Building.{Built, keepWord}
 use Rattle.language.specs.Declaring.{treeSteps}
-use Rattle.language.specs.Kinds.{aConstant, atLeastSign, atMostSign, conWord, differenceSign, equalsSign, exclusiveSign, extWord, greaterSign, hash, headWord, lessSign, plus, star, sumSign, tailWord}
+use Rattle.language.specs.Kinds.{aConstant, atLeastSign, atMostSign, conWord, differenceSign, exclusiveSign, extWord, greaterSign, hash, headWord, lessSign, plus, sameSign, star, sumSign, tailWord}
 use Rattle.language.specs.Machine.{Counts, Parsed, Sym, andTail, arithmeticTail, ask, choose, conTail, cutTail, exclusiveTail, feed, keep, make, orTail, relationTail, run, tallied}
-use Rattle.language.specs.Sections.{ruleOf}
+use Rattle.language.specs.SectionWays.{ruleOf}
 use Rattle.language.specs.Ways.{andWays, arithmeticTailWays, conWays, cutWays, exclusiveWays, orWays, relationWays}
 use Rattle.language.specs.Words as L
 use Rattle.text_words.specs.declared.Word.{Word}
@@ -126,9 +126,9 @@ module _ (text : List ℕ) (w : Word) (z : Seen text w) (b : Built) (c : Counts)
   unfolding runsOn run feed choose ruleOf tallied
   difference-taken e K = rw (sign-ahead text w differenceSign e (omega arith)) (taken-on text (positioned (w .at)) _ (behind text w) _ counted)
 
-  equals-taken : k ≡ equalsSign → Taken R.Relation 24
+  equals-taken : k ≡ sameSign → Taken R.Relation 24
   unfolding runsOn run feed choose ruleOf tallied
-  equals-taken e K = rw (sign-ahead text w equalsSign e (omega arith)) (taken-on text (positioned (w .at)) _ (behind text w) _ counted)
+  equals-taken e K = rw (sign-ahead text w sameSign e (omega arith)) (taken-on text (positioned (w .at)) _ (behind text w) _ counted)
 
   differs-taken : k ≡ hash → Taken R.Relation 3
   unfolding runsOn run feed choose ruleOf tallied
@@ -183,7 +183,7 @@ module _ (text : List ℕ) (w : Word) (z : Seen text w) (b : Built) (c : Counts)
       among-first-or k sumSign (differenceSign ∷ []) e (λ q. subst (Taken R.Sum) (sym q) (sum-taken q)) λ e1.
       among-first-or k differenceSign [] e1 (λ q. subst (Taken R.Sum) (sym q) (difference-taken q)) (among-none k)
   tail-taken R.Relation n e =
-      among-first-or k equalsSign (hash ∷ lessSign ∷ greaterSign ∷ atMostSign ∷ atLeastSign ∷ []) e (λ q. subst (Taken R.Relation) (sym q) (equals-taken q)) λ e1.
+      among-first-or k sameSign (hash ∷ lessSign ∷ greaterSign ∷ atMostSign ∷ atLeastSign ∷ []) e (λ q. subst (Taken R.Relation) (sym q) (equals-taken q)) λ e1.
       among-first-or k hash (lessSign ∷ greaterSign ∷ atMostSign ∷ atLeastSign ∷ []) e1 (λ q. subst (Taken R.Relation) (sym q) (differs-taken q)) λ e2.
       among-first-or k lessSign (greaterSign ∷ atMostSign ∷ atLeastSign ∷ []) e2 (λ q. subst (Taken R.Relation) (sym q) (less-taken q)) λ e3.
       among-first-or k greaterSign (atMostSign ∷ atLeastSign ∷ []) e3 (λ q. subst (Taken R.Relation) (sym q) (greater-taken q)) λ e4.

@@ -11,7 +11,7 @@ use Rattle.language.specs.Declaring.{treeSteps}
 use Rattle.language.specs.Kinds.{aConstant, closeBracket, colon, comma}
 use Rattle.language.specs.Machine.{Counts, Fed, Parsed, after, afterSubscript, ask, choose, closes, expression, feed, finish, keep, make, refused, run, second, secondEnd, secondOption, tallied, withinCeilings, word, wrong}
 use Rattle.language.specs.declared.refusals.Refusal.the-variants.{CeilingPassed}
-use Rattle.language.specs.Sections.{ruleOf}
+use Rattle.language.specs.SectionWays.{ruleOf}
 use Rattle.language.specs.Tree as T
 use Rattle.language.specs.Words as L
 use Rattle.language.specs.Words.{Constant, Position, fault}

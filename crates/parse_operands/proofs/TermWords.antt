@@ -11,7 +11,7 @@ use Rattle.language.specs.Building.{Built, expressionNo, keepWord, wordNo}
 use Rattle.language.specs.Declaring.{treeSteps}
 use Rattle.language.specs.Kinds.{aConstant, aName, caseWord, closeParen, doWord, elseWord, endCaseWord, endIfWord, ifWord, openBracket, openParen, thenWord}
 use Rattle.language.specs.Machine.{Counts, Parsed, ask, choose, closes, expression, feed, finish, level, make, moreArms, refused, run, second, secondOption, subscript, subscripts, tallied, term, word}
-use Rattle.language.specs.Sections.{ruleOf}
+use Rattle.language.specs.SectionWays.{ruleOf}
 use Rattle.language.specs.Tree as T
 use Rattle.language.specs.Tree.{Expression}
 use Rattle.language.specs.Words as L

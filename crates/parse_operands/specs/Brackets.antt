@@ -3,7 +3,7 @@ use mathlib.Core.Bool.{Bool, true, false}
 use Rattle.language.specs.Building.{Built}
 use Rattle.language.specs.Declaring.{treeSteps}
 use Rattle.language.specs.Machine.{Ask, afterConstant, afterSecondConstant, afterSubscript, operandRest, second, secondEnd, secondRest, subscript}
-use Rattle.language.specs.Steps.{Step}
+use Rattle.language.specs.BuildSteps.{Step}
 
 abbrev pub bracketAsk : Bool → Ask
 bracketAsk false = subscript

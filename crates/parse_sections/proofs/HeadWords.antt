@@ -13,7 +13,7 @@ use Rattle.parse_facilities.specs.Specs.{namedWord}
 use Rattle.language.specs.Building.{Built, keepWord}
 use Rattle.language.specs.Kinds.{aName, comma, controlWord, endWord, period}
 use Rattle.language.specs.Machine.{ask, choose, control, feed, finish, operationSpec, operationsMore, refused, run, tallied}
-use Rattle.language.specs.Sections.{ruleOf}
+use Rattle.language.specs.SectionWays.{ruleOf}
 use Rattle.language.specs.Words.{fault}
 use Rattle.text_words.specs.declared.Word.{Word}
 use Rattle.text_words.specs.Meaning.{positioned}

@@ -16,7 +16,7 @@ use Rattle.parse_facilities.specs.Listed.{Tabled, noneHeld}
 use Rattle.parse_facilities.specs.Lists.{terminals}
 use Rattle.parse_bounds.proofs.Telling as D
 use Rattle.language.specs.Building.{Built, withText}
-use Rattle.language.specs.DescribeText.{facilitiesOf, facilityNodes, facilitySize}
+use Rattle.language.specs.DescribeText.{facilitiesOf, facilityNodes, functionSizes}
 use Rattle.language.specs.Kinds.{controlWord, operationWord}
 use Rattle.language.specs.Layout.{storeSizeOf}
 use Rattle.language.specs.Machine.{afterTerminals, ask, operationSpec, operationsMore}
@@ -52,11 +52,11 @@ module _ {text : List ℕ} {ds : List Declaration} {place : ℕ} {w : Word} {s :
   front = ap alone (x .standing .listed .expressed .records)
 
   -- No operation yet.
-  pub stands : length work ≡ workSize → Standing text (namesOf ds) (facilitySize ds) (heldOf ds) [] w s work
+  pub stands : length work ≡ workSize → Standing text (namesOf ds) (functionSizes ds) (heldOf ds) [] w s work
   stands l =
       let st = x .standing in
       let e = begins s work (st .seen) (st .short) l (st .within) (x .operations) (x .states) (x .actions) (st .paid) in
-      subst (λ (h : Held). Standing text (namesOf ds) (facilitySize ds) h [] w s work) front
+      subst (λ (h : Held). Standing text (namesOf ds) (functionSizes ds) h [] w s work) front
       (subst (λ (n : ℕ). Standing text (namesOf ds) n (frontOf (s .nodes) work) [] w s work) (st .listed .expressed .nodes)
       (subst (λ (names : List Name). Standing text names (s .nodes) (frontOf (s .nodes) work) [] w s work) (st .listed .tabled .names) e))
 
@@ -70,7 +70,7 @@ module _ {text : List ℕ} {ds : List Declaration} {place : ℕ} {w : Word} {s :
   few = omega (arith, x .standing .listed .counted, few-facilities (countsOf s) (x .standing .within))
 
   -- Operations keep the tables of facilities.
-  ready-behind : {P : Stack} {next : Word} {state : State} {work′ : List ℕ} (y : SomeRead text (namesOf ds) (facilitySize ds) (heldOf ds) [] P controlStack w s work next state work′)
+  ready-behind : {P : Stack} {next : Word} {state : State} {work′ : List ℕ} (y : SomeRead text (namesOf ds) (functionSizes ds) (heldOf ds) [] P controlStack w s work next state work′)
       → Ready text ds (y .trees) next state work′
   ready-behind {work′ = work′} y =
       let t = x .standing .listed .tabled in
@@ -103,10 +103,10 @@ module _ {text : List ℕ} {w : Word} {s : State} {place : ℕ} {work : List ℕ
 
   module _ (done : a .verdict ≡ Done) where
     pub operations-stand : Somewhere text place w s work → Stands text (a .next) (a .state) work
-    operations-stand x = record { names = namesOf (x .declared); first = facilitySize (x .declared); before = heldOf (x .declared); declared = []; standing = stands (between-passed (x .between) (t .done done)) l }
+    operations-stand x = record { names = namesOf (x .declared); first = functionSizes (x .declared); before = heldOf (x .declared); declared = []; standing = stands (between-passed (x .between) (t .done done)) l }
 
     pub operations-read : {r : Answer} {work′ : List ℕ} → Lists text (a .next) (a .state) work work′ r → Operates text w s place work work′ r
-    operations-read {r} {work′} f k ds x = through (f (namesOf ds) (facilitySize ds) (heldOf ds) [] (stands here l)) (λ K. K) (λ b. b) to-list read
+    operations-read {r} {work′} f k ds x = through (f (namesOf ds) (functionSizes ds) (heldOf ds) [] (stands here l)) (λ K. K) (λ b. b) to-list read
       where
         here : Between text ds place (a .next) (a .state) work
         here = between-passed x (t .done done)
@@ -114,11 +114,11 @@ module _ {text : List ℕ} {w : Word} {s : State} {place : ℕ} {work : List ℕ
         to-list : (K : Stack) (b : Built) → runs text (ask afterTerminals ∷ K) w b s ≡ runs text (listStack K) (a .next) b (a .state)
         to-list K b = operation-taken text w K b s k ∙ took-done (t .done done) (x .standing .seen) (listStack K) b
 
-        gains : (b : Built) (y : SomeRead text (namesOf ds) (facilitySize ds) (heldOf ds) [] (listStack []) controlStack (a .next) (a .state) work (r .next) (r .state) work′)
+        gains : (b : Built) (y : SomeRead text (namesOf ds) (functionSizes ds) (heldOf ds) [] (listStack []) controlStack (a .next) (a .state) work (r .next) (r .state) work′)
             → withText b (withOperations (b .text) (y .trees)) ≡ withText b (withSections (b .text) [] [] [] (y .trees))
         gains b y = rw (append-nil (b .text .registers), append-nil (b .text .memories), append-nil (b .text .terminals))
 
-        read : SomeRead text (namesOf ds) (facilitySize ds) (heldOf ds) [] (listStack []) controlStack (a .next) (a .state) work (r .next) (r .state) work′
+        read : SomeRead text (namesOf ds) (functionSizes ds) (heldOf ds) [] (listStack []) controlStack (a .next) (a .state) work (r .next) (r .state) work′
             → AllRead text ds terminals (ask afterTerminals ∷ []) w s work′ r
         read y = record {
           registers = [];

@@ -13,7 +13,7 @@ use Rattle.parse_facilities.specs.Lists.{Listing, memories, moreIn, registers, 
 use Rattle.language.specs.Building.{Built}
 use Rattle.language.specs.Kinds.{controlWord, memoryWord, operationWord, registerWord, terminalWord}
 use Rattle.language.specs.Machine.{Ask, afterMemories, afterRegisters, afterTerminals, ask, choose, feed, finish, operationSpec, operationsMore, refused, run, sections, tallied}
-use Rattle.language.specs.Sections.{ruleOf}
+use Rattle.language.specs.SectionWays.{ruleOf}
 use Rattle.language.specs.Words.{fault}
 use Rattle.parse_sections.specs.Heads.{controlStack}
 use Rattle.text_words.specs.declared.Word.{Word}

@@ -15,12 +15,13 @@ use Rattle.parse_facilities.specs.Listed.{besides}
 use Rattle.parse_facilities.specs.Lists.{Listing}
 use Rattle.language.specs.Building.{nothingBuilt}
 use Rattle.language.specs.Decode.{upTo}
-use Rattle.language.specs.DescribeText.{facilitiesOf, facilityNodes, facilitySize}
+use Rattle.language.specs.DescribeText.{facilitiesOf, facilityNodes, functionSizes}
 use Rattle.language.specs.Encode.{concat, facilityRecords}
 use Rattle.language.specs.Kinds.{memoryWord, registerWord, terminalWord}
 use Rattle.language.specs.Layout.{storeSizeOf}
-use Rattle.language.specs.Machine.{ask, deepest, mostCounted, mostFacilities, mostOperations, mostStates, noCounts, sections, withinCeilings}
-use Rattle.language.specs.Sections.{parse, parseWith}
+use Rattle.language.specs.Machine.{ask, noCounts, sections, withinCeilings}
+use Rattle.language.specs.Ceilings.{deepest, mostCounted, mostFacilities, mostOperations, mostStates}
+use Rattle.language.specs.SectionWays.{parse, parseWith}
 use Rattle.language.specs.Words as L
 use Rattle.language.specs.WordStage.{scan, wordsFrom}
 use Rattle.parse_sections.proofs.Telling.{refuses}
@@ -38,7 +39,7 @@ unfolding parse parseWith runsOn scan wordsFrom ahead
 parse-runs {text} n = ap (λ (vs : List L.Word). runsOn text (ask sections ∷ []) vs nothingBuilt noCounts) (sym (n .words))
 
 between-nothing : {text : List ℕ} {w : Word} (work : List ℕ) → Next text 0 w → length text < 65536 → Between text [] 0 w startState work
-unfolding rows besides facilitiesOf facilityRecords facilityNodes facilitySize storeSizeOf namesIn namesOf upTo held withNodes concat withinCeilings mostFacilities mostOperations mostStates mostCounted deepest
+unfolding rows besides facilitiesOf facilityRecords facilityNodes functionSizes storeSizeOf namesIn namesOf upTo held withNodes concat withinCeilings mostFacilities mostOperations mostStates mostCounted deepest
 between-nothing work n h = record {
   standing = record {
     seen = next-seen 0 n;

@@ -13,11 +13,11 @@ use Rattle.parse_facilities.specs.Declares as D
 use Rattle.parse_facilities.specs.Listed.{Tabled, noneHeld}
 use Rattle.parse_facilities.specs.Lists.{Listing, memories, putAll, registers, terminals}
 use Rattle.language.specs.Building.{Built, nothingBuilt, withText}
-use Rattle.language.specs.DescribeText.{facilitiesOf, facilityNodes, facilitySize}
+use Rattle.language.specs.DescribeText.{facilitiesOf, facilityNodes, functionSizes}
 use Rattle.language.specs.Kinds.{memoryWord, operationWord, registerWord, terminalWord}
 use Rattle.language.specs.Layout.{storeSizeOf}
 use Rattle.language.specs.Machine.{Ask, afterMemories, afterRegisters, afterTerminals, ask, refused, sections}
-use Rattle.language.specs.Sections.{parse}
+use Rattle.language.specs.SectionWays.{parse}
 use Rattle.language.specs.Tree.{Declaration, Operation, Text}
 use Rattle.language.specs.WordStage.{scan}
 use Rattle.parse_sections.specs.Heads.{controlStack}
@@ -76,7 +76,7 @@ pub record Ready (text : List ℕ) (ds : List Declaration) (os : List Operation)
   pub counted : s .facilities ≡ s .known
   pub level : s .nesting ≡ 0
   pub facilities : Tabled text ds (storeSizeOf (facilitiesOf 0 ds) % 65536) (s .known) work
-  pub standing : Standing text (map (λ d. d .name) ds) (facilitySize ds) (withNodes (noneHeld []) (facilityNodes [] 0 ds)) os w s work
+  pub standing : Standing text (map (λ d. d .name) ds) (functionSizes ds) (withNodes (noneHeld []) (facilityNodes [] 0 ds)) os w s work
 
 -- ---- A section of declarations.
 

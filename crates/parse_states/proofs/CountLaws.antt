@@ -19,7 +19,7 @@ use Rattle.about_grammar.specs.Following.{among, among-first, among-rest}
 use Rattle.language.specs.Building.{Built}
 use Rattle.language.specs.Kinds.{aName, callSign, caseWord, gotoSign, ifWord, returnWord, slash}
 use Rattle.language.specs.Machine.{Counts, ask, choose, feed, finish, refused, run, stateStart, tallied, withinCeilings}
-use Rattle.language.specs.Sections.{ruleOf}
+use Rattle.language.specs.SectionWays.{ruleOf}
 use Rattle.language.specs.Words.{fault}
 use Rattle.parse_levels.proofs.HeadWords.{among-first-or, among-none}
 use Rattle.parse_stores.proofs.Standings.{few-states}

@@ -17,7 +17,7 @@ use Rattle.language.specs.Building.{Built, wordNo}
 use Rattle.language.specs.Declaring.{treeSteps}
 use Rattle.language.specs.Kinds.{aConstant, aName, closeParen, colon, comma, dollar, endWord, openParen, period, slash}
 use Rattle.language.specs.Machine.{ask, choose, closes, dollarOption, feed, finish, firstName, keep, level, make, parsed, refused, run, stateAction, stateBody, stateName, stateRest, stateStart, statesMore, tallied, word}
-use Rattle.language.specs.Sections.{ruleOf}
+use Rattle.language.specs.SectionWays.{ruleOf}
 use Rattle.language.specs.Tree as T
 use Rattle.language.specs.Words.{fault}
 use Rattle.parse_expressions.specs.Phrases.{afterName}

@@ -7,7 +7,7 @@ use native.Mathlib.Omega.{arith}
 use lib.ListN.{length-append}
 use Rattle.parse_step.specs.declared.State.{State}
 use Rattle.language.specs.Describe.{actionsIn, actionsOf, nodesIn}
-use Rattle.language.specs.DescribeText.{labelOf, stateActions, stateNodes, stateSize, statesOf, valueNodes, valueSize}
+use Rattle.language.specs.DescribeText.{expressionsOfState, labelOf, stateActions, stateNodes, statesOf, valueNodes, valueSize}
 use Rattle.language.specs.Encode.{concat, stateRecord}
 use Rattle.language.specs.Naming.{Scope}
 use Rattle.language.specs.Tree as T
@@ -46,7 +46,7 @@ module _ (l : ℕ) where
       let f : a + 0 ≡ a = omega arith in
       rw (e, f)
   states-append base a (x ∷ xs) ys =
-      rw (states-append (base + stateSize (lengthOf l) x) (a + actionsIn (x .actions)) xs ys, add-assoc base (stateSize (lengthOf l) x) (statesSize l xs), add-assoc a (actionsIn (x .actions)) (statesActions xs))
+      rw (states-append (base + expressionsOfState (lengthOf l) x) (a + actionsIn (x .actions)) xs ys, add-assoc base (expressionsOfState (lengthOf l) x) (statesSize l xs), add-assoc a (actionsIn (x .actions)) (statesActions xs))
 
   module _ (sc : Scope) where
     nodes-of-append : (base : ℕ) (xs ys : List T.State) → stateNodes (lengthOf l) sc base (xs ++ ys) ≡ stateNodes (lengthOf l) sc base xs ++ stateNodes (lengthOf l) sc (base + statesSize l xs) ys
@@ -55,14 +55,14 @@ module _ (l : ℕ) where
     nodes-of-append base (x ∷ xs) ys =
         let v = valueNodes (lengthOf l) (x .value) in
         let a = nodesIn sc (base + valueSize (lengthOf l) (x .value)) (x .actions) in
-        rw (nodes-of-append (base + stateSize (lengthOf l) x) xs ys, add-assoc base (stateSize (lengthOf l) x) (statesSize l xs), append-assoc v, append-assoc a)
+        rw (nodes-of-append (base + expressionsOfState (lengthOf l) x) xs ys, add-assoc base (expressionsOfState (lengthOf l) x) (statesSize l xs), append-assoc v, append-assoc a)
 
     actions-of-append : (base : ℕ) (xs ys : List T.State) → stateActions (lengthOf l) sc base (xs ++ ys) ≡ stateActions (lengthOf l) sc base xs ++ stateActions (lengthOf l) sc (base + statesSize l xs) ys
     unfolding stateActions statesSize
     actions-of-append base [] ys = let e : base + 0 ≡ base = omega arith in rw e
     actions-of-append base (x ∷ xs) ys =
         let a = actionsOf sc (base + valueSize (lengthOf l) (x .value)) (x .actions) in
-        rw (actions-of-append (base + stateSize (lengthOf l) x) xs ys, add-assoc base (stateSize (lengthOf l) x) (statesSize l xs), append-assoc a)
+        rw (actions-of-append (base + expressionsOfState (lengthOf l) x) xs ys, add-assoc base (expressionsOfState (lengthOf l) x) (statesSize l xs), append-assoc a)
 
 -- ---- States read one after the other.
 

@@ -8,7 +8,7 @@ use Rattle.parse_step.specs.declared.State.{State}
 use Rattle.image_sections.specs.declared.runs.Run.{Run}
 use Rattle.image_sections.specs.Declarations.{runMeant, valueMeant}
 use Rattle.language.specs.Describe.{actionsIn}
-use Rattle.language.specs.DescribeText.{labelOf, stateActions, stateNodes, stateSize, statesOf, valuePlace}
+use Rattle.language.specs.DescribeText.{expressionsOfState, labelOf, stateActions, stateNodes, statesOf, valuePlace}
 use Rattle.language.specs.Description.{StatePlaces}
 use Rattle.language.specs.Encode.{concat, stateRecord}
 use Rattle.language.specs.Naming.{Scope}
@@ -29,7 +29,7 @@ use Rattle.parse_states.specs.declared.Head.{Head}
 -- Expression records and action records of states.
 unfoldable pub statesSize : ℕ → List T.State → ℕ
 statesSize l [] = 0
-statesSize l (t ∷ ts) = stateSize (lengthOf l) t + statesSize l ts
+statesSize l (t ∷ ts) = expressionsOfState (lengthOf l) t + statesSize l ts
 
 unfoldable pub statesActions : List T.State → ℕ
 statesActions [] = 0

@@ -4,7 +4,8 @@ use mathlib.Core.Path.{_≡_, refl, sym}
 use Prim.Native.Nat.{_<_, _≤_}
 use borrow.Author.Tests.{le-leb, leb-true, lt-leb}
 use lib.Dec.{leb}
-use Rattle.language.specs.Machine.{Counts, deepest, mostCounted, mostFacilities, mostOperations, mostStates, withinCeilings}
+use Rattle.language.specs.Machine.{Counts, withinCeilings}
+use Rattle.language.specs.Ceilings.{deepest, mostCounted, mostFacilities, mostOperations, mostStates}
 use Rattle.language.specs.Tests.{both}
 
 module _ (c : Counts) where

@@ -9,7 +9,8 @@ use Rattle.language.specs.Description.{digitLength, furtherDigits}
 use Rattle.language.specs.Image.{WordsRight}
 use Rattle.language.specs.Scan as S
 use Rattle.language.specs.Scan.{Item, itemAt}
-use Rattle.language.specs.Value.{Value, longest}
+use Rattle.language.specs.Value.{Value}
+use Rattle.language.specs.Ceilings.{longest}
 use Rattle.language.specs.Words.{Position, position}
 use Rattle.language.specs.WordStage.{Scanned, noted, scan, scanFrom, wordsFrom}
 use Rattle.about_rules.specs.RightWords.{words-right}

@@ -9,8 +9,8 @@ use Rattle.about_grammar.specs.Stacks.{kindsOf, omits}
 use Rattle.language.specs.Building.{Built}
 use Rattle.language.specs.Declaring.{treeSteps}
 use Rattle.language.specs.Machine.{Alternative, Ask, Counts, ask, may, withinCeilings}
-use Rattle.language.specs.Sections.{ruleOf}
-use Rattle.language.specs.Steps.{Step}
+use Rattle.language.specs.SectionWays.{ruleOf}
+use Rattle.language.specs.BuildSteps.{Step}
 use Rattle.language.specs.Words as L
 use Rattle.text_words.specs.declared.Word.{Word}
 use Rattle.parse_step.specs.Course.{Seen, Stack, ahead, kindNo, runsOn}

@@ -11,8 +11,8 @@ use Rattle.language.specs.Describe.{Noted, expressionSize, nodesOf}
 use Rattle.language.specs.Encode.{nodeBytes}
 use Rattle.language.specs.Machine.{Counts, feed, finish, ease, make, nested, refused, run, withinCeilings, word}
 use Rattle.language.specs.Naming.{Scope}
-use Rattle.language.specs.Sections.{ruleOf}
-use Rattle.language.specs.Steps.{Step}
+use Rattle.language.specs.SectionWays.{ruleOf}
+use Rattle.language.specs.BuildSteps.{Step}
 use Rattle.language.specs.Tree.{Expression}
 use Rattle.language.specs.Words as L
 use Rattle.language.specs.Words.{fault}

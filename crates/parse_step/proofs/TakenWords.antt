@@ -11,7 +11,7 @@ use Rattle.language.specs.Declaring.{treeSteps}
 use Rattle.language.specs.Kinds.{aConstant, colon}
 use Rattle.language.specs.Machine.{Bearing, Counts, Parsed, after, bears, feed, finish, keep, nested, reading, refused, run, taken, took, withinCeilings, word, wrong}
 use Rattle.language.specs.declared.refusals.Refusal.the-variants.{CeilingPassed, NoContinuation}
-use Rattle.language.specs.Sections.{ruleOf}
+use Rattle.language.specs.SectionWays.{ruleOf}
 use Rattle.language.specs.Words as L
 use Rattle.language.specs.Words.{fault}
 use Rattle.text_words.specs.declared.Fault.{Fault}

@@ -6,7 +6,7 @@ use Rattle.language.specs.Building.{Built}
 use Rattle.language.specs.Declaring.{treeSteps}
 use Rattle.language.specs.Kinds.{aConstant, aName}
 use Rattle.language.specs.Machine.{Bearing, Counts, Parsed, Sym, bears, closes, level, opens, reading, run, withinCeilings}
-use Rattle.language.specs.Sections.{ruleOf}
+use Rattle.language.specs.SectionWays.{ruleOf}
 use Rattle.language.specs.Words as L
 use Rattle.language.specs.WordStage.{wordsFrom}
 use Rattle.text_words.specs.declared.WordKind.{WordKind}

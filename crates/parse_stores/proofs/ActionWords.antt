@@ -17,7 +17,7 @@ use Rattle.language.specs.Building.{Built, expressionNo, keepWord, listNo, with
 use Rattle.language.specs.Declaring.{treeSteps}
 use Rattle.language.specs.Kinds.{aName, atSign, callSign, conWord, delayedSign, equalSign, gotoSign, openBracket, returnWord}
 use Rattle.language.specs.Machine.{Alternative, Ask, Counts, Fed, Parsed, Reading, after, ask, choose, counted, expression, feed, finish, keep, leftRest, make, more, operand, operationName, reading, refused, run, setSign, stateAction, stateName, storeSign, subscripts, tallied, withinCeilings, wrong}
-use Rattle.language.specs.Sections.{ruleOf}
+use Rattle.language.specs.SectionWays.{ruleOf}
 use Rattle.language.specs.Tree as T
 use Rattle.language.specs.Tree.{Expression, Name}
 use Rattle.language.specs.Words as L

@@ -14,7 +14,8 @@ use Rattle.parse_step.specs.declared.State.{State}
 use Rattle.parse_step.specs.Course.{Seen, countsOf}
 use Rattle.parse_step.specs.Says.{Here}
 use Rattle.parse_step.specs.Taken.{Passed, afterWord, tallyOf}
-use Rattle.language.specs.Machine.{Counts, deepest, mostCounted, mostFacilities, mostOperations, mostStates, withinCeilings}
+use Rattle.language.specs.Machine.{Counts, withinCeilings}
+use Rattle.language.specs.Ceilings.{deepest, mostCounted, mostFacilities, mostOperations, mostStates}
 use Rattle.language.specs.Naming.{Scope}
 use Rattle.language.specs.Tree.{Actions}
 use Rattle.parse_tables.specs.declared.meaning.KnownNames as M

@@ -16,7 +16,7 @@ use Rattle.language.specs.Description as D
 use Rattle.language.specs.Kinds.{aName}
 use Rattle.language.specs.Machine.{Ask, ask, keep, make, refused, storeSign}
 use Rattle.language.specs.Naming.{Scope}
-use Rattle.language.specs.Steps.{Step}
+use Rattle.language.specs.BuildSteps.{Step}
 use Rattle.language.specs.Tree as T
 use Rattle.language.specs.Tree.{Actions, Expression, Left}
 use Rattle.parse_tables.specs.declared.meaning.KnownNames.{KnownNames}

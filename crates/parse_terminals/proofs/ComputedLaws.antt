@@ -21,9 +21,10 @@ use Rattle.image_sections.specs.declared.facilities.FacilityKind.the-variants a
 use Rattle.language.specs.Building.{expressionNo, wordNo}
 use Rattle.language.specs.Declaring.{makeComputed}
 use Rattle.language.specs.Describe.{Noted, expressionSize, nodesOf}
-use Rattle.language.specs.DescribeText.{facilityNodes, facilitySize}
+use Rattle.language.specs.DescribeText.{facilityNodes, functionSizes}
 use Rattle.language.specs.Encode as Encode
-use Rattle.language.specs.Machine.{ask, deepest, expression, functionOf, make, mostCounted, mostFacilities, mostOperations, mostStates, withinCeilings}
+use Rattle.language.specs.Machine.{ask, expression, functionOf, make, withinCeilings}
+use Rattle.language.specs.Ceilings.{deepest, mostCounted, mostFacilities, mostOperations, mostStates}
 use Rattle.language.specs.Naming.{Scope}
 use Rattle.language.specs.Tree as T
 use Rattle.language.specs.Tree.{Declaration, Expression, Extent}
@@ -73,7 +74,7 @@ module _ (text : List ℕ) (name : Word) (x : Extent) (p : Position) (e : Expres
       before : withNodes (held n w) (nodesOf (scopeOf (namesOf ds)) n e) ≡ withNodes (noneHeld (otherIn w)) (facilityNodes [] 0 ds ++ nodesOf (scopeOf (namesOf ds)) n e)
       before = ap (λ (v : Held). withNodes v (nodesOf (scopeOf (namesOf ds)) n e)) (g .records) ∙ sym (nodes-append (noneHeld (otherIn w)) (facilityNodes [] 0 ds) (nodesOf (scopeOf (namesOf ds)) n e))
 
-      first : n ≡ 0 + facilitySize ds
+      first : n ≡ 0 + functionSizes ds
       first = omega (arith, g .nodes)
 
       after : withNodes (noneHeld (otherIn w)) (facilityNodes [] 0 ds ++ nodesOf (scopeOf (namesOf ds)) n e) ≡ withNodes (noneHeld (otherIn w′)) (facilityNodes [] 0 (ds ++ computed ∷ []))
@@ -142,7 +143,7 @@ module _ {text : List ℕ} (equal : Word) {w : Word} {s : State} {work work′ :
           p : Pays 0 1 s (a .state)
           p = pay .done d (g .seen) .pays
 
-          here : s .nodes ≡ facilitySize ds
+          here : s .nodes ≡ functionSizes ds
           here = ap (λ (j : State). j .nodes) (g .state) ∙ g .listed .expressed .nodes
 
           few : a .state .counted ≤ 2048

@@ -18,7 +18,7 @@ use Rattle.language.specs.Declaring.{makeComputed, makeInput, makePlain}
 use Rattle.language.specs.Kinds.{aConstant, aName, closeParen, comma, equalSign, inputWord, openParen}
 use Rattle.language.specs.Machine.{again, ask, choose, expression, feed, finish, functionOf, make, opens, refused, run, tallied, terminalFunction, word}
 use Rattle.language.specs.Scan.{same}
-use Rattle.language.specs.Sections.{ruleOf}
+use Rattle.language.specs.SectionWays.{ruleOf}
 use Rattle.language.specs.Words as L
 use Rattle.language.specs.Words.{fault}
 use Rattle.parse_operands.specs.References.{lettersOf}

@@ -19,7 +19,7 @@ use Rattle.parse_bounds.specs.Extents.{ExtentRead, Measures, ofTerminal, toCome
 use Rattle.parse_bounds.specs.Telling.{same}
 use Rattle.image_sections.specs.declared.facilities.FacilityKind.the-variants as F
 use Rattle.language.specs.Building.{Built, keepWord}
-use Rattle.language.specs.DescribeText.{facilitySize}
+use Rattle.language.specs.DescribeText.{functionSizes}
 use Rattle.language.specs.Machine.{ask, terminalDimensions, terminalSpec, withinCeilings}
 use Rattle.language.specs.Tree.{Declaration}
 use Rattle.text_words.specs.declared.Word.{Word}
@@ -78,7 +78,7 @@ module _ {text : List ℕ} {w : Word} {s : State} {a : Answer} (x : Names text w
         d = declarationOf text (r .kind) w (z .tree) (v .function)
 
         u : Added text (ds ++ d ∷ []) (r .answer .next) (r .answer .state) work₂ q
-        u = f text ds d (v .awaiting) (said text (r .kind) w (z .tree) (v .function) (facilitySize ds) (st .seen) (st .short) (z .extent) (v .number) (v .equals))
+        u = f text ds d (v .awaiting) (said text (r .kind) w (z .tree) (v .function) (functionSizes ds) (st .seen) (st .short) (z .extent) (v .number) (v .equals))
 
         begins : OthersKept s (m .answer .state)
         begins = record { operations = ap (λ (j : State). j .operations) counted; states = ap (λ (j : State). j .states) counted; nesting = ap (λ (j : State). j .nesting) counted; actions = ap (λ (j : State). j .actions) counted }

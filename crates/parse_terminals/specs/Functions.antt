@@ -12,7 +12,7 @@ use Rattle.parse_bounds.specs.Extents.{ofTerminal, toCome}
 use Rattle.parse_bounds.specs.Telling.{Tells}
 use Rattle.language.specs.Building.{Built}
 use Rattle.language.specs.Declaring.{makePlain}
-use Rattle.language.specs.DescribeText.{dimensionsOf, equalsPlace, facilitySize, functionNumber}
+use Rattle.language.specs.DescribeText.{dimensionsOf, equalsPlace, functionNumber, functionSizes}
 use Rattle.language.specs.Kinds.{inputWord}
 use Rattle.language.specs.Machine.{ask, functionOf, withinCeilings}
 use Rattle.language.specs.Tree.{Declaration, Extent, Function}
@@ -36,7 +36,7 @@ pub record Begun (text : List ℕ) (ds : List Declaration) (place : ℕ) (w : Wo
 pub record FunctionRead (text : List ℕ) (ds : List Declaration) (place : ℕ) (name : Word) (x : Extent) (P : Stack) (pre : Built → Built) (w : Word) (s : State) (work′ : List ℕ) (r : Defined) : Type 0 where
   pub function : Function
   pub course : (K : Stack) (b : Built) → runs text (P ++ K) w (pre b) s ≡ runs text K (r .answer .next) (withOne (declarationOf text (r .kind) name x function) b) (r .answer .state)
-  pub number : functionNumber (facilitySize ds) function ≡ r .expression
+  pub number : functionNumber (functionSizes ds) function ≡ r .expression
   pub equals : equalsPlace function ≡ positioned (r .equals)
   pub awaiting : Awaiting text ds (declarationOf text (r .kind) name x function) place (r .answer .state) work′
   pub seen : Seen text (r .answer .next)

@@ -14,7 +14,8 @@ use Rattle.language.specs.Description.{Description}
 use Rattle.language.specs.Image.{passes}
 use Rattle.language.specs.Layout.{storeSize}
 use Rattle.language.specs.RecordBytes.{marked, recordFrom, recordSize, returnsSound, sound}
-use Rattle.language.specs.Step.{mostReturns, step}
+use Rattle.language.specs.Step.{step}
+use Rattle.language.specs.Ceilings.{mostReturns}
 use Rattle.language.specs.Store.{fromBytes, inputsOf, narrow}
 use Rattle.about_running.specs.LegalForm.{left-of, right-of}
 use Rattle.about_running.specs.Soundness.{sound-so}

@@ -12,7 +12,7 @@ use Rattle.language.specs.Layout.{storeSizeOf}
 use Rattle.language.specs.Decode.{decode}
 use Rattle.language.specs.RecordBytes.{recordFrom}
 use Rattle.language.specs.Step as S
-use Rattle.language.specs.Store.{Words, fromBytes, inputsOf, toBytes}
+use Rattle.language.specs.Store.{StoreWords, fromBytes, inputsOf, toBytes}
 use Rattle.about_bytes.specs.StaysSound.{completed-back}
 use Rattle.store_layout.proofs.Inverse.{bytes-again}
 use Rattle.store_layout.specs.Layout.{Bytes}
@@ -52,7 +52,7 @@ kept-so d (Ends.Stopped k) r c B K W n are e h = refl
 kept-so d (Ends.Stuck x) r c B K W n are e h = refl
 
 -- The record of a completed cycle is read back.
-pub back-so : (image B K t : List ℕ) (n : ℕ) → cycleRefusal image B K t n ≡ none → (v : CycleEnd) (w : Words) (r : S.Record) (c : ℕ)
+pub back-so : (image B K t : List ℕ) (n : ℕ) → cycleRefusal image B K t n ≡ none → (v : CycleEnd) (w : StoreWords) (r : S.Record) (c : ℕ)
     → ended v w r c ≡ S.step (decode image) (fromBytes (decode image .facilities) B) (recordFrom K) (fromBytes (inputsOf (decode image .facilities)) t) → completedBack v r
 back-so image B K t n free Ends.Completed w r c e =
     record { back = λ rest. completed-back image B K t n free rest (sym e) .0; whole = completed-back image B K t n free K (sym e) .1 }

@@ -3,7 +3,7 @@ use mathlib.Core.List.{List}
 use mathlib.Core.Path.{_≡_, refl}
 use Prim.Native.Nat.{ℕ}
 use Rattle.language.specs.Description.{Facility}
-use Rattle.language.specs.Store.{Words}
+use Rattle.language.specs.Store.{StoreWords}
 use Rattle.run_next.specs.Seen.{recordMeant}
 use Rattle.run_next.specs.declared.record.Record.{Record}
 use Rattle.run_end.specs.Stepped.{ended, stepped}
@@ -17,7 +17,7 @@ kept-again Ends.Completed r t = refl
 kept-again (Ends.Stopped k) r t = refl
 kept-again (Ends.Stuck x) r t = refl
 
-ended-kept : (v : CycleEnd) (w : Words) (r t : Record) (n : ℕ) → ended v w (recordMeant (kept v r t)) n ≡ ended v w (recordMeant t) n
+ended-kept : (v : CycleEnd) (w : StoreWords) (r t : Record) (n : ℕ) → ended v w (recordMeant (kept v r t)) n ≡ ended v w (recordMeant t) n
 ended-kept Ends.Completed w r t n = refl
 ended-kept (Ends.Stopped k) w r t n = refl
 ended-kept (Ends.Stuck x) w r t n = refl

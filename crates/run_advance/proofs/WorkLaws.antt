@@ -8,9 +8,9 @@ use lib.ListN.{length}
 use Rattle.language.specs.Decode.{decode, sectionAt, sectionsIn}
 use Rattle.language.specs.Description.{Description}
 use Rattle.language.specs.Image.{passes}
-use Rattle.language.specs.Rules.{mostWork}
+use Rattle.language.specs.Ceilings.{mostWork}
 use Rattle.language.specs.Step as S
-use Rattle.language.specs.Store.{Words}
+use Rattle.language.specs.Store.{StoreWords}
 use Rattle.about_running.specs.FewConflicts.{few-conflicts}
 use Rattle.about_running.specs.NeverStuck.{legal-image}
 use Rattle.image_sections.proofs.DescribedLaws.{operations-count}
@@ -43,11 +43,11 @@ module _ (image : List ℕ) (passed : passes image ≡ true) where
   operations-many = operations-count (sectionsIn image)
 
   -- Conflicts are so few that 32 bits count them all.
-  pub all-counted : (s : Words) (r : S.Record) (ins : Words) → counted (S.step (decode image) s r ins) ≡ S.step (decode image) s r ins
+  pub all-counted : (s : StoreWords) (r : S.Record) (ins : StoreWords) → counted (S.step (decode image) s r ins) ≡ S.step (decode image) s r ins
   unfolding mostWork
   all-counted s r ins = go (S.step d s r ins) (λ s′ r′ n q. few-conflicts d (legal-image image passed) s r ins q)
     where
-      go : (o : S.Outcome) → ((s′ : Words) (r′ : S.Record) (n : ℕ) → o ≡ S.completed s′ r′ n → n ≤ mostWork) → counted o ≡ o
+      go : (o : S.Outcome) → ((s′ : StoreWords) (r′ : S.Record) (n : ℕ) → o ≡ S.completed s′ r′ n → n ≤ mostWork) → counted o ≡ o
       go (S.completed s′ r′ n) few = let m = few s′ r′ n refl in let e : min n 4294967295 ≡ n = omega (arith, m) in ap (S.completed s′ r′) e
       go (S.stopped k) few = refl
       go (S.stuck x) few = refl

@@ -10,7 +10,7 @@ use lib.Seq.{drop-append-le, drop-at, drop-drop, length-take-le, take-append-le}
 use Rattle.language.specs.Calls.{over}
 use Rattle.language.specs.Description.{Facility, isComputed, wordCount, wordLength}
 use Rattle.language.specs.Layout.{facilityBytes, storeSizeOf, wordBytes, wordFromBytes}
-use Rattle.language.specs.Store.{Words, begin, begun, facilityWords, fromBytes, headOf, inputsOf, isInput, toBytes, wordsFrom, zeroWords}
+use Rattle.language.specs.Store.{StoreWords, begin, begun, facilityWords, fromBytes, headOf, inputsOf, isInput, toBytes, wordsFrom, zeroWords}
 use Rattle.language.specs.Tree.{Kind, computed, input, memory, plain, register, sequencing}
 use Rattle.store_layout.proofs.ByteLists.{bytes-append, bytes-drop}
 use Rattle.store_layout.proofs.Inverse.{bytes-again}
@@ -54,7 +54,7 @@ facility-cleared f e =
     let l : length Z ≡ n = length-replicate n 0 in
     ap headOf (store-zero (f ∷ []) Z (bytes-zeros n) (zeros n) (omega (arith, l))) ∙ ap (λ (b : Bool). cond b [] (replicate (wordCount f) 0)) e
 
-facility-begun : (f : Facility) (B S : List ℕ) (ins : Words) → Room (f .kind) (facilityBytes f) B S → (isInput (f .kind) ≡ true → headOf ins ≡ facilityWords f S)
+facility-begun : (f : Facility) (B S : List ℕ) (ins : StoreWords) → Room (f .kind) (facilityBytes f) B S → (isInput (f .kind) ≡ true → headOf ins ≡ facilityWords f S)
     → facilityWords f (bytesBegun (f .kind) (facilityBytes f) B S) ≡ begun (f .kind) f (facilityWords f B) ins
 facility-begun f B S ins = by-kind (f .kind) refl
   where
@@ -135,7 +135,7 @@ unfolding fromBytes beginBytes begin
 begin-words [] B S r = refl
 begin-words (f ∷ fs) B S r =
     let rest = beginBytes fs (drop (facilityBytes f) B) (drop (inputBytes f) S) in
-    ap₂ (λ (x : List ℕ) (xs : Words). x ∷ xs) (first-words f fs B S r rest)
+    ap₂ (λ (x : List ℕ) (xs : StoreWords). x ∷ xs) (first-words f fs B S r rest)
     (ap (fromBytes fs) (first-rest f fs B S r rest)
     ∙ (begin-words fs (drop (facilityBytes f) B) (drop (inputBytes f) S) (rooms-more f fs B S r)
     ∙ ap (begin fs (fromBytes fs (drop (facilityBytes f) B))) (inputs-tail f fs S)))
@@ -166,7 +166,7 @@ begin-rest (f ∷ fs) B S r =
 
 module _ (fs : List Facility) (B S : List ℕ) (b : Bytes B) (s : Bytes S) (r : Rooms fs B S) where
   -- The words that the cycle begins with.
-  abbrev pub wordsBegun : Words
+  abbrev pub wordsBegun : StoreWords
   wordsBegun = begin fs (fromBytes fs B) (fromBytes (inputsOf fs) S)
 
   -- Their bytes, in front of what lies beyond the store.

@@ -9,7 +9,7 @@ use Rattle.language.specs.Acting as T
 use Rattle.language.specs.Description.{Description, sequencingOf, stateAt}
 use Rattle.language.specs.Meaning.{noStateValue}
 use Rattle.language.specs.Step as S
-use Rattle.language.specs.Store.{Held, Words, fromBytes}
+use Rattle.language.specs.Store.{Held, StoreWords, fromBytes}
 use Rattle.language.specs.declared.stops.Stop.{Stop}
 use Rattle.run_stores.specs.declared.doing.Doing.{Doing}
 use Rattle.run_next.proofs.NextLaws.{next-seen, record-seen, stop-seen}
@@ -44,5 +44,5 @@ module _ (d : Description) (r : S.Record) (c : T.Doing Held) (g : Doing) (B : Li
     pub entered-none : S.Entered.stuck noStateValue ≡ S.setRegister d (sequencingOf d) (stateAt d (after .state) .value) (fromBytes (d .facilities) B) → S.stuck noStateValue ≡ counted (S.orStopped d r c none)
     entered-none e = ap (λ (x : S.Entered). counted (S.entered d r c x)) (set-so e)
 
-    pub entered-some : {A : Words} → S.into A ≡ S.setRegister d (sequencingOf d) (stateAt d (after .state) .value) (fromBytes (d .facilities) B) → S.completed A after (g .conflicts) ≡ counted (S.orStopped d r c none)
+    pub entered-some : {A : StoreWords} → S.into A ≡ S.setRegister d (sequencingOf d) (stateAt d (after .state) .value) (fromBytes (d .facilities) B) → S.completed A after (g .conflicts) ≡ counted (S.orStopped d r c none)
     entered-some e = rw (p, l .counts) (ap (λ (x : S.Entered). counted (S.entered d r c x)) (set-so e))

@@ -9,7 +9,7 @@ use Rattle.language.specs.Description.{Description, constantValue, facilityAt, 
 use Rattle.language.specs.Encode.{stateSize}
 use Rattle.language.specs.Meaning.{noStateValue}
 use Rattle.language.specs.Step.{Entered, into, setRegister}
-use Rattle.language.specs.Store.{Words, setWord}
+use Rattle.language.specs.Store.{StoreWords, setWord}
 use Rattle.run_references.specs.Described.{Describes}
 use Rattle.run_next.specs.Values.{Valued}
 
@@ -17,7 +17,7 @@ use Rattle.run_next.specs.Values.{Valued}
 pub record Holds (d : Description) : Type 0 where
   pub short : (f : ℕ) → sequencingOf d ≡ some f → wordLength (facilityAt d f) ≤ 256
   pub fits : (f s n : ℕ) → sequencingOf d ≡ some f → stateAt d s .value ≡ some n → constantValue (nodeAt d n) .number < 2 ^ wordLength (facilityAt d f)
-  pub takes : (f s n : ℕ) (u : Words) → sequencingOf d ≡ some f → stateAt d s .value ≡ some n → setRegister d (some f) (some n) u ≡ into (setWord u f 0 (constantValue (nodeAt d n) .number))
+  pub takes : (f s n : ℕ) (u : StoreWords) → sequencingOf d ≡ some f → stateAt d s .value ≡ some n → setRegister d (some f) (some n) u ≡ into (setWord u f 0 (constantValue (nodeAt d n) .number))
 
 -- The sections of facilities, expressions and states describe d, whose sequencing register holds the values of states.
 pub record Enters (d : Description) (F E T : List ℕ) : Type 0 where
@@ -27,6 +27,6 @@ pub record Enters (d : Description) (F E T : List ℕ) : Type 0 where
   pub states : length (d .states) ≡ length T / stateSize
 
 -- The words left, unless the state entered has no value.
-abbrev pub entered : Bool → Words → Entered
+abbrev pub entered : Bool → StoreWords → Entered
 entered true s = into s
 entered false s = Entered.stuck noStateValue

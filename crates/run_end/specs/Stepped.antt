@@ -7,7 +7,7 @@ use lib.ListN.{length, replicate}
 use Rattle.language.specs.Acting as T
 use Rattle.language.specs.Description.{Description, Facility}
 use Rattle.language.specs.Step as S
-use Rattle.language.specs.Store.{Held, Words, conflicts, fromBytes, landAll}
+use Rattle.language.specs.Store.{Held, StoreWords, conflicts, fromBytes, landAll}
 use Rattle.store_layout.specs.InBytes.{InBytes, waiting}
 use Rattle.run_references.specs.Worth.{stuckMeant}
 use Rattle.run_stores.specs.declared.doing.Doing.{Doing}
@@ -43,7 +43,7 @@ nothingIn B P M = record { store = record { bytes = B; waiting = waiting P M }; 
 
 -- ---- Answers.
 
-abbrev pub ended : CycleEnd → Words → S.Record → ℕ → S.Outcome
+abbrev pub ended : CycleEnd → StoreWords → S.Record → ℕ → S.Outcome
 ended Ends.Completed s r n = S.completed s r n
 ended (Ends.Stopped k) s r n = S.stopped k
 ended (Ends.Stuck x) s r n = S.stuck (stuckMeant x)

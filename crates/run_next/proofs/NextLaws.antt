@@ -11,7 +11,7 @@ use lib.ListN.{getD, length, set}
 use Rattle.language.specs.Acting as T
 use Rattle.language.specs.Description.{Description}
 use Rattle.language.specs.Step as S
-use Rattle.language.specs.Step.{mostReturns}
+use Rattle.language.specs.Ceilings.{mostReturns}
 use Rattle.language.specs.Store.{Held}
 use Rattle.language.specs.Value.{bit}
 use Rattle.run_stores.specs.Seen.{States}

@@ -11,7 +11,7 @@ use lib.Seq.{drop-cons}
 use Rattle.language.specs.Description.{Description, Facility, facilityAt, isComputed, isSequencing, noFacility, sequencingFrom, wordCount, wordLength}
 use Rattle.language.specs.Layout.{placeIn, storeSizeOf, wordBytes}
 use Rattle.language.specs.Store.{fromBytes, wordOf}
-use Rattle.language.specs.Value.{longest}
+use Rattle.language.specs.Ceilings.{longest}
 use Rattle.image_sections.specs.Declarations.{FacilityRead, facilityMeant}
 use Rattle.image_sections.specs.declared.facilities.FacilityRecord as Read
 use Rattle.store_layout.proofs.StoreWords.{in-store, word-from}

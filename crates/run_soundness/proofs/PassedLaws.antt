@@ -17,10 +17,11 @@ use Rattle.language.specs.Encode.{expressionsSection, facilitiesSection, facili
 use Rattle.language.specs.Image.{passes}
 use Rattle.language.specs.Layout.{facilityBytes, placeIn, storeSizeOf}
 use Rattle.language.specs.declared.refusals.Refusal.the-variants.{BadSequencing}
-use Rattle.language.specs.Rules.{boundsFaults, facilitiesFaults, facilityFaults, orElse, sequencingRight}
+use Rattle.language.specs.Rules.{boundsFaults, facilitiesFaults, facilityFaults, firstFaults, sequencingRight}
 use Rattle.language.specs.Step.{into, setRegister}
-use Rattle.language.specs.Store.{Words, setWord}
-use Rattle.language.specs.Value.{Value, longest}
+use Rattle.language.specs.Store.{StoreWords, setWord}
+use Rattle.language.specs.Value.{Value}
+use Rattle.language.specs.Ceilings.{longest}
 use Rattle.about_running.specs.Judged.{append-none-left, append-none-right, unless-none}
 use Rattle.about_running.specs.NeverStuck.{legal-image}
 use Rattle.about_running.specs.StateValues.{Bears, bears-value, none-borne}
@@ -55,7 +56,7 @@ store-small d n another before [] e b = omega arith
 store-small d n another before (f ∷ fs) e b =
     let at = facilityPlace noPlaces n in
     let m = store-fits d n another before f (or-else-both d noPlaces (boundsFaults d noPlaces f at) (facilityFaults d noPlaces n another before f at) (append-none-left _ _ e)) in
-    let rest = append-none-right (orElse d noPlaces (boundsFaults d noPlaces f at) (facilityFaults d noPlaces n another before f at)) _ e in
+    let rest = append-none-right (firstFaults d noPlaces (boundsFaults d noPlaces f at) (facilityFaults d noPlaces n another before f at)) _ e in
     omega (arith, store-small d (suc n) (another || isSequencing (f .kind)) (before + facilityBytes f) fs rest m)
 
 -- ---- The image.
@@ -159,7 +160,7 @@ module _ (image : List ℕ) (passed : passes image ≡ true) where
         let z : b .register ≡ f = let e = sym (b .registered) ∙ q in cc in
         rw (← b .same, b .bears .is, ← z) (b .bears .fits)
 
-    pub passed-takes : (u : Words) → setRegister (decode image) (some f) (some n) u ≡ into (setWord u f 0 (constantValue (nodeAt (decode image) n) .number))
+    pub passed-takes : (u : StoreWords) → setRegister (decode image) (some f) (some n) u ≡ into (setWord u f 0 (constantValue (nodeAt (decode image) n) .number))
     passed-takes u =
         let b = value-borne s n v in
         let z : b .register ≡ f = let e = sym (b .registered) ∙ q in cc in

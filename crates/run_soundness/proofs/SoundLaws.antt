@@ -8,7 +8,8 @@ use Prim.Native.Nat.{ℕ}
 use Rattle.language.specs.Calls.{soundBytes}
 use Rattle.language.specs.Description.{Description, sequencingOf}
 use Rattle.language.specs.RecordBytes.{agrees, marked, recordFrom, returnsSound, sound}
-use Rattle.language.specs.Step.{Record, mostReturns, registerValue, stateNumber}
+use Rattle.language.specs.Step.{Record, registerValue, stateNumber}
+use Rattle.language.specs.Ceilings.{mostReturns}
 use Rattle.language.specs.Store.{fromBytes, narrow}
 use Rattle.run_soundness.specs.Tested.{recordSound}
 use Rattle.language.specs.Tests.{both}

@@ -9,7 +9,8 @@ use lib.ListN.{length}
 use Rattle.language.specs.Description.{Description, Facility, facilityAt, isComputed, sequencingOf, wordCount, wordLength}
 use Rattle.language.specs.Encode.{stateSize}
 use Rattle.language.specs.RecordBytes.{returnsSound}
-use Rattle.language.specs.Step.{Record, mostReturns}
+use Rattle.language.specs.Step.{Record}
+use Rattle.language.specs.Ceilings.{mostReturns}
 use Rattle.store_layout.specs.Spare.{narrowAt}
 use Rattle.run_references.specs.Described.{Describes}
 use Rattle.run_next.specs.Values.{Valued}

@@ -11,10 +11,11 @@ use Rattle.language.specs.Description.{Description, stateAt}
 use Rattle.language.specs.Layout.{storeSizeOf}
 use Rattle.language.specs.Meaning.{noState}
 use Rattle.language.specs.Step as S
-use Rattle.language.specs.Step.{lastCycle, nothingDone}
+use Rattle.language.specs.Step.{nothingDone}
+use Rattle.language.specs.Ceilings.{lastCycle}
 use Rattle.language.specs.declared.stops.Stop.{Stop}
 use Rattle.language.specs.declared.stops.Stop.the-variants.{LastCycleReached}
-use Rattle.language.specs.Store.{Held, Words, begin, fromBytes, inputsOf, numbers, toBytes}
+use Rattle.language.specs.Store.{Held, StoreWords, begin, fromBytes, inputsOf, numbers, toBytes}
 use Rattle.store_layout.proofs.Zeros.{Zeros}
 use Rattle.store_layout.specs.InBytes.{bytes}
 use Rattle.store_layout.specs.Layout.{Bytes}
@@ -31,7 +32,7 @@ use Rattle.run_end.specs.Stepped.{Clear, Landed, counted, nothingIn}
 use Rattle.run_step.proofs.Finished.{Ended, run-ended}
 use Rattle.run_step.proofs.Joined.{actions-joined}
 
-module _ (d : Description) (s : Words) (r : S.Record) (ins : Words) where
+module _ (d : Description) (s : StoreWords) (r : S.Record) (ins : StoreWords) where
   pub step-last : 4294967295 ≤ r .cycle → S.stopped LastCycleReached ≡ counted (S.step d s r ins)
   unfolding S.step lastCycle
   step-last h = rw (le-leb 4294967295 (r .cycle) h)
@@ -49,7 +50,7 @@ module _ (d : Description) (s : Words) (r : S.Record) (ins : Words) where
 
 module _ (d : Description) (B P M I : List ℕ) (bytes-B : Bytes B) (bytes-P : Bytes P) (bytes-M : Bytes M) (bytes-I : Bytes I)
     (room : storeSizeOf (d .facilities) ≤ length B) (enough : stimulusSize d ≤ length I) (clear : Clear B P M) where
-  abbrev begun : Words
+  abbrev begun : StoreWords
   begun = begin (d .facilities) (fromBytes (d .facilities) B) (fromBytes (inputsOf (d .facilities)) I)
 
   -- The bytes that the actions begin with.

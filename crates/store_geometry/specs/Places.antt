@@ -8,7 +8,7 @@ use borrow.Author.Tests.{le-leb, leb-false, leb-true, lt-leb}
 use lib.Dec.{leb}
 use Rattle.language.specs.Description.{Facility}
 use Rattle.language.specs.Layout.{facilityBytes, storeSizeOf}
-use Rattle.language.specs.Rules.{largestStore}
+use Rattle.language.specs.Ceilings.{largestStore}
 
 -- A place or size up to the ceiling of a store; one more stands for every larger one.
 unfoldable pub capped : ℕ → ℕ

@@ -1,4 +1,4 @@
--- Words to bytes and back, and bytes to words and back. Assumes nothing.
+-- StoreWords to bytes and back, and bytes to words and back. Assumes nothing.
 use mathlib.Core.Path.{_≡_, refl, sym, ap, ap₂, _∙_}
 use mathlib.Core.Bool.{Bool, true, false, cond}
 use mathlib.Core.List.{List, [], _∷_, _++_, append-assoc}
@@ -11,7 +11,7 @@ use lib.Pow.{pow-mono}
 use lib.Seq.{drop-at, length-take-le, take-add, take-at}
 use Rattle.language.specs.Description.{Facility, isComputed, wordCount, wordLength}
 use Rattle.language.specs.Layout.{facilityBytes, noSpareBits, storeSizeOf, wordBytes, wordFromBytes, wordToBytes}
-use Rattle.language.specs.Store.{Words, allNarrow, facilityWords, fromBytes, narrow, toBytes, wordsFrom, wordsTo}
+use Rattle.language.specs.Store.{StoreWords, allNarrow, facilityWords, fromBytes, narrow, toBytes, wordsFrom, wordsTo}
 use Rattle.store_layout.specs.InBytes.{Shaped, rowLength}
 use Rattle.store_layout.specs.Layout.{Bytes}
 use Rattle.store_layout.proofs.ByteLists.{bytes-drop, bytes-take}
@@ -95,19 +95,19 @@ module _ (f : Facility) (ws rest : List ℕ) (size : length ws ≡ rowLength f) 
       go true e = none ws e
       go false e = ap (λ (n : ℕ). wordsFrom n (wordLength f) (wordsTo (wordLength f) ws ++ rest)) (sym e) ∙ words-again (wordLength f) ws rest h
 
-pub length-to : (fs : List Facility) (s : Words) → Shaped fs s → length (toBytes fs s) ≡ storeSizeOf fs
+pub length-to : (fs : List Facility) (s : StoreWords) → Shaped fs s → length (toBytes fs s) ≡ storeSizeOf fs
 unfolding toBytes storeSizeOf
 length-to [] [] h = refl
 length-to [] (ws ∷ s) h = absurd h
 length-to (f ∷ fs) [] h = absurd h
 length-to (f ∷ fs) (ws ∷ s) h = length-append (wordsTo (wordLength f) ws) (toBytes fs s) ∙ ap₂ (λ (m n : ℕ). m + n) (row-bytes f ws [] (h .0)) (length-to fs s (h .1))
 
-pub words-same : (fs : List Facility) (s : Words) → Shaped fs s → narrow fs s ≡ true → fromBytes fs (toBytes fs s) ≡ s
+pub words-same : (fs : List Facility) (s : StoreWords) → Shaped fs s → narrow fs s ≡ true → fromBytes fs (toBytes fs s) ≡ s
 unfolding toBytes fromBytes narrow
 words-same [] [] h n = refl
 words-same [] (ws ∷ s) h n = absurd h
 words-same (f ∷ fs) [] h n = absurd h
 words-same (f ∷ fs) (ws ∷ s) h n =
     let t = both-true (allNarrow (wordLength f) ws) (narrow fs s) n in
-    ap₂ (λ (r : List ℕ) (q : Words). r ∷ q) (row-again f ws (toBytes fs s) (h .0) (t .0))
+    ap₂ (λ (r : List ℕ) (q : StoreWords). r ∷ q) (row-again f ws (toBytes fs s) (h .0) (t .0))
     (ap (fromBytes fs) (drop-at (wordsTo (wordLength f) ws) (toBytes fs s) (facilityBytes f) (row-bytes f ws [] (h .0))) ∙ words-same fs s (h .1) (t .1))

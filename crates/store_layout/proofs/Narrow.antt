@@ -11,7 +11,7 @@ use lib.Pow.{pow-pos}
 use Rattle.language.specs.Description.{Description, Facility, facilityAt, noFacility, wordLength}
 use Rattle.language.specs.Layout.{noSpareBits}
 use Rattle.language.specs.Meaning.{Write}
-use Rattle.language.specs.Store.{Words, allNarrow, lowOf, narrow, putPart, setWord, wordOf}
+use Rattle.language.specs.Store.{StoreWords, allNarrow, lowOf, narrow, putPart, setWord, wordOf}
 use Rattle.language.specs.Value.{replaced}
 use Rattle.store_layout.proofs.Inverse.{both-true}
 use Rattle.store_layout.proofs.Numbers.{replaced-lt}
@@ -30,14 +30,14 @@ unfolding allNarrow noSpareBits
 row-is l [] h = refl
 row-is l (x ∷ ws) h = rw (lt-ltb x (2 ^ l) (h 0)) (row-is l ws (λ w. h (suc w)))
 
-pub narrow-at : (fs : List Facility) (s : Words) → narrow fs s ≡ true → (f w : ℕ) → f < length fs → wordOf s f w < 2 ^ wordLength (getD fs f noFacility)
+pub narrow-at : (fs : List Facility) (s : StoreWords) → narrow fs s ≡ true → (f w : ℕ) → f < length fs → wordOf s f w < 2 ^ wordLength (getD fs f noFacility)
 unfolding narrow wordOf
 narrow-at [] s h f w l = absurd (omega arith)
 narrow-at (c ∷ fs) [] h f w l = pow-pos (wordLength (getD (c ∷ fs) f noFacility))
 narrow-at (c ∷ fs) (ws ∷ s) h zero w l = row-at (wordLength c) ws w (both-true (allNarrow (wordLength c) ws) (narrow fs s) h .0)
 narrow-at (c ∷ fs) (ws ∷ s) h (suc f) w l = narrow-at fs s (both-true (allNarrow (wordLength c) ws) (narrow fs s) h .1) f w (omega arith)
 
-pub narrow-is : (fs : List Facility) (s : Words) → ((f w : ℕ) → f < length fs → wordOf s f w < 2 ^ wordLength (getD fs f noFacility)) → narrow fs s ≡ true
+pub narrow-is : (fs : List Facility) (s : StoreWords) → ((f w : ℕ) → f < length fs → wordOf s f w < 2 ^ wordLength (getD fs f noFacility)) → narrow fs s ≡ true
 unfolding narrow wordOf
 narrow-is [] s h = refl
 narrow-is (c ∷ fs) [] h = refl
@@ -45,7 +45,7 @@ narrow-is (c ∷ fs) (ws ∷ s) h = rw (row-is (wordLength c) ws (λ w. h 0 w (o
 
 -- ---- A part put.
 
-pub narrow-put : (d : Description) (s : Words) (w : Write) → w .at .facility < length s → w .at .word < length (getD s (w .at .facility) []) → w .at .from + w .at .count ≤ wordLength (facilityAt d (w .at .facility))
+pub narrow-put : (d : Description) (s : StoreWords) (w : Write) → w .at .facility < length s → w .at .word < length (getD s (w .at .facility) []) → w .at .from + w .at .count ≤ wordLength (facilityAt d (w .at .facility))
     → narrow (d .facilities) s ≡ true → narrow (d .facilities) (putPart d s w) ≡ true
 unfolding putPart facilityAt
 narrow-put d s w row-in word-in part-in h = narrow-is (d .facilities) (setWord s (w .at .facility) (w .at .word) x) (λ f i l. go f i l (eqb f (w .at .facility)) refl (eqb i (w .at .word)) refl)

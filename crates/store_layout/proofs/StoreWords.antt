@@ -12,22 +12,22 @@ use lib.ListN.{drop, getD, length, length-set, set, take}
 use lib.Seq.{drop-drop, ext-getD, getD-set-other, getD-set-same}
 use Rattle.language.specs.Description.{Facility, isComputed, noFacility, wordCount, wordLength}
 use Rattle.language.specs.Layout.{facilityBytes, placeIn, storeSizeOf, wordBytes, wordFromBytes}
-use Rattle.language.specs.Store.{Words, facilityWords, fromBytes, setWord, wordOf, wordsFrom}
+use Rattle.language.specs.Store.{StoreWords, facilityWords, fromBytes, setWord, wordOf, wordsFrom}
 use Rattle.store_layout.specs.InBytes.{Shaped, Stored, placeOfWord, rowLength}
 use Rattle.store_layout.specs.Layout.{wordIn}
 
--- ---- Words by their elements.
+-- ---- StoreWords by their elements.
 
 -- As many facilities, and as many words in each.
-pub record Same (s t : Words) : Type 0 where
+pub record Same (s t : StoreWords) : Type 0 where
   pub rows : length s ≡ length t
   pub words : (f : ℕ) → length (getD s f []) ≡ length (getD t f [])
 
-pub words-ext : (s t : Words) → Same s t → ((f w : ℕ) → w < length (getD s f []) → wordOf s f w ≡ wordOf t f w) → s ≡ t
+pub words-ext : (s t : StoreWords) → Same s t → ((f w : ℕ) → w < length (getD s f []) → wordOf s f w ≡ wordOf t f w) → s ≡ t
 unfolding wordOf
 words-ext s t e h = ext-getD [] s t (e .rows) (λ f g. ext-getD 0 (getD s f []) (getD t f []) (e .words f) (λ w l. h f w l))
 
-module _ (s : Words) (f w x : ℕ) where
+module _ (s : StoreWords) (f w x : ℕ) where
   row-set : f < length s → getD (setWord s f w x) f [] ≡ set (getD s f []) w x
   unfolding setWord
   row-set h = getD-set-same s f (set (getD s f []) w x) [] h
@@ -61,7 +61,7 @@ module _ (s : Words) (f w x : ℕ) where
           rw p (ap (λ (r : List ℕ). getD r v 0) (row-set h) ∙ getD-set-other (getD s f []) w v x 0 (λ q. n p q))
       go false e = ap (λ (r : List ℕ). getD r v 0) (row-other g (eqb-false g f e))
 
--- ---- Words by their bytes.
+-- ---- StoreWords by their bytes.
 
 word-drop : (B : List ℕ) (k at l : ℕ) → wordIn (drop k B) at l ≡ wordIn B (k + at) l
 unfolding wordIn
@@ -151,7 +151,7 @@ word-from fs B f w s =
     ap (λ (r : List ℕ). getD r w 0) (row-at fs B f (s .there) ∙ ap (λ (b : Bool). cond b [] (wordsFrom (wordCount g) l (drop (placeIn fs f) B))) (s .kept))
     ∙ words-at (wordCount g) l (drop (placeIn fs f) B) w (s .below) ∙ word-drop B (placeIn fs f) (w * wordBytes l) l
 
--- ---- Words lie apart, and in the store.
+-- ---- StoreWords lie apart, and in the store.
 
 stored-bytes : (fs : List Facility) (f w : ℕ) → Stored fs f w → facilityBytes (getD fs f noFacility) ≡ wordCount (getD fs f noFacility) * wordBytes (wordLength (getD fs f noFacility))
 unfolding facilityBytes
@@ -216,7 +216,7 @@ module _ (fs : List Facility) (A B : List ℕ) (f w x : ℕ) (here : Stored fs f
   pub one-set : fromBytes fs A ≡ setWord (fromBytes fs B) f w x
   one-set = words-ext (fromBytes fs A) after shape (λ g j h. word g j (stored-of fs A g j h) (eqb g f) refl (eqb j w) refl)
     where
-      after : Words
+      after : StoreWords
       after = setWord (fromBytes fs B) f w x
 
       row : (f < length (fromBytes fs B)) × (w < length (getD (fromBytes fs B) f []))

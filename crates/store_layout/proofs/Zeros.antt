@@ -10,7 +10,7 @@ use lib.ListN.{List·getD-eq-default, drop, getD, length, length-drop, replicate
 use lib.Seq.{getD-drop}
 use Rattle.language.specs.Description.{Facility, isComputed, wordCount, wordLength}
 use Rattle.language.specs.Layout.{facilityBytes, storeSizeOf, wordBytes}
-use Rattle.language.specs.Store.{Words, facilityWords, fromBytes, wordOf, wordsFrom, zeroWords}
+use Rattle.language.specs.Store.{StoreWords, facilityWords, fromBytes, wordOf, wordsFrom, zeroWords}
 use Rattle.store_layout.specs.Layout.{Bytes, wordIn}
 use Rattle.store_layout.proofs.ByteLists.{bytes-drop}
 use Rattle.store_layout.proofs.StoreWords.{in-store, stored-of, word-from}
@@ -42,7 +42,7 @@ pub store-zero : (fs : List Facility) (B : List ℕ) → Bytes B → Zeros B →
 unfolding fromBytes storeSizeOf zeroWords
 store-zero [] B b z h = refl
 store-zero (f ∷ fs) B b z h =
-    ap₂ (λ (r : List ℕ) (s : Words). r ∷ s) (facility-zero f B b z (omega arith))
+    ap₂ (λ (r : List ℕ) (s : StoreWords). r ∷ s) (facility-zero f B b z (omega arith))
     (store-zero fs (drop (facilityBytes f) B) (bytes-drop B (facilityBytes f) b) (zeros-drop B (facilityBytes f) z) (omega (arith, length-drop (facilityBytes f) B)))
 
 -- Each word is zero, even one that is not there.

@@ -5,7 +5,8 @@ use mathlib.Core.Path.{_≡_, refl}
 use Prim.Native.Nat.{ℕ}
 use Rattle.language.specs.Layout.{bytesOf, noSpareBits, numberAfter, wordBytes, wordFromBytes, wordToBytes}
 use Rattle.language.specs.Store.{allNarrow, wordsFrom}
-use Rattle.language.specs.Value.{longest, replaced, value}
+use Rattle.language.specs.Value.{replaced, value}
+use Rattle.language.specs.Ceilings.{longest}
 use Rattle.store_layout.specs.Layout.{position, withWord, wordIn}
 use Rattle.store_layout.specs.Parts.{inside, loaded, partIn, saved, withPart}
 use Rattle.store_layout.specs.Slices.{copied, landBits, landed}

@@ -8,7 +8,7 @@ use lib.ListN.{getD, length}
 use Rattle.language.specs.Description.{Description, Facility, facilityAt, isComputed, noFacility, wordCount, wordLength}
 use Rattle.language.specs.Layout.{placeIn, wordBytes}
 use Rattle.language.specs.Meaning.{Place, Stores, Write}
-use Rattle.language.specs.Store.{Words}
+use Rattle.language.specs.Store.{StoreWords}
 use Rattle.language.specs.Value.{bit}
 use Rattle.store_layout.specs.Parts.{loaded, saved}
 
@@ -17,7 +17,7 @@ unfoldable pub rowLength : Facility → ℕ
 rowLength f = cond (isComputed (f .kind)) 0 (wordCount f)
 
 -- A list of so many words for each facility.
-abbrev pub Shaped : List Facility → Words → Type 0
+abbrev pub Shaped : List Facility → StoreWords → Type 0
 Shaped [] [] = Unit {0}
 Shaped [] (ws ∷ s) = ⊥
 Shaped (f ∷ fs) [] = ⊥

@@ -5,7 +5,8 @@ use Prim.Native.Nat.{ℕ, _+_, _-_, _/_, _%_, _^_}
 use lib.Dec.{leb}
 use lib.ListN.{length}
 use Rattle.language.specs.Layout.{wordBytes}
-use Rattle.language.specs.Value.{Value, longest, replaced, value}
+use Rattle.language.specs.Value.{Value, replaced, value}
+use Rattle.language.specs.Ceilings.{longest}
 use Rattle.store_layout.specs.Layout.{withWord, wordIn}
 use Rattle.language.specs.Tests.{both}
 

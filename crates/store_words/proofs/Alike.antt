@@ -7,7 +7,7 @@ use lib.ListN.{length}
 use Rattle.language.specs.Description.{Description}
 use Rattle.language.specs.Layout.{storeSizeOf}
 use Rattle.language.specs.Meaning.{Place, Write}
-use Rattle.language.specs.Store.{Held, Words, conflicts, fromBytes, landAll, loadPart, numbers, putPart}
+use Rattle.language.specs.Store.{Held, StoreWords, conflicts, fromBytes, landAll, loadPart, numbers, putPart}
 use Rattle.store_layout.specs.InBytes.{InBytes, There, Waiting, bytes, delayed, delayedAll, waiting}
 use Rattle.store_layout.specs.Layout.{Bytes}
 use Rattle.store_layout.specs.Slices.{landed}
@@ -40,11 +40,11 @@ module _ (d : Description) where
       enough = omega (arith, m .size)
 
       pub loads-alike : (p : Place) → There d p → numbers d .load x p ≡ bytes d .load y p
-      loads-alike p h = ap (λ (s : Words). loadPart d s p) (m .same) ∙ sym (load-same d (y .bytes) (m .are-bytes) enough p h)
+      loads-alike p h = ap (λ (s : StoreWords). loadPart d s p) (m .same) ∙ sym (load-same d (y .bytes) (m .are-bytes) enough p h)
 
       pub puts-alike : (w : Write) → There d (w .at) → Means (numbers d .put x w) (bytes d .put y w)
       puts-alike w h = record {
-        same = ap (λ (s : Words). putPart d s w) (m .same) ∙ sym (save-same d (y .bytes) (m .are-bytes) enough (w .at) h (w .number));
+        same = ap (λ (s : StoreWords). putPart d s w) (m .same) ∙ sym (save-same d (y .bytes) (m .are-bytes) enough (w .at) h (w .number));
         are-bytes = bytes-put d (y .bytes) (m .are-bytes) enough (w .at) h (w .number);
         size = length-put d (y .bytes) (m .are-bytes) enough (w .at) h (w .number) ∙ m .size;
         delays = m .delays;
@@ -63,7 +63,7 @@ module _ (d : Description) where
       module _ (bytes-P : Bytes P₀) (bytes-M : Bytes M₀) (size-M : length M₀ ≡ length P₀) (clear : Zeros M₀) where
         pub lands-alike : landAll d (x .words) (x .waits) ≡ fromBytes (d .facilities) (landed (y .bytes) (y .waiting .pending) (y .waiting .mask))
         lands-alike =
-            ap (λ (s : Words). landAll d s (x .waits)) (m .same)
+            ap (λ (s : StoreWords). landAll d s (x .waits)) (m .same)
             ∙ sym (lands-same d (y .bytes) enough P₀ M₀ (m .are-bytes) bytes-P bytes-M (sym (m .size)) (size-M ∙ sym (m .size)) clear (x .waits) (m .there))
             ∙ ap (λ (a : Waiting). fromBytes (d .facilities) (landed (y .bytes) (a .pending) (a .mask))) (sym (m .delays))
 

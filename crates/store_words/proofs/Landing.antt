@@ -12,7 +12,7 @@ use lib.Pow.{high, ones-lt, ones-split, pow-add, pow-pos}
 use Rattle.language.specs.Description.{Description, noFacility, wordLength}
 use Rattle.language.specs.Layout.{storeSizeOf}
 use Rattle.language.specs.Meaning.{Place, Write}
-use Rattle.language.specs.Store.{Words, anyMeets, conflicts, fromBytes, landAll, loadPart, lowOf, meetsAny, putPart, putParts, setWord, wordOf}
+use Rattle.language.specs.Store.{StoreWords, anyMeets, conflicts, fromBytes, landAll, loadPart, lowOf, meetsAny, putPart, putParts, setWord, wordOf}
 use Rattle.language.specs.Value.{bit, replaced}
 use Rattle.store_layout.specs.Bits.{bitOf}
 use Rattle.store_layout.specs.InBytes.{Stored, There, Waiting, anyMarked, delayed, delayedAll, loadBytes, markAll, ones, placeOfWord, putAll, putBytes, waiting}
@@ -27,7 +27,7 @@ use Rattle.store_layout.proofs.Zeros.{Zeros, zero-word}
 
 -- ---- Bits after a put.
 
-module _ (d : Description) (s : Words) (w : Write) (row-in : w .at .facility < length s) (word-in : w .at .word < length (getD s (w .at .facility) [])) where
+module _ (d : Description) (s : StoreWords) (w : Write) (row-in : w .at .facility < length s) (word-in : w .at .word < length (getD s (w .at .facility) [])) where
   abbrev new : ℕ
   new = replaced (wordOf s (w .at .facility) (w .at .word)) (lowOf d (w .at)) (w .at .count) (w .number)
 
@@ -90,11 +90,11 @@ land-three {a} {b} {c} {x} {y} {z} e f g = ap (λ (n : ℕ). landBits n b c) e �
 -- ---- While delayed stores wait.
 
 module _ (d : Description) (B : List ℕ) where
-  abbrev words : List ℕ → Words
+  abbrev words : List ℕ → StoreWords
   words A = fromBytes (d .facilities) A
 
   -- s is what the writes so far make of the words of B; P and M hold them and the bits that they named.
-  pub record Tracks (s : Words) (P M : List ℕ) (earlier : List Write) : Type 0 where
+  pub record Tracks (s : StoreWords) (P M : List ℕ) (earlier : List Write) : Type 0 where
     pub shape : Same s (words B)
     pub bytes-P : Bytes P
     pub bytes-M : Bytes M
@@ -103,13 +103,13 @@ module _ (d : Description) (B : List ℕ) where
     pub marks : (f w k : ℕ) → bitOf (wordOf (words M) f w) k ≡ bit (named d earlier f w k)
     pub shows : (f w k : ℕ) → bitOf (wordOf s f w) k ≡ choose (bitOf (wordOf (words M) f w) k) (bitOf (wordOf (words P) f w) k) (bitOf (wordOf (words B) f w) k)
 
-  record Ran (s : Words) (a : Waiting) (n : ℕ) : Type 0 where
+  record Ran (s : StoreWords) (a : Waiting) (n : ℕ) : Type 0 where
     pub writes : List Write
     pub tracks : Tracks s (a .pending) (a .mask) writes
     pub counted : a .conflicts ≡ n
 
   module _ (room : storeSizeOf (d .facilities) ≤ length B) where
-    module _ (s : Words) (P M : List ℕ) (earlier : List Write) (t : Tracks s P M earlier) (w : Write) (here : There d (w .at)) where
+    module _ (s : StoreWords) (P M : List ℕ) (earlier : List Write) (t : Tracks s P M earlier) (w : Write) (here : There d (w .at)) where
       room-P : storeSizeOf (d .facilities) ≤ length P
       room-P = omega (arith, t .size-P)
 
@@ -128,8 +128,8 @@ module _ (d : Description) (B : List ℕ) where
       M-is : words (putBytes d M (ones w)) ≡ putPart d (words M) (ones w)
       M-is = save-same d M (t .bytes-M) room-M (w .at) here (2 ^ 256 - 1)
 
-      at-bit : {A C : Words} → A ≡ C → (f i k : ℕ) → bitOf (wordOf A f i) k ≡ bitOf (wordOf C f i) k
-      at-bit e f i k = ap (λ (x : Words). bitOf (wordOf x f i) k) e
+      at-bit : {A C : StoreWords} → A ≡ C → (f i k : ℕ) → bitOf (wordOf A f i) k ≡ bitOf (wordOf C f i) k
+      at-bit e f i k = ap (λ (x : StoreWords). bitOf (wordOf x f i) k) e
 
       later : (f i k : ℕ) → named d (earlier ++ w ∷ []) f i k ≡ (named d earlier f i k || names d (w .at) f i k)
       unfolding named
@@ -170,7 +170,7 @@ module _ (d : Description) (B : List ℕ) where
       }
 
     -- A conflict: the mask has a bit of the place exactly where an earlier write meets it.
-    marked-meets : (s : Words) (P M : List ℕ) (earlier : List Write) → Tracks s P M earlier → AllThere d earlier → (p : Place) → There d p → ltb 0 (loadBytes d M p) ≡ meetsAny p earlier
+    marked-meets : (s : StoreWords) (P M : List ℕ) (earlier : List Write) → Tracks s P M earlier → AllThere d earlier → (p : Place) → There d p → ltb 0 (loadBytes d M p) ≡ meetsAny p earlier
     unfolding loadPart
     marked-meets s P M earlier t all p here =
         ap (ltb 0) (load-same d M (t .bytes-M) (omega (arith, t .size-M)) p here) ∙ go (meets-either d p earlier here all)
@@ -181,14 +181,14 @@ module _ (d : Description) (B : List ℕ) where
         go (free e n) =
             ap (ltb 0) (part-zero (wordOf (words M) (p .facility) (p .word)) (lowOf d p) (p .count) (λ k a b. t .marks (p .facility) (p .word) k ∙ ap bit (n k a b))) ∙ sym e
 
-    any-meets : (s : Words) (P M : List ℕ) (earlier : List Write) → Tracks s P M earlier → AllThere d earlier → (g : List Write) → AllThere d g → anyMarked d M g ≡ anyMeets g earlier
+    any-meets : (s : StoreWords) (P M : List ℕ) (earlier : List Write) → Tracks s P M earlier → AllThere d earlier → (g : List Write) → AllThere d g → anyMarked d M g ≡ anyMeets g earlier
     unfolding anyMarked anyMeets
     any-meets s P M earlier t all [] h = refl
     any-meets s P M earlier t all (w ∷ ws) h = ap₂ (λ (a b : Bool). a || b) (marked-meets s P M earlier t all (w .at) (h .0)) (any-meets s P M earlier t all ws (h .1))
 
     -- ---- One delayed store, and all of them.
 
-    tracks-group : (g : List Write) (s : Words) (P M : List ℕ) (earlier : List Write) → AllThere d g → Tracks s P M earlier → Tracks (putParts d s g) (putAll d P g) (markAll d M g) (earlier ++ g)
+    tracks-group : (g : List Write) (s : StoreWords) (P M : List ℕ) (earlier : List Write) → AllThere d g → Tracks s P M earlier → Tracks (putParts d s g) (putAll d P g) (markAll d M g) (earlier ++ g)
     unfolding putParts putAll markAll
     tracks-group [] s P M earlier h t = subst (Tracks s P M) (sym (append-nil earlier)) t
     tracks-group (w ∷ ws) s P M earlier h t =
@@ -199,7 +199,7 @@ module _ (d : Description) (B : List ℕ) where
     all-append [] ys h g = g
     all-append (x ∷ xs) ys h g = (h .0, all-append xs ys (h .1) g)
 
-    run : (gs : List (List Write)) (earlier : List Write) (s : Words) (a : Waiting) (n : ℕ) → GroupsThere d gs → AllThere d earlier → Tracks s (a .pending) (a .mask) earlier → a .conflicts ≡ n
+    run : (gs : List (List Write)) (earlier : List Write) (s : StoreWords) (a : Waiting) (n : ℕ) → GroupsThere d gs → AllThere d earlier → Tracks s (a .pending) (a .mask) earlier → a .conflicts ≡ n
         → Ran (landAll d s gs) (delayedAll d a gs) (n + conflicts earlier gs)
     unfolding landAll delayedAll conflicts
     run [] earlier s a n h all t e = record { writes = earlier; tracks = t; counted = e ∙ sym (add-zero n) }

@@ -11,7 +11,8 @@ use lib.Dec.{leb}
 use lib.ListN.{getD, length, set}
 use lib.Pow.{mod-pow-add, pow-pos, shr-shr}
 use Rattle.language.specs.Layout.{wordBytes}
-use Rattle.language.specs.Value.{longest, replaced, value}
+use Rattle.language.specs.Value.{replaced, value}
+use Rattle.language.specs.Ceilings.{longest}
 use Rattle.value_limbs.specs.Limbs.{cat, four}
 use Rattle.value_limbs.specs.declared.Four.{Four}
 use Rattle.value_limbs.proofs.Laws.{Below}

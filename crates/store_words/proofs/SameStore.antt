@@ -9,7 +9,7 @@ use lib.ListN.{getD, length}
 use Rattle.language.specs.Description.{Description, facilityAt, noFacility, wordLength}
 use Rattle.language.specs.Layout.{storeSizeOf, wordBytes}
 use Rattle.language.specs.Meaning.{Place}
-use Rattle.language.specs.Store.{Words, fromBytes, loadPart, lowOf, putPart, wordOf}
+use Rattle.language.specs.Store.{StoreWords, fromBytes, loadPart, lowOf, putPart, wordOf}
 use Rattle.language.specs.Value.{Value, replaced}
 use Rattle.store_layout.specs.InBytes.{Stored, There, loadBytes, placeOfWord, putBytes}
 use Rattle.store_layout.specs.Layout.{Bytes, wordIn}
@@ -26,7 +26,7 @@ module _ (d : Description) (B : List ℕ) (bytes : Bytes B) (room : storeSizeOf 
   abbrev l : ℕ
   l = wordLength (facilityAt d (p .facility))
 
-  abbrev store : Words
+  abbrev store : StoreWords
   store = fromBytes (d .facilities) B
 
   fits : at + wordBytes l ≤ length B

@@ -14,11 +14,12 @@ use lib.Seq.{drop-drop, getD-drop}
 use borrow.Rule.Slice.PartAt.{part-to-end}
 use borrow.Author.Tests.{eq-eqb, ne-eqb, le-leb, lt-leb, lt-ltb}
 use Rattle.language.specs.Characters.{digitWorth, folded}
-use Rattle.language.specs.Constants.{bareConstant, bareLargest, binaryConstant, decimalConstant, digitsNumber}
+use Rattle.language.specs.Constants.{bareConstant, binaryConstant, decimalConstant, digitsNumber}
 use Rattle.language.specs.declared.refusals.Refusal.the-variants.{BadConstant}
 use Rattle.language.specs.Scan as L
 use Rattle.language.specs.Scan.{based, basedItem, bareAt, binaryAt, constantAt, decimalAt, digitBits, digitsOf, found, isDigitOf, span, written, wrong}
-use Rattle.language.specs.Value.{Value, fit, longest, made, none}
+use Rattle.language.specs.Value.{Value, fit, made, none}
+use Rattle.language.specs.Ceilings.{bareLargest, longest}
 use Rattle.language.specs.Words.{Constant}
 use Rattle.value_constants.specs.Digits.{Held, Written, bare, counting, decimalMore, holding, onLeft, onRight}
 use Rattle.value_constants.proofs.Digits.{bare-made, bare-refused, counted-number, decimal-made, left-made, right-made, start-left}

@@ -10,7 +10,8 @@ use lib.Seq.{length-take-le}
 use borrow.Author.Tests.{eq-eqb, ne-eqb, le-leb, lt-leb}
 use Rattle.language.specs.Characters.{classOf, folded}
 use Rattle.language.specs.declared.refusals.Refusal.the-variants.{BadCharacter, BadName}
-use Rattle.language.specs.Scan.{Found, commentAt, constantAt, found, gap, inComment, isNamePart, itemAt, longestName, nameAt, named, reservedKind, sign, span, symbolAt, wrong}
+use Rattle.language.specs.Scan.{Found, commentAt, constantAt, found, gap, inComment, isNamePart, itemAt, nameAt, named, reservedKind, sign, span, symbolAt, wrong}
+use Rattle.language.specs.Ceilings.{longestName}
 use Rattle.text_characters.proofs.Counting.{span-le}
 use Rattle.text_items.specs.Meaning.{itemStart}
 

@@ -5,7 +5,7 @@ use Prim.Native.Nat.{ℕ, _^_}
 use lib.Dec.{leb}
 use Rattle.language.specs.Constants.{binaryConstant}
 use Rattle.language.specs.Scan.{Found, based, digitsOf, written}
-use Rattle.language.specs.Value.{longest}
+use Rattle.language.specs.Ceilings.{longest}
 use Rattle.value_constants.specs.Digits.{Written, leftMore, rightMore}
 
 -- What is held after each of the digits.

@@ -5,7 +5,7 @@ use Prim.Native.Nat.{ℕ, zero, suc, _+_, _*_}
 use lib.Dec.{eqb, ltb}
 use lib.ListN.{drop, getD, take}
 use Rattle.language.specs.Characters.{folded}
-use Rattle.language.specs.Kinds.{atLeastSign, atMostSign, atSign, callSign, caseWord, closeBracket, closeParen, colon, comma, delayedSign, differenceSign, dollar, equalSign, equalsSign, exclusiveSign, gotoSign, greaterSign, hash, lessSign, minus, openBracket, openParen, period, plus, semicolon, slash, star, sumSign}
+use Rattle.language.specs.Kinds.{atLeastSign, atMostSign, atSign, callSign, caseWord, closeBracket, closeParen, colon, comma, delayedSign, differenceSign, dollar, equalSign, exclusiveSign, gotoSign, greaterSign, hash, lessSign, minus, openBracket, openParen, period, plus, sameSign, semicolon, slash, star, sumSign}
 use Rattle.language.specs.Scan.{Reserved, Spelled, bytes, isNamePart, span}
 
 -- ---- Symbols in three columns.
@@ -20,7 +20,7 @@ symbolSize row = cond (ltb row 4) 3 (cond (ltb row 9) 2 1)
 
 unfoldable pub symbolKinds : List ℕ
 symbolKinds =
-    exclusiveSign ∷ sumSign ∷ differenceSign ∷ equalsSign ∷ atLeastSign ∷ atMostSign ∷ gotoSign ∷ callSign ∷ delayedSign ∷ delayedSign ∷ hash ∷ dollar ∷ openParen ∷ closeParen ∷ star ∷ plus ∷ comma ∷ minus ∷ period ∷ slash ∷ colon ∷ semicolon ∷ lessSign ∷ equalSign ∷ greaterSign ∷ atSign ∷ openBracket ∷ closeBracket ∷ []
+    exclusiveSign ∷ sumSign ∷ differenceSign ∷ sameSign ∷ atLeastSign ∷ atMostSign ∷ gotoSign ∷ callSign ∷ delayedSign ∷ delayedSign ∷ hash ∷ dollar ∷ openParen ∷ closeParen ∷ star ∷ plus ∷ comma ∷ minus ∷ period ∷ slash ∷ colon ∷ semicolon ∷ lessSign ∷ equalSign ∷ greaterSign ∷ atSign ∷ openBracket ∷ closeBracket ∷ []
 
 unfoldable pub symbolRow : ℕ → List ℕ
 symbolRow row = take (symbolSize row) (drop (row * 3) spellings)

@@ -27,7 +27,7 @@ const KINDS: [u8; 28] = [
     language::kinds::EXCLUSIVE,
     language::kinds::SUM,
     language::kinds::DIFFERENCE,
-    language::kinds::EQUALS,
+    language::kinds::SAME,
     language::kinds::AT_LEAST,
     language::kinds::AT_MOST,
     language::kinds::GOTO,

@@ -8,7 +8,8 @@ use Prim.Native.Nat.{ℕ, _≤_}
 use borrow.Author.Tests.{ltb-false, ltb-true}
 use lib.Dec.{ltb}
 use lib.ListN.{length}
-use Rattle.language.specs.Reading.{afterWords, longestText, readText, refusedAt}
+use Rattle.language.specs.Reading.{afterWords, readText, refusedAt}
+use Rattle.language.specs.Ceilings.{longestText}
 use Rattle.language.specs.declared.refusals.Refusal.{Refusal}
 use Rattle.language.specs.declared.refusals.Refusal.the-variants.{TextTooLong}
 use Rattle.language.specs.Words.{fault, position}

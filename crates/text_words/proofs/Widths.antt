@@ -9,7 +9,8 @@ use native.Mathlib.Omega.{arith}
 use lib.ListN.{length, getD, drop, drop-of-length-le}
 use lib.Seq.{drop-cons, getD-drop}
 use borrow.Author.Tests.{le-leb, le-ltb, lt-ltb}
-use Rattle.language.specs.Lines.{longLines, longestLine, passes, widthAfter}
+use Rattle.language.specs.Columns.{longLines, tooWideAfter, widthAfter}
+use Rattle.language.specs.Ceilings.{longestLine}
 use Rattle.language.specs.declared.refusals.Refusal.the-variants.{BadCharacter}
 use Rattle.language.specs.Words.{Fault, fault, position}
 use Rattle.language.specs.WordStage.{least}
@@ -19,7 +20,7 @@ use Rattle.text_words.proofs.Least.{From, first-least, from-less}
 lines-from : (w at : ℕ) (s : List ℕ) → From at (least (longLines w at s))
 unfolding longLines least
 lines-from w at [] = tt
-lines-from w at (b ∷ t) = go (passes w v) (lines-from v (suc at) t)
+lines-from w at (b ∷ t) = go (tooWideAfter w v) (lines-from v (suc at) t)
   where
     v : ℕ
     v = widthAfter w b t
@@ -41,19 +42,19 @@ module _ (text : List ℕ) (w at v : ℕ) (h : at < length text) (hw : w ≤ 132
   unfolding widthAfter
   width = simp (getD-drop (suc at) text 0 0 ∙ ap (λ (i : ℕ). getD text i 0) {x = suc at + 0} {y = at + 1} (omega arith)) (sym e)
 
-  line-step : longLines w at (drop at text) ≡ cond (passes w v) (fault (position at) BadCharacter ∷ rest) rest
+  line-step : longLines w at (drop at text) ≡ cond (tooWideAfter w v) (fault (position at) BadCharacter ∷ rest) rest
   unfolding longLines
   line-step = rw (drop-cons text at 0 h) (simp width)
 
   pub line-long : 132 < v → some (fault (position at) BadCharacter) ≡ least (longLines w at (drop at text))
-  unfolding passes longestLine
+  unfolding tooWideAfter longestLine
   line-long l =
       sym
       (ap least (line-step ∙ simp (le-leb w 132 hw, lt-ltb 132 v l))
       ∙ first-least (fault (position at) BadCharacter) rest (lines-from v (suc at) (drop (suc at) text)))
 
   pub line-next : v ≤ 132 → least (longLines w at (drop at text)) ≡ least (longLines v (at + 1) (drop (at + 1) text))
-  unfolding passes longestLine
+  unfolding tooWideAfter longestLine
   line-next l =
       let s : longLines w at (drop at text) ≡ rest = line-step ∙ simp (le-leb w 132 hw, le-ltb 132 v l) in
       ap least s ∙ rw add-one

@@ -7,7 +7,7 @@ use Prim.Native.Nat.{ℕ, _+_, _<_, _≤_}
 use lib.Dec.{ltb}
 use lib.ListN.{drop, length, take}
 use Rattle.language.specs.Characters.{folded}
-use Rattle.language.specs.Reading.{longestText}
+use Rattle.language.specs.Ceilings.{longestText}
 use Rattle.language.specs.declared.refusals.Refusal.{Refusal}
 use Rattle.language.specs.declared.refusals.Refusal.the-variants.{TextTooLong}
 use Rattle.language.specs.Scan.{written}

@@ -7,7 +7,7 @@ use text_characters::parts;
 ghost use mathlib.Core.List.{[], _∷_};
 ghost use mathlib.Core.Path.{_≡_};
 ghost use Prim.Native.Nat.{_≤_};
-ghost use Rattle.language.specs.Lines.{longLines, widthAfter};
+ghost use Rattle.language.specs.Columns.{longLines, widthAfter};
 ghost use Rattle.language.specs.WordStage.{least};
 ghost use Rattle.text_words.specs.Meaning.{judged};
 

@@ -9,7 +9,7 @@ use text_items::items;
 ghost use mathlib.Core.Path.{_≡_};
 ghost use lib.Dec.{ltb};
 ghost use lib.ListN.{length};
-ghost use Rattle.language.specs.Reading.{longestText};
+ghost use Rattle.language.specs.Ceilings.{longestText};
 ghost use Rattle.language.specs.WordStage as L;
 ghost use Rattle.text_words.specs.Meaning.{firstFault, judged, kindFault};
 

@@ -13,7 +13,7 @@ use Rattle.language.specs.Calls.{stimulusSize}
 use Rattle.language.specs.Description.{Bounds, Description, Facility, facilityAt, spanOf, wordCount, wordLength}
 use Rattle.language.specs.Layout.{bytesOf, storeSizeOf, wordBytes, wordToBytes}
 use Rattle.language.specs.Reading.{zeroes}
-use Rattle.language.specs.Store.{Words, inputsOf, isInput, toBytes, wordsTo}
+use Rattle.language.specs.Store.{StoreWords, inputsOf, isInput, toBytes, wordsTo}
 use Rattle.language.specs.Trace.{bitsNumber, consWord, lineWords}
 use Rattle.store_layout.proofs.ByteOrder.{length-word}
 use Rattle.store_layout.specs.Layout.{withWord}
@@ -44,7 +44,7 @@ module _ (f : Facility) (fs : List Facility) (bs : List ℕ) where
   unfolding lineBytes lineWords toBytes wordsTo
   first-some x e = rw e (go (lineWords fs (drop (wordLength f) bs)))
     where
-      go : (o : Option Words) → bytesFor (f ∷ fs) (consWord (some x) o) ≡ before (wordToBytes (wordLength f) x) (bytesFor fs o)
+      go : (o : Option StoreWords) → bytesFor (f ∷ fs) (consWord (some x) o) ≡ before (wordToBytes (wordLength f) x) (bytesFor fs o)
       go none = refl
       go (some s) = ap (λ (t : List ℕ). some (t ++ toBytes fs s)) (append-nil (wordToBytes (wordLength f) x))
 

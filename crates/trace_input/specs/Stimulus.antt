@@ -9,7 +9,7 @@ use Rattle.language.specs.Calls.{over}
 use Rattle.language.specs.Description.{Facility, wordLength}
 use Rattle.language.specs.Layout.{wordBytes}
 use Rattle.language.specs.Reading.{zeroes}
-use Rattle.language.specs.Store.{Words, isInput, toBytes}
+use Rattle.language.specs.Store.{StoreWords, isInput, toBytes}
 use Rattle.language.specs.Trace.{bitsNumber, lineWords}
 use Rattle.store_layout.specs.Layout.{withWord}
 use Rattle.trace_input.specs.declared.stimulus.Octet.{Octet}
@@ -40,7 +40,7 @@ Worded l line at B place false C = (length C ≡ length B) × (place + wordBytes
 
 -- ---- A whole line.
 
-abbrev pub bytesFor : List Facility → Option Words → Option (List ℕ)
+abbrev pub bytesFor : List Facility → Option StoreWords → Option (List ℕ)
 bytesFor fs none = none
 bytesFor fs (some s) = some (toBytes fs s)
 

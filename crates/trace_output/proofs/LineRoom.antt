@@ -7,8 +7,8 @@ use lib.Dec.{eqb}
 use lib.ListN.{length, length-append}
 use Rattle.language.specs.Description.{Description, Facility, stateAt, wordLength}
 use Rattle.language.specs.Scan.{bytes}
-use Rattle.language.specs.Store.{Words, fromBytes}
-use Rattle.language.specs.Trace.{bits, cycleLine, decimal, decimalFrom, facilitiesLine, firstWord, labelOf, lineEnd, shown}
+use Rattle.language.specs.Store.{StoreWords, fromBytes}
+use Rattle.language.specs.Trace.{bits, cycleLine, decimal, decimalFrom, facilitiesLine, firstWord, lineEnd, printedLabel, shown}
 use Rattle.language.specs.Tree.{Name}
 use Rattle.trace_output.specs.Room.{lineRoom}
 use Rattle.trace_output.proofs.BitLaws.{length-bits}
@@ -22,7 +22,7 @@ decimal-short (suc k) n tail = go (eqb (n / 10) 0) (decimal-short k (n / 10) ((n
     go true i = omega arith
     go false i = omega arith
 
-pub facilities-short : (fs : List Facility) (s : Words) → length (facilitiesLine fs s) ≤ lineRoom fs
+pub facilities-short : (fs : List Facility) (s : StoreWords) → length (facilitiesLine fs s) ≤ lineRoom fs
 unfolding facilitiesLine lineRoom bytes
 facilities-short [] s = omega arith
 facilities-short (f ∷ fs) [] = omega arith
@@ -39,7 +39,7 @@ facilities-short (f ∷ fs) (ws ∷ s) = go (shown f) (facilities-short fs s)
         omega (arith, length-append (f .name) (61 ∷ (word ++ rest)), length-append word rest, length-bits (wordLength f) (firstWord ws))
     go false i = omega arith
 
-label-short : (n : Name) → length (labelOf n) ≤ 1 + length n
+label-short : (n : Name) → length (printedLabel n) ≤ 1 + length n
 unfolding bytes
 label-short [] = omega arith
 label-short (b ∷ n) = omega arith
@@ -48,6 +48,6 @@ label-short (b ∷ n) = omega arith
 pub cycle-short : (d : Description) (number state : ℕ) (B : List ℕ) → length (cycleLine d number state B) ≤ 23 + length (stateAt d state .name) + lineRoom (d .facilities)
 unfolding cycleLine bytes
 cycle-short d number state B =
-    let l = labelOf (stateAt d state .name) in
+    let l = printedLabel (stateAt d state .name) in
     let t = facilitiesLine (d .facilities) (fromBytes (d .facilities) B) in
     omega (arith, decimal-short 20 number [], label-short (stateAt d state .name), facilities-short (d .facilities) (fromBytes (d .facilities) B), length-append (decimal number) (32 ∷ (l ++ (t ++ lineEnd))), length-append l (t ++ lineEnd), length-append t lineEnd)

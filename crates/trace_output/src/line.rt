@@ -15,7 +15,7 @@ ghost use Rattle.trace_output.specs.Texts.{Named, refusedText};
 
 // A state's label, or `-` where it has none.
 fn label_text(out: &mut [u8], at: usize, label: &[u8]) -> usize
-    ensures { λ r. ⌜ Adds (T.labelOf (now (label .entry))) (now (out .entry)) at (now (out .exit)) r ⌝ }
+    ensures { λ r. ⌜ Adds (T.printedLabel (now (label .entry))) (now (out .entry)) at (now (out .exit)) r ⌝ }
 {
     if label.len() == 0 {
         return out::push(out, at, b'-');

@@ -15,7 +15,7 @@ use Rattle.language.specs.Image.{passes}
 use Rattle.language.specs.Layout.{facilityBytes, storeSize, storeSizeOf}
 use Rattle.language.specs.RecordBytes.{recordFrom}
 use Rattle.language.specs.declared.refusals.Refusal.the-variants.{BadStimulus}
-use Rattle.language.specs.Store.{Words, inputsOf, isInput, toBytes}
+use Rattle.language.specs.Store.{StoreWords, inputsOf, isInput, toBytes}
 use Rattle.language.specs.Trace.{afterCall, lineWords, refusedLine, runLines, withInput}
 use Rattle.run_soundness.proofs.PassedLaws.{passed-size}
 use Rattle.trace_output.specs.Adds.{Adds}
@@ -32,7 +32,7 @@ module _ (image : List ℕ) (d : Description) (fs : List Facility) (line : List 
   unfolding lineBytes
   taken-none e q = go (lineWords fs line) e
     where
-      go : (o : Option Words) → bytesFor fs o ≡ none → withInput image d o on ≡ refusedLine BadStimulus
+      go : (o : Option StoreWords) → bytesFor fs o ≡ none → withInput image d o on ≡ refusedLine BadStimulus
       go none f = refl
       go (some s) f = absurd (let z : _≡_ {A = ℕ} 0 1 = cc in omega arith)
 
@@ -40,7 +40,7 @@ module _ (image : List ℕ) (d : Description) (fs : List Facility) (line : List 
   unfolding lineBytes
   taken-some t e q = go (lineWords fs line) e
     where
-      go : (o : Option Words) → bytesFor fs o ≡ some t → withInput image d o on ≡ on t
+      go : (o : Option StoreWords) → bytesFor fs o ≡ some t → withInput image d o on ≡ on t
       go none f = absurd (let z : _≡_ {A = ℕ} 0 1 = cc in omega arith)
       go (some s) f = let z : toBytes fs s ≡ t = cc in ap on (ap (λ (gs : List Facility). toBytes gs s) (sym q) ∙ z)
 

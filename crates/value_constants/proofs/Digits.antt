@@ -11,8 +11,9 @@ use lib.Dec.{leb, ltb}
 use lib.ListN.{length, getD}
 use lib.Pow.{pow-mono, pow-pos, pow-add, shl-lt, shr-lt, shr-shr, shl-shr, high}
 use borrow.Author.Tests.{lt-ltb, lt-leb, le-leb}
-use Rattle.language.specs.Value.{fit, made, none, value, longest}
-use Rattle.language.specs.Constants.{digitsAfter, digitsNumber, leftJustified, rightJustified, binaryConstant, decimalConstant, bareConstant, bareLargest, bareLength}
+use Rattle.language.specs.Value.{fit, made, none, value}
+use Rattle.language.specs.Ceilings.{bareLargest, longest}
+use Rattle.language.specs.Constants.{digitsAfter, digitsNumber, leftJustified, rightJustified, binaryConstant, decimalConstant, bareConstant, bareLength}
 use Rattle.value_operators.specs.Meaning.{allowed}
 use Rattle.value_constants.specs.Digits.{Held, Written, holding, decimalMore, counting, bare, onRight, rightMore, onLeft, leftMore}
 use Rattle.value_operators.proofs.Fits.{joined-cut, fit-wrap, fit-allowed, allowed-le}

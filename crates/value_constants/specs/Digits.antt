@@ -3,7 +3,8 @@ use mathlib.Core.Bool.{Bool, true, cond}
 use Prim.Native.Nat.{ℕ, _+_, _-_, _*_, _%_, _^_, min}
 use lib.Dec.{leb}
 use Rattle.language.specs.Value as L
-use Rattle.language.specs.Constants.{leftJustified, bareLength, bareLargest}
+use Rattle.language.specs.Constants.{leftJustified, bareLength}
+use Rattle.language.specs.Ceilings.{bareLargest}
 use Rattle.value_limbs.specs.Limbs.{number}
 use Rattle.value_constants.specs.declared.Decimal.{Decimal}
 use Rattle.value_constants.specs.declared.Binary.{Binary}

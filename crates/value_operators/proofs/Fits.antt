@@ -9,7 +9,8 @@ use lib.Dec.{leb, ltb}
 use lib.Pow.{mod-mod-pow, pow-add, pow-pos, ones-split, ones-lt, low}
 use borrow.Author.Tests.{lt-ltb, lt-leb, le-leb, ltb-true, leb-true}
 use Rattle.language.specs.Value as L
-use Rattle.language.specs.Value.{fit, longest, made, none, value, differenceNumber, complementNumber, repeated}
+use Rattle.language.specs.Value.{fit, made, none, value, differenceNumber, complementNumber, repeated}
+use Rattle.language.specs.Ceilings.{longest}
 use Rattle.value_operators.specs.Meaning.{Means, allowed, blank, valued}
 use Rattle.value_operators.specs.declared.Made.{Made}
 use Rattle.value_limbs.proofs.Laws.{times-mod}

@@ -12,7 +12,8 @@ use lib.Count.{ones, ones-le}
 use lib.Dec.{leb}
 use lib.Pow.{pow-add, pow-mono, pow-pos, add-lt-pow, shr-lt, split, ones-sub-lt}
 use borrow.Author.Tests.{lt-leb, le-leb}
-use Rattle.language.specs.Value.{Value, value, made, none, fit, sum, sumLength, difference, differenceLength, differenceNumber, negation, negationLength, complement, complementLength, complementNumber, conjunction, exclusive, disjunction, logicalLength, join, joinLength, head, tail, cutLength, orReduction, andReduction, exclusiveReduction, sumReduction, countLength, extended, part, equal, unequal, less, greater, atMost, atLeast, related, relationLength, bit, longest}
+use Rattle.language.specs.Value.{Value, value, made, none, fit, sum, sumLength, difference, differenceLength, differenceNumber, negation, negationLength, complement, complementLength, complementNumber, conjunction, exclusive, disjunction, logicalLength, join, joinLength, head, tail, cutLength, orReduction, andReduction, exclusiveReduction, sumReduction, countLength, extended, part, equal, unequal, less, greater, atMost, atLeast, related, relationLength, bit}
+use Rattle.language.specs.Ceilings.{longest}
 use Rattle.value_operators.specs.Meaning.{allowed}
 use Rattle.value_operators.proofs.Fits.{fit-cond, fit-allowed, allowed-le, allowed-some, allowed-of}
 

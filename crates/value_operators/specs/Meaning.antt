@@ -4,6 +4,7 @@ use mathlib.Core.List.{[], _∷_}
 use mathlib.Core.Path.{_≡_}
 use Prim.Native.Nat.{ℕ}
 use lib.Dec.{leb, ltb}
+use Rattle.language.specs.Ceilings.{longest}
 use Rattle.language.specs.Value as L
 use Rattle.value_limbs.specs.Limbs.{number}
 use Rattle.value_operators.specs.declared.Value.{Value}
@@ -27,4 +28,4 @@ pub record Means (r : Made) (m : L.Made) : Type 0 where
 
 -- A length that a value may have.
 unfoldable pub allowed : ℕ → Bool
-allowed l = cond (ltb 0 l) (leb l L.longest) false
+allowed l = cond (ltb 0 l) (leb l longest) false

@@ -17,7 +17,7 @@ ghost use Rattle.value_operators.specs.Meaning.{Means, valued};
 pub const SUM_SIGNS: [u8; 2] = [language::kinds::SUM, language::kinds::DIFFERENCE];
 
 pub const RELATION_SIGNS: [u8; 6] = [
-    language::kinds::EQUALS,
+    language::kinds::SAME,
     language::kinds::HASH,
     language::kinds::LESS,
     language::kinds::GREATER,
@@ -46,7 +46,7 @@ fn is_relation(kind: u8) -> bool
     ensures { λ r. ⌜ r ≡ isRelation kind ⌝ }
 {
     match kind {
-        language::kinds::EQUALS => true,
+        language::kinds::SAME => true,
         language::kinds::HASH => true,
         language::kinds::LESS => true,
         language::kinds::GREATER => true,
@@ -136,7 +136,7 @@ pub fn binary(kind: u8, x: Value, y: Value) -> Made
         language::kinds::PLUS => logical::disjunction(x, y),
         language::kinds::STAR => logical::conjunction(x, y),
         language::kinds::EXCLUSIVE => logical::exclusive(x, y),
-        language::kinds::EQUALS => relations::equal(x, y),
+        language::kinds::SAME => relations::equal(x, y),
         language::kinds::HASH => relations::unequal(x, y),
         language::kinds::LESS => relations::less(x, y),
         language::kinds::GREATER => relations::greater(x, y),

@@ -3,7 +3,8 @@ use mathlib.Core.Path.{sym, ap, ap₂, _∙_}
 use native.Mathlib.Omega.{arith}
 use borrow.Author.Tests.{le-leb, lt-leb}
 use Rattle.language.specs.Value.{fit, none}
-use Rattle.language.specs.Constants.{bareLength, bareLargest}
+use Rattle.language.specs.Constants.{bareLength}
+use Rattle.language.specs.Ceilings.{bareLargest}
 use Rattle.value_constants.specs.Digits.{bare, counting, held}
 use Rattle.value_operators.proofs.Fits.{means-of, means-none}
 use borrow.Author.Needs.{needs}

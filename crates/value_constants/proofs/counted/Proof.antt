@@ -5,7 +5,7 @@ use native.Mathlib.Nat.{min-eq-left, min-eq-right, le-of-lt}
 use native.Mathlib.Omega.{arith}
 use lib.Dec.{ltb}
 use borrow.Author.Tests.{ltb-true, ltb-false}
-use Rattle.language.specs.Constants.{bareLargest}
+use Rattle.language.specs.Ceilings.{bareLargest}
 use Rattle.value_limbs.specs.Limbs.{number}
 use Rattle.value_constants.specs.Digits.{counting}
 use Rattle.value_limbs.proofs.Laws.{four-small}

@@ -1,5 +1,5 @@
 use mathlib.Core.Path.{refl}
-use Rattle.language.specs.Step.{mostReturns}
+use Rattle.language.specs.Ceilings.{mostReturns}
 use Rattle.call_open.proofs.first.at_first.Statement.{statement}
 use Rattle.call_open.proofs.first.at_first.Tie as tie
 

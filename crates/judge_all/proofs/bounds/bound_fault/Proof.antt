@@ -4,7 +4,7 @@ use Rattle.language.specs.Words as W
 use Rattle.language.specs.Judging as L
 use lib.Dec.{leb}
 use mathlib.Core.Path.{ap, _∙_}
-use Rattle.language.specs.Rules.{largestBound}
+use Rattle.language.specs.Ceilings.{largestBound}
 use borrow.Author.Needs.{needs}
 use Rattle.judge_all.proofs.bounds.bound_fault.Statement.{statement}
 use Rattle.judge_all.proofs.bounds.bound_fault.Tie as tie

@@ -2,7 +2,7 @@ use lib.Dec.{leb}
 use Rattle.language.specs.declared.refusals.Refusal.the-variants.{BadSequencing, CeilingPassed}
 use Rattle.language.specs.WordStage.{least}
 use Rattle.language.specs.Words as W
-use Rattle.language.specs.Rules.{largestStore}
+use Rattle.language.specs.Ceilings.{largestStore}
 use Rattle.language.specs.Judging as L
 use Rattle.language.specs.Description.{FacilityPlaces}
 use mathlib.Core.Path.{ap, ap₂, sym, _∙_}

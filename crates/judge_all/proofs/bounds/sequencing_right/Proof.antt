@@ -1,4 +1,4 @@
-use Rattle.language.specs.Value.{longest}
+use Rattle.language.specs.Ceilings.{longest}
 use Rattle.language.specs.Rules.{sequencingRight}
 use lib.Dec.{leb}
 use borrow.Author.Tests.{le-leb, lt-leb, not-false, not-true}

@@ -1,7 +1,7 @@
 use Rattle.judge_all.proofs.FacilityLaws.{computed-faults, other-faults, passed-none}
 use Rattle.judge_verdicts.specs.Meaning.{seen}
 use Rattle.language.specs.WordStage.{least}
-use Rattle.language.specs.Rules.{boundsFaults, facilityFaults, orElse}
+use Rattle.language.specs.Rules.{boundsFaults, facilityFaults, firstFaults}
 use mathlib.Core.Bool.{cond, Bool}
 use Rattle.language.specs.Judging as L
 use Rattle.language.specs.Expressions.{terminalJudged}
@@ -37,7 +37,7 @@ returns c =
     (c .before .before .terminal-faults .ensures d p (facilityAt d (c .before .before .before .before .before .before .before .before .args .n) .name) (terminalJudged d p (c .before .before .before .before .before .before .before .before .args .n)) e
     (v ∙ ap (λ (b : Bool). seen (cond b (terminalJudged d p (c .before .before .before .before .before .before .before .before .args .n)) (L.worth 1 0 0))) (ap (λ (x : D.Facility). isComputed (x .kind)) (sym g) ∙ sym (c .before .before .before .before .is-computed .ensures) ∙ c .before .before .before .if1 .taken)))
     ∙ ap least (computed-faults d p (c .before .before .before .before .before .before .before .before .args .n) _ (c .before .before .before .before .before .before .before .before .args .before) _ _ _ (c .before .before .before .before .before .place-after .ensures (facilityAt d (c .before .before .before .before .before .before .before .before .args .n) .name)) (sym (c .before .before .before .before .is-computed .ensures) ∙ c .before .before .before .if1 .taken)))
-    ∙ ap (λ (x : D.Facility). least (orElse d p (boundsFaults d p x (facilityPlace p (c .before .before .before .before .before .before .before .before .args .n))) (facilityFaults d p (c .before .before .before .before .before .before .before .before .args .n) (c .before .before .before .before .before .before .before .before .args .another) (c .before .before .before .before .before .before .before .before .args .before) x (facilityPlace p (c .before .before .before .before .before .before .before .before .args .n))))) g
+    ∙ ap (λ (x : D.Facility). least (firstFaults d p (boundsFaults d p x (facilityPlace p (c .before .before .before .before .before .before .before .before .args .n))) (facilityFaults d p (c .before .before .before .before .before .before .before .before .args .n) (c .before .before .before .before .before .before .before .before .args .another) (c .before .before .before .before .before .before .before .before .args .before) x (facilityPlace p (c .before .before .before .before .before .before .before .before .args .n))))) g
 
 facility-faults-requires-2 : tie.Need-facility-faults-requires-2
 facility-faults-requires-2 c κs = search needs
@@ -50,7 +50,7 @@ returns-2 c =
     λ d p e g v. c .or-else2 .ensures d p _ _ (c .before .before .before .before .before .bounds-faults .ensures d p (facilityAt d (c .before .before .before .before .before .before .before .args .n) .name) e)
     (c .before .facility-faults2 .ensures d p (facilityAt d (c .before .before .before .before .before .before .before .args .n) .name) _ e passed-none
     ∙ ap least (other-faults d p (c .before .before .before .before .before .before .before .args .n) _ (c .before .before .before .before .before .before .before .args .before) _ _ _ (c .before .before .before .before .place-after .ensures (facilityAt d (c .before .before .before .before .before .before .before .args .n) .name)) (sym (c .before .before .before .is-computed .ensures) ∙ c .before .before .if1 .left)))
-    ∙ ap (λ (x : D.Facility). least (orElse d p (boundsFaults d p x (facilityPlace p (c .before .before .before .before .before .before .before .args .n))) (facilityFaults d p (c .before .before .before .before .before .before .before .args .n) (c .before .before .before .before .before .before .before .args .another) (c .before .before .before .before .before .before .before .args .before) x (facilityPlace p (c .before .before .before .before .before .before .before .args .n))))) g
+    ∙ ap (λ (x : D.Facility). least (firstFaults d p (boundsFaults d p x (facilityPlace p (c .before .before .before .before .before .before .before .args .n))) (facilityFaults d p (c .before .before .before .before .before .before .before .args .n) (c .before .before .before .before .before .before .before .args .another) (c .before .before .before .before .before .before .before .args .before) x (facilityPlace p (c .before .before .before .before .before .before .before .args .n))))) g
 
 pub one-spec : {M : Type 1} → statement M
 one-spec =

@@ -5,7 +5,8 @@ use Rattle.judge_verdicts.proofs.VerdictLaws.{is-fine}
 use Rattle.judge_verdicts.specs.declared.Worth.{Worth}
 use Rattle.language.specs.Judging as L
 use Rattle.language.specs.declared.refusals.Refusal.the-variants.{BadSequencing, CeilingPassed}
-use Rattle.language.specs.Rules.{mostWork, ownFaults}
+use Rattle.language.specs.Rules.{ownFaults}
+use Rattle.language.specs.Ceilings.{mostWork}
 use Rattle.language.specs.Words as W
 use Rattle.language.specs.WordStage.{least}
 use Rattle.text_words.specs.Meaning.{judged}

@@ -1,6 +1,5 @@
-use Rattle.language.specs.Rules.{mostWork}
 use Rattle.judge_verdicts.specs.Meaning.{capped, seen}
-use Rattle.language.specs.Value.{longest}
+use Rattle.language.specs.Ceilings.{longest, mostWork}
 use Rattle.language.specs.Judging.{sized}
 use native.Mathlib.Omega.{arith}
 use borrow.Author.Tests.{le-leb, le-ltb, lt-leb, lt-ltb}

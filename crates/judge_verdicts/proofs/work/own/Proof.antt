@@ -1,5 +1,5 @@
 use Rattle.judge_verdicts.specs.Meaning.{capped}
-use Rattle.language.specs.Rules.{mostWork}
+use Rattle.language.specs.Ceilings.{mostWork}
 use Rattle.language.specs.Expressions.{ownWork}
 use mathlib.Core.Path.{refl}
 use Rattle.judge_verdicts.proofs.work.own.Statement.{statement}

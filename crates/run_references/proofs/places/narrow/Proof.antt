@@ -1,4 +1,4 @@
-use Rattle.language.specs.Value.{longest}
+use Rattle.language.specs.Ceilings.{longest}
 use borrow.Author.Tests.{le-leb, lt-leb}
 use borrow.Author.Needs.{needs}
 use Rattle.run_references.proofs.places.narrow.Statement.{statement}

@@ -1,5 +1,5 @@
 use borrow.Author.Tests.{le-leb, le-ltb, lt-leb, lt-ltb}
-use Rattle.language.specs.Step.{mostReturns}
+use Rattle.language.specs.Ceilings.{mostReturns}
 use Rattle.run_soundness.specs.Tested.{recordSound}
 use borrow.Author.Needs.{needs}
 use Rattle.run_soundness.proofs.numbers.record_sound.Statement.{statement}

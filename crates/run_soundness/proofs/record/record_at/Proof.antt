@@ -1,5 +1,5 @@
 use Rattle.language.specs.RecordBytes.{recordFrom}
-use Rattle.language.specs.Step.{mostReturns}
+use Rattle.language.specs.Ceilings.{mostReturns}
 use borrow.Author.Needs.{needs}
 use Rattle.run_soundness.proofs.record.record_at.Statement.{statement}
 use Rattle.run_soundness.proofs.record.record_at.Tie as tie

@@ -2,7 +2,7 @@ use Prim.Native.Nat.{_+_}
 use native.Mathlib.Omega.{arith}
 use borrow.Author.Tests.{le-leb, lt-leb}
 use Rattle.language.specs.Layout.{wordBytes}
-use Rattle.language.specs.Value.{longest}
+use Rattle.language.specs.Ceilings.{longest}
 use Rattle.store_layout.specs.Parts.{inside}
 use borrow.Author.Needs.{needs}
 use Rattle.store_words.proofs.parts.inside.Statement.{statement}

@@ -1,5 +1,5 @@
 use borrow.Author.Tests.{le-leb, lt-leb}
-use Rattle.language.specs.Value.{longest}
+use Rattle.language.specs.Ceilings.{longest}
 use Rattle.text_items.specs.Digits.{lengthOf}
 use borrow.Author.Needs.{needs}
 use Rattle.text_items.proofs.constant.length_given.Statement.{statement}

@@ -2,7 +2,7 @@ use mathlib.Core.List.{[], _∷_}
 use mathlib.Core.Path.{_≡_, ap, sym, refl, _∙_}
 use Prim.Native.Nat.{ℕ, _-_, _≤_}
 use lib.ListN.{length, getD, drop}
-use Rattle.language.specs.Lines.{longLines, widthAfter}
+use Rattle.language.specs.Columns.{longLines, widthAfter}
 use Rattle.language.specs.WordStage.{least}
 use Rattle.text_words.proofs.Widths.{line-long, line-next, lines-end}
 use borrow.Author.Needs.{needs}

@@ -1,5 +1,5 @@
 use borrow.Author.Tests.{eq-eqb, ne-eqb}
-use Rattle.language.specs.Lines.{widthAfter}
+use Rattle.language.specs.Columns.{widthAfter}
 use borrow.Author.Needs.{needs}
 use Rattle.text_words.proofs.lines.width_after.Statement.{statement}
 use Rattle.text_words.proofs.lines.width_after.Tie as tie

@@ -1,5 +1,5 @@
 use mathlib.Core.Path.{refl}
-use Rattle.language.specs.Reading.{longestText}
+use Rattle.language.specs.Ceilings.{longestText}
 use Rattle.text_words.proofs.stage.too_long.Statement.{statement}
 use Rattle.text_words.proofs.stage.too_long.Tie as tie
 

@@ -1,5 +1,5 @@
 use mathlib.Core.Path.{ap₂, sym, _∙_}
-use Rattle.language.specs.Lines.{longLines}
+use Rattle.language.specs.Columns.{longLines}
 use Rattle.language.specs.WordStage.{scan, wordFault, wordFaults}
 use Rattle.text_words.specs.Meaning.{lesser}
 use Rattle.text_words.proofs.Least.{least-both}

@@ -1,5 +1,5 @@
 use borrow.Author.Tests.{lt-ltb, le-ltb}
-use Rattle.language.specs.Value.{longest}
+use Rattle.language.specs.Ceilings.{longest}
 use Rattle.value_operators.specs.Meaning.{allowed}
 use Rattle.value_operators.proofs.lengths.allowed.Statement.{statement}
 use Rattle.value_operators.proofs.lengths.allowed.Tie as tie

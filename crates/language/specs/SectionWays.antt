@@ -9,7 +9,7 @@ use Rattle.language.specs.Declaring.{treeSteps}
 use Rattle.language.specs.Machine.{Counts, noCounts, run, Alternative, Ask, Parsed, Rule, Sym, adjustment, afterConstant, afterMemories, afterRegisters, afterSecondConstant, afterSubscript, afterTerminals, again, andTail, arithmetic, arithmeticTail, ask, complement, conTail, control, cutTail, dimensionRest, dimensions, dollarOption, exclusiveTail, expression, facility, firstName, functionOf, keep, leftRest, level, make, may, memoryMore, memorySpec, minterm, moreArms, opens, operand, operandRest, operation, operationAction, operationArms, operationIfRest, operationMore, operationName, operationSpec, operationsMore, orTail, product, rangeRest, reduction, registerMore, registerSpec, relationTail, second, secondOption, secondEnd, secondRest, sections, sequencingSpec, setSign, state, stateAction, stateArms, stateBody, stateIfRest, stateMore, stateName, stateRest, stateStart, statesMore, storeSign, subscript, subscripts, term, terminalDimensions, terminalFunction, terminalMore, terminalRest, terminalSpec, word, withinCeilings}
 use Rattle.language.specs.Ways.{adjustmentWays, afterSubscriptWays, andWays, arithmeticTailWays, arithmeticWays, armWays, colonInstead, complementWays, conWays, cutWays, endState, exclusiveWays, expressionWays, ifRestWays, leftWays, mintermWays, operationActionWays, operationList, orWays, productWays, reductionWays, relationWays, restWays, secondEndWays, setWay, signedStateWays, stateList, stateNameWays, storeWays, subscriptWays, termWays}
 use Rattle.language.specs.Words.{Word}
-use Rattle.language.specs.Steps.{Steps}
+use Rattle.language.specs.BuildSteps.{Steps}
 
 module _ {B : Type 0} (S : Steps B) where
   -- ---- Declarations (the manual, 4 and 6).

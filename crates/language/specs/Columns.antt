@@ -4,12 +4,10 @@ use mathlib.Core.List.{List, [], _∷_}
 use Prim.Native.Nat.{ℕ, suc, _+_, _*_, _/_}
 use lib.Dec.{eqb, leb, ltb}
 use lib.ListN.{getD}
+use Rattle.language.specs.Ceilings.{longestLine}
 use Rattle.language.specs.Characters.{carriageReturn, lineFeed, tab}
 use Rattle.language.specs.declared.refusals.Refusal.the-variants.{BadCharacter}
 use Rattle.language.specs.Words.{Fault, fault, position}
-
-unfoldable pub longestLine : ℕ
-longestLine = 132
 
 -- How wide a line of width w is after the byte b, which t follows. The CR of a line's end takes no column.
 unfoldable pub widthAfter : ℕ → ℕ → List ℕ → ℕ
@@ -19,9 +17,9 @@ widthAfter w b t =
     (cond (eqb b carriageReturn && eqb (getD t 0 0) lineFeed) w (w + 1)))
 
 -- The first byte after which a line is too wide.
-unfoldable pub passes : ℕ → ℕ → Bool
+unfoldable pub tooWideAfter : ℕ → ℕ → Bool
 unfolding longestLine
-passes w v = leb w longestLine && ltb longestLine v
+tooWideAfter w v = leb w longestLine && ltb longestLine v
 
 -- The faults of the lines of a text that stands at a place, w columns into its line.
 unfoldable pub longLines : ℕ → ℕ → List ℕ → List Fault
@@ -29,4 +27,4 @@ longLines w at [] = []
 longLines w at (b ∷ t) =
     let v = widthAfter w b t in
     let rest = longLines v (suc at) t in
-    cond (passes w v) (fault (position at) BadCharacter ∷ rest) rest
+    cond (tooWideAfter w v) (fault (position at) BadCharacter ∷ rest) rest
