@@ -4,7 +4,7 @@ use mathlib.Core.Option.{Option, none, some}
 use Prim.Native.Nat.{ℕ, _+_}
 use lib.Dec.{eqb, ltb}
 use Rattle.language.specs.Description as D
-use Rattle.language.specs.Description.{Bounds, Description, Facility, FacilityPlaces, Node, NodePlaces, Places, actionPlace, constantNumber, facilityAt, facilityPlace, inBounds, isComputed, nodeAt, nodePlace, statePlace}
+use Rattle.language.specs.Description.{Bounds, Description, Facility, FacilityPlaces, Node, NodePlaces, Places, actionPlace, numberOfConstant, facilityAt, facilityPlace, inBounds, isComputed, nodeAt, nodePlace, statePlace}
 use Rattle.language.specs.Expressions as E
 use Rattle.language.specs.Expressions.{judgeNode, ownWork, selects}
 use Rattle.language.specs.Judging.{Judged}
@@ -55,7 +55,7 @@ module _ (Here : Position → Type 0) (d : Description) (p : Places) (all : AllH
 
   module _ (t : ℕ → Judged) where
     subscript-stands : (b : Bounds) (e : ℕ) → Stand Here (RR.subscriptFaults d p t b e)
-    subscript-stands b e = go (constantNumber (nodeAt d e))
+    subscript-stands b e = go (numberOfConstant (nodeAt d e))
       where
         go : (x : Option ℕ) → Stand Here (RR.constantFaults d p t b (nodePlace p e .at) x)
         go none = S.no-fault

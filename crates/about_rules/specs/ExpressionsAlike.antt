@@ -3,7 +3,7 @@ use mathlib.Core.Option.{Option, none, some}
 use Prim.Native.Nat.{ℕ, _+_}
 use lib.Dec.{eqb, ltb}
 use Rattle.language.specs.Description as D
-use Rattle.language.specs.Description.{Bounds, Description, Facility, Node, NodePlaces, Places, constantNumber, facilityAt, inBounds, isComputed, nodeAt, nodePlace}
+use Rattle.language.specs.Description.{Bounds, Description, Facility, Node, NodePlaces, Places, numberOfConstant, facilityAt, inBounds, isComputed, nodeAt, nodePlace}
 use Rattle.language.specs.Expressions as E
 use Rattle.language.specs.Expressions.{judgeNode, ownWork, selects}
 use Rattle.language.specs.Judging.{Judged}
@@ -20,7 +20,7 @@ module _ (d : Description) (p q : Places) where
 
   module _ (t u : ℕ → Judged) where
     subscript-together : (b : Bounds) (e : ℕ) → Together (RR.subscriptFaults d p t b e) (RR.subscriptFaults d q u b e)
-    subscript-together b e = go (constantNumber (nodeAt d e))
+    subscript-together b e = go (numberOfConstant (nodeAt d e))
       where
         go : (x : Option ℕ) → Together (RR.constantFaults d p t b (nodePlace p e .at) x) (RR.constantFaults d q u b (nodePlace q e .at) x)
         go none = no-fault

@@ -10,7 +10,7 @@ use Prim.Native.Nat.{ℕ, suc, _+_, _^_, _≤_, _<_, max}
 use borrow.Author.Tests.{eq-eqb, le-leb, ne-eqb}
 use lib.Pow.{pow-pos}
 use Rattle.language.specs.Description as D
-use Rattle.language.specs.Description.{Bounds, Description, Node, NodePlaces, Places, constantNumber, facilityAt, isComputed, nodeAt, nodePlace, wordLength}
+use Rattle.language.specs.Description.{Bounds, Description, Node, NodePlaces, Places, numberOfConstant, facilityAt, isComputed, nodeAt, nodePlace, wordLength}
 use Rattle.language.specs.Expressions.{choiceJudged, evenly, expressionAt, judgeAt, judgeBelow, judgeNode, judgeStep, longestSelector, notBefore, ownWork, selects, terminalBelow, terminalStep}
 use Rattle.language.specs.Judging.{Judged, Worth, armList, fine, proper, refuse, sized, worth}
 use Rattle.language.specs.Operators.{binaryLength, cutLengthOf, prefixLength}
@@ -173,7 +173,7 @@ module _ (d : Description) (p : Places) where
     subscript-clean : (b : Bounds) (e : ℕ) → Subscript d b e → subscriptFaults d p terminals b e ≡ []
     subscript-clean b e h = go (nodeAt d e) refl
       where
-        go : (x : Node) → nodeAt d e ≡ x → RR.constantFaults d p terminals b (nodePlace p e .at) (constantNumber x) ≡ []
+        go : (x : Node) → nodeAt d e ≡ x → RR.constantFaults d p terminals b (nodePlace p e .at) (numberOfConstant x) ≡ []
         go (D.constant v) q = none-unless _ _ _ (within-in b _ (h v q))
         go (D.more m) q = refl
         go (D.whole f) q = refl

@@ -6,7 +6,7 @@ use denote.Enum.Declared.{tagOf}
 use types.Run.{OneOf, miss}
 use Prim.Native.Nat.{ℕ, _+_, _*_}
 use Rattle.language.specs.Decode.{nodeOf}
-use Rattle.language.specs.Description.{Description, NodePlaces, Places, constantNumber, nodeAt, nodePlace}
+use Rattle.language.specs.Description.{Description, NodePlaces, Places, numberOfConstant, nodeAt, nodePlace}
 use Rattle.language.specs.Words as W
 use Rattle.image_records.specs.References.{widenedNode}
 use Rattle.judge_records.specs.Noted.{largeNo}
@@ -39,7 +39,7 @@ not-zero : OneOf (1 ∷ 2 ∷ 3 ∷ 4 ∷ 5 ∷ 6 ∷ 7 ∷ 8 ∷ 9 ∷ 10 ∷ 1
 not-zero = miss (1 ∷ 2 ∷ 3 ∷ 4 ∷ 5 ∷ 6 ∷ 7 ∷ 8 ∷ 9 ∷ 10 ∷ 11 ∷ 12 ∷ 13 ∷ []) 0 tt
 
 pub no-constant : (a b v : ℕ) (r : Node) → OneOf (1 ∷ 2 ∷ 3 ∷ 4 ∷ 5 ∷ 6 ∷ 7 ∷ 8 ∷ 9 ∷ 10 ∷ 11 ∷ 12 ∷ 13 ∷ []) (tagOf the-type r)
-    → constantNumber (widenedNode a b (meant v r)) ≡ none
+    → numberOfConstant (widenedNode a b (meant v r)) ≡ none
 no-constant a b v (N.Constant l) k = absurd (not-zero k)
 no-constant a b v (N.More d) k = refl
 no-constant a b v (N.Whole f) k = refl

@@ -110,8 +110,8 @@ abbrev pub numberIn : Option Value → Option ℕ
 numberIn none = none
 numberIn (some v) = some (v .number)
 
-abbrev pub constantNumber : Node → Option ℕ
-constantNumber n = numberIn (constantIn n)
+abbrev pub numberOfConstant : Node → Option ℕ
+numberOfConstant n = numberIn (constantIn n)
 
 -- The value of such a record; any other has no bits.
 abbrev pub constantValue : Node → Value

@@ -4,7 +4,7 @@ use mathlib.Core.List.{List, [], _++_}
 use mathlib.Core.Option.{Option, none, some}
 use Prim.Native.Nat.{ℕ, _+_}
 use lib.Dec.{eqb, ltb}
-use Rattle.language.specs.Description.{Bounds, Description, Facility, NodePlaces, Places, constantNumber, facilityAt, inBounds, isComputed, nodeAt, nodePlace}
+use Rattle.language.specs.Description.{Bounds, Description, Facility, NodePlaces, Places, numberOfConstant, facilityAt, inBounds, isComputed, nodeAt, nodePlace}
 use Rattle.language.specs.Judging.{Judged, Worth, faultsOf, givenBoth, orFaulty, proper, refuse, sized, unless, worth}
 use Rattle.language.specs.References.{Reference, Subscripts, one, part, rightCount, sameDirection, takenLength, two, whole, wordPart}
 use Rattle.language.specs.declared.refusals.Refusal.the-variants.{BadName, BadSubscript}
@@ -18,7 +18,7 @@ module _ (d : Description) (p : Places) (terminals : ℕ → Judged) where
   constantFaults b at (some n) = unless (inBounds b n) at BadSubscript
 
   abbrev pub subscriptFaults : Bounds → ℕ → List Fault
-  subscriptFaults b e = constantFaults b (nodePlace p e .at) (constantNumber (nodeAt d e))
+  subscriptFaults b e = constantFaults b (nodePlace p e .at) (numberOfConstant (nodeAt d e))
 
   abbrev pub endFaults : Bounds → Bounds → NodePlaces → List Fault
   endFaults b x at = unless (inBounds b (x .first)) (at .first) BadSubscript ++ unless (inBounds b (x .last)) (at .last) BadSubscript

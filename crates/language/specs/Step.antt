@@ -7,7 +7,7 @@ use lib.Dec.{eqb, leb, ltb}
 use lib.ListN.{getD, length, replicate, set}
 use Rattle.language.specs.Ceilings.{lastCycle, mostReturns}
 use Rattle.language.specs.Acting.{Doing, Ran, runActions, went}
-use Rattle.language.specs.Description.{Description, State, constantIn, constantNumber, facilityAt, nodeAt, sequencingOf, stateAt, wordLength}
+use Rattle.language.specs.Description.{Description, State, constantIn, numberOfConstant, facilityAt, nodeAt, sequencingOf, stateAt, wordLength}
 use Rattle.language.specs.Meaning.{Stuck, fitting, noState, noStateValue, sidesDiffer, tooLarge, wrongRecord}
 use Rattle.language.specs.declared.stops.Stop.{Stop}
 use Rattle.language.specs.declared.stops.Stop.the-variants.{LastCycleReached, NoNextState, NothingToReturn, TooManyCalls, TwoNextStates, ValueUnborne}
@@ -39,7 +39,7 @@ module _ (d : Description) where
 
   abbrev pub numberOf : Option ℕ → Option ℕ
   numberOf none = none
-  numberOf (some n) = constantNumber (nodeAt d n)
+  numberOf (some n) = numberOfConstant (nodeAt d n)
 
   -- The number that a state bears: that of its value, which is a constant.
   unfoldable pub stateNumber : ℕ → Option ℕ
