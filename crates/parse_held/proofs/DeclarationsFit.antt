@@ -21,7 +21,7 @@ use Rattle.language.specs.Tree as T
 use Rattle.language.specs.Tree.{Declaration, Extent, Function, Kind, Label, Name, Operation, State, StateValue}
 use Rattle.language.specs.Value.{Value, value}
 use Rattle.language.specs.Words.{Constant, Position}
-use Rattle.about_rules.specs.InOrder.{expressionsOfState}
+use Rattle.about_rules.specs.InOrder.{stateExpressions}
 use Rattle.about_rules.specs.Runs.{stateRecords}
 use Rattle.about_rules.specs.Tidy.{DeclarationsTidy, FunctionTidy, LabelTidy, OperationsTidy, StatesTidy, Suits}
 use Rattle.image_records.proofs.NodeBack.{Half}
@@ -172,8 +172,8 @@ unfolding constantSize
 value-fits base l none h = tt
 value-fits base l (some v) h = omega arith
 
-pub states-fit : (l : Option ℕ) (base a : ℕ) (ss : List State) → StatesTidy ss → base + expressionsOfState l ss ≤ 65535 → a + stateRecords ss ≤ 65535 → Each StateInRange (statesOf l base a ss)
-unfolding statesOf expressionsOfState stateRecords
+pub states-fit : (l : Option ℕ) (base a : ℕ) (ss : List State) → StatesTidy ss → base + stateExpressions l ss ≤ 65535 → a + stateRecords ss ≤ 65535 → Each StateInRange (statesOf l base a ss)
+unfolding statesOf stateExpressions stateRecords
 states-fit l base a [] t h g = tt
 states-fit l base a (s ∷ ss) t h g = (
   record { name = omega (arith, label-short (s .label) (s .value) (t .0 .0)); value = value-fits base l (s .value) (omega arith); first = omega arith; count = omega arith },

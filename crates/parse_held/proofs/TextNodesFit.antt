@@ -11,7 +11,7 @@ use Rattle.language.specs.Description.{Description}
 use Rattle.language.specs.Naming.{Scope, noState}
 use Rattle.language.specs.Tree as T
 use Rattle.language.specs.Tree.{Declaration, Function, Label, Name, Operation, State, StateValue}
-use Rattle.about_rules.specs.InOrder.{expressionsOfState}
+use Rattle.about_rules.specs.InOrder.{stateExpressions}
 use Rattle.about_rules.specs.Runs.{stateRecords}
 use Rattle.about_rules.specs.Sizes.{function-size, in-size, value-size}
 use Rattle.about_rules.specs.Tidy.{FunctionTidy, LabelTidy, OperationsTidy, StatesTidy}
@@ -68,8 +68,8 @@ module _ (d : Description) where
         let r = state-constant l (v .constant) fits (t .1) in
         constant-fits d base (stateConstant l (v .constant)) (v .at) (r .0) (r .1) (r .2) n h
 
-    pub state-nodes : (base : ℕ) (ss : List State) → StatesTidy ss → StatesNear text ss → base + expressionsOfState l ss ≤ 65535 → Here d base (stateNodes l scope base ss) → AllFit d base (stateNodes l scope base ss)
-    unfolding stateNodes expressionsOfState
+    pub state-nodes : (base : ℕ) (ss : List State) → StatesTidy ss → StatesNear text ss → base + stateExpressions l ss ≤ 65535 → Here d base (stateNodes l scope base ss) → AllFit d base (stateNodes l scope base ss)
+    unfolding stateNodes stateExpressions
     state-nodes base [] t n k h = tt
     state-nodes base (s ∷ ss) t n k h =
         let from = base + valueSize l (s .value) in
@@ -93,9 +93,9 @@ operation-acts text facilities before base (o ∷ os) n k l m =
     acts-append (actionsOf s base (o .body)) _ (acts-fit text s (omega arith) (none-fit facilities before) base (o .body) (n .0 .1) (omega arith) (omega arith))
     (operation-acts text facilities (before ++ o .name ∷ []) (base + expressionsIn (o .body)) os (n .1) (omega (arith, last-length before (o .name))) (omega arith) (omega arith))
 
-pub state-acts : (text : List ℕ) (l : Option ℕ) (scope : Scope) → length (scope .operations) ≤ 65535 → StatesFit scope → (base : ℕ) (ss : List State) → StatesNear text ss → base + expressionsOfState l ss ≤ 65535 → stateRecords ss ≤ 65535
+pub state-acts : (text : List ℕ) (l : Option ℕ) (scope : Scope) → length (scope .operations) ≤ 65535 → StatesFit scope → (base : ℕ) (ss : List State) → StatesNear text ss → base + stateExpressions l ss ≤ 65535 → stateRecords ss ≤ 65535
     → ActsFit (stateActions l scope base ss)
-unfolding stateActions expressionsOfState stateRecords
+unfolding stateActions stateExpressions stateRecords
 state-acts text l scope o q base [] n k m = tt
 state-acts text l scope o q base (s ∷ ss) n k m =
     let from = base + valueSize l (s .value) in
