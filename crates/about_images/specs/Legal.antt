@@ -21,7 +21,7 @@ use Rattle.language.specs.Ceilings.{largestBound, longest, longestName, mostCou
 use Rattle.language.specs.Order.{facilityRoots, operationRoots, startAt, startNode, stateRoots, valueRoot}
 use Rattle.language.specs.Recursion.{below-ge}
 use Rattle.language.specs.declared.refusals.Refusal.the-variants.{BadSequencing, BadSubscript, NoContinuation}
-use Rattle.language.specs.Rules.{boundsFaults, facilitiesFaults, facilityFaults, firstFaults, registerLength, repeated, sequencingLength, sequencingRight, valueFaults}
+use Rattle.language.specs.Rules.{boundsFaults, facilitiesFaults, facilityFaults, firstFaults, lengthIfAny, repeated, sequencingLength, sequencingRight, valueFaults}
 use Rattle.language.specs.Scan.{reservedKind}
 use Rattle.language.specs.Tree.{Kind, Name, computed, input, memory, plain, register, sequencing}
 use Rattle.language.specs.Value.{Value}
@@ -282,7 +282,7 @@ module _ (d : Description) (h : legalForm d ≡ true) where
   unfolding sequencingLength
   register-long l e = go (sequencingOf d) refl e
     where
-      go : (x : Option ℕ) → sequencingOf d ≡ x → registerLength d noPlaces x ≡ some l → (1 ≤ l) × (l ≤ 256)
+      go : (x : Option ℕ) → sequencingOf d ≡ x → lengthIfAny d noPlaces x ≡ some l → (1 ≤ l) × (l ≤ 256)
       go none q k = absurd (let z : _≡_ {A = ℕ} 0 1 = cc in omega arith)
       go (some f) q k =
           let z : wordLength (facilityAt d f) ≡ l = cc in

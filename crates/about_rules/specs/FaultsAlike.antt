@@ -240,7 +240,7 @@ module _ (d : Description) (p q : Places) where
   unfolding L.sequencingLength
   sequencing-same = go (D.sequencingOf d)
     where
-      go : (x : Option ℕ) → L.registerLength d p x ≡ L.registerLength d q x
+      go : (x : Option ℕ) → L.lengthIfAny d p x ≡ L.lengthIfAny d q x
       go none = refl
       go (some n) = refl
 

@@ -9,7 +9,7 @@ use lib.Dec.{eqb, leb, ltb}
 use lib.ListN.{length}
 use Rattle.language.specs.Description.{Bounds, Description, Facility, NodePlaces, Places, facilityAt, fromFirst, inBounds, spanOf, wordCount, wordLength}
 use Rattle.language.specs.Judging.{Judged, Worth, faultsOf, fine, refuse, unless}
-use Rattle.language.specs.Meaning.{Answer, Located, bounded, constantPart, is, located, place, placeOf, subscript}
+use Rattle.language.specs.Meaning.{Answer, Located, constantPart, is, located, place, placeOf, subscript, upToLongest}
 use Rattle.language.specs.ReferenceRules.{boundFaults, computedWork, countedRight, countedWrong, directionFaults, endFaults, referenceJudged, subscriptFaults, subscriptWorth, subscriptsJudged}
 use Rattle.language.specs.References.{Reference, Subscripts, one, part, rightCount, sameDirection, takenLength, two, whole, wordPart}
 use Rattle.language.specs.declared.refusals.Refusal.the-variants.{BadName, BadSubscript}
@@ -26,7 +26,7 @@ pub data Finds (f : Facility) (n l : ℕ) : Located → Type 0 where
   outside : Finds f n l (Located.stops OutsideBounds)
 
 module _ (f : Facility) (n l : ℕ) where
-  narrow-finds : l ≤ longest → (w a : ℕ) → w < wordCount f → a + l ≤ wordLength f → Finds f n l (bounded (place n w a l))
+  narrow-finds : l ≤ longest → (w a : ℕ) → w < wordCount f → a + l ≤ wordLength f → Finds f n l (upToLongest (place n w a l))
   narrow-finds h w a p q = rw (le-leb l longest h) (finds p q)
 
   subscript-finds : {m : ℕ} {a : Answer} (b : Bounds) (on : ℕ → Located) → Gives m a → ((k : ℕ) → k < spanOf b → Finds f n l (on k)) → Finds f n l (subscript a b on)
@@ -112,7 +112,7 @@ module _ (d : Description) (p : Places) (terminals : ℕ → Judged) (ev : ℕ �
         given-e = parts e _ o (r .worked)
 
         go : (t : Bool) → eqb (f .dimensions) 1 ≡ t → cond t 1 (wordLength f) ≤ longest
-            → Finds f n (cond t 1 (wordLength f)) (cond t (subscript (EV e) (f .bits) (λ b. bounded (place n 0 b 1))) (subscript (EV e) (f .words) (λ w. bounded (place n w 0 (wordLength f)))))
+            → Finds f n (cond t 1 (wordLength f)) (cond t (subscript (EV e) (f .bits) (λ b. upToLongest (place n 0 b 1))) (subscript (EV e) (f .words) (λ w. upToLongest (place n w 0 (wordLength f)))))
         go true q s =
             let h : f .dimensions ≡ 1 = eqb-true _ _ q in
             subscript-finds f n 1 (f .bits) _ given-e (λ k l. narrow-finds f n 1 s 0 k
@@ -130,7 +130,7 @@ module _ (d : Description) (p : Places) (terminals : ℕ → Judged) (ev : ℕ �
         let i1 = first-in f at b (r .bound) in
         let i2 = last-in f at b (r .bound) in
         let i3 : sameDirection (f .bits) b ≡ true = unless-none (sameDirection (f .bits) b) (at .last) BadSubscript (r .direction) in
-        part-finds f n (spanOf b) (f .bits) b (λ a c. bounded (place n 0 a c)) i1 i2 i3
+        part-finds f n (spanOf b) (f .bits) b (λ a c. upToLongest (place n 0 a c)) i1 i2 i3
         (narrow-finds f n (spanOf b) (r .short) 0 (fromFirst (f .bits) (b .first)) (rw (one-word f (λ z. omega arith)) (omega arith)) (rw (bits f (λ z. omega arith)) (part-in (f .bits) b i1 i2 i3)))
 
     place-two : (e g : ℕ) → Q e → Q g → Right f (two e g) at → Finds f n (takenLength f (two e g)) (located EV n f (two e g))
@@ -151,7 +151,7 @@ module _ (d : Description) (p : Places) (terminals : ℕ → Judged) (ev : ℕ �
         let i2 = last-in f at b ends in
         let i3 : sameDirection (f .bits) b ≡ true = unless-none (sameDirection (f .bits) b) (at .last) BadSubscript (r .direction) in
         subscript-finds f n (spanOf b) (f .words) _ (parts e _ o (r .worked)) (λ i l.
-        part-finds f n (spanOf b) (f .bits) b (λ a c. bounded (place n i a c)) i1 i2 i3
+        part-finds f n (spanOf b) (f .bits) b (λ a c. upToLongest (place n i a c)) i1 i2 i3
         (narrow-finds f n (spanOf b) (r .short) i (fromFirst (f .bits) (b .first)) (rw (words f h) l) (rw (bits f (λ z. omega arith)) (part-in (f .bits) b i1 i2 i3))))
 
     pub place-right : (s : Subscripts) → Each Q s → Right f s at → Finds f n (takenLength f s) (located EV n f s)

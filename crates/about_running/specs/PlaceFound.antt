@@ -7,7 +7,7 @@ use borrow.Author.Tests.{eqb-false, eqb-true, leb-true, ltb-true, ne-eqb}
 use lib.Dec.{eqb, leb, ltb}
 use lib.ListN.{length}
 use Rattle.language.specs.Description.{Bounds, Description, Facility, facilityAt, fromFirst, inBounds, spanOf, wordCount, wordLength}
-use Rattle.language.specs.Meaning.{Answer, Located, Place, bounded, constantPart, is, located, noFacility, outside, place, placeOf, stops, stuck, subscript, wrongLength, wrongSubscripts}
+use Rattle.language.specs.Meaning.{Answer, Located, Place, constantPart, is, located, noFacility, outside, place, placeOf, stops, stuck, subscript, upToLongest, wrongLength, wrongSubscripts}
 use Rattle.language.specs.References as R
 use Rattle.language.specs.References.{Reference, Subscripts, part, rightCount, sameDirection, two, whole, wordPart}
 use Rattle.language.specs.Ceilings.{longest}
@@ -41,7 +41,7 @@ some-bits f h = rw (ne-eqb (f .dimensions) 0 (omega arith)) refl
 
 module _ (f : Facility) (n : ℕ) (p : Place) where
   -- The goal of each step: what is found lies within.
-  narrowed : (q : Place) → Within f n q → bounded q ≡ Located.at p → Within f n p
+  narrowed : (q : Place) → Within f n q → upToLongest q ≡ Located.at p → Within f n p
   narrowed q w e = go (leb (q .count) longest) e
     where
       go : (b : Bool) → cond b (Located.at q) (Located.stuck wrongLength) ≡ Located.at p → Within f n p
@@ -80,27 +80,27 @@ module _ (f : Facility) (n : ℕ) (p : Place) where
       most = leb-true _ _ (right-of (leb 1 (f .dimensions)) _ r)
 
       go : (t : Bool) → eqb (f .dimensions) 1 ≡ t
-          → cond t (subscript (ev a) (f .bits) (λ b. bounded (place n 0 b 1))) (subscript (ev a) (f .words) (λ w. bounded (place n w 0 (wordLength f)))) ≡ Located.at p → Within f n p
+          → cond t (subscript (ev a) (f .bits) (λ b. upToLongest (place n 0 b 1))) (subscript (ev a) (f .words) (λ w. upToLongest (place n w 0 (wordLength f)))) ≡ Located.at p → Within f n p
       go true q k =
-          subscripted (ev a) (f .bits) (λ b. bounded (place n 0 b 1))
+          subscripted (ev a) (f .bits) (λ b. upToLongest (place n 0 b 1))
           (λ b h. narrowed (place n 0 b 1) (record { facility-so = refl; word-in = some-word f; part-within = omega (arith, h, some-bits f least) })) k
       go false q k =
           let z : f .dimensions ≡ 1 → ⊥ = eqb-false _ _ q in
-          subscripted (ev a) (f .words) (λ w. bounded (place n w 0 (wordLength f)))
+          subscripted (ev a) (f .words) (λ w. upToLongest (place n w 0 (wordLength f)))
           (λ w h. narrowed (place n w 0 (wordLength f)) (record { facility-so = refl; word-in = omega (arith, h, two-words f (omega (arith, least, most, z))); part-within = omega arith })) k
   located-within ev (part x) r e =
       let z : f .dimensions ≡ 1 = eqb-true _ _ r in
-      parted (f .bits) x (λ b c. bounded (place n 0 b c))
+      parted (f .bits) x (λ b c. upToLongest (place n 0 b c))
       (λ b c h. narrowed (place n 0 b c) (record { facility-so = refl; word-in = some-word f; part-within = omega (arith, h, some-bits f (omega arith)) })) e
   located-within ev (two a b) r e =
       let z : f .dimensions ≡ 2 = eqb-true _ _ r in
-      subscripted (ev a) (f .words) (λ w. subscript (ev b) (f .bits) (λ m. bounded (place n w m 1)))
-      (λ w h. subscripted (ev b) (f .bits) (λ m. bounded (place n w m 1))
+      subscripted (ev a) (f .words) (λ w. subscript (ev b) (f .bits) (λ m. upToLongest (place n w m 1)))
+      (λ w h. subscripted (ev b) (f .bits) (λ m. upToLongest (place n w m 1))
       (λ m k. narrowed (place n w m 1) (record { facility-so = refl; word-in = omega (arith, h, two-words f z); part-within = omega (arith, k, some-bits f (omega arith)) }))) e
   located-within ev (wordPart a x) r e =
       let z : f .dimensions ≡ 2 = eqb-true _ _ r in
-      subscripted (ev a) (f .words) (λ w. constantPart (f .bits) x (λ m c. bounded (place n w m c)))
-      (λ w h. parted (f .bits) x (λ m c. bounded (place n w m c))
+      subscripted (ev a) (f .words) (λ w. constantPart (f .bits) x (λ m c. upToLongest (place n w m c)))
+      (λ w h. parted (f .bits) x (λ m c. upToLongest (place n w m c))
       (λ m c k. narrowed (place n w m c) (record { facility-so = refl; word-in = omega (arith, h, two-words f z); part-within = omega (arith, k, some-bits f (omega arith)) }))) e
 
 -- The part that a reference names is there.
@@ -149,7 +149,7 @@ few-either : (b : Bool) (l m : Located) → Few l → Few m → Few (cond b l m)
 few-either true l m h k = h
 few-either false l m h k = k
 
-few-narrow : (p : Place) → 0 < p .count → Few (bounded p)
+few-narrow : (p : Place) → 0 < p .count → Few (upToLongest p)
 unfolding longest
 few-narrow p h = go (leb (p .count) 256) refl
   where
@@ -171,16 +171,16 @@ few-located : (ev : ℕ → Answer) (n : ℕ) (f : Facility) (s : Subscripts) �
 unfolding located
 few-located ev n f whole = few-narrow (place n 0 0 (wordLength f)) (some-length f)
 few-located ev n f (R.one e) =
-    few-either (eqb (f .dimensions) 1) (subscript (ev e) (f .bits) (λ b. bounded (place n 0 b 1))) (subscript (ev e) (f .words) (λ w. bounded (place n w 0 (wordLength f))))
-    (few-subscript (ev e) (f .bits) (λ b. bounded (place n 0 b 1)) (λ b. few-narrow (place n 0 b 1) (omega arith)))
-    (few-subscript (ev e) (f .words) (λ w. bounded (place n w 0 (wordLength f))) (λ w. few-narrow (place n w 0 (wordLength f)) (some-length f)))
-few-located ev n f (part x) = few-part (f .bits) x (λ b c. bounded (place n 0 b c)) (λ b. few-narrow (place n 0 b (spanOf x)) (some-span x))
+    few-either (eqb (f .dimensions) 1) (subscript (ev e) (f .bits) (λ b. upToLongest (place n 0 b 1))) (subscript (ev e) (f .words) (λ w. upToLongest (place n w 0 (wordLength f))))
+    (few-subscript (ev e) (f .bits) (λ b. upToLongest (place n 0 b 1)) (λ b. few-narrow (place n 0 b 1) (omega arith)))
+    (few-subscript (ev e) (f .words) (λ w. upToLongest (place n w 0 (wordLength f))) (λ w. few-narrow (place n w 0 (wordLength f)) (some-length f)))
+few-located ev n f (part x) = few-part (f .bits) x (λ b c. upToLongest (place n 0 b c)) (λ b. few-narrow (place n 0 b (spanOf x)) (some-span x))
 few-located ev n f (two e g) =
-    few-subscript (ev e) (f .words) (λ w. subscript (ev g) (f .bits) (λ b. bounded (place n w b 1)))
-    (λ w. few-subscript (ev g) (f .bits) (λ b. bounded (place n w b 1)) (λ b. few-narrow (place n w b 1) (omega arith)))
+    few-subscript (ev e) (f .words) (λ w. subscript (ev g) (f .bits) (λ b. upToLongest (place n w b 1)))
+    (λ w. few-subscript (ev g) (f .bits) (λ b. upToLongest (place n w b 1)) (λ b. few-narrow (place n w b 1) (omega arith)))
 few-located ev n f (wordPart e x) =
-    few-subscript (ev e) (f .words) (λ w. constantPart (f .bits) x (λ b c. bounded (place n w b c)))
-    (λ w. few-part (f .bits) x (λ b c. bounded (place n w b c)) (λ b. few-narrow (place n w b (spanOf x)) (some-span x)))
+    few-subscript (ev e) (f .words) (λ w. constantPart (f .bits) x (λ b c. upToLongest (place n w b c)))
+    (λ w. few-part (f .bits) x (λ b c. upToLongest (place n w b c)) (λ b. few-narrow (place n w b (spanOf x)) (some-span x)))
 
 few-place : (d : Description) (ev : ℕ → Answer) (r : Reference) → Few (placeOf d ev r)
 unfolding placeOf

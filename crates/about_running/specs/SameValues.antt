@@ -8,7 +8,7 @@ use borrow.Author.Tests.{ltb-false, ltb-true}
 use lib.Dec.{ltb}
 use Rattle.language.specs.Description as D
 use Rattle.language.specs.Description.{Bounds, Description, Facility, Node, facilityAt, isComputed, nodeAt, wordLength}
-use Rattle.language.specs.Meaning.{Answer, Located, Place, Stores, after, armBack, armNumber, armWorth, bounded, choiceWorth, chosen, constantPart, decides, evalAt, evalBelow, evalNode, evalStep, is, located, missed, notBefore, notOneBit, partOfValue, place, placeOf, read, stops, stuck, subscript, worthOr, wrongCount, wrongLength}
+use Rattle.language.specs.Meaning.{Answer, Located, Place, Stores, after, armBack, armNumber, armWorth, choiceWorth, chosen, constantPart, decides, evalAt, evalBelow, evalNode, evalStep, is, located, missed, notBefore, notOneBit, partOfValue, place, placeOf, read, stops, stuck, subscript, upToLongest, worthOr, wrongCount, wrongLength}
 use Rattle.language.specs.Operators.{binaryOf, cutOf, isBinary, isCut, isPrefix, prefixOf}
 use Rattle.language.specs.Recursion.{below-ge, below-lt}
 use Rattle.language.specs.References as R
@@ -44,13 +44,13 @@ module _ (ev ev′ : ℕ → Answer) (alike : (a : ℕ) → ev a ≡ ev′ a) wh
   unfolding located
   located-same n f whole = refl
   located-same n f (R.one e) =
-      let bit = subscript-same (f .bits) (λ b. bounded (place n 0 b 1)) _ (alike e) (λ b. refl) in
-      let word = subscript-same (f .words) (λ w. bounded (place n w 0 (wordLength f))) _ (alike e) (λ w. refl) in
+      let bit = subscript-same (f .bits) (λ b. upToLongest (place n 0 b 1)) _ (alike e) (λ b. refl) in
+      let word = subscript-same (f .words) (λ w. upToLongest (place n w 0 (wordLength f))) _ (alike e) (λ w. refl) in
       rw (bit, word) refl
   located-same n f (part x) = refl
   located-same n f (two e g) =
-      subscript-same (f .words) _ _ (alike e) (λ w. subscript-same (f .bits) (λ b. bounded (place n w b 1)) _ (alike g) (λ b. refl))
-  located-same n f (wordPart e x) = subscript-same (f .words) (λ w. constantPart (f .bits) x (λ b c. bounded (place n w b c))) _ (alike e) (λ w. refl)
+      subscript-same (f .words) _ _ (alike e) (λ w. subscript-same (f .bits) (λ b. upToLongest (place n w b 1)) _ (alike g) (λ b. refl))
+  located-same n f (wordPart e x) = subscript-same (f .words) (λ w. constantPart (f .bits) x (λ b c. upToLongest (place n w b c))) _ (alike e) (λ w. refl)
 
   pub place-same : (d : Description) (r : Reference) → placeOf d ev r ≡ placeOf d ev′ r
   unfolding placeOf

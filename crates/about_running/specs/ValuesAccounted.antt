@@ -11,7 +11,7 @@ use lib.ListN.{length}
 use Rattle.language.specs.Acting.{side, sideOf}
 use Rattle.language.specs.Description as D
 use Rattle.language.specs.Description.{Bounds, Description, Facility, Node, facilityAt, fromFirst, inBounds, isComputed, nodeAt, spanOf, wordLength}
-use Rattle.language.specs.Meaning.{Answer, Located, Place, Stores, Stuck, after, armBack, armNumber, armWorth, bounded, chosen, constantPart, decides, evalAt, evalBelow, evalNode, evalStep, fitting, is, lengthDiffers, located, noFacility, notBefore, notOneBit, outside, partOfValue, place, placeOf, read, stops, stuck, subscript, tooLarge, worthOr, wrongCount, wrongLength, wrongSubscripts}
+use Rattle.language.specs.Meaning.{Answer, Located, Place, Stores, Stuck, after, armBack, armNumber, armWorth, chosen, constantPart, decides, evalAt, evalBelow, evalNode, evalStep, fitting, is, lengthDiffers, located, noFacility, notBefore, notOneBit, outside, partOfValue, place, placeOf, read, stops, stuck, subscript, tooLarge, upToLongest, worthOr, wrongCount, wrongLength, wrongSubscripts}
 use Rattle.language.specs.Operators.{binaryOf, cutOf, prefixOf}
 use Rattle.language.specs.Recursion.{below-ge, below-lt}
 use Rattle.language.specs.References as R
@@ -64,7 +64,7 @@ module _ {X : Type 0} (S : Stores X) (d : Description) (x : X) where
   either-at true k l h i = h
   either-at false k l h i = i
 
-  narrow-told : {t : Task} (p : Place) → Comes S d x t (names p) → ToldAt t (bounded p)
+  narrow-told : {t : Task} (p : Place) → Comes S d x t (names p) → ToldAt t (upToLongest p)
   narrow-told p h = either-at (leb (p .count) longest) (Located.at p) (Located.stuck wrongLength) (told-at h) told-stuck-at
 
   part-told : {t : Task} (b y : Bounds) (on : ℕ → ℕ → Located) → ToldAt t (on (fromFirst b (y .first)) (spanOf y)) → ToldAt t (constantPart b y on)
@@ -99,7 +99,7 @@ module _ {X : Type 0} (S : Stores X) (d : Description) (x : X) where
         f = facilityAt d n
 
         go : (t : Bool) → eqb (f .dimensions) 1 ≡ t
-            → ToldAt (naming (record { facility = n; subscripts = R.one e })) (cond t (subscript (ev e) (f .bits) (λ b. bounded (place n 0 b 1))) (subscript (ev e) (f .words) (λ w. bounded (place n w 0 (wordLength f)))))
+            → ToldAt (naming (record { facility = n; subscripts = R.one e })) (cond t (subscript (ev e) (f .bits) (λ b. upToLongest (place n 0 b 1))) (subscript (ev e) (f .words) (λ w. upToLongest (place n w 0 (wordLength f)))))
         go true q =
             subscript-told e (f .bits) (ev e) _ (evs e)
             (λ v h k. narrow-told _ (named-as {ks = fromFirst (f .bits) (v .number) ∷ []} (rw q (Account.lies h k Account.all-lie)) (rw q refl)))
@@ -110,7 +110,7 @@ module _ {X : Type 0} (S : Stores X) (d : Description) (x : X) where
             (λ v h k. narrow-told _ (named-as {ks = fromFirst (f .words) (v .number) ∷ []} (rw q (Account.lies h k Account.all-lie)) (rw q refl)))
             (λ v h k. Account.subscripts-meet (rw q (Account.lies-outside h k)))
             (λ o h. Account.subscripts-meet (Account.within-meets h))
-    located-told n (part y) = part-told (facilityAt d n .bits) y (λ b c. bounded (place n 0 b c)) (narrow-told _ (named-as Account.all-lie refl))
+    located-told n (part y) = part-told (facilityAt d n .bits) y (λ b c. upToLongest (place n 0 b c)) (narrow-told _ (named-as Account.all-lie refl))
     located-told n (two e g) =
         subscript-told e (facilityAt d n .words) (ev e) _ (evs e)
         (λ v h k. subscript-told g (facilityAt d n .bits) (ev g) _ (evs g)
@@ -121,7 +121,7 @@ module _ {X : Type 0} (S : Stores X) (d : Description) (x : X) where
         (λ o h. Account.subscripts-meet (Account.within-meets h))
     located-told n (wordPart e y) =
         subscript-told e (facilityAt d n .words) (ev e) _ (evs e)
-        (λ v h k. part-told (facilityAt d n .bits) y (λ b c. bounded (place n (fromFirst (facilityAt d n .words) (v .number)) b c)) (narrow-told _ (named-as (Account.lies h k Account.all-lie) refl)))
+        (λ v h k. part-told (facilityAt d n .bits) y (λ b c. upToLongest (place n (fromFirst (facilityAt d n .words) (v .number)) b c)) (narrow-told _ (named-as (Account.lies h k Account.all-lie) refl)))
         (λ v h k. Account.subscripts-meet (Account.lies-outside h k))
         (λ o h. Account.subscripts-meet (Account.within-meets h))
 

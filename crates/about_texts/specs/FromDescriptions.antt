@@ -244,7 +244,7 @@ module _ (d : Description) (form : legalForm d ≡ true) (plain : (f : ℕ) → 
   unfolding sequencingLength sequencingOf facilityAt
   register-length l e = go (sequencingFrom 0 (d .facilities)) refl e
     where
-      go : (x : Option ℕ) → sequencingFrom 0 (d .facilities) ≡ x → Rules.registerLength d noPlaces x ≡ some l → (1 ≤ l) × (l ≤ longest)
+      go : (x : Option ℕ) → sequencingFrom 0 (d .facilities) ≡ x → Rules.lengthIfAny d noPlaces x ≡ some l → (1 ≤ l) × (l ≤ longest)
       go none q k = absurd (let z : _≡_ {A = ℕ} 0 1 = cc in omega arith)
       go (some n) q k =
           let y = found-from 0 n (d .facilities) q in
@@ -320,9 +320,9 @@ module _ (d : Description) (form : legalForm d ≡ true) (plain : (f : ℕ) → 
   unfolding sequencingLength sequencingOf facilityAt
   length-same = go (sequencingFrom 0 (d .facilities)) refl
     where
-      go : (x : Option ℕ) → sequencingFrom 0 (d .facilities) ≡ x → X.lengthAt (d .facilities) x ≡ Rules.registerLength d noPlaces x
+      go : (x : Option ℕ) → sequencingFrom 0 (d .facilities) ≡ x → X.lengthAt (d .facilities) x ≡ Rules.lengthIfAny d noPlaces x
       go none q = refl
-      go (some n) q = rw (le-leb (wordLength (facilityAt d n)) longest (register-length (wordLength (facilityAt d n)) (ap (Rules.registerLength d noPlaces) q) .1))
+      go (some n) q = rw (le-leb (wordLength (facilityAt d n)) longest (register-length (wordLength (facilityAt d n)) (ap (Rules.lengthIfAny d noPlaces) q) .1))
 
   first-same : functionSizes declarations ≡ ends .first
   first-same = let z = declared .size in omega (arith, z)

@@ -43,7 +43,7 @@ length-found : (d : Description) (p : Places) → sequencingLength d p ≡ regis
 unfolding sequencingLength sequencingOf facilityAt
 length-found d p = go (sequencingFrom 0 (d .facilities))
   where
-    go : (n : Option ℕ) → R.registerLength d p n ≡ lengthNo (d .facilities) n
+    go : (n : Option ℕ) → R.lengthIfAny d p n ≡ lengthNo (d .facilities) n
     go none = refl
     go (some n) = refl
 

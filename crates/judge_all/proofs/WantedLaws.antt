@@ -11,7 +11,7 @@ use lib.ListN.{drop, drop-of-length-le, length}
 use lib.Seq.{drop-cons}
 use Rattle.image_sections.specs.Declarations.{kindMeant}
 use Rattle.language.specs.Description.{Description, Facility, Places, facilityAt, isSequencing, noFacility, sequencingFrom, sequencingOf, spanOf, wordLength}
-use Rattle.language.specs.Rules.{registerLength, sequencingLength}
+use Rattle.language.specs.Rules.{lengthIfAny, sequencingLength}
 use Rattle.language.specs.Tree.{Name}
 use Rattle.judge_records.specs.Read.{FacilityRead, facilityMeant}
 use Rattle.judge_records.specs.declared.facilities.Facility as N
@@ -61,8 +61,8 @@ module _ {facs exprs marks places : List ℕ} {d : Description} {p : Places} (s 
     unfolding sequencingLength
     found-here l e m w =
         let k : l ≡ wordLength (facilityAt d n) = m (facilityAt d n .name) ∙ ap wordLength (s .facility n h f g) in
-        wanted-some l (λ z. some-length (facilityAt d n) (sym k ∙ z)) ∙ ap some k ∙ ap (registerLength d p) (sym (here-from d n (omega (arith, s .count)) (kind-here ∙ e)) ∙ w)
+        wanted-some l (λ z. some-length (facilityAt d n) (sym k ∙ z)) ∙ ap some k ∙ ap (lengthIfAny d p) (sym (here-from d n (omega (arith, s .count)) (kind-here ∙ e)) ∙ w)
 
   pub found-nowhere : length facs / facilitySize ≤ n → from d n ≡ sequencingOf d → wantedLength 0 ≡ sequencingLength d p
   unfolding sequencingLength
-  found-nowhere h w = wanted-none 0 refl ∙ ap (registerLength d p) (sym (none-from d n (omega (arith, s .count))) ∙ w)
+  found-nowhere h w = wanted-none 0 refl ∙ ap (lengthIfAny d p) (sym (none-from d n (omega (arith, s .count))) ∙ w)

@@ -102,19 +102,19 @@ constantPart b x on =
     (Located.stuck outside)
 
 -- At most 256 bits are taken.
-abbrev pub bounded : Place → Located
-bounded p = cond (leb (p .count) longest) (Located.at p) (Located.stuck wrongLength)
+abbrev pub upToLongest : Place → Located
+upToLongest p = cond (leb (p .count) longest) (Located.at p) (Located.stuck wrongLength)
 
 -- The place that subscripts name; `ev` gives their values.
 unfoldable pub located : (ℕ → Answer) → ℕ → Facility → Subscripts → Located
-located ev n f whole = bounded (place n 0 0 (wordLength f))
+located ev n f whole = upToLongest (place n 0 0 (wordLength f))
 located ev n f (R.one e) =
     cond (eqb (f .dimensions) 1)
-    (subscript (ev e) (f .bits) (λ b. bounded (place n 0 b 1)))
-    (subscript (ev e) (f .words) (λ w. bounded (place n w 0 (wordLength f))))
-located ev n f (part x) = constantPart (f .bits) x (λ b c. bounded (place n 0 b c))
-located ev n f (two e g) = subscript (ev e) (f .words) (λ w. subscript (ev g) (f .bits) (λ b. bounded (place n w b 1)))
-located ev n f (wordPart e x) = subscript (ev e) (f .words) (λ w. constantPart (f .bits) x (λ b c. bounded (place n w b c)))
+    (subscript (ev e) (f .bits) (λ b. upToLongest (place n 0 b 1)))
+    (subscript (ev e) (f .words) (λ w. upToLongest (place n w 0 (wordLength f))))
+located ev n f (part x) = constantPart (f .bits) x (λ b c. upToLongest (place n 0 b c))
+located ev n f (two e g) = subscript (ev e) (f .words) (λ w. subscript (ev g) (f .bits) (λ b. upToLongest (place n w b 1)))
+located ev n f (wordPart e x) = subscript (ev e) (f .words) (λ w. constantPart (f .bits) x (λ b c. upToLongest (place n w b c)))
 
 -- IF with ELSE is the conditional of two arms, and its condition has one bit.
 unfoldable pub decides : ℕ → Value → Bool

@@ -133,12 +133,12 @@ module _ (d : Description) (p : Places) where
       stateFaults l before (statePlace p n) s ++ statesFaults l (borne before (s .value)) (suc n) ss
 
   -- The length of the sequencing register, if there is one.
-  abbrev pub registerLength : Option ℕ → Option ℕ
-  registerLength none = none
-  registerLength (some n) = some (wordLength (facilityAt d n))
+  abbrev pub lengthIfAny : Option ℕ → Option ℕ
+  lengthIfAny none = none
+  lengthIfAny (some n) = some (wordLength (facilityAt d n))
 
   unfoldable pub sequencingLength : Option ℕ
-  sequencingLength = registerLength (sequencingOf d)
+  sequencingLength = lengthIfAny (sequencingOf d)
 
   -- ---- All faults of a description.
 

@@ -95,7 +95,7 @@ fn bit_of_word(
     e: u16,
     bits: ShortBounds,
 ) -> Located
-    ensures { λ r. ⌜ ForEach (now (section .entry)) (now (expressions .entry)) (now (store .entry)) (λ d x. locatedMeant r ≡ onDistance at (λ w. M.subscript (evalBelow (bytes d) d x n e) (shortMeant bits) (λ b. M.bounded (M.place number w b 1)))) ⌝ }
+    ensures { λ r. ⌜ ForEach (now (section .entry)) (now (expressions .entry)) (now (store .entry)) (λ d x. locatedMeant r ≡ onDistance at (λ w. M.subscript (evalBelow (bytes d) d x n e) (shortMeant bits) (λ b. M.upToLongest (M.place number w b 1)))) ⌝ }
 {
     match at {
         Distance::At(w) => {

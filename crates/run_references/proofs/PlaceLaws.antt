@@ -11,7 +11,7 @@ use Rattle.language.specs.Description as D
 use Rattle.language.specs.Description.{Description, facilityAt, fromFirst, inBounds, isComputed, wordLength}
 use Rattle.language.specs.Layout.{placeIn, wordBytes}
 use Rattle.language.specs.Meaning as M
-use Rattle.language.specs.Meaning.{Answer, Located, Place, bounded, located, placeOf, readAt}
+use Rattle.language.specs.Meaning.{Answer, Located, Place, located, placeOf, readAt, upToLongest}
 use Rattle.language.specs.References as R
 use Rattle.language.specs.References.{Reference, rightCount, sameDirection}
 use Rattle.language.specs.declared.stops.Stop.the-variants.{OutsideBounds}
@@ -53,7 +53,7 @@ module _ (n : ℕ) where
   of-either true l m p q = p
   of-either false l m p q = q
 
-  of-narrow : (w a c : ℕ) → Of (bounded (M.place n w a c))
+  of-narrow : (w a c : ℕ) → Of (upToLongest (M.place n w a c))
   of-narrow w a c = of-either (leb c longest) (Located.at (M.place n w a c)) (Located.stuck M.wrongLength) refl tt
 
   of-subscript : (a : Answer) (b : D.Bounds) (on : ℕ → Located) → ((k : ℕ) → Of (on k)) → Of (M.subscript a b on)
@@ -70,17 +70,17 @@ module _ (n : ℕ) where
   unfolding located
   of-located ev f R.whole = of-narrow 0 0 (wordLength f)
   of-located ev f (R.one e) =
-      of-either (eqb (f .dimensions) 1) (M.subscript (ev e) (f .bits) (λ b. bounded (M.place n 0 b 1)))
-      (M.subscript (ev e) (f .words) (λ w. bounded (M.place n w 0 (wordLength f))))
-      (of-subscript (ev e) (f .bits) (λ b. bounded (M.place n 0 b 1)) (λ b. of-narrow 0 b 1))
-      (of-subscript (ev e) (f .words) (λ w. bounded (M.place n w 0 (wordLength f))) (λ w. of-narrow w 0 (wordLength f)))
-  of-located ev f (R.part x) = of-part (f .bits) x (λ b c. bounded (M.place n 0 b c)) (λ b c. of-narrow 0 b c)
+      of-either (eqb (f .dimensions) 1) (M.subscript (ev e) (f .bits) (λ b. upToLongest (M.place n 0 b 1)))
+      (M.subscript (ev e) (f .words) (λ w. upToLongest (M.place n w 0 (wordLength f))))
+      (of-subscript (ev e) (f .bits) (λ b. upToLongest (M.place n 0 b 1)) (λ b. of-narrow 0 b 1))
+      (of-subscript (ev e) (f .words) (λ w. upToLongest (M.place n w 0 (wordLength f))) (λ w. of-narrow w 0 (wordLength f)))
+  of-located ev f (R.part x) = of-part (f .bits) x (λ b c. upToLongest (M.place n 0 b c)) (λ b c. of-narrow 0 b c)
   of-located ev f (R.two e g) =
-      of-subscript (ev e) (f .words) (λ w. M.subscript (ev g) (f .bits) (λ b. bounded (M.place n w b 1)))
-      (λ w. of-subscript (ev g) (f .bits) (λ b. bounded (M.place n w b 1)) (λ b. of-narrow w b 1))
+      of-subscript (ev e) (f .words) (λ w. M.subscript (ev g) (f .bits) (λ b. upToLongest (M.place n w b 1)))
+      (λ w. of-subscript (ev g) (f .bits) (λ b. upToLongest (M.place n w b 1)) (λ b. of-narrow w b 1))
   of-located ev f (R.wordPart e x) =
-      of-subscript (ev e) (f .words) (λ w. M.constantPart (f .bits) x (λ b c. bounded (M.place n w b c)))
-      (λ w. of-part (f .bits) x (λ b c. bounded (M.place n w b c)) (λ b c. of-narrow w b c))
+      of-subscript (ev e) (f .words) (λ w. M.constantPart (f .bits) x (λ b c. upToLongest (M.place n w b c)))
+      (λ w. of-part (f .bits) x (λ b c. upToLongest (M.place n w b c)) (λ b c. of-narrow w b c))
 
 module _ (d : Description) (ev : ℕ → Answer) (r : Reference) (p : Place) (e : placeOf d ev r ≡ Located.at p) where
   -- A place is that of the facility referred to, which is there.

@@ -71,7 +71,7 @@ pub fn subscript(w: Worth, b: ShortBounds) -> Distance
 
 // A part of at most 256 bits.
 pub fn narrow(facility: u8, word: u16, from: u16, count: u64) -> Located
-    ensures { λ r. ⌜ locatedMeant r ≡ M.bounded (M.place facility word from count) ⌝ }
+    ensures { λ r. ⌜ locatedMeant r ≡ M.upToLongest (M.place facility word from count) ⌝ }
 {
     if (value_operators::lengths::LONGEST as u64) < count {
         return Located::Stuck(Stuck::WrongLength);
@@ -87,7 +87,7 @@ pub fn narrow(facility: u8, word: u16, from: u16, count: u64) -> Located
 
 // A constant part of a word, in the declared direction.
 pub fn constant_part(facility: u8, word: u16, b: ShortBounds, x: Bounds) -> Located
-    ensures { λ r. ⌜ locatedMeant r ≡ M.constantPart (shortMeant b) (boundsMeant x) (λ from count. M.bounded (M.place facility word from count)) ⌝ }
+    ensures { λ r. ⌜ locatedMeant r ≡ M.constantPart (shortMeant b) (boundsMeant x) (λ from count. M.upToLongest (M.place facility word from count)) ⌝ }
 {
     let d = shapes::bounds_of(b);
     if !geometry::in_bounds(d, x.first as u64) {
@@ -105,7 +105,7 @@ pub fn constant_part(facility: u8, word: u16, b: ShortBounds, x: Bounds) -> Loca
 
 // One bit of a word.
 pub fn bit(facility: u8, word: u16, d: Distance) -> Located
-    ensures { λ r. ⌜ locatedMeant r ≡ onDistance d (λ b. M.bounded (M.place facility word b 1)) ⌝ }
+    ensures { λ r. ⌜ locatedMeant r ≡ onDistance d (λ b. M.upToLongest (M.place facility word b 1)) ⌝ }
 {
     match d {
         Distance::At(b) => narrow(facility, word, b, 1),
@@ -116,7 +116,7 @@ pub fn bit(facility: u8, word: u16, d: Distance) -> Located
 
 // A whole word.
 pub fn word(facility: u8, d: Distance, count: u64) -> Located
-    ensures { λ r. ⌜ locatedMeant r ≡ onDistance d (λ w. M.bounded (M.place facility w 0 count)) ⌝ }
+    ensures { λ r. ⌜ locatedMeant r ≡ onDistance d (λ w. M.upToLongest (M.place facility w 0 count)) ⌝ }
 {
     match d {
         Distance::At(w) => narrow(facility, w, 0, count),
@@ -127,7 +127,7 @@ pub fn word(facility: u8, d: Distance, count: u64) -> Located
 
 // A constant part of a computed word.
 pub fn part_of_word(facility: u8, d: Distance, b: ShortBounds, x: Bounds) -> Located
-    ensures { λ r. ⌜ locatedMeant r ≡ onDistance d (λ w. M.constantPart (shortMeant b) (boundsMeant x) (λ from count. M.bounded (M.place facility w from count))) ⌝ }
+    ensures { λ r. ⌜ locatedMeant r ≡ onDistance d (λ w. M.constantPart (shortMeant b) (boundsMeant x) (λ from count. M.upToLongest (M.place facility w from count))) ⌝ }
 {
     match d {
         Distance::At(w) => constant_part(facility, w, b, x),
