@@ -13,7 +13,7 @@ use Rattle.language.specs.Kinds.{aConstant, closeParen, comma, equalSign, hash,
 use Rattle.language.specs.Machine as M
 use Rattle.language.specs.Machine.{Counts, Reading, again, ask, choose, dimensions, facility, feed, functionOf, make, memorySpec, more, opens, reading, registerSpec, run, sequencingSpec, tallied, terminalDimensions, terminalSpec, word}
 use Rattle.language.specs.Notions as N
-use Rattle.language.specs.Notions.{AtMostOne, declaredAs}
+use Rattle.language.specs.Notions.{AtMostOne, asDeclared}
 use Rattle.language.specs.Scan.{same}
 use Rattle.language.specs.SectionWays.{ruleOf}
 use Rattle.language.specs.Tree.{Expression, Extent, Name, computed, fromInput, given, input, memory, plain, register, sequencing, unspecified}
@@ -56,7 +56,7 @@ unfolding run feed choose ruleOf tallied
 hash-word {C} u = comes (λ ws end _. took-it C _ _ _ _ u _)
 
 module _ {C : Ceiling} {h : ℕ} {n : Name} {p : Position} {us : List Word} {x : Extent} where
-  pub a-register : Dimensioned C h us x → Specified C registers h (W.name n p ∷ us) (declaredAs register n p x unspecified)
+  pub a-register : Dimensioned C h us x → Specified C registers h (W.name n p ∷ us) (asDeclared register n p x unspecified)
   unfolding wordNo within among
   a-register z = record {
     takes = λ K b c space.
@@ -64,7 +64,7 @@ module _ {C : Ceiling} {h : ℕ} {n : Name} {p : Position} {us : List Word} {x :
         record { counts = d; gained = omega arith; comes = register-name (omega arith) ⊳ then-move (asking (λ ws f. follows-within (openBracket ∷ []) afterSpec refl ws f) m) (building (λ _. refl)) };
   }
 
-  pub a-sequencing : {q : Position} → Dimensioned C h us x → Specified C registers h (sign hash q ∷ W.name n p ∷ us) (declaredAs sequencing n p x unspecified)
+  pub a-sequencing : {q : Position} → Dimensioned C h us x → Specified C registers h (sign hash q ∷ W.name n p ∷ us) (asDeclared sequencing n p x unspecified)
   unfolding wordNo within among
   a-sequencing z = record {
     takes = λ K b c space.
@@ -72,7 +72,7 @@ module _ {C : Ceiling} {h : ℕ} {n : Name} {p : Position} {us : List Word} {x :
         record { counts = d; gained = omega arith; comes = hash-word (omega arith) ⊳ sequencing-name (omega arith) ⊳ then-move (asking (λ ws f. follows-within (openBracket ∷ []) afterSpec refl ws f) m) (building (λ _. refl)) };
   }
 
-  pub a-memory : Dimensioned C h us x → Specified C memories h (W.name n p ∷ us) (declaredAs memory n p x unspecified)
+  pub a-memory : Dimensioned C h us x → Specified C memories h (W.name n p ∷ us) (asDeclared memory n p x unspecified)
   unfolding wordNo within among
   a-memory z = record {
     takes = λ K b c space.
@@ -82,7 +82,7 @@ module _ {C : Ceiling} {h : ℕ} {n : Name} {p : Position} {us : List Word} {x :
 
   -- ---- Terminals.
 
-  pub a-terminal : Dimensioned C h us x → Specified C terminals h (W.name n p ∷ us) (declaredAs plain n p x unspecified)
+  pub a-terminal : Dimensioned C h us x → Specified C terminals h (W.name n p ∷ us) (asDeclared plain n p x unspecified)
   unfolding within among countedTerminals
   a-terminal z = record {
     takes = λ K b c space.
@@ -107,7 +107,7 @@ same-name (a ∷ n) = rw (eq-eqb a a refl, same-name n) refl
 
 module _ {C : Ceiling} {h : ℕ} {n : Name} {p : Position} {us : List Word} {x : Extent} where
   pub a-computed : {q : Position} {vs : List Word} {e : Expression} → AtMostOne x → Dimensioned C h us x → Boolean C h vs (N.expression e)
-      → Specified C terminals h (W.name n p ∷ (us ++ sign equalSign q ∷ vs)) (declaredAs computed n p x (given q e))
+      → Specified C terminals h (W.name n p ∷ (us ++ sign equalSign q ∷ vs)) (asDeclared computed n p x (given q e))
   unfolding wordNo expressionNo within among countedTerminals
   a-computed {q} {vs} {e} a z y = record {
     takes = λ K b c space.
@@ -123,7 +123,7 @@ module _ {C : Ceiling} {h : ℕ} {n : Name} {p : Position} {us : List Word} {x :
   }
 
   pub an-input : (q r s t u v w : Position) (k : Constant) → AtMostOne x → Dimensioned C (suc h) us x
-      → Specified C terminals (suc h) (W.name n p ∷ (us ++ sign equalSign q ∷ sign inputWord r ∷ sign openParen s ∷ W.constant k t ∷ sign comma u ∷ W.name n v ∷ sign closeParen w ∷ [])) (declaredAs input n p x fromInput)
+      → Specified C terminals (suc h) (W.name n p ∷ (us ++ sign equalSign q ∷ sign inputWord r ∷ sign openParen s ∷ W.constant k t ∷ sign comma u ∷ W.name n v ∷ sign closeParen w ∷ [])) (asDeclared input n p x fromInput)
   unfolding run feed choose ruleOf tallied wordNo among countedTerminals
   an-input q r s t u v w k a z = record {
     takes = λ K b c space.

@@ -8,7 +8,7 @@ use Rattle.language.specs.Building.{Built, keepWord, withEnds, withExtents, wit
 use Rattle.language.specs.Declaring.{makeBoth, makeLast, makeNoDimension, makePlain, makeRow, makeTable, withTerminal}
 use Rattle.language.specs.Kinds.{aConstant, closeBracket, colon, comma, equalSign, openBracket}
 use Rattle.language.specs.Machine.{Counts, ask, choose, dimensionRest, dimensions, feed, functionOf, keep, make, rangeRest, reading, run, tallied, terminalDimensions, terminalFunction, terminalRest}
-use Rattle.language.specs.Notions.{AtMostOne, declaredAs, oneBound, pairOf}
+use Rattle.language.specs.Notions.{AtMostOne, asDeclared, oneBound, pairOf}
 use Rattle.language.specs.SectionWays.{ruleOf}
 use Rattle.language.specs.Tree as T
 use Rattle.language.specs.Tree.{Ends, Extent, Name, plain, row, table, unspecified}
@@ -52,7 +52,7 @@ range-last {C} {m} {p} = record { takes = λ K b c u. ends-in (only K b c) (λ w
 pub record Dimensioned (C : Ceiling) (h : ℕ) (us : List Word) (x : Extent) : Type 0 where
   pub takes : (K : Stack) (b : Built) (c : Counts) → Room (C .top) c 0 h → Arrives C (openBracket ∷ []) (ask dimensions ∷ K) b c us K (withExtents b (x ∷ b .extents)) 0
   pub plainly : (n : Name) (p : Position) (K : Stack) (b : Built) (c : Counts) → Room (C .top) c 0 h
-      → Arrives C (openBracket ∷ equalSign ∷ []) (ask terminalDimensions ∷ K) (keepWord (W.name n p) b) c us K (withText b (withTerminal (b .text) (declaredAs plain n p x unspecified))) 0
+      → Arrives C (openBracket ∷ equalSign ∷ []) (ask terminalDimensions ∷ K) (keepWord (W.name n p) b) c us K (withText b (withTerminal (b .text) (asDeclared plain n p x unspecified))) 0
   pub with-function : AtMostOne x → (q : Position) (K : Stack) (b : Built) (c : Counts) → Room (C .top) c 0 h
       → Arrives C [] (ask terminalDimensions ∷ K) b c (us ++ sign equalSign q ∷ []) (ask functionOf ∷ K) (keepWord (sign equalSign q) (withExtents b (x ∷ b .extents))) 0
 

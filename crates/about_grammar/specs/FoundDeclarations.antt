@@ -16,7 +16,7 @@ use Rattle.language.specs.Kinds.{aName, comma, endWord, hash, period}
 use Rattle.language.specs.Machine as M
 use Rattle.language.specs.Machine.{Alternative, Counts, ask, level, make, more, tallied}
 use Rattle.language.specs.Notions as N
-use Rattle.language.specs.Notions.{Notion, declaredAs, endsSection, facilities, facility}
+use Rattle.language.specs.Notions.{Notion, asDeclared, endsSection, facilities, facility}
 use Rattle.language.specs.SectionWays.{ruleOf}
 use Rattle.language.specs.Tree.{Declaration, Name, Text, memory, register, sequencing, unspecified}
 use Rattle.language.specs.Words as W
@@ -59,14 +59,14 @@ module _ (J : Judge) (K : Stack) (n h : ℕ) (b : Built) (c : Counts) where
   sequenced q m e (inl (inl (at-name x p vs z))) = go (a-dimension J (make makeSequencing ∷ K) (z .0) h (keepWord (W.name x p) b) (more M.facility c) vs (z .2))
     where
       go : {vs : List Word} → DimensionsFound J (make makeSequencing ∷ K) (z .0) h (keepWord (W.name x p) b) (more M.facility c) vs → SpecFound J registers K n h b c (sign hash q ∷ W.name x p ∷ vs)
-      go (sized us vs y d i g a) = spec (sign hash q ∷ W.name x p ∷ us) vs (declaredAs sequencing x p y unspecified) d (G.a-sequencing i) (omega arith) (made vs (weaken e (weaken (z .1) a)) .1)
+      go (sized us vs y d i g a) = spec (sign hash q ∷ W.name x p ∷ us) vs (asDeclared sequencing x p y unspecified) d (G.a-sequencing i) (omega arith) (made vs (weaken e (weaken (z .1) a)) .1)
 
   a-spec : (x : Shelf) (ws : List Word) → Accepts J (ask (specOf x) ∷ K) n h b c ws → SpecFound J x K n h b c ws
   unfolding ruleOf tallied wordNo countedTerminals
   a-spec registers ws a = go (chosen J M.registerSpec ws a)
     where
       registered : {x : Name} {p : Position} {m : ℕ} → n ≡ suc m → {vs : List Word} → DimensionsFound J (make makeRegister ∷ K) m h (keepWord (W.name x p) b) (more M.facility c) vs → SpecFound J registers K n h b c (W.name x p ∷ vs)
-      registered {x} {p} e (sized us vs y d i g a) = spec (W.name x p ∷ us) vs (declaredAs register x p y unspecified) d (G.a-register i) (omega arith) (made vs (weaken e a) .1)
+      registered {x} {p} e (sized us vs y d i g a) = spec (W.name x p ∷ us) vs (asDeclared register x p y unspecified) d (G.a-register i) (omega arith) (made vs (weaken e a) .1)
 
       go : {ws : List Word} → Picks J (named (ask M.dimensions ∷ make makeRegister ∷ []) ∷ lead hash (ask M.sequencingSpec ∷ []) ∷ []) K n h b c ws ⊎ Leaves J M.must K n h b c ws → SpecFound J registers K n h b c ws
       go (inl (inl (at-name x p vs z))) = registered (z .1) (a-dimension J (make makeRegister ∷ K) (z .0) h (keepWord (W.name x p) b) (more M.facility c) vs (z .2))
@@ -74,7 +74,7 @@ module _ (J : Judge) (K : Stack) (n h : ℕ) (b : Built) (c : Counts) where
   a-spec memories ws a = go (chosen J M.memorySpec ws a)
     where
       remembered : {x : Name} {p : Position} {m : ℕ} → n ≡ suc m → {vs : List Word} → DimensionsFound J (make makeMemory ∷ K) m h (keepWord (W.name x p) b) (more M.facility c) vs → SpecFound J memories K n h b c (W.name x p ∷ vs)
-      remembered {x} {p} e (sized us vs y d i g a) = spec (W.name x p ∷ us) vs (declaredAs memory x p y unspecified) d (G.a-memory i) (omega arith) (made vs (weaken e a) .1)
+      remembered {x} {p} e (sized us vs y d i g a) = spec (W.name x p ∷ us) vs (asDeclared memory x p y unspecified) d (G.a-memory i) (omega arith) (made vs (weaken e a) .1)
 
       go : {ws : List Word} → Picks J (named (ask M.dimensions ∷ make makeMemory ∷ []) ∷ []) K n h b c ws ⊎ Leaves J M.must K n h b c ws → SpecFound J memories K n h b c ws
       go (inl (inl (at-name x p vs z))) = remembered (z .1) (a-dimension J (make makeMemory ∷ K) (z .0) h (keepWord (W.name x p) b) (more M.facility c) vs (z .2))

@@ -17,7 +17,7 @@ use Rattle.language.specs.Kinds.{aConstant, closeBracket, closeParen, comma, eq
 use Rattle.language.specs.Machine as M
 use Rattle.language.specs.Machine.{Counts, again, ask, closes, functionOf, keep, level, make, opens, rangeRest, tallied, terminalDimensions, terminalFunction, terminalRest, word}
 use Rattle.language.specs.Notions as N
-use Rattle.language.specs.Notions.{AtMostOne, declaredAs, ends, extent, facility}
+use Rattle.language.specs.Notions.{AtMostOne, asDeclared, ends, extent, facility}
 use Rattle.language.specs.Scan.{same}
 use Rattle.language.specs.SectionWays.{ruleOf}
 use Rattle.language.specs.Tree as T
@@ -69,13 +69,13 @@ module _ (J : Judge) (K : Stack) (n h : ℕ) (x : Name) (p : Position) (b : Buil
       with-sign (λ v. Behind (sign inputWord r ∷ sign openParen s ∷ W.constant k t ∷ sign comma u ∷ W.name x₁ o ∷ v)) (worded closeParen closes vs₃ (z₃ .3)) λ w vs₄ z₄.
       let g : ℕ = z .2 .0 in
       let f : h ≡ suc g = z .2 .1 in
-      let j : Is N.terminalSpec h (W.name x p ∷ (us ++ sign equalSign q ∷ sign inputWord r ∷ sign openParen s ∷ W.constant k t ∷ sign comma u ∷ W.name x o ∷ sign closeParen w ∷ [])) (facility (declaredAs input x p y fromInput)) =
-      subst (λ (h : ℕ). Is N.terminalSpec h (W.name x p ∷ (us ++ sign equalSign q ∷ sign inputWord r ∷ sign openParen s ∷ W.constant k t ∷ sign comma u ∷ W.name x o ∷ sign closeParen w ∷ [])) (facility (declaredAs input x p y fromInput))) (sym f)
+      let j : Is N.terminalSpec h (W.name x p ∷ (us ++ sign equalSign q ∷ sign inputWord r ∷ sign openParen s ∷ W.constant k t ∷ sign comma u ∷ W.name x o ∷ sign closeParen w ∷ [])) (facility (asDeclared input x p y fromInput)) =
+      subst (λ (h : ℕ). Is N.terminalSpec h (W.name x p ∷ (us ++ sign equalSign q ∷ sign inputWord r ∷ sign openParen s ∷ W.constant k t ∷ sign comma u ∷ W.name x o ∷ sign closeParen w ∷ [])) (facility (asDeclared input x p y fromInput))) (sym f)
       (G.an-input q r s t u o w k one (subst (λ (h : ℕ). Is N.dimensions h us (extent y)) f i)) in
       subst (λ (v : Name). Behind (sign inputWord r ∷ sign openParen s ∷ W.constant k t ∷ sign comma u ∷ W.name v o ∷ sign closeParen w ∷ vs₄)) (sym (same-one x₁ x (z₃ .2)))
       (subst (TerminalFound J K n h x p b c) (append-assoc us (sign equalSign q ∷ sign inputWord r ∷ sign openParen s ∷ W.constant k t ∷ sign comma u ∷ W.name x o ∷ sign closeParen w ∷ []) vs₄)
-      (terminal (us ++ sign equalSign q ∷ sign inputWord r ∷ sign openParen s ∷ W.constant k t ∷ sign comma u ∷ W.name x o ∷ sign closeParen w ∷ []) vs₄ (declaredAs input x p y fromInput) (back (deeper d)) j (omega arith)
-      (subst (λ (h : ℕ). Accepts J K n h (withText b (withTerminal (b .text) (declaredAs input x p y fromInput))) (back (deeper d)) vs₄) (sym f)
+      (terminal (us ++ sign equalSign q ∷ sign inputWord r ∷ sign openParen s ∷ W.constant k t ∷ sign comma u ∷ W.name x o ∷ sign closeParen w ∷ []) vs₄ (asDeclared input x p y fromInput) (back (deeper d)) j (omega arith)
+      (subst (λ (h : ℕ). Accepts J K n h (withText b (withTerminal (b .text) (asDeclared input x p y fromInput))) (back (deeper d)) vs₄) (sym f)
       (made vs₄ (weaken e (weaken (z .1) (weaken (z₁ .1) (weaken (z₂ .1) (weaken (z₃ .1) (weaken (z₄ .1) (z₄ .2))))))) .1))))
 
   a-function : (ws : List Word) → Accepts J (ask functionOf ∷ K) n h sofar d ws → Behind ws
@@ -85,7 +85,7 @@ module _ (J : Judge) (K : Stack) (n h : ℕ) (x : Name) (p : Position) (b : Buil
       computes : {ws : List Word} → Found J N.booleanExp (make makeComputed ∷ K) n h sofar d ws → Behind ws
       computes (found us₁ vs e d₁ j g a) =
           subst (TerminalFound J K n h x p b c) (append-assoc us (sign equalSign q ∷ us₁) vs)
-          (terminal (us ++ sign equalSign q ∷ us₁) vs (declaredAs computed x p y (given q e)) d₁ (G.a-computed one i j) (omega arith) (made vs a .1))
+          (terminal (us ++ sign equalSign q ∷ us₁) vs (asDeclared computed x p y (given q e)) d₁ (G.a-computed one i j) (omega arith) (made vs a .1))
 
       go : {ws : List Word} → Picks J (lead inputWord (word openParen opens ∷ plainWord aConstant ∷ plainWord comma ∷ again ∷ closing closeParen ∷ make makeInput ∷ []) ∷ []) K n h sofar d ws ⊎ Accepts J (ask M.expression ∷ make makeComputed ∷ K) n h sofar d ws → Behind ws
       go (inl (inl (at-sign r vs z))) = from-input (z .0) (z .1) r vs (z .2)
@@ -105,7 +105,7 @@ module _ (J : Judge) (K : Stack) (n m g : ℕ) (x : Name) (p : Position) (b : Bu
       (a-function J K n (suc g) x p b c (back (deeper c)) (sign openBracket o ∷ (us ++ sign closeBracket q ∷ [])) (row y) tt (G.one-dimension q i) (omega arith) r vs (weaken (z .1) (z .2)))
   one-row us y q i {ws} (inr z) =
       subst (λ (v : List Word). Opened v) (append-assoc us (sign closeBracket q ∷ []) ws)
-      (terminal (sign openBracket o ∷ (us ++ sign closeBracket q ∷ [])) ws (declaredAs plain x p (row y) unspecified) (back (deeper c)) (G.a-terminal (G.one-dimension q i)) (omega arith) (z .1))
+      (terminal (sign openBracket o ∷ (us ++ sign closeBracket q ∷ [])) ws (asDeclared plain x p (row y) unspecified) (back (deeper c)) (G.a-terminal (G.one-dimension q i)) (omega arith) (z .1))
 
   sized : (us : List Word) (y : Ends) → Is N.range g us (ends y) → {ws : List Word}
       → Picks J (shut closeBracket (make makeRow ∷ ask terminalFunction ∷ []) ∷ lead comma (keep aConstant ∷ ask rangeRest ∷ closing closeBracket ∷ make makeTable ∷ make makePlain ∷ []) ∷ []) K m g (withEnds (keepWord (W.name x p) b) (y ∷ b .ends)) (deeper c) ws
@@ -116,7 +116,7 @@ module _ (J : Judge) (K : Stack) (n m g : ℕ) (x : Name) (p : Position) (b : Bu
       with-range (λ v. Opened (us ++ sign comma q ∷ v)) (a-range J (closing closeBracket ∷ make makeTable ∷ make makePlain ∷ K) m g (withEnds (keepWord (W.name x p) b) (y ∷ b .ends)) (deeper c) vs (weaken (z .1) (z .2))) λ us₁ vs₁ y₁ j a.
       with-sign (λ v. Opened (us ++ sign comma q ∷ (us₁ ++ v))) (worded closeBracket closes vs₁ a) λ r vs₂ z₁.
       subst (λ (v : List Word). Opened v) (simp append-assoc)
-      (terminal (sign openBracket o ∷ (us ++ sign comma q ∷ (us₁ ++ sign closeBracket r ∷ []))) vs₂ (declaredAs plain x p (table y y₁) unspecified) (back (deeper c)) (G.a-terminal (G.two-dimensions q r i j)) (omega arith)
+      (terminal (sign openBracket o ∷ (us ++ sign comma q ∷ (us₁ ++ sign closeBracket r ∷ []))) vs₂ (asDeclared plain x p (table y y₁) unspecified) (back (deeper c)) (G.a-terminal (G.two-dimensions q r i j)) (omega arith)
       (made vs₂ (made vs₂ (weaken e (weaken (z₁ .1) (z₁ .2))) .1) .1))
 
 pub a-terminal : (J : Judge) (K : Stack) (n h : ℕ) (x : Name) (p : Position) (b : Built) (c : Counts) (ws : List Word) → Accepts J (ask terminalDimensions ∷ K) n h (keepWord (W.name x p) b) c ws → TerminalFound J K n h x p b c ws
@@ -129,4 +129,4 @@ a-terminal J K n h x p b c ws a = go (chosen J terminalDimensions ws a)
         raised (z .2 .1) (with-range (λ v. TerminalFound J K n (suc (z .2 .0)) x p b c (sign openBracket o ∷ v)) (a-range J (ask terminalRest ∷ K) (z .0) (z .2 .0) (keepWord (W.name x p) b) (deeper c) vs (z .2 .2)) λ us vs₁ y i a₁.
         sized J K n (z .0) (z .2 .0) x p b c (z .1) o us y i (chosen J terminalRest vs₁ a₁))
     go (inl (inr (inl (at-sign q vs z)))) = a-function J K n h x p b c c [] T.single tt G.no-dimension (omega arith) q vs (weaken (z .1) (z .2))
-    go {ws} (inr z) = terminal [] ws (declaredAs plain x p T.single unspecified) c (G.a-terminal G.no-dimension) (omega arith) (z .1)
+    go {ws} (inr z) = terminal [] ws (asDeclared plain x p T.single unspecified) c (G.a-terminal G.no-dimension) (omega arith) (z .1)

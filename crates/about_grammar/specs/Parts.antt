@@ -3,7 +3,7 @@ use mathlib.Core.List.{List, []}
 use mathlib.Core.Option.{Option, none}
 use Rattle.language.specs.Building.{emptyText, noEnds}
 use Rattle.language.specs.Notions as N
-use Rattle.language.specs.Notions.{Tree, declaredAs}
+use Rattle.language.specs.Notions.{Tree, asDeclared}
 use Rattle.language.specs.Tree as T
 use Rattle.language.specs.Tree.{Actions, Declaration, Ends, Extent, Label, Left, Operation, State, StateValue, Text, register, unspecified}
 use Rattle.language.specs.Words.{position}
@@ -69,19 +69,19 @@ actionsOf (N.text t) = T.done
 actionsOf N.nothing = T.done
 
 abbrev pub facilityIn : Tree → Declaration
-facilityIn (N.expression e) = declaredAs register [] (position 0) T.single unspecified
-facilityIn (N.left l) = declaredAs register [] (position 0) T.single unspecified
-facilityIn (N.actions a) = declaredAs register [] (position 0) T.single unspecified
-facilityIn (N.ends x) = declaredAs register [] (position 0) T.single unspecified
-facilityIn (N.extent x) = declaredAs register [] (position 0) T.single unspecified
+facilityIn (N.expression e) = asDeclared register [] (position 0) T.single unspecified
+facilityIn (N.left l) = asDeclared register [] (position 0) T.single unspecified
+facilityIn (N.actions a) = asDeclared register [] (position 0) T.single unspecified
+facilityIn (N.ends x) = asDeclared register [] (position 0) T.single unspecified
+facilityIn (N.extent x) = asDeclared register [] (position 0) T.single unspecified
 facilityIn (N.facility d) = d
-facilityIn (N.facilities ds) = declaredAs register [] (position 0) T.single unspecified
-facilityIn (N.declared rs ms ts) = declaredAs register [] (position 0) T.single unspecified
-facilityIn (N.operations os) = declaredAs register [] (position 0) T.single unspecified
-facilityIn (N.label l v) = declaredAs register [] (position 0) T.single unspecified
-facilityIn (N.states ss) = declaredAs register [] (position 0) T.single unspecified
-facilityIn (N.text t) = declaredAs register [] (position 0) T.single unspecified
-facilityIn N.nothing = declaredAs register [] (position 0) T.single unspecified
+facilityIn (N.facilities ds) = asDeclared register [] (position 0) T.single unspecified
+facilityIn (N.declared rs ms ts) = asDeclared register [] (position 0) T.single unspecified
+facilityIn (N.operations os) = asDeclared register [] (position 0) T.single unspecified
+facilityIn (N.label l v) = asDeclared register [] (position 0) T.single unspecified
+facilityIn (N.states ss) = asDeclared register [] (position 0) T.single unspecified
+facilityIn (N.text t) = asDeclared register [] (position 0) T.single unspecified
+facilityIn N.nothing = asDeclared register [] (position 0) T.single unspecified
 
 abbrev pub facilitiesOf : Tree → List Declaration
 facilitiesOf (N.expression e) = []

@@ -137,15 +137,15 @@ module _ (d : Description) (sc : Scope) where
     pub depth : ℕ
     pub derived : (h : ℕ) → depth ≤ h → Is (specOf (rankOf (f .kind))) h words (facility declared)
 
-  same-facility : (s : ℕ) (f : Facility) (D : Dimensioned f) (k : Kind) (u : Function) → f .kind ≡ k → X.functionNumber s u ≡ f .expression → X.facilityDeclared s (N.declaredAs k (f .name) here (D .form) u) ≡ f
+  same-facility : (s : ℕ) (f : Facility) (D : Dimensioned f) (k : Kind) (u : Function) → f .kind ≡ k → X.functionNumber s u ≡ f .expression → X.facilityDeclared s (N.asDeclared k (f .name) here (D .form) u) ≡ f
   same-facility s f D k u e n = rw (← e, D .dimensions, D .words-so, D .bits-so, n) refl
 
   -- Without an expression.
   pub plain-declares : (f : Facility) (s m : ℕ) (D : Dimensioned f) (k : Kind) → f .kind ≡ k → f .expression ≡ 0 → s ≡ m
-      → (ws : List Word) → WordsRight ws → ((h : ℕ) → 1 ≤ h → Is (specOf (rankOf k)) h ws (facility (N.declaredAs k (f .name) here (D .form) T.unspecified))) → Declares f s m
+      → (ws : List Word) → WordsRight ws → ((h : ℕ) → 1 ≤ h → Is (specOf (rankOf k)) h ws (facility (N.asDeclared k (f .name) here (D .form) T.unspecified))) → Declares f s m
   unfolding total
   plain-declares f s m D k e z i ws w x = record {
-    declared = N.declaredAs k (f .name) here (D .form) T.unspecified;
+    declared = N.asDeclared k (f .name) here (D .form) T.unspecified;
     same = same-facility s f D k T.unspecified e (sym z);
     stands = tt;
     size = omega (arith, i);
@@ -153,13 +153,13 @@ module _ (d : Description) (sc : Scope) where
     words = ws;
     right = w;
     depth = 1;
-    derived = λ h l. subst (λ (c : Kind). Is (specOf (rankOf c)) h ws (facility (N.declaredAs k (f .name) here (D .form) T.unspecified))) (sym e) (x h l);
+    derived = λ h l. subst (λ (c : Kind). Is (specOf (rankOf c)) h ws (facility (N.asDeclared k (f .name) here (D .form) T.unspecified))) (sym e) (x h l);
   }
 
   pub input-declares : (f : Facility) (s m : ℕ) (D : Dimensioned f) → f .kind ≡ T.input → f .dimensions ≤ 1 → f .expression ≡ 0 → s ≡ m → nameRight (f .name) ≡ true → Declares f s m
   unfolding total
   input-declares f s m D e one z i r = record {
-    declared = N.declaredAs T.input (f .name) here (D .form) T.fromInput;
+    declared = N.asDeclared T.input (f .name) here (D .form) T.fromInput;
     same = same-facility s f D T.input T.fromInput e (sym z);
     stands = tt;
     size = omega (arith, i);
@@ -173,7 +173,7 @@ module _ (d : Description) (sc : Scope) where
   pub computed-declares : (f : Facility) (s c : ℕ) (D : Dimensioned f) (known : ℕ) (knows : Knows d sc known) (terms : ℕ → Judged) (E : Rebuilt d sc known knows terms c s 0) → f .kind ≡ T.computed → f .dimensions ≤ 1 → f .expression ≡ c
       → nameRight (f .name) ≡ true → Declares f s (c + 1)
   computed-declares f s c D known knows terms E e one z r = record {
-    declared = N.declaredAs T.computed (f .name) here (D .form) (T.given here (E .tree));
+    declared = N.asDeclared T.computed (f .name) here (D .form) (T.given here (E .tree));
     same = same-facility s f D T.computed (T.given here (E .tree)) e (let i = E .placed .size in let j : s + expressionSize (E .tree) - 1 ≡ c = omega (arith, i) in j ∙ sym z);
     stands = E .placed .stands;
     size = E .placed .size;

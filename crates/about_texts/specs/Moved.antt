@@ -228,17 +228,17 @@ module _ (place : ℕ → Position) where
   moved i (G.two-dimensions {us = us} {vs = vs} q r a1 a2) =
       lift2 (λ e1 e2. T.table e1 e2) (λ e1 e2 d1 d2 q1 q2. simp at-append (G.two-dimensions (place (suc i + length us)) (place (suc (suc i + length us) + length vs)) d1 d2)) (λ e1 e2 q1 q2. rw (q1, q2) refl) (moved (suc i) a1) (moved (suc (suc i + length us)) a2)
   moved i (G.a-register {n = n} a1) =
-      lift1 (λ e1. N.declaredAs T.register n (place i) e1 T.unspecified) (λ e1 d1 q1. G.a-register d1) (λ e1 q1. rw q1 refl) (moved (suc i) a1)
+      lift1 (λ e1. N.asDeclared T.register n (place i) e1 T.unspecified) (λ e1 d1 q1. G.a-register d1) (λ e1 q1. rw q1 refl) (moved (suc i) a1)
   moved i (G.a-sequencing {n = n} a1) =
-      lift1 (λ e1. N.declaredAs T.sequencing n (place (suc i)) e1 T.unspecified) (λ e1 d1 q1. G.a-sequencing d1) (λ e1 q1. rw q1 refl) (moved (suc (suc i)) a1)
+      lift1 (λ e1. N.asDeclared T.sequencing n (place (suc i)) e1 T.unspecified) (λ e1 d1 q1. G.a-sequencing d1) (λ e1 q1. rw q1 refl) (moved (suc (suc i)) a1)
   moved i (G.a-memory {n = n} a1) =
-      lift1 (λ e1. N.declaredAs T.memory n (place i) e1 T.unspecified) (λ e1 d1 q1. G.a-memory d1) (λ e1 q1. rw q1 refl) (moved (suc i) a1)
+      lift1 (λ e1. N.asDeclared T.memory n (place i) e1 T.unspecified) (λ e1 d1 q1. G.a-memory d1) (λ e1 q1. rw q1 refl) (moved (suc i) a1)
   moved i (G.a-terminal {n = n} a1) =
-      lift1 (λ e1. N.declaredAs T.plain n (place i) e1 T.unspecified) (λ e1 d1 q1. G.a-terminal d1) (λ e1 q1. rw q1 refl) (moved (suc i) a1)
+      lift1 (λ e1. N.asDeclared T.plain n (place i) e1 T.unspecified) (λ e1 d1 q1. G.a-terminal d1) (λ e1 q1. rw q1 refl) (moved (suc i) a1)
   moved i (G.an-input {n = n} {us = us} {x = x} q r s t u v w c a1 a2) =
-      lift1 (λ e2. N.declaredAs T.input n (place i) e2 T.fromInput) (λ e2 d2 q2. simp at-append (G.an-input (place (suc i + length us)) (place (suc (suc i + length us))) (place (suc (suc (suc i + length us)))) (place (suc (suc (suc (suc i + length us))))) (place (suc (suc (suc (suc (suc i + length us)))))) (place (suc (suc (suc (suc (suc (suc i + length us))))))) (place (suc (suc (suc (suc (suc (suc (suc i + length us)))))))) c (still-one e2 x q2 a1) d2)) (λ e2 q2. rw q2 refl) (moved (suc i) a2)
+      lift1 (λ e2. N.asDeclared T.input n (place i) e2 T.fromInput) (λ e2 d2 q2. simp at-append (G.an-input (place (suc i + length us)) (place (suc (suc i + length us))) (place (suc (suc (suc i + length us)))) (place (suc (suc (suc (suc i + length us))))) (place (suc (suc (suc (suc (suc i + length us)))))) (place (suc (suc (suc (suc (suc (suc i + length us))))))) (place (suc (suc (suc (suc (suc (suc (suc i + length us)))))))) c (still-one e2 x q2 a1) d2)) (λ e2 q2. rw q2 refl) (moved (suc i) a2)
   moved i (G.a-computed {n = n} {us = us} {x = x} a1 a2 a3) =
-      lift2 (λ e2 e3. N.declaredAs T.computed n (place i) e2 (T.given (place (suc i + length us)) e3)) (λ e2 e3 d2 d3 q2 q3. simp at-append (G.a-computed (still-one e2 x q2 a1) d2 d3)) (λ e2 e3 q2 q3. rw (q2, q3) refl) (moved (suc i) a2) (moved (suc (suc i + length us)) a3)
+      lift2 (λ e2 e3. N.asDeclared T.computed n (place i) e2 (T.given (place (suc i + length us)) e3)) (λ e2 e3 d2 d3 q2 q3. simp at-append (G.a-computed (still-one e2 x q2 a1) d2 d3)) (λ e2 e3 q2 q3. rw (q2, q3) refl) (moved (suc i) a2) (moved (suc (suc i + length us)) a3)
   moved i (G.registers-one a1) =
       lift1 (λ e1. e1 ∷ []) (λ e1 d1 q1. G.registers-one d1) (λ e1 q1. rw q1 refl) (moved i a1)
   moved i (G.registers-more {us = us} p a1 a2) =

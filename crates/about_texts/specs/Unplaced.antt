@@ -50,7 +50,7 @@ unplacedFunction T.fromInput = T.fromInput
 unplacedFunction (T.given p e) = T.given here (unplacedExpression e)
 
 abbrev pub unplacedDeclaration : Declaration → Declaration
-unplacedDeclaration d = N.declaredAs (d .kind) (d .name) here (unplacedExtent (d .extent)) (unplacedFunction (d .function))
+unplacedDeclaration d = N.asDeclared (d .kind) (d .name) here (unplacedExtent (d .extent)) (unplacedFunction (d .function))
 
 abbrev pub unplacedOperation : Operation → Operation
 unplacedOperation o = N.operationOf (o .name) here (unplacedActions (o .body))

@@ -4,7 +4,7 @@ use mathlib.Core.Option.{none, some}
 use Prim.Native.Nat.{ℕ}
 use lib.ListN.{drop, getD}
 use Rattle.language.specs.Building.{Built, beginList, keepWord, makeConstant, makeWhole, makeOne, makePart, makeTwo, makeWordPart, makeBinary, makePrefix, makeCut, makeFirstArm, makeNextArm, makeChoice, makeSingle, makePair, makeStore, makeSet, makePerform, makeGoto, makeCall, makeReturn, makeWhen, makeIf, makeArm, makeChoose, constantOf, dropExpressions, dropWords, endsKept, expressionNo, listNo, nameOf, noEnds, withEnds, withExtents, withLists, withStates, withText, wordNo}
-use Rattle.language.specs.Notions.{declaredAs, oneBound, pairOf}
+use Rattle.language.specs.Notions.{asDeclared, oneBound, pairOf}
 use Rattle.language.specs.BuildSteps.{Step, Steps}
 use Rattle.language.specs.Tree as T
 use Rattle.language.specs.Tree.{Declaration, Function, Kind, Operation, State, Text}
@@ -42,7 +42,7 @@ module _ (t : Text) (d : Declaration) where
   withTerminal = record { registers = t .registers; memories = t .memories; terminals = t .terminals ++ d ∷ []; operations = t .operations; states = t .states }
 
 abbrev pub declaredAs : Kind → Function → ℕ → Built → Declaration
-declaredAs k f n b = declaredAs k (nameOf (wordNo n b)) (wordAt (wordNo n b)) (getD (b .extents) 0 T.single) f
+declaredAs k f n b = asDeclared k (nameOf (wordNo n b)) (wordAt (wordNo n b)) (getD (b .extents) 0 T.single) f
 
 abbrev pub cleared : ℕ → Built → Text → Built
 cleared n b t = dropWords n (withExtents (withText b t) (drop 1 (b .extents)))

@@ -5,7 +5,7 @@ use mathlib.Core.Option.{Option, none, some}
 use mathlib.Core.Path.{_≡_}
 use Prim.Native.Nat.{ℕ, suc}
 use Rattle.language.specs.Kinds.{atSign, callSign, caseWord, closeBracket, closeParen, colon, comma, conWord, controlWord, differenceSign, doWord, dollar, elseWord, endCaseWord, endIfWord, equalSign, exclusiveSign, gotoSign, hash, ifWord, inputWord, memoryWord, minus, openBracket, openParen, operationWord, plus, redWord, registerWord, returnWord, slash, star, terminalWord, thenWord}
-use Rattle.language.specs.Notions.{AtMostOne, Notion, Section, Tree, actionList, actions, adjustment, arithmetic, arms, betweenSubscripts, booleanExp, chain, complement, controlSection, declaration, declared, declaredAs, dimensions, dollarOption, ending, ends, endsSection, expression, expressionArms, extent, facilities, facility, firstPlace, inOperation, inState, isStore, label, left, leftSide, memoryOption, memorySection, memorySpec, memorySpecs, minterm, moreArms, nothing, oneBound, operationDefs, operationOf, operationSection, operations, optionalEnding, pairOf, product, range, reduction, reference, registerSection, registerSpec, registerSpecs, relation, rest, stateDef, stateDefs, stateLabel, stateOf, states, term, terminalOption, terminalSection, terminalSpec, terminalSpecs, text, wholeText}
+use Rattle.language.specs.Notions.{AtMostOne, Notion, Section, Tree, actionList, actions, adjustment, arithmetic, arms, asDeclared, betweenSubscripts, booleanExp, chain, complement, controlSection, declaration, declared, dimensions, dollarOption, ending, ends, endsSection, expression, expressionArms, extent, facilities, facility, firstPlace, inOperation, inState, isStore, label, left, leftSide, memoryOption, memorySection, memorySpec, memorySpecs, minterm, moreArms, nothing, oneBound, operationDefs, operationOf, operationSection, operations, optionalEnding, pairOf, product, range, reduction, reference, registerSection, registerSpec, registerSpecs, relation, rest, stateDef, stateDefs, stateLabel, stateOf, states, term, terminalOption, terminalSection, terminalSpec, terminalSpecs, text, wholeText}
 use Rattle.language.specs.Operators.{isArithmetic, isCut, isReduction, isRelation}
 use Rattle.language.specs.Tree as T
 use Rattle.language.specs.Tree.{Actions, Declaration, Ends, Expression, Extent, Label, Left, Name, Operation, State, StateValue, binary, choice, computed, constant, cut, firstArm, fromInput, given, input, memory, nextArm, one, pair, part, plain, prefix, register, row, sequencing, table, two, unspecified, whole, wordPart}
@@ -121,18 +121,18 @@ pub data Is : Notion → ℕ → List Word → Tree → Type 0 where
       → Is dimensions (suc h) (sign openBracket p ∷ (us ++ sign comma q ∷ (vs ++ sign closeBracket r ∷ []))) (extent (table x y))
   -- register-spec, memory-spec (4.1, 4.2), terminal-spec (6): a terminal with a function has at most one dimension
   a-register : {h : ℕ} {n : Name} {p : Position} {us : List Word} {x : Extent} → Is dimensions h us (extent x)
-      → Is registerSpec h (W.name n p ∷ us) (facility (declaredAs register n p x unspecified))
+      → Is registerSpec h (W.name n p ∷ us) (facility (asDeclared register n p x unspecified))
   a-sequencing : {h : ℕ} {n : Name} {p q : Position} {us : List Word} {x : Extent} → Is dimensions h us (extent x)
-      → Is registerSpec h (sign hash q ∷ W.name n p ∷ us) (facility (declaredAs sequencing n p x unspecified))
+      → Is registerSpec h (sign hash q ∷ W.name n p ∷ us) (facility (asDeclared sequencing n p x unspecified))
   a-memory : {h : ℕ} {n : Name} {p : Position} {us : List Word} {x : Extent} → Is dimensions h us (extent x)
-      → Is memorySpec h (W.name n p ∷ us) (facility (declaredAs memory n p x unspecified))
+      → Is memorySpec h (W.name n p ∷ us) (facility (asDeclared memory n p x unspecified))
   a-terminal : {h : ℕ} {n : Name} {p : Position} {us : List Word} {x : Extent} → Is dimensions h us (extent x)
-      → Is terminalSpec h (W.name n p ∷ us) (facility (declaredAs plain n p x unspecified))
+      → Is terminalSpec h (W.name n p ∷ us) (facility (asDeclared plain n p x unspecified))
   an-input : {h : ℕ} {n : Name} {p : Position} {us : List Word} {x : Extent} (q r s t u v w : Position) (c : Constant) → AtMostOne x → Is dimensions (suc h) us (extent x)
       → Is terminalSpec (suc h) (W.name n p ∷ (us ++ sign equalSign q ∷ sign inputWord r ∷ sign openParen s ∷ W.constant c t ∷ sign comma u ∷ W.name n v ∷ sign closeParen w ∷ []))
-      (facility (declaredAs input n p x fromInput))
+      (facility (asDeclared input n p x fromInput))
   a-computed : {h : ℕ} {n : Name} {p q : Position} {us vs : List Word} {x : Extent} {e : Expression} → AtMostOne x → Is dimensions h us (extent x) → Is booleanExp h vs (expression e)
-      → Is terminalSpec h (W.name n p ∷ (us ++ sign equalSign q ∷ vs)) (facility (declaredAs computed n p x (given q e)))
+      → Is terminalSpec h (W.name n p ∷ (us ++ sign equalSign q ∷ vs)) (facility (asDeclared computed n p x (given q e)))
   -- lists of declarations and their sections (3, 4 and 6)
   registers-one : {h : ℕ} {us : List Word} {d : Declaration} → Is registerSpec h us (facility d) → Is registerSpecs h us (facilities (d ∷ []))
   registers-more : {h : ℕ} {us vs : List Word} {d : Declaration} {ds : List Declaration} (p : Position) → Is registerSpec h us (facility d) → Is registerSpecs h vs (facilities ds)

@@ -1,11 +1,12 @@
 -- The meaning of DDL-P, in the order in which it is best read.
 pub mod Tests
+-- The ceilings of document 01.
+pub mod Ceilings
 -- Values and constants (the manual, 2.3 and 5.3).
 pub mod Value
 pub mod Constants
 pub mod ValueExamples
 -- From bytes to words (the manual, 2).
-pub mod Ceilings
 pub mod Characters
 pub mod Kinds
 pub mod Refusals

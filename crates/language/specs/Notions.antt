@@ -61,8 +61,8 @@ pairOf c p d q = record { first = c; firstAt = p; last = d; lastAt = q }
 abbrev pub oneBound : Constant
 oneBound = record { bare = true; value = bareConstant (1 ∷ []) }
 
-abbrev pub declaredAs : Kind → Name → Position → Extent → Function → Declaration
-declaredAs k n p x f = record { kind = k; name = n; at = p; extent = x; function = f }
+abbrev pub asDeclared : Kind → Name → Position → Extent → Function → Declaration
+asDeclared k n p x f = record { kind = k; name = n; at = p; extent = x; function = f }
 
 abbrev pub operationOf : Name → Position → Actions → Operation
 operationOf n p a = record { name = n; at = p; body = a }

@@ -15,7 +15,7 @@ use Rattle.language.specs.Building.{Built, keepWord}
 use Rattle.language.specs.Declaring.{makeMemory, makeRegister, makeSequencing}
 use Rattle.language.specs.Kinds.{hash}
 use Rattle.language.specs.Machine.{Ask, ask, make, memorySpec, registerSpec, sequencingSpec, terminalSpec, withinCeilings}
-use Rattle.language.specs.Notions.{declaredAs}
+use Rattle.language.specs.Notions.{asDeclared}
 use Rattle.language.specs.Tree.{Declaration, Extent, Function}
 use Rattle.language.specs.Words as L
 use Rattle.text_words.specs.declared.Word.{Word}
@@ -62,7 +62,7 @@ namedWord text w = L.name (letters text (w .at .place) (w .size)) (positioned (w
 
 -- The declaration that begins with the name w.
 abbrev pub declarationOf : List ℕ → FacilityKind → Word → Extent → Function → Declaration
-declarationOf text k w x f = declaredAs (kindMeant k) (letters text (w .at .place) (w .size)) (positioned (w .at)) x f
+declarationOf text k w x f = asDeclared (kindMeant k) (letters text (w .at .place) (w .size)) (positioned (w .at)) x f
 
 -- One facility more.
 abbrev pub moreState : State → State
