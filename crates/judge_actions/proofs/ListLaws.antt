@@ -1,25 +1,24 @@
 -- Lists of actions and of arms, by their first record.
 use mathlib.Core.Bool.{Bool, true, false, cond}
-use mathlib.Core.List.{[], _∷_}
 use mathlib.Core.Path.{_≡_, refl, sym, ap, _∙_}
 use native.Mathlib.Omega.{arith}
-use denote.Enum.Declared.{tagOf}
-use types.Run.{OneOf, miss}
 use Prim.Native.Nat.{ℕ, _+_, _-_, _<_, _≤_}
-use borrow.Author.Tests.{eq-eqb, le-leb, leb-true, lt-leb, ne-eqb}
+use borrow.Author.Tests.{eq-eqb, le-leb, lt-leb, ne-eqb}
 use lib.Dec.{leb}
 use Rattle.language.specs.ActionRules as A
 use Rattle.language.specs.ActionRules.{Shape, actions, arms, armsJudged, listJudged, plainly, runBelow, runStep}
 use Rattle.language.specs.Description as D
 use Rattle.language.specs.Description.{Description, Places, actionAt, actionPlace}
-use Rattle.language.specs.Judging.{Judged, givenBoth, refuse, worth}
+use Rattle.language.specs.Judging.{Judged, refuse, worth}
 use Rattle.language.specs.Recursion.{below-lt}
-use Rattle.image_records.proofs.actions.Action.{the-type}
+use Rattle.language.specs.Tests.{both}
 use Rattle.image_records.specs.Actions.{meant}
 use Rattle.image_records.specs.declared.actions.Action.{Action}
 use Rattle.image_records.specs.declared.actions.Action.the-variants as N
-use Rattle.judge_actions.specs.declared.conditionals.Choices.{Choices}
-use Rattle.judge_actions.specs.Listed.{armsAt, heldAt, listAt, rightArms}
+use Rattle.judge_actions.specs.declared.conditionals.Form.{Form}
+use Rattle.judge_actions.specs.declared.conditionals.Form.the-variants.{Simple, Conditional}
+use Rattle.judge_actions.specs.Listed.{armHolds, armsAt, formOf, heldBy, listAt, oneAt, rightArms}
+use Rattle.judge_actions.proofs.JoinLaws.{armFirst, joins, works}
 use Rattle.language.specs.declared.refusals.Refusal.the-variants.{NoContinuation}
 
 module _ (d : Description) (p : Places) (b : Bool) (w : ℕ → Judged) where
@@ -54,103 +53,85 @@ module _ (d : Description) (p : Places) (b : Bool) (w : ℕ → Judged) where
   unfolding armsAt
   arms-first k i h e = rw (ne-eqb k 0 h, e)
 
-  -- ---- Conditionals.
+  -- ---- One action, and the list after what it holds.
 
-  pub held-by : (m : ℕ) {i j c e : ℕ} {u v : Choices} {x y : ℕ} → i ≡ j → c ≡ e → u ≡ v → x ≡ y → heldAt d p b w m i c u x ≡ heldAt d p b w m j e v y
-  held-by m f g h q = rw (f, g, h, q)
+  -- The action at i, where `ev` judges fewer records.
+  abbrev oneBy : (ℕ → ℕ → Shape → Judged) → ℕ → Form → Judged
+  oneBy ev i Simple = A.simpleJudged d p b w (actionPlace p i) (actionAt d i)
+  oneBy ev i (Conditional c) =
+      A.conditional d p b w (actionPlace p i) (A.right d p b w (c .condition)) (ev (c .size) (i + 1) arms) (rightArms (c .choices))
 
-  module _ (k m i c : ℕ) (choices : Choices) (x : ℕ) where
-    pub held-is : m < k
-        → heldAt d p b w m i c choices x
-        ≡ A.holding d p b w (runBelow d p b w k) m i x
-        (A.conditional d p b w (actionPlace p i) (A.right d p b w c) (runBelow d p b w k x (i + 1) arms) (rightArms choices))
-    unfolding heldAt
-    held-is h = by-test (leb x m) refl
-      where
-        by-test : (t : Bool) → leb x m ≡ t
-            → cond (leb x m)
-            (givenBoth
-            (A.conditional d p b w (actionPlace p i) (A.right d p b w c) (armsAt d p b w x (i + 1)) (rightArms choices))
-            (listAt d p b w (m - x) (i + 1 + x)) (A.allWork d p b w))
-            (refuse D.nowhere NoContinuation)
-            ≡ A.holding d p b w (runBelow d p b w k) m i x
-            (A.conditional d p b w (actionPlace p i) (A.right d p b w c) (runBelow d p b w k x (i + 1) arms) (rightArms choices))
-        by-test true t =
-            let g : x ≤ m = leb-true x m t in
-            rw (t, list-lt k (m - x) (i + 1 + x) (omega arith), arms-lt k x (i + 1) (omega arith))
-        by-test false t = rw t
+  one-by : (k i : ℕ) (f : Form) → heldBy f < k → oneBy (runBelow d p b w k) i f ≡ oneAt d p b w i f
+  unfolding oneAt
+  one-by k i Simple h = refl
+  one-by k i (Conditional c) h = rw (arms-lt k (c .size) (i + 1) h)
 
-    pub held-past : m < x → refuse D.nowhere NoContinuation ≡ heldAt d p b w m i c choices x
-    unfolding heldAt
-    held-past h = rw (lt-leb x m h)
+  module _ (ev : ℕ → ℕ → Shape → Judged) (m i : ℕ) where
+    plainly-held : plainly d p b w ev m i ≡ A.holding d p b w ev m i 0 (A.simpleJudged d p b w (actionPlace p i) (actionAt d i))
+    plainly-held =
+        let e : m - 0 ≡ m = omega arith in
+        let f : i + 1 + 0 ≡ i + 1 = omega arith in
+        let g : leb 0 m ≡ true = le-leb 0 m (omega arith) in
+        rw (g, e, f)
 
-    pub held-within : x ≤ m
-        → givenBoth
-        (A.conditional d p b w (actionPlace p i) (A.right d p b w c) (armsAt d p b w x (i + 1)) (rightArms choices))
-        (listAt d p b w (m - x) (i + 1 + x)) (A.allWork d p b w)
-        ≡ heldAt d p b w m i c choices x
-    unfolding heldAt
-    held-within h = rw (le-leb x m h)
+    one-held : (r : Action) → listJudged d p b w ev m i (meant r) ≡ A.holding d p b w ev m i (heldBy (formOf r)) (oneBy ev i (formOf r))
+    unfolding listJudged
+    one-held (N.Store s l r) = plainly-held
+    one-held (N.StorePair s l n r) = plainly-held
+    one-held (N.Set l) = plainly-held
+    one-held (N.Perform o) = plainly-held
+    one-held (N.Goto s) = plainly-held
+    one-held (N.Call s) = plainly-held
+    one-held N.Return = plainly-held
+    one-held (N.When c x) = refl
+    one-held (N.Choose c n x) = refl
+    one-held (N.Arm x) = plainly-held
+    one-held N.Broken = plainly-held
 
-  -- ---- Other actions.
+  module _ (k i n : ℕ) (r : Action) (f : Form) (h : k ≡ 0 → ⊥) (e : actionAt d i ≡ meant r) (q : f ≡ formOf r) (z : n ≡ heldBy f) where
+    pub list-past : k - 1 < n → listAt d p b w k i ≡ refuse D.nowhere NoContinuation
+    list-past g = sym (list-first k i h e) ∙ one-held (runBelow d p b w k) (k - 1) i r ∙ rw (← q, ← z, lt-leb n (k - 1) g)
 
-  abbrev Plain : ℕ → Type 0
-  Plain n = OneOf (0 ∷ 1 ∷ 2 ∷ 3 ∷ 4 ∷ 5 ∷ 6 ∷ 9 ∷ 10 ∷ []) n
+    pub list-next : n ≤ k - 1 → listAt d p b w k i ≡ joins works (oneAt d p b w i f) (listAt d p b w (k - 1 - n) (i + 1 + n))
+    list-next g =
+        sym (list-first k i h e) ∙ one-held (runBelow d p b w k) (k - 1) i r
+        ∙ rw (← q, ← z, le-leb n (k - 1) g, one-by k i f (omega arith), list-lt k (k - 1 - n) (i + 1 + n) (omega arith))
 
-  plain-is : (ev : ℕ → ℕ → Shape → Judged) (m i : ℕ) (r : Action) → Plain (tagOf the-type r)
-      → plainly d p b w ev m i ≡ listJudged d p b w ev m i (meant r)
-  unfolding listJudged
-  plain-is ev m i (N.Store s l r) h = refl
-  plain-is ev m i (N.StorePair s l n r) h = refl
-  plain-is ev m i (N.Set l) h = refl
-  plain-is ev m i (N.Perform o) h = refl
-  plain-is ev m i (N.Goto s) h = refl
-  plain-is ev m i (N.Call s) h = refl
-  plain-is ev m i N.Return h = refl
-  plain-is ev m i (N.When c x) h = absurd (miss (0 ∷ 1 ∷ 2 ∷ 3 ∷ 4 ∷ 5 ∷ 6 ∷ 9 ∷ 10 ∷ []) 7 tt h)
-  plain-is ev m i (N.Choose c n x) h = absurd (miss (0 ∷ 1 ∷ 2 ∷ 3 ∷ 4 ∷ 5 ∷ 6 ∷ 9 ∷ 10 ∷ []) 8 tt h)
-  plain-is ev m i (N.Arm x) h = refl
-  plain-is ev m i N.Broken h = refl
+  -- ---- One arm, and the arms after it.
 
-  pub plain-list : (k i : ℕ) (r : Action) → (k ≡ 0 → ⊥) → actionAt d i ≡ meant r → Plain (tagOf the-type r)
-      → givenBoth (A.simpleJudged d p b w (actionPlace p i) (actionAt d i)) (listAt d p b w (k - 1) (i + 1)) (A.allWork d p b w) ≡ listAt d p b w k i
-  plain-list k i r h e t =
-      ap (λ (j : Judged). givenBoth (A.simpleJudged d p b w (actionPlace p i) (actionAt d i)) j (A.allWork d p b w)) (sym (list-lt k (k - 1) (i + 1) (omega arith)))
-      ∙ plain-is (runBelow d p b w k) (k - 1) i r t ∙ list-first k i h e
-
-  -- ---- Arms.
-
-  abbrev NoArm : ℕ → Type 0
-  NoArm n = OneOf (0 ∷ 1 ∷ 2 ∷ 3 ∷ 4 ∷ 5 ∷ 6 ∷ 7 ∷ 8 ∷ 10 ∷ []) n
-
-  pub no-arm : (ev : ℕ → ℕ → Shape → Judged) (m i : ℕ) (r : Action) → NoArm (tagOf the-type r)
-      → refuse D.nowhere NoContinuation ≡ armsJudged d p b w ev m i (meant r)
+  arm-held : (ev : ℕ → ℕ → Shape → Judged) (m i : ℕ) (r : Action)
+      → armsJudged d p b w ev m i (meant r)
+      ≡ cond (leb 1 (armHolds m r)) (joins armFirst (ev (armHolds m r) (i + 1) actions) (ev (m - armHolds m r) (i + 1 + armHolds m r) arms)) (refuse D.nowhere NoContinuation)
   unfolding armsJudged
-  no-arm ev m i (N.Store s l r) h = refl
-  no-arm ev m i (N.StorePair s l n r) h = refl
-  no-arm ev m i (N.Set l) h = refl
-  no-arm ev m i (N.Perform o) h = refl
-  no-arm ev m i (N.Goto s) h = refl
-  no-arm ev m i (N.Call s) h = refl
-  no-arm ev m i N.Return h = refl
-  no-arm ev m i (N.When c x) h = refl
-  no-arm ev m i (N.Choose c n x) h = refl
-  no-arm ev m i (N.Arm x) h = absurd (miss (0 ∷ 1 ∷ 2 ∷ 3 ∷ 4 ∷ 5 ∷ 6 ∷ 7 ∷ 8 ∷ 10 ∷ []) 9 tt h)
-  no-arm ev m i N.Broken h = refl
+  arm-held ev m i (N.Store s l r) = refl
+  arm-held ev m i (N.StorePair s l n r) = refl
+  arm-held ev m i (N.Set l) = refl
+  arm-held ev m i (N.Perform o) = refl
+  arm-held ev m i (N.Goto s) = refl
+  arm-held ev m i (N.Call s) = refl
+  arm-held ev m i N.Return = refl
+  arm-held ev m i (N.When c x) = refl
+  arm-held ev m i (N.Choose c n x) = refl
+  arm-held ev m i (N.Arm x) = by-test (leb x m) (leb 1 x) refl
+    where
+      by-test : (t u : Bool) → leb 1 x ≡ u
+          → cond (both u t) (joins armFirst (ev x (i + 1) actions) (ev (m - x) (i + 1 + x) arms)) (refuse D.nowhere NoContinuation)
+          ≡ cond (leb 1 (cond t x 0)) (joins armFirst (ev (cond t x 0) (i + 1) actions) (ev (m - cond t x 0) (i + 1 + cond t x 0) arms)) (refuse D.nowhere NoContinuation)
+      by-test true true z = rw z
+      by-test true false z = rw z
+      by-test false true z = refl
+      by-test false false z = refl
+  arm-held ev m i N.Broken = refl
 
-  module _ (k i x : ℕ) (h : k ≡ 0 → ⊥) (e : actionAt d i ≡ D.arm x) where
-    pub arm-none : x ≡ 0 → refuse D.nowhere NoContinuation ≡ armsAt d p b w k i
-    unfolding armsJudged
-    arm-none z = (let q : leb 1 x ≡ false = lt-leb 1 x (omega arith) in rw q) ∙ arms-first k i h e
+  module _ (k i n : ℕ) (r : Action) (h : k ≡ 0 → ⊥) (e : actionAt d i ≡ meant r) (s : n ≡ armHolds (k - 1) r) where
+    pub arms-past : n ≡ 0 → armsAt d p b w k i ≡ refuse D.nowhere NoContinuation
+    arms-past z =
+        let q : leb 1 n ≡ false = lt-leb 1 n (omega arith) in
+        sym (arms-first k i h e) ∙ arm-held (runBelow d p b w k) (k - 1) i r ∙ rw (← s, q)
 
-    pub arm-past : (x ≡ 0 → ⊥) → k - 1 < x → refuse D.nowhere NoContinuation ≡ armsAt d p b w k i
-    unfolding armsJudged
-    arm-past z g = (let q : leb 1 x ≡ true = le-leb 1 x (omega arith) in rw (q, lt-leb x (k - 1) g)) ∙ arms-first k i h e
-
-    pub arm-within : (x ≡ 0 → ⊥) → x ≤ k - 1
-        → givenBoth (listAt d p b w x (i + 1)) (armsAt d p b w (k - 1 - x) (i + 1 + x)) (λ v u. worth 1 (u .arms + 1) (v .work + u .work)) ≡ armsAt d p b w k i
-    unfolding armsJudged
-    arm-within z g =
-        (let q : leb 1 x ≡ true = le-leb 1 x (omega arith) in
-        rw (q, le-leb x (k - 1) g, ← list-lt k x (i + 1) (omega arith), ← arms-lt k (k - 1 - x) (i + 1 + x) (omega arith)))
-        ∙ arms-first k i h e
+    pub arms-next : (n ≡ 0 → ⊥) → n ≤ k - 1
+        → armsAt d p b w k i ≡ joins armFirst (listAt d p b w n (i + 1)) (armsAt d p b w (k - 1 - n) (i + 1 + n))
+    arms-next z g =
+        let q : leb 1 n ≡ true = le-leb 1 n (omega arith) in
+        sym (arms-first k i h e) ∙ arm-held (runBelow d p b w k) (k - 1) i r
+        ∙ rw (← s, q, list-lt k n (i + 1) (omega arith), arms-lt k (k - 1 - n) (i + 1 + n) (omega arith))

@@ -2,7 +2,7 @@
 use mathlib.Core.Bool.{Bool, true, false, cond}
 use mathlib.Core.List.{List}
 use mathlib.Core.Path.{_≡_}
-use Prim.Native.Nat.{ℕ, _+_, _-_, _/_, _<_, _≤_}
+use Prim.Native.Nat.{ℕ, _+_, _/_, _<_, _≤_}
 use lib.Dec.{eqb, leb}
 use lib.ListN.{drop, length, take}
 use Rattle.image_sections.specs.Declarations.{nameLengthIn}
@@ -13,15 +13,19 @@ use Rattle.language.specs.Description as D
 use Rattle.language.specs.Description.{Description, Places, actionAt, actionPlace, stateAt}
 use Rattle.language.specs.Encode.{facilitySize, stateSize}
 use Rattle.language.specs.Expressions.{selects, terminalBelow}
-use Rattle.language.specs.Judging.{Judged, Worth, givenBoth, refuse}
+use Rattle.language.specs.Judging.{Judged, Worth, refuse}
 use Rattle.language.specs.declared.refusals.Refusal.the-variants.{BadName, NoContinuation}
 use Rattle.language.specs.Words.{Position}
 use Rattle.judge_records.specs.Read.{placeOf}
 use Rattle.judge_verdicts.specs.declared.Verdict.{Verdict}
 use Rattle.judge_verdicts.specs.Meaning.{recalled, seen}
 use Rattle.judge_terms.specs.Shown.{Shown, worked}
+use Rattle.image_records.specs.declared.actions.Action.{Action}
+use Rattle.image_records.specs.declared.actions.Action.the-variants as N
 use Rattle.judge_actions.specs.declared.conditionals.Choices.{Choices}
 use Rattle.judge_actions.specs.declared.conditionals.Choices.the-variants.{One, Several}
+use Rattle.judge_actions.specs.declared.conditionals.Form.{Form}
+use Rattle.judge_actions.specs.declared.conditionals.Form.the-variants.{Simple, Conditional}
 use Rattle.language.specs.Tests.{both}
 
 -- `works` judges the operations that may be named: `ops` of them, whose verdicts are kept.
@@ -57,11 +61,43 @@ abbrev pub inRight : Bool → Position → Judged → Judged
 inRight true at j = j
 inRight false at j = refuse at NoContinuation
 
--- A conditional at i, to which x of the m records after it belong, and the list after those.
-unfoldable pub heldAt : Description → Places → Bool → (ℕ → Judged) → ℕ → ℕ → ℕ → Choices → ℕ → Judged
-heldAt d p inState w m i c choices x =
-    cond (leb x m)
-    (givenBoth
-    (A.conditional d p inState w (actionPlace p i) (A.right d p inState w c) (armsAt d p inState w x (i + 1)) (rightArms choices))
-    (listAt d p inState w (m - x) (i + 1 + x)) (A.allWork d p inState w))
-    (refuse D.nowhere NoContinuation)
+-- The form of an action, and how many of the records after it belong to it.
+abbrev pub branched : ℕ → Choices → ℕ → Form
+branched c choices x = Conditional (record { condition = c; choices = choices; size = x })
+
+abbrev pub formOf : Action → Form
+formOf (N.Store k l r) = Simple
+formOf (N.StorePair k l m r) = Simple
+formOf (N.Set l) = Simple
+formOf (N.Perform o) = Simple
+formOf (N.Goto s) = Simple
+formOf (N.Call s) = Simple
+formOf N.Return = Simple
+formOf (N.When c x) = branched c One x
+formOf (N.Choose c n x) = branched c (Several n) x
+formOf (N.Arm x) = Simple
+formOf N.Broken = Simple
+
+abbrev pub heldBy : Form → ℕ
+heldBy Simple = 0
+heldBy (Conditional b) = b .size
+
+-- The action at i, by its form, without those after it.
+unfoldable pub oneAt : Description → Places → Bool → (ℕ → Judged) → ℕ → Form → Judged
+oneAt d p inState w i Simple = A.simpleJudged d p inState w (actionPlace p i) (actionAt d i)
+oneAt d p inState w i (Conditional b) =
+    A.conditional d p inState w (actionPlace p i) (A.right d p inState w (b .condition)) (armsAt d p inState w (b .size) (i + 1)) (rightArms (b .choices))
+
+-- How many actions an arm has, none where there is no arm, or more than the m records after it.
+abbrev pub armHolds : ℕ → Action → ℕ
+armHolds m (N.Store k l r) = 0
+armHolds m (N.StorePair k l n r) = 0
+armHolds m (N.Set l) = 0
+armHolds m (N.Perform o) = 0
+armHolds m (N.Goto s) = 0
+armHolds m (N.Call s) = 0
+armHolds m N.Return = 0
+armHolds m (N.When c x) = 0
+armHolds m (N.Choose c n x) = 0
+armHolds m (N.Arm x) = cond (leb x m) x 0
+armHolds m N.Broken = 0

@@ -1,19 +1,15 @@
-// Lists of actions and lists of arms: each record is judged once, and the number of records left falls. Every function takes what expressions take, the actions and their places (`acts`, `ap`), the states and their names (`ss`, `labels`), what is kept of operations, and whose the list is.
+// Lists of actions and lists of arms: each record is judged once. A list goes on by a loop, so that only what stands inside another takes stack. Every function takes what expressions take, the actions and their places (`acts`, `ap`), the states and their names (`ss`, `labels`), what is kept of operations, and whose the list is.
 use crate::Owner;
 use crate::conditionals;
-use crate::conditionals::Branch;
-use crate::conditionals::Choices;
+use crate::conditionals::Form;
 use crate::simple;
 use image_records::actions;
-use image_records::actions::Action;
 use image_records::record_sizes;
 use judge_records::places;
 use judge_terms::operators;
 use judge_verdicts::Verdict;
-use judge_verdicts::faults;
-use language::refusals::Refusal;
 ghost use Prim.Native.Nat.{_+_, _≤_};
-ghost use Rattle.judge_actions.specs.Listed.{Lists, armsAt, heldAt, listAt};
+ghost use Rattle.judge_actions.specs.Listed.{Lists, armsAt, heldBy, listAt, oneAt};
 
 // k records from i on: a list of actions.
 pub fn list(
@@ -34,30 +30,26 @@ pub fn list(
     requires { ⌜ i + k ≤ 0xffffffff ⌝ }
     ensures { λ r. ⌜ Lists (now (fs .entry)) (now (es .entry)) (now (fp .entry)) (now (ep .entry)) (now (memo .entry)) (now (acts .entry)) (now (ap .entry)) (now (ss .entry)) (now (labels .entry)) (now (kept .entry)) (own .ops) (λ d p w. listAt d p (own .state) w k i) r ⌝ }
 {
-    if k == 0 {
-        return operators::nothing();
+    let mut all = operators::nothing();
+    let mut left = k;
+    let mut j = i;
+    while 0 < left {
+        left -= 1;
+        let f = conditionals::form_of(actions::action_at(acts, j));
+        let n = conditionals::held(f);
+        if left < n {
+            return conditionals::no_continuation(all);
+        }
+        let v = one(fs, es, fp, ep, memo, acts, ap, ss, labels, kept, own, j, f);
+        all = operators::together(all, v);
+        j = j + 1 + n;
+        left -= n;
     }
-    let m = k - 1;
-    match actions::action_at(acts, i) {
-        Action::When(c, x) => {
-            let b = conditionals::branch_of(i, c, Choices::One, x);
-            held(fs, es, fp, ep, memo, acts, ap, ss, labels, kept, own, m, b)
-        }
-        Action::Choose(c, n, x) => {
-            let b = conditionals::branch_of(i, c, Choices::Several(n), x);
-            held(fs, es, fp, ep, memo, acts, ap, ss, labels, kept, own, m, b)
-        }
-        _ => {
-            let one = simple::simple(fs, es, fp, ep, memo, acts, ap, ss, labels, kept, own, i);
-            let j = i + 1;
-            let rest = list(fs, es, fp, ep, memo, acts, ap, ss, labels, kept, own, m, j);
-            operators::together(one, rest)
-        }
-    }
+    all
 }
 
-// A conditional, to which some of the m records after it belong, and the list after those.
-fn held(
+// The action at record i, with the records that belong to it.
+fn one(
     fs: &[u8],
     es: &[u8],
     fp: &[u8],
@@ -69,28 +61,23 @@ fn held(
     labels: &[u8],
     kept: &[usize],
     own: Owner,
-    m: usize,
-    b: Branch,
+    i: usize,
+    f: Form,
 ) -> Verdict
-    requires { ⌜ b .number + 1 + m ≤ 0xffffffff ⌝ }
-    ensures { λ r. ⌜ Lists (now (fs .entry)) (now (es .entry)) (now (fp .entry)) (now (ep .entry)) (now (memo .entry)) (now (acts .entry)) (now (ap .entry)) (now (ss .entry)) (now (labels .entry)) (now (kept .entry)) (own .ops) (λ d p w. heldAt d p (own .state) w m (b .number) (b .condition) (b .choices) (b .size)) r ⌝ }
+    requires { ⌜ i + 1 + heldBy f ≤ 0xffffffff ⌝ }
+    ensures { λ r. ⌜ Lists (now (fs .entry)) (now (es .entry)) (now (fp .entry)) (now (ep .entry)) (now (memo .entry)) (now (acts .entry)) (now (ap .entry)) (now (ss .entry)) (now (labels .entry)) (now (kept .entry)) (own .ops) (λ d p w. oneAt d p (own .state) w i f) r ⌝ }
 {
-    let n = b.size as usize;
-    if m < n {
-        return faults::refused(places::nowhere(), Refusal::NoContinuation);
-    }
-    let i = b.number;
+    let Form::Conditional(b) = f else {
+        return simple::simple(fs, es, fp, ep, memo, acts, ap, ss, labels, kept, own, i);
+    };
     let at = places::of_record(ap, i);
     let known = fs.len() / record_sizes::FACILITY;
     let a = judge_expressions::walk::expression(fs, es, fp, ep, memo, known, b.condition);
+    let n = b.size as usize;
     let j = i + 1;
-    let choices = b.choices;
     let inner = arms(fs, es, fp, ep, memo, acts, ap, ss, labels, kept, own, n, j);
-    let one = conditionals::conditional(at, choices, a, inner);
-    let q = j + n;
-    let l = m - n;
-    let rest = list(fs, es, fp, ep, memo, acts, ap, ss, labels, kept, own, l, q);
-    operators::together(one, rest)
+    let choices = b.choices;
+    conditionals::conditional(at, choices, a, inner)
 }
 
 // k records from i on: a list of arms, each with at least one action.
@@ -112,25 +99,20 @@ fn arms(
     requires { ⌜ i + k ≤ 0xffffffff ⌝ }
     ensures { λ r. ⌜ Lists (now (fs .entry)) (now (es .entry)) (now (fp .entry)) (now (ep .entry)) (now (memo .entry)) (now (acts .entry)) (now (ap .entry)) (now (ss .entry)) (now (labels .entry)) (now (kept .entry)) (own .ops) (λ d p w. armsAt d p (own .state) w k i) r ⌝ }
 {
-    if k == 0 {
-        return operators::nothing();
+    let mut all = operators::nothing();
+    let mut left = k;
+    let mut j = i;
+    while 0 < left {
+        left -= 1;
+        let n = conditionals::arm_size(actions::action_at(acts, j), left);
+        if n == 0 {
+            return conditionals::no_continuation(all);
+        }
+        let q = j + 1;
+        let body = list(fs, es, fp, ep, memo, acts, ap, ss, labels, kept, own, n, q);
+        all = conditionals::arm(all, body);
+        j = q + n;
+        left -= n;
     }
-    let m = k - 1;
-    let nowhere = places::nowhere();
-    let Action::Arm(x) = actions::action_at(acts, i) else {
-        return faults::refused(nowhere, Refusal::NoContinuation);
-    };
-    let n = x as usize;
-    if n == 0 {
-        return faults::refused(nowhere, Refusal::NoContinuation);
-    }
-    if m < n {
-        return faults::refused(nowhere, Refusal::NoContinuation);
-    }
-    let j = i + 1;
-    let first = list(fs, es, fp, ep, memo, acts, ap, ss, labels, kept, own, n, j);
-    let l = m - n;
-    let q = j + n;
-    let rest = arms(fs, es, fp, ep, memo, acts, ap, ss, labels, kept, own, l, q);
-    conditionals::arm(first, rest)
+    all
 }

@@ -25,7 +25,7 @@ enum-known-f c = search needs
 returns : tie.Need-returns
 returns c =
     λ j k e f. both-fine j k _ _ _ (pair-known j k (c .before .before .before .before .before .both .ensures) (c .before .before .before .v .given .1) e f)
-    (λ x y m n. worth-seen 1 _ _ refl (c .before .added .ensures _ 1 (ap (λ (v : Worth). v .arms) n) (sym (capped-small 1 (omega arith))))
+    (λ x y m n. worth-seen 1 _ _ refl (c .before .added .ensures _ 1 (ap (λ (v : Worth). v .arms) m) (sym (capped-small 1 (omega arith))))
     (c .added2 .ensures _ _ (ap (λ (v : Worth). v .work) m) (ap (λ (v : Worth). v .work) n)))
 
 returns-2 : tie.Need-returns-2
