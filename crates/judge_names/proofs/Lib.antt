@@ -1,3 +1,4 @@
 pub mod DescribedLaws
 pub mod NumberLaws
 pub mod OrderLaws
+pub mod SumLaws

@@ -1,18 +1,18 @@
 -- The tables hold the language's symbols and reserved words, and are searched row by row.
-use mathlib.Core.Bool.{Bool, true, false, _&&_, false≢true}
+use mathlib.Core.Bool.{Bool, true, false, _&&_}
 use mathlib.Core.List.{List, [], _∷_, map}
 use mathlib.Core.Path.{_≡_, _∙_, ap, sym, refl}
 use Prim.Native.Nat.{ℕ, zero, suc, _+_, _-_, _<_, _≤_}
 use native.Mathlib.Numerals.{add-one}
 use native.Mathlib.Omega.{arith}
-use lib.Dec.{eqb}
+use lib.Dec.{eqb, ltb}
 use lib.ListN.{length, getD, take}
-use borrow.Author.Tests.{eqb-true}
+use borrow.Author.Tests.{eqb-true, ltb-true, ne-eqb}
 use Rattle.language.specs.Characters.{folded}
 use Rattle.language.specs.declared.refusals.Refusal.the-variants.{BadCharacter}
 use Rattle.language.specs.Scan.{bytes, found, reservedAmong, reservedKind, reservedWords, same, sign, span, spelledSymbols, symbolAmong, symbolAt, wrong}
 use Rattle.text_characters.proofs.Table.{allFrom, first, passed, second}
-use Rattle.text_items.specs.Tables.{beginsAlike, reservedFrom, reservedLetters, reservedRow, spellings, symbolKinds, symbolRow, symbolSize, symbolsFrom}
+use Rattle.text_items.specs.Tables.{reservedBegins, reservedFrom, reservedLetters, reservedRow, spellings, symbolKinds, symbolRow, symbolSize, symbolsFrom}
 use Rattle.text_items.proofs.Letters.{noLetter, same-folded, same-sym}
 
 -- ---- Reserved words.
@@ -48,22 +48,25 @@ module _ (s : List ℕ) (row : ℕ) (left : ReservedLeft s row) where
 
 -- ---- A name that begins otherwise than a row is not its word.
 
-pub alike-none : (s t : List ℕ) → length s ≡ 0 → true ≡ beginsAlike s t
-unfolding beginsAlike
-alike-none [] t h = refl
-alike-none (b ∷ s) t h = absurd (omega arith)
+abbrev begun : ℕ → Bool
+begun row = ltb 0 (length (reservedRow row)) && eqb (getD reservedBegins row 0) (folded (getD (reservedRow row) 0 0))
 
-pub alike-there : (s t : List ℕ) → 0 < length s → beginsAlike s t ≡ eqb (folded (getD s 0 0)) (folded (getD t 0 0))
-unfolding beginsAlike
-alike-there [] t h = absurd (omega arith)
-alike-there (b ∷ s) t h = refl
+all-begun : allFrom begun 0 23 ≡ true
+unfolding reservedRow reservedLetters reservedBegins span bytes folded
+all-begun = refl
 
-pub alike-word : (s t : List ℕ) (n : ℕ) → beginsAlike s t ≡ false → same (map folded s) (map folded (take n t)) ≡ false
-unfolding beginsAlike same
-alike-word [] t n e = absurd (false≢true (sym e))
-alike-word (b ∷ s) t zero e = refl
-alike-word (b ∷ s) [] (suc n) e = refl
-alike-word (b ∷ s) (x ∷ t) (suc n) e = ap (λ (q : Bool). q && same (map folded s) (map folded (take n t))) e
+begins-otherwise : (s w : List ℕ) → 0 < length w → eqb (folded (getD s 0 0)) (folded (getD w 0 0)) ≡ false → same (map folded s) (map folded w) ≡ false
+unfolding same
+begins-otherwise s [] h e = absurd (omega arith)
+begins-otherwise [] (x ∷ w) h e = refl
+begins-otherwise (b ∷ s) (x ∷ w) h e = ap (λ (q : Bool). q && same (map folded s) (map folded w)) e
+
+pub not-begun : (s : List ℕ) (row : ℕ) → row < 23 → (getD reservedBegins row 0 ≡ folded (getD s 0 0) → ⊥) → same (map folded s) (map folded (reservedRow row)) ≡ false
+not-begun s row h n =
+    let y = passed begun 23 row all-begun h in
+    let l : 0 < length (reservedRow row) = ltb-true _ _ (first (ltb 0 (length (reservedRow row))) _ y) in
+    let b : getD reservedBegins row 0 ≡ folded (getD (reservedRow row) 0 0) = eqb-true _ _ (second (ltb 0 (length (reservedRow row))) _ y) in
+    begins-otherwise s (reservedRow row) l (ne-eqb _ _ (λ q. n (b ∙ sym q)))
 
 -- ---- Symbols.
 

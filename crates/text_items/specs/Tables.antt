@@ -1,8 +1,8 @@
 -- The tables of symbols and reserved words, row by row.
-use mathlib.Core.Bool.{Bool, true, cond}
+use mathlib.Core.Bool.{cond}
 use mathlib.Core.List.{List, [], _∷_, map}
 use Prim.Native.Nat.{ℕ, zero, suc, _+_, _*_}
-use lib.Dec.{eqb, ltb}
+use lib.Dec.{ltb}
 use lib.ListN.{drop, getD, take}
 use Rattle.language.specs.Characters.{folded}
 use Rattle.language.specs.Kinds.{atLeastSign, atMostSign, atSign, callSign, caseWord, closeBracket, closeParen, colon, comma, delayedSign, differenceSign, dollar, equalSign, exclusiveSign, gotoSign, greaterSign, hash, lessSign, minus, openBracket, openParen, period, plus, sameSign, semicolon, slash, star, sumSign}
@@ -42,10 +42,10 @@ unfoldable pub reservedRow : ℕ → List ℕ
 unfolding span
 reservedRow row = let t = drop (row * 10) reservedLetters in take (span isNamePart t) t
 
--- Whether a name begins as a row does; one without letters does.
-unfoldable pub beginsAlike : List ℕ → List ℕ → Bool
-beginsAlike [] t = true
-beginsAlike (b ∷ s) t = eqb (folded b) (folded (getD t 0 0))
+-- The letter with which each row begins.
+unfoldable pub reservedBegins : List ℕ
+unfolding bytes
+reservedBegins = bytes "CDEITEEECREHTTIOLRRMTOC"
 
 -- n reserved words from a row on; the kind of the first is that of CASE, and the others' follow it.
 unfoldable pub reservedFrom : ℕ → ℕ → List Reserved

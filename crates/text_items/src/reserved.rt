@@ -7,9 +7,10 @@ use text_characters::runs::Stretch;
 ghost use mathlib.Core.List.{map};
 ghost use mathlib.Core.Path.{_≡_};
 ghost use Prim.Native.Nat.{_<_};
+ghost use lib.ListN.{getD};
 ghost use Rattle.language.specs.Characters.{folded};
 ghost use Rattle.language.specs.Scan.{reservedKind, same};
-ghost use Rattle.text_items.specs.Tables.{beginsAlike, reservedLetters, reservedRow};
+ghost use Rattle.text_items.specs.Tables.{reservedRow};
 
 const COUNT: u8 = 23;
 
@@ -23,37 +24,32 @@ const WORDS: [u8; 230] = *b"\
     TAIL      TIME      INPUT     OUTPUT    LEVEL     RETURN    \
     REGISTER  MEMORY    TERMINAL  OPERATION CONTROL   ";
 
-// Whether a name begins as a row does: most words are told apart by that.
-fn begins_alike(name: &[u8], row: &[u8]) -> bool
-    ensures { λ r. ⌜ r ≡ beginsAlike (now (name .entry)) (now (row .entry)) ⌝ }
-{
-    if name.len() == 0 {
-        return true;
-    }
-    letters::fold(name[0]) == letters::fold(parts::byte(row, 0))
-}
+// The letter with which each begins, by which most names are told apart.
+const BEGINS: [u8; 23] = *b"CDEITEEECREHTTIOLRRMTOC";
 
-// Whether a name is the reserved word of a row.
-fn is_word(name: &[u8], words: &[u8; 230], row: usize) -> bool
-    requires { ⌜ (row < 23) × (now words ≡ reservedLetters) ⌝ }
+// Whether a name is the reserved word of a row; `begin` is the capital with which the name begins.
+fn is_word(name: &[u8], begin: u8, row: usize) -> bool
+    requires { ⌜ (row < 23) × (begin ≡ folded (getD (now name) 0 0)) ⌝ }
     ensures { λ r. ⌜ r ≡ same (map folded (now (name .entry))) (map folded (reservedRow row)) ⌝ }
 {
-    let text = parts::rest(words, row * 10);
-    if !begins_alike(name, text) {
+    let begins = BEGINS;
+    if begins[row] != begin {
         return false;
     }
+    let words = WORDS;
+    let text = parts::rest(&words, row * 10);
     let word = parts::first(text, runs::length_of(Stretch::Name, text));
     names::matches(name, word)
 }
 
-// The kind of the reserved word that a name is, and 0 where it is none. The table is made once for all rows.
+// The kind of the reserved word that a name is, and 0 where it is none.
 pub fn kind_of(name: &[u8]) -> u8
     ensures { λ r. ⌜ r ≡ reservedKind (map folded (now (name .entry))) ⌝ }
 {
-    let words = WORDS;
+    let begin = letters::fold(parts::byte(name, 0));
     let mut row = 0;
     while row < COUNT {
-        if is_word(name, &words, row as usize) {
+        if is_word(name, begin, row as usize) {
             return FIRST + row;
         }
         row += 1;
