@@ -5,13 +5,13 @@ use image_records::record_sizes;
 use image_records::references::Reference;
 use image_sections::facilities;
 use image_sections::facilities::FacilityRecord;
-use image_sections::facilities::ShortBounds;
 use image_sections::kinds;
 use language::stops::Stop;
 use run_references::arms;
 use run_references::arms::Found;
-use run_references::bounds;
 use run_references::constants;
+use run_references::distances;
+use run_references::distances::Sought;
 use run_references::places;
 use run_references::places::Distance;
 use run_references::places::Located;
@@ -31,13 +31,11 @@ ghost use Rattle.language.specs.Meaning as M;
 ghost use Rattle.language.specs.Meaning.{evalAt, evalBelow, placeOf};
 ghost use Rattle.language.specs.Operators.{binaryOf, isBinary};
 ghost use Rattle.language.specs.References.{referenceOf};
-ghost use Rattle.language.specs.Tree.{Name};
-ghost use Rattle.image_sections.specs.Declarations.{facilityMeant, shortMeant};
 ghost use Rattle.image_records.specs.Nodes.{meant};
 ghost use Rattle.store_geometry.specs.Subscripts.{subscriptsMeant};
 ghost use Rattle.store_layout.specs.InBytes.{bytes};
 ghost use Rattle.run_references.specs.Described.{ForEach};
-ghost use Rattle.run_references.specs.Places.{foundMeant, locatedMeant, onDistance, referred, refersTo};
+ghost use Rattle.run_references.specs.Places.{Worked, foundMeant, referred, refersTo};
 ghost use Rattle.run_expressions.specs.Sides.{SideRead, SideThere, sideMeant};
 ghost use Rattle.run_references.specs.Worth.{answered};
 
@@ -48,62 +46,13 @@ pub enum Side {
     Stuck(Stuck),
 }
 
-// The place that subscripts name.
-fn located(
-    section: &[u8],
-    expressions: &[u8],
-    store: &[u8],
-    n: usize,
-    number: u8,
-    f: FacilityRecord,
-    s: Subscripts,
-) -> Located
-    ensures { λ r. ⌜ ForEach (now (section .entry)) (now (expressions .entry)) (now (store .entry)) (λ d x. ((name : Name) → locatedMeant r ≡ M.located (evalBelow (bytes d) d x n) number (facilityMeant name f) (subscriptsMeant s))) ⌝ }
+// How far a subscript is from its first bound, where there is one to work out.
+fn distance(section: &[u8], expressions: &[u8], store: &[u8], n: usize, s: Sought) -> Distance
+    ensures { λ r. ⌜ ForEach (now (section .entry)) (now (expressions .entry)) (now (store .entry)) (λ d x. Worked (evalBelow (bytes d) d x n) s r) ⌝ }
 {
-    let words = f.words;
-    let bits = f.bits;
     match s {
-        Subscripts::Whole => places::narrow(number, 0, 0, bounds::word_length(f) as u64),
-        Subscripts::One(e) => {
-            let w = part(section, expressions, store, n, e);
-            if f.dimensions == 1 {
-                return places::bit(number, 0, places::subscript(w, bits));
-            }
-            let at = places::subscript(w, words);
-            places::word(number, at, bounds::word_length(f) as u64)
-        }
-        Subscripts::Part(x) => places::constant_part(number, 0, bits, x),
-        Subscripts::Two(e, g) => {
-            let at = places::subscript(part(section, expressions, store, n, e), words);
-            bit_of_word(section, expressions, store, n, number, at, g, bits)
-        }
-        Subscripts::WordPart(e, x) => {
-            let at = places::subscript(part(section, expressions, store, n, e), words);
-            places::part_of_word(number, at, bits, x)
-        }
-    }
-}
-
-// One bit of a computed word; its subscript is worked out where there is such a word.
-fn bit_of_word(
-    section: &[u8],
-    expressions: &[u8],
-    store: &[u8],
-    n: usize,
-    number: u8,
-    at: Distance,
-    e: u16,
-    bits: ShortBounds,
-) -> Located
-    ensures { λ r. ⌜ ForEach (now (section .entry)) (now (expressions .entry)) (now (store .entry)) (λ d x. locatedMeant r ≡ onDistance at (λ w. M.subscript (evalBelow (bytes d) d x n e) (shortMeant bits) (λ b. M.upToLongest (M.place number w b 1)))) ⌝ }
-{
-    match at {
-        Distance::At(w) => {
-            let b = part(section, expressions, store, n, e);
-            places::bit(number, w, places::subscript(b, bits))
-        }
-        Distance::Stops(k) => Located::Stops(k),
-        Distance::Stuck(k) => Located::Stuck(k),
+        Sought::At(e, b) => places::subscript(part(section, expressions, store, n, e), b),
+        Sought::Nothing => Distance::At(0),
     }
 }
 
@@ -125,14 +74,16 @@ pub fn place_of(
     if !subscripts::right_count(f.dimensions, s) {
         return Side::Stuck(Stuck::WrongSubscripts);
     }
-    match located(section, expressions, store, n, number, f, s) {
+    let at = distance(section, expressions, store, n, distances::first(f, s));
+    let inside = distance(section, expressions, store, n, distances::second(f, s, at));
+    match distances::located(number, f, s, at, inside) {
         Located::At(p) => Side::At(f, p),
         Located::Stops(k) => Side::Stops(k),
         Located::Stuck(k) => Side::Stuck(k),
     }
 }
 
-// The value of what a reference names.
+// The value of what a reference names. It works the subscripts out itself: place_of would stand on the stack once for each subscript in another.
 fn operand(
     section: &[u8],
     expressions: &[u8],
@@ -143,8 +94,17 @@ fn operand(
 ) -> Worth
     ensures { λ r. ⌜ ForEach (now (section .entry)) (now (expressions .entry)) (now (store .entry)) (λ d x. answered r ≡ M.operand (bytes d) d x (evalBelow (bytes d) d x n) number (subscriptsMeant s)) ⌝ }
 {
-    match place_of(section, expressions, store, n, number, s) {
-        Side::At(f, p) => {
+    let f = facilities::facility_at(section, number as usize);
+    if section.len() / record_sizes::FACILITY <= number as usize {
+        return worth::sticks(Stuck::NoFacility);
+    }
+    if !subscripts::right_count(f.dimensions, s) {
+        return worth::sticks(Stuck::WrongSubscripts);
+    }
+    let at = distance(section, expressions, store, n, distances::first(f, s));
+    let inside = distance(section, expressions, store, n, distances::second(f, s, at));
+    match distances::located(number, f, s, at, inside) {
+        Located::At(p) => {
             let kind = f.kind;
             if kinds::is_computed(kind) {
                 let w = part(section, expressions, store, n, f.place);
@@ -152,8 +112,8 @@ fn operand(
             }
             reading::of_stored(store, f, p)
         }
-        Side::Stops(k) => worth::stops(k),
-        Side::Stuck(k) => worth::sticks(k),
+        Located::Stops(k) => worth::stops(k),
+        Located::Stuck(k) => worth::sticks(k),
     }
 }
 

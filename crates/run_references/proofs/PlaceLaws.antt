@@ -2,13 +2,14 @@
 use mathlib.Core.Bool.{Bool, true, false, cond}
 use mathlib.Core.List.{List}
 use mathlib.Core.Path.{_≡_, refl, sym, ap, _∙_}
-use Prim.Native.Nat.{ℕ, _+_, _*_, _≤_, _<_}
+use Prim.Native.Nat.{ℕ, _+_, _*_, _/_, _≤_, _<_}
 use native.Mathlib.Omega.{arith}
 use borrow.Author.Tests.{le-ltb, lt-ltb, ltb-false, ltb-true}
 use lib.Dec.{eqb, leb, ltb}
 use lib.ListN.{length}
 use Rattle.language.specs.Description as D
 use Rattle.language.specs.Description.{Description, facilityAt, fromFirst, inBounds, isComputed, wordLength}
+use Rattle.language.specs.Encode.{facilitySize}
 use Rattle.language.specs.Layout.{placeIn, wordBytes}
 use Rattle.language.specs.Meaning as M
 use Rattle.language.specs.Meaning.{Answer, Located, Place, located, placeOf, readAt, upToLongest}
@@ -18,11 +19,17 @@ use Rattle.language.specs.declared.stops.Stop.the-variants.{OutsideBounds}
 use Rattle.language.specs.Tree.{Name}
 use Rattle.language.specs.Value as L
 use Rattle.language.specs.Ceilings.{longest}
-use Rattle.image_sections.specs.Declarations.{FacilityRead, facilityMeant}
+use Rattle.image_sections.specs.Declarations.{FacilityRead, facilityMeant, shortMeant}
 use Rattle.image_sections.specs.declared.facilities.FacilityRecord.{FacilityRecord}
 use Rattle.store_layout.specs.InBytes.{InBytes, bytes, loadBytes, placeOfWord}
 use Rattle.store_layout.specs.Parts.{loaded}
+use Rattle.store_geometry.specs.Subscripts.{subscriptsMeant}
+use Rattle.store_geometry.specs.declared.subscripts.Subscripts.{Subscripts}
 use Rattle.run_references.specs.Described.{Describes}
+use Rattle.run_references.specs.Places.{Worked, bitOf, firstOf, onDistance, refersTo, secondOf}
+use Rattle.run_references.specs.declared.distances.Sought.{Sought}
+use Rattle.run_references.specs.declared.places.Distance.{Distance}
+use Rattle.run_references.specs.declared.places.Distance.the-variants as DV
 use Rattle.language.specs.Tests.{both}
 
 -- ---- When a reference has a place.
@@ -40,6 +47,15 @@ module _ (d : Description) (ev : ℕ → Answer) (r : Reference) where
     pub right-subscripts : rightCount (f .dimensions) (r .subscripts) ≡ true → placeOf d ev r ≡ located ev (r .facility) f (r .subscripts)
     unfolding placeOf
     right-subscripts q = rw (lt-ltb (r .facility) (length (d .facilities)) l, e, q)
+
+-- ---- One subscript after another.
+
+-- A bit's subscript may be worked out beforehand, where there is a word.
+pub bit-after-word : (ev : ℕ → Answer) (f : FacilityRecord) (g : ℕ) (d e : Distance) → Worked ev (bitOf f g d) e → (on : ℕ → ℕ → Located)
+    → onDistance d (λ w. onDistance e (on w)) ≡ onDistance d (λ w. M.subscript (ev g) (shortMeant (f .bits)) (on w))
+bit-after-word ev f g (DV.At w) e h on = h (on w)
+bit-after-word ev f g (DV.Stops n) e h on = refl
+bit-after-word ev f g (DV.Stuck s) e h on = refl
 
 -- ---- Whose place it is.
 
@@ -113,6 +129,22 @@ module _ {d : Description} {F E : List ℕ} (h : Describes d F E) (n : ℕ) (f :
 
   pub facility-known : facilityAt d n ≡ facilityMeant nameOf f
   facility-known = h .facilities n .is ∙ sym (g .meaning nameOf)
+
+  module _ (ev : ℕ → Answer) (s : Subscripts) where
+    pub none-read : length F / facilitySize ≤ n → placeOf d ev (refersTo n s) ≡ Located.stuck M.noFacility
+    none-read l = no-facility d ev (refersTo n s) (rw (h .count) l)
+
+    module _ (l : n < length F / facilitySize) where
+      pub miscounted : rightCount (f .dimensions) (subscriptsMeant s) ≡ false → placeOf d ev (refersTo n s) ≡ Located.stuck M.wrongSubscripts
+      miscounted q = wrong-subscripts d ev (refersTo n s) (rw (h .count) l) (facilityMeant nameOf f) facility-known q
+
+      -- Its place follows from the distances of the subscripts sought.
+      pub place-worked : rightCount (f .dimensions) (subscriptsMeant s) ≡ true
+          → (i j : Sought) (a b : Distance) → i ≡ firstOf f s → Worked ev i a → j ≡ secondOf f s a → Worked ev j b
+          → (m : Located) → (Worked ev (firstOf f s) a → Worked ev (secondOf f s a) b → m ≡ located ev n (facilityMeant nameOf f) (subscriptsMeant s))
+          → placeOf d ev (refersTo n s) ≡ m
+      place-worked q i j a b u v w z m y =
+          right-subscripts d ev (refersTo n s) (rw (h .count) l) (facilityMeant nameOf f) facility-known q ∙ sym (y (rw u at v) (rw w at z))
 
   module _ (l : n < length (d .facilities)) (k : isComputed (facilityMeant nameOf f .kind) ≡ false) where
     pub stored-place : f .place ≡ placeIn (d .facilities) n

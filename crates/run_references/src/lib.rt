@@ -2,6 +2,7 @@
 pub mod arms;
 pub mod bounds;
 pub mod constants;
+pub mod distances;
 pub mod places;
 pub mod reading;
 pub mod references;

@@ -125,6 +125,17 @@ pub fn word(facility: u8, d: Distance, count: u64) -> Located
     }
 }
 
+// One bit of a computed word; how far it is counts where there is such a word.
+pub fn bit_of_word(facility: u8, d: Distance, e: Distance) -> Located
+    ensures { λ r. ⌜ locatedMeant r ≡ onDistance d (λ w. onDistance e (λ b. M.upToLongest (M.place facility w b 1))) ⌝ }
+{
+    match d {
+        Distance::At(w) => bit(facility, w, e),
+        Distance::Stops(n) => Located::Stops(n),
+        Distance::Stuck(s) => Located::Stuck(s),
+    }
+}
+
 // A constant part of a computed word.
 pub fn part_of_word(facility: u8, d: Distance, b: ShortBounds, x: Bounds) -> Located
     ensures { λ r. ⌜ locatedMeant r ≡ onDistance d (λ w. M.constantPart (shortMeant b) (boundsMeant x) (λ from count. M.upToLongest (M.place facility w from count))) ⌝ }

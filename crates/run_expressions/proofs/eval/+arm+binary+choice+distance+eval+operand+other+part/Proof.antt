@@ -1,66 +1,56 @@
 use mathlib.Core.List.{List}
 use mathlib.Core.Option.{some}
 use mathlib.Core.Path.{_≡_, refl, sym, ap, _∙_}
-use borrow.Author.Tests.{eq-eqb, ne-eqb, not-false, not-true}
-use lib.ListN.{length}
+use borrow.Author.Tests.{not-false, not-true}
 use Rattle.language.specs.Description as D
 use Rattle.language.specs.Description.{constantValue}
 use Rattle.language.specs.Meaning as M
-use Rattle.language.specs.Meaning.{armBack, evalBelow, evalNode}
+use Rattle.language.specs.Meaning.{armBack, evalBelow, evalNode, placeOf}
 use Rattle.language.specs.Value as L
 use Rattle.image_records.specs.Nodes.{constantNumber, held}
-use Rattle.image_sections.specs.Declarations.{FacilityRead, facilityMeant}
+use Rattle.image_sections.specs.Declarations.{facilityMeant}
 use Rattle.store_layout.specs.InBytes.{bytes, loadBytes}
+use Rattle.run_references.specs.Described.{ForEach}
 use Rattle.run_references.specs.Places.{foundMeant, locatedMeant, placeMeant, refersTo}
 use Rattle.image_records.specs.References.{referenceMeant}
-use Rattle.run_expressions.specs.Sides.{sideMeant}
 use Rattle.run_references.proofs.EvalLaws.{constant-worth, eval-before, eval-node, eval-not-before, held-fitting, node-read, other-worth}
-use Rattle.run_references.proofs.PlaceLaws.{computed-read, facility-known, nameOf, no-facility, place-of-facility, place-there, right-subscripts, stored-load, stored-read, wrong-subscripts}
+use Rattle.run_references.proofs.PlaceLaws.{computed-read, facility-known, miscounted, nameOf, none-read, place-of-facility, place-there, place-worked, stored-load, stored-read}
 use Prim.Native.Nat.{ℕ, _+_, _*_, _<_}
 use borrow.Author.Needs.{needs}
 use borrow.Fn.Kinds.{In}
 use borrow.Fn.PlainCycle.{Measures, is, falls, and}
 use Rattle.run_expressions.proofs.eval.arm.Reads as arm
 use Rattle.run_expressions.proofs.eval.arm.Kinds as arm-kinds
-use Rattle.run_expressions.proofs.eval.+arm+binary+bit_of_word+choice+eval+located+operand+other+part+place_of.Lts-arm as arm-lts
+use Rattle.run_expressions.proofs.eval.+arm+binary+choice+distance+eval+operand+other+part.Lts-arm as arm-lts
 use Rattle.run_expressions.proofs.eval.binary.Reads as binary
 use Rattle.run_expressions.proofs.eval.binary.Kinds as binary-kinds
-use Rattle.run_expressions.proofs.eval.+arm+binary+bit_of_word+choice+eval+located+operand+other+part+place_of.Lts-binary as binary-lts
-use Rattle.run_expressions.proofs.eval.bit_of_word.Reads as bit-of-word
-use Rattle.run_expressions.proofs.eval.bit_of_word.Kinds as bit-of-word-kinds
-use Rattle.run_expressions.proofs.eval.+arm+binary+bit_of_word+choice+eval+located+operand+other+part+place_of.Lts-bit_of_word as bit-of-word-lts
+use Rattle.run_expressions.proofs.eval.+arm+binary+choice+distance+eval+operand+other+part.Lts-binary as binary-lts
 use Rattle.run_expressions.proofs.eval.choice.Reads as choice
 use Rattle.run_expressions.proofs.eval.choice.Kinds as choice-kinds
-use Rattle.run_expressions.proofs.eval.+arm+binary+bit_of_word+choice+eval+located+operand+other+part+place_of.Lts-choice as choice-lts
+use Rattle.run_expressions.proofs.eval.+arm+binary+choice+distance+eval+operand+other+part.Lts-choice as choice-lts
+use Rattle.run_expressions.proofs.eval.distance.Reads as distance
+use Rattle.run_expressions.proofs.eval.distance.Kinds as distance-kinds
+use Rattle.run_expressions.proofs.eval.+arm+binary+choice+distance+eval+operand+other+part.Lts-distance as distance-lts
 use Rattle.run_expressions.proofs.eval.eval.Reads as eval
 use Rattle.run_expressions.proofs.eval.eval.Kinds as eval-kinds
-use Rattle.run_expressions.proofs.eval.+arm+binary+bit_of_word+choice+eval+located+operand+other+part+place_of.Lts-eval as eval-lts
-use Rattle.run_expressions.proofs.eval.located.Reads as located
-use Rattle.run_expressions.proofs.eval.located.Kinds as located-kinds
-use Rattle.run_expressions.proofs.eval.+arm+binary+bit_of_word+choice+eval+located+operand+other+part+place_of.Lts-located as located-lts
+use Rattle.run_expressions.proofs.eval.+arm+binary+choice+distance+eval+operand+other+part.Lts-eval as eval-lts
 use Rattle.run_expressions.proofs.eval.operand.Reads as operand
 use Rattle.run_expressions.proofs.eval.operand.Kinds as operand-kinds
-use Rattle.run_expressions.proofs.eval.+arm+binary+bit_of_word+choice+eval+located+operand+other+part+place_of.Lts-operand as operand-lts
+use Rattle.run_expressions.proofs.eval.+arm+binary+choice+distance+eval+operand+other+part.Lts-operand as operand-lts
 use Rattle.run_expressions.proofs.eval.other.Reads as other
 use Rattle.run_expressions.proofs.eval.other.Kinds as other-kinds
-use Rattle.run_expressions.proofs.eval.+arm+binary+bit_of_word+choice+eval+located+operand+other+part+place_of.Lts-other as other-lts
+use Rattle.run_expressions.proofs.eval.+arm+binary+choice+distance+eval+operand+other+part.Lts-other as other-lts
 use Rattle.run_expressions.proofs.eval.part.Reads as part
 use Rattle.run_expressions.proofs.eval.part.Kinds as part-kinds
-use Rattle.run_expressions.proofs.eval.+arm+binary+bit_of_word+choice+eval+located+operand+other+part+place_of.Lts-part as part-lts
-use Rattle.run_expressions.proofs.eval.place_of.Reads as place-of
-use Rattle.run_expressions.proofs.eval.place_of.Kinds as place-of-kinds
-use Rattle.run_expressions.proofs.eval.+arm+binary+bit_of_word+choice+eval+located+operand+other+part+place_of.Lts-place_of as place-of-lts
+use Rattle.run_expressions.proofs.eval.+arm+binary+choice+distance+eval+operand+other+part.Lts-part as part-lts
 use Rattle.run_references.proofs.arms.arm_back.Reads as arm-back-reads
 use Rattle.run_references.proofs.arms.arm_number.Reads as arm-number-reads
 use Rattle.run_references.proofs.arms.decides.Reads as decides-reads
-use Rattle.run_references.proofs.bounds.word_length.Reads as word-length-reads
-use Rattle.run_references.proofs.places.bit.Reads as bit-reads
-use Rattle.run_references.proofs.places.constant_part.Reads as constant-part-reads
-use Rattle.run_references.proofs.places.narrow.Reads as narrow-reads
-use Rattle.run_references.proofs.places.part_of_word.Reads as part-of-word-reads
 use Rattle.store_geometry.proofs.subscripts.right_count.Reads as right-count-reads
+use Rattle.run_references.proofs.distances.first.Reads as first-reads
+use Rattle.run_references.proofs.distances.located.Reads as located-reads
+use Rattle.run_references.proofs.distances.second.Reads as second-reads
 use Rattle.run_references.proofs.places.subscript.Reads as subscript-reads
-use Rattle.run_references.proofs.places.word.Reads as word-reads
 use Rattle.run_references.proofs.reading.of_computed.Reads as of-computed-reads
 use Rattle.run_references.proofs.reading.of_stored.Reads as of-stored-reads
 use Rattle.run_references.proofs.references.reference_of.Reads as reference-of-reads
@@ -75,8 +65,8 @@ use Rattle.image_sections.proofs.kinds.is_computed.Reads as is-computed-reads
 use Rattle.run_references.proofs.constants.constant_at.Reads as constant-at-reads
 use Rattle.image_records.proofs.nodes.node_at.Reads as node-at-reads
 use Rattle.value_operators.proofs.lengths.minus.Reads as minus-reads
-use Rattle.run_expressions.proofs.eval.+arm+binary+bit_of_word+choice+eval+located+operand+other+part+place_of.{statement}
-use Rattle.run_expressions.proofs.eval.+arm+binary+bit_of_word+choice+eval+located+operand+other+part+place_of.Tie.{close}
+use Rattle.run_expressions.proofs.eval.+arm+binary+choice+distance+eval+operand+other+part.{statement}
+use Rattle.run_expressions.proofs.eval.+arm+binary+choice+distance+eval+operand+other+part.Tie.{close}
 
 abbrev μ-arm : Measures 3 arm-kinds.ps ℕ
 μ-arm κs a = 8 * (a .1 .1 .1 .0) + 1
@@ -84,17 +74,14 @@ abbrev μ-arm : Measures 3 arm-kinds.ps ℕ
 abbrev μ-binary : Measures 3 binary-kinds.ps ℕ
 μ-binary κs a = 8 * (a .1 .1 .1 .0) + 1
 
-abbrev μ-bit-of-word : Measures 3 bit-of-word-kinds.ps ℕ
-μ-bit-of-word κs a = 8 * (a .1 .1 .1 .0) + 1
-
 abbrev μ-choice : Measures 3 choice-kinds.ps ℕ
 μ-choice κs a = 8 * (a .1 .1 .1 .0) + 2
 
+abbrev μ-distance : Measures 3 distance-kinds.ps ℕ
+μ-distance κs a = 8 * (a .1 .1 .1 .0) + 1
+
 abbrev μ-eval : Measures 3 eval-kinds.ps ℕ
 μ-eval κs a = 8 * (a .1 .1 .1 .0) + 6
-
-abbrev μ-located : Measures 3 located-kinds.ps ℕ
-μ-located κs a = 8 * (a .1 .1 .1 .0) + 2
 
 abbrev μ-operand : Measures 3 operand-kinds.ps ℕ
 μ-operand κs a = 8 * (a .1 .1 .1 .0) + 4
@@ -104,9 +91,6 @@ abbrev μ-other : Measures 3 other-kinds.ps ℕ
 
 abbrev μ-part : Measures 3 part-kinds.ps ℕ
 μ-part κs a = 8 * (a .1 .1 .1 .0)
-
-abbrev μ-place-of : Measures 3 place-of-kinds.ps ℕ
-μ-place-of κs a = 8 * (a .1 .1 .1 .0) + 3
 
 abbrev arm-at : ℕ → In 3 arm-kinds.ps
 arm-at t = and 3 arm-kinds.ps (is 3 arm-kinds.ps μ-arm t) arm.Pre
@@ -120,31 +104,24 @@ binary-at t = and 3 binary-kinds.ps (is 3 binary-kinds.ps μ-binary t) binary.Pr
 abbrev binary-below : ℕ → In 3 binary-kinds.ps
 binary-below t = and 3 binary-kinds.ps (falls 3 binary-kinds.ps _<_ μ-binary t) binary.Pre
 
-abbrev bit-of-word-at : ℕ → In 3 bit-of-word-kinds.ps
-bit-of-word-at t =
-    and 3 bit-of-word-kinds.ps (is 3 bit-of-word-kinds.ps μ-bit-of-word t) bit-of-word.Pre
-
-abbrev bit-of-word-below : ℕ → In 3 bit-of-word-kinds.ps
-bit-of-word-below t =
-    and 3 bit-of-word-kinds.ps (falls 3 bit-of-word-kinds.ps _<_ μ-bit-of-word t) bit-of-word.Pre
-
 abbrev choice-at : ℕ → In 3 choice-kinds.ps
 choice-at t = and 3 choice-kinds.ps (is 3 choice-kinds.ps μ-choice t) choice.Pre
 
 abbrev choice-below : ℕ → In 3 choice-kinds.ps
 choice-below t = and 3 choice-kinds.ps (falls 3 choice-kinds.ps _<_ μ-choice t) choice.Pre
 
+abbrev distance-at : ℕ → In 3 distance-kinds.ps
+distance-at t = and 3 distance-kinds.ps (is 3 distance-kinds.ps μ-distance t) distance.Pre
+
+abbrev distance-below : ℕ → In 3 distance-kinds.ps
+distance-below t =
+    and 3 distance-kinds.ps (falls 3 distance-kinds.ps _<_ μ-distance t) distance.Pre
+
 abbrev eval-at : ℕ → In 3 eval-kinds.ps
 eval-at t = and 3 eval-kinds.ps (is 3 eval-kinds.ps μ-eval t) eval.Pre
 
 abbrev eval-below : ℕ → In 3 eval-kinds.ps
 eval-below t = and 3 eval-kinds.ps (falls 3 eval-kinds.ps _<_ μ-eval t) eval.Pre
-
-abbrev located-at : ℕ → In 3 located-kinds.ps
-located-at t = and 3 located-kinds.ps (is 3 located-kinds.ps μ-located t) located.Pre
-
-abbrev located-below : ℕ → In 3 located-kinds.ps
-located-below t = and 3 located-kinds.ps (falls 3 located-kinds.ps _<_ μ-located t) located.Pre
 
 abbrev operand-at : ℕ → In 3 operand-kinds.ps
 operand-at t = and 3 operand-kinds.ps (is 3 operand-kinds.ps μ-operand t) operand.Pre
@@ -164,42 +141,29 @@ part-at t = and 3 part-kinds.ps (is 3 part-kinds.ps μ-part t) part.Pre
 abbrev part-below : ℕ → In 3 part-kinds.ps
 part-below t = and 3 part-kinds.ps (falls 3 part-kinds.ps _<_ μ-part t) part.Pre
 
-abbrev place-of-at : ℕ → In 3 place-of-kinds.ps
-place-of-at t = and 3 place-of-kinds.ps (is 3 place-of-kinds.ps μ-place-of t) place-of.Pre
-
-abbrev place-of-below : ℕ → In 3 place-of-kinds.ps
-place-of-below t =
-    and 3 place-of-kinds.ps (falls 3 place-of-kinds.ps _<_ μ-place-of t) place-of.Pre
-
 abbrev arm-calls : ℕ → arm-lts.Claims
 arm-calls t = (stops-reads.Asked, stops-reads.Learnt, minus-reads.Asked, minus-reads.Learnt, arm-back-reads.Asked, arm-back-reads.Learnt, part-below t, part.Post, sticks-reads.Asked, sticks-reads.Learnt)
 
 abbrev binary-calls : ℕ → binary-lts.Claims
 binary-calls t = (part-below t, part.Post, binary-reads.Asked, binary-reads.Learnt)
 
-abbrev bit-of-word-calls : ℕ → bit-of-word-lts.Claims
-bit-of-word-calls t = (part-below t, part.Post, subscript-reads.Asked, subscript-reads.Learnt, bit-reads.Asked, bit-reads.Learnt)
-
 abbrev choice-calls : ℕ → choice-lts.Claims
 choice-calls t = (part-below t, part.Post, decides-reads.Asked, decides-reads.Learnt, sticks-reads.Asked, sticks-reads.Learnt, arm-number-reads.Asked, arm-number-reads.Learnt, arm-below t, arm.Post)
+
+abbrev distance-calls : ℕ → distance-lts.Claims
+distance-calls t = (part-below t, part.Post, subscript-reads.Asked, subscript-reads.Learnt)
 
 abbrev eval-calls : ℕ → eval-lts.Claims
 eval-calls t = (node-at-reads.Asked, node-at-reads.Learnt, constant-at-reads.Asked, constant-at-reads.Learnt, is-reads.Asked, is-reads.Learnt, binary-below t, binary.Post, part-below t, part.Post, prefix-reads.Asked, prefix-reads.Learnt, cut-reads.Asked, cut-reads.Learnt, choice-below t, choice.Post, other-below t, other.Post)
 
-abbrev located-calls : ℕ → located-lts.Claims
-located-calls t = (word-length-reads.Asked, word-length-reads.Learnt, narrow-reads.Asked, narrow-reads.Learnt, part-below t, part.Post, subscript-reads.Asked, subscript-reads.Learnt, bit-reads.Asked, bit-reads.Learnt, word-reads.Asked, word-reads.Learnt, constant-part-reads.Asked, constant-part-reads.Learnt, bit-of-word-below t, bit-of-word.Post, part-of-word-reads.Asked, part-of-word-reads.Learnt)
-
 abbrev operand-calls : ℕ → operand-lts.Claims
-operand-calls t = (place-of-below t, place-of.Post, is-computed-reads.Asked, is-computed-reads.Learnt, part-below t, part.Post, of-computed-reads.Asked, of-computed-reads.Learnt, of-stored-reads.Asked, of-stored-reads.Learnt, stops-reads.Asked, stops-reads.Learnt, sticks-reads.Asked, sticks-reads.Learnt)
+operand-calls t = (facility-at-reads.Asked, facility-at-reads.Learnt, sticks-reads.Asked, sticks-reads.Learnt, right-count-reads.Asked, right-count-reads.Learnt, first-reads.Asked, first-reads.Learnt, distance-below t, distance.Post, second-reads.Asked, second-reads.Learnt, located-reads.Asked, located-reads.Learnt, is-computed-reads.Asked, is-computed-reads.Learnt, part-below t, part.Post, of-computed-reads.Asked, of-computed-reads.Learnt, of-stored-reads.Asked, of-stored-reads.Learnt, stops-reads.Asked, stops-reads.Learnt)
 
 abbrev other-calls : ℕ → other-lts.Claims
 other-calls t = (reference-of-reads.Asked, reference-of-reads.Learnt, operand-below t, operand.Post, sticks-reads.Asked, sticks-reads.Learnt)
 
 abbrev part-calls : ℕ → part-lts.Claims
 part-calls t = (eval-below t, eval.Post, sticks-reads.Asked, sticks-reads.Learnt)
-
-abbrev place-of-calls : ℕ → place-of-lts.Claims
-place-of-calls t = (facility-at-reads.Asked, facility-at-reads.Learnt, right-count-reads.Asked, right-count-reads.Learnt, located-below t, located.Post)
 
 arm-enum-known-number : (t : ℕ) → arm-lts.Need-enum-known-number (arm-calls t) (arm-at t) arm.Post
 arm-enum-known-number t c = search needs
@@ -277,36 +241,6 @@ binary-returns-3 : (t : ℕ) → binary-lts.Need-returns-3 (binary-calls t) (bin
 binary-returns-3 t c =
     λ d x h e. rw (← (c .before .before .part .ensures d x h e), c .enum-told3 .given .1)
 
-bit-of-word-enum-known-at : (t : ℕ) → bit-of-word-lts.Need-enum-known-at (bit-of-word-calls t) (bit-of-word-at t) bit-of-word.Post
-bit-of-word-enum-known-at t c = search needs
-
-bit-of-word-part-requires : (t : ℕ) → bit-of-word-lts.Need-part-requires (bit-of-word-calls t) (bit-of-word-at t) bit-of-word.Post
-bit-of-word-part-requires t c κs = search needs
-
-bit-of-word-subscript-requires : (t : ℕ) → bit-of-word-lts.Need-subscript-requires (bit-of-word-calls t) (bit-of-word-at t) bit-of-word.Post
-bit-of-word-subscript-requires t c κs = search needs
-
-bit-of-word-bit-requires : (t : ℕ) → bit-of-word-lts.Need-bit-requires (bit-of-word-calls t) (bit-of-word-at t) bit-of-word.Post
-bit-of-word-bit-requires t c κs = search needs
-
-bit-of-word-enum-known-at-2 : (t : ℕ) → bit-of-word-lts.Need-enum-known-at-2 (bit-of-word-calls t) (bit-of-word-at t) bit-of-word.Post
-bit-of-word-enum-known-at-2 t c = search needs
-
-bit-of-word-enum-known-at-3 : (t : ℕ) → bit-of-word-lts.Need-enum-known-at-3 (bit-of-word-calls t) (bit-of-word-at t) bit-of-word.Post
-bit-of-word-enum-known-at-3 t c = search needs
-
-bit-of-word-returns : (t : ℕ) → bit-of-word-lts.Need-returns (bit-of-word-calls t) (bit-of-word-at t) bit-of-word.Post
-bit-of-word-returns t c =
-    λ d x h e. rw (c .before .before .before .before .at .given .1, ← (c .before .before .part .ensures d x h e)) (c .bit .ensures ∙ c .before .subscript .ensures _)
-
-bit-of-word-returns-2 : (t : ℕ) → bit-of-word-lts.Need-returns-2 (bit-of-word-calls t) (bit-of-word-at t) bit-of-word.Post
-bit-of-word-returns-2 t c =
-    λ d x h e. rw (c .before .at2 .given .1)
-
-bit-of-word-returns-3 : (t : ℕ) → bit-of-word-lts.Need-returns-3 (bit-of-word-calls t) (bit-of-word-at t) bit-of-word.Post
-bit-of-word-returns-3 t c =
-    λ d x h e. rw (c .before .at3 .given .1)
-
 choice-part-requires : (t : ℕ) → choice-lts.Need-part-requires (choice-calls t) (choice-at t) choice.Post
 choice-part-requires t c κs = search needs
 
@@ -346,6 +280,26 @@ choice-returns-3 t c =
 choice-returns-4 : (t : ℕ) → choice-lts.Need-returns-4 (choice-calls t) (choice-at t) choice.Post
 choice-returns-4 t c =
     λ d x h e. rw (← (c .before .before .part .ensures d x h e), c .enum-told3 .given .1)
+
+distance-enum-known-s : (t : ℕ) → distance-lts.Need-enum-known-s (distance-calls t) (distance-at t) distance.Post
+distance-enum-known-s t c = search needs
+
+distance-part-requires : (t : ℕ) → distance-lts.Need-part-requires (distance-calls t) (distance-at t) distance.Post
+distance-part-requires t c κs = search needs
+
+distance-subscript-requires : (t : ℕ) → distance-lts.Need-subscript-requires (distance-calls t) (distance-at t) distance.Post
+distance-subscript-requires t c κs = search needs
+
+distance-enum-told : (t : ℕ) → distance-lts.Need-enum-told (distance-calls t) (distance-at t) distance.Post
+distance-enum-told t c = search needs
+
+distance-returns : (t : ℕ) → distance-lts.Need-returns (distance-calls t) (distance-at t) distance.Post
+distance-returns t c =
+    λ d x h e. rw (c .before .before .before .s .given .1, ← (c .before .part .ensures d x h e)) (c .subscript .ensures)
+
+distance-returns-2 : (t : ℕ) → distance-lts.Need-returns-2 (distance-calls t) (distance-at t) distance.Post
+distance-returns-2 t c =
+    λ d x h e. rw (c .enum-told .given .1) tt
 
 eval-node-at-requires : (t : ℕ) → eval-lts.Need-node-at-requires (eval-calls t) (eval-at t) eval.Post
 eval-node-at-requires t c κs = search needs
@@ -437,128 +391,81 @@ eval-returns-6 t c =
     let v = constantNumber (a .n) (a .expressions .now) in
     c .other .ensures d x h e ∙ (sym (other-worth (bytes d) d x v (evalBelow (bytes d) d x (a .n)) (c .before .before .node-at .result) (c .before .match .keys6)) ∙ sym (eval-node (bytes d) d x (a .n) _ (node-read d (a .expressions .now) (a .n) (h .nodes) {r = c .before .before .node-at .result} (c .before .before .node-at .result) (c .before .before .node-at .ensures) refl)))
 
-located-enum-told : (t : ℕ) → located-lts.Need-enum-told (located-calls t) (located-at t) located.Post
-located-enum-told t c = search needs
+-- The place found by the subscripts' distances is the reference's.
+operand-place : (t : ℕ) (c : operand-lts.After-located (operand-calls t) (operand-at t) operand.Post)
+    → let a = c .before .before .before .before .before .before .before .before .before .before .before .before .args in
+    ForEach (a .section .now) (a .expressions .now) (a .store .now) (λ d x. placeOf d (evalBelow (bytes d) d x (a .n)) (refersTo (a .number) (a .s)) ≡ locatedMeant (c .located .result))
+operand-place t c =
+    λ d x h e.
+    let a = c .before .before .before .before .before .before .before .before .before .before .before .before .args in
+    let f = c .before .before .before .before .before .before .before .before .facility-at in
+    let ev = evalBelow (bytes d) d x (a .n) in
+    place-worked h (a .number) (f .result) (f .ensures) ev (a .s) (c .before .before .before .before .before .before .before .if1 .left) (sym (c .before .before .before .before .before .before .right-count .ensures) ∙ not-false _ (c .before .before .before .before .before .if2 .left)) _ _ _ _ (c .before .before .before .before .first .ensures) (c .before .before .before .distance .ensures d x h e) (c .before .before .second .ensures) (c .before .distance2 .ensures d x h e) _ (c .located .ensures ev (nameOf h (a .number) (f .result) (f .ensures)))
 
-located-word-length-requires : (t : ℕ) → located-lts.Need-word-length-requires (located-calls t) (located-at t) located.Post
-located-word-length-requires t c κs = search needs
+operand-facility-at-requires : (t : ℕ) → operand-lts.Need-facility-at-requires (operand-calls t) (operand-at t) operand.Post
+operand-facility-at-requires t c κs = search needs
 
-located-cast-narrow : (t : ℕ) → located-lts.Need-cast-narrow (located-calls t) (located-at t) located.Post
-located-cast-narrow t c = search needs
+operand-sticks-requires : (t : ℕ) → operand-lts.Need-sticks-requires (operand-calls t) (operand-at t) operand.Post
+operand-sticks-requires t c κs = search needs
 
-located-narrow-requires : (t : ℕ) → located-lts.Need-narrow-requires (located-calls t) (located-at t) located.Post
-located-narrow-requires t c κs = search needs
+operand-returns : (t : ℕ) → operand-lts.Need-returns (operand-calls t) (operand-at t) operand.Post
+operand-returns t c =
+    λ d x h e.
+    let a = c .before .before .before .before .before .before .args in
+    let f = c .before .before .facility-at in
+    rw (none-read h (a .number) (f .result) (f .ensures) (evalBelow (bytes d) d x (a .n)) (a .s) (c .before .if1 .taken)) (c .sticks .ensures)
 
-located-enum-known-s : (t : ℕ) → located-lts.Need-enum-known-s (located-calls t) (located-at t) located.Post
-located-enum-known-s t c = search needs
+operand-right-count-requires : (t : ℕ) → operand-lts.Need-right-count-requires (operand-calls t) (operand-at t) operand.Post
+operand-right-count-requires t c κs = search needs
 
-located-part-requires : (t : ℕ) → located-lts.Need-part-requires (located-calls t) (located-at t) located.Post
-located-part-requires t c κs = search needs
+operand-sticks-requires-2 : (t : ℕ) → operand-lts.Need-sticks-requires-2 (operand-calls t) (operand-at t) operand.Post
+operand-sticks-requires-2 t c κs = search needs
 
-located-subscript-requires : (t : ℕ) → located-lts.Need-subscript-requires (located-calls t) (located-at t) located.Post
-located-subscript-requires t c κs = search needs
+operand-returns-2 : (t : ℕ) → operand-lts.Need-returns-2 (operand-calls t) (operand-at t) operand.Post
+operand-returns-2 t c =
+    λ d x h e.
+    let a = c .before .before .before .before .before .before .before .before .args in
+    let f = c .before .before .before .before .facility-at in
+    rw (miscounted h (a .number) (f .result) (f .ensures) (evalBelow (bytes d) d x (a .n)) (a .s) (c .before .before .before .if1 .left) (sym (c .before .before .right-count .ensures) ∙ not-true _ (c .before .if2 .taken))) (c .sticks2 .ensures)
 
-located-bit-requires : (t : ℕ) → located-lts.Need-bit-requires (located-calls t) (located-at t) located.Post
-located-bit-requires t c κs = search needs
+operand-first-requires : (t : ℕ) → operand-lts.Need-first-requires (operand-calls t) (operand-at t) operand.Post
+operand-first-requires t c κs = search needs
 
-located-returns : (t : ℕ) → located-lts.Need-returns (located-calls t) (located-at t) located.Post
-unfolding M.located
-located-returns t c =
-    λ d x h e name. rw (c .before .before .before .before .before .before .s .given .1, eq-eqb _ _ (c .before .before .if1 .taken), ← (c .before .before .before .before .part .ensures d x h e)) (c .bit .ensures ∙ c .before .subscript .ensures _)
+operand-distance-requires : (t : ℕ) → operand-lts.Need-distance-requires (operand-calls t) (operand-at t) operand.Post
+operand-distance-requires t c κs = search needs
 
-located-subscript-requires-2 : (t : ℕ) → located-lts.Need-subscript-requires-2 (located-calls t) (located-at t) located.Post
-located-subscript-requires-2 t c κs = search needs
+operand-second-requires : (t : ℕ) → operand-lts.Need-second-requires (operand-calls t) (operand-at t) operand.Post
+operand-second-requires t c κs = search needs
 
-located-word-length-requires-2 : (t : ℕ) → located-lts.Need-word-length-requires-2 (located-calls t) (located-at t) located.Post
-located-word-length-requires-2 t c κs = search needs
+operand-distance-requires-2 : (t : ℕ) → operand-lts.Need-distance-requires-2 (operand-calls t) (operand-at t) operand.Post
+operand-distance-requires-2 t c κs = search needs
 
-located-cast-word : (t : ℕ) → located-lts.Need-cast-word (located-calls t) (located-at t) located.Post
-located-cast-word t c = search needs
+operand-located-requires : (t : ℕ) → operand-lts.Need-located-requires (operand-calls t) (operand-at t) operand.Post
+operand-located-requires t c κs = search needs
 
-located-word-requires : (t : ℕ) → located-lts.Need-word-requires (located-calls t) (located-at t) located.Post
-located-word-requires t c κs = search needs
-
-located-enum-known-s-2 : (t : ℕ) → located-lts.Need-enum-known-s-2 (located-calls t) (located-at t) located.Post
-located-enum-known-s-2 t c = search needs
-
-located-constant-part-requires : (t : ℕ) → located-lts.Need-constant-part-requires (located-calls t) (located-at t) located.Post
-located-constant-part-requires t c κs = search needs
-
-located-enum-known-s-3 : (t : ℕ) → located-lts.Need-enum-known-s-3 (located-calls t) (located-at t) located.Post
-located-enum-known-s-3 t c = search needs
-
-located-part-requires-2 : (t : ℕ) → located-lts.Need-part-requires-2 (located-calls t) (located-at t) located.Post
-located-part-requires-2 t c κs = search needs
-
-located-subscript-requires-3 : (t : ℕ) → located-lts.Need-subscript-requires-3 (located-calls t) (located-at t) located.Post
-located-subscript-requires-3 t c κs = search needs
-
-located-bit-of-word-requires : (t : ℕ) → located-lts.Need-bit-of-word-requires (located-calls t) (located-at t) located.Post
-located-bit-of-word-requires t c κs = search needs
-
-located-enum-known-s-4 : (t : ℕ) → located-lts.Need-enum-known-s-4 (located-calls t) (located-at t) located.Post
-located-enum-known-s-4 t c = search needs
-
-located-part-requires-3 : (t : ℕ) → located-lts.Need-part-requires-3 (located-calls t) (located-at t) located.Post
-located-part-requires-3 t c κs = search needs
-
-located-subscript-requires-4 : (t : ℕ) → located-lts.Need-subscript-requires-4 (located-calls t) (located-at t) located.Post
-located-subscript-requires-4 t c κs = search needs
-
-located-part-of-word-requires : (t : ℕ) → located-lts.Need-part-of-word-requires (located-calls t) (located-at t) located.Post
-located-part-of-word-requires t c κs = search needs
-
-located-returns-2 : (t : ℕ) → located-lts.Need-returns-2 (located-calls t) (located-at t) located.Post
-unfolding M.located
-located-returns-2 t c =
-    λ d x h e name. rw (c .before .before .enum-told .given .1, ← (c .before .word-length .ensures .1 name)) (c .narrow .ensures)
-
-located-returns-3 : (t : ℕ) → located-lts.Need-returns-3 (located-calls t) (located-at t) located.Post
-unfolding M.located
-located-returns-3 t c =
-    λ d x h e name. rw (c .before .before .before .before .before .before .before .s .given .1, ne-eqb _ _ (c .before .before .before .if1 .left), ← (c .before .before .before .before .before .part .ensures d x h e), ← (c .before .word-length2 .ensures .1 name)) (c .word .ensures ∙ c .before .before .subscript2 .ensures _)
-
-located-returns-4 : (t : ℕ) → located-lts.Need-returns-4 (located-calls t) (located-at t) located.Post
-unfolding M.located
-located-returns-4 t c =
-    λ d x h e name. rw (c .before .before .s2 .given .1) (c .constant-part .ensures)
-
-located-returns-5 : (t : ℕ) → located-lts.Need-returns-5 (located-calls t) (located-at t) located.Post
-unfolding M.located
-located-returns-5 t c =
-    λ d x h e name. rw (c .before .before .before .before .s3 .given .1, ← (c .before .before .part2 .ensures d x h e)) (c .bit-of-word .ensures d x h e ∙ c .before .subscript3 .ensures _)
-
-located-returns-6 : (t : ℕ) → located-lts.Need-returns-6 (located-calls t) (located-at t) located.Post
-unfolding M.located
-located-returns-6 t c =
-    λ d x h e name. rw (c .before .before .before .before .s4 .given .1, ← (c .before .before .part3 .ensures d x h e)) (c .part-of-word .ensures ∙ c .before .subscript4 .ensures _)
-
-operand-place-of-requires : (t : ℕ) → operand-lts.Need-place-of-requires (operand-calls t) (operand-at t) operand.Post
-operand-place-of-requires t c κs = search needs
-
-operand-enum-known-f : (t : ℕ) → operand-lts.Need-enum-known-f (operand-calls t) (operand-at t) operand.Post
-operand-enum-known-f t c = search needs
+operand-enum-known-p : (t : ℕ) → operand-lts.Need-enum-known-p (operand-calls t) (operand-at t) operand.Post
+operand-enum-known-p t c = search needs
 
 operand-is-computed-requires : (t : ℕ) → operand-lts.Need-is-computed-requires (operand-calls t) (operand-at t) operand.Post
 operand-is-computed-requires t c κs = search needs
 
 operand-part-requires : (t : ℕ) → operand-lts.Need-part-requires (operand-calls t) (operand-at t) operand.Post
-operand-part-requires t c κs = search needs
+operand-part-requires t c κs = let m = c .before .before .before .before .before .before .before .before .before .before .before .before .before .before .before .before .before .pre .0 in search needs
 
 operand-of-computed-requires : (t : ℕ) → operand-lts.Need-of-computed-requires (operand-calls t) (operand-at t) operand.Post
 operand-of-computed-requires t c κs = search needs
 
-operand-returns : (t : ℕ) → operand-lts.Need-returns (operand-calls t) (operand-at t) operand.Post
-operand-returns t c =
+operand-returns-3 : (t : ℕ) → operand-lts.Need-returns-3 (operand-calls t) (operand-at t) operand.Post
+operand-returns-3 t c =
     λ d x h e.
-    let a = c .before .before .before .before .before .before .before .before .before .before .before .args in
-    let f = c .before .before .before .before .before .f .given .0 .0 in
-    let g : FacilityRead (a .section .now) (a .number) f = rw (c .before .before .before .before .before .f .given .1) at (c .before .before .before .before .before .before .before .place-of .ensures .0) in
+    let a = c .before .before .before .before .before .before .before .before .before .before .before .before .before .before .before .before .before .before .before .args in
+    let f = c .before .before .before .before .before .before .before .before .before .before .before .before .before .before .before .facility-at .result in
+    let g = c .before .before .before .before .before .before .before .before .before .before .before .before .before .before .before .facility-at .ensures in
     let name = nameOf h (a .number) f g in
-    let p = placeMeant (c .before .before .before .before .before .f .given .0 .1 .0) in
+    let p = placeMeant (c .before .before .before .before .before .p .given .0 .0) in
     let ev = evalBelow (bytes d) d x (a .n) in
-    let q = sym (c .before .before .before .before .before .before .before .place-of .ensures .1 d x h e) ∙ ap sideMeant (c .before .before .before .before .before .f .given .1) in
-    let z = sym (c .before .before .before .is-computed .ensures) ∙ c .before .before .if1 .taken in
+    let q = operand-place t (c .before .before .before .before .before .before .before) d x h e ∙ ap locatedMeant (c .before .before .before .before .before .p .given .1) in
+    let z = sym (c .before .before .before .is-computed .ensures) ∙ c .before .before .if3 .taken in
     rw (facility-known h (a .number) f g, q)
     (c .of-computed .ensures d x name ∙ (ap (λ (w : M.Answer). M.after w (M.partOfValue (bytes d) d x (facilityMeant name f) p)) (c .before .part .ensures d x h e) ∙ sym (computed-read d x ev name f p z)))
 
@@ -574,34 +481,32 @@ operand-stops-requires t c κs = search needs
 operand-enum-known-k-2 : (t : ℕ) → operand-lts.Need-enum-known-k-2 (operand-calls t) (operand-at t) operand.Post
 operand-enum-known-k-2 t c = search needs
 
-operand-sticks-requires : (t : ℕ) → operand-lts.Need-sticks-requires (operand-calls t) (operand-at t) operand.Post
-operand-sticks-requires t c κs = search needs
-
-operand-returns-2 : (t : ℕ) → operand-lts.Need-returns-2 (operand-calls t) (operand-at t) operand.Post
-operand-returns-2 t c =
-    λ d x h e.
-    let a = c .before .before .before .before .before .before .before .before .before .before .args in
-    let f = c .before .before .before .before .f .given .0 .0 in
-    let g : FacilityRead (a .section .now) (a .number) f = rw (c .before .before .before .before .f .given .1) at (c .before .before .before .before .before .before .place-of .ensures .0) in
-    let name = nameOf h (a .number) f g in
-    let p = placeMeant (c .before .before .before .before .f .given .0 .1 .0) in
-    let ev = evalBelow (bytes d) d x (a .n) in
-    let r = refersTo (a .number) (a .s) in
-    let q = sym (c .before .before .before .before .before .before .place-of .ensures .1 d x h e) ∙ ap sideMeant (c .before .before .before .before .f .given .1) in
-    let z = sym (c .before .before .is-computed .ensures) ∙ c .before .if1 .left in
-    let load : ℕ → M.Answer = λ m. M.Answer.is (L.value (p .count) m) in
-    rw (facility-known h (a .number) f g, q)
-    (c .of-stored .ensures name ∙ (ap load (stored-load h (a .number) f g (place-there d ev r p q) z (a .store .now) (p .word) (p .from) (p .count) ∙ (ap (λ (k : ℕ). loadBytes d (a .store .now) (M.place k (p .word) (p .from) (p .count))) (sym (place-of-facility d ev r p q)) ∙ ap (λ (B : List ℕ). loadBytes d B p) (sym e))) ∙ sym (stored-read d x ev name f p z)))
-
-operand-returns-3 : (t : ℕ) → operand-lts.Need-returns-3 (operand-calls t) (operand-at t) operand.Post
-operand-returns-3 t c =
-    λ d x h e.
-    rw (sym (c .before .before .before .before .place-of .ensures .1 d x h e) ∙ ap sideMeant (c .before .before .k .given .1)) (c .stops .ensures)
+operand-sticks-requires-3 : (t : ℕ) → operand-lts.Need-sticks-requires-3 (operand-calls t) (operand-at t) operand.Post
+operand-sticks-requires-3 t c κs = search needs
 
 operand-returns-4 : (t : ℕ) → operand-lts.Need-returns-4 (operand-calls t) (operand-at t) operand.Post
 operand-returns-4 t c =
     λ d x h e.
-    rw (sym (c .before .before .before .before .place-of .ensures .1 d x h e) ∙ ap sideMeant (c .before .before .k2 .given .1)) (c .sticks .ensures)
+    let a = c .before .before .before .before .before .before .before .before .before .before .before .before .before .before .before .before .before .before .args in
+    let f = c .before .before .before .before .before .before .before .before .before .before .before .before .before .before .facility-at .result in
+    let g = c .before .before .before .before .before .before .before .before .before .before .before .before .before .before .facility-at .ensures in
+    let name = nameOf h (a .number) f g in
+    let p = placeMeant (c .before .before .before .before .p .given .0 .0) in
+    let ev = evalBelow (bytes d) d x (a .n) in
+    let r = refersTo (a .number) (a .s) in
+    let q = operand-place t (c .before .before .before .before .before .before) d x h e ∙ ap locatedMeant (c .before .before .before .before .p .given .1) in
+    let z = sym (c .before .before .is-computed .ensures) ∙ c .before .if3 .left in
+    let load : ℕ → M.Answer = λ m. M.Answer.is (L.value (p .count) m) in
+    rw (facility-known h (a .number) f g, q)
+    (c .of-stored .ensures name ∙ (ap load (stored-load h (a .number) f g (place-there d ev r p q) z (a .store .now) (p .word) (p .from) (p .count) ∙ (ap (λ (k : ℕ). loadBytes d (a .store .now) (M.place k (p .word) (p .from) (p .count))) (sym (place-of-facility d ev r p q)) ∙ ap (λ (B : List ℕ). loadBytes d B p) (sym e))) ∙ sym (stored-read d x ev name f p z)))
+
+operand-returns-5 : (t : ℕ) → operand-lts.Need-returns-5 (operand-calls t) (operand-at t) operand.Post
+operand-returns-5 t c =
+    λ d x h e. rw (operand-place t (c .before .before .before .before) d x h e ∙ ap locatedMeant (c .before .before .k .given .1)) (c .stops .ensures)
+
+operand-returns-6 : (t : ℕ) → operand-lts.Need-returns-6 (operand-calls t) (operand-at t) operand.Post
+operand-returns-6 t c =
+    λ d x h e. rw (operand-place t (c .before .before .before .before) d x h e ∙ ap locatedMeant (c .before .before .k2 .given .1)) (c .sticks3 .ensures)
 
 other-reference-of-requires : (t : ℕ) → other-lts.Need-reference-of-requires (other-calls t) (other-at t) other.Post
 other-reference-of-requires t c κs = search needs
@@ -640,83 +545,9 @@ part-returns-2 : (t : ℕ) → part-lts.Need-returns-2 (part-calls t) (part-at t
 part-returns-2 t c =
     λ d x h e. c .sticks .ensures ∙ sym (eval-not-before (bytes d) d x _ _ (c .before .if1 .left))
 
-place-of-facility-at-requires : (t : ℕ) → place-of-lts.Need-facility-at-requires (place-of-calls t) (place-of-at t) place-of.Post
-place-of-facility-at-requires t c κs = search needs
-
-place-of-returns : (t : ℕ) → place-of-lts.Need-returns (place-of-calls t) (place-of-at t) place-of.Post
-place-of-returns t c =
-    (tt, λ d x h e. sym (no-facility d (evalBelow (bytes d) d x (c .before .before .before .before .before .args .n)) (refersTo (c .before .before .before .before .before .args .number) (c .before .before .before .before .before .args .s)) (rw (h .count) (c .if1 .taken))))
-
-place-of-right-count-requires : (t : ℕ) → place-of-lts.Need-right-count-requires (place-of-calls t) (place-of-at t) place-of.Post
-place-of-right-count-requires t c κs = search needs
-
-place-of-returns-2 : (t : ℕ) → place-of-lts.Need-returns-2 (place-of-calls t) (place-of-at t) place-of.Post
-place-of-returns-2 t c = (
-  tt,
-  λ d x h e.
-      let a = c .before .before .before .before .before .before .before .args in
-      let g = c .before .before .before .facility-at .ensures in
-      let l : a .number < length (d .facilities) = rw (h .count) (c .before .before .if1 .left) in
-      sym (wrong-subscripts d (evalBelow (bytes d) d x (a .n)) (refersTo (a .number) (a .s)) l _ (facility-known h (a .number) (c .before .before .before .facility-at .result) g) (sym (c .before .right-count .ensures) ∙ not-true _ (c .if2 .taken))),
-)
-
-place-of-located-requires : (t : ℕ) → place-of-lts.Need-located-requires (place-of-calls t) (place-of-at t) place-of.Post
-place-of-located-requires t c κs = search needs
-
-place-of-enum-known-p : (t : ℕ) → place-of-lts.Need-enum-known-p (place-of-calls t) (place-of-at t) place-of.Post
-place-of-enum-known-p t c = search needs
-
-place-of-enum-known-k : (t : ℕ) → place-of-lts.Need-enum-known-k (place-of-calls t) (place-of-at t) place-of.Post
-place-of-enum-known-k t c = search needs
-
-place-of-enum-known-k-2 : (t : ℕ) → place-of-lts.Need-enum-known-k-2 (place-of-calls t) (place-of-at t) place-of.Post
-place-of-enum-known-k-2 t c = search needs
-
-place-of-returns-3 : (t : ℕ) → place-of-lts.Need-returns-3 (place-of-calls t) (place-of-at t) place-of.Post
-place-of-returns-3 t c = (
-  c .before .before .before .before .before .before .before .facility-at .ensures,
-  λ d x h e.
-      let a = c .before .before .before .before .before .before .before .before .before .before .before .args in
-      let g = c .before .before .before .before .before .before .before .facility-at .ensures in
-      let l : a .number < length (d .facilities) = rw (h .count) (c .before .before .before .before .before .before .if1 .left) in
-      ap locatedMeant (sym (c .before .p .given .1)) ∙ (c .before .before .before .located .ensures d x h e (nameOf h (a .number) (c .before .before .before .before .before .before .before .facility-at .result) g) ∙ sym (right-subscripts d (evalBelow (bytes d) d x (a .n)) (refersTo (a .number) (a .s)) l _ (facility-known h (a .number) (c .before .before .before .before .before .before .before .facility-at .result) g) (sym (c .before .before .before .before .before .right-count .ensures) ∙ not-false _ (c .before .before .before .before .if2 .left)))),
-)
-
-place-of-returns-4 : (t : ℕ) → place-of-lts.Need-returns-4 (place-of-calls t) (place-of-at t) place-of.Post
-place-of-returns-4 t c = (
-  tt,
-  λ d x h e.
-      let a = c .before .before .before .before .before .before .before .before .before .before .before .args in
-      let g = c .before .before .before .before .before .before .before .facility-at .ensures in
-      let l : a .number < length (d .facilities) = rw (h .count) (c .before .before .before .before .before .before .if1 .left) in
-      ap locatedMeant (sym (c .before .k .given .1)) ∙ (c .before .before .before .located .ensures d x h e (nameOf h (a .number) (c .before .before .before .before .before .before .before .facility-at .result) g) ∙ sym (right-subscripts d (evalBelow (bytes d) d x (a .n)) (refersTo (a .number) (a .s)) l _ (facility-known h (a .number) (c .before .before .before .before .before .before .before .facility-at .result) g) (sym (c .before .before .before .before .before .right-count .ensures) ∙ not-false _ (c .before .before .before .before .if2 .left)))),
-)
-
-place-of-returns-5 : (t : ℕ) → place-of-lts.Need-returns-5 (place-of-calls t) (place-of-at t) place-of.Post
-place-of-returns-5 t c = (
-  tt,
-  λ d x h e.
-      let a = c .before .before .before .before .before .before .before .before .before .before .before .args in
-      let g = c .before .before .before .before .before .before .before .facility-at .ensures in
-      let l : a .number < length (d .facilities) = rw (h .count) (c .before .before .before .before .before .before .if1 .left) in
-      ap locatedMeant (sym (c .before .k2 .given .1)) ∙ (c .before .before .before .located .ensures d x h e (nameOf h (a .number) (c .before .before .before .before .before .before .before .facility-at .result) g) ∙ sym (right-subscripts d (evalBelow (bytes d) d x (a .n)) (refersTo (a .number) (a .s)) l _ (facility-known h (a .number) (c .before .before .before .before .before .before .before .facility-at .result) g) (sym (c .before .before .before .before .before .right-count .ensures) ∙ not-false _ (c .before .before .before .before .if2 .left)))),
-)
-
-pub +arm+binary+bit-of-word+choice+eval+located+operand+other+part+place-of-spec :
-    {M : Type 1} → statement M
-+arm+binary+bit-of-word+choice+eval+located+operand+other+part+place-of-spec =
-    close
-    μ-arm
-    μ-binary
-    μ-bit-of-word
-    μ-choice
-    μ-eval
-    μ-located
-    μ-operand
-    μ-other
-    μ-part
-    μ-place-of
-    (λ t. arm-lts.spec (arm-calls t)
+pub +arm+binary+choice+distance+eval+operand+other+part-spec : {M : Type 1} → statement M
++arm+binary+choice+distance+eval+operand+other+part-spec =
+    close μ-arm μ-binary μ-choice μ-distance μ-eval μ-operand μ-other μ-part (λ t. arm-lts.spec (arm-calls t)
     (arm-at t)
     arm.Post
     (arm-enum-known-number t)
@@ -732,7 +563,8 @@ pub +arm+binary+bit-of-word+choice+eval+located+operand+other+part+place-of-spec
     (arm-sticks-requires t)
     (arm-returns-2 t)
     (arm-returns-3 t))
-    (λ t. binary-lts.spec (binary-calls t)
+    (λ t. binary-lts.spec
+    (part-below t, part.Post, binary-reads.Asked, binary-reads.Learnt)
     (binary-at t)
     binary.Post
     (binary-part-requires t)
@@ -744,18 +576,6 @@ pub +arm+binary+bit-of-word+choice+eval+located+operand+other+part+place-of-spec
     (binary-returns t)
     (binary-returns-2 t)
     (binary-returns-3 t))
-    (λ t. bit-of-word-lts.spec (bit-of-word-calls t)
-    (bit-of-word-at t)
-    bit-of-word.Post
-    (bit-of-word-enum-known-at t)
-    (bit-of-word-part-requires t)
-    (bit-of-word-subscript-requires t)
-    (bit-of-word-bit-requires t)
-    (bit-of-word-enum-known-at-2 t)
-    (bit-of-word-enum-known-at-3 t)
-    (bit-of-word-returns t)
-    (bit-of-word-returns-2 t)
-    (bit-of-word-returns-3 t))
     (λ t. choice-lts.spec (choice-calls t)
     (choice-at t)
     choice.Post
@@ -771,6 +591,15 @@ pub +arm+binary+bit-of-word+choice+eval+located+operand+other+part+place-of-spec
     (choice-returns-2 t)
     (choice-returns-3 t)
     (choice-returns-4 t))
+    (λ t. distance-lts.spec (distance-calls t)
+    (distance-at t)
+    distance.Post
+    (distance-enum-known-s t)
+    (distance-part-requires t)
+    (distance-subscript-requires t)
+    (distance-enum-told t)
+    (distance-returns t)
+    (distance-returns-2 t))
     (λ t. eval-lts.spec (eval-calls t)
     (eval-at t)
     eval.Post
@@ -795,54 +624,33 @@ pub +arm+binary+bit-of-word+choice+eval+located+operand+other+part+place-of-spec
     (eval-returns-4 t)
     (eval-returns-5 t)
     (eval-returns-6 t))
-    (λ t. located-lts.spec (located-calls t)
-    (located-at t)
-    located.Post
-    (located-enum-told t)
-    (located-word-length-requires t)
-    (located-cast-narrow t)
-    (located-narrow-requires t)
-    (located-enum-known-s t)
-    (located-part-requires t)
-    (located-subscript-requires t)
-    (located-bit-requires t)
-    (located-returns t)
-    (located-subscript-requires-2 t)
-    (located-word-length-requires-2 t)
-    (located-cast-word t)
-    (located-word-requires t)
-    (located-enum-known-s-2 t)
-    (located-constant-part-requires t)
-    (located-enum-known-s-3 t)
-    (located-part-requires-2 t)
-    (located-subscript-requires-3 t)
-    (located-bit-of-word-requires t)
-    (located-enum-known-s-4 t)
-    (located-part-requires-3 t)
-    (located-subscript-requires-4 t)
-    (located-part-of-word-requires t)
-    (located-returns-2 t)
-    (located-returns-3 t)
-    (located-returns-4 t)
-    (located-returns-5 t)
-    (located-returns-6 t))
     (λ t. operand-lts.spec (operand-calls t)
     (operand-at t)
     operand.Post
-    (operand-place-of-requires t)
-    (operand-enum-known-f t)
+    (operand-facility-at-requires t)
+    (operand-sticks-requires t)
+    (operand-returns t)
+    (operand-right-count-requires t)
+    (operand-sticks-requires-2 t)
+    (operand-returns-2 t)
+    (operand-first-requires t)
+    (operand-distance-requires t)
+    (operand-second-requires t)
+    (operand-distance-requires-2 t)
+    (operand-located-requires t)
+    (operand-enum-known-p t)
     (operand-is-computed-requires t)
     (operand-part-requires t)
     (operand-of-computed-requires t)
-    (operand-returns t)
+    (operand-returns-3 t)
     (operand-of-stored-requires t)
     (operand-enum-known-k t)
     (operand-stops-requires t)
     (operand-enum-known-k-2 t)
-    (operand-sticks-requires t)
-    (operand-returns-2 t)
-    (operand-returns-3 t)
-    (operand-returns-4 t))
+    (operand-sticks-requires-3 t)
+    (operand-returns-4 t)
+    (operand-returns-5 t)
+    (operand-returns-6 t))
     (λ t. other-lts.spec (other-calls t)
     (other-at t)
     other.Post
@@ -853,24 +661,11 @@ pub +arm+binary+bit-of-word+choice+eval+located+operand+other+part+place-of-spec
     (other-sticks-requires t)
     (other-returns t)
     (other-returns-2 t))
-    (λ t. part-lts.spec (part-calls t)
+    λ t. part-lts.spec
+    (eval-below t, eval.Post, sticks-reads.Asked, sticks-reads.Learnt)
     (part-at t)
     part.Post
     (part-eval-requires t)
     (part-sticks-requires t)
     (part-returns t)
-    (part-returns-2 t))
-    λ t. place-of-lts.spec (place-of-calls t)
-    (place-of-at t)
-    place-of.Post
-    (place-of-facility-at-requires t)
-    (place-of-returns t)
-    (place-of-right-count-requires t)
-    (place-of-returns-2 t)
-    (place-of-located-requires t)
-    (place-of-enum-known-p t)
-    (place-of-enum-known-k t)
-    (place-of-enum-known-k-2 t)
-    (place-of-returns-3 t)
-    (place-of-returns-4 t)
-    (place-of-returns-5 t)
+    (part-returns-2 t)
