@@ -35,7 +35,8 @@ impl fmt::Display for ReadError {
 impl Error for ReadError {}
 
 impl Image {
-    /// The image of a DDL-P text. What reading writes passes, and is not checked.
+    /// The image of a DDL-P text. What reading accepts passes (accepted-passes
+    /// in docs/THEOREMS.md), and is not checked.
     pub fn read(text: &[u8]) -> Result<Image, ReadError> {
         let mut bytes = vec![0; LARGEST];
         let answer = calls::read(text, &mut bytes);
