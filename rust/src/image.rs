@@ -49,6 +49,7 @@ impl Image {
 
     /// Bytes kept from an earlier reading, if they pass; those past the image are let go.
     pub fn from_bytes(mut bytes: Vec<u8>) -> Result<Image, Refusal> {
+        // A lookup checks the whole image, and what passes has a first facility.
         Refusal::answered(calls::facility_name(&bytes, 0).refusal)?;
         bytes.truncate(records::total(&bytes));
         Ok(Image { bytes })
