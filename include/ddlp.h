@@ -4,8 +4,10 @@
  * returns from every input, of any contents and any lengths. What each call owes is below; docs/CALLS.md,
  * IMAGE.md, STORE.md and RECORD.md say the same to the byte.
  *
- * A lent part of memory is a pointer and a length. The pointer is never NULL; where the length is 0 it may
- * point anywhere else. Parts that a call writes to must not overlap any other part of the same call.
+ * A lent part of memory is a pointer and a length. Where the length is 0 the pointer may point anywhere, but it
+ * is never NULL: the module takes every pointer for a reference, and neither its proofs nor its compiler promise
+ * anything of a reference to nowhere. DDLP_NOTHING is a pointer to lend there. Parts that a call writes to must
+ * not overlap any other part of the same call.
  *
  * Nothing that a buffer held before has a bearing on any answer or byte left, but for what a cycle starts
  * from (store and record) and keeps (the bytes beyond them).
@@ -25,6 +27,20 @@
 #ifdef __cplusplus
 extern "C" {
 #endif
+
+/* ---- To be lent with length 0: DDLP_NOTHING, 0 is a stimulus without inputs, or no trace. */
+
+static inline uint8_t *ddlp_nothing(void)
+{
+    static uint8_t byte;
+    return &byte;
+}
+
+#define DDLP_NOTHING ddlp_nothing()
+
+/* ---- The version of what is declared here: it rises when a call, an answer or a number changes. */
+
+#define DDLP_VERSION 1
 
 /* ---- Sizes in bytes. */
 
@@ -155,9 +171,9 @@ struct ddlp_cycle_answer ddlp_cycle(const uint8_t *image, size_t image_length, u
 
 /* ---- Many cycles after one check of the image.
  *
- * The stimuli of all cycles stand one after the other. The trace is empty (length 0), or takes the store after
- * each completed cycle, one after the other, and has room for all cycles asked for. Cycle numbers have 32 bits,
- * so no run is longer than `cycles` can say.
+ * The stimuli of all cycles stand one after the other. The trace is empty (DDLP_NOTHING, 0), or takes the store
+ * after each completed cycle, one after the other, and has room for all cycles asked for. Cycle numbers have 32
+ * bits, so no run is longer than `cycles` can say.
  * Tests as a cycle, 12 for the trace too, 15 over all stimuli before the first cycle.
  * Store and record are those after the last completed cycle; the trace is zero beyond what was written.
  * Refused: store and record as they were, the trace all zero. Scratch is all zero afterwards.

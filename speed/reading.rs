@@ -11,7 +11,7 @@ const LARGEST_IMAGE: usize = 165_556;
 
 /// 256 registers, 128 operations, 256 states and 2,048 counted words, all with
 /// long names that differ only at their ends.
-fn text_at_the_ceilings() -> String {
+pub fn text_at_the_ceilings() -> String {
     let name = |letter: char, number: usize| format!("{letter}ADDRESS{number:03}");
     let register = |number: usize| name('R', number % 256);
     let registers: Vec<String> = (0..256).map(register).collect();

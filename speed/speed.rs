@@ -6,6 +6,8 @@
 //!     speed FOLDER [MILLISECONDS]     FOLDER holds the descriptions; so long each is measured (default 400)
 //!     speed --read CORPUS [MILLISECONDS]
 //!                                     how long reading takes
+//!     speed --kept FOLDER [MILLISECONDS]
+//!                                     how long the wrapper takes to take up a kept image
 //!     speed --stack FOLDER            the stack that each call needs
 //!     speed --carry FOLDER NAME       1,000 cycles by each on one description, for a tool that counts instructions
 //!     speed --agree SEED TRIES        holds the interpreter in C against the second simulator
@@ -19,6 +21,7 @@ mod module;
 
 mod agree;
 mod engines;
+mod kept;
 mod measure;
 mod reading;
 mod stack;
@@ -29,8 +32,10 @@ use std::process::ExitCode;
 use std::time::Duration;
 use std::{env, fs};
 
-const USAGE: &str =
-    "usage: speed FOLDER [MILLISECONDS], --read CORPUS [MILLISECONDS], --stack FOLDER, --carry FOLDER NAME, or --agree SEED TRIES";
+const USAGE: &str = "usage: speed FOLDER [MILLISECONDS], --read CORPUS [MILLISECONDS], --kept FOLDER [MILLISECONDS], \
+    --stack FOLDER, --carry FOLDER NAME, or --agree SEED TRIES";
+/// So long each is measured, unless it is said.
+const TIME: Duration = Duration::from_millis(400);
 
 /// A description, and what stands in its memory at the beginning.
 struct Description {
@@ -121,26 +126,27 @@ fn table(folder: &str, time: Duration) -> Result<(), String> {
     Ok(())
 }
 
+fn asked(arguments: &[String]) -> Result<(), String> {
+    let number = |word: &String| word.parse::<u64>().map_err(|_| format!("{word} is no number"));
+    let time = |word: &String| number(word).map(Duration::from_millis);
+    let names = DESCRIPTIONS.map(|description| description.name);
+    match arguments {
+        [folder] => table(folder, TIME),
+        [stack, folder] if stack == "--stack" => stack::table(folder, &names),
+        [carry, folder, name] if carry == "--carry" => carried(folder, name),
+        [read, corpus] if read == "--read" => reading::table(corpus, TIME),
+        [read, corpus, word] if read == "--read" => reading::table(corpus, time(word)?),
+        [kept, folder] if kept == "--kept" => kept::table(folder, &names, TIME),
+        [kept, folder, word] if kept == "--kept" => kept::table(folder, &names, time(word)?),
+        [agree, seed, tries] if agree == "--agree" => agree::interpreter_agrees(number(seed)?, number(tries)?),
+        [folder, word] => table(folder, time(word)?),
+        _ => Err(USAGE.to_string()),
+    }
+}
+
 fn main() -> ExitCode {
     let arguments: Vec<String> = env::args().skip(1).collect();
-    let number = |word: &String| word.parse::<u64>().map_err(|_| format!("{word} is no number"));
-    let done = match &arguments[..] {
-        [folder] => table(folder, Duration::from_millis(400)),
-        [stack, folder] if stack == "--stack" => {
-            stack::table(folder, &DESCRIPTIONS.map(|description| description.name))
-        }
-        [carry, folder, name] if carry == "--carry" => carried(folder, name),
-        [read, corpus] if read == "--read" => reading::table(corpus, Duration::from_millis(400)),
-        [read, corpus, time] if read == "--read" => {
-            number(time).and_then(|time| reading::table(corpus, Duration::from_millis(time)))
-        }
-        [agree, seed, tries] if agree == "--agree" => {
-            number(seed).and_then(|seed| agree::interpreter_agrees(seed, number(tries)?))
-        }
-        [folder, time] => number(time).and_then(|time| table(folder, Duration::from_millis(time))),
-        _ => Err(USAGE.to_string()),
-    };
-    match done {
+    match asked(&arguments) {
         Ok(()) => ExitCode::SUCCESS,
         Err(error) => {
             eprintln!("speed: {error}");

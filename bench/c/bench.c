@@ -12,7 +12,7 @@
  *
  * Ends with status 0 where all cycles agree, 1 at the first difference, stop or refusal, 2 for a file at fault.
  *
- *     gcc -I include -o bench bench/c/bench.c target/staticlib/libddlp.a
+ *     gcc -I include -o target/bench-c bench/c/bench.c target/staticlib/libddlp.a
  */
 #include "ddlp.h"
 

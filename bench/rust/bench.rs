@@ -38,7 +38,7 @@ fn item<'a, 'b>(image: &'a Image, item: &'b str) -> Option<(Facility<'a>, u32, &
         None => (word, None),
     };
     let facility = image.facility_named(name)?;
-    let sound = facility.words.is_some() == subscript.is_some();
+    let sound = facility.words().is_some() == subscript.is_some();
     sound.then_some((facility, subscript.unwrap_or(0), bits))
 }
 

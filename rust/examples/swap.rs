@@ -21,7 +21,7 @@ fn main() -> Result<(), Box<dyn Error>> {
         print!("{} {label}", run.cycles());
         for facility in image.facilities() {
             if let Some(word) = run.word(&facility, 0) {
-                print!(" {}={word}", facility.name);
+                print!(" {}={word}", facility.name());
             }
         }
         println!();

@@ -25,23 +25,11 @@ pub struct RunAnswer {
 }
 
 #[repr(C)]
+#[derive(Debug, PartialEq, Eq)]
 pub struct NameAnswer {
     pub refusal: u32,
     pub offset: u32,
     pub length: u32,
-}
-
-#[repr(C)]
-pub struct FacilityAnswer {
-    pub refusal: u32,
-    pub kind: u32,
-    pub dimensions: u32,
-    pub words_first: u32,
-    pub words_last: u32,
-    pub bits_first: u32,
-    pub bits_last: u32,
-    pub stored: u32,
-    pub place: u32,
 }
 
 mod archive {
@@ -86,8 +74,6 @@ mod archive {
             trace_length: usize,
         ) -> RunAnswer;
         pub fn ddlp_facility_name(image: *const u8, length: usize, number: u32) -> NameAnswer;
-        pub fn ddlp_state_name(image: *const u8, length: usize, number: u32) -> NameAnswer;
-        pub fn ddlp_facility(image: *const u8, length: usize, number: u32) -> FacilityAnswer;
     }
 }
 
@@ -150,10 +136,36 @@ pub fn facility_name(image: &[u8], number: u32) -> NameAnswer {
     unsafe { archive::ddlp_facility_name(image.as_ptr(), image.len(), number) }
 }
 
-pub fn state_name(image: &[u8], number: u32) -> NameAnswer {
-    unsafe { archive::ddlp_state_name(image.as_ptr(), image.len(), number) }
-}
+/// The lookups that the wrapper does without; its tests hold what it reads
+/// against them.
+#[cfg(test)]
+pub mod lookups {
+    use super::NameAnswer;
 
-pub fn facility(image: &[u8], number: u32) -> FacilityAnswer {
-    unsafe { archive::ddlp_facility(image.as_ptr(), image.len(), number) }
+    #[repr(C)]
+    #[derive(Debug, PartialEq, Eq)]
+    pub struct FacilityAnswer {
+        pub refusal: u32,
+        pub kind: u32,
+        pub dimensions: u32,
+        pub words_first: u32,
+        pub words_last: u32,
+        pub bits_first: u32,
+        pub bits_last: u32,
+        pub stored: u32,
+        pub place: u32,
+    }
+
+    extern "C" {
+        fn ddlp_state_name(image: *const u8, length: usize, number: u32) -> NameAnswer;
+        fn ddlp_facility(image: *const u8, length: usize, number: u32) -> FacilityAnswer;
+    }
+
+    pub fn state_name(image: &[u8], number: u32) -> NameAnswer {
+        unsafe { ddlp_state_name(image.as_ptr(), image.len(), number) }
+    }
+
+    pub fn facility(image: &[u8], number: u32) -> FacilityAnswer {
+        unsafe { ddlp_facility(image.as_ptr(), image.len(), number) }
+    }
 }

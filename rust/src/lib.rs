@@ -21,13 +21,23 @@
 //! that `-L native=` names.
 
 #![warn(missing_docs)]
+#![deny(unsafe_code)]
+// What could panic, or cut a number silently.
+#![deny(clippy::arithmetic_side_effects, clippy::cast_possible_truncation)]
+#![deny(clippy::indexing_slicing, clippy::string_slice)]
+#![deny(clippy::unwrap_used, clippy::expect_used, clippy::panic, clippy::unreachable)]
 
+mod bytes;
+#[allow(unsafe_code)]
 mod calls;
 mod facility;
 mod image;
+mod records;
 mod refusal;
 mod run;
 mod stimulus;
+#[cfg(test)]
+mod tests;
 mod word;
 
 pub use facility::{Bounds, Facility, Kind};

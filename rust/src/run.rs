@@ -1,5 +1,6 @@
 //! Runs: the store, the record and the scratch of an opened image.
 
+use crate::bytes::four;
 use crate::calls::{self, Lent};
 use crate::facility::Facility;
 use crate::image::Image;
@@ -7,6 +8,8 @@ use crate::refusal::{Halt, Refusal, Stop};
 use crate::word::{parsed, Word};
 
 const RECORD: usize = 80;
+/// Scratch is so many times the store.
+const SCRATCH_STORES: usize = 4;
 /// Where the record has its state and its cycle number.
 const STATE: usize = 4;
 const CYCLE: usize = 8;
@@ -35,7 +38,8 @@ impl<'a> Run<'a> {
     /// Everything zero, memories too; the first state; cycle 0.
     pub fn open(image: &'a Image) -> Result<Run<'a>, Refusal> {
         let size = image.store_size();
-        let mut run = Run { image, store: vec![0; size], record: [0; RECORD], scratch: vec![0; 4 * size] };
+        let scratch = vec![0; size.saturating_mul(SCRATCH_STORES)];
+        let mut run = Run { image, store: vec![0; size], record: [0; RECORD], scratch };
         run.open_again()?;
         Ok(run)
     }
@@ -75,17 +79,12 @@ impl<'a> Run<'a> {
 
     /// The number of the state that the next cycle carries out.
     pub fn state(&self) -> u32 {
-        self.number(STATE)
+        four(&self.record, STATE).unwrap_or_default()
     }
 
     /// How many cycles were completed.
     pub fn cycles(&self) -> u32 {
-        self.number(CYCLE)
-    }
-
-    fn number(&self, at: usize) -> u32 {
-        let four = self.record.get(at..at + 4).unwrap_or_default();
-        four.iter().rev().fold(0, |number, &byte| number << 8 | byte as u32)
+        four(&self.record, CYCLE).unwrap_or_default()
     }
 
     /// The bytes of docs/STORE.md.
@@ -100,8 +99,7 @@ impl<'a> Run<'a> {
 
     /// A word of a facility, by its subscript where it has many.
     pub fn word(&self, facility: &Facility, subscript: u32) -> Option<Word<'_>> {
-        let place = facility.word_place(subscript)?;
-        let bytes = self.store.get(place..place + facility.word_bytes())?;
+        let bytes = self.store.get(facility.word_part(subscript)?)?;
         Some(Word::new(bytes, facility.word_length()))
     }
 
@@ -115,16 +113,11 @@ impl<'a> Run<'a> {
     /// where there is no such word, or the bits are not as many as it has.
     /// A sequencing register must keep the value of its state.
     pub fn set_word(&mut self, facility: &Facility, subscript: u32, bits: &str) -> bool {
-        let place = facility.word_place(subscript).zip(parsed(bits, facility.word_length()));
-        let Some((place, word)) = place else {
+        let place = facility.word_part(subscript).and_then(|part| self.store.get_mut(part));
+        let Some((place, word)) = place.zip(parsed(bits, facility.word_length())) else {
             return false;
         };
-        match self.store.get_mut(place..place + word.len()) {
-            Some(bytes) => {
-                bytes.copy_from_slice(&word);
-                true
-            }
-            None => false,
-        }
+        place.iter_mut().zip(word).for_each(|(place, byte)| *place = byte);
+        true
     }
 }

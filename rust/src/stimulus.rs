@@ -39,14 +39,14 @@ impl<'a> Stimulus<'a> {
 
     /// Sets an input terminal, by its name in any case of letters, to bits such as `0110`.
     pub fn set(&mut self, name: &str, bits: &str) -> Result<(), StimulusError> {
-        let mut before = 0;
+        let mut before: usize = 0;
         for input in self.image.inputs() {
             if input.name.eq_ignore_ascii_case(name) {
                 let word = parsed(bits, input.word_length()).ok_or(StimulusError::Bits)?;
                 self.bytes.iter_mut().skip(before).zip(word).for_each(|(place, byte)| *place = byte);
                 return Ok(());
             }
-            before += input.bytes();
+            before = before.saturating_add(input.bytes());
         }
         Err(StimulusError::NoInput)
     }

@@ -2,6 +2,9 @@
 
 use std::fmt;
 
+/// Of the bits of a byte.
+const WEIGHTS: [u8; 8] = [128, 64, 32, 16, 8, 4, 2, 1];
+
 /// One word of a facility, read where it stands. Written out it is its bits.
 #[derive(Clone, Copy, Debug, PartialEq, Eq, Hash)]
 pub struct Word<'a> {
@@ -21,15 +24,15 @@ impl<'a> Word<'a> {
 
     /// The bits, the most significant first.
     pub fn bits(self) -> impl Iterator<Item = bool> + 'a {
-        let spare = (self.bytes.len() * 8).saturating_sub(self.length);
-        let bits = self.bytes.iter().flat_map(|&byte| (0..8).rev().map(move |weight| byte >> weight & 1 == 1));
+        let bits = self.bytes.iter().flat_map(|&byte| WEIGHTS.into_iter().map(move |weight| byte & weight != 0));
+        let spare = self.length.wrapping_neg() % 8;
         bits.skip(spare)
     }
 
     /// The number, where the word has at most 64 bits.
     pub fn number(self) -> Option<u64> {
-        let number = self.bytes.iter().fold(0, |number: u64, &byte| number << 8 | byte as u64);
-        (self.length <= 64).then_some(number)
+        let number = || self.bytes.iter().fold(0, |number, &byte| number << 8 | u64::from(byte));
+        (self.length <= 64).then(number)
     }
 }
 
@@ -42,12 +45,7 @@ impl fmt::Display for Word<'_> {
 
 /// The bytes of a word of this many bits, or none where the bits are too many, too few or no bits.
 pub(crate) fn parsed(bits: &str, length: usize) -> Option<Vec<u8>> {
-    let mut bytes = vec![0u8; length.div_ceil(8)];
     let sound = bits.len() == length && bits.bytes().all(|bit| matches!(bit, b'0' | b'1'));
-    for (weight, _) in bits.bytes().rev().enumerate().filter(|(_, bit)| *bit == b'1') {
-        if let Some(byte) = bytes.iter_mut().rev().nth(weight / 8) {
-            *byte |= 1 << (weight % 8);
-        }
-    }
-    sound.then_some(bytes)
+    let byte = |bits: &[u8]| bits.iter().fold(0, |byte, bit| byte << 1 | bit & 1);
+    sound.then(|| bits.as_bytes().rchunks(8).rev().map(byte).collect())
 }

@@ -1,6 +1,6 @@
 //! What the wrapper adds to the calls: messages, names, words and stimuli.
 
-use ddlp::{Halt, Image, Kind, Refusal, Run, Stimulus, StimulusError, Stop};
+use ddlp::{Bounds, Halt, Image, Kind, Refusal, Run, Stimulus, StimulusError, Stop};
 
 const TEXT: &[u8] = b"REGISTER A[9], #S[2].
 MEMORY M[7:0,12].
@@ -31,15 +31,18 @@ fn a_refused_text_says_where() {
 #[test]
 fn facilities_are_found_by_name() {
     let image = image();
-    let names: Vec<&str> = image.facilities().map(|facility| facility.name).collect();
+    let names: Vec<&str> = image.facilities().map(|facility| facility.name()).collect();
     assert_eq!(names, ["A", "S", "M", "GO", "N", "ODD"]);
     let memory = image.facility_named("m").expect("M is declared");
-    assert_eq!((memory.kind, memory.word_count(), memory.word_length(), memory.place), (Kind::Memory, 8, 12, Some(3)));
+    assert_eq!((memory.number(), memory.kind(), memory.place()), (2, Kind::Memory, Some(3)));
+    assert_eq!((memory.words(), memory.word_count()), (Some(Bounds { first: 7, last: 0 }), 8));
+    assert_eq!((memory.bits(), memory.word_length()), (Some(Bounds { first: 1, last: 12 }), 12));
     assert_eq!(memory.word_place(7), Some(3));
     assert_eq!(memory.word_place(8), None);
-    assert_eq!(image.facility_named("ODD").and_then(|facility| facility.place), None);
+    assert_eq!(image.facility_named("ODD").and_then(|facility| facility.place()), None);
     assert_eq!(image.facility(6), Err(Refusal::Subscript));
     assert_eq!((image.state_name(1), image.state_name(2)), (Ok("Q"), Err(Refusal::Subscript)));
+    assert_eq!((image.facility_count(), image.state_count()), (6, 2));
     assert_eq!((image.store_size(), image.stimulus_size()), (2 + 1 + 16 + 2, 2));
 }
 
@@ -82,6 +85,42 @@ fn stimuli_are_judged() {
     assert_eq!(image.stimulus().set("N", "012"), Err(StimulusError::Bits));
     assert_eq!(run.cycle([0]), Err(Halt::Refused(Refusal::Stimulus)));
     assert_eq!(run.cycle([0, 8]), Err(Halt::Refused(Refusal::Stimulus)));
+}
+
+#[test]
+fn extreme_numbers_name_nothing() {
+    let image = image();
+    for number in [1 << 8, 1 << 16, u32::MAX] {
+        assert_eq!(image.facility(number), Err(Refusal::Subscript));
+        assert_eq!(image.state_name(number), Err(Refusal::Subscript));
+    }
+    let all = Bounds { first: u16::MAX, last: 0 };
+    assert_eq!((all.span(), all.position(0), all.position(1 << 16)), (1 << 16, Some(65_535), None));
+    assert_eq!(Bounds { first: 0, last: u16::MAX }.position(u32::MAX), None);
+    let memory = image.facility_named("M").expect("M is declared");
+    let mut run = Run::open(&image).expect("the image passes");
+    assert_eq!((memory.word_place(u32::MAX), run.word(&memory, u32::MAX)), (None, None));
+    assert!(!run.set_word(&memory, u32::MAX, "111100001111") && !run.set_word(&memory, 0, &"1".repeat(1 << 20)));
+}
+
+#[test]
+fn a_facility_of_another_image_names_nothing() {
+    let large = Image::read(b"REGISTER A. MEMORY M[65535:49153,8]. CONTROL P: ->P/.").expect("the text is legal");
+    let memory = large.facility_named("M").expect("M is declared");
+    assert_eq!(memory.word_place(49_153), Some(1 + 16_382));
+    let image = image();
+    let mut run = Run::open(&image).expect("the image passes");
+    assert_eq!(run.word(&memory, 49_153), None);
+    assert!(!run.set_word(&memory, 49_153, "00000000"));
+}
+
+#[test]
+fn the_longest_run_is_refused_where_it_has_no_room() {
+    let image = image();
+    let mut run = Run::open(&image).expect("the image passes");
+    assert_eq!(run.run(&[], u32::MAX, &mut [0]), Err(Refusal::BufferTooShort));
+    assert_eq!(run.run(&[], u32::MAX, &mut []), Err(Refusal::Stimulus));
+    assert_eq!(run.cycles(), 0);
 }
 
 #[test]
