@@ -15,6 +15,7 @@ use Rattle.language.specs.Description.{Description, Facility, sequencingFrom}
 use Rattle.language.specs.Encode.{concat, encode, facilitySize, headerSize, nameBytes, operationSize, stateSize}
 use Rattle.language.specs.Ceilings.{longestText, mostCounted, mostFacilities, mostOperations, mostStates}
 use Rattle.language.specs.Naming.{Scope}
+use Rattle.language.specs.Reading.{legal, readText}
 use Rattle.language.specs.Tree.{Declaration, Operation, State, Text}
 use Rattle.about_rules.specs.InOrder.{stateExpressions}
 use Rattle.about_rules.specs.LegalTexts.{facilities-nodes, operations-nodes, states-nodes}
@@ -25,7 +26,7 @@ use Rattle.about_rules.specs.TidyTexts.{tidy}
 use Rattle.about_rules.specs.WithinCounts.{declarationsOf, namesIn, terminals-alone}
 use Rattle.about_texts.specs.NameRoom.{declaredLetters, labelLetters, names-within, operationLetters, scan-letters, textLetters}
 use Rattle.about_texts.specs.RecordRoom.{lent-so, room, valueRoom, wordRoom}
-use Rattle.about_reading.specs.ReadsExactly.{LegalText}
+use Rattle.about_reading.specs.ReadsExactly.{LegalText, accepted}
 use Rattle.about_images.specs.Names.{names-length}
 use Rattle.about_images.specs.Whole.{encode-long}
 use Rattle.about_calls.specs.TextToCycles.{ItsCycles, text-to-cycles}
@@ -174,3 +175,7 @@ image-room s t h =
 -- A buffer of that length is enough for every legal text.
 pub always-room : (s : List ℕ) (t : Text) (room : ℕ) → LegalText s t → largestImage ≤ room → ItsCycles s t room
 always-room s t n h l = text-to-cycles s n .then-cycles t h (omega (arith, image-room s t h, l))
+
+-- So is it for whatever reading accepts: it never refuses a text for its room (12).
+pub read-fits : (s : List ℕ) (d : Description) → readText s ≡ legal d → length (encode d) ≤ largestImage
+read-fits s d e = let a = accepted s d e in rw (a .described) at (image-room s (a .tree) (a .legal-text))

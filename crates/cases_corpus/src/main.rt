@@ -4,7 +4,6 @@ mod files;
 mod images;
 mod tally;
 mod traces;
-mod whole;
 
 use libc::STDOUT_FILENO;
 

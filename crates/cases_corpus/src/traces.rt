@@ -2,14 +2,14 @@
 use crate::fetched;
 use crate::tally;
 use crate::tally::Came;
-use crate::whole;
 use image_records::bytes;
 use image_records::numbers;
+use trace_whole::printed;
 
 // Whether the trace of a text and its input is the output that is owed.
 fn agrees(text: &[u8], input: &[u8], owed: &[u8]) -> bool {
     let mut out = io::large_buffer();
-    let n = whole::trace(text, input, &mut out);
+    let n = printed::printed(text, input, &mut out);
     if n != owed.len() {
         return false;
     }

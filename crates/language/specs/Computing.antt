@@ -15,6 +15,7 @@ use Rattle.language.specs.Description as Description
 use Rattle.language.specs.Encode as Encode
 use Rattle.language.specs.Expressions as Expressions
 use Rattle.language.specs.Image as Image
+use Rattle.language.specs.InputLines as InputLines
 use Rattle.language.specs.Judging as Judging
 use Rattle.language.specs.Layout as Layout
 use Rattle.language.specs.Columns as Columns
@@ -72,7 +73,7 @@ cycle = tt
 
 -- The public calls to the byte, and the trace.
 unfoldable pub calls : Unit {0}
-unfolding Reading.filled Ceilings.longestText Reading.restOf Reading.readText Reading.read RecordBytes.openMark RecordBytes.fours RecordBytes.recordBytes RecordBytes.returnsFrom RecordBytes.recordFrom RecordBytes.returnsSound RecordBytes.sound RecordBytes.marked Calls.openRefusal Calls.openWords Calls.open′ Calls.stimulusSize Calls.roomy Calls.soundBytes Calls.wellFormed Calls.cycleRefusal Calls.cycle Calls.allWellFormed Calls.runRefusal Calls.cycles Calls.run Lookups.facilityPart Lookups.statePart Lookups.facilityName Lookups.stateName Lookups.facility Trace.decimalFrom Trace.bits Trace.facilitiesLine Trace.cycleLine Trace.bitsNumber Trace.lineWords Trace.runLines Trace.traceImage Trace.trace
+unfolding Reading.filled Ceilings.longestText Reading.restOf Reading.readText Reading.read RecordBytes.openMark RecordBytes.fours RecordBytes.recordBytes RecordBytes.returnsFrom RecordBytes.recordFrom RecordBytes.returnsSound RecordBytes.sound RecordBytes.marked Calls.openRefusal Calls.openWords Calls.open′ Calls.stimulusSize Calls.roomy Calls.soundBytes Calls.wellFormed Calls.cycleRefusal Calls.cycle Calls.allWellFormed Calls.runRefusal Calls.cycles Calls.run Lookups.facilityPart Lookups.statePart Lookups.facilityName Lookups.stateName Lookups.facility InputLines.linesOf Trace.decimalFrom Trace.bits Trace.facilitiesLine Trace.cycleLine Trace.bitsNumber Trace.lineWords Trace.runLines Trace.traceImage Trace.trace
 calls = tt
 
 unfoldable pub computing : Unit {0}

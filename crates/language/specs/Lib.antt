@@ -60,6 +60,7 @@ pub mod Reading
 pub mod RecordBytes
 pub mod Calls
 pub mod Lookups
+pub mod InputLines
 pub mod Trace
 -- Worked examples.
 pub mod Computing
@@ -68,3 +69,4 @@ pub mod ImageExamples
 pub mod RefusalExamples
 pub mod RunExamples
 pub mod StepExamples
+pub mod TraceExamples

@@ -10,6 +10,7 @@ use Rattle.language.specs.Decode.{decode}
 use Rattle.language.specs.Description.{Description, Facility, isComputed, stateAt, wordLength}
 use Rattle.language.specs.Layout.{storeSize}
 use Rattle.language.specs.Encode.{encode}
+use Rattle.language.specs.InputLines.{linesOf}
 use Rattle.language.specs.Reading.{Read, legal, readText, refusedAt}
 use Rattle.language.specs.RecordBytes.{recordFrom, recordSize}
 use Rattle.language.specs.Refusals.{refusalNumber}
@@ -31,8 +32,9 @@ decimalFrom (suc k) n tail =
     let more = decimalFrom k (n / 10) ((n % 10 + 48) ∷ tail) in
     cond (eqb (n / 10) 0) ((n % 10 + 48) ∷ tail) more
 
+-- A number n has at most n + 1 digits.
 abbrev pub decimal : ℕ → List ℕ
-decimal n = decimalFrom 20 n []
+decimal n = decimalFrom (suc n) n []
 
 -- The l bits of a number, the most significant first.
 unfoldable pub bits : ℕ → ℕ → List ℕ
@@ -132,3 +134,7 @@ afterRead lines (refusedAt f) = bytes "refused " ++ (decimal (faultNumber f) ++ 
 -- The whole output for a text and its lines of input.
 unfoldable pub trace : List ℕ → List (List ℕ) → List ℕ
 trace text lines = afterRead lines (readText text)
+
+-- The whole output for a text and the bytes of standard input.
+abbrev pub printed : List ℕ → List ℕ → List ℕ
+printed text input = trace text (linesOf input)

@@ -6,14 +6,15 @@ use language::ceilings;
 use libc::STDOUT_FILENO;
 use trace_whole::begun;
 use trace_whole::begun::Begun;
+use trace_whole::roomy;
 
 // Reads the text, and runs it or says why it is refused.
 fn run(text: &[u8]) {
-    let mut image = [0u8; 165556];
+    let mut image = [0u8; begun::IMAGE];
     let mut store = [0u8; ceilings::STORE];
     let mut record = [0u8; ceilings::RECORD];
-    let mut out = [0u8; 64];
-    match begun::begin_run(text, &mut image, &mut store, &mut record, &mut out) {
+    let mut out = [0u8; begun::REFUSED];
+    match roomy::begin_run(text, &mut image, &mut store, &mut record, &mut out) {
         Begun::Refused(end) => {
             io::write_all(STDOUT_FILENO, bytes::part(&out, 0, end));
         }

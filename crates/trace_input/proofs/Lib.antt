@@ -1,3 +1,5 @@
 pub mod LineBits
+pub mod LineCut
 pub mod LineTaken
 pub mod LineWord
+pub mod LongLines

@@ -87,7 +87,7 @@ unfolding bitsNumber
 no-bits-some bs q = let z : _≡_ {A = ℕ} 0 1 = cc in omega arith
 
 module _ (f : Facility) (fs : List Facility) where
-  is-input : isInput (f .kind) ≡ true → inputBits f ≡ wordLength f
+  pub is-input : isInput (f .kind) ≡ true → inputBits f ≡ wordLength f
   unfolding inputBits
   is-input e = rw e refl
 
@@ -95,11 +95,11 @@ module _ (f : Facility) (fs : List Facility) where
   unfolding inputBits
   is-other e = rw e refl
 
-  with-input : isInput (f .kind) ≡ true → inputsOf (f ∷ fs) ≡ f ∷ inputsOf fs
+  pub with-input : isInput (f .kind) ≡ true → inputsOf (f ∷ fs) ≡ f ∷ inputsOf fs
   unfolding inputsOf
   with-input e = rw e refl
 
-  with-other : isInput (f .kind) ≡ false → inputsOf (f ∷ fs) ≡ inputsOf fs
+  pub with-other : isInput (f .kind) ≡ false → inputsOf (f ∷ fs) ≡ inputsOf fs
   unfolding inputsOf
   with-other e = rw e refl
 
@@ -124,7 +124,7 @@ module _ (f : Facility) (fs : List Facility) where
       go true e = ap (λ (gs : List Facility). lineBytes gs bs) (with-input e) ∙ first-none f (inputsOf fs) bs (ap (λ (l : ℕ). bitsNumber l 0 bs) (sym (is-input e)) ∙ h)
       go false e = absurd (no-bits-some bs (ap (λ (l : ℕ). bitsNumber l 0 bs) (sym (is-other e)) ∙ h))
 
-  facility-room : wordBytes (inputBits f) + storeSizeOf (inputsOf fs) ≤ storeSizeOf (inputsOf (f ∷ fs))
+  pub facility-room : wordBytes (inputBits f) + storeSizeOf (inputsOf fs) ≤ storeSizeOf (inputsOf (f ∷ fs))
   unfolding storeSizeOf wordBytes
   facility-room = go (isInput (f .kind)) refl
     where

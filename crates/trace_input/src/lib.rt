@@ -1,2 +1,3 @@
 // What the trace program takes: a line of input bits.
+pub mod lines;
 pub mod stimulus;

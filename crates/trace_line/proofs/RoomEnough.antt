@@ -1,4 +1,4 @@
--- The buffer of the trace program has room for every line of output.
+-- The buffer of the trace program has room for every line of output, and for the one that ends a run after it.
 use mathlib.Core.Bool.{Bool, true, false, cond}
 use mathlib.Core.List.{List, [], _∷_}
 use mathlib.Core.Path.{_≡_, refl}
@@ -16,7 +16,7 @@ use Rattle.about_images.specs.Legal.{few-facilities}
 use Rattle.image_lookups.proofs.PassLaws.{legal-so, range-so}
 use Rattle.run_soundness.proofs.PassedLaws.{passed-size}
 use Rattle.trace_output.specs.Room.{lineRoom}
-use Rattle.trace_line.specs.Turns.{turnRoom}
+use Rattle.trace_line.specs.Turns.{endRoom, printedRoom, turnRoom}
 
 -- A facility that is shown has one word, whose bits are in the store.
 bits-stored : (f : Facility) → cond (shown f) (2 + length (f .name) + wordLength f) 0 ≤ 2 + length (f .name) + 8 * facilityBytes f
@@ -50,7 +50,7 @@ module _ (image : List ℕ) (passed : passes image ≡ true) (state : ℕ) where
       by-test false t = range-so image passed .states state (leb-false (length (decode image .states)) state t) .name
 
   -- A label and 256 names of at most 255 letters, and the bits of 16,384 bytes.
-  pub room-enough : turnRoom (decode image) state ≤ 200000
+  pub room-enough : turnRoom (decode image) state + endRoom ≤ printedRoom
   unfolding turnRoom facilityAt
   room-enough =
       omega (

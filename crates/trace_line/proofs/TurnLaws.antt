@@ -2,7 +2,7 @@
 use mathlib.Core.Bool.{true, false}
 use mathlib.Core.List.{List, [], _++_, append-nil}
 use mathlib.Core.Path.{_≡_, sym, ap, _∙_}
-use Prim.Native.Nat.{ℕ, _+_, _≤_}
+use Prim.Native.Nat.{ℕ, _+_, _^_, _<_, _≤_}
 use native.Mathlib.Omega.{arith}
 use lib.ListN.{length, length-append}
 use Rattle.language.specs.Calls.{CycleCall}
@@ -25,21 +25,21 @@ use Rattle.trace_line.specs.Turns.{Carried, turnRoom}
 
 -- ---- Room.
 
-numbered-short : (word : List ℕ) (n : ℕ) → length (word ++ (decimal n ++ lineEnd)) ≤ length word + 21
-numbered-short word n = omega (arith, length-append word (decimal n ++ lineEnd), length-append (decimal n) lineEnd, decimal-short 20 n [])
+pub numbered-short : (word : List ℕ) (n : ℕ) → n < 2 ^ 64 → length (word ++ (decimal n ++ lineEnd)) ≤ length word + 21
+numbered-short word n h = omega (arith, length-append word (decimal n ++ lineEnd), length-append (decimal n) lineEnd, decimal-short n h)
 
 module _ (d : Description) (state : ℕ) where
-  short-stop : (n : Stop) → length (stopLine n) ≤ turnRoom d state
+  short-stop : (n : Stop) → stopNumber n < 2 ^ 64 → length (stopLine n) ≤ turnRoom d state
   unfolding turnRoom bytes
-  short-stop n = omega (arith, numbered-short (bytes "stop ") (stopNumber n))
+  short-stop n h = omega (arith, numbered-short (bytes "stop ") (stopNumber n) h)
 
-  pub short-refused : (n : Refusal) → length (refusedLine n) ≤ turnRoom d state
+  pub short-refused : (n : Refusal) → refusalNumber n < 2 ^ 64 → length (refusedLine n) ≤ turnRoom d state
   unfolding turnRoom bytes
-  short-refused n = omega (arith, numbered-short (bytes "refused ") (refusalNumber n))
+  short-refused n h = omega (arith, numbered-short (bytes "refused ") (refusalNumber n) h)
 
-  short-cycle : (number : ℕ) (B : List ℕ) → length (cycleLine d number state B) ≤ turnRoom d state
+  short-cycle : (number : ℕ) (B : List ℕ) → number < 2 ^ 64 → length (cycleLine d number state B) ≤ turnRoom d state
   unfolding turnRoom
-  short-cycle number B = omega (arith, cycle-short d number state B)
+  short-cycle number B h = omega (arith, cycle-short d number state B h)
 
 -- ---- By the answer of the cycle.
 
@@ -47,27 +47,27 @@ abbrev after : List ℕ → ℕ → List ℕ → (List ℕ → List ℕ → List
 after image number R rest c = afterCall image (decode image) number (recordFrom R .state) rest c
 
 module _ {image : List ℕ} {number : ℕ} {R : List ℕ} {c : CycleCall} {S′ R′ B : List ℕ} {at : ℕ} {C : List ℕ} {end : ℕ} (a : CycleReply) (scratch : List ℕ) (is : call a S′ R′ scratch ≡ c) where
-  pub carried-on : (n : ℕ) → a ≡ A.Cycled n → (state : ℕ) → state ≡ numberAt 4 4 R → Adds (cycleLine (decode image) number state S′) B at C end → Carried image number R c true S′ R′ B at C end
+  pub carried-on : number < 2 ^ 64 → (n : ℕ) → a ≡ A.Cycled n → (state : ℕ) → state ≡ numberAt 4 4 R → Adds (cycleLine (decode image) number state S′) B at C end → Carried image number R c true S′ R′ B at C end
   unfolding recordFrom
-  carried-on n e state q x = record {
+  carried-on h n e state q x = record {
     text = cycleLine (decode image) number (recordFrom R .state) S′;
     adds = adds-as x (ap (λ (s : ℕ). cycleLine (decode image) number s S′) q);
-    short = short-cycle (decode image) (recordFrom R .state) number S′;
+    short = short-cycle (decode image) (recordFrom R .state) number S′ h;
     same = λ rest. ap (after image number R rest) (sym is ∙ ap (λ (b : CycleReply). call b S′ R′ scratch) e);
   }
 
-  pub carried-stop : (n : Stop) → a ≡ A.Stopped n → Adds (stopLine n) B at C end → Carried image number R c false S′ R′ B at C end
-  carried-stop n e x = record {
+  pub carried-stop : (n : Stop) → stopNumber n < 2 ^ 64 → a ≡ A.Stopped n → Adds (stopLine n) B at C end → Carried image number R c false S′ R′ B at C end
+  carried-stop n h e x = record {
     text = stopLine n;
     adds = x;
-    short = short-stop (decode image) (recordFrom R .state) n;
+    short = short-stop (decode image) (recordFrom R .state) n h;
     same = λ rest. ap (after image number R rest) (sym is ∙ ap (λ (b : CycleReply). call b S′ R′ scratch) e) ∙ sym (append-nil (stopLine n));
   }
 
-  pub carried-refused : (n : Refusal) → a ≡ A.Refused n → Adds (refusedLine n) B at C end → Carried image number R c false S′ R′ B at C end
-  carried-refused n e x = record {
+  pub carried-refused : (n : Refusal) → refusalNumber n < 2 ^ 64 → a ≡ A.Refused n → Adds (refusedLine n) B at C end → Carried image number R c false S′ R′ B at C end
+  carried-refused n h e x = record {
     text = refusedLine n;
     adds = x;
-    short = short-refused (decode image) (recordFrom R .state) n;
+    short = short-refused (decode image) (recordFrom R .state) n h;
     same = λ rest. ap (after image number R rest) (sym is ∙ ap (λ (b : CycleReply). call b S′ R′ scratch) e) ∙ sym (append-nil (refusedLine n));
   }

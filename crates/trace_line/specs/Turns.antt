@@ -22,6 +22,14 @@ Ready image store = (passes image ≡ true) × (length store ≡ storeSize (deco
 unfoldable pub turnRoom : Description → ℕ → ℕ
 turnRoom d state = 29 + length (stateAt d state .name) + lineRoom (d .facilities)
 
+-- Room for the line that ends a run: its word, a number of at most 20 digits, and LF.
+abbrev pub endRoom : ℕ
+endRoom = 25
+
+-- Room for both, in any state of any image that passes.
+abbrev pub printedRoom : ℕ
+printedRoom = 200000
+
 -- What follows, if the run goes on.
 abbrev pub goesOn : Bool → List ℕ → List ℕ
 goesOn true rest = rest

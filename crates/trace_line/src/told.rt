@@ -21,6 +21,9 @@ ghost use Rattle.call_answers.specs.Cycle.{call};
 ghost use Rattle.trace_output.specs.Adds.{Adds};
 ghost use Rattle.trace_line.specs.Turns.{Carried};
 
+// Room for all that is printed of a line of input, and for the line that ends a run after it, whatever image passes.
+pub const PRINTED: usize = 200000;
+
 // Whether the run goes on, and where the output ends.
 pub struct Turn {
     pub on: bool,

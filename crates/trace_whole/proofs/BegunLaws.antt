@@ -1,8 +1,8 @@
 -- A text that is read: legal and opened, or refused. Assumes nothing.
 use mathlib.Core.Bool.{Bool, true, false, cond}
 use mathlib.Core.List.{List, [], _++_, append-nil}
-use mathlib.Core.Path.{_≡_, refl, sym, ap, _∙_}
-use Prim.Native.Nat.{ℕ, _+_, _-_, _≤_}
+use mathlib.Core.Path.{_≡_, refl, sym, ap, ap₂, _∙_}
+use Prim.Native.Nat.{ℕ, _+_, _-_, _^_, _<_, _≤_}
 use native.Mathlib.Omega.{arith}
 use borrow.Author.Tests.{le-leb}
 use lib.Dec.{leb}
@@ -13,6 +13,7 @@ use Rattle.language.specs.Decode.{decode}
 use Rattle.language.specs.Description.{Description}
 use Rattle.language.specs.Encode.{encode}
 use Rattle.language.specs.Image.{passes}
+use Rattle.language.specs.InputLines.{linesOf}
 use Rattle.language.specs.Layout.{storeSize}
 use Rattle.language.specs.Reading as R
 use Rattle.language.specs.Reading.{Read, ReadCall, filled, legal, readCall, readRefused, readText, refusedAt, withRoom, zeroes}
@@ -21,7 +22,7 @@ use Rattle.language.specs.Refusals.{refusalNumber}
 use Rattle.language.specs.declared.refusals.Refusal.{Refusal}
 use Rattle.language.specs.declared.refusals.Refusal.the-variants.{BufferTooShort}
 use Rattle.language.specs.Scan.{bytes}
-use Rattle.language.specs.Trace.{afterRead, decimal, lineEnd, runLines, trace, traceImage}
+use Rattle.language.specs.Trace.{afterRead, decimal, lineEnd, printed, runLines, trace, traceImage}
 use Rattle.about_calls.specs.PassesExactly.{reads-pass}
 use Rattle.call_answers.specs.Reading.{called}
 use Rattle.call_answers.specs.declared.read.ReadReply.{ReadReply}
@@ -29,6 +30,8 @@ use Rattle.call_answers.specs.declared.read.ReadReply.the-variants as A
 use Rattle.call_answers.specs.Opening as Opening
 use Rattle.call_answers.specs.declared.opened.OpenReply as O
 use Rattle.run_soundness.proofs.PassedLaws.{passed-size}
+use Rattle.trace_line.specs.Turns.{Ready}
+use Rattle.trace_output.proofs.AddsLaws.{adds-as}
 use Rattle.trace_output.proofs.LineRoom.{decimal-short}
 use Rattle.trace_output.specs.Adds.{Adds}
 use Rattle.trace_output.specs.Texts.{refusedText}
@@ -90,6 +93,23 @@ runs {text} {n} {m} {kept} {size} {space} {I} {S} {R} f e k o =
     let q : Opened (take n I) recordSize size space S R = rw k at p in
     runs-so f q
 
+-- Its image and store, as parts of the buffers.
+module _ {text : List ℕ} {n size space : ℕ} {I S R : List ℕ} (r : Runs text n size space I S R) where
+  pub runs-ready : space ≤ length S → Ready (take (n - 0) I) (take (size - 0) S)
+  runs-ready h =
+      let z : n - 0 ≡ n = omega arith in
+      let w : size - 0 ≡ size = omega arith in
+      (ap (λ (m : ℕ). passes (take m I)) z ∙ r .passed, length-take-le (size - 0) S (omega (arith, r .fits)) ∙ (w ∙ (r .is ∙ ap (λ (m : ℕ). storeSize (decode (take m I))) (sym z))))
+
+  pub runs-printed : {A B C : List ℕ} {end : ℕ} (input : List ℕ) → Adds (runLines (take (n - 0) I) (decode (take (n - 0) I)) (linesOf input) 0 (take (size - 0) S) R) B 0 C end → length B ≡ length A → Adds (printed text input) A 0 C end
+  runs-printed {A} {B} {C} {end} input a h =
+      let z : n - 0 ≡ n = omega arith in
+      let w : size - 0 ≡ size = omega arith in
+      let same : runLines (take (n - 0) I) (decode (take (n - 0) I)) (linesOf input) 0 (take (size - 0) S) R ≡ printed text input =
+      ap₂ (λ (m k : ℕ). runLines (take m I) (decode (take m I)) (linesOf input) 0 (take k S) R) z w ∙ sym (r .same (linesOf input)) in
+      let b : Adds (printed text input) B 0 C end = adds-as a same in
+      record { long = b .long ∙ h; roomy = λ k. let d = b .roomy (omega (arith, k, h)) in record { place = d .place; text = d .text } }
+
 -- The first bytes of a buffer B, which opening left as X.
 module _ (image : List ℕ) (passed : passes image ≡ true) (B X : List ℕ) (a : O.OpenReply) {size kept : ℕ} {K : List ℕ} where
   pub opened-is : 16384 ≤ length B → size ≡ storeSize (decode image) → length X ≡ length (take (size - 0) B) → Opening.called a X K ≡ open′ image (length (take (size - 0) B)) kept
@@ -107,16 +127,16 @@ module _ (image : List ℕ) (passed : passes image ≡ true) (B X : List ℕ) (a
 
 -- ---- A refusal.
 
-refused-short : (n place : ℕ) → length (refusedText n place) ≤ 50
+refused-short : (n place : ℕ) → n < 2 ^ 64 → place < 2 ^ 64 → length (refusedText n place) ≤ 50
 unfolding bytes
-refused-short n place =
-    omega (arith, length-append (bytes "refused ") (decimal n ++ (bytes " " ++ (decimal place ++ lineEnd))), length-append (decimal n) (bytes " " ++ (decimal place ++ lineEnd)), length-append (bytes " ") (decimal place ++ lineEnd), length-append (decimal place) lineEnd, decimal-short 20 n [], decimal-short 20 place [])
+refused-short n place h k =
+    omega (arith, length-append (bytes "refused ") (decimal n ++ (bytes " " ++ (decimal place ++ lineEnd))), length-append (decimal n) (bytes " " ++ (decimal place ++ lineEnd)), length-append (bytes " ") (decimal place ++ lineEnd), length-append (decimal place) lineEnd, decimal-short n h, decimal-short place k)
 
-pub refuses : (text I : List ℕ) (a : ReadReply) (n : Refusal) (place room : ℕ) {B C : List ℕ} {end : ℕ} → a ≡ A.Refused n place → called a I ≡ R.read text room → Adds (refusedText (refusalNumber n) place) B 0 C end
+pub refuses : (text I : List ℕ) (a : ReadReply) (n : Refusal) (place room : ℕ) {B C : List ℕ} {end : ℕ} → refusalNumber n < 2 ^ 64 → place < 2 ^ 64 → a ≡ A.Refused n place → called a I ≡ R.read text room → Adds (refusedText (refusalNumber n) place) B 0 C end
     → ((d : Description) → readText text ≡ legal d → length (encode d) ≤ room) → Refuses text B C end
 unfolding R.read filled trace
-refuses text I a n place room {B} {C} {end} q e x h =
-    record { out = refusedText (refusalNumber n) place; adds = x; short = refused-short (refusalNumber n) place; same = λ lines. go lines (readText text) refl (ap (λ (b : ReadReply). called b I) (sym q) ∙ e) }
+refuses text I a n place room {B} {C} {end} v w q e x h =
+    record { out = refusedText (refusalNumber n) place; adds = x; short = refused-short (refusalNumber n) place v w; same = λ lines. go lines (readText text) refl (ap (λ (b : ReadReply). called b I) (sym q) ∙ e) }
   where
     no-room : (d : Description) → readText text ≡ legal d → called (A.Refused n place) I ≡ withRoom room (encode d) → ⊥
     no-room d t f =
@@ -131,3 +151,6 @@ refuses text I a n place room {B} {C} {end} q e x h =
         let m : g .refusal ≡ n = cc in
         let p : g .at .place ≡ place = cc in
         rw (m, p) refl
+
+pub refuses-printed : {text B C : List ℕ} {end : ℕ} (input : List ℕ) → Refuses text B C end → Adds (printed text input) B 0 C end
+refuses-printed input r = adds-as (r .adds) (sym (r .same (linesOf input)))

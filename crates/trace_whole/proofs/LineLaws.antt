@@ -66,7 +66,7 @@ module _ {image line : List ℕ} {number : ℕ} {S R S′ R′ B : List ℕ} {at
   turned-none t q e off x = record {
     text = refusedLine BadStimulus;
     adds = x;
-    short = short-refused (decode image) (recordFrom R .state) BadStimulus;
+    short = short-refused (decode image) (recordFrom R .state) BadStimulus (omega arith);
     same = λ done ls h. rw (off) (taken-none image (decode image) (inputs image) line _ (took-nothing (lineBytes (inputs image) line) P P′ (ap (λ (u : Taken). tookMeant u P′) (sym q) ∙ e)) refl ∙ sym (append-nil (refusedLine BadStimulus)));
   }
 

@@ -6,11 +6,8 @@ use Prim.Native.Nat.{ℕ, _≤_}
 use lib.ListN.{length, take}
 use Rattle.language.specs.Calls.{open′}
 use Rattle.language.specs.Decode.{decode}
-use Rattle.language.specs.Description.{Description}
-use Rattle.language.specs.Encode.{encode}
 use Rattle.language.specs.Image.{passes}
 use Rattle.language.specs.Layout.{storeSize}
-use Rattle.language.specs.Reading.{legal, readText}
 use Rattle.language.specs.Trace.{runLines, trace}
 use Rattle.trace_output.specs.Adds.{Adds}
 use Rattle.trace_whole.specs.declared.begun.Begun.{Begun}
@@ -31,14 +28,21 @@ pub record Runs (text : List ℕ) (n size space : ℕ) (I S R : List ℕ) : Type
   pub fits : size ≤ space
   pub same : (lines : List (List ℕ)) → trace text lines ≡ runLines (take n I) (decode (take n I)) lines 0 (take size S) R
 
+-- Room for the image of every legal text (docs/IMAGE.md).
+abbrev pub imageRoom : ℕ
+imageRoom = 165556
+
+-- Room for what a refusal prints: its word, two numbers of at most 20 digits, what stands between them, and LF.
+abbrev pub refusedRoom : ℕ
+refusedRoom = 50
+
 -- What a refusal prints is added.
 pub record Refuses (text B C : List ℕ) (end : ℕ) : Type 0 where
   pub out : List ℕ
   pub adds : Adds out B 0 C end
-  pub short : length out ≤ 50
+  pub short : length out ≤ refusedRoom
   pub same : (lines : List (List ℕ)) → trace text lines ≡ out
 
--- Reading is given a buffer of `room` bytes, enough for the image of the text.
-abbrev pub Begins : List ℕ → ℕ → ℕ → Begun → List ℕ → List ℕ → List ℕ → List ℕ → List ℕ → Type 0
-Begins text room space (B.Runs n size) I S R B C = Runs text n size space I S R
-Begins text room space (B.Refused end) I S R B C = ((d : Description) → readText text ≡ legal d → length (encode d) ≤ room) → Refuses text B C end
+abbrev pub Begins : List ℕ → ℕ → Begun → List ℕ → List ℕ → List ℕ → List ℕ → List ℕ → Type 0
+Begins text space (B.Runs n size) I S R B C = Runs text n size space I S R
+Begins text space (B.Refused end) I S R B C = Refuses text B C end

@@ -10,7 +10,12 @@ ghost use Prim.Native.Nat.{_≤_};
 ghost use lib.ListN.{length};
 ghost use Rattle.language.specs.Image.{passes};
 ghost use Rattle.language.specs.RecordBytes.{recordSize};
-ghost use Rattle.trace_whole.specs.Begins.{Begins, Opened};
+ghost use Rattle.trace_whole.specs.Begins.{Begins, Opened, imageRoom};
+
+// Room for the image of every legal text (docs/IMAGE.md), and for what is printed of a text that is refused.
+pub const IMAGE: usize = 165556;
+
+pub const REFUSED: usize = 50;
 
 pub enum Begun {
     // The bytes of the image and of the store.
@@ -37,8 +42,8 @@ pub fn begin_run(
     record: &mut [u8],
     out: &mut [u8],
 ) -> Begun
-    requires { ⌜ (16384 ≤ length (now store)) × (length (now «record») ≡ recordSize) ⌝ }
-    ensures { λ r. ⌜ Begins (now (text .entry)) (length (now (image .entry))) (length (now (store .entry))) r (now (image .exit)) (now (store .exit)) (now («record» .exit)) (now (out .entry)) (now (out .exit)) ⌝ }
+    requires { ⌜ (imageRoom ≤ length (now image)) × (16384 ≤ length (now store)) × (length (now «record») ≡ recordSize) ⌝ }
+    ensures { λ r. ⌜ Begins (now (text .entry)) (length (now (store .entry))) r (now (image .exit)) (now (store .exit)) (now («record» .exit)) (now (out .entry)) (now (out .exit)) ⌝ }
 {
     match call_read::read(text, image) {
         ReadReply::Refused(n, place) => Begun::Refused(line::refusal(

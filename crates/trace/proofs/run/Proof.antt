@@ -1,11 +1,8 @@
-use mathlib.Core.Path.{_≡_, sym, ap, _∙_}
-use Prim.Native.Nat.{ℕ, _-_, _≤_}
+use mathlib.Core.Path.{_≡_}
+use Prim.Native.Nat.{ℕ, _≤_}
 use native.Mathlib.Omega.{arith}
-use lib.ListN.{length, length-replicate, take}
-use lib.Seq.{length-take-le}
-use Rattle.language.specs.Decode.{decode}
-use Rattle.language.specs.Image.{passes}
-use Rattle.language.specs.Layout.{storeSize}
+use lib.ListN.{length, length-replicate}
+use Rattle.trace_whole.proofs.BegunLaws.{runs-ready}
 use Rattle.trace_whole.specs.Begins.{Runs}
 use borrow.Author.Needs.{needs}
 use Rattle.trace.proofs.run.Statement.{statement}
@@ -24,7 +21,8 @@ slice-aggregate-begin-run-4 : tie.Need-slice-aggregate-begin-run-4
 slice-aggregate-begin-run-4 c = search needs
 
 begin-run-requires : tie.Need-begin-run-requires
-begin-run-requires c κs = search needs
+begin-run-requires c κs =
+    (omega (arith, length-replicate {A = ℕ} 165556 0), search needs, search needs, search needs)
 
 enum-known-end : tie.Need-enum-known-end
 enum-known-end c = search needs
@@ -71,13 +69,8 @@ slice-aggregate-cycles c = search needs
 cycles-requires : tie.Need-cycles-requires
 cycles-requires c κs =
     let r : Runs (c .before .before .before .before .before .before .before .before .before .before .before .before .before .before .before .before .before .args .text .now) (c .before .before .before .before .before .n .given .0 .0) (c .before .before .before .before .before .n .given .0 .1 .0) _ (c .before .before .before .before .before .before .before .before .before .before .before .begin-run .last .1 .0) (c .before .before .before .before .before .before .before .before .before .before .before .begin-run .last .1 .1 .0) (c .before .before .before .before .before .before .before .before .before .before .before .begin-run .last .1 .1 .1 .0) = rw (c .before .before .before .before .before .n .given .1) at (c .before .before .before .before .before .before .before .before .before .before .before .begin-run .ensures) in
-    let z : c .before .before .before .before .before .n .given .0 .0 - 0 ≡ c .before .before .before .before .before .n .given .0 .0 = omega arith in
-    let w : c .before .before .before .before .before .n .given .0 .1 .0 - 0 ≡ c .before .before .before .before .before .n .given .0 .1 .0 = omega arith in
-    let h : c .before .before .before .before .before .n .given .0 .1 .0 ≤ 16384 = omega (arith, r .fits, length-replicate {A = ℕ} 16384 0) in
-    let k : length (c .before .before .before .before .before .before .before .before .before .before .before .begin-run .last .1 .1 .0) ≡ 16384 = search needs in (
-      ap (λ (m : ℕ). passes (take m (c .before .before .before .before .before .before .before .before .before .before .before .begin-run .last .1 .0))) z ∙ r .passed,
-      length-take-le (c .before .before .before .before .before .n .given .0 .1 .0 - 0) (c .before .before .before .before .before .before .before .before .before .before .before .begin-run .last .1 .1 .0) (omega (arith, h, k)) ∙ (w ∙ (r .is ∙ ap (λ (m : ℕ). storeSize (decode (take m (c .before .before .before .before .before .before .before .before .before .before .before .begin-run .last .1 .0)))) (sym z))),
-    )
+    let k : length (c .before .before .before .before .before .before .before .before .before .before .before .begin-run .last .1 .1 .0) ≡ 16384 = search needs in
+    runs-ready r (omega (arith, k, length-replicate {A = ℕ} 16384 0))
 
 returns : tie.Need-returns
 returns c = search needs

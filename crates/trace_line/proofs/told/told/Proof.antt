@@ -1,3 +1,4 @@
+use native.Mathlib.Omega.{arith}
 use Rattle.language.specs.Scan.{bytes}
 use Rattle.trace_line.proofs.TurnLaws.{carried-on, carried-refused, carried-stop}
 use borrow.Author.Needs.{needs}
@@ -45,7 +46,7 @@ same-length c = search needs
 
 returns : tie.Need-returns
 returns c =
-    λ R R′ scratch k q is. carried-on (c .before .before .before .before .before .before .before .before .before .args .answer) scratch is _ (c .before .before .before .before .enum-told .given .1) (c .before .before .before .before .before .before .before .before .before .args .state) q (c .before .before .shown .ensures)
+    λ R R′ scratch k q is. carried-on (c .before .before .before .before .before .before .before .before .before .args .answer) scratch is (omega arith) _ (c .before .before .before .before .enum-told .given .1) (c .before .before .before .before .before .before .before .before .before .args .state) q (c .before .before .shown .ensures)
 
 same-length-2 : tie.Need-same-length-2
 same-length-2 c = search needs
@@ -53,7 +54,7 @@ same-length-2 c = search needs
 returns-2 : tie.Need-returns-2
 unfolding bytes
 returns-2 c =
-    λ R R′ scratch k q is. carried-stop (c .before .before .before .before .before .before .before .before .before .before .before .before .args .answer) scratch is _ (c .before .before .before .before .before .before .before .answer .given .1) (rw (c .before .before .before .stop-number .ensures) at (c .before .before .numbered .ensures))
+    λ R R′ scratch k q is. carried-stop (c .before .before .before .before .before .before .before .before .before .before .before .before .args .answer) scratch is _ (omega (arith, c .before .before .before .stop-number .ensures)) (c .before .before .before .before .before .before .before .answer .given .1) (rw (c .before .before .before .stop-number .ensures) at (c .before .before .numbered .ensures))
 
 same-length-3 : tie.Need-same-length-3
 same-length-3 c = search needs
@@ -61,7 +62,7 @@ same-length-3 c = search needs
 returns-3 : tie.Need-returns-3
 unfolding bytes
 returns-3 c =
-    λ R R′ scratch k q is. carried-refused (c .before .before .before .before .before .before .before .before .before .before .before .before .args .answer) scratch is _ (c .before .before .before .before .before .before .before .answer2 .given .1) (rw (c .before .before .before .refusal-number .ensures) at (c .before .before .numbered2 .ensures))
+    λ R R′ scratch k q is. carried-refused (c .before .before .before .before .before .before .before .before .before .before .before .before .args .answer) scratch is _ (omega (arith, c .before .before .before .refusal-number .ensures)) (c .before .before .before .before .before .before .before .answer2 .given .1) (rw (c .before .before .before .refusal-number .ensures) at (c .before .before .numbered2 .ensures))
 
 pub told-spec : {M : Type 1} → statement M
 told-spec =

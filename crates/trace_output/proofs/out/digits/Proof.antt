@@ -4,13 +4,13 @@ use Prim.Native.Nat.{ℕ, _+_, _-_, _%_, _≤_, _<_}
 use native.Mathlib.Omega.{arith}
 use borrow.Author.Needs.{needs}
 use lib.ListN.{drop, drop-of-length-le, length, length-set}
-use Rattle.language.specs.Trace.{decimalFrom}
-use Rattle.trace_output.proofs.DecimalLaws.{digit-last, digit-more, one-back}
+use Rattle.language.specs.Trace.{decimal, decimalFrom}
+use Rattle.trace_output.proofs.DecimalLaws.{digit-last, digit-more, one-back, twenty-enough}
 use Rattle.trace_output.proofs.out.digits.Statement.{statement}
 use Rattle.trace_output.proofs.out.digits.Tie as tie
 
 abbrev Inv-loop : tie.InvT-loop
-Inv-loop n s₀ at₀ left₀ s at left = (at ≤ 20) × (length s ≡ 20) × (decimalFrom at left (drop at s) ≡ decimalFrom 20 n [])
+Inv-loop n s₀ at₀ left₀ s at left = (at ≤ 20) × (length s ≡ 20) × (decimalFrom at left (drop at s) ≡ decimal n)
 
 abbrev μ-loop : tie.MeasureT-loop
 μ-loop n s₀ at₀ left₀ s at left = at
@@ -19,7 +19,7 @@ loop-holds : tie.Need-loop-holds Inv-loop μ-loop
 loop-holds c =
     let a = c .before .args in
     let h : length (a .last .now) ≤ 20 = omega (arith, c .s .given .0 .1) in
-    (omega arith, c .s .given .0 .1, ap (decimalFrom 20 (a .n)) (drop-of-length-le (a .last .now) h))
+    (omega arith, c .s .given .0 .1, ap (decimalFrom 20 (a .n)) (drop-of-length-le (a .last .now) h) ∙ twenty-enough (a .n) (omega arith))
 
 sub-at : tie.Need-sub-at Inv-loop μ-loop
 sub-at c = omega arith

@@ -3,6 +3,7 @@ use Prim.Native.Nat.{ℕ, _-_, _≤_}
 use native.Mathlib.Omega.{arith}
 use lib.ListN.{length, take}
 use Rattle.language.specs.Image.{passes}
+use Rattle.about_calls.specs.ImageRoom.{largest-image, read-fits}
 use Rattle.trace_whole.proofs.BegunLaws.{found, found-passes, refuses, runs}
 use borrow.Author.Needs.{needs}
 use Rattle.trace_whole.proofs.begun.begin_run.Statement.{statement}
@@ -42,7 +43,7 @@ opened-requires : tie.Need-opened-requires
 opened-requires c κs =
     let f = found (c .before .before .before .before .before .before .before .before .before .before .before .before .before .before .before .before .args .text .now) (c .before .before .before .before .before .before .before .before .before .read .last .1 .0) (c .before .before .before .before .before .before .before .before .before .read .result) (c .before .before .before .before .before .n2 .given .0 .0) _ (c .before .before .before .before .before .n2 .given .1) (c .before .before .before .before .before .before .before .before .before .read .ensures .0) in
     let z : c .before .before .before .before .before .n2 .given .0 .0 - 0 ≡ c .before .before .before .before .before .n2 .given .0 .0 = omega arith in
-    (ap (λ (m : ℕ). passes (take m (c .before .before .before .before .before .before .before .before .before .read .last .1 .0))) z ∙ found-passes f, c .before .before .before .before .before .before .before .before .before .before .before .before .before .before .before .before .pre .0)
+    (ap (λ (m : ℕ). passes (take m (c .before .before .before .before .before .before .before .before .before .read .last .1 .0))) z ∙ found-passes f, c .before .before .before .before .before .before .before .before .before .before .before .before .before .before .before .before .pre .1)
 
 same-length : tie.Need-same-length
 same-length c = search needs
@@ -52,7 +53,8 @@ same-length-2 c = search needs
 
 returns : tie.Need-returns
 returns c =
-    λ h. refuses (c .before .before .before .before .before .before .before .before .before .before .before .before .before .before .before .before .before .args .text .now) (c .before .before .before .before .before .before .before .before .before .before .read .last .1 .0) (c .before .before .before .before .before .before .before .before .before .before .read .result) _ _ _ (c .before .before .before .before .before .before .n .given .1) (c .before .before .before .before .before .before .before .before .before .before .read .ensures .0) (rw (c .before .before .before .refusal-number .ensures) at (c .before .before .refusal .ensures)) h
+    let a = c .before .before .before .before .before .before .before .before .before .before .before .before .before .before .before .before .before in
+    refuses (c .before .before .before .before .before .before .before .before .before .before .before .before .before .before .before .before .before .args .text .now) (c .before .before .before .before .before .before .before .before .before .before .read .last .1 .0) (c .before .before .before .before .before .before .before .before .before .before .read .result) _ _ _ (omega (arith, c .before .before .before .refusal-number .ensures)) (omega arith) (c .before .before .before .before .before .before .n .given .1) (c .before .before .before .before .before .before .before .before .before .before .read .ensures .0) (rw (c .before .before .before .refusal-number .ensures) at (c .before .before .refusal .ensures)) (λ d e. omega (arith, read-fits (a .args .text .now) d e, largest-image, a .pre .0))
 
 same-length-3 : tie.Need-same-length-3
 same-length-3 c = search needs
@@ -67,7 +69,7 @@ returns-2 : tie.Need-returns-2
 returns-2 c =
     let f = found (c .before .before .before .before .before .before .before .before .before .before .before .before .before .before .before .before .before .before .before .before .before .args .text .now) (c .before .before .before .before .before .before .before .before .before .before .before .before .before .before .read .last .1 .0) (c .before .before .before .before .before .before .before .before .before .before .before .before .before .before .read .result) (c .before .before .before .before .before .before .before .before .before .before .n2 .given .0 .0) _ (c .before .before .before .before .before .before .before .before .before .before .n2 .given .1) (c .before .before .before .before .before .before .before .before .before .before .before .before .before .before .read .ensures .0) in
     let z : c .before .before .before .before .before .before .before .before .before .before .n2 .given .0 .0 - 0 ≡ c .before .before .before .before .before .before .before .before .before .before .n2 .given .0 .0 = omega arith in
-    runs f z (c .before .before .before .before .before .before .before .before .before .before .before .before .before .before .before .before .before .before .before .before .before .pre .1) (c .before .before .before .before .opened .ensures)
+    runs f z (c .before .before .before .before .before .before .before .before .before .before .before .before .before .before .before .before .before .before .before .before .before .pre .2) (c .before .before .before .before .opened .ensures)
 
 pub begin-run-spec : {M : Type 1} → statement M
 begin-run-spec =
