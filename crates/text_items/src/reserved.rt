@@ -10,7 +10,7 @@ ghost use Prim.Native.Nat.{_<_};
 ghost use lib.ListN.{getD};
 ghost use Rattle.language.specs.Characters.{folded};
 ghost use Rattle.language.specs.Scan.{reservedKind, same};
-ghost use Rattle.text_items.specs.Tables.{reservedRow};
+ghost use Rattle.text_items.specs.Tables.{reservedBegins, reservedRow};
 
 const COUNT: u8 = 23;
 
@@ -28,11 +28,10 @@ const WORDS: [u8; 230] = *b"\
 const BEGINS: [u8; 23] = *b"CDEITEEECREHTTIOLRRMTOC";
 
 // Whether a name is the reserved word of a row; `begin` is the capital with which the name begins.
-fn is_word(name: &[u8], begin: u8, row: usize) -> bool
-    requires { ⌜ (row < 23) × (begin ≡ folded (getD (now name) 0 0)) ⌝ }
+fn is_word(name: &[u8], begins: &[u8; 23], begin: u8, row: usize) -> bool
+    requires { ⌜ (row < 23) × (now begins ≡ reservedBegins) × (begin ≡ folded (getD (now name) 0 0)) ⌝ }
     ensures { λ r. ⌜ r ≡ same (map folded (now (name .entry))) (map folded (reservedRow row)) ⌝ }
 {
-    let begins = BEGINS;
     if begins[row] != begin {
         return false;
     }
@@ -42,14 +41,15 @@ fn is_word(name: &[u8], begin: u8, row: usize) -> bool
     names::matches(name, word)
 }
 
-// The kind of the reserved word that a name is, and 0 where it is none.
+// The kind of the reserved word that a name is, and 0 where it is none. The letters are laid out once for all rows.
 pub fn kind_of(name: &[u8]) -> u8
     ensures { λ r. ⌜ r ≡ reservedKind (map folded (now (name .entry))) ⌝ }
 {
     let begin = letters::fold(parts::byte(name, 0));
+    let begins = BEGINS;
     let mut row = 0;
     while row < COUNT {
-        if is_word(name, begin, row as usize) {
+        if is_word(name, &begins, begin, row as usize) {
             return FIRST + row;
         }
         row += 1;
