@@ -36,7 +36,7 @@ ghost use Rattle.store_geometry.specs.Subscripts.{subscriptsMeant};
 ghost use Rattle.store_layout.specs.InBytes.{bytes};
 ghost use Rattle.run_references.specs.Described.{ForEach};
 ghost use Rattle.run_references.specs.Places.{Worked, foundMeant, referred, refersTo};
-ghost use Rattle.run_expressions.specs.Sides.{SideRead, SideThere, sideMeant};
+ghost use Rattle.run_expressions.specs.Sides.{PlaceWorked, SideRead, SideThere, sideMeant};
 ghost use Rattle.run_references.specs.Worth.{answered};
 
 // The facility that a reference names and the place in it, or why there is none.
@@ -56,6 +56,24 @@ fn distance(section: &[u8], expressions: &[u8], store: &[u8], n: usize, s: Sough
     }
 }
 
+// The place that a reference names. The distances of its subscripts count where its facility is there and their number right. It stands apart from what works them out, so that no place is on the stack meanwhile.
+fn place(section: &[u8], number: u8, s: Subscripts, at: Distance, inside: Distance) -> Side
+    ensures { λ r. ⌜ SideRead (now (section .entry)) number r × PlaceWorked (now (section .entry)) number s at inside r ⌝ }
+{
+    let f = facilities::facility_at(section, number as usize);
+    if section.len() / record_sizes::FACILITY <= number as usize {
+        return Side::Stuck(Stuck::NoFacility);
+    }
+    if !subscripts::right_count(f.dimensions, s) {
+        return Side::Stuck(Stuck::WrongSubscripts);
+    }
+    match distances::located(number, f, s, at, inside) {
+        Located::At(p) => Side::At(f, p),
+        Located::Stops(k) => Side::Stops(k),
+        Located::Stuck(k) => Side::Stuck(k),
+    }
+}
+
 // The place that a reference at record n names.
 pub fn place_of(
     section: &[u8],
@@ -68,19 +86,9 @@ pub fn place_of(
     ensures { λ r. ⌜ SideRead (now (section .entry)) number r × ForEach (now (section .entry)) (now (expressions .entry)) (now (store .entry)) (λ d x. sideMeant r ≡ placeOf d (evalBelow (bytes d) d x n) (refersTo number s)) ⌝ }
 {
     let f = facilities::facility_at(section, number as usize);
-    if section.len() / record_sizes::FACILITY <= number as usize {
-        return Side::Stuck(Stuck::NoFacility);
-    }
-    if !subscripts::right_count(f.dimensions, s) {
-        return Side::Stuck(Stuck::WrongSubscripts);
-    }
     let at = distance(section, expressions, store, n, distances::first(f, s));
     let inside = distance(section, expressions, store, n, distances::second(f, s, at));
-    match distances::located(number, f, s, at, inside) {
-        Located::At(p) => Side::At(f, p),
-        Located::Stops(k) => Side::Stops(k),
-        Located::Stuck(k) => Side::Stuck(k),
-    }
+    place(section, number, s, at, inside)
 }
 
 // The value of what a reference names. It works the subscripts out itself: place_of would stand on the stack once for each subscript in another.
@@ -95,25 +103,19 @@ fn operand(
     ensures { λ r. ⌜ ForEach (now (section .entry)) (now (expressions .entry)) (now (store .entry)) (λ d x. answered r ≡ M.operand (bytes d) d x (evalBelow (bytes d) d x n) number (subscriptsMeant s)) ⌝ }
 {
     let f = facilities::facility_at(section, number as usize);
-    if section.len() / record_sizes::FACILITY <= number as usize {
-        return worth::sticks(Stuck::NoFacility);
-    }
-    if !subscripts::right_count(f.dimensions, s) {
-        return worth::sticks(Stuck::WrongSubscripts);
-    }
     let at = distance(section, expressions, store, n, distances::first(f, s));
     let inside = distance(section, expressions, store, n, distances::second(f, s, at));
-    match distances::located(number, f, s, at, inside) {
-        Located::At(p) => {
-            let kind = f.kind;
+    match place(section, number, s, at, inside) {
+        Side::At(g, p) => {
+            let kind = g.kind;
             if kinds::is_computed(kind) {
-                let w = part(section, expressions, store, n, f.place);
-                return reading::of_computed(f, p, w);
+                let w = part(section, expressions, store, n, g.place);
+                return reading::of_computed(g, p, w);
             }
-            reading::of_stored(store, f, p)
+            reading::of_stored(store, g, p)
         }
-        Located::Stops(k) => worth::stops(k),
-        Located::Stuck(k) => worth::sticks(k),
+        Side::Stops(k) => worth::stops(k),
+        Side::Stuck(k) => worth::sticks(k),
     }
 }
 

@@ -1,6 +1,6 @@
 -- The place that a reference names: when it has one, whose it is, and what is loaded from there.
 use mathlib.Core.Bool.{Bool, true, false, cond}
-use mathlib.Core.List.{List}
+use mathlib.Core.List.{List, []}
 use mathlib.Core.Path.{_≡_, refl, sym, ap, _∙_}
 use Prim.Native.Nat.{ℕ, _+_, _*_, _/_, _≤_, _<_}
 use native.Mathlib.Omega.{arith}
@@ -25,9 +25,9 @@ use Rattle.store_layout.specs.InBytes.{InBytes, bytes, loadBytes, placeOfWord}
 use Rattle.store_layout.specs.Parts.{loaded}
 use Rattle.store_geometry.specs.Subscripts.{subscriptsMeant}
 use Rattle.store_geometry.specs.declared.subscripts.Subscripts.{Subscripts}
+use Rattle.store_geometry.specs.declared.subscripts.Subscripts.the-variants as S
 use Rattle.run_references.specs.Described.{Describes}
 use Rattle.run_references.specs.Places.{Worked, bitOf, firstOf, onDistance, refersTo, secondOf}
-use Rattle.run_references.specs.declared.distances.Sought.{Sought}
 use Rattle.run_references.specs.declared.places.Distance.{Distance}
 use Rattle.run_references.specs.declared.places.Distance.the-variants as DV
 use Rattle.language.specs.Tests.{both}
@@ -138,13 +138,8 @@ module _ {d : Description} {F E : List ℕ} (h : Describes d F E) (n : ℕ) (f :
       pub miscounted : rightCount (f .dimensions) (subscriptsMeant s) ≡ false → placeOf d ev (refersTo n s) ≡ Located.stuck M.wrongSubscripts
       miscounted q = wrong-subscripts d ev (refersTo n s) (rw (h .count) l) (facilityMeant nameOf f) facility-known q
 
-      -- Its place follows from the distances of the subscripts sought.
-      pub place-worked : rightCount (f .dimensions) (subscriptsMeant s) ≡ true
-          → (i j : Sought) (a b : Distance) → i ≡ firstOf f s → Worked ev i a → j ≡ secondOf f s a → Worked ev j b
-          → (m : Located) → (Worked ev (firstOf f s) a → Worked ev (secondOf f s a) b → m ≡ located ev n (facilityMeant nameOf f) (subscriptsMeant s))
-          → placeOf d ev (refersTo n s) ≡ m
-      place-worked q i j a b u v w z m y =
-          right-subscripts d ev (refersTo n s) (rw (h .count) l) (facilityMeant nameOf f) facility-known q ∙ sym (y (rw u at v) (rw w at z))
+      pub counted : rightCount (f .dimensions) (subscriptsMeant s) ≡ true → placeOf d ev (refersTo n s) ≡ located ev n (facilityMeant nameOf f) (subscriptsMeant s)
+      counted q = right-subscripts d ev (refersTo n s) (rw (h .count) l) (facilityMeant nameOf f) facility-known q
 
   module _ (l : n < length (d .facilities)) (k : isComputed (facilityMeant nameOf f .kind) ≡ false) where
     pub stored-place : f .place ≡ placeIn (d .facilities) n
@@ -163,6 +158,33 @@ module _ {d : Description} {F E : List ℕ} (h : Describes d F E) (n : ℕ) (f :
     stored-load B w a c =
         ap (λ (z : ℕ). loaded B z (wordLength (facilityMeant nameOf f)) a c .number) (stored-word w)
         ∙ sym (ap (λ (y : D.Facility). loaded B (placeOfWord (d .facilities) n w) (wordLength y) a c .number) facility-known)
+
+-- A facility that is read twice has the same subscripts to be worked out.
+module _ {F : List ℕ} {n : ℕ} (f g : FacilityRecord) (p : FacilityRead F n f) (q : FacilityRead F n g) where
+  meant-once : facilityMeant [] f ≡ facilityMeant [] g
+  meant-once = p .meaning [] ∙ sym (q .meaning [])
+
+  same-words : f .words ≡ g .words
+  same-words = ap (λ (y : D.Facility). record { first = y .words .first; last = y .words .last }) meant-once
+
+  same-bits : f .bits ≡ g .bits
+  same-bits = ap (λ (y : D.Facility). record { first = y .bits .first; last = y .bits .last }) meant-once
+
+  pub first-once : (s : Subscripts) → firstOf f s ≡ firstOf g s
+  first-once S.Whole = refl
+  first-once (S.One e) = rw (ap (λ (y : D.Facility). y .dimensions) meant-once, same-bits, same-words)
+  first-once (S.Part b) = refl
+  first-once (S.Two e k) = rw same-words
+  first-once (S.WordPart e b) = rw same-words
+
+  pub second-once : (s : Subscripts) (d : Distance) → secondOf f s d ≡ secondOf g s d
+  second-once S.Whole d = refl
+  second-once (S.One e) d = refl
+  second-once (S.Part b) d = refl
+  second-once (S.Two e k) (DV.At w) = rw same-bits
+  second-once (S.Two e k) (DV.Stops m) = refl
+  second-once (S.Two e k) (DV.Stuck m) = refl
+  second-once (S.WordPart e b) d = refl
 
 -- ---- What is read there.
 

@@ -8,13 +8,14 @@ use Rattle.language.specs.Meaning as M
 use Rattle.language.specs.Meaning.{armBack, evalBelow, evalNode, placeOf}
 use Rattle.language.specs.Value as L
 use Rattle.image_records.specs.Nodes.{constantNumber, held}
-use Rattle.image_sections.specs.Declarations.{facilityMeant}
+use Rattle.image_sections.specs.Declarations.{FacilityRead, facilityMeant}
 use Rattle.store_layout.specs.InBytes.{bytes, loadBytes}
 use Rattle.run_references.specs.Described.{ForEach}
-use Rattle.run_references.specs.Places.{foundMeant, locatedMeant, placeMeant, refersTo}
+use Rattle.run_references.specs.Places.{foundMeant, placeMeant, refersTo}
 use Rattle.image_records.specs.References.{referenceMeant}
+use Rattle.run_expressions.specs.Sides.{sideMeant}
 use Rattle.run_references.proofs.EvalLaws.{constant-worth, eval-before, eval-node, eval-not-before, held-fitting, node-read, other-worth}
-use Rattle.run_references.proofs.PlaceLaws.{computed-read, facility-known, miscounted, nameOf, none-read, place-of-facility, place-there, place-worked, stored-load, stored-read}
+use Rattle.run_references.proofs.PlaceLaws.{computed-read, facility-known, nameOf, place-of-facility, place-there, stored-load, stored-read}
 use Prim.Native.Nat.{ℕ, _+_, _*_, _<_}
 use borrow.Author.Needs.{needs}
 use borrow.Fn.Kinds.{In}
@@ -46,9 +47,8 @@ use Rattle.run_expressions.proofs.eval.+arm+binary+choice+distance+eval
 use Rattle.run_references.proofs.arms.arm_back.Reads as arm-back-reads
 use Rattle.run_references.proofs.arms.arm_number.Reads as arm-number-reads
 use Rattle.run_references.proofs.arms.decides.Reads as decides-reads
-use Rattle.store_geometry.proofs.subscripts.right_count.Reads as right-count-reads
+use Rattle.run_expressions.proofs.eval.place.Reads as place-reads
 use Rattle.run_references.proofs.distances.first.Reads as first-reads
-use Rattle.run_references.proofs.distances.located.Reads as located-reads
 use Rattle.run_references.proofs.distances.second.Reads as second-reads
 use Rattle.run_references.proofs.places.subscript.Reads as subscript-reads
 use Rattle.run_references.proofs.reading.of_computed.Reads as of-computed-reads
@@ -157,7 +157,7 @@ abbrev eval-calls : ℕ → eval-lts.Claims
 eval-calls t = (node-at-reads.Asked, node-at-reads.Learnt, constant-at-reads.Asked, constant-at-reads.Learnt, is-reads.Asked, is-reads.Learnt, binary-below t, binary.Post, part-below t, part.Post, prefix-reads.Asked, prefix-reads.Learnt, cut-reads.Asked, cut-reads.Learnt, choice-below t, choice.Post, other-below t, other.Post)
 
 abbrev operand-calls : ℕ → operand-lts.Claims
-operand-calls t = (facility-at-reads.Asked, facility-at-reads.Learnt, sticks-reads.Asked, sticks-reads.Learnt, right-count-reads.Asked, right-count-reads.Learnt, first-reads.Asked, first-reads.Learnt, distance-below t, distance.Post, second-reads.Asked, second-reads.Learnt, located-reads.Asked, located-reads.Learnt, is-computed-reads.Asked, is-computed-reads.Learnt, part-below t, part.Post, of-computed-reads.Asked, of-computed-reads.Learnt, of-stored-reads.Asked, of-stored-reads.Learnt, stops-reads.Asked, stops-reads.Learnt)
+operand-calls t = (facility-at-reads.Asked, facility-at-reads.Learnt, first-reads.Asked, first-reads.Learnt, distance-below t, distance.Post, second-reads.Asked, second-reads.Learnt, place-reads.Asked, place-reads.Learnt, is-computed-reads.Asked, is-computed-reads.Learnt, part-below t, part.Post, of-computed-reads.Asked, of-computed-reads.Learnt, of-stored-reads.Asked, of-stored-reads.Learnt, stops-reads.Asked, stops-reads.Learnt, sticks-reads.Asked, sticks-reads.Learnt)
 
 abbrev other-calls : ℕ → other-lts.Claims
 other-calls t = (reference-of-reads.Asked, reference-of-reads.Learnt, operand-below t, operand.Post, sticks-reads.Asked, sticks-reads.Learnt)
@@ -392,41 +392,15 @@ eval-returns-6 t c =
     c .other .ensures d x h e ∙ (sym (other-worth (bytes d) d x v (evalBelow (bytes d) d x (a .n)) (c .before .before .node-at .result) (c .before .match .keys6)) ∙ sym (eval-node (bytes d) d x (a .n) _ (node-read d (a .expressions .now) (a .n) (h .nodes) {r = c .before .before .node-at .result} (c .before .before .node-at .result) (c .before .before .node-at .ensures) refl)))
 
 -- The place found by the subscripts' distances is the reference's.
-operand-place : (t : ℕ) (c : operand-lts.After-located (operand-calls t) (operand-at t) operand.Post)
-    → let a = c .before .before .before .before .before .before .before .before .before .before .before .before .args in
-    ForEach (a .section .now) (a .expressions .now) (a .store .now) (λ d x. placeOf d (evalBelow (bytes d) d x (a .n)) (refersTo (a .number) (a .s)) ≡ locatedMeant (c .located .result))
-operand-place t c =
-    λ d x h e.
-    let a = c .before .before .before .before .before .before .before .before .before .before .before .before .args in
-    let f = c .before .before .before .before .before .before .before .before .facility-at in
-    let ev = evalBelow (bytes d) d x (a .n) in
-    place-worked h (a .number) (f .result) (f .ensures) ev (a .s) (c .before .before .before .before .before .before .before .if1 .left) (sym (c .before .before .before .before .before .before .right-count .ensures) ∙ not-false _ (c .before .before .before .before .before .if2 .left)) _ _ _ _ (c .before .before .before .before .first .ensures) (c .before .before .before .distance .ensures d x h e) (c .before .before .second .ensures) (c .before .distance2 .ensures d x h e) _ (c .located .ensures ev (nameOf h (a .number) (f .result) (f .ensures)))
+operand-side : (t : ℕ) (c : operand-lts.After-place (operand-calls t) (operand-at t) operand.Post)
+    → let a = c .before .before .before .before .before .before .before .before .before .args in
+    ForEach (a .section .now) (a .expressions .now) (a .store .now) (λ d x. sideMeant (c .place .result) ≡ placeOf d (evalBelow (bytes d) d x (a .n)) (refersTo (a .number) (a .s)))
+operand-side t c d x h e =
+    let a = c .before .before .before .before .before .before .before .before .before .args in
+    c .place .ensures .1 d (a .expressions .now) h (evalBelow (bytes d) d x (a .n)) (c .before .before .before .before .before .facility-at .result) (c .before .before .before .before .before .facility-at .ensures) (rw (c .before .before .before .before .first .ensures) at (c .before .before .before .distance .ensures d x h e)) (rw (c .before .before .second .ensures) at (c .before .distance2 .ensures d x h e))
 
 operand-facility-at-requires : (t : ℕ) → operand-lts.Need-facility-at-requires (operand-calls t) (operand-at t) operand.Post
 operand-facility-at-requires t c κs = search needs
-
-operand-sticks-requires : (t : ℕ) → operand-lts.Need-sticks-requires (operand-calls t) (operand-at t) operand.Post
-operand-sticks-requires t c κs = search needs
-
-operand-returns : (t : ℕ) → operand-lts.Need-returns (operand-calls t) (operand-at t) operand.Post
-operand-returns t c =
-    λ d x h e.
-    let a = c .before .before .before .before .before .before .args in
-    let f = c .before .before .facility-at in
-    rw (none-read h (a .number) (f .result) (f .ensures) (evalBelow (bytes d) d x (a .n)) (a .s) (c .before .if1 .taken)) (c .sticks .ensures)
-
-operand-right-count-requires : (t : ℕ) → operand-lts.Need-right-count-requires (operand-calls t) (operand-at t) operand.Post
-operand-right-count-requires t c κs = search needs
-
-operand-sticks-requires-2 : (t : ℕ) → operand-lts.Need-sticks-requires-2 (operand-calls t) (operand-at t) operand.Post
-operand-sticks-requires-2 t c κs = search needs
-
-operand-returns-2 : (t : ℕ) → operand-lts.Need-returns-2 (operand-calls t) (operand-at t) operand.Post
-operand-returns-2 t c =
-    λ d x h e.
-    let a = c .before .before .before .before .before .before .before .before .args in
-    let f = c .before .before .before .before .facility-at in
-    rw (miscounted h (a .number) (f .result) (f .ensures) (evalBelow (bytes d) d x (a .n)) (a .s) (c .before .before .before .if1 .left) (sym (c .before .before .right-count .ensures) ∙ not-true _ (c .before .if2 .taken))) (c .sticks2 .ensures)
 
 operand-first-requires : (t : ℕ) → operand-lts.Need-first-requires (operand-calls t) (operand-at t) operand.Post
 operand-first-requires t c κs = search needs
@@ -440,32 +414,32 @@ operand-second-requires t c κs = search needs
 operand-distance-requires-2 : (t : ℕ) → operand-lts.Need-distance-requires-2 (operand-calls t) (operand-at t) operand.Post
 operand-distance-requires-2 t c κs = search needs
 
-operand-located-requires : (t : ℕ) → operand-lts.Need-located-requires (operand-calls t) (operand-at t) operand.Post
-operand-located-requires t c κs = search needs
+operand-place-requires : (t : ℕ) → operand-lts.Need-place-requires (operand-calls t) (operand-at t) operand.Post
+operand-place-requires t c κs = search needs
 
-operand-enum-known-p : (t : ℕ) → operand-lts.Need-enum-known-p (operand-calls t) (operand-at t) operand.Post
-operand-enum-known-p t c = search needs
+operand-enum-known-g : (t : ℕ) → operand-lts.Need-enum-known-g (operand-calls t) (operand-at t) operand.Post
+operand-enum-known-g t c = search needs
 
 operand-is-computed-requires : (t : ℕ) → operand-lts.Need-is-computed-requires (operand-calls t) (operand-at t) operand.Post
 operand-is-computed-requires t c κs = search needs
 
 operand-part-requires : (t : ℕ) → operand-lts.Need-part-requires (operand-calls t) (operand-at t) operand.Post
-operand-part-requires t c κs = let m = c .before .before .before .before .before .before .before .before .before .before .before .before .before .before .before .before .before .pre .0 in search needs
+operand-part-requires t c κs = let m = c .before .before .before .before .before .before .before .before .before .before .before .before .before .before .pre .0 in search needs
 
 operand-of-computed-requires : (t : ℕ) → operand-lts.Need-of-computed-requires (operand-calls t) (operand-at t) operand.Post
 operand-of-computed-requires t c κs = search needs
 
-operand-returns-3 : (t : ℕ) → operand-lts.Need-returns-3 (operand-calls t) (operand-at t) operand.Post
-operand-returns-3 t c =
+operand-returns : (t : ℕ) → operand-lts.Need-returns (operand-calls t) (operand-at t) operand.Post
+operand-returns t c =
     λ d x h e.
-    let a = c .before .before .before .before .before .before .before .before .before .before .before .before .before .before .before .before .before .before .before .args in
-    let f = c .before .before .before .before .before .before .before .before .before .before .before .before .before .before .before .facility-at .result in
-    let g = c .before .before .before .before .before .before .before .before .before .before .before .before .before .before .before .facility-at .ensures in
+    let a = c .before .before .before .before .before .before .before .before .before .before .before .before .before .before .before .before .args in
+    let f = c .before .before .before .before .before .g .given .0 .0 in
+    let g : FacilityRead (a .section .now) (a .number) f = rw (c .before .before .before .before .before .g .given .1) at (c .before .before .before .before .before .before .before .place .ensures .0) in
     let name = nameOf h (a .number) f g in
-    let p = placeMeant (c .before .before .before .before .before .p .given .0 .0) in
+    let p = placeMeant (c .before .before .before .before .before .g .given .0 .1 .0) in
     let ev = evalBelow (bytes d) d x (a .n) in
-    let q = operand-place t (c .before .before .before .before .before .before .before) d x h e ∙ ap locatedMeant (c .before .before .before .before .before .p .given .1) in
-    let z = sym (c .before .before .before .is-computed .ensures) ∙ c .before .before .if3 .taken in
+    let q = sym (operand-side t (c .before .before .before .before .before .before .before) d x h e) ∙ ap sideMeant (c .before .before .before .before .before .g .given .1) in
+    let z = sym (c .before .before .before .is-computed .ensures) ∙ c .before .before .if1 .taken in
     rw (facility-known h (a .number) f g, q)
     (c .of-computed .ensures d x name ∙ (ap (λ (w : M.Answer). M.after w (M.partOfValue (bytes d) d x (facilityMeant name f) p)) (c .before .part .ensures d x h e) ∙ sym (computed-read d x ev name f p z)))
 
@@ -481,32 +455,32 @@ operand-stops-requires t c κs = search needs
 operand-enum-known-k-2 : (t : ℕ) → operand-lts.Need-enum-known-k-2 (operand-calls t) (operand-at t) operand.Post
 operand-enum-known-k-2 t c = search needs
 
-operand-sticks-requires-3 : (t : ℕ) → operand-lts.Need-sticks-requires-3 (operand-calls t) (operand-at t) operand.Post
-operand-sticks-requires-3 t c κs = search needs
+operand-sticks-requires : (t : ℕ) → operand-lts.Need-sticks-requires (operand-calls t) (operand-at t) operand.Post
+operand-sticks-requires t c κs = search needs
 
-operand-returns-4 : (t : ℕ) → operand-lts.Need-returns-4 (operand-calls t) (operand-at t) operand.Post
-operand-returns-4 t c =
+operand-returns-2 : (t : ℕ) → operand-lts.Need-returns-2 (operand-calls t) (operand-at t) operand.Post
+operand-returns-2 t c =
     λ d x h e.
-    let a = c .before .before .before .before .before .before .before .before .before .before .before .before .before .before .before .before .before .before .args in
-    let f = c .before .before .before .before .before .before .before .before .before .before .before .before .before .before .facility-at .result in
-    let g = c .before .before .before .before .before .before .before .before .before .before .before .before .before .before .facility-at .ensures in
+    let a = c .before .before .before .before .before .before .before .before .before .before .before .before .before .before .before .args in
+    let f = c .before .before .before .before .g .given .0 .0 in
+    let g : FacilityRead (a .section .now) (a .number) f = rw (c .before .before .before .before .g .given .1) at (c .before .before .before .before .before .before .place .ensures .0) in
     let name = nameOf h (a .number) f g in
-    let p = placeMeant (c .before .before .before .before .p .given .0 .0) in
+    let p = placeMeant (c .before .before .before .before .g .given .0 .1 .0) in
     let ev = evalBelow (bytes d) d x (a .n) in
     let r = refersTo (a .number) (a .s) in
-    let q = operand-place t (c .before .before .before .before .before .before) d x h e ∙ ap locatedMeant (c .before .before .before .before .p .given .1) in
-    let z = sym (c .before .before .is-computed .ensures) ∙ c .before .if3 .left in
+    let q = sym (operand-side t (c .before .before .before .before .before .before) d x h e) ∙ ap sideMeant (c .before .before .before .before .g .given .1) in
+    let z = sym (c .before .before .is-computed .ensures) ∙ c .before .if1 .left in
     let load : ℕ → M.Answer = λ m. M.Answer.is (L.value (p .count) m) in
     rw (facility-known h (a .number) f g, q)
     (c .of-stored .ensures name ∙ (ap load (stored-load h (a .number) f g (place-there d ev r p q) z (a .store .now) (p .word) (p .from) (p .count) ∙ (ap (λ (k : ℕ). loadBytes d (a .store .now) (M.place k (p .word) (p .from) (p .count))) (sym (place-of-facility d ev r p q)) ∙ ap (λ (B : List ℕ). loadBytes d B p) (sym e))) ∙ sym (stored-read d x ev name f p z)))
 
-operand-returns-5 : (t : ℕ) → operand-lts.Need-returns-5 (operand-calls t) (operand-at t) operand.Post
-operand-returns-5 t c =
-    λ d x h e. rw (operand-place t (c .before .before .before .before) d x h e ∙ ap locatedMeant (c .before .before .k .given .1)) (c .stops .ensures)
+operand-returns-3 : (t : ℕ) → operand-lts.Need-returns-3 (operand-calls t) (operand-at t) operand.Post
+operand-returns-3 t c =
+    λ d x h e. rw (sym (operand-side t (c .before .before .before .before) d x h e) ∙ ap sideMeant (c .before .before .k .given .1)) (c .stops .ensures)
 
-operand-returns-6 : (t : ℕ) → operand-lts.Need-returns-6 (operand-calls t) (operand-at t) operand.Post
-operand-returns-6 t c =
-    λ d x h e. rw (operand-place t (c .before .before .before .before) d x h e ∙ ap locatedMeant (c .before .before .k2 .given .1)) (c .sticks3 .ensures)
+operand-returns-4 : (t : ℕ) → operand-lts.Need-returns-4 (operand-calls t) (operand-at t) operand.Post
+operand-returns-4 t c =
+    λ d x h e. rw (sym (operand-side t (c .before .before .before .before) d x h e) ∙ ap sideMeant (c .before .before .k2 .given .1)) (c .sticks .ensures)
 
 other-reference-of-requires : (t : ℕ) → other-lts.Need-reference-of-requires (other-calls t) (other-at t) other.Post
 other-reference-of-requires t c κs = search needs
@@ -563,8 +537,7 @@ pub +arm+binary+choice+distance+eval+operand+other+part-spec : {M : Type 1} → 
     (arm-sticks-requires t)
     (arm-returns-2 t)
     (arm-returns-3 t))
-    (λ t. binary-lts.spec
-    (part-below t, part.Post, binary-reads.Asked, binary-reads.Learnt)
+    (λ t. binary-lts.spec (binary-calls t)
     (binary-at t)
     binary.Post
     (binary-part-requires t)
@@ -628,29 +601,24 @@ pub +arm+binary+choice+distance+eval+operand+other+part-spec : {M : Type 1} → 
     (operand-at t)
     operand.Post
     (operand-facility-at-requires t)
-    (operand-sticks-requires t)
-    (operand-returns t)
-    (operand-right-count-requires t)
-    (operand-sticks-requires-2 t)
-    (operand-returns-2 t)
     (operand-first-requires t)
     (operand-distance-requires t)
     (operand-second-requires t)
     (operand-distance-requires-2 t)
-    (operand-located-requires t)
-    (operand-enum-known-p t)
+    (operand-place-requires t)
+    (operand-enum-known-g t)
     (operand-is-computed-requires t)
     (operand-part-requires t)
     (operand-of-computed-requires t)
-    (operand-returns-3 t)
+    (operand-returns t)
     (operand-of-stored-requires t)
     (operand-enum-known-k t)
     (operand-stops-requires t)
     (operand-enum-known-k-2 t)
-    (operand-sticks-requires-3 t)
-    (operand-returns-4 t)
-    (operand-returns-5 t)
-    (operand-returns-6 t))
+    (operand-sticks-requires t)
+    (operand-returns-2 t)
+    (operand-returns-3 t)
+    (operand-returns-4 t))
     (λ t. other-lts.spec (other-calls t)
     (other-at t)
     other.Post
@@ -661,8 +629,7 @@ pub +arm+binary+choice+distance+eval+operand+other+part-spec : {M : Type 1} → 
     (other-sticks-requires t)
     (other-returns t)
     (other-returns-2 t))
-    λ t. part-lts.spec
-    (eval-below t, eval.Post, sticks-reads.Asked, sticks-reads.Learnt)
+    λ t. part-lts.spec (part-calls t)
     (part-at t)
     part.Post
     (part-eval-requires t)
