@@ -35,5 +35,6 @@ SideThere d F (S.Stuck s) = Unit {0}
 -- It is the place of a reference to facility n whose subscripts are at the distances a and b.
 abbrev pub PlaceWorked : List ℕ → ℕ → Subscripts → Distance → Distance → Side → Type 0
 PlaceWorked F n s a b r =
-    (d : Description) (E : List ℕ) → Describes d F E → (ev : ℕ → Answer) (f : FacilityRecord) → FacilityRead F n f
-    → Worked ev (firstOf f s) a → Worked ev (secondOf f s a) b → sideMeant r ≡ placeOf d ev (refersTo n s)
+    (d : Description) (E : List ℕ) → Describes d F E → (ev : ℕ → Answer)
+    → ((f : FacilityRecord) → FacilityRead F n f → Worked ev (firstOf f s) a × Worked ev (secondOf f s a) b)
+    → sideMeant r ≡ placeOf d ev (refersTo n s)

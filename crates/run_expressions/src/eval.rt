@@ -56,7 +56,7 @@ fn distance(section: &[u8], expressions: &[u8], store: &[u8], n: usize, s: Sough
     }
 }
 
-// The place that a reference names. The distances of its subscripts count where its facility is there and their number right. It stands apart from what works them out, so that no place is on the stack meanwhile.
+// The place that a reference names by the distances of its subscripts, which count where its facility is there and their number is right. It stands apart from what works them out, so that no place is on the stack meanwhile.
 fn place(section: &[u8], number: u8, s: Subscripts, at: Distance, inside: Distance) -> Side
     ensures { λ r. ⌜ SideRead (now (section .entry)) number r × PlaceWorked (now (section .entry)) number s at inside r ⌝ }
 {
@@ -85,9 +85,10 @@ pub fn place_of(
 ) -> Side
     ensures { λ r. ⌜ SideRead (now (section .entry)) number r × ForEach (now (section .entry)) (now (expressions .entry)) (now (store .entry)) (λ d x. sideMeant r ≡ placeOf d (evalBelow (bytes d) d x n) (refersTo number s)) ⌝ }
 {
-    let f = facilities::facility_at(section, number as usize);
-    let at = distance(section, expressions, store, n, distances::first(f, s));
-    let inside = distance(section, expressions, store, n, distances::second(f, s, at));
+    let first = distances::first(section, number, s);
+    let at = distance(section, expressions, store, n, first);
+    let second = distances::second(section, number, s, at);
+    let inside = distance(section, expressions, store, n, second);
     place(section, number, s, at, inside)
 }
 
@@ -102,17 +103,18 @@ fn operand(
 ) -> Worth
     ensures { λ r. ⌜ ForEach (now (section .entry)) (now (expressions .entry)) (now (store .entry)) (λ d x. answered r ≡ M.operand (bytes d) d x (evalBelow (bytes d) d x n) number (subscriptsMeant s)) ⌝ }
 {
-    let f = facilities::facility_at(section, number as usize);
-    let at = distance(section, expressions, store, n, distances::first(f, s));
-    let inside = distance(section, expressions, store, n, distances::second(f, s, at));
+    let first = distances::first(section, number, s);
+    let at = distance(section, expressions, store, n, first);
+    let second = distances::second(section, number, s, at);
+    let inside = distance(section, expressions, store, n, second);
     match place(section, number, s, at, inside) {
-        Side::At(g, p) => {
-            let kind = g.kind;
+        Side::At(f, p) => {
+            let kind = f.kind;
             if kinds::is_computed(kind) {
-                let w = part(section, expressions, store, n, g.place);
-                return reading::of_computed(g, p, w);
+                let w = part(section, expressions, store, n, f.place);
+                return reading::of_computed(f, p, w);
             }
-            reading::of_stored(store, g, p)
+            reading::of_stored(store, f, p)
         }
         Side::Stops(k) => worth::stops(k),
         Side::Stuck(k) => worth::sticks(k),

@@ -27,7 +27,7 @@ use Rattle.store_geometry.specs.Subscripts.{subscriptsMeant}
 use Rattle.store_geometry.specs.declared.subscripts.Subscripts.{Subscripts}
 use Rattle.store_geometry.specs.declared.subscripts.Subscripts.the-variants as S
 use Rattle.run_references.specs.Described.{Describes}
-use Rattle.run_references.specs.Places.{Worked, bitOf, firstOf, onDistance, refersTo, secondOf}
+use Rattle.run_references.specs.Places.{Worked, bitOf, firstOf, onDistance, refersTo}
 use Rattle.run_references.specs.declared.places.Distance.{Distance}
 use Rattle.run_references.specs.declared.places.Distance.the-variants as DV
 use Rattle.language.specs.Tests.{both}
@@ -177,14 +177,10 @@ module _ {F : List ℕ} {n : ℕ} (f g : FacilityRecord) (p : FacilityRead F n f
   first-once (S.Two e k) = rw same-words
   first-once (S.WordPart e b) = rw same-words
 
-  pub second-once : (s : Subscripts) (d : Distance) → secondOf f s d ≡ secondOf g s d
-  second-once S.Whole d = refl
-  second-once (S.One e) d = refl
-  second-once (S.Part b) d = refl
-  second-once (S.Two e k) (DV.At w) = rw same-bits
-  second-once (S.Two e k) (DV.Stops m) = refl
-  second-once (S.Two e k) (DV.Stuck m) = refl
-  second-once (S.WordPart e b) d = refl
+  pub bit-once : (k : ℕ) (d : Distance) → bitOf f k d ≡ bitOf g k d
+  bit-once k (DV.At w) = rw same-bits
+  bit-once k (DV.Stops m) = refl
+  bit-once k (DV.Stuck m) = refl
 
 -- ---- What is read there.
 

@@ -3,6 +3,7 @@ use crate::bounds;
 use crate::places;
 use crate::places::Distance;
 use crate::places::Located;
+use image_sections::facilities;
 use image_sections::facilities::FacilityRecord;
 use image_sections::facilities::ShortBounds;
 use store_geometry::subscripts::Subscripts;
@@ -10,9 +11,9 @@ ghost use mathlib.Core.Path.{_≡_};
 ghost use Prim.Native.Nat.{ℕ};
 ghost use Rattle.language.specs.Meaning as M;
 ghost use Rattle.language.specs.Tree.{Name};
-ghost use Rattle.image_sections.specs.Declarations.{facilityMeant};
+ghost use Rattle.image_sections.specs.Declarations.{FacilityRead, facilityMeant};
 ghost use Rattle.store_geometry.specs.Subscripts.{subscriptsMeant};
-ghost use Rattle.run_references.specs.Places.{Worked, firstOf, locatedMeant, secondOf};
+ghost use Rattle.run_references.specs.Places.{Worked, bitOf, firstOf, locatedMeant, secondOf};
 
 // A subscript's record and the bounds that it must keep, or nothing to work out.
 pub enum Sought {
@@ -20,8 +21,8 @@ pub enum Sought {
     Nothing,
 }
 
-// The subscript that is worked out first.
-pub fn first(f: FacilityRecord, s: Subscripts) -> Sought
+// The subscript that is worked out first, with its bounds in a facility.
+fn first_of(f: FacilityRecord, s: Subscripts) -> Sought
     ensures { λ r. ⌜ r ≡ firstOf f s ⌝ }
 {
     let words = f.words;
@@ -40,20 +41,38 @@ pub fn first(f: FacilityRecord, s: Subscripts) -> Sought
     }
 }
 
-// The one that is worked out where the first names a word.
-pub fn second(f: FacilityRecord, s: Subscripts, d: Distance) -> Sought
-    ensures { λ r. ⌜ r ≡ secondOf f s d ⌝ }
+// The subscript that is worked out first. The facility is read only where there is one.
+pub fn first(section: &[u8], number: u8, s: Subscripts) -> Sought
+    ensures { λ r. ⌜ ((f : FacilityRecord) → FacilityRead (now (section .entry)) number f → r ≡ firstOf f s) ⌝ }
+{
+    match s {
+        Subscripts::Whole => Sought::Nothing,
+        Subscripts::Part(_) => Sought::Nothing,
+        _ => first_of(facilities::facility_at(section, number as usize), s),
+    }
+}
+
+// A bit's subscript, where the one before it names a word.
+fn bit_of(f: FacilityRecord, g: u16, d: Distance) -> Sought
+    ensures { λ r. ⌜ r ≡ bitOf f g d ⌝ }
 {
     let bits = f.bits;
+    match d {
+        Distance::At(_) => Sought::At(g, bits),
+        Distance::Stops(_) => Sought::Nothing,
+        Distance::Stuck(_) => Sought::Nothing,
+    }
+}
+
+// The subscript that is worked out after one at the distance d.
+pub fn second(section: &[u8], number: u8, s: Subscripts, d: Distance) -> Sought
+    ensures { λ r. ⌜ ((f : FacilityRecord) → FacilityRead (now (section .entry)) number f → r ≡ secondOf f s d) ⌝ }
+{
     match s {
         Subscripts::Whole => Sought::Nothing,
         Subscripts::One(_) => Sought::Nothing,
         Subscripts::Part(_) => Sought::Nothing,
-        Subscripts::Two(_, g) => match d {
-            Distance::At(_) => Sought::At(g, bits),
-            Distance::Stops(_) => Sought::Nothing,
-            Distance::Stuck(_) => Sought::Nothing,
-        },
+        Subscripts::Two(_, g) => bit_of(facilities::facility_at(section, number as usize), g, d),
         Subscripts::WordPart(_, _) => Sought::Nothing,
     }
 }

@@ -60,7 +60,6 @@ use Rattle.run_references.proofs.worth.is.Reads as is-reads
 use Rattle.run_references.proofs.worth.prefix.Reads as prefix-reads
 use Rattle.run_references.proofs.worth.sticks.Reads as sticks-reads
 use Rattle.run_references.proofs.worth.stops.Reads as stops-reads
-use Rattle.image_sections.proofs.facilities.facility_at.Reads as facility-at-reads
 use Rattle.image_sections.proofs.kinds.is_computed.Reads as is-computed-reads
 use Rattle.run_references.proofs.constants.constant_at.Reads as constant-at-reads
 use Rattle.image_records.proofs.nodes.node_at.Reads as node-at-reads
@@ -157,7 +156,7 @@ abbrev eval-calls : ℕ → eval-lts.Claims
 eval-calls t = (node-at-reads.Asked, node-at-reads.Learnt, constant-at-reads.Asked, constant-at-reads.Learnt, is-reads.Asked, is-reads.Learnt, binary-below t, binary.Post, part-below t, part.Post, prefix-reads.Asked, prefix-reads.Learnt, cut-reads.Asked, cut-reads.Learnt, choice-below t, choice.Post, other-below t, other.Post)
 
 abbrev operand-calls : ℕ → operand-lts.Claims
-operand-calls t = (facility-at-reads.Asked, facility-at-reads.Learnt, first-reads.Asked, first-reads.Learnt, distance-below t, distance.Post, second-reads.Asked, second-reads.Learnt, place-reads.Asked, place-reads.Learnt, is-computed-reads.Asked, is-computed-reads.Learnt, part-below t, part.Post, of-computed-reads.Asked, of-computed-reads.Learnt, of-stored-reads.Asked, of-stored-reads.Learnt, stops-reads.Asked, stops-reads.Learnt, sticks-reads.Asked, sticks-reads.Learnt)
+operand-calls t = (first-reads.Asked, first-reads.Learnt, distance-below t, distance.Post, second-reads.Asked, second-reads.Learnt, place-reads.Asked, place-reads.Learnt, is-computed-reads.Asked, is-computed-reads.Learnt, part-below t, part.Post, of-computed-reads.Asked, of-computed-reads.Learnt, of-stored-reads.Asked, of-stored-reads.Learnt, stops-reads.Asked, stops-reads.Learnt, sticks-reads.Asked, sticks-reads.Learnt)
 
 abbrev other-calls : ℕ → other-lts.Claims
 other-calls t = (reference-of-reads.Asked, reference-of-reads.Learnt, operand-below t, operand.Post, sticks-reads.Asked, sticks-reads.Learnt)
@@ -393,14 +392,11 @@ eval-returns-6 t c =
 
 -- The place found by the subscripts' distances is the reference's.
 operand-side : (t : ℕ) (c : operand-lts.After-place (operand-calls t) (operand-at t) operand.Post)
-    → let a = c .before .before .before .before .before .before .before .before .before .args in
+    → let a = c .before .before .before .before .before .before .before .before .args in
     ForEach (a .section .now) (a .expressions .now) (a .store .now) (λ d x. sideMeant (c .place .result) ≡ placeOf d (evalBelow (bytes d) d x (a .n)) (refersTo (a .number) (a .s)))
 operand-side t c d x h e =
-    let a = c .before .before .before .before .before .before .before .before .before .args in
-    c .place .ensures .1 d (a .expressions .now) h (evalBelow (bytes d) d x (a .n)) (c .before .before .before .before .before .facility-at .result) (c .before .before .before .before .before .facility-at .ensures) (rw (c .before .before .before .before .first .ensures) at (c .before .before .before .distance .ensures d x h e)) (rw (c .before .before .second .ensures) at (c .before .distance2 .ensures d x h e))
-
-operand-facility-at-requires : (t : ℕ) → operand-lts.Need-facility-at-requires (operand-calls t) (operand-at t) operand.Post
-operand-facility-at-requires t c κs = search needs
+    let a = c .before .before .before .before .before .before .before .before .args in
+    c .place .ensures .1 d (a .expressions .now) h (evalBelow (bytes d) d x (a .n)) (λ f g. (rw (c .before .before .before .before .first .ensures f g) at (c .before .before .before .distance .ensures d x h e), rw (c .before .before .second .ensures f g) at (c .before .distance2 .ensures d x h e)))
 
 operand-first-requires : (t : ℕ) → operand-lts.Need-first-requires (operand-calls t) (operand-at t) operand.Post
 operand-first-requires t c κs = search needs
@@ -417,14 +413,14 @@ operand-distance-requires-2 t c κs = search needs
 operand-place-requires : (t : ℕ) → operand-lts.Need-place-requires (operand-calls t) (operand-at t) operand.Post
 operand-place-requires t c κs = search needs
 
-operand-enum-known-g : (t : ℕ) → operand-lts.Need-enum-known-g (operand-calls t) (operand-at t) operand.Post
-operand-enum-known-g t c = search needs
+operand-enum-known-f : (t : ℕ) → operand-lts.Need-enum-known-f (operand-calls t) (operand-at t) operand.Post
+operand-enum-known-f t c = search needs
 
 operand-is-computed-requires : (t : ℕ) → operand-lts.Need-is-computed-requires (operand-calls t) (operand-at t) operand.Post
 operand-is-computed-requires t c κs = search needs
 
 operand-part-requires : (t : ℕ) → operand-lts.Need-part-requires (operand-calls t) (operand-at t) operand.Post
-operand-part-requires t c κs = let m = c .before .before .before .before .before .before .before .before .before .before .before .before .before .before .pre .0 in search needs
+operand-part-requires t c κs = let m = c .before .before .before .before .before .before .before .before .before .before .before .before .before .pre .0 in search needs
 
 operand-of-computed-requires : (t : ℕ) → operand-lts.Need-of-computed-requires (operand-calls t) (operand-at t) operand.Post
 operand-of-computed-requires t c κs = search needs
@@ -432,13 +428,13 @@ operand-of-computed-requires t c κs = search needs
 operand-returns : (t : ℕ) → operand-lts.Need-returns (operand-calls t) (operand-at t) operand.Post
 operand-returns t c =
     λ d x h e.
-    let a = c .before .before .before .before .before .before .before .before .before .before .before .before .before .before .before .before .args in
-    let f = c .before .before .before .before .before .g .given .0 .0 in
-    let g : FacilityRead (a .section .now) (a .number) f = rw (c .before .before .before .before .before .g .given .1) at (c .before .before .before .before .before .before .before .place .ensures .0) in
+    let a = c .before .before .before .before .before .before .before .before .before .before .before .before .before .before .before .args in
+    let f = c .before .before .before .before .before .f .given .0 .0 in
+    let g : FacilityRead (a .section .now) (a .number) f = rw (c .before .before .before .before .before .f .given .1) at (c .before .before .before .before .before .before .before .place .ensures .0) in
     let name = nameOf h (a .number) f g in
-    let p = placeMeant (c .before .before .before .before .before .g .given .0 .1 .0) in
+    let p = placeMeant (c .before .before .before .before .before .f .given .0 .1 .0) in
     let ev = evalBelow (bytes d) d x (a .n) in
-    let q = sym (operand-side t (c .before .before .before .before .before .before .before) d x h e) ∙ ap sideMeant (c .before .before .before .before .before .g .given .1) in
+    let q = sym (operand-side t (c .before .before .before .before .before .before .before) d x h e) ∙ ap sideMeant (c .before .before .before .before .before .f .given .1) in
     let z = sym (c .before .before .before .is-computed .ensures) ∙ c .before .before .if1 .taken in
     rw (facility-known h (a .number) f g, q)
     (c .of-computed .ensures d x name ∙ (ap (λ (w : M.Answer). M.after w (M.partOfValue (bytes d) d x (facilityMeant name f) p)) (c .before .part .ensures d x h e) ∙ sym (computed-read d x ev name f p z)))
@@ -461,14 +457,14 @@ operand-sticks-requires t c κs = search needs
 operand-returns-2 : (t : ℕ) → operand-lts.Need-returns-2 (operand-calls t) (operand-at t) operand.Post
 operand-returns-2 t c =
     λ d x h e.
-    let a = c .before .before .before .before .before .before .before .before .before .before .before .before .before .before .before .args in
-    let f = c .before .before .before .before .g .given .0 .0 in
-    let g : FacilityRead (a .section .now) (a .number) f = rw (c .before .before .before .before .g .given .1) at (c .before .before .before .before .before .before .place .ensures .0) in
+    let a = c .before .before .before .before .before .before .before .before .before .before .before .before .before .before .args in
+    let f = c .before .before .before .before .f .given .0 .0 in
+    let g : FacilityRead (a .section .now) (a .number) f = rw (c .before .before .before .before .f .given .1) at (c .before .before .before .before .before .before .place .ensures .0) in
     let name = nameOf h (a .number) f g in
-    let p = placeMeant (c .before .before .before .before .g .given .0 .1 .0) in
+    let p = placeMeant (c .before .before .before .before .f .given .0 .1 .0) in
     let ev = evalBelow (bytes d) d x (a .n) in
     let r = refersTo (a .number) (a .s) in
-    let q = sym (operand-side t (c .before .before .before .before .before .before) d x h e) ∙ ap sideMeant (c .before .before .before .before .g .given .1) in
+    let q = sym (operand-side t (c .before .before .before .before .before .before) d x h e) ∙ ap sideMeant (c .before .before .before .before .f .given .1) in
     let z = sym (c .before .before .is-computed .ensures) ∙ c .before .if1 .left in
     let load : ℕ → M.Answer = λ m. M.Answer.is (L.value (p .count) m) in
     rw (facility-known h (a .number) f g, q)
@@ -600,13 +596,12 @@ pub +arm+binary+choice+distance+eval+operand+other+part-spec : {M : Type 1} → 
     (λ t. operand-lts.spec (operand-calls t)
     (operand-at t)
     operand.Post
-    (operand-facility-at-requires t)
     (operand-first-requires t)
     (operand-distance-requires t)
     (operand-second-requires t)
     (operand-distance-requires-2 t)
     (operand-place-requires t)
-    (operand-enum-known-g t)
+    (operand-enum-known-f t)
     (operand-is-computed-requires t)
     (operand-part-requires t)
     (operand-of-computed-requires t)

@@ -4,9 +4,6 @@ use borrow.Author.Needs.{needs}
 use Rattle.run_expressions.proofs.eval.place_of.Statement.{statement}
 use Rattle.run_expressions.proofs.eval.place_of.Tie as tie
 
-facility-at-requires : tie.Need-facility-at-requires
-facility-at-requires c κs = search needs
-
 first-requires : tie.Need-first-requires
 first-requires c κs = search needs
 
@@ -26,15 +23,14 @@ returns : tie.Need-returns
 returns c = (
   c .place .ensures .0,
   λ d x h e.
-      let a = c .before .before .before .before .before .before .before .before .before .args in
-      c .place .ensures .1 d (a .expressions .now) h (evalBelow (bytes d) d x (a .n)) (c .before .before .before .before .before .facility-at .result) (c .before .before .before .before .before .facility-at .ensures) (rw (c .before .before .before .before .first .ensures) at (c .before .before .before .distance .ensures d x h e)) (rw (c .before .before .second .ensures) at (c .before .distance2 .ensures d x h e)),
+      let a = c .before .before .before .before .before .before .before .before .args in
+      c .place .ensures .1 d (a .expressions .now) h (evalBelow (bytes d) d x (a .n)) (λ f g. (rw (c .before .before .before .before .first .ensures f g) at (c .before .before .before .distance .ensures d x h e), rw (c .before .before .second .ensures f g) at (c .before .distance2 .ensures d x h e))),
 )
 
 pub place-of-spec : {M : Type 1} → statement M
 place-of-spec =
     tie.close
     (tie.spec
-    facility-at-requires
     first-requires
     distance-requires
     second-requires
