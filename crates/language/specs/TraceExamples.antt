@@ -1,7 +1,6 @@
 -- Numbers in print, standard input cut into lines, and a text with the bytes of its input.
-use mathlib.Core.List.{List, [], _∷_}
+use mathlib.Core.List.{[], _∷_}
 use mathlib.Core.Path.{_≡_, refl}
-use Prim.Native.Nat.{ℕ}
 use Rattle.language.specs.Computing.{computing}
 use Rattle.language.specs.InputLines.{linesOf}
 use Rattle.language.specs.Scan.{bytes}

@@ -11,7 +11,7 @@ use lib.ListN.{drop, length, length-drop, take}
 use lib.Seq.{length-take-le, take-all}
 use Rattle.language.specs.Description.{Facility, wordLength}
 use Rattle.language.specs.Layout.{storeSizeOf, wordBytes}
-use Rattle.language.specs.Store.{StoreWords, inputsOf, isInput}
+use Rattle.language.specs.Store.{inputsOf, isInput}
 use Rattle.language.specs.Trace.{bitsNumber, consWord, lineWords}
 use Rattle.trace_input.specs.Lines.{Held, withoutReturn}
 use Rattle.trace_input.proofs.LineCut.{without-long}

@@ -13,7 +13,6 @@ use Rattle.language.specs.Decode.{decode}
 use Rattle.language.specs.Image.{passes}
 use Rattle.language.specs.InputLines.{linesOf}
 use Rattle.language.specs.Layout.{storeSizeOf}
-use Rattle.language.specs.RecordBytes.{recordFrom}
 use Rattle.language.specs.Scan.{bytes}
 use Rattle.language.specs.Store.{inputsOf}
 use Rattle.language.specs.Trace.{endLine, lineWords, runLines}
@@ -21,7 +20,7 @@ use Rattle.trace_input.proofs.LineCut.{alone, held-count, held-nothing, line-en
 use Rattle.trace_input.proofs.LongLines.{ended-same, left-same}
 use Rattle.trace_input.specs.Lines.{Held, heldRoom, withoutReturn}
 use Rattle.trace_line.proofs.TurnLaws.{numbered-short}
-use Rattle.trace_line.specs.Turns.{Turned, endRoom, goesOn, turnRoom}
+use Rattle.trace_line.specs.Turns.{Turned, goesOn, turnRoom}
 use Rattle.trace_output.proofs.AddsLaws.{adds-as, adds-both, adds-none}
 use Rattle.trace_output.specs.Adds.{Adds}
 use Rattle.trace_whole.proofs.LineLaws.{small-stimulus}

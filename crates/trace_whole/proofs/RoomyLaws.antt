@@ -1,7 +1,7 @@
 -- In a buffer that has room for it, what is printed is what stands before its end. Assumes nothing.
 use mathlib.Core.Bool.{true}
 use mathlib.Core.List.{List}
-use mathlib.Core.Path.{_≡_, sym, ap, _∙_}
+use mathlib.Core.Path.{_≡_, sym, _∙_}
 use Prim.Native.Nat.{ℕ, _+_, _^_, _<_, _≤_}
 use native.Mathlib.Omega.{arith}
 use lib.ListN.{length, take}
@@ -11,7 +11,7 @@ use Rattle.language.specs.InputLines.{linesOf}
 use Rattle.language.specs.RecordBytes.{recordFrom}
 use Rattle.language.specs.Trace.{runLines, trace}
 use Rattle.trace_line.proofs.RoomEnough.{room-enough}
-use Rattle.trace_line.specs.Turns.{printedRoom, turnRoom}
+use Rattle.trace_line.specs.Turns.{printedRoom}
 use Rattle.trace_output.specs.Adds.{Adds}
 use Rattle.trace_whole.specs.Begins.{Begins, Refuses, refusedRoom}
 use Rattle.trace_whole.specs.Fed.{Ended, Fed}

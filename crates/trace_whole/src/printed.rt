@@ -5,7 +5,6 @@ use crate::input;
 use crate::input::State;
 use language::ceilings;
 use trace_input::lines;
-ghost use mathlib.Core.Path.{_≡_};
 ghost use Prim.Native.Nat.{_≤_};
 ghost use lib.ListN.{length};
 ghost use Rattle.language.specs.Decode.{decode};
@@ -14,7 +13,6 @@ ghost use Rattle.language.specs.Trace as T;
 ghost use Rattle.trace_input.specs.Lines.{heldRoom};
 ghost use Rattle.trace_line.specs.Turns.{Ready};
 ghost use Rattle.trace_output.specs.Adds.{Adds};
-ghost use Rattle.trace_whole.specs.Fed.{Fed};
 
 // All lines of an input.
 fn cycles(
