@@ -49,7 +49,7 @@ pub data Stuck : Type 0 where
   wrongSubscripts outside : Stuck
   -- a value of 0 or more than 256 bits; a constant whose number does not fit its length; HEAD, TAIL or EXT of too little or too much
   wrongLength tooLarge wrongCount : Stuck
-  -- a computed terminal of another length than its expression; a condition of more than one bit; sides of a store of different lengths
+  -- a computed terminal of another length than its expression; a condition of more than one bit; sides of a store of different lengths, or a state's value and its register
   lengthDiffers notOneBit sidesDiffer : Stuck
   -- a store to what may not be stored to
   notStorable : Stuck
