@@ -19,7 +19,6 @@ stuckMeant S.NoOperator = M.noOperator
 stuckMeant S.WrongSubscripts = M.wrongSubscripts
 stuckMeant S.Outside = M.outside
 stuckMeant S.WrongLength = M.wrongLength
-stuckMeant S.TooLarge = M.tooLarge
 stuckMeant S.WrongCount = M.wrongCount
 stuckMeant S.LengthDiffers = M.lengthDiffers
 stuckMeant S.NotOneBit = M.notOneBit

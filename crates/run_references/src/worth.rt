@@ -8,7 +8,7 @@ ghost use Rattle.language.specs.Operators.{binaryOf, cutOf, isBinary, isCut, is
 ghost use Rattle.value_operators.specs.Meaning.{valued};
 ghost use Rattle.run_references.specs.Worth.{answered, stuckMeant};
 
-// The ways to be stuck, which no passing image reaches.
+// The ways to be stuck that are tested for; no passing image reaches one.
 pub enum Stuck {
     NotBefore,
     WrongRecord,
@@ -20,7 +20,6 @@ pub enum Stuck {
     WrongSubscripts,
     Outside,
     WrongLength,
-    TooLarge,
     WrongCount,
     LengthDiffers,
     NotOneBit,

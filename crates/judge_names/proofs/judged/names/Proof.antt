@@ -100,7 +100,7 @@ loop-again c =
       omega (arith, less),
       c .after .ensures .0,
       offset-next ls ns k offset (inv .2) n (c .after .ensures .1),
-      length-set (known .loop .marks) (sum .result) 1 ∙ inv .3,
+      length-set (known .loop .marks) (sum .result) _ ∙ inv .3,
       marks-more ls ns (known .loop .marks) k (inv .4) name (sum .ensures .1) (omega (arith, sum .ensures .0, inv .3)),
       step-name ls ns ps _ k (judged (known .loop .all)) (judged (c .before .before .unless .result)) less (c .before .earlier .ensures) one (inv .5),
     )
