@@ -58,6 +58,3 @@ name-part b = by-class (isLetter b) (isDigit b) (isBlank b) (eqb b quote) (membe
 
 pub letter-part : (b : ℕ) → classOf b ≡ letterClass → true ≡ isNamePart b
 letter-part b e = sym (name-part b ∙ ap (λ (t : Bool). cond t true (eqb (classOf b) digitClass)) (eq-eqb (classOf b) letterClass e))
-
-pub other-part : (b : ℕ) → (classOf b ≡ letterClass → ⊥) → eqb (classOf b) digitClass ≡ isNamePart b
-other-part b e = sym (name-part b ∙ ap (λ (t : Bool). cond t true (eqb (classOf b) digitClass)) (ne-eqb (classOf b) letterClass e))

@@ -1,7 +1,7 @@
 -- A table's rule: a table that computes to the values of a function has them at each of its entries.
 use mathlib.Core.Bool.{Bool, true, false, _&&_, false≢true}
 use mathlib.Core.List.{List, [], _∷_}
-use mathlib.Core.Path.{_≡_, _∙_, ap, sym, refl}
+use mathlib.Core.Path.{_≡_, _∙_, ap, refl}
 use Prim.Native.Nat.{ℕ, zero, suc, _+_, _<_}
 use native.Mathlib.Nat.{add-zero, zero-add, add-suc, suc-add}
 use native.Mathlib.Omega.{arith}
@@ -20,11 +20,6 @@ value-from f i (suc n) (suc k) h = value-from f (suc i) n k (omega arith) ∙ ap
 pub value-at : (f : ℕ → ℕ) (n k : ℕ) → k < n → getD (valuesFrom f 0 n) k 0 ≡ f k
 value-at f n k h = value-from f 0 n k h ∙ ap f (zero-add k)
 
--- A test that n numbers from i on pass.
-abbrev pub allFrom : (ℕ → Bool) → ℕ → ℕ → Bool
-allFrom f i zero = true
-allFrom f i (suc n) = f i && allFrom f (suc i) n
-
 -- Both of two tests.
 pub first : (a b : Bool) → (a && b) ≡ true → a ≡ true
 first true b e = refl
@@ -33,11 +28,3 @@ first false b e = absurd (false≢true e)
 pub second : (a b : Bool) → (a && b) ≡ true → b ≡ true
 second true b e = e
 second false b e = absurd (false≢true e)
-
-passed-from : (f : ℕ → Bool) (i n k : ℕ) → allFrom f i n ≡ true → k < n → f (i + k) ≡ true
-passed-from f i zero k e h = absurd (omega arith)
-passed-from f i (suc n) zero e h = rw add-zero (first (f i) (allFrom f (suc i) n) e)
-passed-from f i (suc n) (suc k) e h = sym (ap f (rw (suc-add, add-suc))) ∙ passed-from f (suc i) n k (second (f i) (allFrom f (suc i) n) e) (omega arith)
-
-pub passed : (f : ℕ → Bool) (n k : ℕ) → allFrom f 0 n ≡ true → k < n → f k ≡ true
-passed f n k e h = sym (ap f (zero-add k)) ∙ passed-from f 0 n k e h

@@ -1,5 +1,4 @@
 // Runs of bytes at the start of a text.
-use crate::classes;
 use crate::letters;
 ghost use mathlib.Core.Path.{_≡_};
 ghost use Rattle.language.specs.Scan.{span};
@@ -15,15 +14,17 @@ pub enum Stretch {
     Comment,
 }
 
-// Whether a byte belongs to a name.
+// Whether a byte belongs to a name; for so few classes comparisons do, and the table is not laid out for each byte.
 fn is_name_part(b: u8) -> bool
     ensures { λ r. ⌜ r ≡ belonging Stretch.Name b ⌝ }
 {
-    let class = classes::class_of(b);
-    if class == classes::LETTER {
+    if letters::is_within(b'A', b, b'Z') {
         return true;
     }
-    class == classes::DIGIT
+    if letters::is_within(b'a', b, b'z') {
+        return true;
+    }
+    letters::is_within(b'0', b, b'9')
 }
 
 // Whether a byte leaves a comment open.

@@ -1,4 +1,3 @@
-pub mod Letters
 pub mod Lookup
 pub mod OneByOne
 pub mod Based

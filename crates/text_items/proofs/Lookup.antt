@@ -1,119 +1,181 @@
--- The tables hold the language's symbols and reserved words, and are searched row by row.
-use mathlib.Core.Bool.{Bool, true, false, _&&_}
-use mathlib.Core.List.{List, [], _∷_, map}
-use mathlib.Core.Path.{_≡_, _∙_, ap, sym, refl}
-use Prim.Native.Nat.{ℕ, zero, suc, _+_, _-_, _<_, _≤_}
-use native.Mathlib.Numerals.{add-one}
-use native.Mathlib.Omega.{arith}
-use lib.Dec.{eqb, ltb}
+-- Reserved words are looked for among those that begin alike, and symbols among those of one size, the longest first.
+use mathlib.Core.Bool.{Bool, true, false, cond, not, _&&_, false≢true}
+use mathlib.Core.List.{List, [], _∷_, _++_, map}
+use mathlib.Core.Path.{_≡_, _∙_, ap, ap₂, sym, refl}
+use Prim.Native.Nat.{ℕ, zero, suc}
+use lib.Dec.{eqb}
 use lib.ListN.{length, getD, take}
-use borrow.Author.Tests.{eqb-true, ltb-true, ne-eqb}
+use borrow.Author.Tests.{eq-eqb, eqb-true, ne-eqb, not-true}
 use Rattle.language.specs.Characters.{folded}
 use Rattle.language.specs.declared.refusals.Refusal.the-variants.{BadCharacter}
-use Rattle.language.specs.Scan.{bytes, found, reservedAmong, reservedKind, reservedWords, same, sign, span, spelledSymbols, symbolAmong, symbolAt, wrong}
-use Rattle.text_characters.proofs.Table.{allFrom, first, passed, second}
-use Rattle.text_items.specs.Tables.{reservedBegins, reservedFrom, reservedLetters, reservedRow, spellings, symbolKinds, symbolRow, symbolSize, symbolsFrom}
-use Rattle.text_items.proofs.Letters.{noLetter, same-folded, same-sym}
+use Rattle.language.specs.Scan.{Reserved, Spelled, bytes, found, reservedAmong, reservedKind, reservedWords, same, sign, spelledSymbols, symbolAmong, symbolAt, wrong}
+use Rattle.text_characters.proofs.Table.{first, second}
+use Rattle.text_items.specs.Tables.{beginning, kindWith, ofOne, ofThree, ofTwo, onlyIf, symbolKind}
 
--- ---- Reserved words.
+-- ---- A name that begins otherwise than a reserved word is not that word.
 
-reserved-rows : reservedWords ≡ reservedFrom 23 0
-unfolding reservedFrom reservedRow reservedLetters span bytes folded reservedWords
-reserved-rows = refl
-
-abbrev pub ReservedLeft : List ℕ → ℕ → Type 0
-ReservedLeft s row = reservedKind s ≡ reservedAmong (reservedFrom (23 - row) row) s
-
-pub reserved-all : (s : List ℕ) → ReservedLeft s 0
-reserved-all s = rw reserved-rows
-
-module _ (s : List ℕ) (row : ℕ) (left : ReservedLeft s row) where
-  here : row < 23 → 23 - row ≡ suc (23 - (row + 1))
-  here h = omega arith
-
-  pub reserved-here : row < 23 → same s (map folded (reservedRow row)) ≡ true → 30 + row ≡ reservedKind s
-  unfolding reservedFrom reservedAmong
-  reserved-here h t = sym (left ∙ rw (here h) (simp t))
-
-  pub reserved-next : row < 23 → same s (map folded (reservedRow row)) ≡ false → ReservedLeft s (row + 1)
-  unfolding reservedFrom reservedAmong
-  reserved-next h t = left ∙ rw (here h) (simp (t, add-one))
-
-  pub reserved-none : 23 ≤ row → 0 ≡ reservedKind s
-  unfolding reservedFrom reservedAmong
-  reserved-none h = sym (left ∙ rw none-left)
-    where
-      none-left : 23 - row ≡ 0
-      none-left = omega arith
-
--- ---- A name that begins otherwise than a row is not its word.
-
-abbrev begun : ℕ → Bool
-begun row = ltb 0 (length (reservedRow row)) && eqb (getD reservedBegins row 0) (folded (getD (reservedRow row) 0 0))
-
-all-begun : allFrom begun 0 23 ≡ true
-unfolding reservedRow reservedLetters reservedBegins span bytes folded
-all-begun = refl
-
-begins-otherwise : (s w : List ℕ) → 0 < length w → eqb (folded (getD s 0 0)) (folded (getD w 0 0)) ≡ false → same (map folded s) (map folded w) ≡ false
+begins-otherwise : (s w : List ℕ) → eqb (getD s 0 0) (getD w 0 0) ≡ false → same s w ≡ false
 unfolding same
-begins-otherwise s [] h e = absurd (omega arith)
-begins-otherwise [] (x ∷ w) h e = refl
-begins-otherwise (b ∷ s) (x ∷ w) h e = ap (λ (q : Bool). q && same (map folded s) (map folded w)) e
+begins-otherwise [] [] e = absurd (false≢true (sym e))
+begins-otherwise [] (x ∷ w) e = refl
+begins-otherwise (b ∷ s) [] e = refl
+begins-otherwise (b ∷ s) (x ∷ w) e = ap (λ (q : Bool). q && same s w) e
 
-pub not-begun : (s : List ℕ) (row : ℕ) → row < 23 → (getD reservedBegins row 0 ≡ folded (getD s 0 0) → ⊥) → same (map folded s) (map folded (reservedRow row)) ≡ false
-not-begun s row h n =
-    let y = passed begun 23 row all-begun h in
-    let l : 0 < length (reservedRow row) = ltb-true _ _ (first (ltb 0 (length (reservedRow row))) _ y) in
-    let b : getD reservedBegins row 0 ≡ folded (getD (reservedRow row) 0 0) = eqb-true _ _ (second (ltb 0 (length (reservedRow row))) _ y) in
-    begins-otherwise s (reservedRow row) l (ne-eqb _ _ (λ q. n (b ∙ sym q)))
+only-beginning : (rs : List Reserved) (s : List ℕ) → reservedAmong (beginning (getD s 0 0) rs) s ≡ reservedAmong rs s
+unfolding beginning reservedAmong
+only-beginning [] s = refl
+only-beginning (r ∷ rs) s = go (eqb (getD s 0 0) (getD (r .letters) 0 0)) refl (beginning (getD s 0 0) rs) (only-beginning rs s)
+  where
+    go : (q : Bool) → eqb (getD s 0 0) (getD (r .letters) 0 0) ≡ q → (others : List Reserved) → reservedAmong others s ≡ reservedAmong rs s
+        → reservedAmong (onlyIf q r others) s ≡ cond (same s (r .letters)) (r .kind) (reservedAmong rs s)
+    go true e others more = ap (cond (same s (r .letters)) (r .kind)) more
+    go false e others more = more ∙ sym (rw (begins-otherwise s (r .letters) e))
 
--- ---- Symbols.
+module _ (r : Reserved) (rs : List Reserved) (s : List ℕ) where
+  pub among-here : same s (r .letters) ≡ true → r .kind ≡ reservedAmong (r ∷ rs) s
+  unfolding reservedAmong
+  among-here e = sym (rw e)
 
-symbol-rows : spelledSymbols ≡ symbolsFrom 28 0
-unfolding symbolsFrom symbolRow symbolSize symbolKinds spellings bytes folded spelledSymbols
-symbol-rows = refl
+  pub among-next : (k : ℕ) → same s (r .letters) ≡ false → k ≡ reservedAmong rs s → k ≡ reservedAmong (r ∷ rs) s
+  unfolding reservedAmong
+  among-next k e more = more ∙ sym (rw e)
 
-abbrev spelling : ℕ → List ℕ
-spelling row = map folded (symbolRow row)
+pub among-last : (r : Reserved) (s : List ℕ) (k : ℕ) → k ≡ cond (same s (r .letters)) (r .kind) 0 → k ≡ reservedAmong (r ∷ []) s
+unfolding reservedAmong
+among-last r s k e = e
 
-abbrev sound : ℕ → Bool
-sound row = eqb (length (spelling row)) (symbolSize row) && noLetter (spelling row)
+first-folded : (s : List ℕ) → getD (map folded s) 0 0 ≡ folded (getD s 0 0)
+unfolding folded
+first-folded [] = refl
+first-folded (b ∷ s) = refl
 
-all-sound : allFrom sound 0 28 ≡ true
-unfolding symbolRow symbolSize spellings bytes folded noLetter
-all-sound = refl
+-- The first letter is b, and its capital is l.
+module _ (s : List ℕ) (b l : ℕ) (eb : b ≡ getD s 0 0) (el : l ≡ folded b) where
+  pub kind-with : (k : ℕ) → l ≡ k → kindWith k (map folded s) ≡ reservedKind (map folded s)
+  unfolding kindWith
+  kind-with k e =
+      ap (λ (n : ℕ). reservedAmong (beginning n reservedWords) (map folded s)) (sym e ∙ el ∙ ap folded eb ∙ sym (first-folded s))
+      ∙ only-beginning reservedWords (map folded s)
 
-abbrev pub SymbolsLeft : List ℕ → ℕ → Type 0
-SymbolsLeft s row = symbolAt s ≡ symbolAmong (symbolsFrom (28 - row) row) s
+  pub kind-none : beginning l reservedWords ≡ [] → 0 ≡ reservedKind (map folded s)
+  unfolding kindWith reservedAmong
+  kind-none e = sym (ap (λ (rs : List Reserved). reservedAmong rs (map folded s)) e) ∙ kind-with l refl
 
-pub symbols-all : (s : List ℕ) → SymbolsLeft s 0
-symbols-all s = rw symbol-rows
+-- ---- Symbols of one size.
 
-module _ (s : List ℕ) (row : ℕ) (left : SymbolsLeft s row) where
-  more : row < 28 → 28 - row ≡ suc (28 - (row + 1))
-  more h = omega arith
+eqb-sym : (a b : ℕ) → eqb a b ≡ eqb b a
+eqb-sym a b = go (eqb a b) refl
+  where
+    go : (t : Bool) → eqb a b ≡ t → eqb a b ≡ eqb b a
+    go true e = e ∙ sym (eq-eqb b a (sym (eqb-true a b e)))
+    go false e = e ∙ sym (ne-eqb b a (λ q. false≢true (sym e ∙ eq-eqb a b (sym q))))
 
-  size : row < 28 → length (spelling row) ≡ symbolSize row
-  size h = eqb-true _ _ (first (eqb (length (spelling row)) (symbolSize row)) (noLetter (spelling row)) (passed sound 28 row all-sound h))
+-- n bytes from a place on, each 0 past the end.
+abbrev pub bytesFrom : ℕ → ℕ → List ℕ → List ℕ
+bytesFrom i zero s = []
+bytesFrom i (suc n) s = getD s i 0 ∷ bytesFrom (suc i) n s
 
-  test : row < 28 → same (spelling row) (take (length (spelling row)) s) ≡ same (map folded (take (symbolSize row) s)) (spelling row)
-  test h =
-      ap (λ (n : ℕ). same (spelling row) (take n s)) (size h) ∙ same-sym (spelling row) (take (symbolSize row) s)
-      ∙ sym (same-folded (take (symbolSize row) s) (spelling row) (second (eqb (length (spelling row)) (symbolSize row)) (noLetter (spelling row)) (passed sound 28 row all-sound h)))
+bytes-behind : (i n b : ℕ) (t : List ℕ) → bytesFrom (suc i) n (b ∷ t) ≡ bytesFrom i n t
+bytes-behind i zero b t = refl
+bytes-behind i (suc n) b t = ap (λ (l : List ℕ). getD t i 0 ∷ l) (bytes-behind (suc i) n b t)
 
-  pub symbol-here : row < 28 → same (map folded (take (symbolSize row) s)) (spelling row) ≡ true
-      → found (sign (getD symbolKinds row 0)) (symbolSize row) ≡ symbolAt s
-  unfolding symbolsFrom symbolAmong
-  symbol-here h t = sym (left ∙ rw (more h) (simp (test h ∙ t) (ap (found (sign (getD symbolKinds row 0))) (size h))))
+unfoldable noZero : List ℕ → Bool
+noZero [] = true
+noZero (x ∷ w) = not (eqb x 0) && noZero w
 
-  pub symbol-next : row < 28 → same (map folded (take (symbolSize row) s)) (spelling row) ≡ false → SymbolsLeft s (row + 1)
-  unfolding symbolsFrom symbolAmong
-  symbol-next h t = left ∙ rw (more h) (simp (test h ∙ t, add-one))
+-- Past the end of a text nothing is spelled.
+spelled-by : (w s : List ℕ) → noZero w ≡ true → same w (take (length w) s) ≡ same (bytesFrom 0 (length w) s) w
+unfolding same noZero
+spelled-by [] s e = refl
+spelled-by (x ∷ w) [] e =
+    sym (ap (λ (q : Bool). q && same (bytesFrom 1 (length w) []) w) (eqb-sym 0 x ∙ not-true (eqb x 0) (first (not (eqb x 0)) (noZero w) e)))
+spelled-by (x ∷ w) (b ∷ t) e =
+    ap₂ _&&_ (eqb-sym x b)
+    (spelled-by w t (second (not (eqb x 0)) (noZero w) e) ∙ sym (ap (λ (l : List ℕ). same l w) (bytes-behind 0 (length w) b t)))
 
-  pub symbol-none : 28 ≤ row → found (wrong BadCharacter) 1 ≡ symbolAt s
-  unfolding symbolsFrom symbolAmong
-  symbol-none h = sym (left ∙ rw none-left)
+-- Symbols of n bytes, each with a kind.
+unfoldable sound : ℕ → List Spelled → Bool
+sound n [] = true
+sound n (x ∷ xs) = eqb (length (x .spelling)) n && (noZero (x .spelling) && (not (eqb (x .kind) 0) && sound n xs))
+
+module _ (n : ℕ) (s : List ℕ) (ys : List Spelled) where
+  abbrev kindIn : List Spelled → ℕ
+  kindIn xs = symbolKind xs (bytesFrom 0 n s)
+
+  -- Those before the others.
+  among : (xs : List Spelled) → sound n xs ≡ true → symbolAmong (xs ++ ys) s ≡ cond (eqb (kindIn xs) 0) (symbolAmong ys s) (found (sign (kindIn xs)) n)
+  unfolding sound symbolKind symbolAmong
+  among [] e = refl
+  among (x ∷ xs) e =
+      let size : length (x .spelling) ≡ n = eqb-true _ _ (first (eqb (length (x .spelling)) n) _ e) in
+      let e′ = second (eqb (length (x .spelling)) n) _ e in
+      let e″ = second (noZero (x .spelling)) _ e′ in
+      let here : same (x .spelling) (take (length (x .spelling)) s) ≡ same (bytesFrom 0 n s) (x .spelling) =
+      spelled-by (x .spelling) s (first (noZero (x .spelling)) _ e′) ∙ ap (λ (m : ℕ). same (bytesFrom 0 m s) (x .spelling)) size in
+      ap (λ (q : Bool). cond q (found (sign (x .kind)) (length (x .spelling))) (symbolAmong (xs ++ ys) s)) here
+      ∙ ap (λ (m : ℕ). cond (same (bytesFrom 0 n s) (x .spelling)) (found (sign (x .kind)) m) (symbolAmong (xs ++ ys) s)) size
+      ∙ go (same (bytesFrom 0 n s) (x .spelling)) (not-true (eqb (x .kind) 0) (first (not (eqb (x .kind) 0)) _ e″)) (among xs (second (not (eqb (x .kind) 0)) _ e″))
     where
-      none-left : 28 - row ≡ 0
-      none-left = omega arith
+      go : (q : Bool) → eqb (x .kind) 0 ≡ false → symbolAmong (xs ++ ys) s ≡ cond (eqb (kindIn xs) 0) (symbolAmong ys s) (found (sign (kindIn xs)) n)
+          → cond q (found (sign (x .kind)) n) (symbolAmong (xs ++ ys) s) ≡ cond (eqb (cond q (x .kind) (kindIn xs)) 0) (symbolAmong ys s) (found (sign (cond q (x .kind) (kindIn xs))) n)
+      go true k more = sym (rw k)
+      go false k more = more
+
+  module _ (xs : List Spelled) (e : sound n xs ≡ true) {k : ℕ} (ek : k ≡ kindIn xs) where
+    symbol-here : (k ≡ 0 → ⊥) → found (sign k) n ≡ symbolAmong (xs ++ ys) s
+    symbol-here h = sym (among xs e ∙ rw (← ek, ne-eqb _ _ h))
+
+    symbol-next : k ≡ 0 → symbolAmong ys s ≡ symbolAmong (xs ++ ys) s
+    symbol-next h = sym (among xs e ∙ rw (← ek, h))
+
+-- ---- The symbols by their sizes, the longest first.
+
+abbrev shorter : List Spelled
+shorter = ofTwo ++ (ofOne ++ [])
+
+by-size : spelledSymbols ≡ ofThree ++ shorter
+unfolding ofThree ofTwo ofOne spelledSymbols bytes
+by-size = refl
+
+three-sound : sound 3 ofThree ≡ true
+unfolding sound noZero ofThree spelledSymbols bytes
+three-sound = refl
+
+two-sound : sound 2 ofTwo ≡ true
+unfolding sound noZero ofTwo spelledSymbols bytes
+two-sound = refl
+
+one-sound : sound 1 ofOne ≡ true
+unfolding sound noZero ofOne spelledSymbols bytes
+one-sound = refl
+
+module _ (s : List ℕ) {a b c k : ℕ} (ea : a ≡ getD s 0 0) (eb : b ≡ getD s 1 0) (ec : c ≡ getD s 2 0) (ek : k ≡ symbolKind ofThree (a ∷ b ∷ c ∷ [])) where
+  kind : k ≡ symbolKind ofThree (bytesFrom 0 3 s)
+  kind = ek ∙ rw (ea, eb, ec)
+
+  pub of-three : (k ≡ 0 → ⊥) → found (sign k) 3 ≡ symbolAt s
+  of-three h = rw by-size (symbol-here 3 s shorter ofThree three-sound kind h)
+
+  pub none-of-three : k ≡ 0 → symbolAmong shorter s ≡ symbolAt s
+  none-of-three h = rw by-size (symbol-next 3 s shorter ofThree three-sound kind h)
+
+module _ (s : List ℕ) {a b k : ℕ} (ea : a ≡ getD s 0 0) (eb : b ≡ getD s 1 0) (ek : k ≡ symbolKind ofTwo (a ∷ b ∷ [])) where
+  kind′ : k ≡ symbolKind ofTwo (bytesFrom 0 2 s)
+  kind′ = ek ∙ rw (ea, eb)
+
+  pub of-two : (k ≡ 0 → ⊥) → found (sign k) 2 ≡ symbolAmong shorter s
+  of-two h = symbol-here 2 s (ofOne ++ []) ofTwo two-sound kind′ h
+
+  pub none-of-two : k ≡ 0 → symbolAmong (ofOne ++ []) s ≡ symbolAmong shorter s
+  none-of-two h = symbol-next 2 s (ofOne ++ []) ofTwo two-sound kind′ h
+
+module _ (s : List ℕ) {a k : ℕ} (ea : a ≡ getD s 0 0) (ek : k ≡ symbolKind ofOne (a ∷ [])) where
+  kind″ : k ≡ symbolKind ofOne (bytesFrom 0 1 s)
+  kind″ = ek ∙ rw ea
+
+  pub of-one : (k ≡ 0 → ⊥) → found (sign k) 1 ≡ symbolAmong (ofOne ++ []) s
+  of-one h = symbol-here 1 s [] ofOne one-sound kind″ h
+
+  pub none-of-one : k ≡ 0 → found (wrong BadCharacter) 1 ≡ symbolAmong (ofOne ++ []) s
+  unfolding symbolAmong
+  none-of-one h = symbol-next 1 s [] ofOne one-sound kind″ h

@@ -1,58 +1,125 @@
-// Reserved words (the manual, 2.1).
+// Reserved words (the manual, 2.1), told apart by the letter with which they begin.
+use language::kinds;
 use text_characters::letters;
 use text_characters::names;
 use text_characters::parts;
-use text_characters::runs;
-use text_characters::runs::Stretch;
+ghost use mathlib.Core.Bool.{cond};
 ghost use mathlib.Core.List.{map};
 ghost use mathlib.Core.Path.{_≡_};
-ghost use Prim.Native.Nat.{_<_};
-ghost use lib.ListN.{getD};
 ghost use Rattle.language.specs.Characters.{folded};
 ghost use Rattle.language.specs.Scan.{reservedKind, same};
-ghost use Rattle.text_items.specs.Tables.{reservedBegins, reservedRow};
+ghost use Rattle.text_items.specs.Tables.{kindWith};
 
-const COUNT: u8 = 23;
+// The kinds of words that no rule has.
+const TIME: u8 = 43;
 
-// The kind of the first, the others' following it.
-const FIRST: u8 = language::kinds::CASE;
+const OUTPUT: u8 = 45;
 
-// Each word in ten columns.
-const WORDS: [u8; 230] = *b"\
-    CASE      DO        ENDCASE   IF        THEN      ELSE      \
-    ENDIF     END       CON       RED       EXT       HEAD      \
-    TAIL      TIME      INPUT     OUTPUT    LEVEL     RETURN    \
-    REGISTER  MEMORY    TERMINAL  OPERATION CONTROL   ";
+const LEVEL: u8 = 46;
 
-// The letter with which each begins, by which most names are told apart.
-const BEGINS: [u8; 23] = *b"CDEITEEECREHTTIOLRRMTOC";
-
-// Whether a name is the reserved word of a row; `begin` is the capital with which the name begins.
-fn is_word(name: &[u8], begins: &[u8; 23], begin: u8, row: usize) -> bool
-    requires { ⌜ (row < 23) × (now begins ≡ reservedBegins) × (begin ≡ folded (getD (now name) 0 0)) ⌝ }
-    ensures { λ r. ⌜ r ≡ same (map folded (now (name .entry))) (map folded (reservedRow row)) ⌝ }
+// The kind of a reserved word where a name is that word, and 0 where it is not.
+fn only(name: &[u8], word: &[u8], kind: u8) -> u8
+    ensures { λ r. ⌜ r ≡ cond (same (map folded (now (name .entry))) (map folded (now (word .entry)))) kind 0 ⌝ }
 {
-    if begins[row] != begin {
-        return false;
-    }
-    let words = WORDS;
-    let text = parts::rest(&words, row * 10);
-    let word = parts::first(text, runs::length_of(Stretch::Name, text));
-    names::matches(name, word)
+    if names::matches(name, word) { kind } else { 0 }
 }
 
-// The kind of the reserved word that a name is, and 0 where it is none. The letters are laid out once for all rows.
+// The kind of the reserved word with C that a name is, and 0 where it is none.
+fn with_c(name: &[u8]) -> u8
+    ensures { λ r. ⌜ r ≡ kindWith 67 (map folded (now (name .entry))) ⌝ }
+{
+    if names::matches(name, b"CASE") {
+        return kinds::CASE;
+    }
+    if names::matches(name, b"CON") {
+        return kinds::CON;
+    }
+    only(name, b"CONTROL", kinds::CONTROL)
+}
+
+// The kind of the reserved word with E that a name is, and 0 where it is none.
+fn with_e(name: &[u8]) -> u8
+    ensures { λ r. ⌜ r ≡ kindWith 69 (map folded (now (name .entry))) ⌝ }
+{
+    if names::matches(name, b"ENDCASE") {
+        return kinds::END_CASE;
+    }
+    if names::matches(name, b"ELSE") {
+        return kinds::ELSE;
+    }
+    if names::matches(name, b"ENDIF") {
+        return kinds::END_IF;
+    }
+    if names::matches(name, b"END") {
+        return kinds::END;
+    }
+    only(name, b"EXT", kinds::EXT)
+}
+
+// The kind of the reserved word with I that a name is, and 0 where it is none.
+fn with_i(name: &[u8]) -> u8
+    ensures { λ r. ⌜ r ≡ kindWith 73 (map folded (now (name .entry))) ⌝ }
+{
+    if names::matches(name, b"IF") {
+        return kinds::IF;
+    }
+    only(name, b"INPUT", kinds::INPUT)
+}
+
+// The kind of the reserved word with O that a name is, and 0 where it is none.
+fn with_o(name: &[u8]) -> u8
+    ensures { λ r. ⌜ r ≡ kindWith 79 (map folded (now (name .entry))) ⌝ }
+{
+    if names::matches(name, b"OUTPUT") {
+        return OUTPUT;
+    }
+    only(name, b"OPERATION", kinds::OPERATION)
+}
+
+// The kind of the reserved word with R that a name is, and 0 where it is none.
+fn with_r(name: &[u8]) -> u8
+    ensures { λ r. ⌜ r ≡ kindWith 82 (map folded (now (name .entry))) ⌝ }
+{
+    if names::matches(name, b"RED") {
+        return kinds::RED;
+    }
+    if names::matches(name, b"RETURN") {
+        return kinds::RETURN;
+    }
+    only(name, b"REGISTER", kinds::REGISTER)
+}
+
+// The kind of the reserved word with T that a name is, and 0 where it is none.
+fn with_t(name: &[u8]) -> u8
+    ensures { λ r. ⌜ r ≡ kindWith 84 (map folded (now (name .entry))) ⌝ }
+{
+    if names::matches(name, b"THEN") {
+        return kinds::THEN;
+    }
+    if names::matches(name, b"TAIL") {
+        return kinds::TAIL;
+    }
+    if names::matches(name, b"TIME") {
+        return TIME;
+    }
+    only(name, b"TERMINAL", kinds::TERMINAL)
+}
+
+// The kind of the reserved word that a name is, and 0 where it is none.
 pub fn kind_of(name: &[u8]) -> u8
     ensures { λ r. ⌜ r ≡ reservedKind (map folded (now (name .entry))) ⌝ }
 {
-    let begin = letters::fold(parts::byte(name, 0));
-    let begins = BEGINS;
-    let mut row = 0;
-    while row < COUNT {
-        if is_word(name, &begins, begin, row as usize) {
-            return FIRST + row;
-        }
-        row += 1;
+    match letters::fold(parts::byte(name, 0)) {
+        b'C' => with_c(name),
+        b'D' => only(name, b"DO", kinds::DO),
+        b'E' => with_e(name),
+        b'H' => only(name, b"HEAD", kinds::HEAD),
+        b'I' => with_i(name),
+        b'L' => only(name, b"LEVEL", LEVEL),
+        b'M' => only(name, b"MEMORY", kinds::MEMORY),
+        b'O' => with_o(name),
+        b'R' => with_r(name),
+        b'T' => with_t(name),
+        _ => 0,
     }
-    0
 }

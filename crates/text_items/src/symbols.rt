@@ -2,88 +2,104 @@
 use crate::Item;
 use crate::ItemKind;
 use crate::plain;
+use language::kinds;
 use language::refusals::Refusal;
-use text_characters::names;
 use text_characters::parts;
-ghost use mathlib.Core.List.{map};
+ghost use mathlib.Core.List.{[], _∷_};
 ghost use mathlib.Core.Path.{_≡_};
-ghost use Prim.Native.Nat.{_<_};
-ghost use lib.ListN.{take};
-ghost use Rattle.language.specs.Characters.{folded};
-ghost use Rattle.language.specs.Scan.{same, symbolAt};
+ghost use Rattle.language.specs.Scan.{symbolAt};
 ghost use Rattle.text_items.specs.Meaning.{meant};
-ghost use Rattle.text_items.specs.Tables.{symbolRow, symbolSize};
+ghost use Rattle.text_items.specs.Tables.{ofOne, ofThree, ofTwo, symbolKind};
 
-const COUNT: usize = 28;
-
-// Each symbol in three columns: four of three bytes, five of two, and the single ones.
-const SPELLINGS: [u8; 84] = *b"\
-    [+](+)(-)(=)\
-    >= <= -> => <- \
-    _  #  $  (  )  *  +  ,  -  .  /  :  ;  <  =  >  @  [  ]  ";
-
-// The kind of each.
-const KINDS: [u8; 28] = [
-    language::kinds::EXCLUSIVE,
-    language::kinds::SUM,
-    language::kinds::DIFFERENCE,
-    language::kinds::SAME,
-    language::kinds::AT_LEAST,
-    language::kinds::AT_MOST,
-    language::kinds::GOTO,
-    language::kinds::CALL,
-    language::kinds::DELAYED,
-    language::kinds::DELAYED,
-    language::kinds::HASH,
-    language::kinds::DOLLAR,
-    language::kinds::OPEN_PAREN,
-    language::kinds::CLOSE_PAREN,
-    language::kinds::STAR,
-    language::kinds::PLUS,
-    language::kinds::COMMA,
-    language::kinds::MINUS,
-    language::kinds::PERIOD,
-    language::kinds::SLASH,
-    language::kinds::COLON,
-    language::kinds::SEMICOLON,
-    language::kinds::LESS,
-    language::kinds::EQUAL,
-    language::kinds::GREATER,
-    language::kinds::AT,
-    language::kinds::OPEN_BRACKET,
-    language::kinds::CLOSE_BRACKET,
-];
-
-// How many bytes the symbol of a row has.
-fn size_of(row: usize) -> usize
-    ensures { λ r. ⌜ r ≡ symbolSize row ⌝ }
+// The kind of the symbol that three bytes are, and 0 where they are none.
+fn of_three(a: u8, b: u8, c: u8) -> u8
+    ensures { λ r. ⌜ r ≡ symbolKind ofThree (a ∷ b ∷ c ∷ []) ⌝ }
 {
-    if row < 4 {
-        return 3;
+    if a == b'(' {
+        if c != b')' {
+            return 0;
+        }
+        return match b {
+            b'+' => kinds::SUM,
+            b'-' => kinds::DIFFERENCE,
+            b'=' => kinds::SAME,
+            _ => 0,
+        };
     }
-    if row < 9 { 2 } else { 1 }
+    if a != b'[' {
+        return 0;
+    }
+    if b != b'+' {
+        return 0;
+    }
+    if c == b']' { kinds::EXCLUSIVE } else { 0 }
 }
 
-// Whether a text begins with the symbol of a row.
-fn begins(text: &[u8], row: usize) -> bool
-    requires { ⌜ row < 28 ⌝ }
-    ensures { λ r. ⌜ r ≡ same (map folded (take (symbolSize row) (now (text .entry)))) (map folded (symbolRow row)) ⌝ }
+// The kind of the symbol that two bytes are, and 0 where they are none.
+fn of_two(a: u8, b: u8) -> u8
+    ensures { λ r. ⌜ r ≡ symbolKind ofTwo (a ∷ b ∷ []) ⌝ }
 {
-    let size = size_of(row);
-    let spelling = parts::first(parts::rest(&SPELLINGS, row * 3), size);
-    names::matches(parts::first(text, size), spelling)
+    match b {
+        b'=' => match a {
+            b'>' => kinds::AT_LEAST,
+            b'<' => kinds::AT_MOST,
+            _ => 0,
+        },
+        b'>' => match a {
+            b'-' => kinds::GOTO,
+            b'=' => kinds::CALL,
+            _ => 0,
+        },
+        b'-' => if a == b'<' { kinds::DELAYED } else { 0 },
+        _ => 0,
+    }
+}
+
+// The kind of the symbol that one byte is, and 0 where it is none.
+fn of_one(a: u8) -> u8
+    ensures { λ r. ⌜ r ≡ symbolKind ofOne (a ∷ []) ⌝ }
+{
+    match a {
+        b'_' => kinds::DELAYED,
+        b'#' => kinds::HASH,
+        b'$' => kinds::DOLLAR,
+        b'(' => kinds::OPEN_PAREN,
+        b')' => kinds::CLOSE_PAREN,
+        b'*' => kinds::STAR,
+        b'+' => kinds::PLUS,
+        b',' => kinds::COMMA,
+        b'-' => kinds::MINUS,
+        b'.' => kinds::PERIOD,
+        b'/' => kinds::SLASH,
+        b':' => kinds::COLON,
+        b';' => kinds::SEMICOLON,
+        b'<' => kinds::LESS,
+        b'=' => kinds::EQUAL,
+        b'>' => kinds::GREATER,
+        b'@' => kinds::AT,
+        b'[' => kinds::OPEN_BRACKET,
+        b']' => kinds::CLOSE_BRACKET,
+        _ => 0,
+    }
 }
 
 // The symbol at the start of a text.
 pub fn symbol(text: &[u8]) -> Item
     ensures { λ r. ⌜ meant (now (text .entry)) r ≡ symbolAt (now (text .entry)) ⌝ }
 {
-    let mut row = 0;
-    while row < COUNT {
-        if begins(text, row) {
-            return plain(ItemKind::Sign(KINDS[row]), size_of(row));
-        }
-        row += 1;
+    let a = parts::byte(text, 0);
+    let b = parts::byte(text, 1);
+    let three = of_three(a, b, parts::byte(text, 2));
+    if three != 0 {
+        return plain(ItemKind::Sign(three), 3);
+    }
+    let two = of_two(a, b);
+    if two != 0 {
+        return plain(ItemKind::Sign(two), 2);
+    }
+    let one = of_one(a);
+    if one != 0 {
+        return plain(ItemKind::Sign(one), 1);
     }
     plain(ItemKind::Wrong(Refusal::BadCharacter), 1)
 }

@@ -1,63 +1,56 @@
-use mathlib.Core.List.{map}
-use mathlib.Core.Path.{_≡_, refl, sym, _∙_}
-use Prim.Native.Nat.{_-_, _≤_}
-use lib.ListN.{length, drop}
-use Rattle.language.specs.Characters.{folded}
-use Rattle.language.specs.Scan.{same}
-use Rattle.text_characters.proofs.Matching.{other-size, more, stop, end}
 use borrow.Author.Needs.{needs}
+use mathlib.Core.Path.{sym, _∙_}
+use borrow.Author.Tests.{not-false, not-true}
+use Prim.Native.Nat.{_≤_}
+use lib.ListN.{length}
+use Rattle.text_characters.proofs.Matching.{Alike, all-alike, end, less, other-size, stop}
 use native.Mathlib.Omega.{arith}
 use Rattle.text_characters.proofs.names.matches.Statement.{statement}
 use Rattle.text_characters.proofs.names.matches.Tie as tie
 
 abbrev Inv-loop : tie.InvT-loop
-Inv-loop a b i₀ i = (i ≤ length a) × (same (map folded a) (map folded b) ≡ same (map folded (drop i a)) (map folded (drop i b)))
+Inv-loop a b i₀ i = (i ≤ length a) × Alike a b i
 
 abbrev μ-loop : tie.MeasureT-loop
-μ-loop a b i₀ i = length a - i
+μ-loop a b i₀ i = i
 
 returns : tie.Need-returns Inv-loop μ-loop
 returns c = other-size (c .before .before .before .args .a .now) (c .before .before .before .args .b .now) (c .if1 .taken)
 
 loop-holds : tie.Need-loop-holds Inv-loop μ-loop
-loop-holds c = (omega arith, refl)
+loop-holds c = (omega arith, all-alike (c .before .before .before .args .a .now) (c .before .before .before .args .b .now) (c .if1 .left))
 
-shared-slice-read-fold : tie.Need-shared-slice-read-fold Inv-loop μ-loop
-shared-slice-read-fold c = omega arith
+sub-i : tie.Need-sub-i Inv-loop μ-loop
+sub-i c = omega arith
 
-fold-requires : tie.Need-fold-requires Inv-loop μ-loop
-fold-requires c κs = search needs
+shared-slice-read-alike : tie.Need-shared-slice-read-alike Inv-loop μ-loop
+shared-slice-read-alike c = omega arith
 
-shared-slice-read-fold-2 : tie.Need-shared-slice-read-fold-2 Inv-loop μ-loop
-shared-slice-read-fold-2 c = omega arith
+shared-slice-read-alike-2 : tie.Need-shared-slice-read-alike-2 Inv-loop μ-loop
+shared-slice-read-alike-2 c = omega arith
 
-fold-requires-2 : tie.Need-fold-requires-2 Inv-loop μ-loop
-fold-requires-2 c κs = search needs
+alike-requires : tie.Need-alike-requires Inv-loop μ-loop
+alike-requires c κs = search needs
 
 returns-2 : tie.Need-returns-2 Inv-loop μ-loop
 returns-2 c =
-    let args = c .before .before .before .before .before .before .before .before .before .before .args in
-    let loop = c .before .before .before .before .before .before .loop in
-    let fold = c .before .before .before .fold in
-    let fold2 = c .before .fold2 in
-    stop (args .a .now) (args .b .now) (loop .i) (loop .inv .1) (omega arith) (omega arith) (λ e. c .if2 .taken (fold .ensures ∙ e ∙ sym (fold2 .ensures)))
-
-add-i : tie.Need-add-i Inv-loop μ-loop
-add-i c = omega arith
+    let args = c .before .before .before .before .before .before .before .before .before .args in
+    let loop = c .before .before .before .before .before .loop in
+    let size = c .before .before .before .before .before .before .if1 .left in
+    stop (args .a .now) (args .b .now) (loop .i) size (loop .inv .1) (omega arith) (omega arith) (sym (c .before .alike .ensures) ∙ not-true _ (c .if2 .taken))
 
 loop-less : tie.Need-loop-less Inv-loop μ-loop
 loop-less c = omega arith
 
 loop-again : tie.Need-loop-again Inv-loop μ-loop
 loop-again c =
-    let args = c .before .before .before .before .before .before .before .before .before .before .args in
-    let loop = c .before .before .before .before .before .before .loop in
-    let fold = c .before .before .before .fold in
-    let fold2 = c .before .fold2 in
-    (omega arith, more (args .a .now) (args .b .now) (loop .i) (loop .inv .1) (omega arith) (omega arith) (sym (fold .ensures) ∙ c .if2 .left ∙ fold2 .ensures))
+    let args = c .before .before .before .before .before .before .before .before .before .args in
+    let loop = c .before .before .before .before .before .loop in
+    let size = c .before .before .before .before .before .before .if1 .left in
+    (omega arith, less (args .a .now) (args .b .now) (loop .i) size (loop .inv .1) (omega arith) (omega arith) (sym (c .before .alike .ensures) ∙ not-false _ (c .if2 .left)))
 
 returns-3 : tie.Need-returns-3 Inv-loop μ-loop
-returns-3 c = end (c .before .before .before .before .before .args .a .now) (c .before .before .before .before .before .args .b .now) (c .before .loop .i) (c .before .loop .inv .1) (omega arith) (omega arith)
+returns-3 c = end (c .before .before .before .before .before .args .a .now) (c .before .before .before .before .before .args .b .now) (c .before .loop .i) (c .before .before .if1 .left) (c .before .loop .inv .1) (omega arith)
 
 pub matches-spec : {M : Type 1} → statement M
 matches-spec =
@@ -67,12 +60,11 @@ matches-spec =
     μ-loop
     returns
     loop-holds
-    shared-slice-read-fold
-    fold-requires
-    shared-slice-read-fold-2
-    fold-requires-2
+    sub-i
+    shared-slice-read-alike
+    shared-slice-read-alike-2
+    alike-requires
     returns-2
-    add-i
     loop-less
     loop-again
     returns-3)

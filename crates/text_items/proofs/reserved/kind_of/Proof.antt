@@ -1,70 +1,127 @@
-use mathlib.Core.List.{map}
-use mathlib.Core.Path.{_≡_, refl, ap, sym, _∙_}
-use Prim.Native.Nat.{_-_, _≤_}
-use lib.ListN.{getD}
+use mathlib.Core.Path.{sym, _∙_}
+use borrow.Author.Tests.{ne-eqb}
 use Rattle.language.specs.Characters.{folded}
-use Rattle.language.specs.Scan.{bytes}
-use Rattle.text_items.specs.Tables.{reservedBegins}
-use Rattle.text_items.proofs.Lookup.{ReservedLeft, reserved-all, reserved-here, reserved-next, reserved-none}
+use Rattle.language.specs.Scan.{bytes, reservedAmong, reservedWords}
+use Rattle.text_items.specs.Tables.{beginning, kindWith}
+use Rattle.text_items.proofs.Lookup.{kind-none, kind-with}
 use borrow.Author.Needs.{needs}
-use native.Mathlib.Omega.{arith}
 use Rattle.text_items.proofs.reserved.kind_of.Statement.{statement}
 use Rattle.text_items.proofs.reserved.kind_of.Tie as tie
 
-abbrev Inv-loop : tie.InvT-loop
-Inv-loop name begin begins row₀ row = (row ≤ 23) × (begin ≡ folded (getD name 0 0)) × ReservedLeft (map folded name) row
-
-abbrev μ-loop : tie.MeasureT-loop
-μ-loop name begin begins row₀ row = 23 - row
-
-byte-requires : tie.Need-byte-requires Inv-loop μ-loop
+byte-requires : tie.Need-byte-requires
 byte-requires c κs = search needs
 
-fold-requires : tie.Need-fold-requires Inv-loop μ-loop
+fold-requires : tie.Need-fold-requires
 fold-requires c κs = search needs
 
-loop-holds : tie.Need-loop-holds Inv-loop μ-loop
-loop-holds c = (omega arith, c .fold .ensures ∙ ap folded (c .before .byte .ensures), reserved-all _)
+with-c-requires : tie.Need-with-c-requires
+with-c-requires c κs = search needs
 
-cast-is-word : tie.Need-cast-is-word Inv-loop μ-loop
-cast-is-word c = omega arith
+slice-aggregate-only : tie.Need-slice-aggregate-only
+slice-aggregate-only c = search needs
 
-is-word-requires : tie.Need-is-word-requires Inv-loop μ-loop
-unfolding reservedBegins bytes
-is-word-requires c κs = (omega arith, refl, c .before .before .loop .inv .1)
+only-requires : tie.Need-only-requires
+only-requires c κs = search needs
 
-add-result : tie.Need-add-result Inv-loop μ-loop
-add-result c = search needs
+with-e-requires : tie.Need-with-e-requires
+with-e-requires c κs = search needs
 
-returns : tie.Need-returns Inv-loop μ-loop
-returns c = reserved-here _ _ (c .before .before .before .before .loop .inv .2) (omega arith) (sym (c .before .is-word .ensures) ∙ c .if1 .taken)
+slice-aggregate-only-2 : tie.Need-slice-aggregate-only-2
+slice-aggregate-only-2 c = search needs
 
-add-row : tie.Need-add-row Inv-loop μ-loop
-add-row c = search needs
+only-requires-2 : tie.Need-only-requires-2
+only-requires-2 c κs = search needs
 
-loop-less : tie.Need-loop-less Inv-loop μ-loop
-loop-less c = search needs
+with-i-requires : tie.Need-with-i-requires
+with-i-requires c κs = search needs
 
-loop-again : tie.Need-loop-again Inv-loop μ-loop
-loop-again c = (omega arith, c .before .before .before .before .loop .inv .1, reserved-next _ _ (c .before .before .before .before .loop .inv .2) (omega arith) (sym (c .before .is-word .ensures) ∙ c .if1 .left))
+slice-aggregate-only-3 : tie.Need-slice-aggregate-only-3
+slice-aggregate-only-3 c = search needs
 
-returns-2 : tie.Need-returns-2 Inv-loop μ-loop
-returns-2 c = reserved-none _ _ (c .before .loop .inv .2) (omega arith)
+only-requires-3 : tie.Need-only-requires-3
+only-requires-3 c κs = search needs
+
+slice-aggregate-only-4 : tie.Need-slice-aggregate-only-4
+slice-aggregate-only-4 c = search needs
+
+only-requires-4 : tie.Need-only-requires-4
+only-requires-4 c κs = search needs
+
+with-o-requires : tie.Need-with-o-requires
+with-o-requires c κs = search needs
+
+with-r-requires : tie.Need-with-r-requires
+with-r-requires c κs = search needs
+
+with-t-requires : tie.Need-with-t-requires
+with-t-requires c κs = search needs
+
+returns : tie.Need-returns
+returns c = c .with-c .ensures ∙ kind-with (c .before .before .before .before .before .args .name .now) _ _ (c .before .before .before .byte .ensures) (c .before .before .fold .ensures) 67 (c .before .match .keys1)
+
+returns-2 : tie.Need-returns-2
+unfolding kindWith beginning reservedWords reservedAmong bytes folded
+returns-2 c = c .only .ensures ∙ kind-with (c .before .before .before .before .before .before .args .name .now) _ _ (c .before .before .before .before .byte .ensures) (c .before .before .before .fold .ensures) 68 (c .before .before .match .keys2)
+
+returns-3 : tie.Need-returns-3
+returns-3 c = c .with-e .ensures ∙ kind-with (c .before .before .before .before .before .args .name .now) _ _ (c .before .before .before .byte .ensures) (c .before .before .fold .ensures) 69 (c .before .match .keys3)
+
+returns-4 : tie.Need-returns-4
+unfolding kindWith beginning reservedWords reservedAmong bytes folded
+returns-4 c = c .only2 .ensures ∙ kind-with (c .before .before .before .before .before .before .args .name .now) _ _ (c .before .before .before .before .byte .ensures) (c .before .before .before .fold .ensures) 72 (c .before .before .match .keys4)
+
+returns-5 : tie.Need-returns-5
+returns-5 c = c .with-i .ensures ∙ kind-with (c .before .before .before .before .before .args .name .now) _ _ (c .before .before .before .byte .ensures) (c .before .before .fold .ensures) 73 (c .before .match .keys5)
+
+returns-6 : tie.Need-returns-6
+unfolding kindWith beginning reservedWords reservedAmong bytes folded
+returns-6 c = c .only3 .ensures ∙ kind-with (c .before .before .before .before .before .before .args .name .now) _ _ (c .before .before .before .before .byte .ensures) (c .before .before .before .fold .ensures) 76 (c .before .before .match .keys6)
+
+returns-7 : tie.Need-returns-7
+unfolding kindWith beginning reservedWords reservedAmong bytes folded
+returns-7 c = c .only4 .ensures ∙ kind-with (c .before .before .before .before .before .before .args .name .now) _ _ (c .before .before .before .before .byte .ensures) (c .before .before .before .fold .ensures) 77 (c .before .before .match .keys7)
+
+returns-8 : tie.Need-returns-8
+returns-8 c = c .with-o .ensures ∙ kind-with (c .before .before .before .before .before .args .name .now) _ _ (c .before .before .before .byte .ensures) (c .before .before .fold .ensures) 79 (c .before .match .keys8)
+
+returns-9 : tie.Need-returns-9
+returns-9 c = c .with-r .ensures ∙ kind-with (c .before .before .before .before .before .args .name .now) _ _ (c .before .before .before .byte .ensures) (c .before .before .fold .ensures) 82 (c .before .match .keys9)
+
+returns-10 : tie.Need-returns-10
+returns-10 c = c .with-t .ensures ∙ kind-with (c .before .before .before .before .before .args .name .now) _ _ (c .before .before .before .byte .ensures) (c .before .before .fold .ensures) 84 (c .before .match .keys10)
+
+returns-11 : tie.Need-returns-11
+unfolding beginning reservedWords bytes
+returns-11 c = kind-none (c .before .before .before .before .args .name .now) _ _ (c .before .before .byte .ensures) (c .before .fold .ensures) (simp (ne-eqb _ _ (c .match .rest .1), ne-eqb _ _ (c .match .rest .0 .1), ne-eqb _ _ (c .match .rest .0 .0 .1), ne-eqb _ _ (c .match .rest .0 .0 .0 .1), ne-eqb _ _ (c .match .rest .0 .0 .0 .0 .1), ne-eqb _ _ (c .match .rest .0 .0 .0 .0 .0 .1), ne-eqb _ _ (c .match .rest .0 .0 .0 .0 .0 .0 .1), ne-eqb _ _ (c .match .rest .0 .0 .0 .0 .0 .0 .0 .1), ne-eqb _ _ (c .match .rest .0 .0 .0 .0 .0 .0 .0 .0 .1), ne-eqb _ _ (c .match .rest .0 .0 .0 .0 .0 .0 .0 .0 .0 .1)))
 
 pub kind-of-spec : {M : Type 1} → statement M
 kind-of-spec =
     tie.close
     (tie.spec
-    Inv-loop
-    μ-loop
     byte-requires
     fold-requires
-    loop-holds
-    cast-is-word
-    is-word-requires
-    add-result
+    with-c-requires
+    slice-aggregate-only
+    only-requires
+    with-e-requires
+    slice-aggregate-only-2
+    only-requires-2
+    with-i-requires
+    slice-aggregate-only-3
+    only-requires-3
+    slice-aggregate-only-4
+    only-requires-4
+    with-o-requires
+    with-r-requires
+    with-t-requires
     returns
-    add-row
-    loop-less
-    loop-again
-    returns-2)
+    returns-2
+    returns-3
+    returns-4
+    returns-5
+    returns-6
+    returns-7
+    returns-8
+    returns-9
+    returns-10
+    returns-11)

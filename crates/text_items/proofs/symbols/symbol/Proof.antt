@@ -1,77 +1,87 @@
 use mathlib.Core.Path.{ap, sym, _∙_}
-use Prim.Native.Nat.{ℕ, _-_, _≤_}
-use lib.ListN.{getD}
-use Rattle.language.specs.Scan.{found, sign}
 use Rattle.text_items.specs.Meaning.{meant}
-use Rattle.text_items.specs.Tables.{symbolKinds}
-use Rattle.text_items.proofs.Lookup.{SymbolsLeft, symbol-here, symbol-next, symbol-none, symbols-all}
+use Rattle.text_items.proofs.Lookup.{none-of-one, none-of-three, none-of-two, of-one, of-three, of-two}
 use borrow.Author.Needs.{needs}
-use native.Mathlib.Omega.{arith}
 use Rattle.text_items.proofs.symbols.symbol.Statement.{statement}
 use Rattle.text_items.proofs.symbols.symbol.Tie as tie
 
-abbrev Inv-loop : tie.InvT-loop
-Inv-loop text row₀ row = (row ≤ 28) × SymbolsLeft text row
+byte-requires : tie.Need-byte-requires
+byte-requires c κs = search needs
 
-abbrev μ-loop : tie.MeasureT-loop
-μ-loop text row₀ row = 28 - row
+byte-requires-2 : tie.Need-byte-requires-2
+byte-requires-2 c κs = search needs
 
-loop-holds : tie.Need-loop-holds Inv-loop μ-loop
-loop-holds c = (omega arith, symbols-all _)
+byte-requires-3 : tie.Need-byte-requires-3
+byte-requires-3 c κs = search needs
 
-begins-requires : tie.Need-begins-requires Inv-loop μ-loop
-begins-requires c κs = search needs
+of-three-requires : tie.Need-of-three-requires
+of-three-requires c κs = search needs
 
-array-read-t8 : tie.Need-array-read-t8 Inv-loop μ-loop
-array-read-t8 c = search needs
-
-size-of-requires : tie.Need-size-of-requires Inv-loop μ-loop
-size-of-requires c κs = search needs
-
-plain-requires : tie.Need-plain-requires Inv-loop μ-loop
+plain-requires : tie.Need-plain-requires
 plain-requires c κs = search needs
 
-returns : tie.Need-returns Inv-loop μ-loop
-unfolding symbolKinds
+returns : tie.Need-returns
 returns c =
-    let args = c .before .before .before .before .before .before .before .args in
-    let loop = c .before .before .before .before .before .loop in
-    let size-of = c .before .size-of in
-    let begins = c .before .before .before .begins in
-    let if1 = c .before .before .if1 in
-    ap (meant (args .text .now)) (c .plain .ensures)
-    ∙ ap (λ (n : ℕ). found (sign (getD symbolKinds (loop .row) 0)) n) (size-of .ensures)
-    ∙ symbol-here (args .text .now) (loop .row) (loop .inv .1) (omega arith) (sym (begins .ensures) ∙ if1 .taken)
+    let text = c .before .before .before .before .before .before .before .args .text .now in
+    let a = c .before .before .before .before .before .byte .ensures in
+    let b = c .before .before .before .before .byte2 .ensures in
+    ap (meant text) (c .plain .ensures)
+    ∙ of-three text a b (c .before .before .before .byte3 .ensures) (c .before .before .of-three .ensures) (c .before .if1 .taken)
 
-add-row : tie.Need-add-row Inv-loop μ-loop
-add-row c = search needs
+of-two-requires : tie.Need-of-two-requires
+of-two-requires c κs = search needs
 
-loop-less : tie.Need-loop-less Inv-loop μ-loop
-loop-less c = search needs
-
-loop-again : tie.Need-loop-again Inv-loop μ-loop
-loop-again c = (omega arith, symbol-next (c .before .before .before .before .before .args .text .now) (c .before .before .before .loop .row) (c .before .before .before .loop .inv .1) (omega arith) (sym (c .before .begins .ensures) ∙ c .if1 .left))
-
-plain-requires-2 : tie.Need-plain-requires-2 Inv-loop μ-loop
+plain-requires-2 : tie.Need-plain-requires-2
 plain-requires-2 c κs = search needs
 
-returns-2 : tie.Need-returns-2 Inv-loop μ-loop
-returns-2 c = ap (meant (c .before .before .before .before .args .text .now)) (c .plain2 .ensures) ∙ symbol-none (c .before .before .before .before .args .text .now) (c .before .before .loop .row) (c .before .before .loop .inv .1) (omega arith)
+returns-2 : tie.Need-returns-2
+returns-2 c =
+    let text = c .before .before .before .before .before .before .before .before .before .args .text .now in
+    let a = c .before .before .before .before .before .before .before .byte .ensures in
+    let b = c .before .before .before .before .before .before .byte2 .ensures in
+    ap (meant text) (c .plain2 .ensures)
+    ∙ of-two text a b (c .before .before .of-two .ensures) (c .before .if2 .taken) ∙ none-of-three text a b (c .before .before .before .before .before .byte3 .ensures) (c .before .before .before .before .of-three .ensures) (c .before .before .before .if1 .left)
+
+of-one-requires : tie.Need-of-one-requires
+of-one-requires c κs = search needs
+
+plain-requires-3 : tie.Need-plain-requires-3
+plain-requires-3 c κs = search needs
+
+returns-3 : tie.Need-returns-3
+returns-3 c =
+    let text = c .before .before .before .before .before .before .before .before .before .before .before .args .text .now in
+    let a = c .before .before .before .before .before .before .before .before .before .byte .ensures in
+    let b = c .before .before .before .before .before .before .before .before .byte2 .ensures in
+    ap (meant text) (c .plain3 .ensures)
+    ∙ of-one text a (c .before .before .of-one .ensures) (c .before .if3 .taken) ∙ none-of-two text a b (c .before .before .before .before .of-two .ensures) (c .before .before .before .if2 .left) ∙ none-of-three text a b (c .before .before .before .before .before .before .before .byte3 .ensures) (c .before .before .before .before .before .before .of-three .ensures) (c .before .before .before .before .before .if1 .left)
+
+plain-requires-4 : tie.Need-plain-requires-4
+plain-requires-4 c κs = search needs
+
+returns-4 : tie.Need-returns-4
+returns-4 c =
+    let text = c .before .before .before .before .before .before .before .before .before .before .before .args .text .now in
+    let a = c .before .before .before .before .before .before .before .before .before .byte .ensures in
+    let b = c .before .before .before .before .before .before .before .before .byte2 .ensures in
+    ap (meant text) (c .plain4 .ensures)
+    ∙ none-of-one text a (c .before .before .of-one .ensures) (c .before .if3 .left) ∙ none-of-two text a b (c .before .before .before .before .of-two .ensures) (c .before .before .before .if2 .left) ∙ none-of-three text a b (c .before .before .before .before .before .before .before .byte3 .ensures) (c .before .before .before .before .before .before .of-three .ensures) (c .before .before .before .before .before .if1 .left)
 
 pub symbol-spec : {M : Type 1} → statement M
 symbol-spec =
     tie.close
     (tie.spec
-    Inv-loop
-    μ-loop
-    loop-holds
-    begins-requires
-    array-read-t8
-    size-of-requires
+    byte-requires
+    byte-requires-2
+    byte-requires-3
+    of-three-requires
     plain-requires
     returns
-    add-row
-    loop-less
-    loop-again
+    of-two-requires
     plain-requires-2
-    returns-2)
+    returns-2
+    of-one-requires
+    plain-requires-3
+    returns-3
+    plain-requires-4
+    returns-4)
