@@ -2,19 +2,20 @@
 use mathlib.Core.Bool.{Bool, true, false, cond}
 use mathlib.Core.List.{List, map}
 use mathlib.Core.Option.{none, some}
-use mathlib.Core.Path.{_≡_, sym, _∙_}
-use Prim.Native.Nat.{ℕ, suc, _+_, _-_, _<_, _≤_, min}
+use mathlib.Core.Path.{_≡_, ap, sym, _∙_}
+use Prim.Native.Nat.{ℕ, suc, _+_, _-_, _*_, _<_, _≤_, min}
 use native.Mathlib.Omega.{arith}
 use Rattle.language.specs.Characters.{folded}
 use Rattle.language.specs.Decode.{upTo}
 use Rattle.language.specs.Naming.{numberOf}
 use Rattle.language.specs.Scan.{same}
 use Rattle.language.specs.Tree.{Name}
-use Rattle.parse_array.specs.Layout.{nameSize}
+use Rattle.parse_array.specs.Layout.{nameSize, workSize}
+use Rattle.parse_tables.proofs.RowLaws.{ends-within}
 use Rattle.parse_tables.specs.declared.Table.{Table}
 use Rattle.parse_tables.specs.declared.Table.the-variants as T
 use Rattle.parse_tables.specs.Names.{nameAt, namesIn, namesOf}
-use Rattle.parse_tables.specs.Rows.{most, rows, size}
+use Rattle.parse_tables.specs.Rows.{from, most, rows, size}
 
 -- A table of names has so few that a byte numbers them.
 pub few-rows : (t : Table) → size t ≡ nameSize → most t ≤ 256
@@ -29,6 +30,10 @@ few-rows T.StatePlaces e = omega arith
 few-rows T.FacilityNames e = omega arith
 few-rows T.OperationNames e = omega arith
 few-rows T.Labels e = omega arith
+
+-- The row of a name stands in the working array.
+pub row-there : (t : Table) {base k : ℕ} → size t ≡ nameSize → base ≡ from t → k < most t → base + nameSize * k + nameSize ≤ workSize
+row-there t {base} {k} e o h = omega (arith, ends-within t, ap (λ (m : ℕ). m * most t) e)
 
 module _ (text : List ℕ) (t : Table) (n : ℕ) (w : List ℕ) (name : Name) where
   abbrev held : ℕ
