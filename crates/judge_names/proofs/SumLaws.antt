@@ -5,7 +5,7 @@ use mathlib.Core.Path.{_≡_, refl, sym, ap, _∙_}
 use native.Mathlib.Nat.{mod-lt}
 use native.Mathlib.Numerals.{add-one}
 use native.Mathlib.Omega.{arith}
-use Prim.Native.Nat.{ℕ, suc, _+_, _%_, _<_, _≤_}
+use Prim.Native.Nat.{ℕ, suc, _+_, _*_, _%_, _<_, _≤_}
 use borrow.Author.Tests.{eqb-false, eqb-true}
 use lib.Dec.{eqb}
 use lib.ListN.{drop, drop-of-length-le, getD, length, set}
@@ -22,7 +22,7 @@ use Rattle.judge_names.specs.Sums.{AllMarked, sumAfter, sumOf}
 abbrev pub SumLeft : List ℕ → ℕ → ℕ → Type 0
 SumLeft s total i = sumOf s ≡ sumAfter total (drop i s)
 
-pub sum-next : (s : List ℕ) (total i : ℕ) → SumLeft s total i → i < length s → SumLeft s ((total + getD s i 0) % 1024) (i + 1)
+pub sum-next : (s : List ℕ) (total i : ℕ) → SumLeft s total i → i < length s → SumLeft s ((total * 45 + getD s i 0) % 1024) (i + 1)
 unfolding sumAfter
 sum-next s total i e h = e ∙ rw (drop-cons s i 0 h, add-one i)
 

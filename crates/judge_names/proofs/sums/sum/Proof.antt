@@ -1,7 +1,7 @@
 use mathlib.Core.Path.{refl}
 use native.Mathlib.Nat.{mod-lt}
 use native.Mathlib.Omega.{arith}
-use Prim.Native.Nat.{_+_, _-_, _<_}
+use Prim.Native.Nat.{_+_, _-_, _*_, _<_}
 use borrow.Author.Needs.{needs}
 use lib.ListN.{getD, length}
 use Rattle.judge_names.proofs.SumLaws.{SumLeft, sum-last, sum-next}
@@ -16,6 +16,9 @@ abbrev μ-loop : tie.MeasureT-loop
 
 loop-holds : tie.Need-loop-holds Inv-loop μ-loop
 loop-holds c = (omega arith, refl)
+
+mul-total : tie.Need-mul-total Inv-loop μ-loop
+mul-total c = omega (arith, c .before .loop .inv .0)
 
 shared-slice-read-total : tie.Need-shared-slice-read-total Inv-loop μ-loop
 shared-slice-read-total c = search needs
@@ -35,7 +38,7 @@ loop-less c = search needs
 loop-again : tie.Need-loop-again Inv-loop μ-loop
 loop-again c =
     let l = c .before .before .loop in
-    (mod-lt (l .total + getD (c .before .before .before .args .name .now) (l .i) 0) (omega arith), sum-next (c .before .before .before .args .name .now) (l .total) (l .i) (l .inv .1) (c .before .loop-test .taken))
+    (mod-lt (l .total * 45 + getD (c .before .before .before .args .name .now) (l .i) 0) (omega arith), sum-next (c .before .before .before .args .name .now) (l .total) (l .i) (l .inv .1) (c .before .loop-test .taken))
 
 returns : tie.Need-returns Inv-loop μ-loop
 returns c = (c .before .loop .inv .0, sum-last (c .before .before .args .name .now) (c .before .loop .total) (c .before .loop .i) (c .before .loop .inv .1) (c .loop-test .left))
@@ -47,6 +50,7 @@ sum-spec =
     Inv-loop
     μ-loop
     loop-holds
+    mul-total
     shared-slice-read-total
     cast-total
     add-total
