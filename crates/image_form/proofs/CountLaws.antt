@@ -1,6 +1,6 @@
 -- Sums over records taken one by one, and the test of all counts.
 use mathlib.Core.Bool.{Bool, true, false}
-use mathlib.Core.List.{List, []}
+use mathlib.Core.List.{List, [], _∷_}
 use mathlib.Core.Option.{Option, none, some}
 use mathlib.Core.Path.{_≡_, refl, sym, _∙_}
 use Prim.Native.Nat.{ℕ, _+_, _-_, _<_, _≤_}
@@ -53,6 +53,48 @@ pub value-counted : (s : State) {v : Option ℕ} → s .value ≡ v → valuesIn
 value-counted s {v} e = value-count-of v s e
 
 -- ---- All counts.
+
+node-most : (x : D.Node) → nodeCount x ≤ 1
+node-most (D.constant v) = omega arith
+node-most (D.more n) = omega arith
+node-most (D.whole f) = omega arith
+node-most (D.one f e) = omega arith
+node-most (D.part f b) = omega arith
+node-most (D.two f e g) = omega arith
+node-most (D.wordPart f e b) = omega arith
+node-most (D.binary k a b) = omega arith
+node-most (D.prefix k a) = omega arith
+node-most (D.cut k a c) = omega arith
+node-most (D.firstArm e) = omega arith
+node-most (D.nextArm a e) = omega arith
+node-most (D.choice e a n) = omega arith
+node-most D.Node.broken = omega arith
+
+action-most : (x : D.Action) → actionCount x ≤ 1
+action-most (D.store k l r) = omega arith
+action-most (D.storePair k l m r) = omega arith
+action-most (D.set l) = omega arith
+action-most (D.perform o) = omega arith
+action-most (D.goto s) = omega arith
+action-most (D.call s) = omega arith
+action-most D.return = omega arith
+action-most (D.when c x) = omega arith
+action-most (D.choose c n x) = omega arith
+action-most (D.arm x) = omega arith
+action-most D.Action.broken = omega arith
+
+total-most : {A : Type 0} (weight : A → ℕ) (xs : List A) → ((x : A) → weight x ≤ 1) → total weight xs ≤ length xs
+unfolding total
+total-most weight [] h = omega arith
+total-most weight (x ∷ xs) h = omega (arith, h x, total-most weight xs h)
+
+-- Few records.
+pub counted-few : (d : Description) → length (d .expressions) + length (d .actions) ≤ 2048 → leb (countedRecords d) mostCounted ≡ true
+unfolding countedRecords mostCounted
+counted-few d h =
+    let n : total nodeCount (d .expressions) ≤ length (d .expressions) = total-most nodeCount (d .expressions) node-most in
+    let a : total actionCount (d .actions) ≤ length (d .actions) = total-most actionCount (d .actions) action-most in
+    le-leb (total nodeCount (d .expressions) + total actionCount (d .actions) - (total leftCount (d .actions) + total valueCount (d .states))) 2048 (omega arith)
 
 -- A difference is at most c where the whole is at most c and what is taken from it.
 pub counted-so : (d : Description) {a b x y : ℕ} → a ≡ total nodeCount (d .expressions) → b ≡ total actionCount (d .actions) → x ≡ total leftCount (d .actions) → y ≡ total valueCount (d .states)

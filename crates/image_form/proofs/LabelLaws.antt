@@ -117,6 +117,15 @@ pub names-end : (n i at size : ℕ) (s names : List ℕ) → n ≤ i → namesRi
 unfolding namesRight
 names-end n i at size s names h = let e : n - i ≡ 0 = omega arith in rw e
 
+-- What the end says, which is 0 where a name is not right.
+pub end-none : (b : Bool) (l : ℕ) {r : ℕ} → r ≡ cond b (l + 1) 0 → r ≡ 0 → b ≡ false
+end-none true l e z = absurd (omega arith)
+end-none false l e z = refl
+
+pub end-some : (b : Bool) (l : ℕ) {r : ℕ} → r ≡ cond b (l + 1) 0 → (r ≡ 0 → ⊥) → (b ≡ true) × (r - 1 ≡ l)
+end-some true l e z = (refl, omega arith)
+end-some false l e z = absurd (z e)
+
 -- They are the names of the facilities and operations.
 pub facilities-named : (k at : ℕ) (s names : List ℕ) → all (λ f. nameRight (f .name)) (facilitiesAt k at s names) ≡ namesRight k (at + 2) facilitySize s names
 unfolding all facilitiesAt namesRight facilityOf

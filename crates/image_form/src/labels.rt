@@ -72,9 +72,9 @@ pub fn name_right(name: &[u8]) -> bool
     reserved::kind_of(name) == 0
 }
 
-// The names of n records of `size` bytes, whose lengths stand `inside` each.
-pub fn names_right(s: &[u8], n: u32, inside: u8, size: u8, names: &[u8]) -> bool
-    ensures { λ r. ⌜ r ≡ namesRight n inside size (now (s .entry)) (now (names .entry)) ⌝ }
+// One more than where the names of n records of `size` bytes end, whose lengths stand `inside` each; 0 where one is not right.
+pub fn names_end(s: &[u8], n: u32, inside: u8, size: u8, names: &[u8]) -> usize
+    ensures { λ r. ⌜ r ≡ cond (namesRight n inside size (now (s .entry)) (now (names .entry))) (namesLength n inside size (now (s .entry)) + 1) 0 ⌝ }
 {
     let mut at = inside as usize;
     let mut from: usize = 0;
@@ -83,13 +83,13 @@ pub fn names_right(s: &[u8], n: u32, inside: u8, size: u8, names: &[u8]) -> bool
         let length = numbers::byte(s, at) as usize;
         let name = bytes::part(names, from, length);
         if !name_right(name) {
-            return false;
+            return 0;
         }
         from += length;
         at += size as usize;
         i += 1;
     }
-    true
+    from + 1
 }
 
 // A state without a name has no value.

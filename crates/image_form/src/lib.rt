@@ -52,27 +52,22 @@ fn named(c: Counts, facilities: &[u8], operations: &[u8], states: &[u8], names: 
     requires { ⌜ length (now states) < 2 ^ 36 ⌝ }
     ensures { λ r. ⌜ r ≡ namedRight c (now (facilities .entry)) (now (operations .entry)) (now (states .entry)) (now (names .entry)) ⌝ }
 {
-    if !labels::names_right(
+    let first = labels::names_end(
         facilities,
         c.facilities,
         names::FACILITY_NAME,
         names::FACILITY,
         names,
-    ) {
-        return false;
-    }
-    let first = names::names_length(
-        facilities,
-        c.facilities,
-        names::FACILITY_NAME,
-        names::FACILITY,
     );
-    let second = bytes::part(names, first, names.len());
-    if !labels::names_right(operations, c.operations, 0, names::OPERATION, second) {
+    if first == 0 {
         return false;
     }
-    let next = names::names_length(operations, c.operations, 0, names::OPERATION);
-    let third = bytes::part(second, next, names.len());
+    let second = bytes::part(names, first - 1, names.len());
+    let next = labels::names_end(operations, c.operations, 0, names::OPERATION, second);
+    if next == 0 {
+        return false;
+    }
+    let third = bytes::part(second, next - 1, names.len());
     labels::labels_right(states, third)
 }
 

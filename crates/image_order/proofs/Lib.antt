@@ -1,4 +1,5 @@
 pub mod DeclaredLaws
+pub mod EdgeLaws
 pub mod HoldsLaws
 pub mod RunLaws
 pub mod StartLaws

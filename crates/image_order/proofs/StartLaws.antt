@@ -9,7 +9,7 @@ use borrow.Author.Tests.{eq-eqb, eqb-true}
 use lib.Dec.{eqb, ltb}
 use lib.ListN.{getD, length}
 use lib.Pow.{high, low}
-use Rattle.language.specs.Decode.{described, digitsMarked, nodeOf, numberAt}
+use Rattle.language.specs.Decode.{described, digitsMarked, nodeOf, numberAt, plainNode}
 use Rattle.language.specs.Description as D
 use Rattle.language.specs.Description.{Description, digitLength, furtherDigits, nodeAt}
 use Rattle.language.specs.Encode.{Sections, nodeSize}
@@ -18,7 +18,7 @@ use Rattle.language.specs.Value.{Value}
 use Rattle.about_running.specs.Starts.{start-le, start-lt}
 use Rattle.image_records.proofs.ConstantLaws.{constant-ends, marked-within, six-below}
 use Rattle.image_records.proofs.DigitLaws.{before-digits, further-of}
-use Rattle.image_records.proofs.NodeLaws.{node-more}
+use Rattle.image_records.proofs.NodeLaws.{node-more, node-past, node-plain}
 use Rattle.image_records.specs.Nodes.{constantNumber, digits, meant}
 use Rattle.image_records.specs.declared.nodes.Node.{Node}
 use Rattle.image_records.specs.declared.nodes.Node.the-variants as N
@@ -115,6 +115,16 @@ module _ (d : Description) where
     starts n x p q =
         start-here n ∙ ap (startNode d (startBelow d n) n) (sym p) ∙ start-parts d (startBelow d n) n (constantNumber n s) x
         ∙ parts-same n (constantNumber n s) (partsOf x) ∙ ap (startParts d (startAt d) n (constantNumber n s)) q
+
+    -- ---- Records without parts, by their bytes.
+
+    pub past-starts : (n : ℕ) → length s / nodeSize ≤ n → startAt d n ≡ none
+    unfolding startNode
+    past-starts n g = start-here n ∙ rw (node-past s n g)
+
+    pub whole-starts : (n : ℕ) → n < length s / nodeSize → getD s (nodeSize * n) 0 ≡ 3 → startAt d n ≡ some n
+    unfolding startNode plainNode
+    whole-starts n g m = start-here n ∙ rw (node-plain s n g (λ e. omega arith) (λ e. omega arith), m)
 
     -- ---- Constants.
 

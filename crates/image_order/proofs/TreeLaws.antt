@@ -12,31 +12,30 @@ use lib.ListN.{drop, drop-of-length-le, getD, length}
 use lib.Seq.{drop-cons}
 use Rattle.language.specs.Description.{Description, Facility, Operation, State, actionAt, facilityAt, noFacility, noRun, operationAt, stateAt}
 use Rattle.language.specs.Order.{actionRoots, ending, facilityRoots, functionRoot, operationRoots, runRoots, startAt, stateRoots, treesEnd, treesRight, endsAt, valueRoot}
-use Rattle.image_order.specs.Edges.{after}
+use Rattle.image_order.proofs.EdgeLaws.{edge-some}
+use Rattle.image_order.specs.Edges.{after, edge}
 use Rattle.language.specs.Tests.{both}
 
 module _ (d : Description) where
   -- ---- One tree.
 
-  pub tree-none : (n r : ℕ) → startAt d r ≡ none → after d (some n) (r ∷ []) ≡ none
+  pub tree-elsewhere : (at r e : ℕ) → edge e ≡ startAt d r → (e ≡ at → ⊥) → none ≡ after d (edge at) (r ∷ [])
   unfolding after treesEnd
-  tree-none n r e = rw e
+  tree-elsewhere zero r e p h = refl
+  tree-elsewhere (suc n) r zero p h = rw (← p)
+  tree-elsewhere (suc n) r (suc s) p h = rw (← p, ne-eqb s n (λ e. h (ap suc e)))
 
-  pub tree-other : (n r : ℕ) {s : ℕ} → startAt d r ≡ some s → (s ≡ n → ⊥) → after d (some n) (r ∷ []) ≡ none
+  pub tree-past : (at r : ℕ) {e : ℕ} → edge e ≡ startAt d r → e ≡ at → length (d .expressions) ≤ r → none ≡ after d (edge at) (r ∷ [])
   unfolding after treesEnd
-  tree-other n r e h = rw (e, ne-eqb _ n h)
+  tree-past zero r p q h = refl
+  tree-past (suc n) r p q h = rw (← p, q, eq-eqb n n refl, le-ltb r (length (d .expressions)) h)
 
-  pub tree-past : (n r : ℕ) {s : ℕ} → startAt d r ≡ some s → s ≡ n → length (d .expressions) ≤ r → after d (some n) (r ∷ []) ≡ none
+  pub tree-here : (at r : ℕ) {e : ℕ} → edge e ≡ startAt d r → e ≡ at → (at ≡ 0 → ⊥) → r < length (d .expressions) → edge (r + 2) ≡ after d (edge at) (r ∷ [])
   unfolding after treesEnd
-  tree-past n r e h l = rw (e, eq-eqb _ n h, le-ltb r (length (d .expressions)) l)
-
-  pub tree-some : (n r : ℕ) {s : ℕ} → startAt d r ≡ some s → s ≡ n → r < length (d .expressions) → after d (some n) (r ∷ []) ≡ some (r + 1)
-  unfolding after treesEnd
-  tree-some n r e h l = rw (e, eq-eqb _ n h, lt-ltb r (length (d .expressions)) l)
-
-  pub after-none : (rs : List ℕ) → after d none rs ≡ none
-  unfolding after
-  after-none rs = refl
+  tree-here zero r p q z h = absurd (z refl)
+  tree-here (suc n) r p q z h =
+      let e : r + 2 ≡ r + 1 + 1 = omega arith in
+      rw (← p, q, eq-eqb n n refl, lt-ltb r (length (d .expressions)) h, e, edge-some (r + 1))
 
   pub after-nil : (e : Option ℕ) → after d e [] ≡ e
   unfolding after treesEnd

@@ -2,16 +2,15 @@
 use mathlib.Core.Bool.{cond}
 use mathlib.Core.List.{List}
 use mathlib.Core.Option.{Option, none, some}
-use Prim.Native.Nat.{ℕ, _+_}
+use Prim.Native.Nat.{ℕ, zero, suc, _+_}
 use lib.Dec.{eqb}
 use Rattle.language.specs.Description.{Description, Run}
 use Rattle.language.specs.Order.{ending, treesEnd}
-use Rattle.image_order.specs.declared.edges.Edge.{Edge}
-use Rattle.image_order.specs.declared.edges.Edge.the-variants as E
 
-abbrev pub edge : Edge → Option ℕ
-edge (E.At n) = some n
-edge E.None = none
+-- An edge as a number: one more than that of the record, and 0 for none.
+abbrev pub edge : ℕ → Option ℕ
+edge zero = none
+edge (suc n) = some n
 
 -- Trees one after the other from an edge on.
 unfoldable pub after : Description → Option ℕ → List ℕ → Option ℕ

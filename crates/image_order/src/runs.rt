@@ -1,6 +1,5 @@
 // Runs of actions one after the other: those of operations, then those of states.
 use crate::edges;
-use crate::edges::Edge;
 use image_records::record_sizes;
 use image_sections::operations;
 use image_sections::runs::Run;
@@ -13,23 +12,20 @@ ghost use Rattle.image_order.specs.Edges.{edge, runEnd};
 ghost use Rattle.image_order.specs.Holds.{Actions, Operations, States};
 
 // One run more, which is to begin where the last one ended.
-fn run_end(at: Edge, run: Run) -> Edge
+fn run_end(at: usize, run: Run) -> usize
     ensures { λ r. ⌜ edge r ≡ runEnd (edge at) (runMeant run) ⌝ }
 {
-    let Edge::At(n) = at else {
-        return Edge::None;
-    };
     let first = run.first as usize;
-    if first != n {
-        return Edge::None;
+    if first + 1 != at {
+        return edges::NONE;
     }
-    Edge::At(first + run.count as usize)
+    first + 1 + run.count as usize
 }
 
-fn operations_end(operations: &[u8]) -> Edge
+fn operations_end(operations: &[u8]) -> usize
     ensures { λ r. ⌜ ((d : Description) → Operations d (now (operations .entry)) → edge r ≡ operationsEnd d 0 (d .operations)) ⌝ }
 {
-    let mut end = Edge::At(0);
+    let mut end = edges::FIRST;
     let mut n = 0;
     while n < operations.len() / record_sizes::OPERATION {
         let o = operations::operation_at(operations, n);
@@ -40,7 +36,7 @@ fn operations_end(operations: &[u8]) -> Edge
     end
 }
 
-fn states_end(states: &[u8], at: Edge) -> Edge
+fn states_end(states: &[u8], at: usize) -> usize
     ensures { λ r. ⌜ ((d : Description) → States d (now (states .entry)) → edge r ≡ ending (edge at) (λ n. statesEnd d n (d .states))) ⌝ }
 {
     let mut end = at;

@@ -1,8 +1,10 @@
 // Where the tree that ends at a record begins: a record's parts stand right before it, each whole.
-use crate::edges::Edge;
+use crate::edges;
 use image_records::constants;
+use image_records::marks;
 use image_records::nodes;
 use image_records::nodes::Node;
+use image_records::record_sizes;
 ghost use mathlib.Core.Path.{_≡_};
 ghost use Rattle.language.specs.Description.{Description};
 ghost use Rattle.language.specs.Order.{justBefore, startAt, twoBefore};
@@ -43,48 +45,64 @@ pub fn parts_of(node: Node) -> Parts
 }
 
 // The further digits of a constant of l bits stand before it, or it would be broken; its number is to fit its length.
-fn constant_start(exprs: &[u8], n: usize, l: u16) -> Edge
+fn constant_start(exprs: &[u8], n: u16, l: u16) -> usize
     requires { ⌜ ConstantAt (now exprs) n l ⌝ }
     ensures { λ r. ⌜ ((d : Description) → Nodes d (now (exprs .entry)) → edge r ≡ startAt d n) ⌝ }
 {
-    if !constants::constant_fits(exprs, n) {
-        return Edge::None;
+    let last = n as usize;
+    if !constants::constant_fits(exprs, last) {
+        return edges::NONE;
     }
     let digits = constants::further_digits(l) as usize;
-    Edge::At(n - digits)
+    last - digits + 1
 }
 
-// Where the tree that ends at a begins, if that is right before n.
-fn before(exprs: &[u8], a: u16, n: usize) -> Edge
+// Where the tree that ends at a begins, if that is right before n. `start`, were it called from here too, would no longer be inlined where it is called most.
+fn before(exprs: &[u8], a: u16, n: usize) -> usize
     ensures { λ r. ⌜ ((d : Description) → Nodes d (now (exprs .entry)) → edge r ≡ justBefore d (startAt d) a n) ⌝ }
 {
-    let last = a as usize;
-    if last + 1 != n {
-        return Edge::None;
+    if a as usize + 1 != n {
+        return edges::NONE;
     }
-    start(exprs, last)
+    walked(exprs, a)
 }
 
 // Two trees, the second of which ends right before n.
-fn two_before(exprs: &[u8], a: u16, b: u16, n: usize) -> Edge
+fn two_before(exprs: &[u8], a: u16, b: u16, n: usize) -> usize
     ensures { λ r. ⌜ ((d : Description) → Nodes d (now (exprs .entry)) → edge r ≡ twoBefore d (startAt d) a b n) ⌝ }
 {
     let second = before(exprs, b, n);
-    let Edge::At(s) = second else {
-        return Edge::None;
-    };
-    before(exprs, a, s)
+    if second == edges::NONE {
+        return edges::NONE;
+    }
+    before(exprs, a, second - 1)
 }
 
-pub fn start(exprs: &[u8], n: usize) -> Edge
+// Where the tree that ends at record n begins, found from its parts.
+fn walked(exprs: &[u8], n: u16) -> usize
     ensures { λ r. ⌜ ((d : Description) → Nodes d (now (exprs .entry)) → edge r ≡ startAt d n) ⌝ }
 {
-    let parts = parts_of(nodes::node_at(exprs, n));
+    let last = n as usize;
+    let parts = parts_of(nodes::node_at(exprs, last));
     match parts {
-        Parts::No => Edge::None,
-        Parts::Leaf => Edge::At(n),
+        Parts::No => edges::NONE,
+        Parts::Leaf => last + 1,
         Parts::Digits(l) => constant_start(exprs, n, l),
-        Parts::One(a) => before(exprs, a, n),
-        Parts::Two(a, b) => two_before(exprs, a, b, n),
+        Parts::One(a) => before(exprs, a, last),
+        Parts::Two(a, b) => two_before(exprs, a, b, last),
     }
+}
+
+// The same. Most trees are a whole facility, which needs no walk.
+pub fn start(exprs: &[u8], n: u16) -> usize
+    ensures { λ r. ⌜ ((d : Description) → Nodes d (now (exprs .entry)) → edge r ≡ startAt d n) ⌝ }
+{
+    let last = n as usize;
+    if exprs.len() / record_sizes::NODE <= last {
+        return edges::NONE;
+    }
+    if exprs[record_sizes::NODE * last] == marks::WHOLE {
+        return last + 1;
+    }
+    walked(exprs, n)
 }

@@ -1,6 +1,5 @@
 // Trees one after the other, in the order of their owners: computed terminals, actions and states' values.
 use crate::edges;
-use crate::edges::Edge;
 use crate::starts;
 use image_records::actions;
 use image_records::actions::Action;
@@ -20,28 +19,24 @@ ghost use Rattle.image_order.specs.Edges.{after, edge};
 ghost use Rattle.image_order.specs.Holds.{Actions, Facilities, Nodes, Operations, States};
 
 // One tree more, which ends at the record `root`.
-fn tree(exprs: &[u8], at: Edge, root: u16) -> Edge
+fn tree(exprs: &[u8], at: usize, root: u16) -> usize
     ensures { λ r. ⌜ ((d : Description) → Nodes d (now (exprs .entry)) → edge r ≡ after d (edge at) (root ∷ [])) ⌝ }
 {
-    let Edge::At(n) = at else {
-        return Edge::None;
-    };
+    if at == edges::NONE {
+        return edges::NONE;
+    }
+    if starts::start(exprs, root) != at {
+        return edges::NONE;
+    }
     let last = root as usize;
-    let first = starts::start(exprs, last);
-    let Edge::At(s) = first else {
-        return Edge::None;
-    };
-    if s != n {
-        return Edge::None;
-    }
     if exprs.len() / record_sizes::NODE <= last {
-        return Edge::None;
+        return edges::NONE;
     }
-    Edge::At(last + 1)
+    last + 2
 }
 
 // The trees of action i.
-fn action_trees(exprs: &[u8], acts: &[u8], at: Edge, i: usize) -> Edge
+fn action_trees(exprs: &[u8], acts: &[u8], at: usize, i: usize) -> usize
     ensures { λ r. ⌜ ((d : Description) → Nodes d (now (exprs .entry)) → Actions d (now (acts .entry)) → edge r ≡ after d (edge at) (actionRoots d (actionAt d i))) ⌝ }
 {
     match actions::action_at(acts, i) {
@@ -60,7 +55,7 @@ fn action_trees(exprs: &[u8], acts: &[u8], at: Edge, i: usize) -> Edge
 }
 
 // The trees of a run of actions.
-fn run_trees(exprs: &[u8], acts: &[u8], at: Edge, first: u16, count: u16) -> Edge
+fn run_trees(exprs: &[u8], acts: &[u8], at: usize, first: u16, count: u16) -> usize
     ensures { λ r. ⌜ ((d : Description) → Nodes d (now (exprs .entry)) → Actions d (now (acts .entry)) → edge r ≡ after d (edge at) (runRoots d count first)) ⌝ }
 {
     let mut end = at;
@@ -73,7 +68,7 @@ fn run_trees(exprs: &[u8], acts: &[u8], at: Edge, first: u16, count: u16) -> Edg
 }
 
 // The tree of facility n, if it is computed.
-fn facility_tree(exprs: &[u8], facilities: &[u8], at: Edge, n: usize) -> Edge
+fn facility_tree(exprs: &[u8], facilities: &[u8], at: usize, n: usize) -> usize
     ensures { λ r. ⌜ ((d : Description) → Nodes d (now (exprs .entry)) → Facilities d (now (facilities .entry)) → edge r ≡ after d (edge at) (functionRoot d (facilityAt d n) (facilityAt d n .kind))) ⌝ }
 {
     let f = facilities::facility_at(facilities, n);
@@ -84,10 +79,10 @@ fn facility_tree(exprs: &[u8], facilities: &[u8], at: Edge, n: usize) -> Edge
     at
 }
 
-fn facility_trees(exprs: &[u8], facilities: &[u8]) -> Edge
+fn facility_trees(exprs: &[u8], facilities: &[u8]) -> usize
     ensures { λ r. ⌜ ((d : Description) → Nodes d (now (exprs .entry)) → Facilities d (now (facilities .entry)) → edge r ≡ after d (some 0) (facilityRoots d (d .facilities))) ⌝ }
 {
-    let mut end = Edge::At(0);
+    let mut end = edges::FIRST;
     let mut n = 0;
     while n < facilities.len() / record_sizes::FACILITY {
         end = facility_tree(exprs, facilities, end, n);
@@ -96,7 +91,7 @@ fn facility_trees(exprs: &[u8], facilities: &[u8]) -> Edge
     end
 }
 
-fn operation_trees(exprs: &[u8], acts: &[u8], operations: &[u8], at: Edge) -> Edge
+fn operation_trees(exprs: &[u8], acts: &[u8], operations: &[u8], at: usize) -> usize
     ensures { λ r. ⌜ ((d : Description) → Nodes d (now (exprs .entry)) → Actions d (now (acts .entry)) → Operations d (now (operations .entry)) → edge r ≡ after d (edge at) (operationRoots d (d .operations))) ⌝ }
 {
     let mut end = at;
@@ -111,7 +106,7 @@ fn operation_trees(exprs: &[u8], acts: &[u8], operations: &[u8], at: Edge) -> Ed
 }
 
 // The constant that is a state's value, if it has one.
-fn value_tree(exprs: &[u8], at: Edge, value: StateValue) -> Edge
+fn value_tree(exprs: &[u8], at: usize, value: StateValue) -> usize
     ensures { λ r. ⌜ ((d : Description) → Nodes d (now (exprs .entry)) → edge r ≡ after d (edge at) (valueRoot d (valueMeant value))) ⌝ }
 {
     match value {
@@ -120,7 +115,7 @@ fn value_tree(exprs: &[u8], at: Edge, value: StateValue) -> Edge
     }
 }
 
-fn state_trees(exprs: &[u8], acts: &[u8], states: &[u8], at: Edge) -> Edge
+fn state_trees(exprs: &[u8], acts: &[u8], states: &[u8], at: usize) -> usize
     ensures { λ r. ⌜ ((d : Description) → Nodes d (now (exprs .entry)) → Actions d (now (acts .entry)) → States d (now (states .entry)) → edge r ≡ after d (edge at) (stateRoots d (d .states))) ⌝ }
 {
     let mut end = at;

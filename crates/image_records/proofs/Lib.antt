@@ -4,6 +4,7 @@ pub mod ByteLaws
 pub mod ConstantLaws
 pub mod DigitLaws
 pub mod DigitsWritten
+pub mod FieldLaws
 pub mod FilledLaws
 pub mod NodeBack
 pub mod NodeLaws

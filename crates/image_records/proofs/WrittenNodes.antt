@@ -10,32 +10,13 @@ use Rattle.language.specs.Description.{digitLength, furtherDigits}
 use Rattle.language.specs.Encode.{digitRecord, little, nodeBytes, nodeSize}
 use Rattle.language.specs.Value.{value}
 use Rattle.image_records.proofs.DigitLaws.{before-digits}
-use Rattle.image_records.specs.Nodes.{constantNumber, meant}
-use Rattle.image_records.specs.declared.nodes.Node.{Node}
-use Rattle.image_records.specs.declared.nodes.Node.the-variants as N
+use Rattle.image_records.specs.Nodes.{constantNumber}
 
 pub constant-fields : {x : ℕ} (l v : ℕ) → x ≡ (l - 1) % 256 → digitRecord 1 x (v % 2 ^ 48) ≡ nodeBytes (D.constant (value l v))
 unfolding nodeBytes digitLength
 constant-fields l v e = rw (e, mod-mod (l - 1) 256)
 
 -- Of a constant's number only the low bits are in its own record.
-pub node-low : (u v : ℕ) (r : Node) → u % 2 ^ 48 ≡ v % 2 ^ 48 → nodeBytes (meant u r) ≡ nodeBytes (meant v r)
-unfolding nodeBytes digitLength
-node-low u v (N.Constant l) e = rw e
-node-low u v (N.More d) e = refl
-node-low u v (N.Whole f) e = refl
-node-low u v (N.One f a) e = refl
-node-low u v (N.Part f a b) e = refl
-node-low u v (N.Two f a g) e = refl
-node-low u v (N.WordPart f g a b) e = refl
-node-low u v (N.Binary k a b) e = refl
-node-low u v (N.Prefix k a) e = refl
-node-low u v (N.Cut k a c) e = refl
-node-low u v (N.FirstArm a) e = refl
-node-low u v (N.NextArm a b) e = refl
-node-low u v (N.Choice a b n) e = refl
-node-low u v N.Broken e = refl
-
 pub constant-low : (n : ℕ) (s : List ℕ) → numberAt 6 (nodeSize * n + 2) s % 2 ^ 48 ≡ constantNumber n s % 2 ^ 48
 unfolding constantNumber
 constant-low n s =

@@ -1,14 +1,12 @@
 // The bytes of an action's record: as they are written, and whether they stand there.
-use crate::actions;
 use crate::actions::Action;
-use crate::bytes;
 use crate::marks;
 use crate::numbers;
 use crate::record_sizes;
 ghost use mathlib.Core.Path.{_≡_};
 ghost use Prim.Native.Nat.{_*_, _<_};
 ghost use lib.ListN.{take, drop};
-ghost use Rattle.language.specs.Decode.{actionOf};
+ghost use Rattle.language.specs.Decode.{actionOf, actionWith};
 ghost use Rattle.language.specs.Encode.{actionBytes, actionRecord, actionSize, storeMark};
 ghost use Rattle.language.specs.Scan.{same};
 ghost use Rattle.image_records.specs.Actions.{meant};
@@ -57,6 +55,32 @@ pub fn action_bytes(action: Action) -> [u8; record_sizes::ACTION]
     }
 }
 
+// Whether the fields of a record are those that writing gives it: by its mark, fields without use are empty. What is broken is written as zeros.
+fn fields_right(mark: u8, a: u16, b: u16, c: u16) -> bool
+    ensures { λ r. ⌜ r ≡ same (actionRecord mark a b c) (actionBytes (actionWith mark a b c)) ⌝ }
+{
+    match mark {
+        marks::STORE => c == 0,
+        marks::IMMEDIATE_STORE => c == 0,
+        marks::PAIR => true,
+        marks::IMMEDIATE_PAIR => true,
+        marks::SET => numbers::two_zero(b, c),
+        marks::PERFORM => numbers::two_zero(b, c),
+        marks::GOTO => numbers::two_zero(b, c),
+        marks::CALL => numbers::two_zero(b, c),
+        marks::RETURN => numbers::three_zero(a, b, c),
+        marks::WHEN => c == 0,
+        marks::CHOOSE => true,
+        marks::ARM => numbers::two_zero(b, c),
+        _ => {
+            if mark != 0 {
+                return false;
+            }
+            numbers::three_zero(a, b, c)
+        }
+    }
+}
+
 // Whether record n has the bytes that writing gives it.
 pub fn action_right(acts: &[u8], n: usize) -> bool
     ensures { λ r. ⌜ r ≡ same (take actionSize (drop (actionSize * n) (now (acts .entry)))) (actionBytes (actionOf (now (acts .entry)) n)) ⌝ }
@@ -64,6 +88,9 @@ pub fn action_right(acts: &[u8], n: usize) -> bool
     if acts.len() / record_sizes::ACTION <= n {
         return false;
     }
-    let written = action_bytes(actions::action_at(acts, n));
-    bytes::stand(acts, record_sizes::ACTION * n, &written)
+    let at = record_sizes::ACTION * n;
+    let a = numbers::two_there(acts, at + 1);
+    let b = numbers::two_there(acts, at + 3);
+    let c = numbers::two_there(acts, at + 5);
+    fields_right(acts[at], a, b, c)
 }

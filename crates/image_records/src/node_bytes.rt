@@ -1,14 +1,13 @@
 // The bytes of an expression's record: as they are written, and whether they stand there.
-use crate::bytes;
+use crate::constants;
 use crate::marks;
-use crate::nodes;
 use crate::nodes::Node;
 use crate::numbers;
 use crate::record_sizes;
 ghost use mathlib.Core.Path.{_≡_};
-ghost use Prim.Native.Nat.{_-_, _*_, _%_};
+ghost use Prim.Native.Nat.{_-_, _*_, _%_, _<_};
 ghost use lib.ListN.{take, drop};
-ghost use Rattle.language.specs.Decode.{nodeOf};
+ghost use Rattle.language.specs.Decode.{nodeOf, operatorOf, plainNode};
 ghost use Rattle.language.specs.Encode.{digitRecord, nodeBytes, nodeRecord, nodeSize};
 ghost use Rattle.language.specs.Scan.{same};
 ghost use Rattle.image_records.specs.Nodes.{meant};
@@ -91,6 +90,45 @@ pub fn node_bytes(node: Node, v: u64) -> [u8; record_sizes::NODE]
     }
 }
 
+// Whether the fields of an operator are those that writing gives it. What is broken is written as zeros.
+fn operator_right(mark: u8, x: u16, a: u16, b: u16, c: u16) -> bool
+    requires { ⌜ x < 256 ⌝ }
+    ensures { λ r. ⌜ r ≡ same (nodeRecord mark x a b c) (nodeBytes (operatorOf mark a b)) ⌝ }
+{
+    match mark / 64 {
+        1 => numbers::two_zero(x, c),
+        2 => numbers::three_zero(x, b, c),
+        3 => numbers::two_zero(x, c),
+        _ => {
+            if mark != 0 {
+                return false;
+            }
+            if x != 0 {
+                return false;
+            }
+            numbers::three_zero(a, b, c)
+        }
+    }
+}
+
+// The same of any record that holds no digits: by its mark, fields without use are empty.
+fn plain_right(mark: u8, x: u16, a: u16, b: u16, c: u16) -> bool
+    requires { ⌜ x < 256 ⌝ }
+    ensures { λ r. ⌜ r ≡ same (nodeRecord mark x a b c) (nodeBytes (plainNode mark x a b c)) ⌝ }
+{
+    match mark {
+        marks::WHOLE => numbers::three_zero(a, b, c),
+        marks::ONE => numbers::two_zero(b, c),
+        marks::PART => c == 0,
+        marks::TWO => c == 0,
+        marks::WORD_PART => true,
+        marks::FIRST_ARM => numbers::three_zero(x, b, c),
+        marks::NEXT_ARM => numbers::two_zero(x, c),
+        marks::CHOICE => x == 0,
+        _ => operator_right(mark, x, a, b, c),
+    }
+}
+
 // Whether record n has the bytes that writing gives it.
 pub fn node_right(exprs: &[u8], n: usize) -> bool
     ensures { λ r. ⌜ r ≡ same (take nodeSize (drop (nodeSize * n) (now (exprs .entry)))) (nodeBytes (nodeOf (now (exprs .entry)) n)) ⌝ }
@@ -99,6 +137,16 @@ pub fn node_right(exprs: &[u8], n: usize) -> bool
         return false;
     }
     let at = record_sizes::NODE * n;
-    let written = node_bytes(nodes::node_at(exprs, n), numbers::six(exprs, at + 2));
-    bytes::stand(exprs, at, &written)
+    let mark = exprs[at];
+    let x = exprs[at + 1];
+    match mark {
+        marks::CONSTANT => constants::digits_marked(exprs, n, x / 48),
+        marks::MORE => x == 0,
+        _ => {
+            let a = numbers::two_there(exprs, at + 2);
+            let b = numbers::two_there(exprs, at + 4);
+            let c = numbers::two_there(exprs, at + 6);
+            plain_right(mark, numbers::wide(x), a, b, c)
+        }
+    }
 }

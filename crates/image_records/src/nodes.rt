@@ -36,7 +36,7 @@ fn operator_of(mark: u8, a: u16, b: u16) -> Node
     match mark / 64 {
         1 => Node::Binary(kind, a, b),
         2 => Node::Prefix(kind, a),
-        marks::WHOLE => Node::Cut(kind, a, b),
+        3 => Node::Cut(kind, a, b),
         _ => Node::Broken,
     }
 }

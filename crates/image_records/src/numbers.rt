@@ -2,12 +2,14 @@
 use crate::bytes;
 ghost use mathlib.Core.Path.{_≡_};
 ghost use Prim.Native.Nat.{_+_, _*_, _<_, _≤_, _/_, _%_, _^_};
+ghost use lib.Dec.{eqb};
 ghost use lib.ListN.{getD, length};
 ghost use Rattle.language.specs.Decode.{numberAt};
 ghost use Rattle.language.specs.Encode as L;
+ghost use Rattle.language.specs.Tests.{both};
 ghost use Rattle.image_records.specs.Placed.{placed};
 
-fn wide(x: u8) -> u16
+pub fn wide(x: u8) -> u16
     ensures { λ r. ⌜ (r ≡ x) × (r < 256) ⌝ }
 {
     x as u16
@@ -18,6 +20,25 @@ pub fn joined(low: u16, high: u16) -> u32
     ensures { λ r. ⌜ r ≡ low + 65536 * high ⌝ }
 {
     low as u32 + 65536 * high as u32
+}
+
+// Whether numbers are zero, as fields are that a record has no use for.
+pub fn two_zero(a: u16, b: u16) -> bool
+    ensures { λ r. ⌜ r ≡ both (eqb a 0) (eqb b 0) ⌝ }
+{
+    if a != 0 {
+        return false;
+    }
+    b == 0
+}
+
+pub fn three_zero(a: u16, b: u16, c: u16) -> bool
+    ensures { λ r. ⌜ r ≡ both (eqb a 0) (both (eqb b 0) (eqb c 0)) ⌝ }
+{
+    if a != 0 {
+        return false;
+    }
+    two_zero(b, c)
 }
 
 // The byte at a place.

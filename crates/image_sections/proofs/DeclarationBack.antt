@@ -1,25 +1,22 @@
 -- Declarations that were written are read back; and a whole record of an operation or a state has the bytes that writing gives it.
 use mathlib.Core.Bool.{Bool, true, false, cond}
-use mathlib.Core.List.{List, [], _∷_}
+use mathlib.Core.List.{List}
 use mathlib.Core.Option.{Option, none, some}
 use mathlib.Core.Path.{_≡_, refl, sym, ap, ap₂, _∙_}
-use Prim.Native.Nat.{ℕ, suc, _+_, _*_, _/_, _%_, _^_, _<_, _≤_}
+use Prim.Native.Nat.{ℕ, suc, _+_, _*_, _/_, _%_, _<_}
 use native.Mathlib.Nat.{mod-eq-of-lt}
-use native.Mathlib.Numerals.{add-one}
 use native.Mathlib.Omega.{arith}
 use borrow.Author.Tests.{eqb-true, ne-eqb}
 use lib.Dec.{eqb}
 use lib.ListN.{drop, getD, length, take}
-use lib.Pow.{high, low}
-use lib.Seq.{drop-cons}
 use Rattle.language.specs.Decode.{kindOf, numberAt, pick, runAt, valueOf}
 use Rattle.language.specs.Description.{Facility, Operation, Run, State, bounds, isComputed}
 use Rattle.language.specs.Encode.{facilityRecord, facilitySize, kindNumber, little, operationRecord, operationSize, stateRecord, stateSize, valueField}
 use Rattle.language.specs.Tree as T
 use Rattle.language.specs.Tree.{Name}
 use Rattle.image_records.proofs.ByteLaws.{placed-in, placed-length}
+use Rattle.image_records.proofs.FieldLaws.{action-fields, next-byte, two-halves}
 use Rattle.image_records.proofs.NodeBack.{Half, half-back}
-use Rattle.image_records.proofs.NumberLaws.{number-two}
 use Rattle.image_records.specs.Placed.{placed}
 use Rattle.image_sections.proofs.DeclarationLaws.{facility-fields, facility-whole, operation-whole, state-whole}
 use Rattle.image_sections.proofs.WrittenDeclarations.{facility-length, operation-length, state-length}
@@ -155,53 +152,15 @@ module _ (s : List ℕ) (n : ℕ) where
 -- ---- A whole record of an operation or a state always has the bytes that writing gives it.
 
 module _ (s : List ℕ) (bytes : (i : ℕ) → getD s i 0 < 256) where
-  two-right : (at : ℕ) → little 2 (numberAt 2 at s) ≡ getD s at 0 ∷ getD s (at + 1) 0 ∷ []
-  unfolding little
-  two-right at =
-      let b0 = getD s at 0 in
-      let b1 = getD s (at + 1) 0 in
-      let e : numberAt 2 at s ≡ b1 * 2 ^ 8 + b0 = number-two at s ∙ omega arith in
-      let p : (b1 * 2 ^ 8 + b0) % 256 ≡ b0 = low b1 8 (bytes at) in
-      let q : (b1 * 2 ^ 8 + b0) / 256 % 256 ≡ b1 = ap (λ (x : ℕ). x % 256) (high b1 8 (bytes at)) ∙ mod-eq-of-lt (bytes (at + 1)) in
-      rw (e, p, q)
-
-  next : (at k : ℕ) → at < length s → take (suc k) (drop at s) ≡ getD s at 0 ∷ take k (drop (at + 1) s)
-  next at k h = rw (drop-cons s at 0 h, ← add-one at)
-
-  five : (at : ℕ) → at + 5 ≤ length s
-      → take 5 (drop at s) ≡ getD s at 0 ∷ getD s (at + 1) 0 ∷ getD s (at + 1 + 1) 0 ∷ getD s (at + 1 + 2) 0 ∷ getD s (at + 1 + 2 + 1) 0 ∷ []
-  five at h =
-      let e : at + 1 + 1 + 1 ≡ at + 1 + 2 = omega arith in
-      next at 4 (omega arith)
-      ∙ rw (next (at + 1) 3 (omega arith), next (at + 1 + 1) 2 (omega arith), e, next (at + 1 + 2) 1 (omega arith), next (at + 1 + 2 + 1) 0 (omega arith))
-
   pub operation-right : (n : ℕ) (name : Name) → n < length s / operationSize → length name ≡ getD s (operationSize * n) 0
       → take operationSize (drop (operationSize * n) s) ≡ operationRecord (operationIn s n name)
   unfolding operationRecord
   operation-right n name h l =
-      rw (operation-whole s n name h, l, mod-eq-of-lt (bytes (operationSize * n)), two-right (operationSize * n + 1), two-right (operationSize * n + 1 + 2)) (five (operationSize * n) (omega arith))
-
-  seven : (at : ℕ) → at + 7 ≤ length s
-      → take 7 (drop at s)
-      ≡ getD s at 0 ∷ getD s (at + 1) 0 ∷ getD s (at + 1 + 1) 0 ∷ getD s (at + 3) 0 ∷ getD s (at + 3 + 1) 0 ∷ getD s (at + 3 + 2) 0 ∷ getD s (at + 3 + 2 + 1) 0 ∷ []
-  seven at h =
-      let e : at + 1 + 1 + 1 ≡ at + 3 = omega arith in
-      let f : at + 3 + 1 + 1 ≡ at + 3 + 2 = omega arith in
-      next at 6 (omega arith)
-      ∙ rw (
-        next (at + 1) 5 (omega arith),
-        next (at + 1 + 1) 4 (omega arith),
-        e,
-        next (at + 3) 3 (omega arith),
-        next (at + 3 + 1) 2 (omega arith),
-        f,
-        next (at + 3 + 2) 1 (omega arith),
-        next (at + 3 + 2 + 1) 0 (omega arith),
-      )
+      rw (operation-whole s n name h, l, mod-eq-of-lt (bytes (operationSize * n)), next-byte s bytes (operationSize * n) 4 (omega arith), two-halves s bytes (operationSize * n + 1) (omega arith))
 
   pub state-right : (n : ℕ) (name : Name) → n < length s / stateSize → length name ≡ getD s (stateSize * n) 0
       → take stateSize (drop (stateSize * n) s) ≡ stateRecord (stateIn s n name)
   unfolding stateRecord
   state-right n name h l =
-      rw (state-whole s n name h, l, mod-eq-of-lt (bytes (stateSize * n)), field-value (numberAt 2 (stateSize * n + 1) s), two-right (stateSize * n + 1), two-right (stateSize * n + 3), two-right (stateSize * n + 3 + 2))
-      (seven (stateSize * n) (omega arith))
+      let e : stateSize * n + 3 + 2 ≡ stateSize * n + 5 = omega arith in
+      rw (state-whole s n name h, l, mod-eq-of-lt (bytes (stateSize * n)), field-value (numberAt 2 (stateSize * n + 1) s), e) (action-fields s bytes n h)

@@ -1,6 +1,7 @@
 pub mod DeclarationBack
 pub mod DeclarationLaws
 pub mod DescribedLaws
+pub mod FacilitySame
 pub mod HeaderLaws
 pub mod ImageLaws
 pub mod NameLaws

@@ -7,7 +7,7 @@ ghost use lib.ListN.{length};
 ghost use Rattle.language.specs.Decode.{boundsAt, kindOf};
 ghost use Rattle.language.specs.Encode.{kindNumber};
 ghost use Rattle.language.specs.Tree.{Name};
-ghost use Rattle.image_sections.specs.Declarations.{FacilityRead, facilityMeant, kindMeant, noneNamed, shortMeant};
+ghost use Rattle.image_sections.specs.Declarations.{FacilityRead, facilityIn, facilityMeant, kindMeant, noneNamed, shortMeant};
 
 pub enum FacilityKind {
     Register,
@@ -109,4 +109,14 @@ pub fn facility_at(facilities: &[u8], n: usize) -> FacilityRecord
         bits,
         place,
     }
+}
+
+// The kind of record n alone, by which walks pass over what they do not need.
+pub fn kind_at(facilities: &[u8], n: usize) -> FacilityKind
+    ensures { λ r. ⌜ ((name : Name) → kindMeant r ≡ facilityIn (now (facilities .entry)) n name .kind) ⌝ }
+{
+    if facilities.len() / record_sizes::FACILITY <= n {
+        return FacilityKind::Plain;
+    }
+    kind_of(facilities[record_sizes::FACILITY * n])
 }

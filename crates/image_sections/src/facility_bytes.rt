@@ -2,7 +2,6 @@
 use crate::facilities;
 use crate::facilities::FacilityRecord;
 use crate::kinds;
-use image_records::bytes;
 use image_records::numbers;
 use image_records::record_sizes;
 ghost use mathlib.Core.Bool.{cond};
@@ -14,6 +13,9 @@ ghost use Rattle.language.specs.Encode.{facilityRecord, facilitySize};
 ghost use Rattle.language.specs.Scan.{same};
 ghost use Rattle.language.specs.Tree.{Name};
 ghost use Rattle.image_sections.specs.Declarations.{facilityIn, facilityMeant, kindMeant, nameLengthIn};
+
+// The number of the last kind, as which greater ones are read.
+const COMPUTED: u8 = 5;
 
 // Where a facility is: the number of its expression, or else its place in the store.
 fn located(f: FacilityRecord, place: u32) -> u32
@@ -63,13 +65,17 @@ pub fn facility_bytes(f: FacilityRecord, place: u32) -> [u8; record_sizes::FACIL
     ]
 }
 
-// Whether record n has the bytes that writing gives it at that place in the store.
+// Whether record n has the bytes that writing gives it at that place in the store: of a kind that there is not, and of another place, it has not.
 pub fn facility_right(facilities: &[u8], n: usize, place: u32) -> bool
     ensures { λ r. ⌜ ((name : Name) → length name ≡ nameLengthIn facilitySize 2 (now (facilities .entry)) n → r ≡ same (take facilitySize (drop (facilitySize * n) (now (facilities .entry)))) (facilityRecord place (facilityIn (now (facilities .entry)) n name))) ⌝ }
 {
     if facilities.len() / record_sizes::FACILITY <= n {
         return false;
     }
-    let written = facility_bytes(facilities::facility_at(facilities, n), place);
-    bytes::stand(facilities, record_sizes::FACILITY * n, &written)
+    let at = record_sizes::FACILITY * n;
+    let kind = facilities[at];
+    if COMPUTED <= kind {
+        return kind == COMPUTED;
+    }
+    numbers::two_there(facilities, at + 11) as u32 == place % 65536
 }

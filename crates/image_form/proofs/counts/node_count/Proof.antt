@@ -1,134 +1,55 @@
+use mathlib.Core.Path.{sym, ap, _∙_}
+use Rattle.language.specs.Canonical.{nodeCount}
+use Rattle.image_records.proofs.NodeLaws.{node-constant, node-more, node-plain, node-unmarked}
 use borrow.Author.Needs.{needs}
 use Rattle.image_form.proofs.counts.node_count.Statement.{statement}
 use Rattle.image_form.proofs.counts.node_count.Tie as tie
 
-enum-told : tie.Need-enum-told
-enum-told c = search needs
+mul-at : tie.Need-mul-at
+mul-at c = search needs
 
-enum-told-2 : tie.Need-enum-told-2
-enum-told-2 c = search needs
+shared-slice-read-match : tie.Need-shared-slice-read-match
+shared-slice-read-match c = search needs
 
-enum-told-3 : tie.Need-enum-told-3
-enum-told-3 c = search needs
+add-digits-marked : tie.Need-add-digits-marked
+add-digits-marked c = search needs
 
-enum-told-4 : tie.Need-enum-told-4
-enum-told-4 c = search needs
+shared-slice-read-digits-marked : tie.Need-shared-slice-read-digits-marked
+shared-slice-read-digits-marked c = search needs
 
-enum-told-5 : tie.Need-enum-told-5
-enum-told-5 c = search needs
-
-enum-told-6 : tie.Need-enum-told-6
-enum-told-6 c = search needs
-
-enum-told-7 : tie.Need-enum-told-7
-enum-told-7 c = search needs
-
-enum-told-8 : tie.Need-enum-told-8
-enum-told-8 c = search needs
-
-enum-told-9 : tie.Need-enum-told-9
-enum-told-9 c = search needs
-
-enum-told-10 : tie.Need-enum-told-10
-enum-told-10 c = search needs
-
-enum-told-11 : tie.Need-enum-told-11
-enum-told-11 c = search needs
-
-enum-told-12 : tie.Need-enum-told-12
-enum-told-12 c = search needs
-
-enum-told-13 : tie.Need-enum-told-13
-enum-told-13 c = search needs
-
-enum-told-14 : tie.Need-enum-told-14
-enum-told-14 c = search needs
+digits-marked-requires : tie.Need-digits-marked-requires
+digits-marked-requires c κs = search needs
 
 returns : tie.Need-returns
 returns c =
-    (search needs, λ v. rw (c .enum-told .given .1))
+    (search needs, ap nodeCount (sym (node-constant (c .before .before .before .before .before .before .args .exprs .now) (c .before .before .before .before .before .before .args .n) (c .before .before .before .before .before .before .pre) (c .before .before .before .match .keys1) (sym (c .before .digits-marked .ensures) ∙ c .if1 .taken))))
+
+plain-count-requires : tie.Need-plain-count-requires
+plain-count-requires c κs = search needs
 
 returns-2 : tie.Need-returns-2
 returns-2 c =
-    (search needs, λ v. rw (c .enum-told2 .given .1))
+    (search needs, ap nodeCount (sym (node-unmarked (c .before .before .before .before .before .before .args .exprs .now) (c .before .before .before .before .before .before .args .n) (c .before .before .before .before .before .before .pre) (c .before .before .before .match .keys1) (sym (c .before .digits-marked .ensures) ∙ c .if1 .left))))
 
 returns-3 : tie.Need-returns-3
 returns-3 c =
-    (search needs, λ v. rw (c .enum-told3 .given .1))
+    (search needs, ap nodeCount (sym (node-more (c .before .before .before .args .exprs .now) (c .before .before .before .args .n) (c .before .before .before .pre) (c .match .keys2))))
 
 returns-4 : tie.Need-returns-4
 returns-4 c =
-    (search needs, λ v. rw (c .enum-told4 .given .1))
-
-returns-5 : tie.Need-returns-5
-returns-5 c =
-    (search needs, λ v. rw (c .enum-told5 .given .1))
-
-returns-6 : tie.Need-returns-6
-returns-6 c =
-    (search needs, λ v. rw (c .enum-told6 .given .1))
-
-returns-7 : tie.Need-returns-7
-returns-7 c =
-    (search needs, λ v. rw (c .enum-told7 .given .1))
-
-returns-8 : tie.Need-returns-8
-returns-8 c =
-    (search needs, λ v. rw (c .enum-told8 .given .1))
-
-returns-9 : tie.Need-returns-9
-returns-9 c =
-    (search needs, λ v. rw (c .enum-told9 .given .1))
-
-returns-10 : tie.Need-returns-10
-returns-10 c =
-    (search needs, λ v. rw (c .enum-told10 .given .1))
-
-returns-11 : tie.Need-returns-11
-returns-11 c =
-    (search needs, λ v. rw (c .enum-told11 .given .1))
-
-returns-12 : tie.Need-returns-12
-returns-12 c =
-    (search needs, λ v. rw (c .enum-told12 .given .1))
-
-returns-13 : tie.Need-returns-13
-returns-13 c =
-    (search needs, λ v. rw (c .enum-told13 .given .1))
-
-returns-14 : tie.Need-returns-14
-returns-14 c =
-    (search needs, λ v. rw (c .enum-told14 .given .1))
+    (c .plain-count .ensures .0, c .plain-count .ensures .1 _ _ _ _ ∙ ap nodeCount (sym (node-plain (c .before .before .before .before .args .exprs .now) (c .before .before .before .before .args .n) (c .before .before .before .before .pre) (c .before .match .rest .0 .1) (c .before .match .rest .1))))
 
 pub node-count-spec : {M : Type 1} → statement M
 node-count-spec =
     tie.close
     (tie.spec
-    enum-told
-    enum-told-2
-    enum-told-3
-    enum-told-4
-    enum-told-5
-    enum-told-6
-    enum-told-7
-    enum-told-8
-    enum-told-9
-    enum-told-10
-    enum-told-11
-    enum-told-12
-    enum-told-13
-    enum-told-14
+    mul-at
+    shared-slice-read-match
+    add-digits-marked
+    shared-slice-read-digits-marked
+    digits-marked-requires
     returns
+    plain-count-requires
     returns-2
     returns-3
-    returns-4
-    returns-5
-    returns-6
-    returns-7
-    returns-8
-    returns-9
-    returns-10
-    returns-11
-    returns-12
-    returns-13
-    returns-14)
+    returns-4)

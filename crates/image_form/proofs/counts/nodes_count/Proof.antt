@@ -5,11 +5,11 @@ use native.Mathlib.Omega.{arith}
 use lib.ListN.{drop, length}
 use Rattle.language.specs.Canonical.{nodeCount, total}
 use Rattle.language.specs.Description.{Description}
+use Rattle.language.specs.Encode.{nodeSize}
 use Rattle.image_order.specs.Holds.{Nodes}
 use Rattle.image_form.proofs.CountLaws.{nodes-next, sum-done}
 use Rattle.image_form.proofs.counts.nodes_count.Statement.{statement}
 use Rattle.image_form.proofs.counts.nodes_count.Tie as tie
-use Rattle.language.specs.Encode.{nodeSize}
 
 abbrev Inv-loop : tie.InvT-loop
 Inv-loop exprs sum₀ n₀ sum n =
@@ -22,9 +22,6 @@ abbrev μ-loop : tie.MeasureT-loop
 loop-holds : tie.Need-loop-holds Inv-loop μ-loop
 loop-holds c =
     (search needs, search needs, λ d h. omega arith)
-
-node-at-requires : tie.Need-node-at-requires Inv-loop μ-loop
-node-at-requires c κs = search needs
 
 node-count-requires : tie.Need-node-count-requires Inv-loop μ-loop
 node-count-requires c κs = search needs
@@ -40,7 +37,7 @@ loop-less c = search needs
 
 loop-again : tie.Need-loop-again Inv-loop μ-loop
 loop-again c =
-    (search needs, search needs, λ d h. nodes-next d (c .before .before .before .loop .n) (c .before .before .before .loop .sum) (omega (arith, h .count, c .before .before .loop-test .taken)) (c .node-count .ensures .1 _ ∙ ap nodeCount (c .before .node-at .ensures ∙ sym (h .at (c .before .before .before .loop .n)))) (c .before .before .before .loop .inv .2 d h))
+    (search needs, search needs, λ d h. nodes-next d (c .before .before .loop .n) (c .before .before .loop .sum) (omega (arith, h .count, c .before .loop-test .taken)) (c .node-count .ensures .1 ∙ ap nodeCount (sym (h .at (c .before .before .loop .n)))) (c .before .before .loop .inv .2 d h))
 
 returns : tie.Need-returns Inv-loop μ-loop
 returns c =
@@ -53,7 +50,6 @@ nodes-count-spec =
     Inv-loop
     μ-loop
     loop-holds
-    node-at-requires
     node-count-requires
     add-sum
     add-n

@@ -14,11 +14,11 @@ use Rattle.image_order.proofs.runs.states_end.Tie as tie
 use Rattle.language.specs.Encode.{stateSize}
 
 abbrev Inv-loop : tie.InvT-loop
-Inv-loop states end₀ n₀ end n =
-    (n ≤ length states / stateSize) × ((d : Description) → States d states → ending (edge end) (λ m. statesEnd d m (drop n (d .states))) ≡ ending (edge end₀) (λ m. statesEnd d m (d .states)))
+Inv-loop states at end₀ n₀ end n =
+    (n ≤ length states / stateSize) × ((d : Description) → States d states → ending (edge end) (λ m. statesEnd d m (drop n (d .states))) ≡ ending (edge at) (λ m. statesEnd d m (d .states)))
 
 abbrev μ-loop : tie.MeasureT-loop
-μ-loop states end₀ n₀ end n =
+μ-loop states at end₀ n₀ end n =
     length states / stateSize - n
 
 loop-holds : tie.Need-loop-holds Inv-loop μ-loop

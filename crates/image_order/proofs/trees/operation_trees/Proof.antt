@@ -15,11 +15,11 @@ use Rattle.image_order.proofs.trees.operation_trees.Tie as tie
 use Rattle.language.specs.Encode.{operationSize}
 
 abbrev Inv-loop : tie.InvT-loop
-Inv-loop exprs acts operations end₀ n₀ end n =
-    (n ≤ length operations / operationSize) × ((d : Description) → Nodes d exprs → Actions d acts → Operations d operations → after d (edge end) (operationRoots d (drop n (d .operations))) ≡ after d (edge end₀) (operationRoots d (d .operations)))
+Inv-loop exprs acts operations at end₀ n₀ end n =
+    (n ≤ length operations / operationSize) × ((d : Description) → Nodes d exprs → Actions d acts → Operations d operations → after d (edge end) (operationRoots d (drop n (d .operations))) ≡ after d (edge at) (operationRoots d (d .operations)))
 
 abbrev μ-loop : tie.MeasureT-loop
-μ-loop exprs acts operations end₀ n₀ end n =
+μ-loop exprs acts operations at end₀ n₀ end n =
     length operations / operationSize - n
 
 loop-holds : tie.Need-loop-holds Inv-loop μ-loop

@@ -11,11 +11,11 @@ use Rattle.image_order.proofs.trees.run_trees.Statement.{statement}
 use Rattle.image_order.proofs.trees.run_trees.Tie as tie
 
 abbrev Inv-loop : tie.InvT-loop
-Inv-loop exprs acts first count end₀ i₀ end i =
-    (i ≤ count) × ((d : Description) → Nodes d exprs → Actions d acts → after d (edge end) (runRoots d (count - i) (first + i)) ≡ after d (edge end₀) (runRoots d count first))
+Inv-loop exprs acts at first count end₀ i₀ end i =
+    (i ≤ count) × ((d : Description) → Nodes d exprs → Actions d acts → after d (edge end) (runRoots d (count - i) (first + i)) ≡ after d (edge at) (runRoots d count first))
 
 abbrev μ-loop : tie.MeasureT-loop
-μ-loop exprs acts first count end₀ i₀ end i =
+μ-loop exprs acts at first count end₀ i₀ end i =
     count - i
 
 loop-holds : tie.Need-loop-holds Inv-loop μ-loop

@@ -14,11 +14,11 @@ use Rattle.image_order.proofs.trees.state_trees.Tie as tie
 use Rattle.language.specs.Encode.{stateSize}
 
 abbrev Inv-loop : tie.InvT-loop
-Inv-loop exprs acts states end₀ n₀ end n =
-    (n ≤ length states / stateSize) × ((d : Description) → Nodes d exprs → Actions d acts → States d states → after d (edge end) (stateRoots d (drop n (d .states))) ≡ after d (edge end₀) (stateRoots d (d .states)))
+Inv-loop exprs acts states at end₀ n₀ end n =
+    (n ≤ length states / stateSize) × ((d : Description) → Nodes d exprs → Actions d acts → States d states → after d (edge end) (stateRoots d (drop n (d .states))) ≡ after d (edge at) (stateRoots d (d .states)))
 
 abbrev μ-loop : tie.MeasureT-loop
-μ-loop exprs acts states end₀ n₀ end n =
+μ-loop exprs acts states at end₀ n₀ end n =
     length states / stateSize - n
 
 loop-holds : tie.Need-loop-holds Inv-loop μ-loop

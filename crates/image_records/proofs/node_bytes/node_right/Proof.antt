@@ -1,15 +1,13 @@
-use mathlib.Core.List.{List}
-use mathlib.Core.Path.{_≡_, sym, ap, _∙_}
-use Prim.Native.Nat.{ℕ, _*_, _%_, _^_}
+use mathlib.Core.Path.{sym, _∙_}
+use Prim.Native.Nat.{_*_}
 use native.Mathlib.Omega.{arith}
-use borrow.Author.Needs.{needs}
-use lib.ListN.{length, take, drop}
 use Rattle.language.specs.Decode.{nodeOf}
-use Rattle.language.specs.Encode.{nodeBytes, nodeSize}
-use Rattle.language.specs.Scan.{same}
+use Rattle.language.specs.Encode.{nodeSize}
 use Rattle.image_records.proofs.ByteLaws.{stand-past}
-use Rattle.image_records.proofs.WrittenNodes.{constant-low, node-length, node-low}
-use Rattle.image_records.specs.Nodes.{constantNumber}
+use Rattle.image_records.proofs.FieldLaws.{constant-right, more-right, node-fields}
+use Rattle.image_records.proofs.NodeLaws.{node-plain}
+use Rattle.image_records.proofs.WrittenNodes.{node-length}
+use borrow.Author.Needs.{needs}
 use Rattle.image_records.proofs.node_bytes.node_right.Statement.{statement}
 use Rattle.image_records.proofs.node_bytes.node_right.Tie as tie
 
@@ -21,33 +19,58 @@ returns c =
 mul-at : tie.Need-mul-at
 mul-at c = search needs
 
-node-at-requires : tie.Need-node-at-requires
-node-at-requires c κs = search needs
+shared-slice-read-mark : tie.Need-shared-slice-read-mark
+shared-slice-read-mark c = search needs
 
-add-six : tie.Need-add-six
-add-six c = search needs
+add-x : tie.Need-add-x
+add-x c = search needs
 
-six-requires : tie.Need-six-requires
-six-requires c κs = search needs
+shared-slice-read-x : tie.Need-shared-slice-read-x
+shared-slice-read-x c = search needs
 
-node-bytes-requires : tie.Need-node-bytes-requires
-node-bytes-requires c κs = search needs
+digits-marked-requires : tie.Need-digits-marked-requires
+digits-marked-requires c κs = search needs
 
-slice-aggregate-stand : tie.Need-slice-aggregate-stand
-slice-aggregate-stand c = search needs
+add-two-there : tie.Need-add-two-there
+add-two-there c = search needs
 
-stand-requires : tie.Need-stand-requires
-stand-requires c κs = search needs
+two-there-requires : tie.Need-two-there-requires
+two-there-requires c κs = search needs
+
+add-two-there-2 : tie.Need-add-two-there-2
+add-two-there-2 c = search needs
+
+two-there-requires-2 : tie.Need-two-there-requires-2
+two-there-requires-2 c κs = search needs
+
+add-two-there-3 : tie.Need-add-two-there-3
+add-two-there-3 c = search needs
+
+two-there-requires-3 : tie.Need-two-there-requires-3
+two-there-requires-3 c κs = search needs
+
+wide-requires : tie.Need-wide-requires
+wide-requires c κs = search needs
+
+plain-right-requires : tie.Need-plain-right-requires
+plain-right-requires c κs = search needs
 
 returns-2 : tie.Need-returns-2
 returns-2 c =
-    let s = c .before .before .before .before .before .before .before .args .exprs .now in
-    let n = c .before .before .before .before .before .before .before .args .n in
-    let e : c .before .before .node-bytes .result ≡ nodeBytes (nodeOf s n) =
-    c .before .before .node-bytes .ensures ∙ node-low _ (constantNumber n s) (c .before .before .before .before .node-at .result) (ap (λ (x : ℕ). x % 2 ^ 48) (c .before .before .before .six .ensures .0) ∙ constant-low n s)
-    ∙ ap nodeBytes (c .before .before .before .before .node-at .ensures) in
-    c .stand .ensures ∙ ap (λ (w : List ℕ). same (take (length w) (drop (nodeSize * n) s)) w) e
-    ∙ ap (λ (k : ℕ). same (take k (drop (nodeSize * n) s)) (nodeBytes (nodeOf s n))) (node-length (nodeOf s n))
+    c .digits-marked .ensures
+    ∙ constant-right (c .before .before .before .before .before .before .args .exprs .now) (λ i. omega (arith, c .before .before .before .before .before .shared-slice-known .given i)) (c .before .before .before .before .before .before .args .n) (omega arith) (c .before .match .keys1)
+
+returns-3 : tie.Need-returns-3
+returns-3 c =
+    more-right (c .before .before .before .before .before .args .exprs .now) (λ i. omega (arith, c .before .before .before .before .shared-slice-known .given i)) (c .before .before .before .before .before .args .n) (omega arith) (c .match .keys2)
+
+returns-4 : tie.Need-returns-4
+returns-4 c =
+    let s = c .before .before .before .before .before .before .before .before .before .before .args .exprs .now in
+    let n = c .before .before .before .before .before .before .before .before .before .before .args .n in
+    let m = c .before .before .before .before .before .match .rest in
+    c .plain-right .ensures
+    ∙ rw (c .before .wide .ensures .0, c .before .before .before .before .two-there .ensures, c .before .before .before .two-there2 .ensures, c .before .before .two-there3 .ensures, ← node-fields s (λ i. omega (arith, c .before .before .before .before .before .before .before .before .before .shared-slice-known .given i)) n (omega arith), ← node-plain s n (omega arith) (m .0 .1) (m .1))
 
 pub node-right-spec : {M : Type 1} → statement M
 node-right-spec =
@@ -55,10 +78,18 @@ node-right-spec =
     (tie.spec
     returns
     mul-at
-    node-at-requires
-    add-six
-    six-requires
-    node-bytes-requires
-    slice-aggregate-stand
-    stand-requires
-    returns-2)
+    shared-slice-read-mark
+    add-x
+    shared-slice-read-x
+    digits-marked-requires
+    add-two-there
+    two-there-requires
+    add-two-there-2
+    two-there-requires-2
+    add-two-there-3
+    two-there-requires-3
+    wide-requires
+    plain-right-requires
+    returns-2
+    returns-3
+    returns-4)
