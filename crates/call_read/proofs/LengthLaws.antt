@@ -7,7 +7,7 @@ use Prim.Native.Nat.{ℕ, zero, suc, _<_, _≤_}
 use native.Mathlib.Omega.{arith}
 use borrow.Author.Tests.{lt-leb, lt-ltb}
 use lib.Dec.{leb}
-use Rattle.judge_all.specs.Declared.{Declared}
+use Rattle.judge_all.specs.InSlices.{Declared}
 use Rattle.judge_all.specs.Stated.{wantedLength}
 use Rattle.language.specs.Description.{Description, Places}
 use Rattle.language.specs.Rules.{sequencingLength}

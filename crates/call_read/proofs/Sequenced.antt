@@ -7,7 +7,7 @@ use native.Mathlib.Omega.{arith}
 use lib.ListN.{getD, length, length-append, length-map}
 use Rattle.parse_facilities.specs.Listed.{besides}
 use Rattle.judge_all.proofs.NotedLaws.{declared-noted}
-use Rattle.judge_all.specs.Declared.{Declared}
+use Rattle.judge_all.specs.InSlices.{Declared}
 use Rattle.language.specs.Describe.{Noted, actionsOf, nodesIn}
 use Rattle.language.specs.DescribeText.{facilitiesOf, facilityNodes, functionSizes, operationActions, operationNodes, operationsOf, stateActions, stateNodes, statesOf}
 use Rattle.language.specs.Description.{Description, Facility, Places, facilityAt, noFacility, nowhere, sequencingFrom, sequencingOf, wordLength}

@@ -8,7 +8,7 @@ use native.Mathlib.Omega.{arith}
 use Prim.Native.Nat.{ℕ, suc, _+_, _/_, _<_, _≤_}
 use borrow.Author.Tests.{eqb-false, eqb-true}
 use lib.Dec.{eqb, leb}
-use lib.ListN.{drop, drop-of-length-le, getD, length}
+use lib.ListN.{drop, drop-of-length-le, getD, length, length-take, take}
 use lib.Seq.{drop-cons}
 use Rattle.language.specs.Description as D
 use Rattle.language.specs.Description.{Description, Facility, FacilityPlaces, Places, facilityAt, facilityPlace, isComputed, isSequencing, noFacility, wordLength}
@@ -36,9 +36,11 @@ use Rattle.judge_verdicts.proofs.VerdictLaws.{is-faulty}
 use Rattle.judge_verdicts.specs.declared.Verdict.{Verdict}
 use Rattle.judge_verdicts.specs.declared.Verdict.the-variants.{Faulty}
 use Rattle.judge_verdicts.specs.Meaning.{recalled, seen, workOf}
+use Rattle.judge_verdicts.specs.Noted.{notedFrom}
 use Rattle.judge_terms.specs.Shown.{Shown, worked}
+use Rattle.judge_expressions.proofs.FilledLaws.{recalled-take}
 use Rattle.judge_all.proofs.MemoryLaws.{worked-seen}
-use Rattle.judge_all.specs.Declared.{Declared, Remembered}
+use Rattle.judge_all.specs.InSlices.{Declared, Remembered}
 use Rattle.language.specs.Encode.{facilitySize}
 
 -- ---- Computed terminals.
@@ -47,13 +49,15 @@ pub terminal-lt : (d : Description) (p : Places) (k n : ℕ) → n < k → termi
 unfolding terminalBelow terminalJudged
 terminal-lt d p k n h = below-lt (refuse D.nowhere BadName) (terminalStep d p) k n h
 
-pub shown-of : {facs exprs marks places memo : List ℕ} {d : Description} {p : Places} (k : ℕ) → Declared facs exprs marks places d p
-    → Remembered facs memo k d p → k ≤ length facs / facilitySize → Shown facs exprs marks places memo k d p (terminalBelow d p k)
-shown-of {d = d} {p = p} k s r h = record {
+-- With what is kept alone.
+pub shown-kept : {facs exprs marks places memo : List ℕ} {d : Description} {p : Places} (k : ℕ) → Declared facs exprs marks places d p
+    → Remembered facs memo k d p → k ≤ length facs / facilitySize → Shown facs exprs marks places (take notedFrom memo) k d p (terminalBelow d p k)
+shown-kept {memo = memo} {d = d} {p = p} k s r h = record {
   records = s .records;
   facility = λ n l f q. s .facility n (omega arith) f q;
   kind = s .kind;
-  terminal = λ n l m c. r .terminal n l m c ∙ ap (λ (j : Judged). seen (worked j)) (sym (terminal-lt d p k n m));
+  terminal = λ n l m c. recalled-take memo notedFrom n (omega arith) l ∙ r .terminal n l m c ∙ ap (λ (j : Judged). seen (worked j)) (sym (terminal-lt d p k n m));
+  noted = λ i l m. absurd (omega (arith, length-take notedFrom memo));
 }
 
 module _ (d : Description) (p : Places) (n : ℕ) where
@@ -164,6 +168,13 @@ module _ (d : Description) (p : Places) where
 
 pub remember-first : (facs memo : List ℕ) (d : Description) (p : Places) → Remembered facs memo 0 d p
 remember-first facs memo d p = record { terminal = λ n l m c. absurd (omega arith) }
+
+-- What is noted behind it does not count.
+pub remember-same : {facs memo : List ℕ} {k : ℕ} {d : Description} {p : Places} (after : List ℕ) → take notedFrom after ≡ take notedFrom memo → Remembered facs memo k d p → Remembered facs after k d p
+remember-same {memo = memo} after e r = record {
+  terminal = λ n l m c.
+      sym (recalled-take after notedFrom n (omega arith) l) ∙ ap (λ (x : List ℕ). recalled x n) e ∙ recalled-take memo notedFrom n (omega arith) l ∙ r .terminal n l m c;
+}
 
 module _ {facs exprs marks places : List ℕ} {d : Description} {p : Places} (s : Declared facs exprs marks places d p) {n : ℕ} where
   pub remember-all : {memo : List ℕ} → n ≤ length facs / facilitySize → length facs / facilitySize ≤ n → Remembered facs memo n d p → Remembered facs memo (length facs / facilitySize) d p

@@ -14,13 +14,14 @@ use Rattle.image_sections.specs.declared.operations.OperationRecord as O
 use Rattle.image_sections.specs.declared.states.StateRecord as S
 use Rattle.language.specs.Decode.{halfAt, namesLength, pick, runAt, valueOf}
 use Rattle.language.specs.Description.{Facility, Operation, State, facilityAt, noRun, operationAt, stateAt}
+use Rattle.language.specs.Expressions.{terminalBelow}
 use Rattle.language.specs.Encode.{Sections, facilitySize, operationSize, stateSize}
 use Rattle.judge_records.proofs.NotedLaws.{action-noted, action-place, count-noted, facility-noted, facility-places, kind-noted, node-noted, node-places, operation-noted, state-noted, state-places}
 use Rattle.judge_records.specs.Noted.{Beside, notedDescription, placesIn, widenedFacility}
 use Rattle.judge_records.specs.Read.{FacilityRead, facilityMeant}
 use Rattle.judge_records.specs.declared.facilities.Facility as N
-use Rattle.judge_terms.specs.Shown.{Records, nodeNoted}
-use Rattle.judge_all.specs.Declared.{Acting, Declared, Remembered}
+use Rattle.judge_terms.specs.Shown.{Records, Shown, nodeNoted}
+use Rattle.judge_all.specs.InSlices.{Acting, Declared}
 use Rattle.judge_all.specs.Stated.{Stated}
 
 module _ (x : Sections) (q : Beside) where
@@ -93,11 +94,11 @@ module _ (x : Sections) (q : Beside) where
   unfolding notedDescription
   states-noted = states-count x
 
-  module _ (memo : List ℕ) (r : Remembered (x .facilities) memo (length (x .facilities) / facilitySize) (notedDescription x q) (placesIn q)) where
+  module _ (memo : List ℕ) (r : Shown (x .facilities) (x .expressions) (q .facilities) (q .expressions) memo (length (x .facilities) / facilitySize) (notedDescription x q) (placesIn q) (terminalBelow (notedDescription x q) (placesIn q) (length (x .facilities) / facilitySize))) where
     pub acting-noted : Acting (x .facilities) (x .expressions) (q .facilities) (q .expressions) memo (x .actions) (q .actions) (x .states) stateNames (x .operations) (notedDescription x q) (placesIn q)
     acting-noted = record {
       declared = declared-noted;
-      remembered = r;
+      shown = r;
       action = action-noted x q;
       place = action-place q;
       label = state-label;

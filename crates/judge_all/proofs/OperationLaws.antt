@@ -24,9 +24,8 @@ use Rattle.text_words.proofs.Least.{least-both, lesser-all, lesser-none}
 use Rattle.text_words.specs.Meaning.{lesser}
 use Rattle.judge_terms.specs.Shown.{worked}
 use Rattle.judge_actions.specs.Listed.{Listed, listAt}
-use Rattle.judge_all.proofs.FacilityLaws.{shown-of}
 use Rattle.judge_all.proofs.MemoryLaws.{worked-seen}
-use Rattle.judge_all.specs.Declared.{Acting, Performed}
+use Rattle.judge_all.specs.InSlices.{Acting, Performed}
 use Rattle.language.specs.Encode.{facilitySize}
 
 module _ (d : Description) (p : Places) where
@@ -80,7 +79,7 @@ pub listed-of : {facs exprs marks places memo acts beside states labels ops kept
     → Listed facs exprs marks places memo acts beside states labels kept k d p (operationBelow d p k)
 listed-of {facs = facs} {d = d} {p = p} k s r h = record {
   count = s .declared .count;
-  shown = shown-of (length facs / facilitySize) (s .declared) (s .remembered) (omega arith);
+  shown = s .shown;
   action = s .action;
   place = s .place;
   label = s .label;

@@ -16,7 +16,7 @@ use Rattle.language.specs.Tree.{Name}
 use Rattle.judge_records.specs.Read.{FacilityRead, facilityMeant}
 use Rattle.judge_records.specs.declared.facilities.Facility as N
 use Rattle.judge_all.proofs.ValueLaws.{wanted-none, wanted-some}
-use Rattle.judge_all.specs.Declared.{Declared}
+use Rattle.judge_all.specs.InSlices.{Declared}
 use Rattle.judge_all.specs.Stated.{wantedLength}
 use Rattle.language.specs.Encode.{facilitySize}
 

@@ -15,7 +15,7 @@ use Rattle.language.specs.Encode.{operationSize, stateSize}
 use Rattle.language.specs.Judging.{Judged}
 use Rattle.language.specs.Rules as R
 use Rattle.judge_records.specs.Read.{placeOf}
-use Rattle.judge_all.specs.Declared.{Acting}
+use Rattle.judge_all.specs.InSlices.{Acting}
 use Rattle.language.specs.Tests.{both}
 
 -- The length of the sequencing register; 0 stands for none.

@@ -23,7 +23,7 @@ ghost use Rattle.judge_records.specs.Read.{facilityMeant};
 ghost use Rattle.judge_verdicts.specs.Meaning.{seen};
 ghost use Rattle.language.specs.declared.refusals.Refusal.the-variants.{BadSequencing, BadSubscript, CeilingPassed};
 ghost use Rattle.text_words.specs.Meaning.{judged, positioned};
-ghost use Rattle.judge_all.specs.Declared.{facilityPlacesOf};
+ghost use Rattle.judge_all.specs.InSlices.{facilityPlacesOf};
 
 // Bits of a sequencing register, whose value is one.
 const LONGEST: u64 = ceilings::VALUE as u64;

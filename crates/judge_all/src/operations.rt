@@ -19,8 +19,9 @@ ghost use Rattle.language.specs.Description.{Description, Places, operationAt};
 ghost use Rattle.language.specs.Rules.{operationsFaults};
 ghost use Rattle.language.specs.WordStage.{least};
 ghost use Rattle.judge_verdicts.specs.Meaning.{seen};
+ghost use Rattle.judge_verdicts.specs.Noted.{notedFrom};
 ghost use Rattle.text_words.specs.Meaning.{judged};
-ghost use Rattle.judge_all.specs.Declared.{Acting, Performed};
+ghost use Rattle.judge_all.specs.InSlices.{Acting, Performed};
 ghost use Rattle.language.specs.Encode.{operationSize};
 
 // Operation k, which has this body.
@@ -67,8 +68,8 @@ pub fn operations(
     os: &[u8],
     kept: &mut [usize],
 ) -> Judged
-    requires { ⌜ (length (now kept) ≡ 512) × (length (now os) / operationSize ≤ 256) ⌝ }
-    ensures { λ r. ⌜ (length (now (kept .exit)) ≡ 512) × ((d : Description) (p : Places) → Acting (now (fs .entry)) (now (es .entry)) (now (fp .entry)) (now (ep .entry)) (now (memo .entry)) (now (acts .entry)) (now (ap .entry)) (now (ss .entry)) (now (labels .entry)) (now (os .entry)) d p → (judged r ≡ least (operationsFaults d p (length (now (os .entry)) / operationSize) 0)) × Performed (now (kept .exit)) (length (now (os .entry)) / operationSize) d p) ⌝ }
+    requires { ⌜ (notedFrom ≤ length (now kept)) × (length (now os) / operationSize ≤ 256) ⌝ }
+    ensures { λ r. ⌜ (length (now (kept .exit)) ≡ length (now (kept .entry))) × ((d : Description) (p : Places) → Acting (now (fs .entry)) (now (es .entry)) (now (fp .entry)) (now (ep .entry)) (now (memo .entry)) (now (acts .entry)) (now (ap .entry)) (now (ss .entry)) (now (labels .entry)) (now (os .entry)) d p → (judged r ≡ least (operationsFaults d p (length (now (os .entry)) / operationSize) 0)) × Performed (now (kept .exit)) (length (now (os .entry)) / operationSize) d p) ⌝ }
 {
     let mut n = 0;
     let mut all = Judged::Passed;

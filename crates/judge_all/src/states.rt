@@ -30,7 +30,7 @@ ghost use Rattle.language.specs.WordStage.{least};
 ghost use Rattle.language.specs.Words as W;
 ghost use Rattle.judge_verdicts.specs.Meaning.{seen};
 ghost use Rattle.text_words.specs.Meaning.{judged, positioned};
-ghost use Rattle.judge_all.specs.Declared.{Acting, Performed};
+ghost use Rattle.judge_all.specs.InSlices.{Acting, Performed};
 ghost use Rattle.judge_all.specs.Stated.{Stated, Valued, stateJudged, statePlacesOf, valuesBefore, wantedLength};
 ghost use Rattle.language.specs.Encode.{operationSize};
 

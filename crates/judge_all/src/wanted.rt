@@ -8,7 +8,7 @@ ghost use mathlib.Core.Path.{_≡_};
 ghost use Prim.Native.Nat.{ℕ};
 ghost use Rattle.language.specs.Description.{Description, Places};
 ghost use Rattle.language.specs.Rules.{sequencingLength};
-ghost use Rattle.judge_all.specs.Declared.{Declared};
+ghost use Rattle.judge_all.specs.InSlices.{Declared};
 ghost use Rattle.judge_all.specs.Stated.{wantedLength};
 
 // The length of the first sequencing register; 0 where there is none, and states have no values.

@@ -1,1 +1,2 @@
+pub mod FilledLaws
 pub mod WalkLaws

@@ -1,4 +1,5 @@
-// Expressions, record by record: an owner is judged by the verdicts on its parts, which stand before it. Every function takes the facilities (`fs`) and the expressions (`es`), the places beside each (`fp`, `ep`), what is kept of computed terminals, and how many facilities may be named.
+// Expressions, record by record: an owner is judged by the verdicts on its parts, which stand before it. Every function takes the facilities (`fs`) and the expressions (`es`), the places beside each (`fp`, `ep`), what is kept of computed terminals with what is noted of records (`memo`), and how many facilities may be named.
+use crate::operands;
 use image_records::nodes;
 use image_records::nodes::Node;
 use image_records::references::Reference;
@@ -9,24 +10,24 @@ use judge_terms::operators;
 use judge_terms::references;
 use judge_verdicts::Verdict;
 use judge_verdicts::faults;
+use judge_verdicts::noted;
 use judge_verdicts::tests;
-use judge_verdicts::work;
 use language::refusals::Refusal;
 use store_geometry::subscripts;
 use store_geometry::subscripts::Subscripts;
 ghost use mathlib.Core.Option.{none};
 ghost use mathlib.Core.Path.{_≡_};
-ghost use Prim.Native.Nat.{ℕ};
+ghost use Prim.Native.Nat.{ℕ, _<_};
 ghost use Rattle.language.specs.Description.{Description, Places, nodeAt, nodePlace};
 ghost use Rattle.language.specs.Expressions.{expressionAt, judgeAt, judgeBelow, leftAt, properAt};
 ghost use Rattle.language.specs.Judging as L;
 ghost use Rattle.language.specs.ReferenceRules.{referenceJudged, subscriptsJudged};
 ghost use Rattle.language.specs.References.{referenceOf};
 ghost use Rattle.store_geometry.specs.Subscripts.{subscriptsMeant};
-ghost use Rattle.judge_verdicts.specs.Meaning.{capped, seen};
-ghost use Rattle.judge_terms.specs.Shown.{Judges, Shown};
+ghost use Rattle.judge_verdicts.specs.Meaning.{seen};
+ghost use Rattle.judge_terms.specs.Shown.{Judges, NotedRight, Shown};
 
-// Part a of record n, which must stand before it.
+// Part a of record n, which must stand before it: as it is noted, or else judged.
 fn part(
     fs: &[u8],
     es: &[u8],
@@ -39,10 +40,14 @@ fn part(
 ) -> Verdict
     ensures { λ r. ⌜ Judges (now (fs .entry)) (now (es .entry)) (now (fp .entry)) (now (ep .entry)) (now (memo .entry)) known (λ d p t. judgeBelow d p t known n a) r ⌝ }
 {
-    if a < n {
-        return judge(fs, es, fp, ep, memo, known, a);
+    if n <= a {
+        return faults::refused(places::nowhere(), Refusal::NoContinuation);
     }
-    faults::refused(places::nowhere(), Refusal::NoContinuation)
+    let i = noted::find(memo, a);
+    if i < memo.len() {
+        return operands::noted_operand(memo[i]);
+    }
+    judge(fs, es, fp, ep, memo, known, a)
 }
 
 // Operand a of record n.
@@ -87,7 +92,7 @@ fn subscripts(
     }
 }
 
-// The reference that record n is; `own` is its own work.
+// The reference that record n is, without work of its own.
 fn referred(
     fs: &[u8],
     es: &[u8],
@@ -96,11 +101,10 @@ fn referred(
     memo: &[usize],
     known: usize,
     n: u16,
-    own: usize,
     f: u8,
     s: Subscripts,
 ) -> Verdict
-    ensures { λ r. ⌜ ((o : ℕ) → own ≡ capped o → Judges (now (fs .entry)) (now (es .entry)) (now (fp .entry)) (now (ep .entry)) (now (memo .entry)) known (λ d p t. referenceJudged d p t (judgeBelow d p t known n) o known (record { facility = f; subscripts = subscriptsMeant s }) (nodePlace p n)) r) ⌝ }
+    ensures { λ r. ⌜ Judges (now (fs .entry)) (now (es .entry)) (now (fp .entry)) (now (ep .entry)) (now (memo .entry)) known (λ d p t. referenceJudged d p t (judgeBelow d p t known n) 0 known (record { facility = f; subscripts = subscriptsMeant s }) (nodePlace p n)) r ⌝ }
 {
     let at = places::of_node(ep, n as usize, 0);
     if known <= f as usize {
@@ -114,7 +118,7 @@ fn referred(
         let ends = references::bound_faults(es, ep, n, x, s);
         let direction = references::direction_faults(ep, n, x, s);
         let computed = references::computed_work(memo, f, kind);
-        return references::counted_right(at, own, length, subs, ends, direction, computed);
+        return references::counted_right(at, length, subs, ends, direction, computed);
     }
     references::counted_wrong(at, subs)
 }
@@ -172,8 +176,28 @@ fn judge(
     ensures { λ r. ⌜ Judges (now (fs .entry)) (now (es .entry)) (now (fp .entry)) (now (ep .entry)) (now (memo .entry)) known (λ d p t. judgeAt d p t known n) r ⌝ }
 {
     match references::reference_at(es, ep, n) {
-        Reference::To(f, s) => referred(fs, es, fp, ep, memo, known, n, work::own(), f, s),
+        Reference::To(f, s) => {
+            operands::with_own(referred(fs, es, fp, ep, memo, known, n, f, s))
+        }
         Reference::None => operator(fs, es, fp, ep, memo, known, n),
+    }
+}
+
+// Record n in one number, judged by what is noted of those before it; 0 where it has no room there.
+pub fn note(
+    fs: &[u8],
+    es: &[u8],
+    fp: &[u8],
+    ep: &[u8],
+    memo: &[usize],
+    known: usize,
+    n: u16,
+) -> usize
+    ensures { λ r. ⌜ (0 < r → (d : Description) (p : Places) (t : ℕ → L.Judged) → Shown (now (fs .entry)) (now (es .entry)) (now (fp .entry)) (now (ep .entry)) (now (memo .entry)) known d p t → NotedRight d p t known r) ⌝ }
+{
+    match references::reference_at(es, ep, n) {
+        Reference::To(f, s) => noted::note(n, true, referred(fs, es, fp, ep, memo, known, n, f, s)),
+        Reference::None => noted::note(n, false, operator(fs, es, fp, ep, memo, known, n)),
     }
 }
 
@@ -190,6 +214,10 @@ pub fn expression(
     ensures { λ r. ⌜ Judges (now (fs .entry)) (now (es .entry)) (now (fp .entry)) (now (ep .entry)) (now (memo .entry)) known (λ d p t. expressionAt d p t known n) r ⌝ }
 {
     let at = places::of_node(ep, n as usize, 0);
+    let i = noted::find(memo, n);
+    if i < memo.len() {
+        return tests::proper(at, operands::noted_operand(memo[i]));
+    }
     tests::proper(at, judge(fs, es, fp, ep, memo, known, n))
 }
 
@@ -205,8 +233,15 @@ pub fn left(
 ) -> Verdict
     ensures { λ r. ⌜ Judges (now (fs .entry)) (now (es .entry)) (now (fp .entry)) (now (ep .entry)) (now (memo .entry)) known (λ d p t. leftAt d p t known n) r ⌝ }
 {
+    let i = noted::find(memo, n);
+    if i < memo.len() {
+        let e = memo[i];
+        if noted::is_reference(e) {
+            return noted::verdict(e);
+        }
+    }
     match references::reference_at(es, ep, n) {
-        Reference::To(f, s) => referred(fs, es, fp, ep, memo, known, n, 0, f, s),
+        Reference::To(f, s) => referred(fs, es, fp, ep, memo, known, n, f, s),
         Reference::None => faults::refused(places::of_node(ep, n as usize, 0), Refusal::BadName),
     }
 }

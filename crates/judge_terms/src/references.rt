@@ -37,7 +37,7 @@ ghost use Rattle.store_geometry.specs.Shapes.{boundsMeant};
 ghost use Rattle.store_geometry.specs.Subscripts.{subscriptsMeant};
 ghost use Rattle.image_records.specs.References.{referenceMeant};
 ghost use Rattle.judge_records.specs.Read.{facilityMeant};
-ghost use Rattle.judge_verdicts.specs.Meaning.{capped, recalled, seen};
+ghost use Rattle.judge_verdicts.specs.Meaning.{recalled, seen};
 ghost use Rattle.language.specs.declared.refusals.Refusal.the-variants.{BadSubscript};
 ghost use Rattle.text_words.specs.Meaning.{judged, positioned};
 ghost use Rattle.judge_terms.specs.Shown.{Records};
@@ -141,14 +141,11 @@ pub fn computed_work(memo: &[usize], f: u8, kind: FacilityKind) -> Verdict
 }
 
 // The length of a reference, and its work with that of its subscripts and of a computed terminal.
-fn with_computed(at: Position, own: usize, length: u64, subs: Verdict, computed: Verdict) -> Verdict
-    ensures { λ r. ⌜ ((q : W.Position) (o : ℕ) (j k : L.Judged) → positioned at ≡ q → own ≡ capped o → subs ≡ seen j → computed ≡ seen k → r ≡ seen (L.givenBoth j k (λ v w. L.sized q length (o + v .work + w .work)))) ⌝ }
+fn with_computed(at: Position, length: u64, subs: Verdict, computed: Verdict) -> Verdict
+    ensures { λ r. ⌜ ((q : W.Position) (j k : L.Judged) → positioned at ≡ q → subs ≡ seen j → computed ≡ seen k → r ≡ seen (L.givenBoth j k (λ v w. L.sized q length (v .work + w .work)))) ⌝ }
 {
     match faults::both(subs, computed) {
-        Pair::Fine(v, w) => {
-            let inner = work::added(own, v.work);
-            tests::sized(at, length, work::added(inner, w.work))
-        }
+        Pair::Fine(v, w) => tests::sized(at, length, work::added(v.work, w.work)),
         Pair::Faulty(f) => Verdict::Faulty(f),
     }
 }
@@ -156,16 +153,15 @@ fn with_computed(at: Position, own: usize, length: u64, subs: Verdict, computed:
 // A reference with the right number of subscripts, from what is known of its parts.
 pub fn counted_right(
     at: Position,
-    own: usize,
     length: u64,
     subs: Verdict,
     bounds: Judged,
     direction: Judged,
     computed: Verdict,
 ) -> Verdict
-    ensures { λ r. ⌜ ((q : W.Position) (o : ℕ) (j k : L.Judged) (x y : List W.Fault) → positioned at ≡ q → own ≡ capped o → subs ≡ seen j → computed ≡ seen k → judged bounds ≡ least x → judged direction ≡ least y → r ≡ seen (L.orFaulty (L.faultsOf j ++ x) (L.orFaulty y (L.givenBoth j k (λ v w. L.sized q length (o + v .work + w .work)))))) ⌝ }
+    ensures { λ r. ⌜ ((q : W.Position) (j k : L.Judged) (x y : List W.Fault) → positioned at ≡ q → subs ≡ seen j → computed ≡ seen k → judged bounds ≡ least x → judged direction ≡ least y → r ≡ seen (L.orFaulty (L.faultsOf j ++ x) (L.orFaulty y (L.givenBoth j k (λ v w. L.sized q length (v .work + w .work)))))) ⌝ }
 {
-    let all = with_computed(at, own, length, subs, computed);
+    let all = with_computed(at, length, subs, computed);
     let parts = faults::also(faults::faults_of(subs), bounds);
     faults::or_faulty(parts, faults::or_faulty(direction, all))
 }

@@ -15,7 +15,7 @@ use Rattle.judge_verdicts.specs.declared.Worth.{Worth}
 use Rattle.judge_verdicts.specs.Meaning.{Kept, numbered, recalled}
 
 -- A refusal has its number.
-numbered-back : (r : Refusal) → numbered (refusalNumber r) ≡ r
+pub numbered-back : (r : Refusal) → numbered (refusalNumber r) ≡ r
 unfolding numbered
 numbered-back TextTooLong = refl
 numbered-back BadCharacter = refl
@@ -32,21 +32,22 @@ numbered-back ImageFails = refl
 numbered-back Unsound = refl
 numbered-back BadStimulus = refl
 
-some-number : (r : Refusal) → 0 < refusalNumber r
-some-number TextTooLong = omega arith
-some-number BadCharacter = omega arith
-some-number NoContinuation = omega arith
-some-number BadName = omega arith
-some-number BadConstant = omega arith
-some-number BadSubscript = omega arith
-some-number BadLength = omega arith
-some-number BadStore = omega arith
-some-number BadSequencing = omega arith
-some-number CeilingPassed = omega arith
-some-number BufferTooShort = omega arith
-some-number ImageFails = omega arith
-some-number Unsound = omega arith
-some-number BadStimulus = omega arith
+-- The numbers are from 1 to 15.
+pub small-number : (r : Refusal) → (0 < refusalNumber r) × (refusalNumber r < 16)
+small-number TextTooLong = (omega arith, omega arith)
+small-number BadCharacter = (omega arith, omega arith)
+small-number NoContinuation = (omega arith, omega arith)
+small-number BadName = (omega arith, omega arith)
+small-number BadConstant = (omega arith, omega arith)
+small-number BadSubscript = (omega arith, omega arith)
+small-number BadLength = (omega arith, omega arith)
+small-number BadStore = (omega arith, omega arith)
+small-number BadSequencing = (omega arith, omega arith)
+small-number CeilingPassed = (omega arith, omega arith)
+small-number BufferTooShort = (omega arith, omega arith)
+small-number ImageFails = (omega arith, omega arith)
+small-number Unsound = (omega arith, omega arith)
+small-number BadStimulus = (omega arith, omega arith)
 
 module _ (m : List ℕ) (k a b : ℕ) (h : 2 * k + 1 < length m) where
   first : getD (set (set m (2 * k) a) (2 * k + 1) b) (2 * k) 0 ≡ a
@@ -80,6 +81,6 @@ module _ (m : List ℕ) (k : ℕ) (h : 2 * k + 1 < length m) where
       let n = refusalNumber (f .refusal) in
       record {
         size = size m k n (f .at .place) h;
-        here = rw (first m k n (f .at .place) h, second m k n (f .at .place) h, ne-eqb n 0 (λ z. omega (arith, some-number (f .refusal))), numbered-back (f .refusal));
+        here = rw (first m k n (f .at .place) h, second m k n (f .at .place) h, ne-eqb n 0 (λ z. omega (arith, small-number (f .refusal))), numbered-back (f .refusal));
         others = others m k n (f .at .place) h;
       }

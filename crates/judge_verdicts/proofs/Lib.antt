@@ -1,3 +1,4 @@
 pub mod CappedLaws
 pub mod KeptLaws
+pub mod NotedLaws
 pub mod VerdictLaws

@@ -17,7 +17,7 @@ fn number(memo: &[usize], at: usize) -> usize
 }
 
 // The refusal of a number.
-fn numbered(n: usize) -> Refusal
+pub fn numbered(n: usize) -> Refusal
     ensures { λ r. ⌜ r ≡ numbered n ⌝ }
 {
     match n {

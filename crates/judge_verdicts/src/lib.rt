@@ -3,6 +3,7 @@ use text_words::Fault;
 
 pub mod faults;
 pub mod kept;
+pub mod noted;
 pub mod tests;
 pub mod work;
 

@@ -7,7 +7,7 @@ use parse_tables::Table;
 ghost use mathlib.Core.List.{List};
 ghost use mathlib.Core.Path.{_≡_};
 ghost use Prim.Native.Nat.{ℕ};
-ghost use Rattle.judge_all.specs.Declared.{Declared};
+ghost use Rattle.judge_all.specs.InSlices.{Declared};
 ghost use Rattle.language.specs.Description.{Description, Places};
 ghost use Rattle.language.specs.Rules.{sequencingLength};
 ghost use Rattle.parse_states.specs.Begins.{lengthOf};

@@ -1,12 +1,12 @@
 use native.Mathlib.Omega.{arith}
-use mathlib.Core.Path.{refl, _∙_}
+use mathlib.Core.Path.{refl}
 use borrow.Author.Needs.{needs}
 use Rattle.judge_all.proofs.memory.remember.Statement.{statement}
 use Rattle.judge_all.proofs.memory.remember.Tie as tie
 
 returns : tie.Need-returns
 returns c =
-    (c .before .before .pre, λ h. absurd (omega (arith, c .if1 .taken)), λ i h k. refl)
+    (refl, λ h. absurd (omega (arith, c .if1 .taken)), λ i h k. refl)
 
 cast-keep : tie.Need-cast-keep
 cast-keep c = search needs
@@ -20,7 +20,7 @@ same-length c = search needs
 
 returns-2 : tie.Need-returns-2
 returns-2 c =
-    (c .before .before .keep .ensures .size ∙ c .before .before .before .before .before .before .pre, λ h. c .before .before .keep .ensures .here, λ i h k. c .before .before .keep .ensures .others i h)
+    (c .before .before .keep .ensures .size, λ h. c .before .before .keep .ensures .here, λ i h k. c .before .before .keep .ensures .others i h)
 
 pub remember-spec : {M : Type 1} → statement M
 remember-spec = tie.close (tie.spec returns cast-keep keep-requires same-length returns-2)

@@ -1,6 +1,6 @@
 use borrow.Author.Needs.{needs}
 use Rattle.judge_all.proofs.StateLaws.{start-state, stateHere, statesFrom, step-state, stop-state, valued-of}
-use Rattle.judge_all.specs.Declared.{Performed}
+use Rattle.judge_all.specs.InSlices.{Performed}
 use Rattle.judge_all.specs.Stated.{Stated, stateJudged}
 use Rattle.language.specs.Description.{Description, Places, State}
 use Rattle.language.specs.Rules.{sequencingLength, statesFaults}

@@ -1,6 +1,6 @@
 use borrow.Author.Needs.{needs}
 use Rattle.judge_all.proofs.WantedLaws.{found-here, found-nowhere, from, from-start, not-here}
-use Rattle.judge_all.specs.Declared.{Declared}
+use Rattle.judge_all.specs.InSlices.{Declared}
 use Rattle.language.specs.Description.{Description, Places, sequencingOf}
 use lib.ListN.{length}
 use mathlib.Core.List.{List}

@@ -8,7 +8,7 @@ use Rattle.judge_verdicts.specs.Meaning.{seen}
 use Rattle.judge_verdicts.proofs.VerdictLaws.{arms-same, proper-same, refuse-same}
 use Rattle.language.specs.ReferenceRules.{subscriptsJudged}
 use Rattle.language.specs.References.{referenceOf}
-use Rattle.language.specs.Expressions.{judgeNode, ownWork}
+use Rattle.language.specs.Expressions.{judgeAt, judgeNode}
 use native.Mathlib.Omega.{arith}
 use borrow.Author.Needs.{needs}
 use Prim.Native.Nat.{_+_, _*_, ℕ, _<_}
@@ -57,7 +57,9 @@ use Rattle.judge_terms.proofs.bounds.taken_length.Reads as taken-length-reads
 use Rattle.judge_verdicts.proofs.faults.refused.Reads as refused-reads
 use Rattle.judge_verdicts.proofs.tests.arm_list.Reads as arm-list-reads
 use Rattle.judge_verdicts.proofs.tests.proper.Reads as proper-reads
-use Rattle.judge_verdicts.proofs.work.own.Reads as own-reads
+use Rattle.judge_verdicts.proofs.noted.find.Reads as find-reads
+use Rattle.judge_expressions.proofs.operands.noted_operand.Reads as noted-operand-reads
+use Rattle.judge_expressions.proofs.operands.with_own.Reads as with-own-reads
 use Rattle.judge_expressions.proofs.walk.+judge+operand+operator+part+referred+subscripts.{
   statement,
 }
@@ -124,7 +126,7 @@ subscripts-below t =
     and 5 subscripts-kinds.ps (falls 5 subscripts-kinds.ps _<_ μ-subscripts t) subscripts.Pre
 
 abbrev judge-calls : ℕ → judge-lts.Claims
-judge-calls t = (reference-at-reads.Asked, reference-at-reads.Learnt, own-reads.Asked, own-reads.Learnt, referred-below t, referred.Post, operator-below t, operator.Post)
+judge-calls t = (reference-at-reads.Asked, reference-at-reads.Learnt, referred-below t, referred.Post, with-own-reads.Asked, with-own-reads.Learnt, operator-below t, operator.Post)
 
 abbrev operand-calls : ℕ → operand-lts.Claims
 operand-calls t = (of-node-reads.Asked, of-node-reads.Learnt, part-below t, part.Post, proper-reads.Asked, proper-reads.Learnt)
@@ -133,7 +135,7 @@ abbrev operator-calls : ℕ → operator-lts.Claims
 operator-calls t = (of-node-reads.Asked, of-node-reads.Learnt, node-at-reads.Asked, node-at-reads.Learnt, constant-reads.Asked, constant-reads.Learnt, refused-reads.Asked, refused-reads.Learnt, operand-below t, operand.Post, binary-reads.Asked, binary-reads.Learnt, prefix-reads.Asked, prefix-reads.Learnt, cut-reads.Asked, cut-reads.Learnt, first-arm-reads.Asked, first-arm-reads.Learnt, part-below t, part.Post, arm-list-reads.Asked, arm-list-reads.Learnt, next-arm-reads.Asked, next-arm-reads.Learnt, choice-reads.Asked, choice-reads.Learnt)
 
 abbrev part-calls : ℕ → part-lts.Claims
-part-calls t = (judge-below t, judge.Post, nowhere-reads.Asked, nowhere-reads.Learnt, refused-reads.Asked, refused-reads.Learnt)
+part-calls t = (nowhere-reads.Asked, nowhere-reads.Learnt, refused-reads.Asked, refused-reads.Learnt, find-reads.Asked, find-reads.Learnt, noted-operand-reads.Asked, noted-operand-reads.Learnt, judge-below t, judge.Post)
 
 abbrev referred-calls : ℕ → referred-lts.Claims
 referred-calls t = (of-node-reads.Asked, of-node-reads.Learnt, refused-reads.Asked, refused-reads.Learnt, facility-at-reads.Asked, facility-at-reads.Learnt, subscripts-below t, subscripts.Post, right-count-reads.Asked, right-count-reads.Learnt, taken-length-reads.Asked, taken-length-reads.Learnt, bound-faults-reads.Asked, bound-faults-reads.Learnt, direction-faults-reads.Asked, direction-faults-reads.Learnt, computed-work-reads.Asked, computed-work-reads.Learnt, counted-right-reads.Asked, counted-right-reads.Learnt, counted-wrong-reads.Asked, counted-wrong-reads.Learnt)
@@ -147,11 +149,11 @@ judge-reference-at-requires t c κs = search needs
 judge-enum-known-f : (t : ℕ) → judge-lts.Need-enum-known-f (judge-calls t) (judge-at t) judge.Post
 judge-enum-known-f t c = search needs
 
-judge-own-requires : (t : ℕ) → judge-lts.Need-own-requires (judge-calls t) (judge-at t) judge.Post
-judge-own-requires t c κs = search needs
-
 judge-referred-requires : (t : ℕ) → judge-lts.Need-referred-requires (judge-calls t) (judge-at t) judge.Post
 judge-referred-requires t c κs = search needs
+
+judge-with-own-requires : (t : ℕ) → judge-lts.Need-with-own-requires (judge-calls t) (judge-at t) judge.Post
+judge-with-own-requires t c κs = search needs
 
 judge-enum-told : (t : ℕ) → judge-lts.Need-enum-told (judge-calls t) (judge-at t) judge.Post
 judge-enum-told t c = search needs
@@ -161,7 +163,7 @@ judge-operator-requires t c κs = search needs
 
 judge-returns : (t : ℕ) → judge-lts.Need-returns (judge-calls t) (judge-at t) judge.Post
 judge-returns t c =
-    λ d p w sh. c .referred .ensures ownWork (c .before .own .ensures) d p w sh ∙ ap seen (reference-is d p w _ _ _ (ap referenceMeant (sym (c .before .before .before .f .given .1)) ∙ c .before .before .before .before .before .reference-at .ensures d p (sh .records)))
+    λ d p w sh. c .with-own .ensures _ (c .before .referred .ensures d p w sh) ∙ ap seen (reference-is d p w _ _ _ (ap referenceMeant (sym (c .before .before .before .f .given .1)) ∙ c .before .before .before .before .before .reference-at .ensures d p (sh .records)))
 
 judge-returns-2 : (t : ℕ) → judge-lts.Need-returns-2 (judge-calls t) (judge-at t) judge.Post
 judge-returns-2 t c =
@@ -316,22 +318,41 @@ operator-returns-9 t c =
     ∙ ap seen (broken-is d p w _ (c .before .before .before .before .before .before .before .before .before .args .n) _ _ _ (c .before .before .node-at .result) (c .before .match .keys9) (ap referenceOf (sym (node-is (sh .records) (c .before .before .before .before .before .before .before .before .before .args .n) (c .before .before .node-at .result) (c .before .before .node-at .ensures) refl)) ∙ z) _ _)
     ∙ ap seen (judge-is d p w _ _ (node-is (sh .records) _ (c .before .before .node-at .result) (c .before .before .node-at .ensures) (refl)))
 
-part-judge-requires : (t : ℕ) → part-lts.Need-judge-requires (part-calls t) (part-at t) part.Post
-part-judge-requires t c κs = search needs
-
-part-returns : (t : ℕ) → part-lts.Need-returns (part-calls t) (part-at t) part.Post
-part-returns t c =
-    λ d p w sh. c .judge .ensures d p w sh ∙ ap seen (sym (part-lt d p w _ _ _ (c .before .if1 .taken)))
-
 part-nowhere-requires : (t : ℕ) → part-lts.Need-nowhere-requires (part-calls t) (part-at t) part.Post
 part-nowhere-requires t c κs = search needs
 
 part-refused-requires : (t : ℕ) → part-lts.Need-refused-requires (part-calls t) (part-at t) part.Post
 part-refused-requires t c κs = search needs
 
+part-returns : (t : ℕ) → part-lts.Need-returns (part-calls t) (part-at t) part.Post
+part-returns t c =
+    λ d p w sh. c .refused .ensures ∙ refuse-same NoContinuation (c .before .nowhere .ensures) ∙ ap seen (sym (part-ge d p w _ _ _ (c .before .before .if1 .taken)))
+
+part-find-requires : (t : ℕ) → part-lts.Need-find-requires (part-calls t) (part-at t) part.Post
+part-find-requires t c κs = search needs
+
+part-mul-noted-operand : (t : ℕ) → part-lts.Need-mul-noted-operand (part-calls t) (part-at t) part.Post
+part-mul-noted-operand t c = search needs
+
+part-shared-slice-read-noted-operand : (t : ℕ) → part-lts.Need-shared-slice-read-noted-operand (part-calls t) (part-at t) part.Post
+part-shared-slice-read-noted-operand t c = search needs
+
+part-noted-operand-requires : (t : ℕ) → part-lts.Need-noted-operand-requires (part-calls t) (part-at t) part.Post
+part-noted-operand-requires t c κs = search needs
+
 part-returns-2 : (t : ℕ) → part-lts.Need-returns-2 (part-calls t) (part-at t) part.Post
 part-returns-2 t c =
-    λ d p w sh. c .refused .ensures ∙ refuse-same NoContinuation (c .before .nowhere .ensures) ∙ ap seen (sym (part-ge d p w _ _ _ (c .before .before .if1 .left)))
+    λ d p w sh.
+    let f = c .before .before .before .find .ensures (c .before .before .if2 .taken) in
+    c .noted-operand .ensures d p w _ (sh .noted _ (f .0) (c .before .before .if2 .taken))
+    ∙ ap (λ (m : ℕ). seen (judgeAt d p w (c .before .before .before .before .before .before .before .before .before .before .args .known) m)) (f .1) ∙ ap seen (sym (part-lt d p w _ _ _ (c .before .before .before .before .if1 .left)))
+
+part-judge-requires : (t : ℕ) → part-lts.Need-judge-requires (part-calls t) (part-at t) part.Post
+part-judge-requires t c κs = search needs
+
+part-returns-3 : (t : ℕ) → part-lts.Need-returns-3 (part-calls t) (part-at t) part.Post
+part-returns-3 t c =
+    λ d p w sh. c .judge .ensures d p w sh ∙ ap seen (sym (part-lt d p w _ _ _ (c .before .before .before .if1 .left)))
 
 referred-of-node-requires : (t : ℕ) → referred-lts.Need-of-node-requires (referred-calls t) (referred-at t) referred.Post
 referred-of-node-requires t c κs = search needs
@@ -341,7 +362,7 @@ referred-refused-requires t c κs = search needs
 
 referred-returns : (t : ℕ) → referred-lts.Need-returns (referred-calls t) (referred-at t) referred.Post
 referred-returns t c =
-    λ o u d p w sh. c .refused .ensures ∙ refuse-same BadName (at-is (sh .records) _ (c .before .before .of-node .ensures)) ∙ ap seen (unknown-reference d p w _ o _ _ _ _ (c .before .if1 .taken))
+    λ d p w sh. c .refused .ensures ∙ refuse-same BadName (at-is (sh .records) _ (c .before .before .of-node .ensures)) ∙ ap seen (unknown-reference d p w _ _ _ _ _ (c .before .if1 .taken))
 
 referred-facility-at-requires : (t : ℕ) → referred-lts.Need-facility-at-requires (referred-calls t) (referred-at t) referred.Post
 referred-facility-at-requires t c κs = search needs
@@ -369,21 +390,21 @@ referred-counted-right-requires t c κs = search needs
 
 referred-returns-2 : (t : ℕ) → referred-lts.Need-returns-2 (referred-calls t) (referred-at t) referred.Post
 referred-returns-2 t c =
-    λ o u d p w sh.
+    λ d p w sh.
     let e = sh .facility (c .before .before .before .before .before .before .before .before .before .before .before .before .before .before .before .before .args .f) (c .before .before .before .before .before .before .before .before .before .if1 .left) (c .before .before .before .before .before .before .before .before .facility-at .result) (c .before .before .before .before .before .before .before .before .facility-at .ensures) in
-    c .counted-right .ensures _ o _ _ _ _ (at-is (sh .records) _ (c .before .before .before .before .before .before .before .before .before .before .of-node .ensures)) u (c .before .before .before .before .before .before .before .subscripts .ensures d p w sh) (c .before .computed-work .ensures (Shown.worked (w (c .before .before .before .before .before .before .before .before .before .before .before .before .before .before .before .before .args .f))) (λ b. sh .terminal (c .before .before .before .before .before .before .before .before .before .before .before .before .before .before .before .before .args .f) (omega (arith, c .before .before .before .before .before .before .before .before .before .before .before .before .before .before .before .before .fits .f)) (c .before .before .before .before .before .before .before .before .before .if1 .left) (ap isComputed (sym (c .before .before .before .before .before .before .before .before .facility-at .ensures .kind)) ∙ b)))
+    c .counted-right .ensures _ _ _ _ _ (at-is (sh .records) _ (c .before .before .before .before .before .before .before .before .before .before .of-node .ensures)) (c .before .before .before .before .before .before .before .subscripts .ensures d p w sh) (c .before .computed-work .ensures (Shown.worked (w (c .before .before .before .before .before .before .before .before .before .before .before .before .before .before .before .before .args .f))) (λ b. sh .terminal (c .before .before .before .before .before .before .before .before .before .before .before .before .before .before .before .before .args .f) (omega (arith, c .before .before .before .before .before .before .before .before .before .before .before .before .before .before .before .before .fits .f)) (c .before .before .before .before .before .before .before .before .before .if1 .left) (ap isComputed (sym (c .before .before .before .before .before .before .before .before .facility-at .ensures .kind)) ∙ b)))
     (c .before .before .before .bound-faults .ensures d p w (facilityAt d (c .before .before .before .before .before .before .before .before .before .before .before .before .before .before .before .before .args .f) .name) (sh .records)) (c .before .before .direction-faults .ensures d p w _ (facilityAt d (c .before .before .before .before .before .before .before .before .before .before .before .before .before .before .before .before .args .f) .name) (sh .records))
-    ∙ ap seen (right-reference d p w _ o _ _ _ _ _ (c .before .before .before .before .before .before .before .before .before .if1 .left) e (sym (c .before .before .before .before .before .before .right-count .ensures) ∙ c .before .before .before .before .before .if2 .taken) (c .before .before .before .before .taken-length .ensures (facilityAt d (c .before .before .before .before .before .before .before .before .before .before .before .before .before .before .before .before .args .f) .name)))
+    ∙ ap seen (right-reference d p w _ _ _ _ _ _ (c .before .before .before .before .before .before .before .before .before .if1 .left) e (sym (c .before .before .before .before .before .before .right-count .ensures) ∙ c .before .before .before .before .before .if2 .taken) (c .before .before .before .before .taken-length .ensures (facilityAt d (c .before .before .before .before .before .before .before .before .before .before .before .before .before .before .before .before .args .f) .name)))
 
 referred-counted-wrong-requires : (t : ℕ) → referred-lts.Need-counted-wrong-requires (referred-calls t) (referred-at t) referred.Post
 referred-counted-wrong-requires t c κs = search needs
 
 referred-returns-3 : (t : ℕ) → referred-lts.Need-returns-3 (referred-calls t) (referred-at t) referred.Post
 referred-returns-3 t c =
-    λ o u d p w sh.
+    λ d p w sh.
     let e = sh .facility (c .before .before .before .before .before .before .before .before .before .before .before .before .args .f) (c .before .before .before .before .before .if1 .left) (c .before .before .before .before .facility-at .result) (c .before .before .before .before .facility-at .ensures) in
     c .counted-wrong .ensures _ _ (at-is (sh .records) _ (c .before .before .before .before .before .before .of-node .ensures)) (c .before .before .before .subscripts .ensures d p w sh)
-    ∙ ap seen (wrong-reference d p w _ o _ _ _ _ (c .before .before .before .before .before .if1 .left) e (sym (c .before .before .right-count .ensures) ∙ c .before .if2 .left))
+    ∙ ap seen (wrong-reference d p w _ _ _ _ _ (c .before .before .before .before .before .if1 .left) e (sym (c .before .before .right-count .ensures) ∙ c .before .if2 .left))
 
 subscripts-enum-told : (t : ℕ) → subscripts-lts.Need-enum-told (subscripts-calls t) (subscripts-at t) subscripts.Post
 subscripts-enum-told t c = search needs
@@ -453,8 +474,8 @@ pub +judge+operand+operator+part+referred+subscripts-spec : {M : Type 1} → sta
     judge.Post
     (judge-reference-at-requires t)
     (judge-enum-known-f t)
-    (judge-own-requires t)
     (judge-referred-requires t)
+    (judge-with-own-requires t)
     (judge-enum-told t)
     (judge-operator-requires t)
     (judge-returns t)
@@ -511,11 +532,16 @@ pub +judge+operand+operator+part+referred+subscripts-spec : {M : Type 1} → sta
     (λ t. part-lts.spec (part-calls t)
     (part-at t)
     part.Post
-    (part-judge-requires t)
-    (part-returns t)
     (part-nowhere-requires t)
     (part-refused-requires t)
-    (part-returns-2 t))
+    (part-returns t)
+    (part-find-requires t)
+    (part-mul-noted-operand t)
+    (part-shared-slice-read-noted-operand t)
+    (part-noted-operand-requires t)
+    (part-returns-2 t)
+    (part-judge-requires t)
+    (part-returns-3 t))
     (λ t. referred-lts.spec (referred-calls t)
     (referred-at t)
     referred.Post

@@ -19,7 +19,7 @@ or-faulty-requires-2 c κs = search needs
 
 returns : tie.Need-returns
 returns c =
-    λ q o j k x y z u e f g h. c .or-faulty2 .ensures _ _ (c .before .before .also .ensures _ _ (c .before .before .before .faults-of .ensures j e) g) (c .before .or-faulty .ensures _ _ h (c .before .before .before .before .with-computed .ensures q o j k z u e f))
+    λ q j k x y z e f g h. c .or-faulty2 .ensures _ _ (c .before .before .also .ensures _ _ (c .before .before .before .faults-of .ensures j e) g) (c .before .or-faulty .ensures _ _ h (c .before .before .before .before .with-computed .ensures q j k z e f))
 
 pub counted-right-spec : {M : Type 1} → statement M
 counted-right-spec =

@@ -14,9 +14,6 @@ enum-known-v c = search needs
 added-requires : tie.Need-added-requires
 added-requires c κs = search needs
 
-added-requires-2 : tie.Need-added-requires-2
-added-requires-2 c κs = search needs
-
 sized-requires : tie.Need-sized-requires
 sized-requires c κs = search needs
 
@@ -25,12 +22,12 @@ enum-known-f c = search needs
 
 returns : tie.Need-returns
 returns c =
-    λ q o j k z u e f. both-fine j k _ _ _ (pair-known j k (c .before .before .before .before .before .before .both .ensures) (c .before .before .before .before .v .given .1) e f)
-    (λ x y m n. c .sized .ensures _ (c .before .added2 .ensures _ _ (c .before .before .added .ensures _ _ u (ap (λ (v : Worth). v .work) m)) (ap (λ (v : Worth). v .work) n)) ∙ sized-same _ z refl)
+    λ q j k z e f. both-fine j k _ _ _ (pair-known j k (c .before .before .before .before .before .both .ensures) (c .before .before .before .v .given .1) e f)
+    (λ x y m n. c .sized .ensures _ (c .before .added .ensures _ _ (ap (λ (v : Worth). v .work) m) (ap (λ (v : Worth). v .work) n)) ∙ sized-same _ z refl)
 
 returns-2 : tie.Need-returns-2
 returns-2 c =
-    λ q o j k z u e f. pair-faulty j k _ _ (pair-known j k (c .before .before .before .both .ensures) (c .before .f .given .1) e f)
+    λ q j k z e f. pair-faulty j k _ _ (pair-known j k (c .before .before .before .both .ensures) (c .before .f .given .1) e f)
 
 pub with-computed-spec : {M : Type 1} → statement M
 with-computed-spec =
@@ -39,7 +36,6 @@ with-computed-spec =
     both-requires
     enum-known-v
     added-requires
-    added-requires-2
     sized-requires
     enum-known-f
     returns

@@ -10,11 +10,11 @@ use Rattle.language.specs.ActionRules.{operationJudged}
 use Rattle.language.specs.Decode.{actionOf, namesLength}
 use Rattle.language.specs.Description.{Description, FacilityPlaces, Places, actionAt, actionPlace, facilityAt, facilityPlace, isComputed, operationAt, stateAt}
 use Rattle.language.specs.Encode.{facilitySize, stateSize}
-use Rattle.language.specs.Expressions.{terminalJudged}
+use Rattle.language.specs.Expressions.{terminalBelow, terminalJudged}
 use Rattle.judge_records.specs.Read.{FacilityRead, facilityMeant, placeOf}
 use Rattle.judge_records.specs.declared.facilities.Facility.{Facility}
 use Rattle.judge_verdicts.specs.Meaning.{recalled, seen}
-use Rattle.judge_terms.specs.Shown.{Records, worked}
+use Rattle.judge_terms.specs.Shown.{Records, Shown, worked}
 
 abbrev pub facilityPlacesOf : List ℕ → ℕ → FacilityPlaces
 facilityPlacesOf places n = record {
@@ -37,10 +37,10 @@ pub record Declared (facs exprs marks places : List ℕ) (d : Description) (p : 
 pub record Remembered (facs memo : List ℕ) (k : ℕ) (d : Description) (p : Places) : Type 0 where
   pub terminal : (n : ℕ) → n < 256 → n < k → isComputed (facilityIn facs n [] .kind) ≡ true → recalled memo n ≡ seen (worked (terminalJudged d p n))
 
--- With actions, states' names and operations; all computed terminals are judged.
+-- With actions, states' names and operations; all computed terminals are judged, and what is noted of other expressions is right.
 pub record Acting (facs exprs marks places memo acts beside states labels ops : List ℕ) (d : Description) (p : Places) : Type 0 where
   pub declared : Declared facs exprs marks places d p
-  pub remembered : Remembered facs memo (length facs / facilitySize) d p
+  pub shown : Shown facs exprs marks places memo (length facs / facilitySize) d p (terminalBelow d p (length facs / facilitySize))
   pub action : (n : ℕ) → actionAt d n ≡ actionOf acts n
   pub place : (n : ℕ) → actionPlace p n ≡ placeOf 1 beside n 0
   pub label : (n : ℕ) → stateAt d n .name ≡ take (nameLengthIn stateSize 0 states n) (drop (namesLength n 0 stateSize states) labels)
