@@ -1,5 +1,5 @@
 -- A cycle begins facility by facility: what is left to do gives the same as the whole. Assumes nothing.
-use mathlib.Core.Bool.{false}
+use mathlib.Core.Bool.{false, true≢false}
 use mathlib.Core.List.{List, [], _∷_, _++_}
 use mathlib.Core.Path.{_≡_, refl, sym, ap, _∙_}
 use Prim.Native.Nat.{ℕ, zero, suc, _+_, _*_, _≤_, _<_}
@@ -7,7 +7,7 @@ use native.Mathlib.Omega.{arith}
 use lib.ListN.{drop, drop-of-length-le, getD, length, replicate, take, take-append-drop}
 use Rattle.language.specs.Description.{Description, Facility, facilityAt, isComputed, noFacility, wordCount, wordLength}
 use Rattle.language.specs.Layout.{facilityBytes, placeIn, storeSizeOf, wordBytes}
-use Rattle.language.specs.Store.{inputsOf}
+use Rattle.language.specs.Store.{inputsOf, isInput}
 use Rattle.language.specs.Tree.{Kind, computed, input, memory, plain, register, sequencing}
 use Rattle.image_records.proofs.ByteLaws.{placed-length}
 use Rattle.image_records.specs.Placed.{placed}
@@ -15,7 +15,7 @@ use Rattle.run_begin.proofs.BeginLaws.{begun-more}
 use Rattle.run_begin.proofs.BegunWords.{Rooms, inputs-size}
 use Rattle.run_begin.proofs.SizeLaws.{stored-bytes}
 use Rattle.run_begin.proofs.StimulusLaws.{facility-here}
-use Rattle.run_begin.specs.InBytes.{beginBytes, begunAt, changed, inputBytes}
+use Rattle.run_begin.specs.InBytes.{beginBytes, begins, begunAt, changed, inputBytes}
 
 -- ---- One facility, by its kind.
 
@@ -53,6 +53,27 @@ module _ (f : Facility) (place : ℕ) (B S : List ℕ) (at : ℕ) where
       go plain = placed-length B (replicate (facilityBytes f) 0) place
       go input = placed-length B (take (facilityBytes f) (drop at S)) place
       go computed = refl
+
+-- A facility that a cycle's begin does not change.
+pub kept-no-input : (k : Kind) → begins k ≡ false → isInput k ≡ false
+kept-no-input register e = refl
+kept-no-input sequencing e = refl
+kept-no-input memory e = refl
+kept-no-input plain e = refl
+kept-no-input input e = e
+kept-no-input computed e = refl
+
+pub begun-kept : (f : Facility) (place : ℕ) (B S : List ℕ) (at : ℕ) → begins (f .kind) ≡ false → B ≡ begunAt f place B S at
+unfolding begunAt
+begun-kept f place B S at = go (f .kind)
+  where
+    go : (k : Kind) → begins k ≡ false → B ≡ changed k (facilityBytes f) place B S at
+    go register e = refl
+    go sequencing e = refl
+    go memory e = refl
+    go plain e = absurd (true≢false e)
+    go input e = absurd (true≢false e)
+    go computed e = refl
 
 -- ---- The loop.
 

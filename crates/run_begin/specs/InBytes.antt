@@ -1,5 +1,5 @@
 -- What the start of a cycle does to the bytes of the store, facility by facility, and how the stimulus is tested.
-use mathlib.Core.Bool.{Bool, cond, true}
+use mathlib.Core.Bool.{Bool, cond, false, true}
 use mathlib.Core.List.{List, [], _∷_, _++_}
 use Prim.Native.Nat.{ℕ}
 use lib.ListN.{drop, replicate, take}
@@ -30,6 +30,15 @@ bytesBegun memory n B S = take n B
 bytesBegun plain n B S = replicate n 0
 bytesBegun input n B S = take n S
 bytesBegun computed n B S = take n B
+
+-- Whether they can differ from those of B: plain terminals are cleared, and inputs set.
+abbrev pub begins : Kind → Bool
+begins register = false
+begins sequencing = false
+begins memory = false
+begins plain = true
+begins input = true
+begins computed = false
 
 -- All of them, and what lies beyond.
 unfoldable pub beginBytes : List Facility → List ℕ → List ℕ → List ℕ

@@ -2,7 +2,6 @@
 use crate::sizes;
 use image_records::record_sizes;
 use image_sections::facilities;
-use image_sections::facilities::FacilityRecord;
 use image_sections::kinds;
 use run_references::bounds;
 use store_words::spare;
@@ -12,19 +11,33 @@ ghost use Prim.Native.Nat.{ℕ};
 ghost use Rattle.language.specs.Calls.{wellFormed};
 ghost use Rattle.language.specs.Description.{Description};
 ghost use Rattle.language.specs.Tree.{Name};
-ghost use Rattle.image_sections.specs.Declarations.{facilityMeant};
+ghost use Rattle.image_sections.specs.Declarations.{facilityIn};
 ghost use Rattle.run_references.specs.Described.{Describes};
-ghost use Rattle.run_begin.specs.InBytes.{fitsAt};
+ghost use Rattle.run_begin.specs.InBytes.{fitsAt, inputBytes};
 
-// Whether a facility, where it is an input, has its words from `at` on, without spare bits.
-fn fits(stimulus: &[u8], at: usize, f: FacilityRecord) -> bool
-    ensures { λ r. ⌜ ((name : Name) → r ≡ fitsAt (now (stimulus .entry)) at (facilityMeant name f)) ⌝ }
+// What a facility takes of the stimulus: how many bytes, and whether they are its words without spare bits.
+struct Taken {
+    fits: bool,
+    bytes: usize,
+}
+
+// What facility n takes from `at` on; only an input takes anything, and only its record is read whole.
+fn takes(section: &[u8], stimulus: &[u8], n: usize, at: usize) -> Taken
+    ensures { λ r. ⌜ ((name : Name) → (r .fits ≡ fitsAt (now (stimulus .entry)) at (facilityIn (now (section .entry)) n name)) × (r .bytes ≡ inputBytes (facilityIn (now (section .entry)) n name))) ⌝ }
 {
-    let kind = f.kind;
-    if kinds::is_input(kind) {
-        return spare::no_spare_bits(stimulus, at, bounds::word_count(f), bounds::word_length(f));
+    let kind = facilities::kind_at(section, n);
+    if !kinds::is_input(kind) {
+        return Taken {
+            fits: true,
+            bytes: 0,
+        };
     }
-    true
+    let f = facilities::facility_at(section, n);
+    let fits = spare::no_spare_bits(stimulus, at, bounds::word_count(f), bounds::word_length(f));
+    Taken {
+        fits,
+        bytes: sizes::words_bytes(f),
+    }
 }
 
 // Whether the stimulus is of the right length and has no spare bits.
@@ -35,11 +48,11 @@ pub fn well_formed(section: &[u8], stimulus: &[u8]) -> bool
     let mut n: usize = 0;
     let mut at: usize = 0;
     while n < count {
-        let f = facilities::facility_at(section, n);
-        if !fits(stimulus, at, f) {
+        let t = takes(section, stimulus, n, at);
+        if !t.fits {
             return false;
         }
-        at += sizes::input_bytes(f);
+        at += t.bytes;
         n += 1;
     }
     stimulus.len() == at

@@ -30,8 +30,7 @@ pub fn sequencing(section: &[u8]) -> Found
     let count = section.len() / record_sizes::FACILITY;
     let mut n: usize = 0;
     while n < count {
-        let f = facilities::facility_at(section, n);
-        let kind = f.kind;
+        let kind = facilities::kind_at(section, n);
         if kinds::is_sequencing(kind) {
             return Found::At(n as u16);
         }

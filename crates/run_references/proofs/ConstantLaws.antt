@@ -4,10 +4,12 @@ use mathlib.Core.List.{List}
 use mathlib.Core.Path.{_≡_, refl, sym, ap, ap₂, _∙_}
 use Prim.Native.Nat.{ℕ, zero, suc, _+_, _-_, _*_, _/_, _%_, _^_, _<_, _≤_}
 use native.Mathlib.Numerals.{add-one}
+use native.Mathlib.Nat.{lt-of-lt-of-le, mod-eq-of-lt}
 use native.Mathlib.Omega.{arith}
 use borrow.Author.Tests.{leb-false, leb-true}
 use lib.Dec.{leb}
 use lib.ListN.{getD}
+use lib.Pow.{pow-mono}
 use Rattle.language.specs.Decode.{nodeOf, numberAt}
 use Rattle.language.specs.Description as D
 use Rattle.language.specs.Description.{constantValue, digitLength}
@@ -51,6 +53,14 @@ digits-end i k n s h = let e : i ≡ suc n = omega arith in rw e (by-test (leb k
         let g : n < k = leb-false k n t in
         let e : suc n - (n - k) ≡ suc n = omega arith in
         rw e (sym (digits-past (suc k) (suc n) s (omega arith)))
+
+-- One record alone.
+pub digits-one : (n k : ℕ) (s : List ℕ) {x : ℕ} → k ≡ 0 → x ≡ numberAt 6 (nodeSize * n + 2) s → x < 2 ^ 48 → x ≡ digits (suc k) (suc n) s % 2 ^ 256
+unfolding digits digitLength
+digits-one n k s {x} e p h =
+    let z : 0 * 2 ^ 48 + x ≡ x = omega arith in
+    let l : x < 2 ^ 256 = lt-of-lt-of-le h (pow-mono {i = 48} {j = 256} (omega arith)) in
+    rw (e, ← p, z) (sym (mod-eq-of-lt l))
 
 -- ---- The value.
 

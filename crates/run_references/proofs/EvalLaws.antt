@@ -40,7 +40,7 @@ pub node-read : (d : Description) (E : List ℕ) (n : ℕ) → Nodes d E → {r 
 node-read d E n h nd p q = h n ∙ (sym p ∙ ap (meant (constantNumber n E)) q)
 
 -- Neither constants nor operators nor conditionals.
-abbrev others : List ℕ
+abbrev pub others : List ℕ
 others = 1 ∷ 2 ∷ 3 ∷ 4 ∷ 5 ∷ 6 ∷ 10 ∷ 11 ∷ 13 ∷ []
 
 module _ {X : Type 0} (S : Stores X) (d : Description) (x : X) where

@@ -4,7 +4,7 @@ use mathlib.Core.List.{List, []}
 use mathlib.Core.Path.{_≡_, refl, sym, ap, _∙_}
 use Prim.Native.Nat.{ℕ, _+_, _*_, _/_, _≤_, _<_}
 use native.Mathlib.Omega.{arith}
-use borrow.Author.Tests.{le-ltb, lt-ltb, ltb-false, ltb-true}
+use borrow.Author.Tests.{le-leb, le-ltb, lt-ltb, ltb-false, ltb-true}
 use lib.Dec.{eqb, leb, ltb}
 use lib.ListN.{length}
 use Rattle.language.specs.Description as D
@@ -158,6 +158,12 @@ module _ {d : Description} {F E : List ℕ} (h : Describes d F E) (n : ℕ) (f :
     stored-load B w a c =
         ap (λ (z : ℕ). loaded B z (wordLength (facilityMeant nameOf f)) a c .number) (stored-word w)
         ∙ sym (ap (λ (y : D.Facility). loaded B (placeOfWord (d .facilities) n w) (wordLength y) a c .number) facility-known)
+
+-- The place of a whole facility.
+pub whole-place : {d : Description} {F E : List ℕ} (h : Describes d F E) (n : ℕ) (f : FacilityRecord) (g : FacilityRead F n f) (ev : ℕ → Answer) → n < length F / facilitySize → f .dimensions ≤ 1
+    → wordLength (facilityMeant (nameOf h n f g) f) ≤ 256 → placeOf d ev (refersTo n S.Whole) ≡ Located.at (M.place n 0 0 (wordLength (facilityMeant (nameOf h n f g) f)))
+unfolding located rightCount longest
+whole-place h n f g ev l p q = counted h n f g ev S.Whole l (le-leb (f .dimensions) 1 p) ∙ rw (le-leb (wordLength (facilityMeant (nameOf h n f g) f)) 256 q) refl
 
 -- A facility that is read twice has the same subscripts to be worked out.
 module _ {F : List ℕ} {n : ℕ} (f g : FacilityRecord) (p : FacilityRead F n f) (q : FacilityRead F n g) where

@@ -22,8 +22,8 @@ fn before(n: usize, k: u8) -> usize
     if back < n { n - back } else { 0 }
 }
 
-// The number of record n and of the k records before it, as far as there are any, modulo 2 to the 256.
-fn number_at(exprs: &[u8], n: usize, k: u8) -> [u64; 4]
+// The number of record n and of the k records before it, as far as there are any, modulo 2 to the 256, one record after the other.
+fn joined_at(exprs: &[u8], n: usize, k: u8) -> [u64; 4]
     requires { ⌜ nodeSize * n + nodeSize ≤ length (now exprs) ⌝ }
     ensures { λ r. ⌜ number r ≡ digits (suc k) (suc n) (now (exprs .entry)) % 2 ^ 256 ⌝ }
 {
@@ -36,6 +36,17 @@ fn number_at(exprs: &[u8], n: usize, k: u8) -> [u64; 4]
         i += 1;
     }
     x
+}
+
+// The same number; that of one record stands there as it is.
+fn number_at(exprs: &[u8], n: usize, k: u8) -> [u64; 4]
+    requires { ⌜ nodeSize * n + nodeSize ≤ length (now exprs) ⌝ }
+    ensures { λ r. ⌜ number r ≡ digits (suc k) (suc n) (now (exprs .entry)) % 2 ^ 256 ⌝ }
+{
+    if k == 0 {
+        return value_limbs::small(numbers::six_there(exprs, record_sizes::NODE * n + 2));
+    }
+    joined_at(exprs, n, k)
 }
 
 // The value of a constant that ends at record n; a value without bits where none does.

@@ -6,4 +6,5 @@ pub mod distances;
 pub mod places;
 pub mod reading;
 pub mod references;
+pub mod whole;
 pub mod worth;

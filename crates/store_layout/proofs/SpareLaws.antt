@@ -2,7 +2,7 @@
 use mathlib.Core.Path.{_≡_, refl, sym, ap, _∙_, subst}
 use mathlib.Core.Bool.{Bool, true, false, cond}
 use mathlib.Core.List.{List, [], _∷_}
-use Prim.Native.Nat.{ℕ, suc, _+_, _-_, _*_, _/_, _^_, _≤_, _<_}
+use Prim.Native.Nat.{ℕ, zero, suc, _+_, _-_, _*_, _/_, _^_, _≤_, _<_}
 use native.Mathlib.Nat.{div-eq-of-lt, suc-mul}
 use native.Mathlib.Omega.{arith}
 use borrow.Author.Tests.{le-leb, lt-ltb, ltb-true}
@@ -62,6 +62,24 @@ pub narrow-inside : (B : List ℕ) (at w l : ℕ) → at + w * wordBytes l ≤ l
 unfolding narrowAt
 narrow-inside B at w l h = rw (le-leb (at + w * wordBytes l) (length B) h) refl
 
+-- The bytes of w words are those of one, and of the others.
+pub one-word : (w n : ℕ) → 0 < w → w * n ≡ n + (w - 1) * n
+one-word w n h =
+    let e : w ≡ suc (w - 1) = omega arith in
+    let f = suc-mul (w - 1) n in
+    ap (λ (k : ℕ). k * n) e ∙ omega arith
+
+-- Words that fill their bytes have no spare bits.
+pub narrow-full : (B : List ℕ) (at w l : ℕ) → at + w * wordBytes l ≤ length B → Bytes B → 8 * wordBytes l ≡ l → allNarrow l (wordsFrom w l (drop at B)) ≡ true
+unfolding wordsFrom allNarrow noSpareBits
+narrow-full B at zero l h b e = refl
+narrow-full B at (suc w) l h b e =
+    let p = one-word (suc w) (wordBytes l) (omega arith) in
+    let q : suc w - 1 ≡ w = omega arith in
+    let r : (suc w - 1) * wordBytes l ≡ w * wordBytes l = ap (λ (k : ℕ). k * wordBytes l) q in
+    let x : wordIn B at l < 2 ^ l = subst (λ (n : ℕ). wordIn B at l < 2 ^ n) e (word-lt B at l (omega arith) b) in
+    narrow-more B at (suc w) l (omega arith) (lt-ltb (wordIn B at l) (2 ^ l) x) ∙ ap (λ (k : ℕ). allNarrow l (wordsFrom k l (drop (at + wordBytes l) B))) q ∙ narrow-full B (at + wordBytes l) w l (omega arith) b e
+
 -- The words of a facility whose first byte is at `at`.
 pub facility-narrow : (f : Facility) (B : List ℕ) (at : ℕ) → isComputed (f .kind) ≡ false → at + facilityBytes f ≤ length B
     → allNarrow (wordLength f) (facilityWords f (drop at B)) ≡ narrowAt B at (wordCount f) (wordLength f)
@@ -70,10 +88,3 @@ facility-narrow f B at e h =
     let s : cond (isComputed (f .kind)) 0 (wordCount f * wordBytes (wordLength f)) ≡ wordCount f * wordBytes (wordLength f) = ap (λ (b : Bool). cond b 0 (wordCount f * wordBytes (wordLength f))) e in
     ap (λ (b : Bool). allNarrow (wordLength f) (cond b [] (wordsFrom (wordCount f) (wordLength f) (drop at B)))) e
     ∙ sym (narrow-inside B at (wordCount f) (wordLength f) (omega arith))
-
--- The bytes of w words are those of one, and of the others.
-pub one-word : (w n : ℕ) → 0 < w → w * n ≡ n + (w - 1) * n
-one-word w n h =
-    let e : w ≡ suc (w - 1) = omega arith in
-    let f = suc-mul (w - 1) n in
-    ap (λ (k : ℕ). k * n) e ∙ omega arith

@@ -9,7 +9,7 @@ use native.Mathlib.Omega.{arith}
 use borrow.Author.Tests.{le-leb, leb-true}
 use lib.Dec.{leb}
 use lib.ListN.{getD, length, set}
-use lib.Pow.{mod-pow-add, pow-pos, shr-shr}
+use lib.Pow.{mod-pow-add, pow-pos, shr-shr, split}
 use Rattle.language.specs.Layout.{wordBytes}
 use Rattle.language.specs.Value.{replaced, value}
 use Rattle.language.specs.Ceilings.{longest}
@@ -126,6 +126,14 @@ module _ (B : List ℕ) (at l : ℕ) (fits : at + wordBytes l ≤ length B) (byt
       let r : replaced W low n (Y * 2 ^ 64 + x) ≡ replaced y (low + c) (n - c) Y = rw e (replaced-limb 64 W low n Y h) in
       ap (withWord B at l) (r ∙ ap (λ (z : ℕ). replaced z (low + c) (n - c) Y) (sym f)) ∙ sym (with-with B at l fits y (replaced (wordIn (withWord B at l y) at l) (low + c) (n - c) Y))
 
+  -- ---- A word as one number, one byte more.
+
+  pub word-turn : (j : ℕ) → j < wordBytes l → wordIn B at l / 2 ^ (8 * j) ≡ wordIn B at l / 2 ^ (8 * (j + 1)) * 2 ^ 8 + getD B (at + position l j) 0
+  word-turn j h =
+      let W : ℕ = wordIn B at l in
+      let e : 8 * j + 8 ≡ 8 * (j + 1) = omega arith in
+      sym (split (W / 2 ^ (8 * j)) 8) ∙ ap₂ (λ (x y : ℕ). x * 2 ^ 8 + y) (shr-shr W (8 * j) 8 ∙ ap (λ (m : ℕ). W / 2 ^ m) e) (sym (digit-in B at l fits bytes j h))
+
   -- ---- One turn: the bits that lie in one byte.
 
   module _ (low left : ℕ) {j s n : ℕ} (cut : Cuts low left j s n) (in-word : low + left ≤ 8 * wordBytes l) where
@@ -201,6 +209,18 @@ module _ (B : List ℕ) (at l low n : ℕ) (r : Runs) (runs : InRuns low n r) wh
       ∙ save-limb B₁ at l f₁ b₁ (low + r .c0) (n - r .c0) (cat (x .l3) (x .l2)) (runs .c1) (b .b1) (omega arith)
       ∙ ap (λ (A : List ℕ). withPart A at l (low + r .c0 + r .c1) (n - r .c0 - r .c1) (cat (x .l3) (x .l2))) (sym (q₂ ∙ ap (λ (p : ℕ). withPart B₁ at l p (r .c1) (x .l1)) (runs .p1)))
       ∙ save-limb B₂ at l f₂ b₂ (low + r .c0 + r .c1) (n - r .c0 - r .c1) (x .l3) (runs .c2) (b .b2) (omega arith))
+
+-- Where no more than a limb is put, the limbs above it count for nothing.
+pub save-lowest : (B : List ℕ) (at l low n : ℕ) (x : Four) → at + wordBytes l ≤ length B → Bytes B → low + n ≤ 8 * wordBytes l → n ≤ 64 → Below x
+    → withPart B at l low n (four x) ≡ withPart B at l low n (x .l0)
+unfolding four
+save-lowest B at l low n x fits bytes g h b =
+    let e : n ≡ min n 64 = omega arith in
+    let z : n - n ≡ 0 = omega arith in
+    let Y : ℕ = cat (cat (x .l3) (x .l2)) (x .l1) in
+    let B₁ : List ℕ = withPart B at l low n (x .l0) in
+    save-limb B at l fits bytes low n Y e (b .b0) g ∙ ap (λ (m : ℕ). withPart B₁ at l (low + n) m Y) z
+    ∙ saved-none B₁ at l (omega (arith, length-saved B at l fits bytes low n (x .l0))) (bytes-saved B at l fits bytes low n (x .l0)) (low + n) Y
 
 -- ---- Parts by their first bit.
 

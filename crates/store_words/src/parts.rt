@@ -69,6 +69,9 @@ fn load_limbs(s: &[u8], at: usize, length: u32, low: usize, count: usize) -> [u6
     requires { ⌜ (at + wordBytes length ≤ size (now s)) × (low + count ≤ 8 * wordBytes length) × (count ≤ 256) ⌝ }
     ensures { λ r. ⌜ number r ≡ partIn (now (s .entry)) at length low count ⌝ }
 {
+    if count <= 64 {
+        return value_limbs::small(bits::bits(s, at, length, low, count));
+    }
     let r = in_runs(low, count);
     let l0 = bits::bits(s, at, length, low, r.c0);
     let l1 = bits::bits(s, at, length, r.p1, r.c1);
@@ -77,8 +80,8 @@ fn load_limbs(s: &[u8], at: usize, length: u32, low: usize, count: usize) -> [u6
     [l0, l1, l2, l3]
 }
 
-// These bits replaced by the low ones of four limbs.
-fn save_limbs(s: &mut [u8], at: usize, length: u32, low: usize, count: usize, v: [u64; 4])
+// These bits replaced by the low ones of four limbs, run by run.
+fn save_runs(s: &mut [u8], at: usize, length: u32, low: usize, count: usize, v: [u64; 4])
     requires { ⌜ (at + wordBytes length ≤ size (now s)) × (low + count ≤ 8 * wordBytes length) × (count ≤ 256) ⌝ }
     ensures { λ _. ⌜ now (s .exit) ≡ withPart (now (s .entry)) at length low count (number v) ⌝ }
 {
@@ -88,6 +91,19 @@ fn save_limbs(s: &mut [u8], at: usize, length: u32, low: usize, count: usize, v:
     bits::put(s, at, length, r.p1, r.c1, x.l1);
     bits::put(s, at, length, r.p2, r.c2, x.l2);
     bits::put(s, at, length, r.p3, r.c3, x.l3);
+}
+
+// These bits replaced by the low ones of four limbs, of which the first is enough for up to 64 bits.
+fn save_limbs(s: &mut [u8], at: usize, length: u32, low: usize, count: usize, v: [u64; 4])
+    requires { ⌜ (at + wordBytes length ≤ size (now s)) × (low + count ≤ 8 * wordBytes length) × (count ≤ 256) ⌝ }
+    ensures { λ _. ⌜ now (s .exit) ≡ withPart (now (s .entry)) at length low count (number v) ⌝ }
+{
+    if count <= 64 {
+        let x = value_limbs::taken(v);
+        bits::put(s, at, length, low, count, x.l0);
+    } else {
+        save_runs(s, at, length, low, count, v);
+    }
 }
 
 // `count` bits of a word of `length` bits at `at`, from the bit `from` on; bit 0 is the most significant.

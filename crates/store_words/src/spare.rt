@@ -35,6 +35,10 @@ pub fn no_spare_bits(s: &[u8], at: usize, words: u32, length: u32) -> bool
     if s.len() - all < at {
         return false;
     }
+    // Words that fill their bytes have no spare bits.
+    if 8 * n == length as usize {
+        return true;
+    }
     let mut left = words;
     let mut place = at;
     while 0 < left {

@@ -1,14 +1,13 @@
 use mathlib.Core.List.{List, []}
-use mathlib.Core.Path.{_≡_, refl, _∙_}
+use mathlib.Core.Path.{_≡_, refl, ap, _∙_}
 use Prim.Native.Nat.{ℕ, suc, _+_, _-_, _*_, _≤_, _<_}
 use native.Mathlib.Omega.{arith}
 use borrow.Author.Needs.{needs}
 use lib.ListN.{length}
 use Rattle.language.specs.Calls.{stimulusSize}
-use Rattle.language.specs.Description.{Description}
+use Rattle.language.specs.Description.{Description, Facility, isComputed}
 use Rattle.language.specs.Layout.{storeSizeOf}
-use Rattle.image_sections.specs.Declarations.{facilityMeant}
-use Rattle.run_references.proofs.PlaceLaws.{facility-known, nameOf, stored-place}
+use Rattle.image_sections.specs.Declarations.{facilityIn, placeFieldIn}
 use Rattle.run_references.specs.Described.{Describes}
 use Rattle.run_begin.proofs.BeginLoop.{Left, begun-long, left-all, left-more, left-none}
 use Rattle.run_begin.proofs.BegunWords.{begin-over}
@@ -29,23 +28,15 @@ loop-holds c =
     let a = c .before .before .before .args in
     (omega arith, omega arith, refl, λ d E h r s. left-all d (a .store .now) (a .stimulus .now) (record { store = r; stimulus = s }))
 
-facility-at-requires : tie.Need-facility-at-requires Inv-loop μ-loop
-facility-at-requires c κs =
-    search needs
-
-begin-one-requires : tie.Need-begin-one-requires Inv-loop μ-loop
-begin-one-requires c κs =
-    search needs
-
-input-bytes-requires : tie.Need-input-bytes-requires Inv-loop μ-loop
-input-bytes-requires c κs =
+begin-at-requires : tie.Need-begin-at-requires Inv-loop μ-loop
+begin-at-requires c κs =
     search needs
 
 add-at : tie.Need-add-at Inv-loop μ-loop
 add-at c =
-    let l = c .before .before .before .before .before .before .before .loop in
-    let p = c .before .before .before .before .before .before .before .before .before .before .before .pre in
-    omega (arith, l .inv .0, l .inv .1, c .input-bytes .ensures .0, p)
+    let l = c .before .before .before .before .before .loop in
+    let p = c .before .before .before .before .before .before .before .before .before .pre in
+    omega (arith, l .inv .0, l .inv .1, c .before .before .begin-at .ensures .0, p)
 
 add-n : tie.Need-add-n Inv-loop μ-loop
 add-n c =
@@ -57,24 +48,24 @@ loop-less c =
 
 loop-again : tie.Need-loop-again Inv-loop μ-loop
 loop-again c =
-    let at-loop = c .before .before .before .before .before .before .before in
+    let at-loop = c .before .before .before .before .before in
     let a = at-loop .before .before .before .before .args in
     let l = at-loop .loop in
-    let t = c .before .before .before .before .before .before .loop-test .taken in
+    let t = c .before .before .before .before .loop-test .taken in
+    let F = a .section .now in
     let B₀ = a .store .now in
     let S = a .stimulus .now in
-    let f = c .before .before .before .before .before .facility-at .result in
-    let g = c .before .before .before .before .before .facility-at .ensures in
-    let one = c .before .before .before .begin-one .ensures in
+    let one = c .before .before .begin-at .ensures in
     let p : l .n + 1 ≡ suc (l .n) = omega arith in (
       omega arith,
-      omega (arith, l .inv .1, c .input-bytes .ensures .0),
-      rw (one []) (begun-long (facilityMeant [] f) (f .place) (l .store) S (l .at) ∙ l .inv .2),
+      omega (arith, l .inv .1, one .0),
+      rw (one .1 [] .1) (begun-long (facilityIn F (l .n) []) (placeFieldIn F (l .n)) (l .store) S (l .at) ∙ l .inv .2),
       λ d E h r s.
-          let k = nameOf h (l .n) f g in
+          let k = h .facilities (l .n) .name in
+          let f = facilityIn F (l .n) k in
           let n : l .n < length (d .facilities) = rw (h .count) t in
-          rw (one k, p, c .input-bytes .ensures .1 k)
-          (left-more d B₀ S (l .store) (l .n) (l .at) (facilityMeant k f) (f .place) n (facility-known h (l .n) f g) (stored-place h (l .n) f g n) (l .inv .3 d E h r s)),
+          rw (one .1 k .1, p, one .1 k .0)
+          (left-more d B₀ S (l .store) (l .n) (l .at) f (placeFieldIn F (l .n)) n (h .facilities (l .n) .is) (λ q. h .places (l .n) n (ap (λ (y : Facility). isComputed (y .kind)) (h .facilities (l .n) .is) ∙ q)) (l .inv .3 d E h r s)),
     )
 
 same-length : tie.Need-same-length Inv-loop μ-loop
@@ -98,9 +89,7 @@ begin-spec =
     Inv-loop
     μ-loop
     loop-holds
-    facility-at-requires
-    begin-one-requires
-    input-bytes-requires
+    begin-at-requires
     add-at
     add-n
     loop-less

@@ -7,8 +7,7 @@ use borrow.Author.Tests.{not-false, not-true}
 use lib.ListN.{drop, drop-of-length-le, length}
 use Rattle.language.specs.Calls.{wellFormed}
 use Rattle.language.specs.Description.{Description, Facility}
-use Rattle.image_sections.specs.Declarations.{facilityMeant}
-use Rattle.run_references.proofs.PlaceLaws.{facility-known, nameOf}
+use Rattle.image_sections.specs.Declarations.{facilityIn}
 use Rattle.run_references.specs.Described.{Describes}
 use Rattle.run_begin.proofs.StimulusLaws.{facility-here, fits-room, well-all, well-more, well-none, well-stop, wellFrom}
 use Rattle.run_begin.proofs.stimulus.well_formed.Statement.{statement}
@@ -25,34 +24,32 @@ loop-holds : tie.Need-loop-holds Inv-loop μ-loop
 loop-holds c =
     (omega arith, omega arith, λ d E h. well-all d (c .before .before .args .stimulus .now))
 
-facility-at-requires : tie.Need-facility-at-requires Inv-loop μ-loop
-facility-at-requires c κs = search needs
-
-fits-requires : tie.Need-fits-requires Inv-loop μ-loop
-fits-requires c κs = search needs
+takes-requires : tie.Need-takes-requires Inv-loop μ-loop
+takes-requires c κs =
+    search needs
 
 returns : tie.Need-returns Inv-loop μ-loop
 returns c =
     λ d E h.
-    let S = c .before .before .before .before .before .before .before .args .stimulus .now in
-    let l = c .before .before .before .before .loop in
-    let f = c .before .before .facility-at .result in
-    let g = c .before .before .facility-at .ensures in
-    let k = nameOf h (l .n) f g in
+    let at-loop = c .before .before .before .before in
+    let a = at-loop .before .before .before .args in
+    let S = a .stimulus .now in
+    let l = at-loop .loop in
+    let t = c .before .before .takes in
+    let k = h .facilities (l .n) .name in
+    let f = facilityIn (a .section .now) (l .n) k in
     let n : l .n < length (d .facilities) = rw (h .count) (c .before .before .before .loop-test .taken) in
-    let e = facility-here d (l .n) (facilityMeant k f) n (facility-known h (l .n) f g) in
-    sym (sym (l .inv .2 d E h) ∙ (ap (λ (fs : List Facility). wellFrom fs S (l .at)) e ∙ well-stop (facilityMeant k f) (drop (suc (l .n)) (d .facilities)) S (l .at) (sym (c .before .fits2 .ensures k) ∙ not-true (c .before .fits2 .result) (c .if1 .taken))))
-
-input-bytes-requires : tie.Need-input-bytes-requires Inv-loop μ-loop
-input-bytes-requires c κs = search needs
+    let e = facility-here d (l .n) f n (h .facilities (l .n) .is) in
+    sym (sym (l .inv .2 d E h) ∙ (ap (λ (fs : List Facility). wellFrom fs S (l .at)) e ∙ well-stop f (drop (suc (l .n)) (d .facilities)) S (l .at) (sym (t .ensures k .0) ∙ not-true (t .result .fits) (c .if1 .taken))))
 
 add-at : tie.Need-add-at Inv-loop μ-loop
 add-at c =
-    let S = c .before .before .before .before .before .before .before .before .args .stimulus .now in
-    let l = c .before .before .before .before .before .loop in
-    let f = facilityMeant [] (c .before .before .before .facility-at .result) in
-    let r = fits-room f [] S (l .at) (l .inv .1) (sym (c .before .before .fits2 .ensures []) ∙ not-false (c .before .before .fits2 .result) (c .before .if1 .left)) in
-    omega (arith, r, c .input-bytes .ensures .1 [])
+    let at-loop = c .before .before .before .before .before in
+    let a = at-loop .before .before .before .args in
+    let l = at-loop .loop in
+    let t = c .before .before .before .takes in
+    let r = fits-room (facilityIn (a .section .now) (l .n) []) [] (a .stimulus .now) (l .at) (l .inv .1) (sym (t .ensures [] .0) ∙ not-false (t .result .fits) (c .before .if1 .left)) in
+    omega (arith, r, t .ensures [] .1)
 
 add-n : tie.Need-add-n Inv-loop μ-loop
 add-n c =
@@ -64,21 +61,23 @@ loop-less c =
 
 loop-again : tie.Need-loop-again Inv-loop μ-loop
 loop-again c =
-    let S = c .before .before .before .before .before .before .before .before .args .stimulus .now in
-    let l = c .before .before .before .before .before .loop in
-    let f = c .before .before .before .facility-at .result in
-    let g = c .before .before .before .facility-at .ensures in
-    let r = fits-room (facilityMeant [] f) [] S (l .at) (l .inv .1) (sym (c .before .before .fits2 .ensures []) ∙ not-false (c .before .before .fits2 .result) (c .before .if1 .left)) in (
+    let at-loop = c .before .before .before .before .before in
+    let a = at-loop .before .before .before .args in
+    let S = a .stimulus .now in
+    let l = at-loop .loop in
+    let t = c .before .before .before .takes in
+    let r = fits-room (facilityIn (a .section .now) (l .n) []) [] S (l .at) (l .inv .1) (sym (t .ensures [] .0) ∙ not-false (t .result .fits) (c .before .if1 .left)) in (
       omega arith,
-      omega (arith, r, c .input-bytes .ensures .1 []),
+      omega (arith, r, t .ensures [] .1),
       λ d E h.
-          let k = nameOf h (l .n) f g in
+          let k = h .facilities (l .n) .name in
+          let f = facilityIn (a .section .now) (l .n) k in
           let n : l .n < length (d .facilities) = rw (h .count) (c .before .before .before .before .loop-test .taken) in
-          let e = facility-here d (l .n) (facilityMeant k f) n (facility-known h (l .n) f g) in
+          let e = facility-here d (l .n) f n (h .facilities (l .n) .is) in
           let p : l .n + 1 ≡ suc (l .n) = omega arith in
-          ap (λ (m : ℕ). wellFrom (drop m (d .facilities)) S (l .at + c .input-bytes .result)) p
-          ∙ (ap (λ (m : ℕ). wellFrom (drop (suc (l .n)) (d .facilities)) S (l .at + m)) (c .input-bytes .ensures .1 k)
-          ∙ (sym (ap (λ (fs : List Facility). wellFrom fs S (l .at)) e ∙ well-more (facilityMeant k f) (drop (suc (l .n)) (d .facilities)) S (l .at) (sym (c .before .before .fits2 .ensures k) ∙ not-false (c .before .before .fits2 .result) (c .before .if1 .left))) ∙ l .inv .2 d E h)),
+          ap (λ (m : ℕ). wellFrom (drop m (d .facilities)) S (l .at + t .result .bytes)) p
+          ∙ (ap (λ (m : ℕ). wellFrom (drop (suc (l .n)) (d .facilities)) S (l .at + m)) (t .ensures k .1)
+          ∙ (sym (ap (λ (fs : List Facility). wellFrom fs S (l .at)) e ∙ well-more f (drop (suc (l .n)) (d .facilities)) S (l .at) (sym (t .ensures k .0) ∙ not-false (t .result .fits) (c .before .if1 .left))) ∙ l .inv .2 d E h)),
     )
 
 returns-2 : tie.Need-returns-2 Inv-loop μ-loop
@@ -96,10 +95,8 @@ well-formed-spec =
     Inv-loop
     μ-loop
     loop-holds
-    facility-at-requires
-    fits-requires
+    takes-requires
     returns
-    input-bytes-requires
     add-at
     add-n
     loop-less

@@ -6,7 +6,6 @@ use borrow.Author.Needs.{needs}
 use lib.ListN.{drop, length}
 use Rattle.language.specs.Description as D
 use Rattle.language.specs.Description.{Description, isSequencing, sequencingFrom, sequencingOf}
-use Rattle.run_references.proofs.PlaceLaws.{facility-known}
 use Rattle.run_references.specs.Described.{Describes}
 use Rattle.run_next.proofs.RegisterLaws.{register-here, register-later, register-none}
 use Rattle.run_next.proofs.register.sequencing.Statement.{statement}
@@ -24,16 +23,16 @@ unfolding sequencingOf
 loop-holds c =
     (omega arith, λ d E h. refl)
 
-facility-at-requires : tie.Need-facility-at-requires Inv-loop μ-loop
-facility-at-requires c κs =
+kind-at-requires : tie.Need-kind-at-requires Inv-loop μ-loop
+kind-at-requires c κs =
     search needs
 
 is-sequencing-requires : tie.Need-is-sequencing-requires Inv-loop μ-loop
 is-sequencing-requires c κs =
     search needs
 
-cast-t9 : tie.Need-cast-t9 Inv-loop μ-loop
-cast-t9 c =
+cast-t8 : tie.Need-cast-t8 Inv-loop μ-loop
+cast-t8 c =
     omega arith
 
 returns : tie.Need-returns Inv-loop μ-loop
@@ -41,7 +40,7 @@ returns c =
     λ d E h.
     let l = c .before .before .before .before .loop in
     let n : l .n < length (d .facilities) = rw (h .count) (c .before .before .before .loop-test .taken) in
-    let k = ap (λ (y : D.Facility). isSequencing (y .kind)) (facility-known h (l .n) (c .before .before .facility-at .result) (c .before .before .facility-at .ensures)) ∙ (sym (c .before .is-sequencing .ensures) ∙ c .if1 .taken) in
+    let k = ap (λ (y : D.Facility). isSequencing (y .kind)) (h .facilities (l .n) .is) ∙ (ap isSequencing (sym (c .before .before .kind-at .ensures (h .facilities (l .n) .name))) ∙ (sym (c .before .is-sequencing .ensures) ∙ c .if1 .taken)) in
     sym (register-here d (l .n) n k) ∙ l .inv .1 d E h
 
 add-n : tie.Need-add-n Inv-loop μ-loop
@@ -59,7 +58,7 @@ loop-again c = (
       let l = c .before .before .before .before .loop in
       let n : l .n < length (d .facilities) = rw (h .count) (c .before .before .before .loop-test .taken) in
       let p : l .n + 1 ≡ suc (l .n) = omega arith in
-      let k = ap (λ (y : D.Facility). isSequencing (y .kind)) (facility-known h (l .n) (c .before .before .facility-at .result) (c .before .before .facility-at .ensures)) ∙ (sym (c .before .is-sequencing .ensures) ∙ c .if1 .left) in
+      let k = ap (λ (y : D.Facility). isSequencing (y .kind)) (h .facilities (l .n) .is) ∙ (ap isSequencing (sym (c .before .before .kind-at .ensures (h .facilities (l .n) .name))) ∙ (sym (c .before .is-sequencing .ensures) ∙ c .if1 .left)) in
       rw p (sym (register-later d (l .n) n k) ∙ l .inv .1 d E h),
 )
 
@@ -77,9 +76,9 @@ sequencing-spec =
     Inv-loop
     μ-loop
     loop-holds
-    facility-at-requires
+    kind-at-requires
     is-sequencing-requires
-    cast-t9
+    cast-t8
     returns
     add-n
     loop-less

@@ -1,117 +1,89 @@
-use Rattle.store_layout.proofs.ByteOrder.{few-spare, position-lt}
-use mathlib.Core.Path.{_≡_, sym, ap, ap₂, _∙_}
-use Prim.Native.Nat.{ℕ, _+_, _-_, _*_, _/_, _%_, _^_, _≤_}
-use native.Mathlib.Nat.{mod-lt, mod-one}
+use mathlib.Core.Path.{_≡_, ap, _∙_}
+use Prim.Native.Nat.{ℕ, _+_, _-_, _/_, _%_, _^_}
 use native.Mathlib.Omega.{arith}
 use lib.ListN.{getD}
-use lib.Pow.{pow-mono, pow-pos}
-use Rattle.store_layout.specs.Layout.{wordIn}
 use Rattle.store_layout.specs.Parts.{partIn}
-use Rattle.store_words.proofs.PartLaws.{load-turn, part-lt}
+use Rattle.store_layout.proofs.ByteOrder.{position-lt}
+use Rattle.store_words.proofs.PartLaws.{byte-part}
+use borrow.Author.Needs.{needs}
 use Rattle.store_words.proofs.bits.bits.Statement.{statement}
 use Rattle.store_words.proofs.bits.bits.Tie as tie
 
-abbrev Inv-loop : tie.InvT-loop
-Inv-loop s at length low count acc₀ left₀ acc left = (left ≤ count) × (acc ≡ partIn s at length (low + left) (count - left))
+in-one-byte-requires : tie.Need-in-one-byte-requires
+in-one-byte-requires c κs = search needs
 
-abbrev μ-loop : tie.MeasureT-loop
-μ-loop s at length low count acc₀ left₀ acc left = left
-
-loop-holds : tie.Need-loop-holds Inv-loop μ-loop
-unfolding partIn
-loop-holds c =
-    let a = c .before .args in
-    let z : a .count - a .count ≡ 0 = omega arith in
-    (omega arith, rw z (sym (mod-one (wordIn (a .s .now) (a .at) (a .length) / 2 ^ (a .low + a .count)))))
-
-uppermost-requires : tie.Need-uppermost-requires Inv-loop μ-loop
-uppermost-requires c κs =
-    let r = few-spare (c .before .before .before .args .length) in (omega arith, omega arith)
-
-position-of-requires : tie.Need-position-of-requires Inv-loop μ-loop
+position-of-requires : tie.Need-position-of-requires
 position-of-requires c κs =
-    let u = c .uppermost .ensures in omega (arith, u .place, u .some)
+    let u = c .before .in-one-byte .ensures (c .if1 .taken) in omega (arith, u .some)
 
-add-i : tie.Need-add-i Inv-loop μ-loop
+add-i : tie.Need-add-i
 add-i c =
-    let start = c .before .before .before .before .before in
-    let u = c .before .uppermost .ensures in
+    let a = c .before .before .before .before .args in
+    let u = c .before .before .in-one-byte .ensures (c .before .if1 .taken) in
     let p = c .position-of .ensures in
-    let q = position-lt (start .args .length) (c .before .uppermost .result .byte) (omega (arith, u .place, u .some)) in
+    let q = position-lt (a .length) (a .low / 8) (omega (arith, u .some)) in
     omega arith
 
-shared-slice-read-b : tie.Need-shared-slice-read-b Inv-loop μ-loop
+shared-slice-read-b : tie.Need-shared-slice-read-b
 shared-slice-read-b c =
-    let start = c .before .before .before .before .before .before in
-    let u = c .before .before .uppermost .ensures in
+    let a = c .before .before .before .before .before .args in
+    let u = c .before .before .before .in-one-byte .ensures (c .before .before .if1 .taken) in
     let p = c .before .position-of .ensures in
-    let q = position-lt (start .args .length) (c .before .before .uppermost .result .byte) (omega (arith, u .place, u .some)) in
+    let q = position-lt (a .length) (a .low / 8) (omega (arith, u .some)) in
     omega arith
 
-field-requires : tie.Need-field-requires Inv-loop μ-loop
+field-requires : tie.Need-field-requires
 field-requires c κs =
-    c .before .before .uppermost .ensures .in-byte
+    c .before .before .before .in-one-byte .ensures (c .before .before .if1 .taken) .in-byte
 
-join-requires : tie.Need-join-requires Inv-loop μ-loop
-join-requires c κs =
-    let at-uppermost = c .before .before .before in
-    let at-loop = at-uppermost .before .before in
-    let start = at-loop .before .before in
-    let a = start .args in
-    let l = at-loop .loop in
-    let u = at-uppermost .uppermost in
-    let n : ℕ = u .result .bits in
-    let e : l .acc * 2 ^ n ≡ partIn (a .s .now) (a .at) (a .length) (a .low + l .left) (a .count - l .left) * 2 ^ n = ap (λ (x : ℕ). x * 2 ^ n) (l .inv .1) in
-    let t = load-turn (a .s .now) (a .at) (a .length) (start .pre .0) (λ i. c .before .shared-slice-known2 .given i .fits) (a .low) (l .left) (u .ensures) (omega arith) (a .count) (l .inv .0) in
-    let p = part-lt (a .s .now) (a .at) (a .length) (a .low + (l .left - n)) (a .count - (l .left - n)) in
-    let q : 2 ^ (a .count - (l .left - n)) ≤ 2 ^ 64 = pow-mono {i = a .count - (l .left - n)} {j = 64} (omega arith) in
-    (omega (arith, u .ensures .in-byte), rw (c .field .ensures) (mod-lt (getD (a .s .now) (a .at + c .before .before .position-of .result) 0 / 2 ^ u .result .shift) (pow-pos n)), omega arith)
-
-sub-left : tie.Need-sub-left Inv-loop μ-loop
-sub-left c =
-    let at-uppermost = c .before .before .before .before .before in
-    at-uppermost .uppermost .ensures .few
-
-loop-less : tie.Need-loop-less Inv-loop μ-loop
-loop-less c =
-    let at-uppermost = c .before .before .before .before .before in
-    let u = at-uppermost .uppermost .ensures in omega (arith, u .some, u .few)
-
-loop-again : tie.Need-loop-again Inv-loop μ-loop
-loop-again c =
-    let at-shared-slice-known2 = c .before .before .before in
-    let at-position-of = at-shared-slice-known2 .before in
-    let at-uppermost = at-position-of .before in
-    let at-loop = at-uppermost .before .before in
-    let start = at-loop .before .before in
-    let a = start .args in
-    let l = at-loop .loop in
-    let u = at-uppermost .uppermost in
-    let t = load-turn (a .s .now) (a .at) (a .length) (start .pre .0) (λ i. at-shared-slice-known2 .shared-slice-known2 .given i .fits) (a .low) (l .left) (u .ensures) (omega arith) (a .count) (l .inv .0) in
-    let f = c .before .before .field .ensures ∙ ap (λ (p : ℕ). getD (a .s .now) (a .at + p) 0 / 2 ^ u .result .shift % 2 ^ u .result .bits) (at-position-of .position-of .ensures) in
-    (omega arith, c .before .join .ensures ∙ ap₂ (λ (x y : ℕ). x * 2 ^ u .result .bits + y) (l .inv .1) f ∙ sym t)
-
-returns : tie.Need-returns Inv-loop μ-loop
+returns : tie.Need-returns
 returns c =
-    let a = c .before .before .before .args in
-    let z : c .before .loop .left ≡ 0 = omega arith in
-    let e = c .before .loop .inv .1 in
-    e ∙ ap₂ (λ (m n : ℕ). partIn (a .s .now) (a .at) (a .length) m n) (omega arith) (omega arith)
+    let start = c .before .before .before .before .before .before in
+    let a = start .args in
+    let u = c .before .before .before .before .in-one-byte .ensures (c .before .before .before .if1 .taken) in
+    let e : a .low + (a .count - a .count) ≡ a .low = omega arith in
+    c .field .ensures ∙ ap (λ (p : ℕ). getD (a .s .now) (a .at + p) 0 / 2 ^ (a .low % 8) % 2 ^ a .count) (c .before .before .position-of .ensures)
+    ∙ byte-part (a .s .now) (a .at) (a .length) (start .pre .0) (λ i. c .before .shared-slice-known2 .given i .fits) (a .low) (a .count) u (start .pre .1)
+    ∙ ap (λ (m : ℕ). partIn (a .s .now) (a .at) (a .length) m (a .count)) e
+
+word-bytes-requires : tie.Need-word-bytes-requires
+word-bytes-requires c κs = search needs
+
+word-requires : tie.Need-word-requires
+word-requires c κs = search needs
+
+shr-low : tie.Need-shr-low
+shr-low c = search needs
+
+low-requires : tie.Need-low-requires
+low-requires c κs = search needs
+
+returns-2 : tie.Need-returns-2
+unfolding partIn
+returns-2 c =
+    let a = c .before .before .before .before .before .before .before .args in
+    c .low .ensures ∙ ap (λ (x : ℕ). x / 2 ^ a .low % 2 ^ a .count) (c .before .word .ensures)
+
+bits-by-bytes-requires : tie.Need-bits-by-bytes-requires
+bits-by-bytes-requires c κs = search needs
+
+returns-3 : tie.Need-returns-3
+returns-3 c = search needs
 
 pub bits-spec : {M : Type 1} → statement M
 bits-spec =
     tie.close
     (tie.spec
-    Inv-loop
-    μ-loop
-    loop-holds
-    uppermost-requires
+    in-one-byte-requires
     position-of-requires
     add-i
     shared-slice-read-b
     field-requires
-    join-requires
-    sub-left
-    loop-less
-    loop-again
-    returns)
+    returns
+    word-bytes-requires
+    word-requires
+    shr-low
+    low-requires
+    returns-2
+    bits-by-bytes-requires
+    returns-3)

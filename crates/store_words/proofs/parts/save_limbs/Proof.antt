@@ -1,16 +1,11 @@
-use mathlib.Core.Path.{ap, _∙_}
+use mathlib.Core.Path.{ap, sym, _∙_}
 use native.Mathlib.Omega.{arith}
 use Rattle.store_layout.specs.Parts.{withPart}
 use Rattle.value_limbs.proofs.Laws.{Below}
-use Rattle.store_layout.proofs.ByteOrder.{few-spare}
-use Rattle.store_words.proofs.PartLaws.{save-four}
+use Rattle.store_words.proofs.PartLaws.{save-lowest}
 use borrow.Author.Needs.{needs}
 use Rattle.store_words.proofs.parts.save_limbs.Statement.{statement}
 use Rattle.store_words.proofs.parts.save_limbs.Tie as tie
-
-in-runs-requires : tie.Need-in-runs-requires
-in-runs-requires c κs =
-    omega (arith, few-spare (c .before .args .length))
 
 taken-requires : tie.Need-taken-requires
 taken-requires c κs = search needs
@@ -18,42 +13,37 @@ taken-requires c κs = search needs
 put-requires : tie.Need-put-requires
 put-requires c κs = search needs
 
-put-requires-2 : tie.Need-put-requires-2
-put-requires-2 c κs = search needs
-
-put-requires-3 : tie.Need-put-requires-3
-put-requires-3 c κs = search needs
-
-put-requires-4 : tie.Need-put-requires-4
-put-requires-4 c κs = search needs
+save-runs-requires : tie.Need-save-runs-requires
+save-runs-requires c κs = search needs
 
 same-length : tie.Need-same-length
 same-length c = search needs
 
 returns : tie.Need-returns
 returns c =
-    let below : Below (c .before .before .before .before .before .before .before .before .before .before .before .before .before .before .before .before .taken .result) = (let ok = c .before .before .before .before .before .before .before .before .before .before .before .before .before .before .before .before .taken .ok in search needs) in
-    let at-put3 = c .before .before .before .before .before .before in
-    let at-put2 = at-put3 .before .before .before .before in
-    let at-put = at-put2 .before .before .before .before in
-    let at-taken = at-put .before .before in
-    let at-in-runs = at-taken .before in
-    let at-slice-known = at-in-runs .before in
+    let at-taken = c .before .before .before .before in
+    let at-slice-known = at-taken .before .before in
     let start = at-slice-known .before in
     let a = start .args in
-    save-four (a .s .now) (a .at) (a .length) (a .low) (a .count) (at-in-runs .in-runs .result) (at-in-runs .in-runs .ensures) (at-taken .taken .result) (start .pre .0) (λ i. at-slice-known .slice-known .given i .fits) (start .pre .1) below
-    (at-put .put .ensures) (at-put2 .put2 .ensures) (at-put3 .put3 .ensures) (c .before .before .put4 .ensures)
+    let below : Below (at-taken .taken .result) = (let ok = at-taken .taken .ok in search needs) in
+    c .before .before .put .ensures
+    ∙ sym (save-lowest (a .s .now) (a .at) (a .length) (a .low) (a .count) (at-taken .taken .result) (start .pre .0) (λ i. at-slice-known .slice-known .given i .fits) (start .pre .1) (omega arith) below)
     ∙ ap (withPart (a .s .now) (a .at) (a .length) (a .low) (a .count)) (at-taken .taken .ensures)
+
+same-length-2 : tie.Need-same-length-2
+same-length-2 c = search needs
+
+returns-2 : tie.Need-returns-2
+returns-2 c = search needs
 
 pub save-limbs-spec : {M : Type 1} → statement M
 save-limbs-spec =
     tie.close
     (tie.spec
-    in-runs-requires
     taken-requires
     put-requires
-    put-requires-2
-    put-requires-3
-    put-requires-4
+    save-runs-requires
     same-length
-    returns)
+    returns
+    same-length-2
+    returns-2)

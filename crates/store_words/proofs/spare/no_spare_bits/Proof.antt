@@ -9,7 +9,7 @@ use lib.ListN.{drop, length as size}
 use Rattle.language.specs.Layout.{wordBytes}
 use Rattle.language.specs.Store.{allNarrow, wordsFrom}
 use Rattle.store_layout.specs.Spare.{narrowAt}
-use Rattle.store_layout.proofs.SpareLaws.{narrow-inside, narrow-more, narrow-stop, one-word, spare-some, spare-zero}
+use Rattle.store_layout.proofs.SpareLaws.{narrow-full, narrow-inside, narrow-more, narrow-stop, one-word, spare-some, spare-zero}
 use Rattle.store_words.proofs.spare.no_spare_bits.Statement.{statement}
 use Rattle.store_words.proofs.spare.no_spare_bits.Tie as tie
 
@@ -48,36 +48,51 @@ returns-2 c =
     let e = ap (λ (n : ℕ). a .words * n) (c .before .before .word-bytes .ensures) in
     rw (lt-leb (a .at + a .words * wordBytes (a .length)) (size (a .s .now)) (omega arith)) refl
 
+mul-if3 : tie.Need-mul-if3 Inv-loop μ-loop
+mul-if3 c =
+    let r = few-spare (c .before .before .before .before .args .length) in
+    omega (arith, c .before .before .word-bytes .ensures)
+
+returns-3 : tie.Need-returns-3 Inv-loop μ-loop
+returns-3 c =
+    let start = c .before .before .before .before .before in
+    let a = start .args in
+    let n = c .before .before .before .word-bytes .ensures in
+    let e = ap (λ (k : ℕ). a .words * k) n in
+    let fits : a .at + a .words * wordBytes (a .length) ≤ size (a .s .now) = omega arith in
+    let full : 8 * wordBytes (a .length) ≡ a .length = omega arith in
+    sym (narrow-inside (a .s .now) (a .at) (a .words) (a .length) fits ∙ narrow-full (a .s .now) (a .at) (a .words) (a .length) fits (λ i. c .before .before .before .before .shared-slice-known .given i .fits) full)
+
 loop-holds : tie.Need-loop-holds Inv-loop μ-loop
 loop-holds c =
-    let start = c .before .before .before .before in
+    let start = c .before .before .before .before .before in
     let a = start .args in
-    let e = ap (λ (n : ℕ). a .words * n) (c .before .before .word-bytes .ensures) in
+    let e = ap (λ (n : ℕ). a .words * n) (c .before .before .before .word-bytes .ensures) in
     let fits : a .at + a .words * wordBytes (a .length) ≤ size (a .s .now) = omega arith in
     (fits, sym (narrow-inside (a .s .now) (a .at) (a .words) (a .length) fits))
 
 spare-bits-requires : tie.Need-spare-bits-requires Inv-loop μ-loop
 spare-bits-requires c κs =
-    let start = c .before .before .before .before .before .before in
+    let start = c .before .before .before .before .before .before .before in
     let a = start .args in
     let e = one-word (c .before .loop .left) (wordBytes (a .length)) (omega arith) in
     omega (arith, c .before .loop .inv .0)
 
-returns-3 : tie.Need-returns-3 Inv-loop μ-loop
-returns-3 c =
+returns-4 : tie.Need-returns-4 Inv-loop μ-loop
+returns-4 c =
     let at-loop = c .before .before .before in
-    let at-shared-slice-known = at-loop .before .before .before .before in
+    let at-shared-slice-known = at-loop .before .before .before .before .before in
     let start = at-shared-slice-known .before in
     let a = start .args in
     let l = at-loop .loop in
     let e = one-word (l .left) (wordBytes (a .length)) (omega arith) in
     let fits : l .place + wordBytes (a .length) ≤ size (a .s .now) = omega (arith, l .inv .0) in
-    sym (narrow-stop (a .s .now) (l .place) (l .left) (a .length) (omega arith) (spare-some (a .s .now) (l .place) (a .length) fits (λ i. at-shared-slice-known .shared-slice-known .given i .fits) (λ z. c .if3 .taken (c .before .spare-bits .ensures ∙ z)))) ∙ l .inv .1
+    sym (narrow-stop (a .s .now) (l .place) (l .left) (a .length) (omega arith) (spare-some (a .s .now) (l .place) (a .length) fits (λ i. at-shared-slice-known .shared-slice-known .given i .fits) (λ z. c .if4 .taken (c .before .spare-bits .ensures ∙ z)))) ∙ l .inv .1
 
 add-place : tie.Need-add-place Inv-loop μ-loop
 add-place c =
     let at-loop = c .before .before .before in
-    let at-word-bytes = at-loop .before .before .before in
+    let at-word-bytes = at-loop .before .before .before .before in
     let start = at-word-bytes .before .before in
     let a = start .args in
     let e = one-word (at-loop .loop .left) (wordBytes (a .length)) (omega arith) in
@@ -94,7 +109,7 @@ loop-less c =
 loop-again : tie.Need-loop-again Inv-loop μ-loop
 loop-again c =
     let at-loop = c .before .before .before in
-    let at-word-bytes = at-loop .before .before .before in
+    let at-word-bytes = at-loop .before .before .before .before in
     let at-shared-slice-known = at-word-bytes .before in
     let start = at-shared-slice-known .before in
     let a = start .args in
@@ -104,13 +119,13 @@ loop-again c =
     let fits : l .place + wordBytes (a .length) ≤ size (a .s .now) = omega (arith, l .inv .0) in (
       omega (arith, l .inv .0),
       ap (λ (n : ℕ). allNarrow (a .length) (wordsFrom (l .left - 1) (a .length) (drop (l .place + n) (a .s .now)))) w
-          ∙ sym (narrow-more (a .s .now) (l .place) (l .left) (a .length) (omega arith) (spare-zero (a .s .now) (l .place) (a .length) fits (λ i. at-shared-slice-known .shared-slice-known .given i .fits) (sym (c .before .spare-bits .ensures) ∙ c .if3 .left))) ∙ l .inv .1,
+          ∙ sym (narrow-more (a .s .now) (l .place) (l .left) (a .length) (omega arith) (spare-zero (a .s .now) (l .place) (a .length) fits (λ i. at-shared-slice-known .shared-slice-known .given i .fits) (sym (c .before .spare-bits .ensures) ∙ c .if4 .left))) ∙ l .inv .1,
     )
 
-returns-4 : tie.Need-returns-4 Inv-loop μ-loop
+returns-5 : tie.Need-returns-5 Inv-loop μ-loop
 unfolding wordsFrom allNarrow
-returns-4 c =
-    let start = c .before .before .before .before .before .before in
+returns-5 c =
+    let start = c .before .before .before .before .before .before .before in
     let l = c .before .loop in
     let z : 0 ≡ l .left = omega arith in
     ap (λ (n : ℕ). allNarrow (start .args .length) (wordsFrom n (start .args .length) (drop (l .place) (start .args .s .now)))) z ∙ l .inv .1
@@ -126,11 +141,13 @@ no-spare-bits-spec =
     returns
     sub-if2
     returns-2
+    mul-if3
+    returns-3
     loop-holds
     spare-bits-requires
-    returns-3
+    returns-4
     add-place
     sub-left
     loop-less
     loop-again
-    returns-4)
+    returns-5)
