@@ -1,1 +1,2 @@
+pub mod Chains
 pub mod Sides

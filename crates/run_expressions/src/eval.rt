@@ -1,4 +1,5 @@
 // What a record of the expressions is worth, from its parts, which stand before it. Only what is needed is worked out.
+use crate::chains;
 use image_records::nodes;
 use image_records::nodes::Node;
 use image_records::record_sizes;
@@ -18,6 +19,7 @@ use run_references::places::Located;
 use run_references::places::Place;
 use run_references::reading;
 use run_references::references;
+use run_references::whole;
 use run_references::worth;
 use run_references::worth::Outcome;
 use run_references::worth::Stuck;
@@ -74,8 +76,8 @@ fn place(section: &[u8], number: u8, s: Subscripts, at: Distance, inside: Distan
     }
 }
 
-// The place that a reference at record n names.
-pub fn place_of(
+// The place that a reference at record n names, its subscripts worked out.
+fn subscripted(
     section: &[u8],
     expressions: &[u8],
     store: &[u8],
@@ -90,6 +92,23 @@ pub fn place_of(
     let second = distances::second(section, number, s, at);
     let inside = distance(section, expressions, store, n, second);
     place(section, number, s, at, inside)
+}
+
+// The place that a reference at record n names; a whole facility, the left side met most, has no subscripts to work out.
+pub fn place_of(
+    section: &[u8],
+    expressions: &[u8],
+    store: &[u8],
+    n: usize,
+    number: u8,
+    s: Subscripts,
+) -> Side
+    ensures { λ r. ⌜ SideRead (now (section .entry)) number r × ForEach (now (section .entry)) (now (expressions .entry)) (now (store .entry)) (λ d x. sideMeant r ≡ placeOf d (evalBelow (bytes d) d x n) (refersTo number s)) ⌝ }
+{
+    match s {
+        Subscripts::Whole => place(section, number, s, Distance::At(0), Distance::At(0)),
+        _ => subscripted(section, expressions, store, n, number, s),
+    }
 }
 
 // The value of what a reference names. It works the subscripts out itself: place_of would stand on the stack once for each subscript in another.
@@ -196,29 +215,36 @@ fn binary(
     }
 }
 
-// A reference, or a record that is no expression.
+// A reference, of which a whole stored facility is read at once, or a record that is no expression.
 fn other(section: &[u8], expressions: &[u8], store: &[u8], n: usize, node: Node) -> Worth
     ensures { λ r. ⌜ ForEach (now (section .entry)) (now (expressions .entry)) (now (store .entry)) (λ d x. answered r ≡ referred (bytes d) d x (evalBelow (bytes d) d x n) (referenceOf (meant 0 node))) ⌝ }
 {
+    let at_once = whole::whole(section, store, node);
+    if at_once.found {
+        let w = at_once.worth;
+        return w;
+    }
     match references::reference_of(node) {
         Reference::To(number, s) => operand(section, expressions, store, n, number, s),
         Reference::None => worth::sticks(Stuck::WrongRecord),
     }
 }
 
-// The worth of record n.
+// The worth of record n: that of the lowest record of the chain that ends there, which alone is worked out by recursion, and up the chain from it. A prefix operator or a cut has its operand's worth in hand, to go on from.
 pub fn eval(section: &[u8], expressions: &[u8], store: &[u8], n: usize) -> Worth
     ensures { λ r. ⌜ ForEach (now (section .entry)) (now (expressions .entry)) (now (store .entry)) (λ d x. answered r ≡ evalAt (bytes d) d x n) ⌝ }
 {
-    let node = nodes::node_at(expressions, n);
-    match node {
-        Node::Constant(_) => worth::is(constants::constant_at(expressions, n)),
-        Node::Binary(k, a, b) => binary(section, expressions, store, n, k, a, b),
-        Node::Prefix(k, a) => worth::prefix(k, part(section, expressions, store, n, a)),
-        Node::Cut(k, a, c) => worth::cut(k, part(section, expressions, store, n, a), c),
-        Node::Choice(e, last, count) => choice(section, expressions, store, n, e, last, count),
-        _ => other(section, expressions, store, n, node),
-    }
+    let m = chains::foot(expressions, n);
+    let node = nodes::node_at(expressions, m);
+    let w = match node {
+        Node::Constant(_) => worth::is(constants::constant_at(expressions, m)),
+        Node::Binary(k, a, b) => binary(section, expressions, store, m, k, a, b),
+        Node::Prefix(_, a) => part(section, expressions, store, m, a),
+        Node::Cut(_, a, _) => part(section, expressions, store, m, a),
+        Node::Choice(e, last, count) => choice(section, expressions, store, m, e, last, count),
+        _ => other(section, expressions, store, m, node),
+    };
+    chains::ended(expressions, m, n, w)
 }
 
 // The worth of a part, which stands before its owner at record n.

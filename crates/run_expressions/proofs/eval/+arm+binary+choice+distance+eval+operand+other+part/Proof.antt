@@ -1,20 +1,26 @@
 use mathlib.Core.List.{List}
+use mathlib.Core.Logic.{⊎-elim}
 use mathlib.Core.Option.{some}
 use mathlib.Core.Path.{_≡_, refl, sym, ap, _∙_}
 use borrow.Author.Tests.{not-false, not-true}
+use types.Run.{miss}
+use Rattle.language.specs.Decode.{nodeOf}
 use Rattle.language.specs.Description as D
 use Rattle.language.specs.Description.{constantValue}
 use Rattle.language.specs.Meaning as M
-use Rattle.language.specs.Meaning.{armBack, evalBelow, evalNode, placeOf}
+use Rattle.language.specs.Meaning.{armBack, evalAt, evalBelow, evalNode, placeOf}
 use Rattle.language.specs.Value as L
 use Rattle.image_records.specs.Nodes.{constantNumber, held}
 use Rattle.image_sections.specs.Declarations.{FacilityRead, facilityMeant}
 use Rattle.store_layout.specs.InBytes.{bytes, loadBytes}
 use Rattle.run_references.specs.Described.{ForEach}
+use Rattle.run_references.specs.Worth.{answered}
 use Rattle.run_references.specs.Places.{foundMeant, placeMeant, refersTo}
 use Rattle.image_records.specs.References.{referenceMeant}
+use Rattle.run_expressions.specs.Chains.{operandOf, operatedOn}
 use Rattle.run_expressions.specs.Sides.{sideMeant}
-use Rattle.run_references.proofs.EvalLaws.{constant-worth, eval-before, eval-node, eval-not-before, held-fitting, node-read, other-worth}
+use Rattle.run_expressions.proofs.ChainLaws.{chain-follows, kept-worth, left-value, operand-worth}
+use Rattle.run_references.proofs.EvalLaws.{constant-worth, eval-before, eval-not-before, held-fitting, node-read, other-worth, others}
 use Rattle.run_references.proofs.PlaceLaws.{computed-read, facility-known, nameOf, place-of-facility, place-there, stored-load, stored-read}
 use Prim.Native.Nat.{ℕ, _+_, _*_, _<_}
 use borrow.Author.Needs.{needs}
@@ -44,6 +50,8 @@ use Rattle.run_expressions.proofs.eval.+arm+binary+choice+distance+eval
 use Rattle.run_expressions.proofs.eval.part.Reads as part
 use Rattle.run_expressions.proofs.eval.part.Kinds as part-kinds
 use Rattle.run_expressions.proofs.eval.+arm+binary+choice+distance+eval+operand+other+part.Lts-part as part-lts
+use Rattle.run_expressions.proofs.chains.ended.Reads as ended-reads
+use Rattle.run_expressions.proofs.chains.foot.Reads as foot-reads
 use Rattle.run_references.proofs.arms.arm_back.Reads as arm-back-reads
 use Rattle.run_references.proofs.arms.arm_number.Reads as arm-number-reads
 use Rattle.run_references.proofs.arms.decides.Reads as decides-reads
@@ -54,10 +62,9 @@ use Rattle.run_references.proofs.places.subscript.Reads as subscript-reads
 use Rattle.run_references.proofs.reading.of_computed.Reads as of-computed-reads
 use Rattle.run_references.proofs.reading.of_stored.Reads as of-stored-reads
 use Rattle.run_references.proofs.references.reference_of.Reads as reference-of-reads
+use Rattle.run_references.proofs.whole.whole.Reads as whole-reads
 use Rattle.run_references.proofs.worth.binary.Reads as binary-reads
-use Rattle.run_references.proofs.worth.cut.Reads as cut-reads
 use Rattle.run_references.proofs.worth.is.Reads as is-reads
-use Rattle.run_references.proofs.worth.prefix.Reads as prefix-reads
 use Rattle.run_references.proofs.worth.sticks.Reads as sticks-reads
 use Rattle.run_references.proofs.worth.stops.Reads as stops-reads
 use Rattle.image_sections.proofs.kinds.is_computed.Reads as is-computed-reads
@@ -153,13 +160,13 @@ abbrev distance-calls : ℕ → distance-lts.Claims
 distance-calls t = (part-below t, part.Post, subscript-reads.Asked, subscript-reads.Learnt)
 
 abbrev eval-calls : ℕ → eval-lts.Claims
-eval-calls t = (node-at-reads.Asked, node-at-reads.Learnt, constant-at-reads.Asked, constant-at-reads.Learnt, is-reads.Asked, is-reads.Learnt, binary-below t, binary.Post, part-below t, part.Post, prefix-reads.Asked, prefix-reads.Learnt, cut-reads.Asked, cut-reads.Learnt, choice-below t, choice.Post, other-below t, other.Post)
+eval-calls t = (foot-reads.Asked, foot-reads.Learnt, node-at-reads.Asked, node-at-reads.Learnt, constant-at-reads.Asked, constant-at-reads.Learnt, is-reads.Asked, is-reads.Learnt, binary-below t, binary.Post, part-below t, part.Post, choice-below t, choice.Post, other-below t, other.Post, ended-reads.Asked, ended-reads.Learnt)
 
 abbrev operand-calls : ℕ → operand-lts.Claims
 operand-calls t = (first-reads.Asked, first-reads.Learnt, distance-below t, distance.Post, second-reads.Asked, second-reads.Learnt, place-reads.Asked, place-reads.Learnt, is-computed-reads.Asked, is-computed-reads.Learnt, part-below t, part.Post, of-computed-reads.Asked, of-computed-reads.Learnt, of-stored-reads.Asked, of-stored-reads.Learnt, stops-reads.Asked, stops-reads.Learnt, sticks-reads.Asked, sticks-reads.Learnt)
 
 abbrev other-calls : ℕ → other-lts.Claims
-other-calls t = (reference-of-reads.Asked, reference-of-reads.Learnt, operand-below t, operand.Post, sticks-reads.Asked, sticks-reads.Learnt)
+other-calls t = (whole-reads.Asked, whole-reads.Learnt, reference-of-reads.Asked, reference-of-reads.Learnt, operand-below t, operand.Post, sticks-reads.Asked, sticks-reads.Learnt)
 
 abbrev part-calls : ℕ → part-lts.Claims
 part-calls t = (eval-below t, eval.Post, sticks-reads.Asked, sticks-reads.Learnt)
@@ -300,6 +307,9 @@ distance-returns-2 : (t : ℕ) → distance-lts.Need-returns-2 (distance-calls t
 distance-returns-2 t c =
     λ d x h e. rw (c .enum-told .given .1) tt
 
+eval-foot-requires : (t : ℕ) → eval-lts.Need-foot-requires (eval-calls t) (eval-at t) eval.Post
+eval-foot-requires t c κs = search needs
+
 eval-node-at-requires : (t : ℕ) → eval-lts.Need-node-at-requires (eval-calls t) (eval-at t) eval.Post
 eval-node-at-requires t c κs = search needs
 
@@ -324,17 +334,11 @@ eval-enum-known-node-2 t c = search needs
 eval-part-requires : (t : ℕ) → eval-lts.Need-part-requires (eval-calls t) (eval-at t) eval.Post
 eval-part-requires t c κs = search needs
 
-eval-prefix-requires : (t : ℕ) → eval-lts.Need-prefix-requires (eval-calls t) (eval-at t) eval.Post
-eval-prefix-requires t c κs = search needs
-
 eval-enum-known-node-3 : (t : ℕ) → eval-lts.Need-enum-known-node-3 (eval-calls t) (eval-at t) eval.Post
 eval-enum-known-node-3 t c = search needs
 
 eval-part-requires-2 : (t : ℕ) → eval-lts.Need-part-requires-2 (eval-calls t) (eval-at t) eval.Post
 eval-part-requires-2 t c κs = search needs
-
-eval-cut-requires : (t : ℕ) → eval-lts.Need-cut-requires (eval-calls t) (eval-at t) eval.Post
-eval-cut-requires t c κs = search needs
 
 eval-enum-known-node-4 : (t : ℕ) → eval-lts.Need-enum-known-node-4 (eval-calls t) (eval-at t) eval.Post
 eval-enum-known-node-4 t c = search needs
@@ -345,50 +349,45 @@ eval-choice-requires t c κs = search needs
 eval-other-requires : (t : ℕ) → eval-lts.Need-other-requires (eval-calls t) (eval-at t) eval.Post
 eval-other-requires t c κs = search needs
 
+eval-ended-requires : (t : ℕ) → eval-lts.Need-ended-requires (eval-calls t) (eval-at t) eval.Post
+eval-ended-requires t c κs = search needs
+
+-- What is in hand for the lowest record of the chain gives that record's worth.
+eval-lowest : (t : ℕ) (c : eval-lts.At-match-came (eval-calls t) (eval-at t) eval.Post)
+    → let a = c .before .before .before .before .before .before .args in
+    let m = c .before .before .foot .result in
+    ForEach (a .section .now) (a .expressions .now) (a .store .now) (λ d x. M.after (answered (c .match .w)) (operatedOn (nodeOf (a .expressions .now) m)) ≡ evalAt (bytes d) d x m)
+unfolding evalNode operandOf operatedOn
+eval-lowest t c d x h e =
+    let E = c .before .before .before .before .before .before .args .expressions .now in
+    let m = c .before .before .foot .result in
+    let k = c .before .node-at in
+    let v = constantNumber m E in
+    ⊎-elim
+    (λ p.
+    let q = node-read d E m (h .nodes) _ (k .ensures) (p .1 .given .1) in
+    let f = h .fit m _ q in
+    kept-worth (bytes d) d x E m _ (h .nodes m) q (λ y. refl) _
+    (ap answered (p .4) ∙ (p .3 .ensures ∙ ap M.Answer.is (p .2 .ensures ∙ (ap (λ (n : D.Node). held (constantValue n)) (sym (h .nodes m) ∙ q) ∙ held-fitting _ (f .0) (f .1))) ∙ sym (constant-worth _ (f .0)))))
+    (⊎-elim
+    (λ p. kept-worth (bytes d) d x E m _ (h .nodes m) (node-read d E m (h .nodes) _ (k .ensures) (p .1 .given .1)) (λ y. refl) _ (ap answered (p .4) ∙ p .3 .ensures d x h e))
+    (⊎-elim
+    (λ p. operand-worth (bytes d) d x E m _ (h .nodes m) (node-read d E m (h .nodes) _ (k .ensures) (p .1 .given .1)) _ refl _ (ap answered (p .4) ∙ p .3 .ensures d x h e))
+    (⊎-elim
+    (λ p. operand-worth (bytes d) d x E m _ (h .nodes m) (node-read d E m (h .nodes) _ (k .ensures) (p .1 .given .1)) _ refl _ (ap answered (p .4) ∙ p .3 .ensures d x h e))
+    (⊎-elim
+    (λ p. kept-worth (bytes d) d x E m _ (h .nodes m) (node-read d E m (h .nodes) _ (k .ensures) (p .1 .given .1)) (λ y. refl) _ (ap answered (p .4) ∙ p .3 .ensures d x h e))
+    (λ p.
+    kept-worth (bytes d) d x E m _ (h .nodes m) (node-read d E m (h .nodes) {r = k .result} (k .result) (k .ensures) refl) (left-value others (miss others 8 tt) (miss others 9 tt) v (k .result) (p .0 .keys6)) _
+    (ap answered (p .2) ∙ (p .1 .ensures d x h e ∙ sym (other-worth (bytes d) d x v (evalBelow (bytes d) d x m) (k .result) (p .0 .keys6)))))))))
+    (c .match .came)
+
 eval-returns : (t : ℕ) → eval-lts.Need-returns (eval-calls t) (eval-at t) eval.Post
-unfolding evalNode
 eval-returns t c =
     λ d x h e.
-    let a = c .before .before .before .before .before .before .before .before .args in
-    let q = node-read d (a .expressions .now) (a .n) (h .nodes) _ (c .before .before .before .before .node-at .ensures) (c .before .before .enum-told .given .1) in
-    let v = sym (h .nodes (a .n)) ∙ q in
-    let f = h .fit (a .n) _ q in
-    c .is .ensures ∙ ap M.Answer.is (c .before .constant-at .ensures ∙ (ap (λ (m : D.Node). held (constantValue m)) v ∙ held-fitting _ (f .0) (f .1))) ∙ sym (constant-worth _ (f .0)) ∙ sym (eval-node (bytes d) d x (a .n) _ q)
-
-eval-returns-2 : (t : ℕ) → eval-lts.Need-returns-2 (eval-calls t) (eval-at t) eval.Post
-unfolding evalNode
-eval-returns-2 t c =
-    λ d x h e.
-    let a = c .before .before .before .before .before .before .before .before .args in
-    c .binary .ensures d x h e ∙ sym (eval-node (bytes d) d x (a .n) _ (node-read d (a .expressions .now) (a .n) (h .nodes) _ (c .before .before .before .before .node-at .ensures) (c .before .before .node .given .1)))
-
-eval-returns-3 : (t : ℕ) → eval-lts.Need-returns-3 (eval-calls t) (eval-at t) eval.Post
-unfolding evalNode
-eval-returns-3 t c =
-    λ d x h e.
-    let a = c .before .before .before .before .before .before .before .before .before .args in
-    c .prefix .ensures ∙ (rw (c .before .part .ensures d x h e) refl ∙ sym (eval-node (bytes d) d x (a .n) _ (node-read d (a .expressions .now) (a .n) (h .nodes) _ (c .before .before .before .before .before .node-at .ensures) (c .before .before .before .node2 .given .1))))
-
-eval-returns-4 : (t : ℕ) → eval-lts.Need-returns-4 (eval-calls t) (eval-at t) eval.Post
-unfolding evalNode
-eval-returns-4 t c =
-    λ d x h e.
-    let a = c .before .before .before .before .before .before .before .before .before .args in
-    c .cut .ensures ∙ (rw (c .before .part2 .ensures d x h e) refl ∙ sym (eval-node (bytes d) d x (a .n) _ (node-read d (a .expressions .now) (a .n) (h .nodes) _ (c .before .before .before .before .before .node-at .ensures) (c .before .before .before .node3 .given .1))))
-
-eval-returns-5 : (t : ℕ) → eval-lts.Need-returns-5 (eval-calls t) (eval-at t) eval.Post
-unfolding evalNode
-eval-returns-5 t c =
-    λ d x h e.
-    let a = c .before .before .before .before .before .before .before .before .args in
-    c .choice .ensures d x h e ∙ sym (eval-node (bytes d) d x (a .n) _ (node-read d (a .expressions .now) (a .n) (h .nodes) _ (c .before .before .before .before .node-at .ensures) (c .before .before .node4 .given .1)))
-
-eval-returns-6 : (t : ℕ) → eval-lts.Need-returns-6 (eval-calls t) (eval-at t) eval.Post
-eval-returns-6 t c =
-    λ d x h e.
-    let a = c .before .before .before .before .before .before .args in
-    let v = constantNumber (a .n) (a .expressions .now) in
-    c .other .ensures d x h e ∙ (sym (other-worth (bytes d) d x v (evalBelow (bytes d) d x (a .n)) (c .before .before .node-at .result) (c .before .match .keys6)) ∙ sym (eval-node (bytes d) d x (a .n) _ (node-read d (a .expressions .now) (a .n) (h .nodes) {r = c .before .before .node-at .result} (c .before .before .node-at .result) (c .before .before .node-at .ensures) refl)))
+    let a = c .before .before .before .before .before .before .before .args in
+    let f = c .before .before .before .foot in
+    c .ended .ensures (evalAt (bytes d) d x) (f .ensures .0) (chain-follows (bytes d) d x (a .expressions .now) (f .result) (a .n) (h .nodes) (f .ensures .1)) (eval-lowest t (c .before) d x h e)
 
 -- The place found by the subscripts' distances is the reference's.
 operand-side : (t : ℕ) (c : operand-lts.After-place (operand-calls t) (operand-at t) operand.Post)
@@ -478,6 +477,15 @@ operand-returns-4 : (t : ℕ) → operand-lts.Need-returns-4 (operand-calls t) (
 operand-returns-4 t c =
     λ d x h e. rw (sym (operand-side t (c .before .before .before .before) d x h e) ∙ ap sideMeant (c .before .before .k2 .given .1)) (c .sticks .ensures)
 
+other-whole-requires : (t : ℕ) → other-lts.Need-whole-requires (other-calls t) (other-at t) other.Post
+other-whole-requires t c κs = search needs
+
+other-returns : (t : ℕ) → other-lts.Need-returns (other-calls t) (other-at t) other.Post
+other-returns t c =
+    λ d x h e.
+    let a = c .before .before .before .before .before .before .args in
+    c .before .before .whole .ensures (a .expressions .now) d x h e (evalBelow (bytes d) d x (a .n)) 0 (c .before .if1 .taken)
+
 other-reference-of-requires : (t : ℕ) → other-lts.Need-reference-of-requires (other-calls t) (other-at t) other.Post
 other-reference-of-requires t c κs = search needs
 
@@ -493,12 +501,12 @@ other-enum-told t c = search needs
 other-sticks-requires : (t : ℕ) → other-lts.Need-sticks-requires (other-calls t) (other-at t) other.Post
 other-sticks-requires t c κs = search needs
 
-other-returns : (t : ℕ) → other-lts.Need-returns (other-calls t) (other-at t) other.Post
-other-returns t c =
-    λ d x h e. rw (sym (c .before .before .before .before .reference-of .ensures 0) ∙ ap referenceMeant (c .before .before .number .given .1)) (c .operand .ensures d x h e)
-
 other-returns-2 : (t : ℕ) → other-lts.Need-returns-2 (other-calls t) (other-at t) other.Post
 other-returns-2 t c =
+    λ d x h e. rw (sym (c .before .before .before .before .reference-of .ensures 0) ∙ ap referenceMeant (c .before .before .number .given .1)) (c .operand .ensures d x h e)
+
+other-returns-3 : (t : ℕ) → other-lts.Need-returns-3 (other-calls t) (other-at t) other.Post
+other-returns-3 t c =
     λ d x h e. rw (sym (c .before .before .before .reference-of .ensures 0) ∙ ap referenceMeant (c .before .enum-told .given .1)) (c .sticks .ensures)
 
 part-eval-requires : (t : ℕ) → part-lts.Need-eval-requires (part-calls t) (part-at t) part.Post
@@ -572,6 +580,7 @@ pub +arm+binary+choice+distance+eval+operand+other+part-spec : {M : Type 1} → 
     (λ t. eval-lts.spec (eval-calls t)
     (eval-at t)
     eval.Post
+    (eval-foot-requires t)
     (eval-node-at-requires t)
     (eval-enum-told t)
     (eval-constant-at-requires t)
@@ -580,19 +589,13 @@ pub +arm+binary+choice+distance+eval+operand+other+part-spec : {M : Type 1} → 
     (eval-binary-requires t)
     (eval-enum-known-node-2 t)
     (eval-part-requires t)
-    (eval-prefix-requires t)
     (eval-enum-known-node-3 t)
     (eval-part-requires-2 t)
-    (eval-cut-requires t)
     (eval-enum-known-node-4 t)
     (eval-choice-requires t)
     (eval-other-requires t)
-    (eval-returns t)
-    (eval-returns-2 t)
-    (eval-returns-3 t)
-    (eval-returns-4 t)
-    (eval-returns-5 t)
-    (eval-returns-6 t))
+    (eval-ended-requires t)
+    (eval-returns t))
     (λ t. operand-lts.spec (operand-calls t)
     (operand-at t)
     operand.Post
@@ -617,13 +620,15 @@ pub +arm+binary+choice+distance+eval+operand+other+part-spec : {M : Type 1} → 
     (λ t. other-lts.spec (other-calls t)
     (other-at t)
     other.Post
+    (other-whole-requires t)
+    (other-returns t)
     (other-reference-of-requires t)
     (other-enum-known-number t)
     (other-operand-requires t)
     (other-enum-told t)
     (other-sticks-requires t)
-    (other-returns t)
-    (other-returns-2 t))
+    (other-returns-2 t)
+    (other-returns-3 t))
     λ t. part-lts.spec (part-calls t)
     (part-at t)
     part.Post
