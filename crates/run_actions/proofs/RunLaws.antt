@@ -8,7 +8,7 @@ use native.Mathlib.Omega.{arith}
 use borrow.Author.Tests.{le-leb, lt-leb, ne-eqb}
 use denote.Enum.Declared.{tagOf}
 use types.Run.{OneOf, miss}
-use lib.Dec.{eqb}
+use lib.Dec.{eqb, leb}
 use Rattle.language.specs.Acting as T
 use Rattle.language.specs.Description as D
 use Rattle.language.specs.Description.{Description, actionAt, operationAt}
@@ -26,7 +26,8 @@ use Rattle.run_stores.proofs.doing.Did.{the-type as did-type}
 use Rattle.run_stores.specs.Seen.{Ran, View, did, ranSeen, seen, stopped, stuck, went}
 use Rattle.run_stores.specs.declared.doing.Did.{Did}
 use Rattle.run_stores.specs.declared.doing.Did.the-variants as G
-use Rattle.run_actions.specs.Acts.{armDone, chooseDone, chosenDone, oneDone, passedOf, runOf, simpleDone, whenDone}
+use Rattle.run_actions.specs.Acts.{Stands, armDone, chooseDone, chosenDone, oneDone, overDone, passedOf, runBelow, runOf, simpleDone, whenDone}
+use Rattle.run_actions.specs.declared.reach.Held.{Held}
 
 -- ---- Lists.
 
@@ -159,28 +160,35 @@ gone (T.went c) v e = record { doing = c; is = refl; seen = cc }
 gone (T.stopped n) v e = absurd (let z : _≡_ {A = ℕ} 0 1 = cc in omega arith)
 gone (T.stuck s) v e = absurd (let z : _≡_ {A = ℕ} 0 1 = cc in omega arith)
 
-pub stays-stopped : (r : T.Ran InBytes) (on : T.Doing InBytes → T.Ran InBytes) (n : Stop) → stopped n ≡ ranSeen r → stopped n ≡ ranSeen (T.onward r on)
+stays-stopped : (r : T.Ran InBytes) (on : T.Doing InBytes → T.Ran InBytes) (n : Stop) → stopped n ≡ ranSeen r → stopped n ≡ ranSeen (T.onward r on)
 stays-stopped (T.went c) on n e = absurd (let z : _≡_ {A = ℕ} 0 1 = cc in omega arith)
 stays-stopped (T.stopped m) on n e = e
 stays-stopped (T.stuck s) on n e = e
 
-pub stays-stuck : (r : T.Ran InBytes) (on : T.Doing InBytes → T.Ran InBytes) (s : M.Stuck) → stuck s ≡ ranSeen r → stuck s ≡ ranSeen (T.onward r on)
+stays-stuck : (r : T.Ran InBytes) (on : T.Doing InBytes → T.Ran InBytes) (s : M.Stuck) → stuck s ≡ ranSeen r → stuck s ≡ ranSeen (T.onward r on)
 stays-stuck (T.went c) on s e = absurd (let z : _≡_ {A = ℕ} 0 1 = cc in omega arith)
 stays-stuck (T.stopped m) on s e = e
 stays-stuck (T.stuck t) on s e = e
+
+-- What stops or is stuck stays so, whatever was to follow.
+stays : (r : Did) (B P M : List ℕ) (x : T.Ran InBytes) (on : T.Doing InBytes → T.Ran InBytes) → OneOf (1 ∷ 2 ∷ []) (tagOf did-type r) → did r B P M ≡ ranSeen x
+    → did r B P M ≡ ranSeen (T.onward x on)
+stays (G.Went g) B P M x on o f = absurd (miss (1 ∷ 2 ∷ []) 0 tt o)
+stays (G.Stopped n) B P M x on o f = stays-stopped x on n f
+stays (G.Stuck s) B P M x on o f = stays-stuck x on (stuckMeant s) f
 
 -- ---- A list's records one after another: what is left gives the same as the whole.
 
 abbrev performs : Description → ℕ → ℕ → T.Doing InBytes → T.Ran InBytes
 performs d limit = T.operationBelow (bytes d) d limit
 
--- From a doing that is seen as v, `left` records from i on do what the whole list did from c.
-pub record Continues (d : Description) (limit first count : ℕ) (c : T.Doing InBytes) (v : View) (i left : ℕ) : Type 0 where
+-- From a doing that is seen as v, `left` records from i on come to w.
+pub record Continues (d : Description) (limit : ℕ) (w : Ran) (v : View) (i left : ℕ) : Type 0 where
   pub doing : T.Doing InBytes
   pub seen : v ≡ seen doing
-  pub rest : ranSeen (T.runList (bytes d) d (performs d limit) (runOf i left) doing) ≡ ranSeen (T.runList (bytes d) d (performs d limit) (runOf first count) c)
+  pub rest : ranSeen (runBelow d limit (runOf i left) doing) ≡ w
 
-module _ (d : Description) (limit first count : ℕ) (c : T.Doing InBytes) (v : View) (i m left : ℕ) (e : left ≡ suc m) (k : Continues d limit first count c v i left) where
+module _ (d : Description) (limit : ℕ) (w : Ran) (v : View) (i m left : ℕ) (e : left ≡ suc m) (k : Continues d limit w v i left) where
   abbrev ahead : ℕ → ℕ → T.Doing InBytes → T.Ran InBytes
   ahead = T.listBelow (bytes d) d (performs d limit) (suc m)
 
@@ -188,40 +196,49 @@ module _ (d : Description) (limit first count : ℕ) (c : T.Doing InBytes) (v : 
   acted a = oneDone (bytes d) d (performs d limit) ahead i a (k .doing)
 
   -- A number that names no record.
-  pub past-all : actionAt d i ≡ D.Action.broken → stuck M.wrongRecord ≡ ranSeen (T.runList (bytes d) d (performs d limit) (runOf first count) c)
+  pub past-all : actionAt d i ≡ D.Action.broken → stuck M.wrongRecord ≡ w
   unfolding T.listAct
   past-all b =
       ap ranSeen (sym (run-some (bytes d) d (performs d limit) m i (k .doing) ∙ ap (λ (y : D.Action). T.listAct (bytes d) d (performs d limit) ahead m i y (k .doing)) b))
-      ∙ (ap (λ (n : ℕ). ranSeen (T.runList (bytes d) d (performs d limit) (runOf i n) (k .doing))) (sym e) ∙ k .rest)
+      ∙ (ap (λ (n : ℕ). ranSeen (runBelow d limit (runOf i n) (k .doing))) (sym e) ∙ k .rest)
 
   module _ (a : Action) (q : actionAt d i ≡ meant a) where
-    onwards : T.runList (bytes d) d (performs d limit) (runOf i left) (k .doing) ≡ T.onward (acted (meant a)) (T.passing (bytes d) d (performs d limit) ahead m i (passedOf a))
+    onwards : runBelow d limit (runOf i left) (k .doing) ≡ T.onward (acted (meant a)) (T.passing (bytes d) d (performs d limit) ahead m i (passedOf a))
     onwards =
-        ap (λ (n : ℕ). T.runList (bytes d) d (performs d limit) (runOf i n) (k .doing)) e
+        ap (λ (n : ℕ). runBelow d limit (runOf i n) (k .doing)) e
         ∙ (run-some (bytes d) d (performs d limit) m i (k .doing)
         ∙ (ap (λ (y : D.Action). T.listAct (bytes d) d (performs d limit) ahead m i y (k .doing)) q ∙ act-passes (bytes d) d (performs d limit) ahead m i a (k .doing)))
 
     -- An action that stops or is stuck ends the list.
-    pub ends : (r : Did) (B P M : List ℕ) → OneOf (1 ∷ 2 ∷ []) (tagOf did-type r) → did r B P M ≡ ranSeen (acted (meant a))
-        → did r B P M ≡ ranSeen (T.runList (bytes d) d (performs d limit) (runOf first count) c)
-    ends (G.Went g) B P M o f = absurd (miss (1 ∷ 2 ∷ []) 0 tt o)
-    ends (G.Stopped n) B P M o f =
-        stays-stopped (acted (meant a)) (T.passing (bytes d) d (performs d limit) ahead m i (passedOf a)) n f ∙ (ap ranSeen (sym onwards) ∙ k .rest)
-    ends (G.Stuck s) B P M o f =
-        stays-stuck (acted (meant a)) (T.passing (bytes d) d (performs d limit) ahead m i (passedOf a)) (stuckMeant s) f ∙ (ap ranSeen (sym onwards) ∙ k .rest)
+    pub ends : (r : Did) (B P M : List ℕ) → OneOf (1 ∷ 2 ∷ []) (tagOf did-type r) → did r B P M ≡ ranSeen (acted (meant a)) → did r B P M ≡ w
+    ends r B P M o f = stays r B P M (acted (meant a)) (T.passing (bytes d) d (performs d limit) ahead m i (passedOf a)) o f ∙ (ap ranSeen (sym onwards) ∙ k .rest)
 
-    module _ (w : View) (f : went w ≡ ranSeen (acted (meant a))) where
-      after : Gone (acted (meant a)) w
-      after = gone (acted (meant a)) w f
+    -- A list that the action comes to is executed first, and then what follows the action.
+    pub goes-inside : (below first count over : ℕ) → over ≡ passedOf a → runBelow d below (runOf first count) (k .doing) ≡ acted (meant a)
+        → ranSeen (T.onward (runBelow d below (runOf first count) (k .doing)) (overDone d limit (i + 1) m over)) ≡ w
+    goes-inside below first count over o f =
+        ap (λ (r : T.Ran InBytes). ranSeen (T.onward r (overDone d limit (i + 1) m over))) f
+        ∙ (ap (λ (x : ℕ). ranSeen (T.onward (acted (meant a)) (overDone d limit (i + 1) m x))) o
+        ∙ (ap ranSeen (on-same (bytes d) d (performs d limit) ahead m i (acted (meant a)) (overDone d limit (i + 1) m (passedOf a)) (T.passing (bytes d) d (performs d limit) ahead m i (passedOf a)) over-passes)
+        ∙ (ap ranSeen (sym onwards) ∙ k .rest)))
+      where
+        over-passes : (c : T.Doing InBytes) → overDone d limit (i + 1) m (passedOf a) c ≡ T.passing (bytes d) d (performs d limit) ahead m i (passedOf a) c
+        over-passes c =
+            ap (λ (r : T.Ran InBytes). cond (leb (passedOf a) m) r (T.stuck M.runsOver))
+            (sym (run-below (bytes d) d (performs d limit) (suc m) (m - passedOf a) (i + 1 + passedOf a) c (omega arith)))
 
-      goes-on : T.runList (bytes d) d (performs d limit) (runOf i left) (k .doing) ≡ T.passing (bytes d) d (performs d limit) ahead m i (passedOf a) (after .doing)
+    module _ (u : View) (f : went u ≡ ranSeen (acted (meant a))) where
+      after : Gone (acted (meant a)) u
+      after = gone (acted (meant a)) u f
+
+      goes-on : runBelow d limit (runOf i left) (k .doing) ≡ T.passing (bytes d) d (performs d limit) ahead m i (passedOf a) (after .doing)
       goes-on = onwards ∙ ap (λ (r : T.Ran InBytes). T.onward r (T.passing (bytes d) d (performs d limit) ahead m i (passedOf a))) (after .is)
 
       -- It passes over more records than there are.
-      pub runs-over : m < passedOf a → stuck M.runsOver ≡ ranSeen (T.runList (bytes d) d (performs d limit) (runOf first count) c)
+      pub runs-over : m < passedOf a → stuck M.runsOver ≡ w
       runs-over h = ap ranSeen (sym (goes-on ∙ passes-over (bytes d) d (performs d limit) ahead m i (passedOf a) (after .doing) h)) ∙ k .rest
 
-      pub continues : passedOf a ≤ m → Continues d limit first count c w (i + 1 + passedOf a) (m - passedOf a)
+      pub continues : passedOf a ≤ m → Continues d limit w u (i + 1 + passedOf a) (m - passedOf a)
       continues h = record {
         doing = after .doing;
         seen = after .seen;
@@ -231,4 +248,35 @@ module _ (d : Description) (limit first count : ℕ) (c : T.Doing InBytes) (v : 
             ∙ (passes (bytes d) d (performs d limit) ahead m i (passedOf a) (after .doing) h
             ∙ run-below (bytes d) d (performs d limit) (suc m) (m - passedOf a) (i + 1 + passedOf a) (after .doing) (omega arith))))
             ∙ k .rest;
+      }
+
+-- Where none are passed over, the whole list.
+pub over-none : (d : Description) (limit first count : ℕ) (c : T.Doing InBytes) → overDone d limit first count 0 c ≡ runBelow d limit (runOf first count) c
+over-none d limit first count c =
+    let e : count - 0 ≡ count = omega arith in
+    let f : first + 0 ≡ first = omega arith in
+    rw (le-leb 0 count (omega arith), e, f) refl
+
+-- ---- After the list that an action holds.
+
+-- From a doing that is seen as v, the records after the action come to w.
+pub record HeldDone (d : Description) (limit : ℕ) (s : Held) (v : View) (w : Ran) : Type 0 where
+  pub doing : T.Doing InBytes
+  pub seen : v ≡ seen doing
+  pub rest : ranSeen (overDone d limit (s .at) (s .left) (s .over) doing) ≡ w
+
+module _ (d : Description) (limit : ℕ) (s : Held) (v : View) (w : Ran) (k : Stands d limit s v w) where
+  abbrev within : T.Ran InBytes
+  within = runBelow d (s .below) (runOf (s .first) (s .count)) (k .doing)
+
+  pub held-ends : (r : Did) (B P M : List ℕ) → OneOf (1 ∷ 2 ∷ []) (tagOf did-type r) → did r B P M ≡ ranSeen within → did r B P M ≡ w
+  held-ends r B P M o f = stays r B P M within (overDone d limit (s .at) (s .left) (s .over)) o f ∙ k .rest
+
+  pub held-goes-on : (u : View) → went u ≡ ranSeen within → HeldDone d limit s u w
+  held-goes-on u f =
+      let g = gone within u f in
+      record {
+        doing = g .doing;
+        seen = g .seen;
+        rest = ap (λ (r : T.Ran InBytes). ranSeen (T.onward r (overDone d limit (s .at) (s .left) (s .over)))) (sym (g .is)) ∙ k .rest;
       }

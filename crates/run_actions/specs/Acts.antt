@@ -3,8 +3,8 @@ use mathlib.Core.Bool.{cond}
 use mathlib.Core.List.{List}
 use mathlib.Core.Option.{Option, none, some}
 use mathlib.Core.Path.{_≡_}
-use Prim.Native.Nat.{ℕ, _+_, _-_, _/_, _<_}
-use lib.Dec.{eqb}
+use Prim.Native.Nat.{ℕ, suc, _+_, _-_, _*_, _/_, _^_, _≤_, _<_}
+use lib.Dec.{eqb, leb}
 use lib.ListN.{length}
 use Rattle.language.specs.Acting as T
 use Rattle.language.specs.Decode.{actionOf}
@@ -21,10 +21,19 @@ use Rattle.language.specs.Encode.{actionSize}
 use Rattle.run_references.specs.Described.{Describes}
 use Rattle.run_references.specs.declared.arms.Found.{Found}
 use Rattle.run_references.specs.declared.arms.Found.the-variants as F
-use Rattle.store_layout.specs.InBytes.{InBytes}
-use Rattle.run_stores.specs.Seen.{View, seen}
+use Rattle.run_references.specs.Worth.{stuckMeant}
+use Rattle.store_layout.specs.InBytes.{InBytes, bytes}
+use Rattle.run_stores.specs.Seen.{Ran, View, did, ranSeen, seen, viewed}
+use Rattle.run_stores.specs.declared.doing.Doing.{Doing}
 use Rattle.run_actions.specs.declared.arms.Arm.{Arm}
 use Rattle.run_actions.specs.declared.arms.Arm.the-variants as R
+use Rattle.run_actions.specs.declared.reach.Came.{Came}
+use Rattle.run_actions.specs.declared.reach.Came.the-variants as C
+use Rattle.run_actions.specs.declared.reach.Held.{Held}
+use Rattle.run_actions.specs.declared.reach.Reached.{Reached}
+use Rattle.run_actions.specs.declared.reach.Reached.the-variants as H
+use Rattle.run_actions.specs.declared.ways.Way.{Way}
+use Rattle.run_actions.specs.declared.ways.Way.the-variants as W
 
 -- ---- Sections.
 
@@ -121,3 +130,61 @@ module _ {X : Type 0} (S : M.Stores X) (d : Description) (perform : ℕ → T.Do
   oneDone i (D.choose e n x) c = T.onValue (M.evalAt S d (c .store) e) (λ v. chooseDone n i x v c)
   oneDone i (D.arm x) c = T.stuck M.wrongRecord
   oneDone i D.Action.broken c = T.stuck M.wrongRecord
+
+-- ---- Lists that actions hold, with the operations below a number.
+
+abbrev pub runBelow : Description → ℕ → D.Run → T.Doing InBytes → T.Ran InBytes
+runBelow d limit r c = T.runList (bytes d) d (T.operationBelow (bytes d) d limit) r c
+
+-- Of a list's records so many are passed over.
+abbrev pub overDone : Description → ℕ → ℕ → ℕ → ℕ → T.Doing InBytes → T.Ran InBytes
+overDone d limit first count over c = cond (leb over count) (runBelow d limit (runOf (first + over) (count - over)) c) (T.stuck M.runsOver)
+
+abbrev pub wayDone : Description → Way → T.Doing InBytes → T.Ran InBytes
+wayDone d (W.Into below i k) c = runBelow d below (runOf i k) c
+wayDone d W.Past c = T.went c
+wayDone d (W.Stopped n) c = T.stopped n
+wayDone d (W.Stuck s) c = T.stuck (stuckMeant s)
+
+-- An action comes to this: it is done, or it comes to it by a list that is still to be executed from where the action stood.
+abbrev pub Comes : Description → Doing → T.Doing InBytes → Came → List ℕ → List ℕ → List ℕ → T.Ran InBytes → Type 0
+Comes d g c (C.Into below i k) B P M r = (viewed g B P M ≡ seen c) × (runBelow d below (runOf i k) c ≡ r)
+Comes d g c (C.Done did-it) B P M r = did did-it B P M ≡ ranSeen r
+
+-- The list held, and then the records after the action.
+abbrev pub restOf : Description → ℕ → Held → T.Doing InBytes → T.Ran InBytes
+restOf d limit s c = T.onward (runBelow d (s .below) (runOf (s .first) (s .count)) c) (overDone d limit (s .at) (s .left) (s .over))
+
+-- From a doing that is seen as v, what is left comes to w.
+pub record Stands (d : Description) (limit : ℕ) (s : Held) (v : View) (w : Ran) : Type 0 where
+  pub doing : T.Doing InBytes
+  pub seen : v ≡ seen doing
+  pub rest : ranSeen (restOf d limit s doing) ≡ w
+
+abbrev pub Reaches : Description → ℕ → Reached → List ℕ → List ℕ → List ℕ → Ran → Type 0
+Reaches d limit (H.Inside s) B P M w = Stands d limit s (viewed (s .doing) B P M) w
+Reaches d limit (H.Ended r) B P M w = did r B P M ≡ w
+
+-- ---- How many operations may still be named, and then how many records are left: this number falls.
+
+abbrev pub rank : ℕ → ℕ → ℕ
+rank limit left = 65536 * limit + left
+
+abbrev pub WayFalls : ℕ → ℕ → Way → Type 0
+WayFalls limit m (W.Into below i k) = rank below k ≤ rank limit m
+WayFalls limit m W.Past = Unit {0}
+WayFalls limit m (W.Stopped n) = Unit {0}
+WayFalls limit m (W.Stuck s) = Unit {0}
+
+abbrev pub CameFalls : ℕ → ℕ → Came → Type 0
+CameFalls limit m (C.Into below i k) = rank below k ≤ rank limit m
+CameFalls limit m (C.Done r) = Unit {0}
+
+-- The number of the record after those passed over is one of 64 bits.
+abbrev pub HeldFalls : ℕ → Reached → Type 0
+HeldFalls limit (H.Inside s) = (rank (s .below) (s .count) ≤ rank limit (s .left)) × (s .at + s .over < 2 ^ 64)
+HeldFalls limit (H.Ended r) = Unit {0}
+
+abbrev pub leftOf : Reached → ℕ
+leftOf (H.Inside s) = suc (s .left)
+leftOf (H.Ended r) = 0
