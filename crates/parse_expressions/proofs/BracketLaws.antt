@@ -5,6 +5,7 @@ use mathlib.Core.Path.{_≡_, refl, sym, ap, _∙_, subst}
 use Prim.Native.Nat.{ℕ, _+_, _-_}
 use native.Mathlib.Omega.{arith}
 use borrow.Author.Tests.{eq-eqb}
+use Rattle.about_grammar.specs.Following.{among}
 use Rattle.language.specs.Building.{Built, expressionNo, keepWord, wordNo}
 use Rattle.language.specs.Declaring.{treeSteps}
 use Rattle.language.specs.Describe.{constantNodes, constantSize, expressionSize, lastOf, nodesOf, noted}
@@ -29,20 +30,25 @@ use Rattle.parse_step.specs.declared.Bearing.the-variants.{Closes, Level, Opens
 use Rattle.parse_step.specs.declared.State.{State}
 use Rattle.parse_step.specs.declared.ReadVerdict.the-variants.{Done}
 use Rattle.parse_step.specs.Course.{Seen, Stack, ahead, countsOf, kindNo, runs, runsOn}
-use Rattle.parse_step.specs.Says.{Extends, Here, Parses, Pending, Says, pushed}
+use Rattle.parse_step.specs.Says.{Extends, Here, Parses, Says, pushed}
 use Rattle.parse_step.specs.Taken.{Expected, Follows, Took, afterWord, constantWord, endsAhead}
 use Rattle.parse_step.proofs.Saying.{here-passed, made, makes-it, not-expected, not-taken, passed, pending-kept, through}
 use Rattle.parse_step.proofs.TakenWords.{ends-come, onTaken, took-done}
+use Rattle.parse_levels.specs.declared.Lead.{Lead}
+use Rattle.parse_levels.specs.declared.Lead.the-variants as H
+use Rattle.parse_levels.specs.declared.Level as Lv
 use Rattle.parse_levels.specs.declared.Level.the-variants.{Expression as Whole}
+use Rattle.parse_levels.specs.declared.Rank.{Rank}
 use Rattle.parse_levels.specs.declared.Rank.the-variants.{Sum}
-use Rattle.parse_levels.specs.Orders.{stackOf, tailsFrom}
+use Rattle.parse_levels.specs.Orders.{headOf, rankAfter, stackOf, tailsFrom}
 use Rattle.parse_operands.specs.Brackets.{bracketAsk, bracketEnd, bracketRest, bracketWaits}
 use Rattle.parse_operands.specs.Ended.{Counting, oneMore}
 use Rattle.parse_operands.specs.References.{Adds, lettersOf}
 use Rattle.parse_operands.proofs.BracketWords.{close-follows, comma-follows, constant-first, constant-operand, expression-first, rest-tails, second-closes}
 use Rattle.parse_operands.proofs.TermWords.{no-second, second-opens}
-use Rattle.parse_expressions.specs.Phrases.{Inside, Second, afterName, atNesting, same}
-use Rattle.parse_expressions.proofs.StartLaws.{at-same}
+use Rattle.parse_expressions.specs.Phrases as P
+use Rattle.parse_expressions.specs.Phrases.{Begins, Inside, Keeps, Leads, Second, afterName, atNesting, same}
+use Rattle.parse_expressions.proofs.StartLaws.{at-same, start-not, start-says}
 
 -- An answer behind a course, with a stack below that it leaves.
 framed : {text : List ℕ} {sc : Scope} {P Q : Stack} {pre : Built → Built} {h : Held} {base depth : ℕ} {w : Word} {s : State} {r : Answer} {work : List ℕ} {P₁ : Stack} {pre₁ : Built → Built} {w₁ : Word} {s₁ : State}
@@ -60,8 +66,8 @@ module _ {text : List ℕ} {w : Word} {s : State} {work : List ℕ} (later : Boo
   inside-expression n y sc h e = framed (y sc h) (λ K b. expression-first text w (h .seen) b (countsOf s) n later K)
 
   module _ (k : kindNo (w .kind) ≡ aConstant) {t : Answer} (x : Took text w (afterWord false Level s) s t) where
-    pub inside-not : {work′ : List ℕ} → (t .verdict ≡ Done → ⊥) → Inside later text w s work work′ t
-    inside-not n sc h e = not-taken x n (λ K. ask (bracketWaits later) ∷ ask (bracketRest later) ∷ K) (keepWord (constantWord w)) (λ K b. constant-first text w (h .seen) b (countsOf s) k later K)
+    pub keep-not : {work′ : List ℕ} → (t .verdict ≡ Done → ⊥) → Keeps later text w s work work′ t
+    keep-not n sc h e = not-taken x n (λ K. ask (bracketWaits later) ∷ ask (bracketRest later) ∷ K) (keepWord (constantWord w)) (λ K b. constant-first text w (h .seen) b (countsOf s) k later K)
 
     module _ (d₁ : t .verdict ≡ Done) {work₁ : List ℕ} {c : Answer} (y : Counting w (t .next) (t .state) work work₁ c) where
       abbrev counts : Counts
@@ -81,37 +87,69 @@ module _ {text : List ℕ} {w : Word} {s : State} {work : List ℕ} (later : Boo
           constant-first text w (h .seen) b (countsOf s) k later K ∙ took-done p (h .seen) (ask (bracketWaits later) ∷ ask (bracketRest later) ∷ K) (keepWord (constantWord w) b)
           ∙ constant-operand text (t .next) (p .seen) (written (w .bare) (valued (w .value))) (positioned (w .at)) b (countsOf (t .state)) (no-colon (h .seen) e) later K
 
-      pub counted-not : (c .verdict ≡ Done → ⊥) → Inside later text w s work work₁ c
-      counted-not n sc h e = record {
-        done = λ d. absurd (n d);
+      -- No colon follows, so that the constant counts, and the operators of an expression may come.
+      pub keep-says : Keeps later text w s work work₁ c
+      unfolding nodesOf expressionSize held
+      keep-says sc h e = record {
+        done = λ d.
+            let p = x .done d₁ in
+            let v = y .done d .1 in
+            let q = v .state d in
+            let m : t .state .nesting ≡ s .nesting = ap (λ (k : Counts). k .nesting) (p .counts) in
+            let u = T.constant (written (w .bare) (valued (w .value))) (positioned (w .at)) in
+            let o : otherIn work₁ ≡ otherIn work = ap (λ (a : Held). a .other) (v .held d) ∙ nodes-other (held (t .state .nodes) work) (constantNodes (valued (w .value)) (positioned (w .at))) in
+            let g : (K : Stack) (b : Built) → runs text (ask (bracketAsk later) ∷ K) w b s ≡ runs text (tailsFrom Sum Whole ++ (ask (bracketEnd later) ∷ K)) (c .next) (pushed u b) (c .state) =
+            λ K b. waiting h e K b ∙ rw (y .done d .0, v .word, q) (rest-tails text (t .next) (p .seen) (pushed u b) counts later K) in
+            record {
+              tree = u;
+              course = λ K b. g K b ∙ ap (λ (M : Stack). runs text M (c .next) (pushed u b) (c .state)) (sym (append-assoc (tailsFrom Sum Whole) (ask (bracketEnd later) ∷ []) K));
+              pending = record {
+                records = ap (λ (l : State). held (l .nodes) work₁) q ∙ v .held d ∙ ap (λ (l : ℕ). withNodes (held l work) (constantNodes (valued (w .value)) (positioned (w .at)))) (p .kept .nodes);
+                nodes = ap (λ (l : State). l .nodes) q ∙ ap (λ (l : ℕ). l + constantSize (valued (w .value))) (p .kept .nodes);
+              };
+              nesting = ap (λ (a : State). a .nesting) q ∙ m;
+              here = record {
+                seen = subst (Seen text) (sym (v .word)) (p .seen);
+                names = here-passed h p .names ∙ sym (facilities-other text work work₁ o (t .state .known)) ∙ ap (λ (l : State). facilityNames text work₁ (l .known)) (sym q);
+              };
+            };
         refused = λ f d K b. let z = y .refused f d in waiting h e K b ∙ rw (z .0, z .1);
         full = y .full;
       }
 
-      pub inside-says : c .verdict ≡ Done → {i : State} → i ≡ atNesting (c .state) (s .nesting) → {work₂ : List ℕ} {r : Answer} → Extends (tailsFrom Sum Whole) [] (i .nesting) text (c .next) i work₁ work₂ r
-          → Inside later text w s work work₂ r
-      unfolding nodesOf expressionSize held
-      inside-says d {i} g {work₂} {r} z sc h e =
-          let p = x .done d₁ in
-          let v = y .done d .1 in
-          let q = v .state d in
-          let m : t .state .nesting ≡ s .nesting = ap (λ (k : Counts). k .nesting) (p .counts) in
-          let n : c .state .nesting ≡ s .nesting = ap (λ (a : State). a .nesting) q ∙ m in
-          let j : i ≡ c .state = g ∙ at-same (c .state) (s .nesting) n in
-          let f : Extends (tailsFrom Sum Whole) [] (c .state .nesting) text (c .next) (c .state) work₁ work₂ r = rw j at z in
-          let u = T.constant (written (w .bare) (valued (w .value))) (positioned (w .at)) in
-          let o : otherIn work₁ ≡ otherIn work = ap (λ (a : Held). a .other) (v .held d) ∙ nodes-other (held (t .state .nodes) work) (constantNodes (valued (w .value)) (positioned (w .at))) in
-          let a : Here text sc (c .next) (c .state) work₁ = record {
-            seen = subst (Seen text) (sym (v .word)) (p .seen);
-            names = here-passed h p .names ∙ sym (facilities-other text work work₁ o (t .state .known)) ∙ ap (λ (l : State). facilityNames text work₁ (l .known)) (sym q);
-          } in
-          let b₁ : Pending sc (held (s .nodes) work) (s .nodes) u (c .state) work₁ = record {
-            records = ap (λ (l : State). held (l .nodes) work₁) q ∙ v .held d ∙ ap (λ (l : ℕ). withNodes (held l work) (constantNodes (valued (w .value)) (positioned (w .at)))) (p .kept .nodes);
-            nodes = ap (λ (l : State). l .nodes) q ∙ ap (λ (l : ℕ). l + constantSize (valued (w .value))) (p .kept .nodes);
-          } in
-          subst (λ (l : ℕ). Says text sc (ask (bracketAsk later) ∷ []) (ask (bracketEnd later) ∷ []) (λ b. b) (held (s .nodes) work) (s .nodes) l w s r work₂) n
-          (framed (f sc a (held (s .nodes) work) (s .nodes) u b₁)
-          (λ K b. waiting h e K b ∙ rw (y .done d .0, v .word, q) (rest-tails text (t .next) (p .seen) (pushed u b) counts later K)))
+-- ---- An expression of a level, or one in brackets behind its first constant.
+
+module _ {head : Lead} {text : List ℕ} {w : Word} {s : State} {work work′ : List ℕ} {r : Answer} {kept : Bool} where
+  pub leads-plain : kept ≡ false → Begins head text w s work work′ r → Leads kept head text w s work work′ r
+  leads-plain e x = record { plain = λ f. x; constant = λ f. absurd (true≢false (sym f ∙ e)) }
+
+  pub leads-constant : kept ≡ true → (kindNo (w .kind) ≡ aConstant → (later : Bool) → Keeps later text w s work work′ r) → Leads kept head text w s work work′ r
+  leads-constant e x = record { plain = λ f. absurd (true≢false (sym e ∙ f)); constant = λ f. x }
+
+constant-plain : headOf Whole aConstant ≡ H.Plain
+unfolding headOf among
+constant-plain = refl
+
+module _ {text : List ℕ} {w : Word} {s : State} {work work₁ : List ℕ} (l : Lv.Level) {head : Lead} {k : ℕ} (e₁ : k ≡ kindNo (w .kind)) (e : head ≡ headOf l k) {kept : Bool} {first : Answer} (x : Leads kept head text w s work work₁ first) where
+  pub level-not : (first .verdict ≡ Done → ⊥) → P.Whole kept l text w s work work₁ first
+  level-not n = record {
+    plain = λ p. start-not l e₁ e (x .plain p) n;
+    constant = λ p i c later sc h z. passed (x .constant p c later sc h z) n (λ K. K) (λ b. b) (λ K b. refl);
+  }
+
+  pub level-says : first .verdict ≡ Done → {rank : Rank} → rank ≡ rankAfter head → {q : State} → q ≡ atNesting (first .state) (s .nesting)
+      → {work₂ : List ℕ} {r : Answer} → Extends (tailsFrom rank l) [] (q .nesting) text (first .next) q work₁ work₂ r → P.Whole kept l text w s work work₂ r
+  level-says d {rank} f {q} g {work₂} {r} z = record { plain = λ p. start-says l e₁ e (x .plain p) d f g z; constant = behind }
+    where
+      behind : kept ≡ true → l ≡ Whole → kindNo (w .kind) ≡ aConstant → (later : Bool) → Inside later text w s work work₂ r
+      behind p i c later sc h a =
+          let o = x .constant p c later sc h a .done d in
+          let j : q ≡ first .state = g ∙ at-same (first .state) (s .nesting) (o .nesting) in
+          let v : rank ≡ Sum = f ∙ ap rankAfter (e ∙ ap (headOf l) (e₁ ∙ c) ∙ ap (λ (u : Lv.Level). headOf u aConstant) i ∙ constant-plain) in
+          let y : Extends (tailsFrom Sum Whole) [] (first .state .nesting) text (first .next) (first .state) work₁ work₂ r = rw (j, v, i) at z in
+          subst (λ (n : ℕ). Says text sc (ask (bracketAsk later) ∷ []) (ask (bracketEnd later) ∷ []) (λ b. b) (held (s .nodes) work) (s .nodes) n w s r work₂) (o .nesting)
+          (framed (y sc (o .here) (held (s .nodes) work) (s .nodes) (o .tree) (o .pending))
+          (λ K b. o .course K b ∙ ap (λ (M : Stack). runs text M (first .next) (pushed (o .tree) b) (first .state)) (append-assoc (tailsFrom Sum Whole) (ask (bracketEnd later) ∷ []) K)))
 
 -- ---- Behind the first bracket.
 

@@ -1,10 +1,9 @@
--- A level: its first operand, then the operators from a rank on.
-use mathlib.Core.Bool.{true, false}
-use mathlib.Core.List.{List, [], _∷_, _++_, append-assoc}
+-- A level from its first operand on, and that operand.
+use mathlib.Core.Bool.{true}
+use mathlib.Core.List.{List, [], _∷_, _++_}
 use mathlib.Core.Path.{_≡_, refl, sym, ap, _∙_, subst}
 use Prim.Native.Nat.{ℕ, suc, _+_, _-_}
 use native.Mathlib.Omega.{arith}
-use lib.Dec.{ltb}
 use Rattle.language.specs.Building.{Built, expressionNo, keepWord, wordNo}
 use Rattle.language.specs.Declaring.{treeSteps}
 use Rattle.language.specs.Describe.{expressionSize, lastOf, nodesOf, noted}
@@ -13,7 +12,6 @@ use Rattle.language.specs.Encode.{nodeBytes}
 use Rattle.language.specs.Machine.{Counts, ask, ease, make, term}
 use Rattle.language.specs.Naming.{Scope}
 use Rattle.language.specs.Tree as T
-use Rattle.language.specs.Tree.{Expression}
 use Rattle.language.specs.Words as L
 use Rattle.judge_records.specs.Noted.{nodeBesideBytes}
 use Rattle.text_words.specs.declared.Word.{Word}
@@ -28,7 +26,6 @@ use Rattle.parse_step.specs.Course.{Stack, ahead, countsOf, kindNo, runs}
 use Rattle.parse_step.specs.Gained.{easedState}
 use Rattle.parse_step.specs.Says.{Extends, Here, Parses, Says, pushed}
 use Rattle.parse_step.specs.Taken.{Took, afterWord}
-use Rattle.parse_step.proofs.Answers.{done-full, done-refused}
 use Rattle.parse_step.proofs.Saying.{eases, here-passed, made, makes-it, not-taken, passed, through}
 use Rattle.parse_step.proofs.TakenWords.{took-done}
 use Rattle.parse_levels.specs.declared.Lead.{Lead}
@@ -36,10 +33,9 @@ use Rattle.parse_levels.specs.declared.Lead.the-variants as H
 use Rattle.parse_levels.specs.declared.Level as Lv
 use Rattle.parse_levels.specs.declared.Rank.{Rank}
 use Rattle.parse_levels.specs.declared.Rank.the-variants as R
-use Rattle.parse_levels.specs.Orders.{headOf, nextRank, prefixLevel, prefixStack, rankAfter, rankNo, stackOf, tailStack, tailsFrom, topNo}
+use Rattle.parse_levels.specs.Orders.{headOf, prefixLevel, prefixStack, rankAfter, stackOf, tailsFrom}
 use Rattle.parse_levels.proofs.HeadWords.{head-taken, plain-begins}
-use Rattle.parse_levels.proofs.TailWords.{tails-more, tails-none}
-use Rattle.parse_expressions.specs.Phrases.{Begins, Unprefixed, atNesting, gains, same, stayed}
+use Rattle.parse_expressions.specs.Phrases.{Begins, Unprefixed, atNesting, gains, same}
 
 pub at-same : (s : State) (n : ℕ) → s .nesting ≡ n → atNesting s n ≡ s
 at-same s n e = ap (atNesting s) (sym e)
@@ -143,30 +139,3 @@ module _ {text : List ℕ} {w : Word} {s : State} {work : List ℕ} where
             (λ K b. operand-course h l e K b ∙ o .course (below head l K) (keeping w b)
             ∙ makes-it text (treeSteps .makePrefix) (ease ∷ (tailsFrom (rankAfter head) l ++ K)) (r .next) (pushed (o .tree) (keeping w b)) (pushed c b) (r .state) (λ k. refl)
             ∙ eases text (tailsFrom (rankAfter head) l ++ K) (ahead text (r .next)) (pushed c b) (countsOf (r .state)))
-
--- ---- The operators from a rank on.
-
-module _ {text : List ℕ} {w : Word} {s : State} {work : List ℕ} (rank : Rank) (l : Lv.Level) where
-  pub rest-none : ltb (rankNo rank) (topNo l) ≡ false → {r : Answer} → r ≡ stayed s w → Extends (tailsFrom rank l) [] (s .nesting) text w s work work r
-  rest-none e f sc h q base t p = rw f (record {
-    done = λ d. record { tree = t; course = λ K b. ap (λ (M : Stack). runs text (M ++ K) w (pushed t b) s) (tails-none rank l e); pending = p; nesting = refl; here = h };
-    refused = λ g d. done-refused d;
-    full = λ d. done-full d;
-  })
-
-  module _ (e : ltb (rankNo rank) (topNo l) ≡ true) {m : Answer} {work₁ : List ℕ} (x : Extends (tailStack rank) [] (s .nesting) text w s work work₁ m) where
-    more-course : (t : Expression) (K : Stack) (b : Built) → runs text (tailsFrom rank l ++ K) w (pushed t b) s ≡ runs text (tailStack rank ++ (tailsFrom (nextRank rank) l ++ K)) w (pushed t b) s
-    more-course t K b = ap (λ (M : Stack). runs text M w (pushed t b) s) (ap (λ (M : Stack). M ++ K) (tails-more rank l e) ∙ append-assoc (tailStack rank) (tailsFrom (nextRank rank) l) K)
-
-    pub rest-not : (m .verdict ≡ Done → ⊥) → Extends (tailsFrom rank l) [] (s .nesting) text w s work work₁ m
-    rest-not n sc h q base t p = passed (x sc h q base t p) n (λ K. tailsFrom (nextRank rank) l ++ K) (λ b. b) (more-course t)
-
-    pub rest-says : m .verdict ≡ Done → {next : Rank} → next ≡ nextRank rank → {i : State} → i ≡ atNesting (m .state) (s .nesting) → {work₂ : List ℕ} {r : Answer} → Extends (tailsFrom next l) [] (i .nesting) text (m .next) i work₁ work₂ r
-        → Extends (tailsFrom rank l) [] (s .nesting) text w s work work₂ r
-    rest-says d {next} f {i} g {work₂} {r} z sc h q base t p =
-        let o = x sc h q base t p .done d in
-        let j : i ≡ m .state = g ∙ at-same (m .state) (s .nesting) (o .nesting) in
-        let y : Extends (tailsFrom next l) [] (m .state .nesting) text (m .next) (m .state) work₁ work₂ r = rw j at z in
-        subst (λ (n : ℕ). Says text sc (tailsFrom rank l) [] (pushed t) q base n w s r work₂) (o .nesting)
-        (through (y sc (o .here) q base (o .tree) (o .pending))
-        (λ K b. more-course t K b ∙ o .course (tailsFrom (nextRank rank) l ++ K) b ∙ ap (λ (k : Rank). runs text (tailsFrom k l ++ K) (m .next) (pushed (o .tree) b) (m .state)) (sym f)))

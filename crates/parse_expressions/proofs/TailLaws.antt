@@ -1,9 +1,10 @@
--- The operators of one rank, one after the other.
-use mathlib.Core.Bool.{true, false, true≢false}
+-- The operators of a level, one after the other.
+use mathlib.Core.Bool.{true, false}
 use mathlib.Core.List.{List, [], _∷_, _++_, append-assoc}
 use mathlib.Core.Path.{_≡_, refl, sym, ap, _∙_, subst}
 use Prim.Native.Nat.{ℕ, _+_, _-_, _≤_, _<_}
 use native.Mathlib.Omega.{arith}
+use lib.Dec.{ltb}
 use Rattle.about_grammar.specs.Following.{among}
 use Rattle.language.specs.Building.{Built, expressionNo, keepWord, wordNo}
 use Rattle.language.specs.Declaring.{treeSteps}
@@ -31,60 +32,52 @@ use Rattle.parse_step.specs.Says.{Extends, Here, Parses, Pending, Read, Says, p
 use Rattle.parse_step.specs.Taken.{Took, afterWord}
 use Rattle.parse_step.proofs.Answers.{done-full, done-refused, refused-full}
 use Rattle.parse_step.proofs.NodeGained.{grown}
-use Rattle.parse_step.proofs.Saying.{here-passed, made, makes-it, not-taken, passed, pending-kept, through}
+use Rattle.parse_step.proofs.Saying.{here-passed, made, makes-it, not-taken, passed, pending-kept}
 use Rattle.parse_step.proofs.TakenWords.{took-done}
 use Rattle.parse_levels.specs.declared.Level as Lv
 use Rattle.parse_levels.specs.declared.Rank.{Rank}
 use Rattle.parse_levels.specs.declared.Rank.the-variants as R
-use Rattle.parse_levels.specs.Orders.{again, operandLevel, operatorsOf, rankNo, stackOf, tailStack}
-use Rattle.parse_levels.proofs.TailWords.{cut-taken, tail-omitted, tail-taken}
+use Rattle.parse_levels.specs.Orders.{again, nextRank, operandLevel, operatorsOf, rankNo, stackOf, tailStack, tailsFrom, topNo}
+use Rattle.parse_levels.proofs.TailWords.{cut-taken, tail-omitted, tail-taken, tails-more, tails-none}
 use Rattle.parse_operands.specs.Ended.{Cuts}
-use Rattle.parse_expressions.specs.Phrases.{Operates, atNesting, gains, once, same, stayed}
+use Rattle.parse_expressions.specs.Phrases.{Operates, atNesting, gains, rankBehind, same, stayed}
 use Rattle.parse_expressions.proofs.PartLaws.{binary-as}
 use Rattle.parse_expressions.proofs.StartLaws.{at-same}
 
--- ---- The loop: the machine stands before the same tail, with a longer expression.
+-- ---- The loop: the machine stands before the operators from a rank on, with a longer expression.
 
-pub record Tails (rank : Rank) (text : List ℕ) (w : Word) (s : State) (work : List ℕ) (next : Word) (state : State) (work′ : List ℕ) (left : ℕ) : Type 0 where
+pub record Walks (rank : Rank) (l : Lv.Level) (text : List ℕ) (w : Word) (s : State) (work : List ℕ) (from : Rank) (next : Word) (state : State) (work′ : List ℕ) (left : ℕ) : Type 0 where
   pub reads : (sc : Scope) → Here text sc w s work → (h : Held) (base : ℕ) (t : Expression) → Pending sc h base t s work
-      → Read text sc (tailStack rank) (tailStack rank) (pushed t) h base (s .nesting) w s (stayed state next) work′
+      → Read text sc (tailsFrom rank l) (tailsFrom from l) (pushed t) h base (s .nesting) w s (stayed state next) work′
   pub room : (sc : Scope) → Here text sc w s work → (h : Held) (base : ℕ) (t : Expression) → Pending sc h base t s work → s .nodes + mostNodes ≤ state .nodes + left
+  pub nesting : state .nesting ≡ s .nesting
 
-pub tails-begin : (rank : Rank) {text : List ℕ} {w : Word} {s : State} {work : List ℕ} → Tails rank text w s work w s work mostNodes
-tails-begin rank = record {
+pub walks-begin : (rank : Rank) (l : Lv.Level) {text : List ℕ} {w : Word} {s : State} {work : List ℕ} → Walks rank l text w s work rank w s work mostNodes
+walks-begin rank l = record {
   reads = λ sc h q base t p. record { tree = t; course = λ K b. refl; pending = p; nesting = refl; here = h };
   room = λ sc h q base t p. omega arith;
+  nesting = refl;
 }
 
 -- A relation comes once; the others again.
-pub once-again : (r : Rank) → once r ≡ true → again r ≡ []
-once-again R.Sum e = absurd (true≢false (sym e))
-once-again R.Relation e = refl
-once-again R.Cut e = absurd (true≢false (sym e))
-once-again R.Con e = absurd (true≢false (sym e))
-once-again R.And e = absurd (true≢false (sym e))
-once-again R.Exclusive e = absurd (true≢false (sym e))
-once-again R.Or e = absurd (true≢false (sym e))
-once-again R.Beyond e = absurd (true≢false (sym e))
+behind-tails : (r : Rank) (l : Lv.Level) → ltb (rankNo r) (topNo l) ≡ true → again r ++ tailsFrom (nextRank r) l ≡ tailsFrom (rankBehind r) l
+behind-tails R.Sum l e = sym (tails-more R.Sum l e)
+behind-tails R.Relation l e = refl
+behind-tails R.Cut l e = sym (tails-more R.Cut l e)
+behind-tails R.Con l e = sym (tails-more R.Con l e)
+behind-tails R.And l e = sym (tails-more R.And l e)
+behind-tails R.Exclusive l e = sym (tails-more R.Exclusive l e)
+behind-tails R.Or l e = sym (tails-more R.Or l e)
+behind-tails R.Beyond l e = refl
 
-pub more-again : (r : Rank) → once r ≡ false → again r ≡ tailStack r
-more-again R.Sum e = refl
-more-again R.Relation e = absurd (true≢false e)
-more-again R.Cut e = refl
-more-again R.Con e = refl
-more-again R.And e = refl
-more-again R.Exclusive e = refl
-more-again R.Or e = refl
-more-again R.Beyond e = refl
-
-module _ (rank : Rank) {text : List ℕ} {w : Word} {s : State} {work : List ℕ} {next : Word} {state : State} {work₁ : List ℕ} {left : ℕ} (v : Tails rank text w s work next state work₁ left) where
-  pub tails-end : among (kindNo (next .kind)) (operatorsOf rank) ≡ false → {r : Answer} → r ≡ stayed state next → Extends (tailStack rank) [] (s .nesting) text w s work work₁ r
-  tails-end e f sc h q base t p =
+module _ (rank : Rank) (l : Lv.Level) {text : List ℕ} {w : Word} {s : State} {work : List ℕ} {from : Rank} {next : Word} {state : State} {work₁ : List ℕ} {left : ℕ} (v : Walks rank l text w s work from next state work₁ left) where
+  pub walks-end : ltb (rankNo from) (topNo l) ≡ false → {r : Answer} → r ≡ stayed state next → Extends (tailsFrom rank l) [] (s .nesting) text w s work work₁ r
+  walks-end e f sc h q base t p =
       let o = v .reads sc h q base t p in
       rw f (record {
         done = λ d. record {
           tree = o .tree;
-          course = λ K b. o .course K b ∙ tail-omitted text next (o .here .seen) (pushed (o .tree) b) (countsOf state) rank e K;
+          course = λ K b. o .course K b ∙ ap (λ (M : Stack). runs text (M ++ K) next (pushed (o .tree) b) state) (tails-none from l e);
           pending = o .pending;
           nesting = o .nesting;
           here = o .here;
@@ -93,40 +86,62 @@ module _ (rank : Rank) {text : List ℕ} {w : Word} {s : State} {work : List ℕ
         full = λ d. done-full d;
       })
 
-  pub tails-full : left ≤ 0 → {r : Answer} → r ≡ record { verdict = Full; next = next; state = state } → Extends (tailStack rank) [] (s .nesting) text w s work work₁ r
-  tails-full e f sc h q base t p = rw f (record { done = λ d. done-full (sym d); refused = λ g d. refused-full (sym d); full = λ d. omega (arith, v .room sc h q base t p, e) })
+  pub walks-full : left ≡ 0 → {r : Answer} → r ≡ record { verdict = Full; next = next; state = state } → Extends (tailsFrom rank l) [] (s .nesting) text w s work work₁ r
+  walks-full e f sc h q base t p = rw f (record { done = λ d. done-full (sym d); refused = λ g d. refused-full (sym d); full = λ d. omega (arith, v .room sc h q base t p, e) })
 
-  module _ (e : among (kindNo (next .kind)) (operatorsOf rank) ≡ true) {i : State} (g : i ≡ atNesting state (s .nesting)) {work₂ : List ℕ} {r : Answer} (x : Operates rank text next i work₁ work₂ r) where
-    operated : (sc : Scope) (h : Here text sc w s work) (q : Held) (base : ℕ) (t : Expression) (p : Pending sc q base t s work)
-        → Says text sc (tailStack rank) (again rank) (pushed (v .reads sc h q base t p .tree)) q base (s .nesting) next state r work₂ × Grows state r
-    operated sc h q base t p =
+  module _ (e : ltb (rankNo from) (topNo l) ≡ true) where
+    at-rank : (sc : Scope) (h : Here text sc w s work) (q : Held) (base : ℕ) (t : Expression) (p : Pending sc q base t s work) (K : Stack) (b : Built)
+        → runs text (tailsFrom rank l ++ K) w (pushed t b) s ≡ runs text (tailStack from ++ (tailsFrom (nextRank from) l ++ K)) next (pushed (v .reads sc h q base t p .tree) b) state
+    at-rank sc h q base t p K b =
         let o = v .reads sc h q base t p in
-        let j : i ≡ state = g ∙ at-same state (s .nesting) (o .nesting) in
-        let y : Operates rank text next state work₁ work₂ r = rw j at x in
-        let z = y sc (o .here) e q base (o .tree) (o .pending) in
-        (subst (λ (n : ℕ). Says text sc (tailStack rank) (again rank) (pushed (o .tree)) q base n next state r work₂) (o .nesting) (z .0), z .1)
+        o .course K b ∙ ap (λ (M : Stack). runs text M next (pushed (o .tree) b) state) (ap (λ (M : Stack). M ++ K) (tails-more from l e) ∙ append-assoc (tailStack from) (tailsFrom (nextRank from) l) K)
 
-    pub tails-not : (r .verdict ≡ Done → ⊥) → Extends (tailStack rank) [] (s .nesting) text w s work work₂ r
-    tails-not n sc h q base t p = passed (operated sc h q base t p .0) n (λ K. K) (λ b. b) (λ K b. v .reads sc h q base t p .course K b)
+    pub walks-next : among (kindNo (next .kind)) (operatorsOf from) ≡ false → {i : Rank} → i ≡ nextRank from → Walks rank l text w s work i next state work₁ left
+    walks-next f g = record {
+      reads = λ sc h q base t p. let o = v .reads sc h q base t p in
+          record {
+            tree = o .tree;
+            course = λ K b. at-rank sc h q base t p K b ∙ tail-omitted text next (o .here .seen) (pushed (o .tree) b) (countsOf state) from f (tailsFrom (nextRank from) l ++ K)
+                ∙ ap (λ (k : Rank). runs text (tailsFrom k l ++ K) next (pushed (o .tree) b) state) (sym g);
+            pending = o .pending;
+            nesting = o .nesting;
+            here = o .here;
+          };
+      room = v .room;
+      nesting = v .nesting;
+    }
 
-    pub tails-once : once rank ≡ true → Extends (tailStack rank) [] (s .nesting) text w s work work₂ r
-    tails-once f sc h q base t p = through (rw (once-again rank f) at (operated sc h q base t p .0)) (λ K b. v .reads sc h q base t p .course K b)
+    module _ (f : among (kindNo (next .kind)) (operatorsOf from) ≡ true) {work₂ : List ℕ} {m : Answer} (x : Operates from text next state work₁ work₂ m) where
+      operated : (sc : Scope) (h : Here text sc w s work) (q : Held) (base : ℕ) (t : Expression) (p : Pending sc q base t s work)
+          → Says text sc (tailStack from) (again from) (pushed (v .reads sc h q base t p .tree)) q base (s .nesting) next state m work₂ × Grows state m
+      operated sc h q base t p =
+          let o = v .reads sc h q base t p in
+          let z = x sc (o .here) f q base (o .tree) (o .pending) in
+          (subst (λ (n : ℕ). Says text sc (tailStack from) (again from) (pushed (o .tree)) q base n next state m work₂) (v .nesting) (z .0), z .1)
 
-    pub tails-more : r .verdict ≡ Done → once rank ≡ false → {l : ℕ} → l + 1 ≡ left → Tails rank text w s work (r .next) (r .state) work₂ l
-    tails-more d f u = record { reads = go; room = λ sc h q base t p. omega (arith, v .room sc h q base t p, operated sc h q base t p .1 d .0, u) }
-      where
-        go : (sc : Scope) → Here text sc w s work → (q : Held) (base : ℕ) (t : Expression) → Pending sc q base t s work
-            → Read text sc (tailStack rank) (tailStack rank) (pushed t) q base (s .nesting) w s (stayed (r .state) (r .next)) work₂
-        go sc h q base t p =
-            let o = v .reads sc h q base t p in
-            let y = operated sc h q base t p .0 .done d in
-            record {
-              tree = y .tree;
-              course = λ K b. o .course K b ∙ y .course K b ∙ ap (λ (M : Stack). runs text (M ++ K) (r .next) (pushed (y .tree) b) (r .state)) (more-again rank f);
-              pending = record { records = y .pending .records; nodes = y .pending .nodes };
-              nesting = y .nesting;
-              here = record { seen = y .here .seen; names = y .here .names };
-            }
+      pub walks-not : (m .verdict ≡ Done → ⊥) → Extends (tailsFrom rank l) [] (s .nesting) text w s work work₂ m
+      walks-not n sc h q base t p = passed (operated sc h q base t p .0) n (λ K. tailsFrom (nextRank from) l ++ K) (λ b. b) (at-rank sc h q base t p)
+
+      pub walks-more : m .verdict ≡ Done → {i : Rank} → i ≡ rankBehind from → {a : State} → a ≡ atNesting (m .state) (s .nesting) → {k : ℕ} → k + 1 ≡ left → Walks rank l text w s work i (m .next) a work₂ k
+      walks-more d {i} g {a} j {k} u = record {
+        reads = go;
+        room = λ sc h q base t p. let n : a .nodes ≡ m .state .nodes = ap (λ (c : State). c .nodes) j in omega (arith, v .room sc h q base t p, operated sc h q base t p .1 d .0, u, n);
+        nesting = ap (λ (c : State). c .nesting) j;
+      }
+        where
+          go : (sc : Scope) → Here text sc w s work → (q : Held) (base : ℕ) (t : Expression) → Pending sc q base t s work
+              → Read text sc (tailsFrom rank l) (tailsFrom i l) (pushed t) q base (s .nesting) w s (stayed a (m .next)) work₂
+          go sc h q base t p =
+              let y = operated sc h q base t p .0 .done d in
+              let c : a ≡ m .state = j ∙ at-same (m .state) (s .nesting) (y .nesting) in
+              rw c (record {
+                tree = y .tree;
+                course = λ K b. at-rank sc h q base t p K b ∙ y .course (tailsFrom (nextRank from) l ++ K) b
+                    ∙ ap (λ (M : Stack). runs text M (m .next) (pushed (y .tree) b) (m .state)) (sym (append-assoc (again from) (tailsFrom (nextRank from) l) K) ∙ ap (λ (M : Stack). M ++ K) (behind-tails from l e) ∙ ap (λ (r : Rank). tailsFrom r l ++ K) (sym g));
+                pending = record { records = y .pending .records; nodes = y .pending .nodes };
+                nesting = y .nesting;
+                here = record { seen = y .here .seen; names = y .here .names };
+              })
 
 -- ---- One operator.
 

@@ -10,7 +10,7 @@ use Rattle.language.specs.Declaring.{treeSteps}
 use Rattle.language.specs.Describe.{armsOf}
 use Rattle.language.specs.Description.{Node, nodePlaces}
 use Rattle.language.specs.Encode.{nodeBytes}
-use Rattle.language.specs.Kinds.{caseWord, doWord, elseWord, endCaseWord, endIfWord, ifWord, thenWord}
+use Rattle.language.specs.Kinds.{aConstant, caseWord, doWord, elseWord, endCaseWord, endIfWord, ifWord, thenWord}
 use Rattle.language.specs.Machine.{Ask, ask, expression, level, make, moreArms, refused, word}
 use Rattle.language.specs.Naming.{Scope}
 use Rattle.language.specs.Tree.{Expression}
@@ -25,10 +25,11 @@ use Rattle.parse_step.specs.declared.State.{State}
 use Rattle.parse_step.specs.declared.ReadVerdict.the-variants.{Done, Full, Refused}
 use Rattle.parse_step.specs.Course.{Seen, Stack, ahead, kindNo, runs}
 use Rattle.parse_step.specs.Gained.{Gained, Grows}
-use Rattle.parse_step.specs.Says.{Here, Pending, Says, pushed}
+use Rattle.parse_step.specs.Says.{Here, Parses, Pending, Says, pushed}
 use Rattle.parse_step.specs.Taken.{Kept, endsAhead}
 use Rattle.parse_levels.specs.declared.Lead.{Lead}
 use Rattle.parse_levels.specs.declared.Level.{Level}
+use Rattle.parse_levels.specs.declared.Level.the-variants as E
 use Rattle.parse_levels.specs.declared.Rank.{Rank}
 use Rattle.parse_levels.specs.declared.Rank.the-variants as R
 use Rattle.parse_levels.specs.Orders.{again, headOf, operatorsOf, prefixLevel, prefixStack, rankAfter, stackOf, tailStack, tailsFrom}
@@ -79,16 +80,16 @@ Operates rank text w s work work′ r =
     (sc : Scope) → Here text sc w s work → among (kindNo (w .kind)) (operatorsOf rank) ≡ true → (h : Held) (base : ℕ) (t : Expression) → Pending sc h base t s work
     → Says text sc (tailStack rank) (again rank) (pushed t) h base (s .nesting) w s r work′ × Grows s r
 
--- A relation comes at most once.
-abbrev pub once : Rank → Bool
-once R.Sum = false
-once R.Relation = true
-once R.Cut = false
-once R.Con = false
-once R.And = false
-once R.Exclusive = false
-once R.Or = false
-once R.Beyond = false
+-- The first rank that may come behind an operator: the same again, but for a relation.
+abbrev pub rankBehind : Rank → Rank
+rankBehind R.Sum = R.Sum
+rankBehind R.Relation = R.Cut
+rankBehind R.Cut = R.Cut
+rankBehind R.Con = R.Con
+rankBehind R.And = R.And
+rankBehind R.Exclusive = R.Exclusive
+rankBehind R.Or = R.Or
+rankBehind R.Beyond = R.Beyond
 
 -- A reference, behind its first subscript.
 abbrev pub Second : Ask → Word → ℕ → List ℕ → Word → State → List ℕ → List ℕ → Answer → Type 0
@@ -101,6 +102,21 @@ abbrev pub Inside : Bool → List ℕ → Word → State → List ℕ → List �
 Inside later text w s work work′ r =
     (sc : Scope) → Here text sc w s work → endsAhead (ahead text w) ≡ false
     → Says text sc (ask (bracketAsk later) ∷ []) (ask (bracketEnd later) ∷ []) (λ b. b) (held (s .nodes) work) (s .nodes) (s .nesting) w s r work′
+
+-- Its first constant, which is kept until no colon follows: the operators of an expression may come.
+abbrev pub Keeps : Bool → List ℕ → Word → State → List ℕ → List ℕ → Answer → Type 0
+Keeps later text w s work work′ r =
+    (sc : Scope) → Here text sc w s work → endsAhead (ahead text w) ≡ false
+    → Says text sc (ask (bracketAsk later) ∷ []) (tailsFrom R.Sum E.Expression ++ (ask (bracketEnd later) ∷ [])) (λ b. b) (held (s .nodes) work) (s .nodes) (s .nesting) w s r work′
+
+-- What comes before the operators of a level: an operand that begins it, or such a constant; and the same with the operators.
+pub record Leads (kept : Bool) (head : Lead) (text : List ℕ) (w : Word) (s : State) (work work′ : List ℕ) (r : Answer) : Type 0 where
+  pub plain : kept ≡ false → Begins head text w s work work′ r
+  pub constant : kept ≡ true → kindNo (w .kind) ≡ aConstant → (later : Bool) → Keeps later text w s work work′ r
+
+pub record Whole (kept : Bool) (l : Level) (text : List ℕ) (w : Word) (s : State) (work work′ : List ℕ) (r : Answer) : Type 0 where
+  pub plain : kept ≡ false → Parses (stackOf l) same (s .nesting) text w s work work′ r
+  pub constant : kept ≡ true → l ≡ E.Expression → kindNo (w .kind) ≡ aConstant → (later : Bool) → Inside later text w s work work′ r
 
 -- ---- Arms, with their number.
 

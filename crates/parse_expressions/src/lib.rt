@@ -1,4 +1,5 @@
 // Expressions and references (the manual, 5.1 and 5.2): a recursive descent that writes their records, against the machine of the grammar.
+// A frame of each function stands for every level of nesting, so that each keeps one answer at a time, in `got`.
 use crate::pieces::Armed;
 use language::refusals::Refusal;
 use parse_array::Work;
@@ -22,14 +23,14 @@ ghost use mathlib.Core.Bool.{false, true};
 ghost use mathlib.Core.List.{[], _∷_};
 ghost use mathlib.Core.Path.{_≡_};
 ghost use Prim.Native.Nat.{_-_, _≤_};
-ghost use Rattle.language.specs.Kinds.{aName, openParen};
+ghost use Rattle.language.specs.Kinds.{aConstant, aName, openParen};
 ghost use Rattle.language.specs.Machine as L;
 ghost use Rattle.language.specs.Machine.{ask};
 ghost use Rattle.parse_step.specs.Course.{kindNo};
 ghost use Rattle.parse_step.specs.Pays.{Spends};
 ghost use Rattle.parse_step.specs.Says.{Extends, Parses};
-ghost use Rattle.parse_levels.specs.Orders.{stackOf, tailStack, tailsFrom};
-ghost use Rattle.parse_expressions.specs.Phrases.{Arms, Begins, FirstArm, Inside, MoreArms, NextArm, Operates, Second, afterName, choiceWord, same};
+ghost use Rattle.parse_levels.specs.Orders.{stackOf, tailsFrom};
+ghost use Rattle.parse_expressions.specs.Phrases.{Arms, Begins, FirstArm, Inside, Leads, MoreArms, NextArm, Operates, Second, Whole, afterName, choiceWord, same};
 
 pub mod pieces;
 
@@ -37,13 +38,30 @@ pub mod pieces;
 pub fn start(s: State, level: Level, text: &[u8], w: Word, work: &mut Work) -> Answer
     ensures { λ r. ⌜ Parses (stackOf level) same (s .nesting) (now (text .entry)) w s (now (work .entry)) (now (work .exit)) r × Spends (now (text .entry)) 0 w s r ⌝ }
 {
+    whole(s, false, level, text, w, work)
+}
+
+// The same; or what stands in brackets from a constant on, which is then kept. Both here, so that `rest` is called at one place and needs no frame of its own.
+fn whole(s: State, kept: bool, level: Level, text: &[u8], w: Word, work: &mut Work) -> Answer
+    ensures { λ r. ⌜ Whole kept level (now (text .entry)) w s (now (work .entry)) (now (work .exit)) r × ((kept ≡ true → kindNo (w .kind) ≡ aConstant) → Spends (now (text .entry)) 0 w s r) ⌝ }
+{
     let head = heads::head_of(level, kinds::kind_of(w));
-    let first = opening(s, head, text, w, work);
+    let first = leading(s, kept, head, text, w, work);
     if parse_step::unread(first) {
         return first;
     }
     let state = pieces::at(first.state, s.nesting);
     rest(state, heads::after(head), level, text, first.next, work)
+}
+
+// What comes before its operators.
+fn leading(s: State, kept: bool, head: Lead, text: &[u8], w: Word, work: &mut Work) -> Answer
+    ensures { λ r. ⌜ Leads kept head (now (text .entry)) w s (now (work .entry)) (now (work .exit)) r × ((kept ≡ true → kindNo (w .kind) ≡ aConstant) → Spends (now (text .entry)) 0 w s r) ⌝ }
+{
+    if kept {
+        return pieces::keep(s, text, w, work);
+    }
+    opening(s, head, text, w, work)
 }
 
 // Its first operand, with what stands before it.
@@ -69,63 +87,50 @@ fn opening(s: State, head: Lead, text: &[u8], w: Word, work: &mut Work) -> Answe
     pieces::add_prefix(operand.state, w, operand.next, work)
 }
 
-// The operators of a level from a rank on, behind an operand.
+// The operators of a level from a rank on, behind an operand, in one frame whatever their ranks. Each writes a record, so that they end before the array is full.
 fn rest(s: State, rank: Rank, level: Level, text: &[u8], w: Word, work: &mut Work) -> Answer
     ensures { λ r. ⌜ Extends (tailsFrom rank level) [] (s .nesting) (now (text .entry)) w s (now (work .entry)) (now (work .exit)) r × Spends (now (text .entry)) 1 w s r ⌝ }
 {
-    if ranks::within(rank, level) {
-        let more = tail(s, rank, text, w, work);
-        if parse_step::unread(more) {
-            return more;
-        }
-        let state = pieces::at(more.state, s.nesting);
-        return rest(state, ranks::next(rank), level, text, more.next, work);
-    }
-    pieces::stay(s, w)
-}
-
-// The operators of a rank; a relation comes at most once. Each writes a record, so that they end before the array is full.
-fn tail(s: State, rank: Rank, text: &[u8], w: Word, work: &mut Work) -> Answer
-    ensures { λ r. ⌜ Extends (tailStack rank) [] (s .nesting) (now (text .entry)) w s (now (work .entry)) (now (work .exit)) r × Spends (now (text .entry)) 1 w s r ⌝ }
-{
     let mut state = s;
     let mut next = w;
+    let mut from = rank;
     let mut left: u16 = MOST_NODES;
-    while left > 0 {
-        if pieces::operates(rank, next) {
-            let one = operation(pieces::at(state, s.nesting), rank, text, next, work);
+    while ranks::within(from, level) {
+        if pieces::operates(from, next) {
+            if left == 0 {
+                return pieces::full(state, next);
+            }
+            let one = operation(state, from, text, next, work);
             if parse_step::unread(one) {
                 return one;
             }
-            if pieces::once(rank) {
-                return one;
-            }
-            state = one.state;
+            state = pieces::at(one.state, s.nesting);
             next = one.next;
+            from = pieces::behind(from);
             left -= 1;
         } else {
-            return pieces::stay(state, next);
+            from = ranks::next(from);
         }
     }
-    pieces::full(state, next)
+    pieces::stay(state, next)
 }
 
 // An operator of a rank and what is on its right.
 fn operation(s: State, rank: Rank, text: &[u8], w: Word, work: &mut Work) -> Answer
     ensures { λ r. ⌜ Operates rank (now (text .entry)) w s (now (work .entry)) (now (work .exit)) r × Spends (now (text .entry)) 1 w s r ⌝ }
 {
-    let taken = taking::take(text, w, s, true, Bearing::Level);
-    if parse_step::unread(taken) {
-        return taken;
+    let mut got = taking::take(text, w, s, true, Bearing::Level);
+    if parse_step::unread(got) {
+        return got;
     }
     if let Rank::Cut = rank {
-        return cuts::cut(taken.state, kinds::kind_of(w), w, text, taken.next, work);
+        return cuts::cut(got.state, kinds::kind_of(w), w, text, got.next, work);
     }
-    let right = start(taken.state, ranks::operand(rank), text, taken.next, work);
-    if parse_step::unread(right) {
-        return right;
+    got = start(got.state, ranks::operand(rank), text, got.next, work);
+    if parse_step::unread(got) {
+        return got;
     }
-    pieces::add_binary(right.state, adding::last(s.nodes), w, right.next, work)
+    pieces::add_binary(got.state, adding::last(s.nodes), w, got.next, work)
 }
 
 // A term.
@@ -155,18 +160,18 @@ fn term(s: State, text: &[u8], w: Word, work: &mut Work) -> Answer
 fn group(s: State, text: &[u8], w: Word, work: &mut Work) -> Answer
     ensures { λ r. ⌜ (kindNo (w .kind) ≡ openParen → Parses (ask L.term ∷ []) same (s .nesting) (now (text .entry)) w s (now (work .entry)) (now (work .exit)) r) × Spends (now (text .entry)) 0 w s r ⌝ }
 {
-    let opened = taking::take(text, w, s, false, Bearing::Opens);
-    if parse_step::unread(opened) {
-        return opened;
+    let mut got = taking::take(text, w, s, false, Bearing::Opens);
+    if parse_step::unread(got) {
+        return got;
     }
-    let inner = start(opened.state, Level::Expression, text, opened.next, work);
-    if parse_step::unread(inner) {
-        return inner;
+    got = start(got.state, Level::Expression, text, got.next, work);
+    if parse_step::unread(got) {
+        return got;
     }
     taking::expect(
         text,
-        inner.next,
-        inner.state,
+        got.next,
+        got.state,
         language::kinds::CLOSE_PAREN,
         Bearing::Closes,
     )
@@ -204,30 +209,30 @@ pub fn subscript(s: State, name: Word, text: &[u8], w: Word, work: &mut Work) ->
     if taking::ends_ahead(text, w) {
         return pieces::part(s, name, text, w, work);
     }
-    let first = inside(s, false, text, w, work);
-    if parse_step::unread(first) {
-        return first;
+    let mut got = inside(s, false, text, w, work);
+    if parse_step::unread(got) {
+        return got;
     }
-    if kinds::kind_of(first.next) == language::kinds::COMMA {
-        let comma = taking::take(text, first.next, first.state, false, Bearing::Level);
-        if parse_step::unread(comma) {
-            return comma;
+    if kinds::kind_of(got.next) == language::kinds::COMMA {
+        got = taking::take(text, got.next, got.state, false, Bearing::Level);
+        if parse_step::unread(got) {
+            return got;
         }
-        let state = pieces::at(comma.state, s.nesting);
-        return second(state, name, text, comma.next, work);
+        let state = pieces::at(got.state, s.nesting);
+        return second(state, name, text, got.next, work);
     }
-    let closed = taking::expect(
+    got = taking::expect(
         text,
-        first.next,
-        first.state,
+        got.next,
+        got.state,
         language::kinds::CLOSE_BRACKET,
         Bearing::Closes,
     );
-    if parse_step::unread(closed) {
-        return closed;
+    if parse_step::unread(got) {
+        return got;
     }
-    let state = pieces::at(closed.state, adding::last(s.nesting));
-    single(state, name, text, closed.next, work)
+    let state = pieces::at(got.state, adding::last(s.nesting));
+    single(state, name, text, got.next, work)
 }
 
 // A reference with one subscript, and perhaps a second one in brackets of its own.
@@ -251,27 +256,27 @@ fn second(s: State, name: Word, text: &[u8], w: Word, work: &mut Work) -> Answer
     if taking::ends_ahead(text, w) {
         return pieces::word_part(s, name, text, w, work);
     }
-    let other = inside(s, true, text, w, work);
-    if parse_step::unread(other) {
-        return other;
+    let mut got = inside(s, true, text, w, work);
+    if parse_step::unread(got) {
+        return got;
     }
-    let closed = taking::expect(
+    got = taking::expect(
         text,
-        other.next,
-        other.state,
+        got.next,
+        got.state,
         language::kinds::CLOSE_BRACKET,
         Bearing::Closes,
     );
-    if parse_step::unread(closed) {
-        return closed;
+    if parse_step::unread(got) {
+        return got;
     }
     nodes::add_two(
-        closed.state,
+        got.state,
         name,
         adding::last(s.nodes),
-        adding::last(closed.state.nodes),
+        adding::last(got.state.nodes),
         text,
-        closed.next,
+        got.next,
         work,
     )
 }
@@ -281,56 +286,42 @@ fn inside(s: State, later: bool, text: &[u8], w: Word, work: &mut Work) -> Answe
     ensures { λ r. ⌜ Inside later (now (text .entry)) w s (now (work .entry)) (now (work .exit)) r × Spends (now (text .entry)) 0 w s r ⌝ }
 {
     if kinds::kind_of(w) == language::kinds::CONSTANT {
-        let kept = taking::take(text, w, s, false, Bearing::Level);
-        if parse_step::unread(kept) {
-            return kept;
-        }
-        let constant = constants::counted(kept.state, w, kept.next, work);
-        if parse_step::unread(constant) {
-            return constant;
-        }
-        let state = pieces::at(constant.state, s.nesting);
-        return rest(
-            state,
-            Rank::Sum,
-            Level::Expression,
-            text,
-            constant.next,
-            work,
-        );
+        return whole(s, true, Level::Expression, text, w, work);
     }
-    start(s, Level::Expression, text, w, work)
+    whole(s, false, Level::Expression, text, w, work)
 }
 
 // A conditional: IF, or CASE.
 fn choice(s: State, case: bool, text: &[u8], w: Word, work: &mut Work) -> Answer
     ensures { λ r. ⌜ (kindNo (w .kind) ≡ choiceWord case → Parses (ask L.term ∷ []) same (s .nesting) (now (text .entry)) w s (now (work .entry)) (now (work .exit)) r) × Spends (now (text .entry)) 0 w s r ⌝ }
 {
-    let opened = taking::take(text, w, s, true, Bearing::Opens);
-    if parse_step::unread(opened) {
-        return opened;
+    let mut got = taking::take(text, w, s, true, Bearing::Opens);
+    if parse_step::unread(got) {
+        return got;
     }
-    let condition = start(opened.state, Level::Expression, text, opened.next, work);
-    if parse_step::unread(condition) {
-        return condition;
+    let nesting = got.state.nesting;
+    got = start(got.state, Level::Expression, text, got.next, work);
+    if parse_step::unread(got) {
+        return got;
     }
-    let before = pieces::at(condition.state, opened.state.nesting);
-    let chosen = arms(before, case, text, condition.next, work);
+    let nodes = got.state.nodes;
+    let before = pieces::at(got.state, nesting);
+    let chosen = arms(before, case, text, got.next, work);
     if parse_step::unread(chosen.answer) {
         return chosen.answer;
     }
-    let closed = taking::expect(
+    got = taking::expect(
         text,
         chosen.answer.next,
         chosen.answer.state,
         pieces::last_word(case),
         Bearing::Closes,
     );
-    if parse_step::unread(closed) {
-        return closed;
+    if parse_step::unread(got) {
+        return got;
     }
-    let number = adding::last(condition.state.nodes);
-    pieces::add_choice(closed.state, number, chosen.count, w, closed.next, work)
+    let number = adding::last(nodes);
+    pieces::add_choice(got.state, number, chosen.count, w, got.next, work)
 }
 
 // The arms of a conditional.
@@ -360,32 +351,32 @@ fn arms(s: State, case: bool, text: &[u8], w: Word, work: &mut Work) -> Armed
 fn first_arm(s: State, separator: u8, text: &[u8], w: Word, work: &mut Work) -> Answer
     ensures { λ r. ⌜ FirstArm separator (now (text .entry)) w s (now (work .entry)) (now (work .exit)) r × (3 ≤ separator → Spends (now (text .entry)) 1 w s r) ⌝ }
 {
-    let word = taking::expect(text, w, s, separator, Bearing::Level);
-    if parse_step::unread(word) {
-        return word;
+    let mut got = taking::expect(text, w, s, separator, Bearing::Level);
+    if parse_step::unread(got) {
+        return got;
     }
-    let state = pieces::at(word.state, s.nesting);
-    let arm = start(state, Level::Expression, text, word.next, work);
-    if parse_step::unread(arm) {
-        return arm;
+    let state = pieces::at(got.state, s.nesting);
+    got = start(state, Level::Expression, text, got.next, work);
+    if parse_step::unread(got) {
+        return got;
     }
-    pieces::add_first_arm(arm.state, arm.next, work)
+    pieces::add_first_arm(got.state, got.next, work)
 }
 
 // An arm behind others.
 fn next_arm(s: State, separator: u8, text: &[u8], w: Word, work: &mut Work) -> Answer
     ensures { λ r. ⌜ NextArm separator (now (text .entry)) w s (now (work .entry)) (now (work .exit)) r × (3 ≤ separator → Spends (now (text .entry)) 1 w s r) ⌝ }
 {
-    let word = taking::expect(text, w, s, separator, Bearing::Level);
-    if parse_step::unread(word) {
-        return word;
+    let mut got = taking::expect(text, w, s, separator, Bearing::Level);
+    if parse_step::unread(got) {
+        return got;
     }
-    let state = pieces::at(word.state, s.nesting);
-    let arm = start(state, Level::Expression, text, word.next, work);
-    if parse_step::unread(arm) {
-        return arm;
+    let state = pieces::at(got.state, s.nesting);
+    got = start(state, Level::Expression, text, got.next, work);
+    if parse_step::unread(got) {
+        return got;
     }
-    pieces::add_next_arm(arm.state, adding::last(s.nodes), arm.next, work)
+    pieces::add_next_arm(got.state, adding::last(s.nodes), got.next, work)
 }
 
 // Further arms of CASE, behind n. Each writes a record, so that they end before the array is full.

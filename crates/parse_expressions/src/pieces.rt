@@ -15,12 +15,13 @@ use parse_step::adding;
 use parse_step::kinds;
 use parse_step::taking;
 use text_words::Word;
-ghost use mathlib.Core.Bool.{true};
+ghost use mathlib.Core.Bool.{Bool, true};
 ghost use mathlib.Core.List.{[], _∷_};
 ghost use mathlib.Core.Path.{_≡_};
 ghost use Prim.Native.Nat.{_+_, _-_, _%_};
 ghost use Rattle.about_grammar.specs.Following.{among};
 ghost use Rattle.language.specs.Description as D;
+ghost use Rattle.language.specs.Kinds.{aConstant};
 ghost use Rattle.language.specs.Machine as L;
 ghost use Rattle.parse_step.specs.Course.{ahead, kindNo};
 ghost use Rattle.parse_step.specs.Gained.{easedState};
@@ -31,7 +32,7 @@ ghost use Rattle.parse_levels.specs.Orders.{operatorsOf};
 ghost use Rattle.text_words.specs.Meaning.{positioned};
 ghost use Rattle.parse_step.specs.declared.ReadVerdict.the-variants.{Full};
 ghost use Rattle.parse_expressions.specs.Phrases as S;
-ghost use Rattle.parse_expressions.specs.Phrases.{Second, Unprefixed, afterName, atNesting, firstWord, gains, lastWord, otherWord, stayed};
+ghost use Rattle.parse_expressions.specs.Phrases.{Keeps, Second, Unprefixed, afterName, atNesting, firstWord, gains, lastWord, otherWord, rankBehind, stayed};
 
 // An answer, and how many arms there are.
 pub struct Armed {
@@ -146,19 +147,19 @@ pub fn operates(rank: Rank, w: Word) -> bool
     ranks::operates(rank, kinds::number(kind))
 }
 
-// Whether operators of a rank come at most once.
-pub fn once(rank: Rank) -> bool
-    ensures { λ r. ⌜ r ≡ S.once rank ⌝ }
+// The first rank whose operators may come behind one of a rank: the same, but for a relation, which comes at most once.
+pub fn behind(rank: Rank) -> Rank
+    ensures { λ r. ⌜ r ≡ rankBehind rank ⌝ }
 {
     match rank {
-        Rank::Sum => false,
-        Rank::Relation => true,
-        Rank::Cut => false,
-        Rank::Con => false,
-        Rank::And => false,
-        Rank::Exclusive => false,
-        Rank::Or => false,
-        Rank::Beyond => false,
+        Rank::Sum => Rank::Sum,
+        Rank::Relation => Rank::Cut,
+        Rank::Cut => Rank::Cut,
+        Rank::Con => Rank::Con,
+        Rank::And => Rank::And,
+        Rank::Exclusive => Rank::Exclusive,
+        Rank::Or => Rank::Or,
+        Rank::Beyond => Rank::Beyond,
     }
 }
 
@@ -222,6 +223,17 @@ pub fn add_choice(
     let beside = places::plain(at);
     let node = Node::Choice(condition, adding::last(s.nodes), count);
     adding::add(work, next, s, node, 0, beside)
+}
+
+// A constant in brackets that begins an expression: kept, and then counted.
+pub fn keep(s: State, text: &[u8], w: Word, work: &mut Work) -> Answer
+    ensures { λ r. ⌜ (kindNo (w .kind) ≡ aConstant → ((later : Bool) → Keeps later (now (text .entry)) w s (now (work .entry)) (now (work .exit)) r) × Spends (now (text .entry)) 0 w s r) ⌝ }
+{
+    let kept = taking::take(text, w, s, false, Bearing::Level);
+    if parse_step::unread(kept) {
+        return kept;
+    }
+    constants::counted(kept.state, w, kept.next, work)
 }
 
 // A part of a facility, between constants that have been seen.

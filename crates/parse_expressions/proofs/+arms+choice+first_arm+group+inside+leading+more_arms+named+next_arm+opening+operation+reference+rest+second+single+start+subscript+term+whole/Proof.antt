@@ -1,82 +1,84 @@
 use borrow.Author.Needs.{needs}
 use borrow.Author.Tests.{ltb-true}
-use mathlib.Core.Bool.{true}
-use mathlib.Core.Path.{_≡_, sym, ap, _∙_, subst}
+use mathlib.Core.Bool.{true, true≢false}
+use mathlib.Core.Path.{_≡_, refl, sym, ap, _∙_, subst}
 use native.Mathlib.Omega.{arith}
 use Prim.Native.Nat.{suc, _+_, _-_, _*_, _≤_}
 use Rattle.language.specs.Machine.{Counts}
 use Rattle.parse_step.specs.declared.State.{State}
 use Rattle.parse_step.specs.Course.{Seen}
 use Rattle.parse_step.specs.Pays.{Comes}
-use Rattle.parse_step.proofs.Narrow.{narrow}
-use Rattle.parse_step.proofs.Paying.{begins, comes-as, counted-comes, eases, expected-comes, expected-spends, full-spends, gained-spends, goes-on, nests, not-took, refusal-unspent, spent, spent-seen, stays-spends, took-comes, unexpected}
+use Rattle.parse_step.proofs.Paying.{begins, comes-as, counted-comes, eases, expected-comes, expected-spends, full-spends, gained-spends, goes-on, nests, not-took, refusal-unspent, spent, stays-spends, took-comes, unexpected}
 use Rattle.parse_levels.specs.declared.Level.{Level}
 use Rattle.parse_levels.specs.Orders.{rankNo, topNo}
 use Rattle.parse_levels.proofs.TailWords.{top-most}
 use Rattle.parse_operands.proofs.OperandCosts.{adds-spends}
 use Rattle.parse_expressions.proofs.ArmLaws.{Armings, armings-begin, armings-end, armings-full, armings-more, armings-not, arms-none, arms-one, arms-says, branches-not, choice-not, choice-says, closers, condition-not, first-inner, first-not, first-says, last-not, next-inner, next-not, next-says, others, separators}
-use Rattle.parse_expressions.proofs.BracketLaws.{close-not, close-says, comma-not, comma-says, counted-not, end-not, ends-so, inside-expression, inside-not, inside-says, one-says, second-not, second-says, single-not, single-says, subscript-not}
+use Rattle.parse_expressions.proofs.BracketLaws.{close-not, close-says, comma-not, comma-says, end-not, ends-so, inside-expression, leads-constant, leads-plain, level-not, level-says, one-says, second-not, second-says, single-not, single-says, subscript-not}
 use Rattle.parse_expressions.proofs.Falling.{next-up, not-cut, not-plain, operand-tighter}
-use Rattle.parse_expressions.proofs.StartLaws.{opening-not, opening-says, operand-not, plain-opening, red-not, rest-none, rest-not, rest-says, start-not, start-says}
-use Rattle.parse_expressions.proofs.TailLaws.{Tails, cut-operation, operation-not, operation-says, right-not, tails-begin, tails-end, tails-full, tails-more, tails-not, tails-once}
+use Rattle.parse_expressions.proofs.StartLaws.{opening-not, opening-says, operand-not, plain-opening, red-not}
+use Rattle.parse_expressions.proofs.TailLaws.{Walks, cut-operation, operation-not, operation-says, right-not, walks-begin, walks-end, walks-full, walks-more, walks-next, walks-not}
 use Rattle.parse_expressions.proofs.TermLaws.{group-not, group-says, inner-not, named-not, named-says, reference-not, reference-says, term-not, whole-says}
 use Prim.Native.Nat.{ℕ, _<_}
 use borrow.Fn.Kinds.{In}
 use borrow.Fn.PlainCycle.{Measures, is, falls, and}
 use Rattle.parse_expressions.proofs.arms.Reads as arms
 use Rattle.parse_expressions.proofs.arms.Kinds as arms-kinds
-use Rattle.parse_expressions.proofs.+arms+choice+first_arm+group+inside+more_arms+named+next_arm+opening+operation+reference+rest+second+single+start+subscript+tail+term.Lts-arms as arms-lts
+use Rattle.parse_expressions.proofs.+arms+choice+first_arm+group+inside+leading+more_arms+named+next_arm+opening+operation+reference+rest+second+single+start+subscript+term+whole.Lts-arms as arms-lts
 use Rattle.parse_expressions.proofs.choice.Reads as choice
 use Rattle.parse_expressions.proofs.choice.Kinds as choice-kinds
-use Rattle.parse_expressions.proofs.+arms+choice+first_arm+group+inside+more_arms+named+next_arm+opening+operation+reference+rest+second+single+start+subscript+tail+term.Lts-choice as choice-lts
+use Rattle.parse_expressions.proofs.+arms+choice+first_arm+group+inside+leading+more_arms+named+next_arm+opening+operation+reference+rest+second+single+start+subscript+term+whole.Lts-choice as choice-lts
 use Rattle.parse_expressions.proofs.first_arm.Reads as first-arm
 use Rattle.parse_expressions.proofs.first_arm.Kinds as first-arm-kinds
-use Rattle.parse_expressions.proofs.+arms+choice+first_arm+group+inside+more_arms+named+next_arm+opening+operation+reference+rest+second+single+start+subscript+tail+term.Lts-first_arm as first-arm-lts
+use Rattle.parse_expressions.proofs.+arms+choice+first_arm+group+inside+leading+more_arms+named+next_arm+opening+operation+reference+rest+second+single+start+subscript+term+whole.Lts-first_arm as first-arm-lts
 use Rattle.parse_expressions.proofs.group.Reads as group
 use Rattle.parse_expressions.proofs.group.Kinds as group-kinds
-use Rattle.parse_expressions.proofs.+arms+choice+first_arm+group+inside+more_arms+named+next_arm+opening+operation+reference+rest+second+single+start+subscript+tail+term.Lts-group as group-lts
+use Rattle.parse_expressions.proofs.+arms+choice+first_arm+group+inside+leading+more_arms+named+next_arm+opening+operation+reference+rest+second+single+start+subscript+term+whole.Lts-group as group-lts
 use Rattle.parse_expressions.proofs.inside.Reads as inside
 use Rattle.parse_expressions.proofs.inside.Kinds as inside-kinds
-use Rattle.parse_expressions.proofs.+arms+choice+first_arm+group+inside+more_arms+named+next_arm+opening+operation+reference+rest+second+single+start+subscript+tail+term.Lts-inside as inside-lts
+use Rattle.parse_expressions.proofs.+arms+choice+first_arm+group+inside+leading+more_arms+named+next_arm+opening+operation+reference+rest+second+single+start+subscript+term+whole.Lts-inside as inside-lts
+use Rattle.parse_expressions.proofs.leading.Reads as leading
+use Rattle.parse_expressions.proofs.leading.Kinds as leading-kinds
+use Rattle.parse_expressions.proofs.+arms+choice+first_arm+group+inside+leading+more_arms+named+next_arm+opening+operation+reference+rest+second+single+start+subscript+term+whole.Lts-leading as leading-lts
 use Rattle.parse_expressions.proofs.more_arms.Reads as more-arms
 use Rattle.parse_expressions.proofs.more_arms.Kinds as more-arms-kinds
-use Rattle.parse_expressions.proofs.+arms+choice+first_arm+group+inside+more_arms+named+next_arm+opening+operation+reference+rest+second+single+start+subscript+tail+term.Lts-more_arms as more-arms-lts
+use Rattle.parse_expressions.proofs.+arms+choice+first_arm+group+inside+leading+more_arms+named+next_arm+opening+operation+reference+rest+second+single+start+subscript+term+whole.Lts-more_arms as more-arms-lts
 use Rattle.parse_expressions.proofs.named.Reads as named
 use Rattle.parse_expressions.proofs.named.Kinds as named-kinds
-use Rattle.parse_expressions.proofs.+arms+choice+first_arm+group+inside+more_arms+named+next_arm+opening+operation+reference+rest+second+single+start+subscript+tail+term.Lts-named as named-lts
+use Rattle.parse_expressions.proofs.+arms+choice+first_arm+group+inside+leading+more_arms+named+next_arm+opening+operation+reference+rest+second+single+start+subscript+term+whole.Lts-named as named-lts
 use Rattle.parse_expressions.proofs.next_arm.Reads as next-arm
 use Rattle.parse_expressions.proofs.next_arm.Kinds as next-arm-kinds
-use Rattle.parse_expressions.proofs.+arms+choice+first_arm+group+inside+more_arms+named+next_arm+opening+operation+reference+rest+second+single+start+subscript+tail+term.Lts-next_arm as next-arm-lts
+use Rattle.parse_expressions.proofs.+arms+choice+first_arm+group+inside+leading+more_arms+named+next_arm+opening+operation+reference+rest+second+single+start+subscript+term+whole.Lts-next_arm as next-arm-lts
 use Rattle.parse_expressions.proofs.opening.Reads as opening
 use Rattle.parse_expressions.proofs.opening.Kinds as opening-kinds
-use Rattle.parse_expressions.proofs.+arms+choice+first_arm+group+inside+more_arms+named+next_arm+opening+operation+reference+rest+second+single+start+subscript+tail+term.Lts-opening as opening-lts
+use Rattle.parse_expressions.proofs.+arms+choice+first_arm+group+inside+leading+more_arms+named+next_arm+opening+operation+reference+rest+second+single+start+subscript+term+whole.Lts-opening as opening-lts
 use Rattle.parse_expressions.proofs.operation.Reads as operation
 use Rattle.parse_expressions.proofs.operation.Kinds as operation-kinds
-use Rattle.parse_expressions.proofs.+arms+choice+first_arm+group+inside+more_arms+named+next_arm+opening+operation+reference+rest+second+single+start+subscript+tail+term.Lts-operation as operation-lts
+use Rattle.parse_expressions.proofs.+arms+choice+first_arm+group+inside+leading+more_arms+named+next_arm+opening+operation+reference+rest+second+single+start+subscript+term+whole.Lts-operation as operation-lts
 use Rattle.parse_expressions.proofs.reference.Reads as reference
 use Rattle.parse_expressions.proofs.reference.Kinds as reference-kinds
-use Rattle.parse_expressions.proofs.+arms+choice+first_arm+group+inside+more_arms+named+next_arm+opening+operation+reference+rest+second+single+start+subscript+tail+term.Lts-reference as reference-lts
+use Rattle.parse_expressions.proofs.+arms+choice+first_arm+group+inside+leading+more_arms+named+next_arm+opening+operation+reference+rest+second+single+start+subscript+term+whole.Lts-reference as reference-lts
 use Rattle.parse_expressions.proofs.rest.Reads as rest
 use Rattle.parse_expressions.proofs.rest.Kinds as rest-kinds
-use Rattle.parse_expressions.proofs.+arms+choice+first_arm+group+inside+more_arms+named+next_arm+opening+operation+reference+rest+second+single+start+subscript+tail+term.Lts-rest as rest-lts
+use Rattle.parse_expressions.proofs.+arms+choice+first_arm+group+inside+leading+more_arms+named+next_arm+opening+operation+reference+rest+second+single+start+subscript+term+whole.Lts-rest as rest-lts
 use Rattle.parse_expressions.proofs.second.Reads as second
 use Rattle.parse_expressions.proofs.second.Kinds as second-kinds
-use Rattle.parse_expressions.proofs.+arms+choice+first_arm+group+inside+more_arms+named+next_arm+opening+operation+reference+rest+second+single+start+subscript+tail+term.Lts-second as second-lts
+use Rattle.parse_expressions.proofs.+arms+choice+first_arm+group+inside+leading+more_arms+named+next_arm+opening+operation+reference+rest+second+single+start+subscript+term+whole.Lts-second as second-lts
 use Rattle.parse_expressions.proofs.single.Reads as single
 use Rattle.parse_expressions.proofs.single.Kinds as single-kinds
-use Rattle.parse_expressions.proofs.+arms+choice+first_arm+group+inside+more_arms+named+next_arm+opening+operation+reference+rest+second+single+start+subscript+tail+term.Lts-single as single-lts
+use Rattle.parse_expressions.proofs.+arms+choice+first_arm+group+inside+leading+more_arms+named+next_arm+opening+operation+reference+rest+second+single+start+subscript+term+whole.Lts-single as single-lts
 use Rattle.parse_expressions.proofs.start.Reads as start
 use Rattle.parse_expressions.proofs.start.Kinds as start-kinds
-use Rattle.parse_expressions.proofs.+arms+choice+first_arm+group+inside+more_arms+named+next_arm+opening+operation+reference+rest+second+single+start+subscript+tail+term.Lts-start as start-lts
+use Rattle.parse_expressions.proofs.+arms+choice+first_arm+group+inside+leading+more_arms+named+next_arm+opening+operation+reference+rest+second+single+start+subscript+term+whole.Lts-start as start-lts
 use Rattle.parse_expressions.proofs.subscript.Reads as subscript
 use Rattle.parse_expressions.proofs.subscript.Kinds as subscript-kinds
-use Rattle.parse_expressions.proofs.+arms+choice+first_arm+group+inside+more_arms+named+next_arm+opening+operation+reference+rest+second+single+start+subscript+tail+term.Lts-subscript as subscript-lts
-use Rattle.parse_expressions.proofs.tail.Reads as tail
-use Rattle.parse_expressions.proofs.tail.Kinds as tail-kinds
-use Rattle.parse_expressions.proofs.+arms+choice+first_arm+group+inside+more_arms+named+next_arm+opening+operation+reference+rest+second+single+start+subscript+tail+term.Lts-tail as tail-lts
+use Rattle.parse_expressions.proofs.+arms+choice+first_arm+group+inside+leading+more_arms+named+next_arm+opening+operation+reference+rest+second+single+start+subscript+term+whole.Lts-subscript as subscript-lts
 use Rattle.parse_expressions.proofs.term.Reads as term
 use Rattle.parse_expressions.proofs.term.Kinds as term-kinds
-use Rattle.parse_expressions.proofs.+arms+choice+first_arm+group+inside+more_arms+named+next_arm+opening+operation+reference+rest+second+single+start+subscript+tail+term.Lts-term as term-lts
+use Rattle.parse_expressions.proofs.+arms+choice+first_arm+group+inside+leading+more_arms+named+next_arm+opening+operation+reference+rest+second+single+start+subscript+term+whole.Lts-term as term-lts
+use Rattle.parse_expressions.proofs.whole.Reads as whole
+use Rattle.parse_expressions.proofs.whole.Kinds as whole-kinds
+use Rattle.parse_expressions.proofs.+arms+choice+first_arm+group+inside+leading+more_arms+named+next_arm+opening+operation+reference+rest+second+single+start+subscript+term+whole.Lts-whole as whole-lts
 use Rattle.parse_step.proofs.adding.last.Reads as last-reads
 use Rattle.parse_step.proofs.kinds.kind_of.Reads as kind-of-reads
 use Rattle.parse_step.proofs.unread.Reads as unread-reads
@@ -91,7 +93,6 @@ use Rattle.parse_levels.proofs.ranks.next.Reads as next-reads
 use Rattle.parse_levels.proofs.ranks.operand.Reads as operand-reads
 use Rattle.parse_levels.proofs.ranks.within.Reads as within-reads
 use Rattle.parse_operands.proofs.constants.constant.Reads as constant-reads
-use Rattle.parse_operands.proofs.constants.counted.Reads as counted-reads
 use Rattle.parse_operands.proofs.cuts.cut.Reads as cut-reads
 use Rattle.parse_operands.proofs.nodes.add_one.Reads as add-one-reads
 use Rattle.parse_operands.proofs.nodes.add_two.Reads as add-two-reads
@@ -103,10 +104,11 @@ use Rattle.parse_expressions.proofs.pieces.add_next_arm.Reads as add-ne
 use Rattle.parse_expressions.proofs.pieces.add_prefix.Reads as add-prefix-reads
 use Rattle.parse_expressions.proofs.pieces.another.Reads as another-reads
 use Rattle.parse_expressions.proofs.pieces.at.Reads as at-reads
+use Rattle.parse_expressions.proofs.pieces.behind.Reads as behind-reads
 use Rattle.parse_expressions.proofs.pieces.first_word.Reads as first-word-reads
 use Rattle.parse_expressions.proofs.pieces.full.Reads as full-reads
+use Rattle.parse_expressions.proofs.pieces.keep.Reads as keep-reads
 use Rattle.parse_expressions.proofs.pieces.last_word.Reads as last-word-reads
-use Rattle.parse_expressions.proofs.pieces.once.Reads as once-reads
 use Rattle.parse_expressions.proofs.pieces.one_more.Reads as one-more-reads
 use Rattle.parse_expressions.proofs.pieces.operates.Reads as operates-reads
 use Rattle.parse_expressions.proofs.pieces.other_word.Reads as other-word-reads
@@ -114,10 +116,10 @@ use Rattle.parse_expressions.proofs.pieces.part.Reads as part-reads
 use Rattle.parse_expressions.proofs.pieces.reducing.Reads as reducing-reads
 use Rattle.parse_expressions.proofs.pieces.stay.Reads as stay-reads
 use Rattle.parse_expressions.proofs.pieces.word_part.Reads as word-part-reads
-use Rattle.parse_expressions.proofs.+arms+choice+first_arm+group+inside+more_arms+named+next_arm+opening+operation+reference+rest+second+single+start+subscript+tail+term.{
+use Rattle.parse_expressions.proofs.+arms+choice+first_arm+group+inside+leading+more_arms+named+next_arm+opening+operation+reference+rest+second+single+start+subscript+term+whole.{
   statement,
 }
-use Rattle.parse_expressions.proofs.+arms+choice+first_arm+group+inside+more_arms+named+next_arm+opening+operation+reference+rest+second+single+start+subscript+tail+term.Tie.{
+use Rattle.parse_expressions.proofs.+arms+choice+first_arm+group+inside+leading+more_arms+named+next_arm+opening+operation+reference+rest+second+single+start+subscript+term+whole.Tie.{
   close,
 }
 
@@ -136,6 +138,9 @@ abbrev μ-group : Measures 2 group-kinds.ps ℕ
 abbrev μ-inside : Measures 2 inside-kinds.ps ℕ
 μ-inside κs a = (24 - a .0 .nesting) * 1024 + 400
 
+abbrev μ-leading : Measures 2 leading-kinds.ps ℕ
+μ-leading κs a = (24 - a .0 .nesting) * 1024 + 213
+
 abbrev μ-more-arms : Measures 2 more-arms-kinds.ps ℕ
 μ-more-arms κs a = (24 - a .0 .nesting) * 1024 + 410
 
@@ -149,13 +154,13 @@ abbrev μ-opening : Measures 2 opening-kinds.ps ℕ
 μ-opening κs a = (24 - a .0 .nesting) * 1024 + 212
 
 abbrev μ-operation : Measures 2 operation-kinds.ps ℕ
-μ-operation κs a = (24 - a .0 .nesting) * 1024 + 16 * rankNo (a .1 .0) + 215
+μ-operation κs a = (24 - a .0 .nesting) * 1024 + 16 * rankNo (a .1 .0) + 216
 
 abbrev μ-reference : Measures 2 reference-kinds.ps ℕ
 μ-reference κs a = (24 - a .0 .nesting) * 1024 + 209
 
 abbrev μ-rest : Measures 2 rest-kinds.ps ℕ
-μ-rest κs a = (24 - a .0 .nesting) * 1024 + 16 * topNo (a .1 .1 .0) + (8 - rankNo (a .1 .0)) + 200
+μ-rest κs a = (24 - a .0 .nesting) * 1024 + 16 * topNo (a .1 .1 .0) + 202
 
 abbrev μ-second : Measures 2 second-kinds.ps ℕ
 μ-second κs a = (24 - a .0 .nesting) * 1024 + 1030
@@ -164,16 +169,16 @@ abbrev μ-single : Measures 2 single-kinds.ps ℕ
 μ-single κs a = (24 - a .0 .nesting) * 1024 + 7
 
 abbrev μ-start : Measures 2 start-kinds.ps ℕ
-μ-start κs a = (24 - a .0 .nesting) * 1024 + 16 * topNo (a .1 .0) + 214
+μ-start κs a = (24 - a .0 .nesting) * 1024 + 16 * topNo (a .1 .0) + 215
 
 abbrev μ-subscript : Measures 2 subscript-kinds.ps ℕ
 μ-subscript κs a = (24 - a .0 .nesting) * 1024 + 1032
 
-abbrev μ-tail : Measures 2 tail-kinds.ps ℕ
-μ-tail κs a = (24 - a .0 .nesting) * 1024 + 16 * rankNo (a .1 .0) + 216
-
 abbrev μ-term : Measures 2 term-kinds.ps ℕ
 μ-term κs a = (24 - a .0 .nesting) * 1024 + 211
+
+abbrev μ-whole : Measures 2 whole-kinds.ps ℕ
+μ-whole κs a = (24 - a .0 .nesting) * 1024 + 16 * topNo (a .1 .1 .0) + 214
 
 abbrev arms-at : ℕ → In 2 arms-kinds.ps
 arms-at t = and 2 arms-kinds.ps (is 2 arms-kinds.ps μ-arms t) arms.Pre
@@ -205,6 +210,12 @@ inside-at t = and 2 inside-kinds.ps (is 2 inside-kinds.ps μ-inside t) inside.Pr
 
 abbrev inside-below : ℕ → In 2 inside-kinds.ps
 inside-below t = and 2 inside-kinds.ps (falls 2 inside-kinds.ps _<_ μ-inside t) inside.Pre
+
+abbrev leading-at : ℕ → In 2 leading-kinds.ps
+leading-at t = and 2 leading-kinds.ps (is 2 leading-kinds.ps μ-leading t) leading.Pre
+
+abbrev leading-below : ℕ → In 2 leading-kinds.ps
+leading-below t = and 2 leading-kinds.ps (falls 2 leading-kinds.ps _<_ μ-leading t) leading.Pre
 
 abbrev more-arms-at : ℕ → In 2 more-arms-kinds.ps
 more-arms-at t = and 2 more-arms-kinds.ps (is 2 more-arms-kinds.ps μ-more-arms t) more-arms.Pre
@@ -277,17 +288,17 @@ abbrev subscript-below : ℕ → In 2 subscript-kinds.ps
 subscript-below t =
     and 2 subscript-kinds.ps (falls 2 subscript-kinds.ps _<_ μ-subscript t) subscript.Pre
 
-abbrev tail-at : ℕ → In 2 tail-kinds.ps
-tail-at t = and 2 tail-kinds.ps (is 2 tail-kinds.ps μ-tail t) tail.Pre
-
-abbrev tail-below : ℕ → In 2 tail-kinds.ps
-tail-below t = and 2 tail-kinds.ps (falls 2 tail-kinds.ps _<_ μ-tail t) tail.Pre
-
 abbrev term-at : ℕ → In 2 term-kinds.ps
 term-at t = and 2 term-kinds.ps (is 2 term-kinds.ps μ-term t) term.Pre
 
 abbrev term-below : ℕ → In 2 term-kinds.ps
 term-below t = and 2 term-kinds.ps (falls 2 term-kinds.ps _<_ μ-term t) term.Pre
+
+abbrev whole-at : ℕ → In 2 whole-kinds.ps
+whole-at t = and 2 whole-kinds.ps (is 2 whole-kinds.ps μ-whole t) whole.Pre
+
+abbrev whole-below : ℕ → In 2 whole-kinds.ps
+whole-below t = and 2 whole-kinds.ps (falls 2 whole-kinds.ps _<_ μ-whole t) whole.Pre
 
 abbrev arms-calls : ℕ → arms-lts.Claims
 arms-calls t = (first-word-reads.Asked, first-word-reads.Learnt, first-arm-below t, first-arm.Post, unread-reads.Asked, unread-reads.Learnt, at-reads.Asked, at-reads.Learnt, other-word-reads.Asked, other-word-reads.Learnt, next-arm-below t, next-arm.Post, more-arms-below t, more-arms.Post)
@@ -302,7 +313,10 @@ abbrev group-calls : ℕ → group-lts.Claims
 group-calls t = (take-reads.Asked, take-reads.Learnt, unread-reads.Asked, unread-reads.Learnt, start-below t, start.Post, expect-reads.Asked, expect-reads.Learnt)
 
 abbrev inside-calls : ℕ → inside-lts.Claims
-inside-calls t = (kind-of-reads.Asked, kind-of-reads.Learnt, take-reads.Asked, take-reads.Learnt, unread-reads.Asked, unread-reads.Learnt, counted-reads.Asked, counted-reads.Learnt, at-reads.Asked, at-reads.Learnt, rest-below t, rest.Post, start-below t, start.Post)
+inside-calls t = (kind-of-reads.Asked, kind-of-reads.Learnt, whole-below t, whole.Post)
+
+abbrev leading-calls : ℕ → leading-lts.Claims
+leading-calls t = (keep-reads.Asked, keep-reads.Learnt, opening-below t, opening.Post)
 
 abbrev more-arms-calls : ℕ → more-arms-lts.Claims
 more-arms-calls t = (another-reads.Asked, another-reads.Learnt, at-reads.Asked, at-reads.Learnt, next-arm-below t, next-arm.Post, unread-reads.Asked, unread-reads.Learnt, one-more-reads.Asked, one-more-reads.Learnt, stay-reads.Asked, stay-reads.Learnt, full-reads.Asked, full-reads.Learnt)
@@ -323,7 +337,7 @@ abbrev reference-calls : ℕ → reference-lts.Claims
 reference-calls t = (kind-of-reads.Asked, kind-of-reads.Learnt, take-reads.Asked, take-reads.Learnt, unread-reads.Asked, unread-reads.Learnt, subscript-below t, subscript.Post, add-whole-reads.Asked, add-whole-reads.Learnt)
 
 abbrev rest-calls : ℕ → rest-lts.Claims
-rest-calls t = (within-reads.Asked, within-reads.Learnt, tail-below t, tail.Post, unread-reads.Asked, unread-reads.Learnt, at-reads.Asked, at-reads.Learnt, next-reads.Asked, next-reads.Learnt, rest-below t, rest.Post, stay-reads.Asked, stay-reads.Learnt)
+rest-calls t = (within-reads.Asked, within-reads.Learnt, operates-reads.Asked, operates-reads.Learnt, full-reads.Asked, full-reads.Learnt, operation-below t, operation.Post, unread-reads.Asked, unread-reads.Learnt, at-reads.Asked, at-reads.Learnt, behind-reads.Asked, behind-reads.Learnt, next-reads.Asked, next-reads.Learnt, stay-reads.Asked, stay-reads.Learnt)
 
 abbrev second-calls : ℕ → second-lts.Claims
 second-calls t = (ends-ahead-reads.Asked, ends-ahead-reads.Learnt, word-part-reads.Asked, word-part-reads.Learnt, inside-below t, inside.Post, unread-reads.Asked, unread-reads.Learnt, expect-reads.Asked, expect-reads.Learnt, last-reads.Asked, last-reads.Learnt, add-two-reads.Asked, add-two-reads.Learnt)
@@ -332,16 +346,16 @@ abbrev single-calls : ℕ → single-lts.Claims
 single-calls t = (kind-of-reads.Asked, kind-of-reads.Learnt, take-reads.Asked, take-reads.Learnt, unread-reads.Asked, unread-reads.Learnt, second-below t, second.Post, last-reads.Asked, last-reads.Learnt, add-one-reads.Asked, add-one-reads.Learnt)
 
 abbrev start-calls : ℕ → start-lts.Claims
-start-calls t = (kind-of-reads.Asked, kind-of-reads.Learnt, head-of-reads.Asked, head-of-reads.Learnt, opening-below t, opening.Post, unread-reads.Asked, unread-reads.Learnt, at-reads.Asked, at-reads.Learnt, after-reads.Asked, after-reads.Learnt, rest-below t, rest.Post)
+start-calls t = (whole-below t, whole.Post)
 
 abbrev subscript-calls : ℕ → subscript-lts.Claims
 subscript-calls t = (ends-ahead-reads.Asked, ends-ahead-reads.Learnt, part-reads.Asked, part-reads.Learnt, inside-below t, inside.Post, unread-reads.Asked, unread-reads.Learnt, kind-of-reads.Asked, kind-of-reads.Learnt, take-reads.Asked, take-reads.Learnt, at-reads.Asked, at-reads.Learnt, second-below t, second.Post, expect-reads.Asked, expect-reads.Learnt, last-reads.Asked, last-reads.Learnt, single-below t, single.Post)
 
-abbrev tail-calls : ℕ → tail-lts.Claims
-tail-calls t = (operates-reads.Asked, operates-reads.Learnt, at-reads.Asked, at-reads.Learnt, operation-below t, operation.Post, unread-reads.Asked, unread-reads.Learnt, once-reads.Asked, once-reads.Learnt, stay-reads.Asked, stay-reads.Learnt, full-reads.Asked, full-reads.Learnt)
-
 abbrev term-calls : ℕ → term-lts.Claims
 term-calls t = (kind-of-reads.Asked, kind-of-reads.Learnt, constant-reads.Asked, constant-reads.Learnt, named-below t, named.Post, group-below t, group.Post, choice-below t, choice.Post, refuse-reads.Asked, refuse-reads.Learnt)
+
+abbrev whole-calls : ℕ → whole-lts.Claims
+whole-calls t = (kind-of-reads.Asked, kind-of-reads.Learnt, head-of-reads.Asked, head-of-reads.Learnt, leading-below t, leading.Post, unread-reads.Asked, unread-reads.Learnt, at-reads.Asked, at-reads.Learnt, after-reads.Asked, after-reads.Learnt, rest-below t, rest.Post)
 
 arms-first-word-requires : (t : ℕ) → arms-lts.Need-first-word-requires (arms-calls t) (arms-at t) arms.Post
 arms-first-word-requires t c κs = search needs
@@ -504,43 +518,33 @@ group-returns-3 t c =
 inside-kind-of-requires : (t : ℕ) → inside-lts.Need-kind-of-requires (inside-calls t) (inside-at t) inside.Post
 inside-kind-of-requires t c κs = search needs
 
-inside-take-requires : (t : ℕ) → inside-lts.Need-take-requires (inside-calls t) (inside-at t) inside.Post
-inside-take-requires t c κs = search needs
-
-inside-unread-requires : (t : ℕ) → inside-lts.Need-unread-requires (inside-calls t) (inside-at t) inside.Post
-inside-unread-requires t c κs = search needs
+inside-whole-requires : (t : ℕ) → inside-lts.Need-whole-requires (inside-calls t) (inside-at t) inside.Post
+inside-whole-requires t c κs = search needs
 
 inside-returns : (t : ℕ) → inside-lts.Need-returns (inside-calls t) (inside-at t) inside.Post
 inside-returns t c =
-    (inside-not (c .before .before .before .before .before .before .args .later) (sym (c .before .before .before .before .kind-of .ensures) ∙ c .before .before .before .if1 .taken) (c .before .before .take .ensures) (c .before .unread .ensures .1 (c .if2 .taken)), not-took (c .before .before .take .ensures) (c .before .unread .ensures .1 (c .if2 .taken)))
+    (c .whole .ensures .0 .constant refl refl (sym (c .before .before .before .kind-of .ensures) ∙ c .before .before .if1 .taken) (c .before .before .before .before .before .args .later), c .whole .ensures .1 (λ e. sym (c .before .before .before .kind-of .ensures) ∙ c .before .before .if1 .taken))
 
-inside-counted-requires : (t : ℕ) → inside-lts.Need-counted-requires (inside-calls t) (inside-at t) inside.Post
-inside-counted-requires t c κs = search needs
-
-inside-unread-requires-2 : (t : ℕ) → inside-lts.Need-unread-requires-2 (inside-calls t) (inside-at t) inside.Post
-inside-unread-requires-2 t c κs = search needs
+inside-whole-requires-2 : (t : ℕ) → inside-lts.Need-whole-requires-2 (inside-calls t) (inside-at t) inside.Post
+inside-whole-requires-2 t c κs = search needs
 
 inside-returns-2 : (t : ℕ) → inside-lts.Need-returns-2 (inside-calls t) (inside-at t) inside.Post
 inside-returns-2 t c =
-    (counted-not (c .before .before .before .before .before .before .before .before .before .before .args .later) (sym (c .before .before .before .before .before .before .before .before .kind-of .ensures) ∙ c .before .before .before .before .before .before .before .if1 .taken) (c .before .before .before .before .before .before .take .ensures) (c .before .before .before .before .before .unread .ensures .0 (c .before .before .before .before .if2 .left)) (c .before .before .counted .ensures .0) (c .before .unread2 .ensures .1 (c .if3 .taken)), spent-seen (λ z. spent (took-comes (c .before .before .before .before .before .before .take .ensures) (c .before .before .before .before .before .unread .ensures .0 (c .before .before .before .before .if2 .left))) (c .before .before .counted .ensures .1 _ (narrow _ (c .before .before .before .before .before .before .before .before .before .before .args .w) z (sym (c .before .before .before .before .before .before .before .before .kind-of .ensures) ∙ c .before .before .before .before .before .before .before .if1 .taken))) (omega arith)))
+    (inside-expression (c .before .before .before .before .before .args .later) (λ e. c .before .before .if1 .left (c .before .before .before .kind-of .ensures ∙ e)) (c .whole2 .ensures .0 .plain refl), c .whole2 .ensures .1 (λ e. absurd (true≢false (sym e))))
 
-inside-at-requires : (t : ℕ) → inside-lts.Need-at-requires (inside-calls t) (inside-at t) inside.Post
-inside-at-requires t c κs = search needs
+leading-keep-requires : (t : ℕ) → leading-lts.Need-keep-requires (leading-calls t) (leading-at t) leading.Post
+leading-keep-requires t c κs = search needs
 
-inside-rest-requires : (t : ℕ) → inside-lts.Need-rest-requires (inside-calls t) (inside-at t) inside.Post
-inside-rest-requires t c κs =
-    let h : c .before .at .result .nesting ≡ c .before .before .before .before .before .before .before .before .before .before .before .before .args .s .nesting = ap (λ (q : State). q .nesting) (c .before .at .ensures) in search needs
+leading-returns : (t : ℕ) → leading-lts.Need-returns (leading-calls t) (leading-at t) leading.Post
+leading-returns t c =
+    (leads-constant (c .before .before .if1 .taken) (λ k. c .keep .ensures k .0), λ k. c .keep .ensures (k (c .before .before .if1 .taken)) .1)
 
-inside-returns-3 : (t : ℕ) → inside-lts.Need-returns-3 (inside-calls t) (inside-at t) inside.Post
-inside-returns-3 t c =
-    (inside-says (c .before .before .before .before .before .before .before .before .before .before .before .before .before .args .later) (sym (c .before .before .before .before .before .before .before .before .before .before .before .kind-of .ensures) ∙ c .before .before .before .before .before .before .before .before .before .before .if1 .taken) (c .before .before .before .before .before .before .before .before .before .take .ensures) (c .before .before .before .before .before .before .before .before .unread .ensures .0 (c .before .before .before .before .before .before .before .if2 .left)) (c .before .before .before .before .before .counted .ensures .0) (c .before .before .before .before .unread2 .ensures .0 (c .before .before .before .if3 .left)) (c .before .before .at .ensures) (c .rest .ensures .0), spent-seen (λ z. spent (goes-on (took-comes (c .before .before .before .before .before .before .before .before .before .take .ensures) (c .before .before .before .before .before .before .before .before .unread .ensures .0 (c .before .before .before .before .before .before .before .if2 .left))) (goes-on ((c .before .before .before .before .before .counted .ensures .1 _ (narrow _ (c .before .before .before .before .before .before .before .before .before .before .before .before .before .args .w) z (sym (c .before .before .before .before .before .before .before .before .before .before .before .kind-of .ensures) ∙ c .before .before .before .before .before .before .before .before .before .before .if1 .taken))) .done (c .before .before .before .before .unread2 .ensures .0 (c .before .before .before .if3 .left))) (nests (c .before .before .at .ensures)))) (c .rest .ensures .1) (omega arith)))
+leading-opening-requires : (t : ℕ) → leading-lts.Need-opening-requires (leading-calls t) (leading-at t) leading.Post
+leading-opening-requires t c κs = search needs
 
-inside-start-requires : (t : ℕ) → inside-lts.Need-start-requires (inside-calls t) (inside-at t) inside.Post
-inside-start-requires t c κs = search needs
-
-inside-returns-4 : (t : ℕ) → inside-lts.Need-returns-4 (inside-calls t) (inside-at t) inside.Post
-inside-returns-4 t c =
-    (inside-expression (c .before .before .before .before .before .args .later) (λ e. c .before .before .if1 .left (c .before .before .before .kind-of .ensures ∙ e)) (c .start .ensures .0), c .start .ensures .1)
+leading-returns-2 : (t : ℕ) → leading-lts.Need-returns-2 (leading-calls t) (leading-at t) leading.Post
+leading-returns-2 t c =
+    (leads-plain (c .before .before .if1 .left) (c .opening .ensures .0), λ k. c .opening .ensures .1)
 
 abbrev more-arms-Inv-loop : more-arms-lts.InvT-loop
 more-arms-Inv-loop s case n text work₀ state₀ next₀ count₀ left₀ work state next count left = Armings case text next₀ s work₀ n next state work count left × (Seen text next₀ → Comes text 0 0 s next state)
@@ -777,40 +781,73 @@ reference-returns-3 : (t : ℕ) → reference-lts.Need-returns-3 (reference-call
 reference-returns-3 t c =
     (whole-says (c .before .before .before .before .before .args .name) (c .before .before .before .kind-of .ensures) (c .before .before .if1 .left) (c .add-whole .ensures), adds-spends (c .add-whole .ensures))
 
-rest-within-requires : (t : ℕ) → rest-lts.Need-within-requires (rest-calls t) (rest-at t) rest.Post
+abbrev rest-Inv-loop : rest-lts.InvT-loop
+rest-Inv-loop s level text work₀ state₀ next₀ from₀ left₀ work state next from left = Walks from₀ level text next₀ s work₀ from next state work left × (Seen text next₀ → Comes text 0 0 s next state)
+
+abbrev rest-μ-loop : rest-lts.MeasureT-loop
+rest-μ-loop s level text work₀ state₀ next₀ from₀ left₀ work state next from left = 16 * left + (8 - rankNo from)
+
+rest-loop-holds : (t : ℕ) → rest-lts.Need-loop-holds (rest-calls t) (rest-at t) rest.Post rest-Inv-loop rest-μ-loop
+rest-loop-holds t c =
+    (walks-begin (c .before .args .rank) (c .before .args .level), begins)
+
+rest-within-requires : (t : ℕ) → rest-lts.Need-within-requires (rest-calls t) (rest-at t) rest.Post rest-Inv-loop rest-μ-loop
 rest-within-requires t c κs = search needs
 
-rest-tail-requires : (t : ℕ) → rest-lts.Need-tail-requires (rest-calls t) (rest-at t) rest.Post
-rest-tail-requires t c κs =
-    let h : rankNo (c .before .before .before .before .args .rank) < topNo (c .before .before .before .before .args .level) = ltb-true _ _ (sym (c .before .before .within .ensures) ∙ c .before .if1 .taken) in let m : topNo (c .before .before .before .before .args .level) ≤ 7 = top-most (c .before .before .before .before .args .level) in search needs
+rest-operates-requires : (t : ℕ) → rest-lts.Need-operates-requires (rest-calls t) (rest-at t) rest.Post rest-Inv-loop rest-μ-loop
+rest-operates-requires t c κs = search needs
 
-rest-unread-requires : (t : ℕ) → rest-lts.Need-unread-requires (rest-calls t) (rest-at t) rest.Post
+rest-full-requires : (t : ℕ) → rest-lts.Need-full-requires (rest-calls t) (rest-at t) rest.Post rest-Inv-loop rest-μ-loop
+rest-full-requires t c κs = search needs
+
+rest-returns : (t : ℕ) → rest-lts.Need-returns (rest-calls t) (rest-at t) rest.Post rest-Inv-loop rest-μ-loop
+rest-returns t c =
+    (walks-full (c .before .before .before .before .before .before .before .before .args .rank) (c .before .before .before .before .before .before .before .before .args .level) (c .before .before .before .before .before .before .loop .inv .0) (c .before .if3 .taken) (c .full .ensures), spent (c .before .before .before .before .before .before .loop .inv .1) (full-spends (c .full .ensures)) (omega arith))
+
+rest-operation-requires : (t : ℕ) → rest-lts.Need-operation-requires (rest-calls t) (rest-at t) rest.Post rest-Inv-loop rest-μ-loop
+rest-operation-requires t c κs =
+    let h : rankNo (c .before .before .before .before .before .before .loop .from) < topNo (c .before .before .before .before .before .before .before .before .args .level) = ltb-true _ _ (sym (c .before .before .before .before .before .within .ensures) ∙ c .before .before .before .before .if1 .taken) in let m : topNo (c .before .before .before .before .before .before .before .before .args .level) ≤ 7 = top-most (c .before .before .before .before .before .before .before .before .args .level) in let n : c .before .before .before .before .before .before .loop .state .nesting ≡ c .before .before .before .before .before .before .before .before .args .s .nesting = c .before .before .before .before .before .before .loop .inv .0 .nesting in search needs
+
+rest-unread-requires : (t : ℕ) → rest-lts.Need-unread-requires (rest-calls t) (rest-at t) rest.Post rest-Inv-loop rest-μ-loop
 rest-unread-requires t c κs = search needs
 
-rest-returns : (t : ℕ) → rest-lts.Need-returns (rest-calls t) (rest-at t) rest.Post
-rest-returns t c =
-    (rest-not (c .before .before .before .before .before .before .before .args .rank) (c .before .before .before .before .before .before .before .args .level) (sym (c .before .before .before .before .before .within .ensures) ∙ c .before .before .before .before .if1 .taken) (c .before .before .tail .ensures .0) (c .before .unread .ensures .1 (c .if2 .taken)), c .before .before .tail .ensures .1)
+rest-returns-2 : (t : ℕ) → rest-lts.Need-returns-2 (rest-calls t) (rest-at t) rest.Post rest-Inv-loop rest-μ-loop
+rest-returns-2 t c =
+    (walks-not (c .before .before .before .before .before .before .before .before .before .before .before .args .rank) (c .before .before .before .before .before .before .before .before .before .before .before .args .level) (c .before .before .before .before .before .before .before .before .before .loop .inv .0) (sym (c .before .before .before .before .before .before .before .before .within .ensures) ∙ c .before .before .before .before .before .before .before .if1 .taken) (sym (c .before .before .before .before .before .before .operates .ensures) ∙ c .before .before .before .before .before .if2 .taken) (c .before .before .operation .ensures .0) (c .before .unread .ensures .1 (c .if4 .taken)), spent (c .before .before .before .before .before .before .before .before .before .loop .inv .1) (c .before .before .operation .ensures .1) (omega arith))
 
-rest-at-requires : (t : ℕ) → rest-lts.Need-at-requires (rest-calls t) (rest-at t) rest.Post
+rest-at-requires : (t : ℕ) → rest-lts.Need-at-requires (rest-calls t) (rest-at t) rest.Post rest-Inv-loop rest-μ-loop
 rest-at-requires t c κs = search needs
 
-rest-next-requires : (t : ℕ) → rest-lts.Need-next-requires (rest-calls t) (rest-at t) rest.Post
+rest-behind-requires : (t : ℕ) → rest-lts.Need-behind-requires (rest-calls t) (rest-at t) rest.Post rest-Inv-loop rest-μ-loop
+rest-behind-requires t c κs = search needs
+
+rest-sub-left : (t : ℕ) → rest-lts.Need-sub-left (rest-calls t) (rest-at t) rest.Post rest-Inv-loop rest-μ-loop
+rest-sub-left t c = search needs
+
+rest-loop-less : (t : ℕ) → rest-lts.Need-loop-less (rest-calls t) (rest-at t) rest.Post rest-Inv-loop rest-μ-loop
+rest-loop-less t c = search needs
+
+rest-loop-again : (t : ℕ) → rest-lts.Need-loop-again (rest-calls t) (rest-at t) rest.Post rest-Inv-loop rest-μ-loop
+rest-loop-again t c =
+    (walks-more (c .before .before .before .before .before .before .before .before .before .before .before .before .before .before .args .rank) (c .before .before .before .before .before .before .before .before .before .before .before .before .before .before .args .level) (c .before .before .before .before .before .before .before .before .before .before .before .before .loop .inv .0) (sym (c .before .before .before .before .before .before .before .before .before .before .before .within .ensures) ∙ c .before .before .before .before .before .before .before .before .before .before .if1 .taken) (sym (c .before .before .before .before .before .before .before .before .before .operates .ensures) ∙ c .before .before .before .before .before .before .before .before .if2 .taken) (c .before .before .before .before .before .operation .ensures .0) (c .before .before .before .before .unread .ensures .0 (c .before .before .before .if4 .left)) (c .behind .ensures) (c .before .before .at .ensures) (omega (arith, c .before .before .before .before .before .before .before .if3 .left)), comes-as (goes-on (c .before .before .before .before .before .before .before .before .before .before .before .before .loop .inv .1) (goes-on (c .before .before .before .before .before .operation .ensures .1 .done (c .before .before .before .before .unread .ensures .0 (c .before .before .before .if4 .left))) (nests (c .before .before .at .ensures)))) (omega arith))
+
+rest-next-requires : (t : ℕ) → rest-lts.Need-next-requires (rest-calls t) (rest-at t) rest.Post rest-Inv-loop rest-μ-loop
 rest-next-requires t c κs = search needs
 
-rest-rest-requires : (t : ℕ) → rest-lts.Need-rest-requires (rest-calls t) (rest-at t) rest.Post
-rest-rest-requires t c κs =
-    let h : c .before .before .at .result .nesting ≡ c .before .before .before .before .before .before .before .before .before .before .args .s .nesting = ap (λ (q : State). q .nesting) (c .before .before .at .ensures) in let k : rankNo (c .before .before .before .before .before .before .before .before .before .before .args .rank) < topNo (c .before .before .before .before .before .before .before .before .before .before .args .level) = ltb-true _ _ (sym (c .before .before .before .before .before .before .before .before .within .ensures) ∙ c .before .before .before .before .before .before .before .if1 .taken) in let m : topNo (c .before .before .before .before .before .before .before .before .before .before .args .level) ≤ 7 = top-most (c .before .before .before .before .before .before .before .before .before .before .args .level) in let u : rankNo (c .before .next .result) ≡ suc (rankNo (c .before .before .before .before .before .before .before .before .before .before .args .rank)) = ap rankNo (c .before .next .ensures) ∙ next-up (c .before .before .before .before .before .before .before .before .before .before .args .rank) (omega arith) in search needs
+rest-loop-less-2 : (t : ℕ) → rest-lts.Need-loop-less-2 (rest-calls t) (rest-at t) rest.Post rest-Inv-loop rest-μ-loop
+rest-loop-less-2 t c =
+    let h : rankNo (c .before .before .before .before .before .loop .from) < topNo (c .before .before .before .before .before .before .before .args .level) = ltb-true _ _ (sym (c .before .before .before .before .within .ensures) ∙ c .before .before .before .if1 .taken) in let m : topNo (c .before .before .before .before .before .before .before .args .level) ≤ 7 = top-most (c .before .before .before .before .before .before .before .args .level) in let u : rankNo (c .next2 .result) ≡ suc (rankNo (c .before .before .before .before .before .loop .from)) = ap rankNo (c .next2 .ensures) ∙ next-up (c .before .before .before .before .before .loop .from) (omega arith) in search needs
 
-rest-returns-2 : (t : ℕ) → rest-lts.Need-returns-2 (rest-calls t) (rest-at t) rest.Post
-rest-returns-2 t c =
-    (rest-says (c .before .before .before .before .before .before .before .before .before .before .before .args .rank) (c .before .before .before .before .before .before .before .before .before .before .before .args .level) (sym (c .before .before .before .before .before .before .before .before .before .within .ensures) ∙ c .before .before .before .before .before .before .before .before .if1 .taken) (c .before .before .before .before .before .before .tail .ensures .0) (c .before .before .before .before .before .unread .ensures .0 (c .before .before .before .before .if2 .left)) (c .before .before .next .ensures) (c .before .before .before .at .ensures) (c .rest .ensures .0), spent (goes-on (c .before .before .before .before .before .before .tail .ensures .1 .done (c .before .before .before .before .before .unread .ensures .0 (c .before .before .before .before .if2 .left))) (nests (c .before .before .before .at .ensures))) (c .rest .ensures .1) (omega arith))
+rest-loop-again-2 : (t : ℕ) → rest-lts.Need-loop-again-2 (rest-calls t) (rest-at t) rest.Post rest-Inv-loop rest-μ-loop
+rest-loop-again-2 t c =
+    (walks-next (c .before .before .before .before .before .before .before .args .rank) (c .before .before .before .before .before .before .before .args .level) (c .before .before .before .before .before .loop .inv .0) (sym (c .before .before .before .before .within .ensures) ∙ c .before .before .before .if1 .taken) (sym (c .before .before .operates .ensures) ∙ c .before .if2 .left) (c .next2 .ensures), c .before .before .before .before .before .loop .inv .1)
 
-rest-stay-requires : (t : ℕ) → rest-lts.Need-stay-requires (rest-calls t) (rest-at t) rest.Post
+rest-stay-requires : (t : ℕ) → rest-lts.Need-stay-requires (rest-calls t) (rest-at t) rest.Post rest-Inv-loop rest-μ-loop
 rest-stay-requires t c κs = search needs
 
-rest-returns-3 : (t : ℕ) → rest-lts.Need-returns-3 (rest-calls t) (rest-at t) rest.Post
+rest-returns-3 : (t : ℕ) → rest-lts.Need-returns-3 (rest-calls t) (rest-at t) rest.Post rest-Inv-loop rest-μ-loop
 rest-returns-3 t c =
-    (rest-none (c .before .before .before .before .args .rank) (c .before .before .before .before .args .level) (sym (c .before .before .within .ensures) ∙ c .before .if1 .left) (c .stay .ensures), stays-spends (c .stay .ensures))
+    (walks-end (c .before .before .before .before .before .args .rank) (c .before .before .before .before .before .args .level) (c .before .before .before .loop .inv .0) (sym (c .before .before .within .ensures) ∙ c .before .if1 .left) (c .stay .ensures), spent (c .before .before .before .loop .inv .1) (stays-spends (c .stay .ensures)) (omega arith))
 
 second-ends-ahead-requires : (t : ℕ) → second-lts.Need-ends-ahead-requires (second-calls t) (second-at t) second.Post
 second-ends-ahead-requires t c κs = search needs
@@ -886,36 +923,12 @@ single-returns-3 : (t : ℕ) → single-lts.Need-returns-3 (single-calls t) (sin
 single-returns-3 t c =
     (one-says (c .before .before .before .before .before .before .args .name) (c .before .before .before .before .kind-of .ensures) (c .before .before .before .if1 .left) (c .before .before .last .ensures) (c .add-one .ensures), adds-spends (c .add-one .ensures))
 
-start-kind-of-requires : (t : ℕ) → start-lts.Need-kind-of-requires (start-calls t) (start-at t) start.Post
-start-kind-of-requires t c κs = search needs
-
-start-head-of-requires : (t : ℕ) → start-lts.Need-head-of-requires (start-calls t) (start-at t) start.Post
-start-head-of-requires t c κs = search needs
-
-start-opening-requires : (t : ℕ) → start-lts.Need-opening-requires (start-calls t) (start-at t) start.Post
-start-opening-requires t c κs =
-    search needs
-
-start-unread-requires : (t : ℕ) → start-lts.Need-unread-requires (start-calls t) (start-at t) start.Post
-start-unread-requires t c κs = search needs
+start-whole-requires : (t : ℕ) → start-lts.Need-whole-requires (start-calls t) (start-at t) start.Post
+start-whole-requires t c κs = search needs
 
 start-returns : (t : ℕ) → start-lts.Need-returns (start-calls t) (start-at t) start.Post
 start-returns t c =
-    (start-not (c .before .before .before .before .before .before .before .args .level) (c .before .before .before .before .before .kind-of .ensures) (c .before .before .before .before .head-of .ensures) (c .before .before .opening .ensures .0) (c .before .unread .ensures .1 (c .if1 .taken)), c .before .before .opening .ensures .1)
-
-start-at-requires : (t : ℕ) → start-lts.Need-at-requires (start-calls t) (start-at t) start.Post
-start-at-requires t c κs = search needs
-
-start-after-requires : (t : ℕ) → start-lts.Need-after-requires (start-calls t) (start-at t) start.Post
-start-after-requires t c κs = search needs
-
-start-rest-requires : (t : ℕ) → start-lts.Need-rest-requires (start-calls t) (start-at t) start.Post
-start-rest-requires t c κs =
-    let h : c .before .before .at .result .nesting ≡ c .before .before .before .before .before .before .before .before .before .before .args .s .nesting = ap (λ (q : State). q .nesting) (c .before .before .at .ensures) in search needs
-
-start-returns-2 : (t : ℕ) → start-lts.Need-returns-2 (start-calls t) (start-at t) start.Post
-start-returns-2 t c =
-    (start-says (c .before .before .before .before .before .before .before .before .before .before .before .args .level) (c .before .before .before .before .before .before .before .before .before .kind-of .ensures) (c .before .before .before .before .before .before .before .before .head-of .ensures) (c .before .before .before .before .before .before .opening .ensures .0) (c .before .before .before .before .before .unread .ensures .0 (c .before .before .before .before .if1 .left)) (c .before .before .after .ensures) (c .before .before .before .at .ensures) (c .rest .ensures .0), spent (goes-on (c .before .before .before .before .before .before .opening .ensures .1 .done (c .before .before .before .before .before .unread .ensures .0 (c .before .before .before .before .if1 .left))) (nests (c .before .before .before .at .ensures))) (c .rest .ensures .1) (omega arith))
+    (c .whole .ensures .0 .plain refl, c .whole .ensures .1 (λ e. absurd (true≢false (sym e))))
 
 subscript-ends-ahead-requires : (t : ℕ) → subscript-lts.Need-ends-ahead-requires (subscript-calls t) (subscript-at t) subscript.Post
 subscript-ends-ahead-requires t c κs = search needs
@@ -985,64 +998,6 @@ subscript-returns-6 : (t : ℕ) → subscript-lts.Need-returns-6 (subscript-call
 subscript-returns-6 t c =
     (close-says (c .before .before .before .before .before .before .before .before .before .before .before .before .before .before .before .before .args .name) (c .before .before .before .before .before .before .before .before .before .before .before .before .before .before .ends-ahead .ensures) (c .before .before .before .before .before .before .before .before .before .before .before .before .before .if1 .left) (c .before .before .before .before .before .before .before .before .before .before .before .inside .ensures .0) (c .before .before .before .before .before .before .before .before .before .before .unread .ensures .0 (c .before .before .before .before .before .before .before .before .before .if2 .left)) (λ e. c .before .before .before .before .before .before .before .if3 .left (c .before .before .before .before .before .before .before .before .kind-of .ensures ∙ e)) (c .before .before .before .before .before .before .expect .ensures) (c .before .before .before .before .before .unread3 .ensures .0 (c .before .before .before .before .if5 .left)) (c .before .before .before .last .ensures) (c .before .before .at2 .ensures) (c .single .ensures .0), spent (goes-on (c .before .before .before .before .before .before .before .before .before .before .before .inside .ensures .1 .done (c .before .before .before .before .before .before .before .before .before .before .unread .ensures .0 (c .before .before .before .before .before .before .before .before .before .if2 .left))) (goes-on (expected-comes (c .before .before .before .before .before .before .expect .ensures) (omega arith) (c .before .before .before .before .before .unread3 .ensures .0 (c .before .before .before .before .if5 .left))) (nests (c .before .before .at2 .ensures)))) (c .single .ensures .1) (omega arith))
 
-abbrev tail-Inv-loop : tail-lts.InvT-loop
-tail-Inv-loop s rank text work₀ state₀ next₀ left₀ work state next left = Tails rank text next₀ s work₀ next state work left × (Seen text next₀ → Comes text 0 0 s next state)
-
-abbrev tail-μ-loop : tail-lts.MeasureT-loop
-tail-μ-loop s rank text work₀ state₀ next₀ left₀ work state next left = left
-
-tail-loop-holds : (t : ℕ) → tail-lts.Need-loop-holds (tail-calls t) (tail-at t) tail.Post tail-Inv-loop tail-μ-loop
-tail-loop-holds t c =
-    (tails-begin (c .before .args .rank), begins)
-
-tail-operates-requires : (t : ℕ) → tail-lts.Need-operates-requires (tail-calls t) (tail-at t) tail.Post tail-Inv-loop tail-μ-loop
-tail-operates-requires t c κs = search needs
-
-tail-at-requires : (t : ℕ) → tail-lts.Need-at-requires (tail-calls t) (tail-at t) tail.Post tail-Inv-loop tail-μ-loop
-tail-at-requires t c κs = search needs
-
-tail-operation-requires : (t : ℕ) → tail-lts.Need-operation-requires (tail-calls t) (tail-at t) tail.Post tail-Inv-loop tail-μ-loop
-tail-operation-requires t c κs =
-    let h : c .before .at .result .nesting ≡ c .before .before .before .before .before .before .before .args .s .nesting = ap (λ (q : State). q .nesting) (c .before .at .ensures) in search needs
-
-tail-unread-requires : (t : ℕ) → tail-lts.Need-unread-requires (tail-calls t) (tail-at t) tail.Post tail-Inv-loop tail-μ-loop
-tail-unread-requires t c κs = search needs
-
-tail-returns : (t : ℕ) → tail-lts.Need-returns (tail-calls t) (tail-at t) tail.Post tail-Inv-loop tail-μ-loop
-tail-returns t c =
-    (tails-not (c .before .before .before .before .before .before .before .before .before .before .args .rank) (c .before .before .before .before .before .before .before .before .loop .inv .0) (sym (c .before .before .before .before .before .before .operates .ensures) ∙ c .before .before .before .before .before .if1 .taken) (c .before .before .before .before .at .ensures) (c .before .before .operation .ensures .0) (c .before .unread .ensures .1 (c .if2 .taken)), spent (goes-on (c .before .before .before .before .before .before .before .before .loop .inv .1) (nests (c .before .before .before .before .at .ensures))) (c .before .before .operation .ensures .1) (omega arith))
-
-tail-once-requires : (t : ℕ) → tail-lts.Need-once-requires (tail-calls t) (tail-at t) tail.Post tail-Inv-loop tail-μ-loop
-tail-once-requires t c κs = search needs
-
-tail-returns-2 : (t : ℕ) → tail-lts.Need-returns-2 (tail-calls t) (tail-at t) tail.Post tail-Inv-loop tail-μ-loop
-tail-returns-2 t c =
-    (tails-once (c .before .before .before .before .before .before .before .before .before .before .before .before .args .rank) (c .before .before .before .before .before .before .before .before .before .before .loop .inv .0) (sym (c .before .before .before .before .before .before .before .before .operates .ensures) ∙ c .before .before .before .before .before .before .before .if1 .taken) (c .before .before .before .before .before .before .at .ensures) (c .before .before .before .before .operation .ensures .0) (sym (c .before .once .ensures) ∙ c .if3 .taken), spent (goes-on (c .before .before .before .before .before .before .before .before .before .before .loop .inv .1) (nests (c .before .before .before .before .before .before .at .ensures))) (c .before .before .before .before .operation .ensures .1) (omega arith))
-
-tail-sub-left : (t : ℕ) → tail-lts.Need-sub-left (tail-calls t) (tail-at t) tail.Post tail-Inv-loop tail-μ-loop
-tail-sub-left t c = search needs
-
-tail-loop-less : (t : ℕ) → tail-lts.Need-loop-less (tail-calls t) (tail-at t) tail.Post tail-Inv-loop tail-μ-loop
-tail-loop-less t c = search needs
-
-tail-loop-again : (t : ℕ) → tail-lts.Need-loop-again (tail-calls t) (tail-at t) tail.Post tail-Inv-loop tail-μ-loop
-tail-loop-again t c =
-    (tails-more (c .before .before .before .before .before .before .before .before .before .before .before .before .before .before .args .rank) (c .before .before .before .before .before .before .before .before .before .before .before .before .loop .inv .0) (sym (c .before .before .before .before .before .before .before .before .before .before .operates .ensures) ∙ c .before .before .before .before .before .before .before .before .before .if1 .taken) (c .before .before .before .before .before .before .before .before .at .ensures) (c .before .before .before .before .before .before .operation .ensures .0) (c .before .before .before .before .before .unread .ensures .0 (c .before .before .before .before .if2 .left)) (sym (c .before .before .before .once .ensures) ∙ c .before .before .if3 .left) (omega (arith, c .before .before .before .before .before .before .before .before .before .before .before .loop-test .taken)), comes-as (goes-on (c .before .before .before .before .before .before .before .before .before .before .before .before .loop .inv .1) (goes-on (nests (c .before .before .before .before .before .before .before .before .at .ensures)) (c .before .before .before .before .before .before .operation .ensures .1 .done (c .before .before .before .before .before .unread .ensures .0 (c .before .before .before .before .if2 .left))))) (omega arith))
-
-tail-stay-requires : (t : ℕ) → tail-lts.Need-stay-requires (tail-calls t) (tail-at t) tail.Post tail-Inv-loop tail-μ-loop
-tail-stay-requires t c κs = search needs
-
-tail-returns-3 : (t : ℕ) → tail-lts.Need-returns-3 (tail-calls t) (tail-at t) tail.Post tail-Inv-loop tail-μ-loop
-tail-returns-3 t c =
-    (tails-end (c .before .before .before .before .before .before .args .rank) (c .before .before .before .before .loop .inv .0) (sym (c .before .before .operates .ensures) ∙ c .before .if1 .left) (c .stay .ensures), spent (c .before .before .before .before .loop .inv .1) (stays-spends (c .stay .ensures)) (omega arith))
-
-tail-full-requires : (t : ℕ) → tail-lts.Need-full-requires (tail-calls t) (tail-at t) tail.Post tail-Inv-loop tail-μ-loop
-tail-full-requires t c κs = search needs
-
-tail-returns-4 : (t : ℕ) → tail-lts.Need-returns-4 (tail-calls t) (tail-at t) tail.Post tail-Inv-loop tail-μ-loop
-tail-returns-4 t c =
-    (tails-full (c .before .before .before .before .args .rank) (c .before .before .loop .inv .0) (c .before .loop-test .left) (c .full .ensures), spent (c .before .before .loop .inv .1) (full-spends (c .full .ensures)) (omega arith))
-
 term-kind-of-requires : (t : ℕ) → term-lts.Need-kind-of-requires (term-calls t) (term-at t) term.Post
 term-kind-of-requires t c κs = search needs
 
@@ -1088,15 +1043,47 @@ term-returns-6 : (t : ℕ) → term-lts.Need-returns-6 (term-calls t) (term-at t
 term-returns-6 t c =
     (term-not (c .before .before .before .before .before .before .kind-of .ensures) (c .before .before .before .before .before .if1 .left) (c .before .before .before .before .if2 .left) (c .before .before .before .if3 .left) (c .before .before .if4 .left) (c .before .if5 .left) (c .refuse .ensures), refusal-unspent (c .refuse .ensures))
 
-pub +arms+choice+first-arm+group+inside+more-arms+named+next-arm+opening+operation+reference+rest+second+single+start+subscript+tail+term-spec :
+whole-kind-of-requires : (t : ℕ) → whole-lts.Need-kind-of-requires (whole-calls t) (whole-at t) whole.Post
+whole-kind-of-requires t c κs = search needs
+
+whole-head-of-requires : (t : ℕ) → whole-lts.Need-head-of-requires (whole-calls t) (whole-at t) whole.Post
+whole-head-of-requires t c κs = search needs
+
+whole-leading-requires : (t : ℕ) → whole-lts.Need-leading-requires (whole-calls t) (whole-at t) whole.Post
+whole-leading-requires t c κs =
+    search needs
+
+whole-unread-requires : (t : ℕ) → whole-lts.Need-unread-requires (whole-calls t) (whole-at t) whole.Post
+whole-unread-requires t c κs = search needs
+
+whole-returns : (t : ℕ) → whole-lts.Need-returns (whole-calls t) (whole-at t) whole.Post
+whole-returns t c =
+    (level-not (c .before .before .before .before .before .before .before .args .level) (c .before .before .before .before .before .kind-of .ensures) (c .before .before .before .before .head-of .ensures) (c .before .before .leading .ensures .0) (c .before .unread .ensures .1 (c .if1 .taken)), c .before .before .leading .ensures .1)
+
+whole-at-requires : (t : ℕ) → whole-lts.Need-at-requires (whole-calls t) (whole-at t) whole.Post
+whole-at-requires t c κs = search needs
+
+whole-after-requires : (t : ℕ) → whole-lts.Need-after-requires (whole-calls t) (whole-at t) whole.Post
+whole-after-requires t c κs = search needs
+
+whole-rest-requires : (t : ℕ) → whole-lts.Need-rest-requires (whole-calls t) (whole-at t) whole.Post
+whole-rest-requires t c κs =
+    let h : c .before .before .at .result .nesting ≡ c .before .before .before .before .before .before .before .before .before .before .args .s .nesting = ap (λ (q : State). q .nesting) (c .before .before .at .ensures) in search needs
+
+whole-returns-2 : (t : ℕ) → whole-lts.Need-returns-2 (whole-calls t) (whole-at t) whole.Post
+whole-returns-2 t c =
+    (level-says (c .before .before .before .before .before .before .before .before .before .before .before .args .level) (c .before .before .before .before .before .before .before .before .before .kind-of .ensures) (c .before .before .before .before .before .before .before .before .head-of .ensures) (c .before .before .before .before .before .before .leading .ensures .0) (c .before .before .before .before .before .unread .ensures .0 (c .before .before .before .before .if1 .left)) (c .before .before .after .ensures) (c .before .before .before .at .ensures) (c .rest .ensures .0), λ k. spent (goes-on (c .before .before .before .before .before .before .leading .ensures .1 k .done (c .before .before .before .before .before .unread .ensures .0 (c .before .before .before .before .if1 .left))) (nests (c .before .before .before .at .ensures))) (c .rest .ensures .1) (omega arith))
+
+pub +arms+choice+first-arm+group+inside+leading+more-arms+named+next-arm+opening+operation+reference+rest+second+single+start+subscript+term+whole-spec :
     {M : Type 1} → statement M
-+arms+choice+first-arm+group+inside+more-arms+named+next-arm+opening+operation+reference+rest+second+single+start+subscript+tail+term-spec =
++arms+choice+first-arm+group+inside+leading+more-arms+named+next-arm+opening+operation+reference+rest+second+single+start+subscript+term+whole-spec =
     close
     μ-arms
     μ-choice
     μ-first-arm
     μ-group
     μ-inside
+    μ-leading
     μ-more-arms
     μ-named
     μ-next-arm
@@ -1108,8 +1095,8 @@ pub +arms+choice+first-arm+group+inside+more-arms+named+next-arm+opening+operati
     μ-single
     μ-start
     μ-subscript
-    μ-tail
     μ-term
+    μ-whole
     (λ t. arms-lts.spec (arms-calls t)
     (arms-at t)
     arms.Post
@@ -1172,17 +1159,17 @@ pub +arms+choice+first-arm+group+inside+more-arms+named+next-arm+opening+operati
     (inside-at t)
     inside.Post
     (inside-kind-of-requires t)
-    (inside-take-requires t)
-    (inside-unread-requires t)
+    (inside-whole-requires t)
     (inside-returns t)
-    (inside-counted-requires t)
-    (inside-unread-requires-2 t)
-    (inside-returns-2 t)
-    (inside-at-requires t)
-    (inside-rest-requires t)
-    (inside-returns-3 t)
-    (inside-start-requires t)
-    (inside-returns-4 t))
+    (inside-whole-requires-2 t)
+    (inside-returns-2 t))
+    (λ t. leading-lts.spec (leading-calls t)
+    (leading-at t)
+    leading.Post
+    (leading-keep-requires t)
+    (leading-returns t)
+    (leading-opening-requires t)
+    (leading-returns-2 t))
     (λ t. more-arms-lts.spec (more-arms-calls t)
     (more-arms-at t)
     more-arms.Post
@@ -1273,14 +1260,24 @@ pub +arms+choice+first-arm+group+inside+more-arms+named+next-arm+opening+operati
     (λ t. rest-lts.spec (rest-calls t)
     (rest-at t)
     rest.Post
+    rest-Inv-loop
+    rest-μ-loop
+    (rest-loop-holds t)
     (rest-within-requires t)
-    (rest-tail-requires t)
-    (rest-unread-requires t)
+    (rest-operates-requires t)
+    (rest-full-requires t)
     (rest-returns t)
-    (rest-at-requires t)
-    (rest-next-requires t)
-    (rest-rest-requires t)
+    (rest-operation-requires t)
+    (rest-unread-requires t)
     (rest-returns-2 t)
+    (rest-at-requires t)
+    (rest-behind-requires t)
+    (rest-sub-left t)
+    (rest-loop-less t)
+    (rest-loop-again t)
+    (rest-next-requires t)
+    (rest-loop-less-2 t)
+    (rest-loop-again-2 t)
     (rest-stay-requires t)
     (rest-returns-3 t))
     (λ t. second-lts.spec (second-calls t)
@@ -1314,15 +1311,8 @@ pub +arms+choice+first-arm+group+inside+more-arms+named+next-arm+opening+operati
     (λ t. start-lts.spec (start-calls t)
     (start-at t)
     start.Post
-    (start-kind-of-requires t)
-    (start-head-of-requires t)
-    (start-opening-requires t)
-    (start-unread-requires t)
-    (start-returns t)
-    (start-at-requires t)
-    (start-after-requires t)
-    (start-rest-requires t)
-    (start-returns-2 t))
+    (start-whole-requires t)
+    (start-returns t))
     (λ t. subscript-lts.spec (subscript-calls t)
     (subscript-at t)
     subscript.Post
@@ -1346,27 +1336,7 @@ pub +arms+choice+first-arm+group+inside+more-arms+named+next-arm+opening+operati
     (subscript-at-requires-2 t)
     (subscript-single-requires t)
     (subscript-returns-6 t))
-    (λ t. tail-lts.spec (tail-calls t)
-    (tail-at t)
-    tail.Post
-    tail-Inv-loop
-    tail-μ-loop
-    (tail-loop-holds t)
-    (tail-operates-requires t)
-    (tail-at-requires t)
-    (tail-operation-requires t)
-    (tail-unread-requires t)
-    (tail-returns t)
-    (tail-once-requires t)
-    (tail-returns-2 t)
-    (tail-sub-left t)
-    (tail-loop-less t)
-    (tail-loop-again t)
-    (tail-stay-requires t)
-    (tail-returns-3 t)
-    (tail-full-requires t)
-    (tail-returns-4 t))
-    λ t. term-lts.spec (term-calls t)
+    (λ t. term-lts.spec (term-calls t)
     (term-at t)
     term.Post
     (term-kind-of-requires t)
@@ -1381,4 +1351,16 @@ pub +arms+choice+first-arm+group+inside+more-arms+named+next-arm+opening+operati
     (term-choice-requires-2 t)
     (term-returns-5 t)
     (term-refuse-requires t)
-    (term-returns-6 t)
+    (term-returns-6 t))
+    λ t. whole-lts.spec (whole-calls t)
+    (whole-at t)
+    whole.Post
+    (whole-kind-of-requires t)
+    (whole-head-of-requires t)
+    (whole-leading-requires t)
+    (whole-unread-requires t)
+    (whole-returns t)
+    (whole-at-requires t)
+    (whole-after-requires t)
+    (whole-rest-requires t)
+    (whole-returns-2 t)
