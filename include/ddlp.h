@@ -57,6 +57,18 @@ static inline uint8_t *ddlp_nothing(void)
 #define DDLP_MOST_STATES 256
 #define DDLP_MOST_RETURNS 16
 
+/* ---- Stack that calls need at most, in bytes, on x86-64: measured, not proved (docs/CALLS.md). */
+
+/* Any call on any input, forged images too. */
+#define DDLP_STACK_MOST 1048576
+/* Reading any text. */
+#define DDLP_STACK_READ 655360
+/* Every call but reading, on an image read from a text. */
+#define DDLP_STACK_TEXT 917504
+/* Every call but reading, on an image of at most DDLP_SMALL_RECORDS expression and action records, taken together. */
+#define DDLP_STACK_SMALL 196608
+#define DDLP_SMALL_RECORDS 200
+
 /* ---- Refusals: why a call did not do what it was asked. */
 
 enum ddlp_refusal {

@@ -10,3 +10,8 @@ uint32_t ddlp_scratch_stores(void) { return DDLP_SCRATCH_STORES; }
 uint32_t ddlp_most_facilities(void) { return DDLP_MOST_FACILITIES; }
 uint32_t ddlp_most_states(void) { return DDLP_MOST_STATES; }
 uint32_t ddlp_most_returns(void) { return DDLP_MOST_RETURNS; }
+uint32_t ddlp_stack_most(void) { return DDLP_STACK_MOST; }
+uint32_t ddlp_stack_read(void) { return DDLP_STACK_READ; }
+uint32_t ddlp_stack_text(void) { return DDLP_STACK_TEXT; }
+uint32_t ddlp_stack_small(void) { return DDLP_STACK_SMALL; }
+uint32_t ddlp_small_records(void) { return DDLP_SMALL_RECORDS; }

@@ -1,5 +1,6 @@
 //! How long reading takes, beside the second simulator: over the texts of the
-//! corpus, and over one that comes to nearly every ceiling at once.
+//! corpus, and over one that comes to nearly every ceiling at once, with a half
+//! and a quarter of it.
 
 use crate::measure::{measured, Counter, Measured};
 use crate::module;
@@ -9,25 +10,46 @@ use std::time::Duration;
 
 const LARGEST_IMAGE: usize = 165_556;
 
-/// 256 registers, 128 operations, 256 states and 2,048 counted words, all with
-/// long names that differ only at their ends.
-pub fn text_at_the_ceilings() -> String {
+/// A quarter of the ceilings, so many times: registers, operations, states and
+/// counted words, all with long names that differ only at their ends.
+fn quarters(times: usize) -> String {
+    let (registers, operations, states) = (64 * times, 32 * times, 64 * times);
     let name = |letter: char, number: usize| format!("{letter}ADDRESS{number:03}");
-    let register = |number: usize| name('R', number % 256);
-    let registers: Vec<String> = (0..256).map(register).collect();
+    let register = |number: usize| name('R', number % registers);
     let sum = |n: usize| format!("{}<-\n{}+{}+{}", register(n), register(n + 1), register(n + 2), register(n + 3));
-    let operation = |n: usize| format!("{}=[{},\n{}]", name('O', n), sum(250 - n), sum(251 - n));
-    let operations: Vec<String> = (0..128).map(operation).collect();
-    let state = |n: usize| format!("{}: {}, ->{}/", name('S', n), name('O', 127 - n % 128), name('S', 255 - n));
-    let states: Vec<String> = (0..256).map(state).collect();
-    let [registers, operations, states] = [registers.join(",\n"), operations.join(",\n"), states.join("\n")];
-    format!("REGISTER {registers}.\nOPERATION {operations}.\nCONTROL {states}\n.")
+    let operation = |n: usize| {
+        format!("{}=[{},\n{}]", name('O', n), sum(2 * operations - 6 - n), sum(2 * operations - 5 - n))
+    };
+    let state = |n: usize| {
+        let (last, performed) = (states - 1, operations - 1 - n % operations);
+        format!("{}: {}, ->{}/", name('S', n), name('O', performed), name('S', last - n))
+    };
+    let listed = |count: usize, one: &dyn Fn(usize) -> String| (0..count).map(one).collect::<Vec<String>>();
+    format!(
+        "REGISTER {}.\nOPERATION {}.\nCONTROL {}\n.",
+        listed(registers, &register).join(",\n"),
+        listed(operations, &operation).join(",\n"),
+        listed(states, &state).join("\n")
+    )
+}
+
+/// 256 registers, 128 operations, 256 states and 2,048 counted words.
+pub fn text_at_the_ceilings() -> String {
+    quarters(4)
 }
 
 fn texts(corpus: &str) -> Result<Vec<Vec<u8>>, String> {
     let folders = fs::read_dir(corpus).map_err(|error| format!("{corpus}: {error}"))?;
     let texts = folders.flatten().filter_map(|folder| fs::read(folder.path().join("run.ddl")).ok());
     Ok(texts.collect())
+}
+
+fn made(times: usize) -> Result<Vec<Vec<u8>>, String> {
+    let text = quarters(times).into_bytes();
+    match module::read(&text, &mut [0; LARGEST_IMAGE]) {
+        answer if answer.refusal > 0 => Err(format!("a text of {times} quarters is refused: {answer:?}")),
+        _ => Ok(vec![text]),
+    }
 }
 
 type Reader = fn(&[u8], &mut [u8]) -> ReadAnswer;
@@ -54,14 +76,15 @@ fn row(name: &str, texts: &[Vec<u8>], one: &Measured, beside: &Measured) {
 }
 
 pub fn table(corpus: &str, time: Duration) -> Result<(), String> {
-    let ceilings = text_at_the_ceilings().into_bytes();
-    let answer = module::read(&ceilings, &mut [0; LARGEST_IMAGE]);
-    if answer.refusal > 0 {
-        return Err(format!("the text at the ceilings is refused: {answer:?}"));
-    }
+    let kinds = [
+        ("the corpus", texts(corpus)?),
+        ("a text at the ceilings", made(4)?),
+        ("one of half as much", made(2)?),
+        ("one of a quarter", made(1)?),
+    ];
     let counter = Counter::open();
     println!("  {:22} {:>18} {:>18} {:>10}", "", "microseconds/text", "instructions/byte", "times");
-    for (name, texts) in [("the corpus", texts(corpus)?), ("a text at the ceilings", vec![ceilings])] {
+    for (name, texts) in kinds {
         agree(&texts)?;
         let bytes: usize = texts.iter().map(Vec::len).sum();
         println!("{name}: {} texts, {bytes} bytes", texts.len());

@@ -8,7 +8,9 @@
 //!                                     how long reading takes
 //!     speed --kept FOLDER [MILLISECONDS]
 //!                                     how long the wrapper takes to take up a kept image
-//!     speed --stack FOLDER            the stack that each call needs
+//!     speed --stack FOLDER            the stack that calls need at most; status 1 where it is more than is said
+//!     speed --stack-each FOLDER       the same, and what each call needs
+//!     speed --stack-wrong FOLDER      whether a limit that is a byte too low would be told
 //!     speed --carry FOLDER NAME       1,000 cycles by each on one description, for a tool that counts instructions
 //!     speed --agree SEED TRIES        holds the interpreter in C against the second simulator
 //!
@@ -20,11 +22,18 @@
 mod module;
 
 mod agree;
+mod calls;
+mod chains;
+mod deep;
 mod engines;
+mod forged;
 mod kept;
 mod measure;
+mod painted;
 mod reading;
+mod records;
 mod stack;
+mod texts;
 
 use engines::{Board, Engine, ENGINES};
 use measure::{Counter, Measured};
@@ -33,7 +42,7 @@ use std::time::Duration;
 use std::{env, fs};
 
 const USAGE: &str = "usage: speed FOLDER [MILLISECONDS], --read CORPUS [MILLISECONDS], --kept FOLDER [MILLISECONDS], \
-    --stack FOLDER, --carry FOLDER NAME, or --agree SEED TRIES";
+    --stack FOLDER, --stack-each FOLDER, --stack-wrong FOLDER, --carry FOLDER NAME, or --agree SEED TRIES";
 /// So long each is measured, unless it is said.
 const TIME: Duration = Duration::from_millis(400);
 
@@ -132,7 +141,9 @@ fn asked(arguments: &[String]) -> Result<(), String> {
     let names = DESCRIPTIONS.map(|description| description.name);
     match arguments {
         [folder] => table(folder, TIME),
-        [stack, folder] if stack == "--stack" => stack::table(folder, &names),
+        [stack, folder] if stack == "--stack" => stack::table(folder, &names, false),
+        [each, folder] if each == "--stack-each" => stack::table(folder, &names, true),
+        [wrong, folder] if wrong == "--stack-wrong" => stack::wrong(folder, &names),
         [carry, folder, name] if carry == "--carry" => carried(folder, name),
         [read, corpus] if read == "--read" => reading::table(corpus, TIME),
         [read, corpus, word] if read == "--read" => reading::table(corpus, time(word)?),

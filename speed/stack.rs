@@ -1,95 +1,157 @@
-//! The stack that each call needs: over the three descriptions, over a text
-//! nested as deep as may be, and over an image nested much deeper.
+//! The stack that calls need, against what the wrapper and the header say of
+//! it: by class of what they are given, the most that any call took, and what
+//! it was given.
 
-use crate::module;
-use second::calls::Lent;
-use second::description::*;
-use second::record::RECORD;
-use std::ffi::c_void;
+use crate::calls::{self, Case, Outcome};
+use crate::deep::{self, Ceilings};
+use crate::forged;
+use crate::painted::Stacks;
+use crate::texts::{texts, Text};
+use ddlp::{SMALL_RECORDS, STACK_MOST, STACK_READ, STACK_SMALL, STACK_TEXT};
 use std::fs;
 
-const ROOM: usize = 8 << 20;
-/// Operators and operands in the deepest image; a store, a name and a goto are counted beside them.
-const DEEPEST: usize = 2_045;
-
-extern "C" {
-    fn stack_of(room: usize, call: extern "C" fn(*mut c_void), with: *mut c_void) -> usize;
+/// What is given to a call, and what it may take.
+#[derive(Clone, Copy, PartialEq)]
+struct Class {
+    name: &'static str,
+    limit: usize,
 }
 
-extern "C" fn called(with: *mut c_void) {
-    // Only `measured` hands this over, and waits until it is done.
-    let call = unsafe { &mut *(with as *mut Call) };
-    call();
+const READING: Class = Class { name: "texts", limit: STACK_READ };
+const SMALL: Class = Class { name: "images of few records", limit: STACK_SMALL };
+const OF_TEXTS: Class = Class { name: "images of texts", limit: STACK_TEXT };
+const PASSING: Class = Class { name: "images that pass", limit: STACK_MOST };
+const FORGED: Class = Class { name: "forged images", limit: STACK_MOST };
+const CLASSES: [Class; 5] = [READING, SMALL, OF_TEXTS, PASSING, FORGED];
+const CALLS: [&str; 5] = ["read", "open", "cycle", "run", "lookup"];
+
+/// One call's stack.
+struct Row {
+    class: Class,
+    call: &'static str,
+    given: String,
+    bytes: usize,
 }
 
-type Call<'a> = &'a mut dyn FnMut() -> u32;
-
-fn measured(mut call: Call) -> usize {
-    unsafe { stack_of(ROOM, called, &mut call as *mut Call as *mut c_void) }
+fn kibibytes(bytes: usize) -> String {
+    format!("{:.1}", bytes as f64 / 1024.0)
 }
 
-/// Subscripts one in another, to a nesting of 24 with the operation's bracket.
-fn nested_text() -> String {
-    let (open, close) = ("X[".repeat(23), "]".repeat(23));
-    format!("REGISTER A, X[0:1].\nOPERATION O = [A <-\n{open}A{close}].\nCONTROL P: O, ->P/.\n")
-}
+// What is measured.
 
-/// The same operation with one complement around another.
-fn deepest_image(text: &[u8]) -> Option<Vec<u8>> {
-    let mut description = second::read(text).ok()?;
-    let operation = description.outline.operations.first_mut()?;
-    let Some(Action::Store { left, right, .. }) = operation.actions.first_mut() else {
-        return None;
-    };
-    let mut expression = Expression::Reference(left.first()?.clone());
-    for _ in 1..DEEPEST {
-        expression = Expression::Prefix(Prefix::Complement, Box::new(expression));
-    }
-    *right = expression;
-    Some(second::image::image(&description))
-}
-
-/// Kibibytes for reading, opening, a cycle, a run and a lookup.
-fn row(name: &str, text: Option<&[u8]>, image: &[u8]) {
-    let Some(loaded) = second::load::load(image) else {
-        return println!("{name}: the image does not pass");
-    };
-    let size = second::calls::store_size(&loaded.description);
-    let stimulus = vec![0; second::calls::stimulus_size(&loaded.description)];
-    let (mut store, mut record, mut scratch) = (vec![0; size], vec![0; RECORD], vec![0; 4 * size]);
-    let mut buffer = vec![0; 165_556];
-    let reading = text.map(|text| measured(&mut || module::read(text, &mut buffer).refusal));
-    let opening = measured(&mut || module::open(image, &mut store, &mut record));
-    let mut lent = |cycles: u32| {
-        let lent = Lent { store: &mut store, record: &mut record, scratch: &mut scratch, trace: &mut [] };
-        match cycles {
-            0 => module::cycle(image, lent, &stimulus).refusal,
-            _ => module::run(image, lent, &stimulus, cycles).refusal,
-        }
-    };
-    let cycle = measured(&mut || lent(0));
-    let run = measured(&mut || lent(1));
-    let lookup = measured(&mut || module::facility(image, 0).refusal);
-    let kibibytes = |bytes: usize| format!("{:.1}", bytes as f64 / 1024.0);
-    let reading = reading.map_or("-".to_string(), kibibytes);
-    let [opening, cycle, run, lookup] = [opening, cycle, run, lookup].map(kibibytes);
-    println!("  {name:30} {reading:>9} {opening:>9} {cycle:>9} {run:>9} {lookup:>9}");
-}
-
-fn image_of(text: &[u8]) -> Vec<u8> {
-    second::read(text).map_or(Vec::new(), |description| second::image::image(&description))
-}
-
-pub fn table(folder: &str, names: &[&str]) -> Result<(), String> {
-    println!("stack in KiB, the thread's own with it");
-    println!("  {:30} {:>9} {:>9} {:>9} {:>9} {:>9}", "", "read", "open", "cycle", "run", "lookup");
-    for name in names {
-        let text = fs::read(format!("{folder}/{name}.ddl")).map_err(|error| format!("{name}: {error}"))?;
-        row(name, Some(&text), &image_of(&text));
-    }
-    let nested = nested_text();
-    row("a text of nesting 24", Some(nested.as_bytes()), &image_of(nested.as_bytes()));
-    let deepest = deepest_image(nested.as_bytes()).ok_or("no deepest image")?;
-    row("an image of nesting 2,044", None, &deepest);
+fn on_image(stacks: &Stacks, class: Class, case: &Case, rows: &mut Vec<Row>) -> Result<(), String> {
+    let taken = calls::taken(stacks, case)?;
+    rows.extend(taken.into_iter().map(|taken| Row {
+        class,
+        call: taken.call,
+        given: case.name.clone(),
+        bytes: taken.bytes,
+    }));
     Ok(())
+}
+
+/// Expression and action records, as the header has them.
+fn records(image: &[u8]) -> usize {
+    let four = |at: usize| image[at..at + 4].iter().rev().fold(0, |number, &byte| number << 8 | byte as usize);
+    four(20) + four(28)
+}
+
+/// Reading, and where the text is accepted every call on its image.
+fn on_text(stacks: &Stacks, text: &Text, rows: &mut Vec<Row>) -> Result<(), String> {
+    let (bytes, image) = text.taken(stacks)?;
+    rows.push(Row { class: READING, call: "read", given: text.name.clone(), bytes });
+    if image.is_empty() {
+        return Ok(());
+    }
+    let class = if records(&image) <= SMALL_RECORDS { SMALL } else { OF_TEXTS };
+    on_image(stacks, class, &Case { name: text.name.clone(), image, outcome: Outcome::Completes }, rows)
+}
+
+/// The descriptions' texts and those made for it.
+fn all_texts(folder: &str, names: &[&str], most: usize) -> Result<Vec<Text>, String> {
+    let read = |name: &&str| {
+        let text = fs::read(format!("{folder}/{name}.ddl")).map_err(|error| format!("{name}: {error}"))?;
+        Ok(Text::legal(name, text))
+    };
+    let descriptions: Result<Vec<Text>, String> = names.iter().map(read).collect();
+    Ok(descriptions?.into_iter().chain(texts(most)).collect())
+}
+
+/// Every call, on so many texts, each with its faults, and so many images of each kind.
+fn measured(folder: &str, names: &[&str], most: usize) -> Result<Vec<Row>, String> {
+    let stacks = Stacks::new()?;
+    let mut rows = Vec::new();
+    let few = Ceilings::few(SMALL_RECORDS);
+    for text in all_texts(folder, names, most)? {
+        on_text(&stacks, &text, &mut rows)?;
+    }
+    let images = [
+        (SMALL, deep::cases(few)),
+        (SMALL, forged::few(few)),
+        (PASSING, deep::cases(Ceilings::ALL)),
+        (FORGED, forged::cases()),
+    ];
+    for (class, cases) in &images {
+        for case in cases.iter().take(most) {
+            on_image(&stacks, *class, case, &mut rows)?;
+        }
+    }
+    Ok(rows)
+}
+
+// What is made of it.
+
+/// Of each call the one that took most on this class.
+fn largest(rows: &[Row], class: Class) -> Vec<&Row> {
+    let on =
+        |call: &&str| rows.iter().filter(|row| row.class == class && row.call == *call).max_by_key(|row| row.bytes);
+    CALLS.iter().filter_map(|call| on(call)).collect()
+}
+
+fn print(rows: &[Row]) {
+    println!("stack in KiB, the thread's own with it: the most that a call took, what it may take, what it was given");
+    for class in CLASSES {
+        let count = rows.iter().filter(|row| row.class == class).count();
+        println!("{}: {count} calls", class.name);
+        for row in largest(rows, class) {
+            println!("  {:8} {:>9} {:>9}  {}", row.call, kibibytes(row.bytes), kibibytes(class.limit), row.given);
+        }
+    }
+}
+
+/// The calls that take more on a class than they may.
+fn beyond(rows: &[Row], limit: impl Fn(Class) -> usize) -> Vec<String> {
+    let all = CLASSES.iter().flat_map(|&class| largest(rows, class));
+    let beyond = all.filter(|row| row.bytes > limit(row.class));
+    let told =
+        |row: &Row| format!("{}: {} takes {} KiB: {}", row.class.name, row.call, kibibytes(row.bytes), row.given);
+    beyond.map(told).collect()
+}
+
+pub fn table(folder: &str, names: &[&str], each: bool) -> Result<(), String> {
+    let rows = measured(folder, names, usize::MAX)?;
+    for row in rows.iter().filter(|_| each) {
+        println!("{:24} {:8} {:>9}  {}", row.class.name, row.call, kibibytes(row.bytes), row.given);
+    }
+    print(&rows);
+    match &beyond(&rows, |class| class.limit)[..] {
+        [] => Ok(()),
+        beyond => Err(format!("more stack than is said\n  {}", beyond.join("\n  "))),
+    }
+}
+
+/// With limits a byte below what was measured every call on every class is told, and with that limit none.
+pub fn wrong(folder: &str, names: &[&str]) -> Result<(), String> {
+    Stacks::new()?.right()?;
+    let rows = measured(folder, names, 1)?;
+    let of_class = |class: Class| largest(&rows, class).into_iter().map(|row| row.bytes);
+    let told = beyond(&rows, |class| of_class(class).min().unwrap_or(1) - 1).len();
+    let not_told = beyond(&rows, |class| of_class(class).max().unwrap_or(0)).len();
+    // Reading on texts, and every other call on every other class.
+    let calls = 1 + (CLASSES.len() - 1) * (CALLS.len() - 1);
+    println!("stack: {told} of {calls} limits that are a byte too low are told");
+    match (told == calls, not_told) {
+        (true, 0) => Ok(()),
+        _ => Err("a limit that is too low is not told".to_string()),
+    }
 }

@@ -40,6 +40,11 @@ static const struct {
     {"ddlp_most_facilities", DDLP_MOST_FACILITIES},
     {"ddlp_most_states", DDLP_MOST_STATES},
     {"ddlp_most_returns", DDLP_MOST_RETURNS},
+    {"ddlp_stack_most", DDLP_STACK_MOST},
+    {"ddlp_stack_read", DDLP_STACK_READ},
+    {"ddlp_stack_text", DDLP_STACK_TEXT},
+    {"ddlp_stack_small", DDLP_STACK_SMALL},
+    {"ddlp_small_records", DDLP_SMALL_RECORDS},
 };
 
 /* The function's address is copied: ISO C converts no pointer to an object into one to a function. */

@@ -35,6 +35,7 @@ mod image;
 mod records;
 mod refusal;
 mod run;
+mod stack;
 mod stimulus;
 #[cfg(test)]
 mod tests;
@@ -44,5 +45,6 @@ pub use facility::{Bounds, Facility, Kind};
 pub use image::{Image, ReadError};
 pub use refusal::{Halt, Refusal, Stop};
 pub use run::{Ran, Run};
+pub use stack::{SMALL_RECORDS, STACK_MOST, STACK_READ, STACK_SMALL, STACK_TEXT};
 pub use stimulus::{Stimulus, StimulusError};
 pub use word::Word;

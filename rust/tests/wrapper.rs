@@ -1,6 +1,7 @@
 //! What the wrapper adds to the calls: messages, names, words and stimuli.
 
 use ddlp::{Bounds, Halt, Image, Kind, Refusal, Run, Stimulus, StimulusError, Stop};
+use ddlp::{SMALL_RECORDS, STACK_MOST, STACK_READ, STACK_SMALL, STACK_TEXT};
 
 const TEXT: &[u8] = b"REGISTER A[9], #S[2].
 MEMORY M[7:0,12].
@@ -144,4 +145,20 @@ fn each_refusal_and_stop_keeps_its_number() {
     }
     assert_eq!((Refusal::answered(0), Stop::answered(0)), (Ok(()), None));
     assert_eq!(Refusal::answered(11), Err(Refusal::Other(11)));
+}
+
+/// The number that the header gives a name.
+fn defined(name: &str) -> Option<usize> {
+    let header = include_str!("../../include/ddlp.h");
+    let definition = header.lines().find_map(|line| line.strip_prefix("#define DDLP_")?.strip_prefix(name));
+    definition.and_then(|number| number.trim().parse().ok())
+}
+
+#[test]
+fn the_header_has_the_same_sizes_of_stack() {
+    assert_eq!(defined("STACK_MOST"), Some(STACK_MOST));
+    assert_eq!(defined("STACK_READ"), Some(STACK_READ));
+    assert_eq!(defined("STACK_TEXT"), Some(STACK_TEXT));
+    assert_eq!(defined("STACK_SMALL"), Some(STACK_SMALL));
+    assert_eq!(defined("SMALL_RECORDS"), Some(SMALL_RECORDS));
 }
