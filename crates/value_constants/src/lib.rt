@@ -1,17 +1,16 @@
 // Constants (the manual, 2.3): their digits, one by one, and the value once they end.
 use language::ceilings;
-use value_limbs::Limb;
-use value_limbs::Wide;
 use value_operators::Made;
 use value_operators::fitting;
 use value_operators::lengths;
 ghost use mathlib.Core.Path.{_≡_};
-ghost use Prim.Native.Nat.{_+_, _-_, _*_, _/_, _%_, _^_, _<_, min};
+ghost use Prim.Native.Nat.{_+_, _-_, _/_, _%_, _^_, min};
 ghost use Rattle.language.specs.Value as L;
 ghost use Rattle.language.specs.Constants.{leftJustified};
-ghost use Rattle.value_limbs.specs.Limbs.{number, Carry};
+ghost use Rattle.value_limbs.specs.Limbs.{number};
 ghost use Rattle.value_operators.specs.Meaning.{Means};
 ghost use Rattle.value_constants.specs.Digits.{held, holding, decimalMore, counting, bare, written, onRight, rightMore, leftMore};
+ghost use Rattle.value_constants.specs.Doubling.{adding};
 
 // Decimal digits: their number modulo 2 to the 256, and whether it passed that.
 pub struct Decimal {
@@ -24,9 +23,6 @@ pub struct Binary {
     pub limbs: [u64; 4],
     pub bits: u16,
 }
-
-// Half a limb.
-const HALF: u64 = 4294967296;
 
 // The largest bare constant, and one more.
 const BARE_LARGEST: u32 = ceilings::BARE;
@@ -43,51 +39,32 @@ pub fn no_decimal() -> Decimal
     }
 }
 
-// a * 10 + c, by halves, where c was carried out of the limb below.
-fn limb_tenfold(a: u64, c: u64) -> Limb
-    requires { ⌜ c < 2 ^ 32 ⌝ }
-    ensures { λ r. ⌜ (r .carry < 2 ^ 32) × Carry (2 ^ 64) (a * 10) c (r .low) (r .carry) ⌝ }
+// x + y modulo 2 to the 256, and whether a sum has passed that, this one or one before.
+fn added(x: [u64; 4], y: [u64; 4], passed: bool) -> Decimal
+    ensures { λ r. ⌜ held r ≡ adding (number x) (number y) passed ⌝ }
 {
-    let low = a % HALF * 10 + c;
-    let high = a / HALF * 10 + low / HALF;
-    Limb {
-        low: high % HALF * HALF + low % HALF,
-        carry: high / HALF,
+    let s = value_limbs::sums::sum(x, y);
+    let limbs = s.limbs;
+    Decimal {
+        limbs,
+        passed: passed || 0 < s.carry,
     }
 }
 
-// x * 10 + d.
-fn tenfold(x: [u64; 4], d: u8) -> Wide
-    ensures { λ r. ⌜ (number (r .limbs) ≡ (number x * 10 + d) % 2 ^ 256) × (r .carry ≡ (number x * 10 + d) / 2 ^ 256) ⌝ }
-{
-    let a = value_limbs::taken(x);
-    let s0 = limb_tenfold(a.l0, d as u64);
-    let s1 = limb_tenfold(a.l1, s0.carry);
-    let s2 = limb_tenfold(a.l2, s1.carry);
-    let s3 = limb_tenfold(a.l3, s2.carry);
-    Wide {
-        limbs: [s0.low, s1.low, s2.low, s3.low],
-        carry: s3.carry,
-    }
-}
-
-// One decimal digit more.
+// One decimal digit more, by doubling and adding: some benches have no wide multiply.
 pub fn decimal_digit(x: Decimal, d: u8) -> Decimal
     ensures { λ r. ⌜ held r ≡ decimalMore (held x) d ⌝ }
 {
-    let a = x.limbs;
-    let t = tenfold(a, d);
-    let limbs = t.limbs;
-    if x.passed {
-        return Decimal {
-            limbs,
-            passed: true,
-        };
-    }
-    Decimal {
-        limbs,
-        passed: 0 < t.carry,
-    }
+    let once = x.limbs;
+    let a = added(once, once, x.passed);
+    let twice = a.limbs;
+    let b = added(twice, twice, a.passed);
+    let four = b.limbs;
+    let c = added(four, once, b.passed);
+    let five = c.limbs;
+    let e = added(five, five, c.passed);
+    let ten = e.limbs;
+    added(ten, value_limbs::small(d as u64), e.passed)
 }
 
 // The number of a length or a bare constant, where anything larger is 65,536.

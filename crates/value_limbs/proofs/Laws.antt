@@ -29,10 +29,6 @@ carry-cat {B} {H} {c} {c₁} {c₂} {l} {h} {t} {T} e f =
 pub carry-of : {B c l t t′ out : ℕ} → t ≡ t′ → Carry B t c l out → Carry B t′ c l out
 carry-of p e = record { sum = omega arith }
 
--- What is carried in is a part of the sum.
-pub carry-in : {B c l t out : ℕ} → Carry B t c l out → Carry B (t + c) 0 l out
-carry-in e = record { sum = omega arith }
-
 -- A chain of four carries.
 pub carry-four : {c c₁ c₂ c₃ c₄ l₀ l₁ l₂ l₃ t₀ t₁ t₂ t₃ : ℕ} → Carry (2 ^ 64) t₀ c l₀ c₁ → Carry (2 ^ 64) t₁ c₁ l₁ c₂ → Carry (2 ^ 64) t₂ c₂ l₂ c₃ → Carry (2 ^ 64) t₃ c₃ l₃ c₄
     → Carry (2 ^ 256) (cat (cat (cat t₃ t₂) t₁) t₀) c (cat (cat (cat l₃ l₂) l₁) l₀) c₄
