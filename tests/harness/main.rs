@@ -11,6 +11,7 @@
 
 mod altered;
 mod corpus;
+mod decimals;
 mod deep;
 mod faults;
 mod fields;
@@ -66,7 +67,8 @@ impl Harness<'_> {
 
 fn attempt(harness: &mut Harness) -> Result<(), Failure> {
     match harness.random.below(20) {
-        0..=6 => texts::any_text(harness),
+        0 => decimals::some_decimals(harness),
+        1..=6 => texts::any_text(harness),
         7..=11 => runs::some_cycles(harness),
         12..=14 => spoiled::some_spoiled(harness),
         15..=17 => forged::some_forged(harness),

@@ -13,6 +13,8 @@ use std::sync::{Mutex, OnceLock};
 pub enum Fault {
     /// A refusal is that of the last place at fault, not the first.
     LastPlace,
+    /// A length or a bare constant is taken without the 2 to the 256 that it passes.
+    DecimalsWrap,
     /// The bytes beyond the image are left as they were.
     ImageTail,
     /// Opening leaves memories as the last run had them.
@@ -47,8 +49,9 @@ pub enum Fault {
     BoundsSwapped,
 }
 
-const FAULTS: [(Fault, &str); 17] = [
+const FAULTS: [(Fault, &str); 18] = [
     (Fault::LastPlace, "last-place"),
+    (Fault::DecimalsWrap, "decimals-wrap"),
     (Fault::ImageTail, "image-tail"),
     (Fault::MemoriesKept, "memories-kept"),
     (Fault::LandsAtOnce, "lands-at-once"),
@@ -87,6 +90,31 @@ fn chosen() -> Option<Fault> {
 }
 
 // Reading and opening.
+
+/// 2 to the 256.
+const PASSED: &[u8] = b"115792089237316195423570985008687907853269984665640564039457584007913129639936";
+
+/// The text that is read for the one lent.
+pub fn text(lent: &[u8]) -> Vec<u8> {
+    let mut text = lent.to_vec();
+    if Fault::DecimalsWrap.is_on() {
+        text.chunk_by_mut(|&byte, &next| byte.is_ascii_digit() == next.is_ascii_digit()).for_each(wrap);
+    }
+    text
+}
+
+/// Takes 2 to the 256 off digits that are as many as it has and no less.
+fn wrap(digits: &mut [u8]) {
+    if digits.len() != PASSED.len() || !digits[0].is_ascii_digit() || &*digits < PASSED {
+        return;
+    }
+    let mut borrow = 0;
+    for (digit, passed) in digits.iter_mut().zip(PASSED).rev() {
+        let taken = passed - b'0' + borrow;
+        borrow = (*digit - b'0' < taken) as u8;
+        *digit = *digit + 10 * borrow - taken;
+    }
+}
 
 pub fn after_reading(text: &[u8], found: &[u8], image: &mut [u8], mut answer: ReadAnswer) -> ReadAnswer {
     if Fault::ImageTail.is_on() && answer.refusal == 0 {

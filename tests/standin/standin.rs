@@ -21,10 +21,10 @@ pub unsafe extern "C" fn ddlp_read(
     image: *mut u8,
     image_length: usize,
 ) -> ReadAnswer {
-    let (text, image) = (lent(text, text_length), lent_mut(image, image_length));
+    let (text, image) = (faults::text(lent(text, text_length)), lent_mut(image, image_length));
     let found = image.to_vec();
-    let answer = calls::read(text, image);
-    faults::after_reading(text, &found, image, answer)
+    let answer = calls::read(&text, image);
+    faults::after_reading(&text, &found, image, answer)
 }
 
 /// # Safety
