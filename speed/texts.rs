@@ -245,8 +245,14 @@ fn ordinary() -> Text {
     Text::legal("counters", text.into_bytes())
 }
 
+/// The largest number that decimal digits make a value of.
+fn decimal() -> Text {
+    let ones = "115792089237316195423570985008687907853269984665640564039457584007913129639935";
+    Text::legal("a decimal of 256 bits", operation(&format!("W<-\n256D{ones}")).into_bytes())
+}
+
 /// So many of those above, each with its faults, and the others.
 pub fn texts(most: usize) -> Vec<Text> {
     let made = FLAT.iter().chain(&NESTS).chain(&NAMED).take(most).flat_map(and_faults);
-    made.chain(past_ceilings()).chain([ordinary()]).collect()
+    made.chain(past_ceilings()).chain([ordinary(), decimal()]).collect()
 }
