@@ -3,7 +3,7 @@
 multiplies or divides, as it was written and as it was compiled.
 
     sums_alone.py CODE ARCHIVE OBJDUMP           CODE is what `rt mir text_items` prints
-    sums_alone.py --wrong CODE ARCHIVE OBJDUMP   the same with one thing wrong must be noticed, or this test shows nothing"""
+    sums_alone.py --wrong CODE ARCHIVE OBJDUMP   one thing wrong must be noticed, or this test shows nothing"""
 import re
 import subprocess
 import sys
@@ -82,12 +82,13 @@ def wrong(code, listing):
     for sign in ('mul', 'div', 'rem', 'shl', 'shr'):
         before, sums = re.split('(?=\\(fn-def "value_limbs::sums::half_sum")', code)
         yield f'{sign} as written', before + sums.replace('(op2 (add', f'(op2 ({sign}', 1), listing
-    yield 'a call of what was not written', code.replace('value_limbs::sums::sum")', 'value_limbs::sums::some")'), listing
+    yield 'a call of what was not written', code.replace('value_limbs::sums::sum")', 'value_limbs::other")'), listing
     yield 'no such function as written', code.replace(f'"{DIGITS}"', '"other"'), listing
     yield 'no such function in the archive', code, {name: text for name, text in listing.items() if name != ITEM}
     lines = ['imul   $0xa,%rbx,%rbx', 'mulx   %rax,%rbx,%rcx', 'mul    %rbx', 'div    %rcx', 'idivl  0x8(%rsp)',
              'vpmuludq %ymm0,%ymm1,%ymm2', 'mulsd  %xmm0,%xmm1', 'shld   $0x20,%rax,%rbx', 'call   *%rax']
-    lines += [f'call   5f <{ITEM}+0x5f>\n\t\t\t5b: R_X86_64_PLT32\t{name}-0x4' for name in ('__multi3', '.text.tenfold')]
+    called = ('__multi3', '.text.tenfold')
+    lines += [f'call   5f <{ITEM}+0x5f>\n\t\t\t5b: R_X86_64_PLT32\t{name}-0x4' for name in called]
     tenfold = {'tenfold': '\n   0:\timul   $0xa,%rdi,%rax\n   4:\tret\n'}
     for line in lines:
         yield line, code, {**listing, **tenfold, ITEM: f'{listing[ITEM]}  5a:\t{line}\n'}

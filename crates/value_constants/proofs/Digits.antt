@@ -39,19 +39,24 @@ byte-lt h = lt-of-lt-of-le h (pow-mono {i = 8} {j = 256} (omega arith))
 
 -- ---- One digit more.
 
+-- Whether n is M or more, or a number was so before.
+abbrev pub over : ℕ → Bool → ℕ → Bool
+over M passed n = cond passed true (leb M n)
+
+-- What comes of n is as large as n, so where it is remembered that n passed M, what M leaves of n tells the rest.
+pub passes : (M : ℕ) (f : ℕ → ℕ) (passed : Bool) (n : ℕ) → n ≤ f n → cond (over M passed n) true (leb M (f (n % M))) ≡ over M passed (f n)
+passes M f true n h = refl
+passes M f false n h = ⊎-elim (λ e. there (omega arith)) (λ e. before (omega arith)) (eq-zero-or-pos (M - n))
+  where
+    there : M ≤ n → cond (leb M n) true (leb M (f (n % M))) ≡ leb M (f n)
+    there l = ap (λ (b : Bool). cond b true (leb M (f (n % M)))) (le-leb M n l) ∙ sym (le-leb M (f n) (omega arith))
+
+    before : n < M → cond (leb M n) true (leb M (f (n % M))) ≡ leb M (f n)
+    before l = ap (λ (b : Bool). cond b true (leb M (f (n % M)))) (lt-leb M n l) ∙ ap (λ (i : ℕ). leb M (f i)) (mod-eq-of-lt l)
+
 pub decimal-more : (n d : ℕ) → decimalMore (holding n) d ≡ holding (n * 10 + d)
 unfolding decimalMore holding
-decimal-more n d = held-of (joined-cut n 10 d (2 ^ 256)) (reach (2 ^ 256) n)
-  where
-    reach : (M n : ℕ) → cond (leb M n) true (leb M ((n % M) * 10 + d)) ≡ leb M (n * 10 + d)
-    reach M n = ⊎-elim (λ e. there (omega arith)) (λ e. before (omega arith)) (eq-zero-or-pos (M - n))
-      where
-        there : M ≤ n → cond (leb M n) true (leb M ((n % M) * 10 + d)) ≡ leb M (n * 10 + d)
-        there l = ap (λ (b : Bool). cond b true (leb M ((n % M) * 10 + d))) (le-leb M n l) ∙ sym (le-leb M (n * 10 + d) (omega arith))
-
-        before : n < M → cond (leb M n) true (leb M ((n % M) * 10 + d)) ≡ leb M (n * 10 + d)
-        before l =
-            ap (λ (b : Bool). cond b true (leb M ((n % M) * 10 + d))) (lt-leb M n l) ∙ ap (λ (k : ℕ). leb M (k * 10 + d)) (mod-eq-of-lt l)
+decimal-more n d = held-of (joined-cut n 10 d (2 ^ 256)) (passes (2 ^ 256) (λ (i : ℕ). i * 10 + d) false n (omega arith))
 
 bits-more : (b k L : ℕ) → min (min b L + k) L ≡ min (b + k) L
 bits-more b k L =

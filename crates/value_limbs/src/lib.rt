@@ -8,7 +8,7 @@ ghost use Prim.Native.Nat.{_-_, _^_};
 ghost use Rattle.value_limbs.specs.Limbs.{number, four};
 
 // A limb, and what is carried out of it.
-pub struct Limb {
+struct Limb {
     pub low: u64,
     pub carry: u64,
 }
