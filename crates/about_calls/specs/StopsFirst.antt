@@ -14,7 +14,7 @@ use Rattle.language.specs.Ceilings.{lastCycle, mostWork}
 use Rattle.language.specs.Step.{Outcome, Record, completed, step}
 use Rattle.language.specs.Store.{StoreWords, fromBytes, inputsOf}
 use Rattle.language.specs.declared.stops.Stop.{Stop}
-use Rattle.language.specs.declared.stops.Stop.the-variants.{NoArm, OutsideBounds}
+use Rattle.language.specs.declared.stops.Stop.the-variants.{OutsideBounds}
 use Rattle.about_running.specs.Conditions.{Condition, FirstOf, order}
 use Rattle.about_running.specs.Cycle.{Sound, Well}
 use Rattle.about_running.specs.FewConflicts.{few-conflicts}
@@ -23,7 +23,7 @@ use Rattle.about_running.specs.LegalForm.{Legal, right-of}
 use Rattle.about_running.specs.NeverStuck.{legal-image, never-stuck}
 use Rattle.about_running.specs.Soundness.{bytes-fit, sound-so}
 use Rattle.about_running.specs.StopOrder as S
-use Rattle.about_running.specs.StopOrder.{FirstOutside, armless-never, first-holds, first-one, stopOf, stops-in-order}
+use Rattle.about_running.specs.StopOrder.{FirstOutside, first-one, stopOf, stops-in-order}
 use Rattle.about_bytes.specs.StaysSound.{Unrefused, unrefused}
 
 -- This stop is the first of 01's conditions that holds in a cycle from these bytes; or none holds.
@@ -104,9 +104,3 @@ module _ (image store record′ stimulus : List ℕ) (scratch : ℕ) (none-refus
   one-first l =
       let h = S.one-first d legal-there words kept inputs sound-words inputs-fit l in
       ((λ e. h .0 (stopped-step e)), (λ o. step-stopped (h .1 o)))
-
-  -- No passing image meets S8: a CASE has an arm for every value.
-  pub eight-never : cycle image store record′ stimulus scratch .answer ≡ stoppedFor NoArm → ⊥
-  eight-never e =
-      let first = stops-in-order d legal-there words kept inputs sound-words inputs-fit in
-      armless-never d legal-there words kept inputs sound-words inputs-fit (first-holds (rw (stopped-step e) at first))

@@ -15,7 +15,7 @@ use Rattle.language.specs.Operators.{binaryOf, cutOf, prefixOf}
 use Rattle.language.specs.References as R
 use Rattle.language.specs.References.{Reference, Subscripts, part, referenceOf, two, whole, wordPart}
 use Rattle.language.specs.declared.stops.Stop.{Stop}
-use Rattle.language.specs.declared.stops.Stop.the-variants.{NoArm, OutsideBounds}
+use Rattle.language.specs.declared.stops.Stop.the-variants.{OutsideBounds}
 use Rattle.language.specs.Value.{Value, made, value}
 
 -- ---- References.
@@ -54,22 +54,14 @@ pub data Takes (n : ℕ) : ℕ → ℕ → Type 0 where
   by-number : {v : ℕ} → 1 ≤ v → v < n → Takes n v v
   last-for-zero : Takes n 0 n
 
--- Any other value has no arm.
-pub record Armless (n v : ℕ) : Type 0 where
-  pub not-zero : 1 ≤ v
-  pub too-large : n ≤ v
-
 -- ---- What ends a cycle while its actions are executed.
 
 pub data Met : Type 0 where
   -- S1: a computed subscript, and its value, which lies outside the bounds
   outside : Subscript → Value → Met
-  -- S8: a CASE by its condition's record and the number of its arms, and the condition's value, for which there is no arm
-  armless : ℕ → ℕ → Value → Met
 
 abbrev pub stopFor : Met → Stop
 stopFor (outside s v) = OutsideBounds
-stopFor (armless e n v) = NoArm
 
 -- ---- Expressions.
 
@@ -123,7 +115,6 @@ module _ {X : Type 0} (S : Stores X) (d : Description) (x : X) where
     chosen : {e a n m g : ℕ} {v : Value} {r : Result} → Comes (recordAt d e) (worth v) → Takes n (v .number) m → armBack d (n - m) a ≡ some g
         → Comes (recordAt d g) r → Comes (expression (D.choice e a n)) r
     condition-meets : {e a n : ℕ} {o : Met} → Comes (recordAt d e) (meets o) → Comes (expression (D.choice e a n)) (meets o)
-    no-arm : {e a n : ℕ} {v : Value} → Comes (recordAt d e) (worth v) → Armless n (v .number) → Comes (expression (D.choice e a n)) (meets (armless e n v))
     -- What a reference stands for: its place is found; what is stored is loaded; a computed terminal's expression is worked out now.
     loaded : {r : Reference} {p : Place} → isComputed (referred d r .kind) ≡ false → Comes (naming r) (names p) → Comes (reading r) (worth (value (p .count) (S .load x p)))
     worked : {r : Reference} {p : Place} {v : Value} → isComputed (referred d r .kind) ≡ true → Comes (naming r) (names p)
@@ -256,4 +247,3 @@ module _ {X : Type 0} (S : Stores X) (d : Description) where
     chosen-arm : {x : X} {i e n m k : ℕ} {v : Value} {r : Run} {es : List Executed} {f : End} → Worth S d x e v → Takes n (v .number) k → armAt d (k - 1) (i + 1) m ≡ some r
         → Executes x (list (r .count) (r .first)) es f → Executes x (action i (D.choose e n m)) es f
     choose-meets : {x : X} {i e n m : ℕ} {o : Met} → Meets S d x e o → Executes x (action i (D.choose e n m)) [] (met o)
-    no-arm-for : {x : X} {i e n m : ℕ} {v : Value} → Worth S d x e v → Armless n (v .number) → Executes x (action i (D.choose e n m)) [] (met (armless e n v))

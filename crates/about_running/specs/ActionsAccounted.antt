@@ -22,7 +22,7 @@ use Rattle.about_running.specs.OneAction.{plainly, simple}
 use Rattle.about_running.specs.Account as Account
 use Rattle.about_running.specs.Account.{Comes, End, Executed, Executes, Meets, Met, Work, Worth, action, heldBy, list, meets, names, naming, numberFor, putEach, recordAt, stands, stopFor, stores, toRegister}
 use Rattle.about_running.specs.OneAccount.{one-course, over-apart}
-use Rattle.about_running.specs.ValuesAccounted.{Told, ToldSide, arm-so, no-arm-so, side-at, side-meets, side-stuck, side-told, told-meets, told-stuck, told-worth, value-told}
+use Rattle.about_running.specs.ValuesAccounted.{Told, ToldSide, arm-so, side-at, side-meets, side-stuck, side-told, told-meets, told-stuck, told-worth, value-told}
 
 module _ {X : Type 0} (S : Stores X) (d : Description) where
   -- ---- What has been done when these have been executed.
@@ -199,7 +199,7 @@ module _ {X : Type 0} (S : Stores X) (d : Description) where
           go false y = arm-told (D.when e x) x q refl c (armAt d 0 (i + 1) x) (λ t z es f g. Account.taken h (omega (arith, eqb-false (v .number) 0 y)) z g)
 
       choose-told : (e n x : ℕ) → actionAt d i ≡ D.choose e n x → (c : Doing X) (v : Value) → Worth S d (c .store) e v → (m : Option ℕ) → armNumber n (v .number) ≡ m → ToldRun (list (suc k) i) c (armChosen S d perform ev k i x m c)
-      choose-told e n x q c v h none y = told-stopped [] (met-first k i (D.choose e n x) q (Account.no-arm-for h (no-arm-so n (v .number) y))) refl
+      choose-told e n x q c v h none y = told-nothing
       choose-told e n x q c v h (some m) y = arm-told (D.choose e n x) x q refl c (armAt d (m - 1) (i + 1) x) (λ t z es f g. Account.chosen-arm h (arm-so n (v .number) m y) z g)
 
       act-told : (a : Action) → actionAt d i ≡ a → (c : Doing X) → ToldRun (list (suc k) i) c (listAct S d perform ev k i a c)

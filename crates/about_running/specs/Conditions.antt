@@ -3,6 +3,7 @@ use mathlib.Core.Bool.{Bool, true, false, cond, _||_}
 use mathlib.Core.List.{List, [], _∷_}
 use mathlib.Core.Option.{Option, none, some}
 use mathlib.Core.Path.{_≡_}
+use native.Mathlib.Omega.{arith}
 use Prim.Native.Nat.{ℕ, _+_, _-_, _≤_, _<_}
 use lib.Dec.{leb}
 use lib.ListN.{length}
@@ -10,11 +11,12 @@ use Rattle.language.specs.Description.{Description, sequencingOf, stateAt}
 use Rattle.language.specs.Step.{Record, registerValue, stateNumber}
 use Rattle.language.specs.Ceilings.{lastCycle, mostReturns}
 use Rattle.language.specs.Store.{Held, StoreWords, begin, held, landAll, numbers}
+use Rattle.language.specs.Stops.{stopNumber}
 use Rattle.language.specs.declared.stops.Stop.{Stop}
-use Rattle.language.specs.declared.stops.Stop.the-variants.{LastCycleReached, NoArm, NoNextState, NothingToReturn, OutsideBounds, TooManyCalls, TwoNextStates, ValueUnborne}
+use Rattle.language.specs.declared.stops.Stop.the-variants.{LastCycleReached, NoNextState, NothingToReturn, OutsideBounds, TooManyCalls, TwoNextStates, ValueUnborne}
 use Rattle.language.specs.Value.{Value, bit}
 use Rattle.about_running.specs.Account as Account
-use Rattle.about_running.specs.Account.{End, Executed, Executes, Subscript, Work, armless, list, outside, stands, toRegister}
+use Rattle.about_running.specs.Account.{End, Executed, Executes, Subscript, Work, list, outside, stands, toRegister}
 
 -- ---- What is counted of the executed actions.
 
@@ -98,8 +100,6 @@ module _ (d : Description) (s : StoreWords) (r : Record) (ins : StoreWords) wher
     last-number : lastCycle ≤ r .cycle → Condition LastCycleReached
     -- S1 computed subscript outside its bounds
     subscript-outside : {es : List Executed} {t : Subscript} {v : Value} → Cycle es (Account.met (outside t v)) → Condition OutsideBounds
-    -- S8 CASE value without an arm
-    value-armless : {es : List Executed} {e n : ℕ} {v : Value} → Cycle es (Account.met (armless e n v)) → Condition NoArm
     -- S2 two plain next states, even if equal, or two calls
     two-plain : {es : List Executed} → Cycle es Account.over → 2 ≤ plainGiven d es → Condition TwoNextStates
     two-calls : {es : List Executed} → Cycle es Account.over → 2 ≤ howMany isCall es → Condition TwoNextStates
@@ -112,13 +112,23 @@ module _ (d : Description) (s : StoreWords) (r : Record) (ins : StoreWords) wher
     -- S5 call with 16 held after any RETURN
     no-room : {es : List Executed} → Cycle es Account.over → 1 ≤ howMany isCall es → mostReturns ≤ heldAfter r es → Condition TooManyCalls
 
--- ---- The order: S7 is tested first, S1 or S8 comes when met, then S2, S4, S3, S6, S5.
+-- ---- The order: S7 is tested first, S1 comes when met, then S2, S4, S3, S6, S5.
 
 abbrev pub afterActions : List Stop
 afterActions = TwoNextStates ∷ NothingToReturn ∷ ValueUnborne ∷ NoNextState ∷ TooManyCalls ∷ []
 
 abbrev pub order : List Stop
-order = LastCycleReached ∷ OutsideBounds ∷ NoArm ∷ afterActions
+order = LastCycleReached ∷ OutsideBounds ∷ afterActions
+
+-- The stops end at S7.
+pub stops-end : (n : Stop) → (1 ≤ stopNumber n) × (stopNumber n ≤ 7)
+stops-end LastCycleReached = (omega arith, omega arith)
+stops-end OutsideBounds = (omega arith, omega arith)
+stops-end TwoNextStates = (omega arith, omega arith)
+stops-end NothingToReturn = (omega arith, omega arith)
+stops-end ValueUnborne = (omega arith, omega arith)
+stops-end NoNextState = (omega arith, omega arith)
+stops-end TooManyCalls = (omega arith, omega arith)
 
 -- The first stop whose condition holds, or none where none does.
 pub data FirstOf (C : Stop → Type 0) : List Stop → Option Stop → Type 0 where

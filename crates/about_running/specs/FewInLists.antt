@@ -22,7 +22,7 @@ use Rattle.language.specs.Words.{Position}
 use Rattle.about_running.specs.OneAction.{plainly, simple}
 use Rattle.about_running.specs.Judged.{both-fine, faulty-fine}
 use Rattle.about_running.specs.FewStores as F
-use Rattle.about_running.specs.FewStores.{Counts, carried, stopped-so, stuck-so}
+use Rattle.about_running.specs.FewStores.{Counts, carried, stuck-so}
 use Rattle.language.specs.Tests.{both}
 
 module _ {X : Type 0} (S : Stores X) (d : Description) (p : Places) (delayed : X → ℕ) (count : Counts S delayed) where
@@ -142,7 +142,7 @@ module _ {X : Type 0} (S : Stores X) (d : Description) (p : Places) (delayed : X
           F.chosen-few S d p delayed count (decides n v) (go y (armNumber n (v .number))) stuck-so)
         where
           go : Held x (w .work) → (a : Option ℕ) → Few (delayed (c .store) + w .work) (A.armChosen S d perform EV m i x a c)
-          go y none = stopped-so
+          go y none = stuck-so
           go y (some a) = arm-few x (a - 1) c y
 
       list-few : (a : Action) {w : Worth} (c : Doing X) → actionAt d i ≡ a → J.listJudged d p inState works ev m i a ≡ fine w → Few (delayed (c .store) + w .work) (A.listAct S d perform EV m i a c)

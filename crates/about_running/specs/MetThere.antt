@@ -1,18 +1,16 @@
--- What the account meets is so on the store that stands then: a subscript met is worth a value outside its bounds, a CASE met is worth a value without an arm. Assumes nothing.
+-- What the account meets is so on the store that stands then: a subscript met is worth a value outside its bounds. Assumes nothing.
 use mathlib.Core.Bool.{false}
 use mathlib.Core.List.{List, [], _∷_, _++_}
 use mathlib.Core.Path.{_≡_, refl}
-use Prim.Native.Nat.{ℕ}
 use Rattle.language.specs.Description.{Description, inBounds}
 use Rattle.language.specs.Meaning.{Stores}
 use Rattle.language.specs.Value.{Value}
 use Rattle.about_running.specs.Account as Account
-use Rattle.about_running.specs.Account.{Armless, Comes, Executed, Executes, Met, Subscript, Task, Work, Worth, armless, lands, meets, outside, stands}
+use Rattle.about_running.specs.Account.{Comes, Executed, Executes, Met, Subscript, Task, Work, Worth, lands, meets, outside, stands}
 
 module _ {X : Type 0} (S : Stores X) (d : Description) where
   pub data There (x : X) : Met → Type 0 where
     beyond : {t : Subscript} {v : Value} → Worth S d x (t .expression) v → inBounds (t .bounds) (v .number) ≡ false → There x (outside t v)
-    unarmed : {e n : ℕ} {v : Value} → Worth S d x e v → Armless n (v .number) → There x (armless e n v)
 
   pub met-there : {x : X} {t : Task} {o : Met} → Comes S d x t (meets o) → There x o
   met-there (Account.reads-whole h) = met-there h
@@ -26,7 +24,6 @@ module _ {X : Type 0} (S : Stores X) (d : Description) where
   met-there (Account.cut-meets h) = met-there h
   met-there (Account.chosen k e f h) = met-there h
   met-there (Account.condition-meets h) = met-there h
-  met-there (Account.no-arm h e) = unarmed h e
   met-there (Account.worked-meets e k h) = met-there h
   met-there (Account.place-meets h) = met-there h
   met-there (Account.subscripts-meet h) = met-there h
@@ -54,4 +51,3 @@ module _ {X : Type 0} (S : Stores X) (d : Description) where
   course-there (Account.when-meets h) = met-there h
   course-there (Account.chosen-arm k e f h) = course-there h
   course-there (Account.choose-meets h) = met-there h
-  course-there (Account.no-arm-for h e) = unarmed h e

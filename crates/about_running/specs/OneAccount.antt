@@ -8,7 +8,7 @@ use Rattle.language.specs.Description.{Description}
 use Rattle.language.specs.Meaning.{Place, Stores}
 use Rattle.language.specs.Value.{Value}
 use Rattle.about_running.specs.Account as Account
-use Rattle.about_running.specs.Account.{Armless, Comes, End, Executed, Executes, Met, Result, Takes, Task, Work}
+use Rattle.about_running.specs.Account.{Comes, End, Executed, Executes, Met, Result, Takes, Task, Work}
 
 -- ---- Expressions.
 
@@ -27,16 +27,12 @@ fixes-apart e = absurd (let z : _≡_ {A = ℕ} 0 1 = cc in omega arith)
 both-ways : {A : Type 0} {b : Bool} → b ≡ true → b ≡ false → A
 both-ways e f = absurd (let z : _≡_ {A = ℕ} 0 1 = cc in omega arith)
 
--- A value takes one arm, or none.
+-- A value takes one arm.
 one-arm : {n v m k : ℕ} → Takes n v m → Takes n v k → m ≡ k
 one-arm (Account.by-number l h) (Account.by-number j k) = refl
 one-arm (Account.by-number l h) Account.last-for-zero = absurd (omega arith)
 one-arm Account.last-for-zero (Account.by-number j k) = absurd (omega arith)
 one-arm Account.last-for-zero Account.last-for-zero = refl
-
-arm-apart : {A : Type 0} {n v m : ℕ} → Takes n v m → Armless n v → A
-arm-apart (Account.by-number l h) a = absurd (omega arith)
-arm-apart Account.last-for-zero a = absurd (omega arith)
 
 -- The numbers of one value.
 number-so : {v w : Value} → Account.worth v ≡ Account.worth w → v .number ≡ w .number
@@ -72,13 +68,8 @@ module _ {X : Type 0} (S : Stores X) (d : Description) (x : X) where
       let z : g′ ≡ g = cc in
       one-result i (rw z at k)
   one-result (Account.chosen h e f i) (Account.condition-meets j) = worth-apart (one-result h j)
-  one-result (Account.chosen h e f i) (Account.no-arm j e′) = arm-apart (rw (number-so (one-result h j)) at e) e′
   one-result (Account.condition-meets h) (Account.chosen j e′ f′ k) = worth-apart (sym (one-result h j))
   one-result (Account.condition-meets h) (Account.condition-meets j) = one-result h j
-  one-result (Account.condition-meets h) (Account.no-arm j e′) = worth-apart (sym (one-result h j))
-  one-result (Account.no-arm h e) (Account.chosen j e′ f′ k) = arm-apart e′ (rw (number-so (one-result h j)) at e)
-  one-result (Account.no-arm h e) (Account.condition-meets j) = worth-apart (one-result h j)
-  one-result (Account.no-arm h e) (Account.no-arm j e′) = let a = one-result h j in cc
   one-result (Account.loaded e h) (Account.loaded f k) = let a = one-result h k in cc
   one-result (Account.loaded e h) (Account.worked f k i) = both-ways f e
   one-result (Account.loaded e h) (Account.worked-meets f k i) = both-ways f e
@@ -191,10 +182,5 @@ module _ {X : Type 0} (S : Stores X) (d : Description) where
       let z : r′ ≡ r = cc in
       one-course i (rw z at k)
   one-course {x} (Account.chosen-arm h e f i) (Account.choose-meets j) = worth-apart (one-result S d x h j)
-  one-course {x} (Account.chosen-arm h e f i) (Account.no-arm-for j e′) = arm-apart (rw (number-so (one-result S d x h j)) at e) e′
   one-course {x} (Account.choose-meets h) (Account.chosen-arm j e′ f′ k) = worth-apart (sym (one-result S d x h j))
   one-course {x} (Account.choose-meets h) (Account.choose-meets j) = nothing-more (one-result S d x h j)
-  one-course {x} (Account.choose-meets h) (Account.no-arm-for j e′) = worth-apart (sym (one-result S d x h j))
-  one-course {x} (Account.no-arm-for h e) (Account.chosen-arm j e′ f′ k) = arm-apart e′ (rw (number-so (one-result S d x h j)) at e)
-  one-course {x} (Account.no-arm-for h e) (Account.choose-meets j) = worth-apart (one-result S d x h j)
-  one-course {x} (Account.no-arm-for h e) (Account.no-arm-for j e′) = let a = one-result S d x h j in record { executed = refl; ended = cc }

@@ -42,7 +42,7 @@ module _ {X Y : Type 0} (S : Stores X) (T : Stores Y) (d : Description) (R : X �
       arm-alike x (some r) c e h = Actions.onward-alike S T d R joins _ _ (evs (r .count) (r .first) c e h) (passing-alike x)
 
       chosen-alike : (x : ℕ) (k : Option ℕ) → Onward (armChosen S d perform ev m i x k) (armChosen T d perform′ ev′ m i x k)
-      chosen-alike x none c e h = Actions.stop
+      chosen-alike x none c e h = Actions.stick
       chosen-alike x (some k) c e h = go (armAt d (k - 1) (i + 1) x)
         where
           go : (r : Option Run) → Alike (inArm S d perform ev m i x r c) (inArm T d perform′ ev′ m i x r e)

@@ -11,15 +11,15 @@ use lib.ListN.{length}
 use Rattle.language.specs.Acting as A
 use Rattle.language.specs.Acting.{Doing, Ran, went}
 use Rattle.language.specs.Description.{Description, inBounds, sequencingOf, stateAt}
-use Rattle.language.specs.Step.{Entered, Outcome, Record, afterActions, bearer, bears, completed, entered, finished, into, isNone, nextRecord, nothingDone, orStopped, setRegister, stateCount, stateNumber, step, stopAfter}
+use Rattle.language.specs.Step.{Entered, Outcome, Record, afterActions, bearer, bears, completed, entered, finished, into, isNone, nextRecord, nothingDone, orStopped, setRegister, stateCount, step, stopAfter}
 use Rattle.language.specs.Ceilings.{lastCycle, mostReturns}
 use Rattle.language.specs.Step as Step
 use Rattle.language.specs.declared.stops.Stop.{Stop}
-use Rattle.language.specs.declared.stops.Stop.the-variants.{LastCycleReached, NoArm, NoNextState, NothingToReturn, OutsideBounds, TooManyCalls, TwoNextStates, ValueUnborne}
+use Rattle.language.specs.declared.stops.Stop.the-variants.{LastCycleReached, NoNextState, NothingToReturn, OutsideBounds, TooManyCalls, TwoNextStates, ValueUnborne}
 use Rattle.language.specs.Store.{Held, StoreWords, begin, inputsOf, numbers}
 use Rattle.language.specs.Value.{Value}
 use Rattle.about_running.specs.Account as Account
-use Rattle.about_running.specs.Account.{Executed, Met, Subscript, Worth, armless, outside, stands, stopFor}
+use Rattle.about_running.specs.Account.{Executed, Met, Subscript, Worth, outside, stands, stopFor}
 use Rattle.about_running.specs.ActionsAccounted.{ToldRun, actions-told, done, done-store, told-stopped, told-went}
 use Rattle.about_running.specs.Acts.{Good}
 use Rattle.about_running.specs.Bearers.{none-bears, one-bears}
@@ -28,7 +28,6 @@ use Rattle.about_running.specs.Conditions.{Borne, Condition, Cycle, Firs
 use Rattle.about_running.specs.Counted.{counts}
 use Rattle.about_running.specs.Cycle.{Sound, run-good}
 use Rattle.about_running.specs.Decided.{Decides, and-then, at-least, either, equals, itself}
-use Rattle.about_running.specs.Executes as E
 use Rattle.about_running.specs.Fitting.{Fit, Inv, numbers-keep}
 use Rattle.about_running.specs.LegalForm.{Legal}
 use Rattle.about_running.specs.MetThere as M
@@ -76,9 +75,6 @@ module _ (d : Description) (s : StoreWords) (r : Record) (ins : StoreWords) wher
     no-subscript : K OutsideBounds → ⊥
     no-subscript (C.subscript-outside h) = no-end h
 
-    no-case : K NoArm → ⊥
-    no-case (C.value-armless h) = no-end h
-
     two-so : K TwoNextStates → (2 ≤ plainGiven d es → ⊥) → (2 ≤ howMany isCall es → ⊥) → ⊥
     two-so (C.two-plain h l) f g = f (rw (these h) at l)
     two-so (C.two-calls h l) f g = g (rw (these h) at l)
@@ -123,14 +119,6 @@ module _ (d : Description) (s : StoreWords) (r : Record) (ins : StoreWords) wher
   not-last : r .cycle < lastCycle → K LastCycleReached → ⊥
   not-last l (C.last-number h) = omega arith
 
-  -- ---- Where something was met: it is that alone.
-
-  met-alone : {es fs : List Executed} {o m : Met} → Cycle d s r ins es (Account.met o) → Cycle d s r ins fs (Account.met m) → o ≡ m
-  met-alone h k = let e = one-course (numbers d) d h k .ended in cc
-
-  no-other : {es : List Executed} {e n : ℕ} {v : Value} → Cycle d s r ins es (Account.met (armless e n v)) → K OutsideBounds → ⊥
-  no-other h (C.subscript-outside k) = let q = met-alone h k in let z : _≡_ {A = ℕ} 0 1 = cc in omega arith
-
 -- The first subscript outside its bounds that a cycle works out: what was executed before it, and its value on the store that stands then.
 pub record FirstOutside (d : Description) (s : StoreWords) (r : Record) (ins : StoreWords) : Type 0 where
   pub before : List Executed
@@ -174,13 +162,12 @@ module _ (d : Description) (L : Legal d) (s : StoreWords) (r : Record) (ins : St
   unfolding step
   stops-in-order = rw (lt-ltb (r .state) (length (d .states)) (sound .state-in)) (go (leb lastCycle (r .cycle)) refl)
     where
-      met-so : {n : Stop} (o : Met) (es : List Executed) → Cycle d s r ins es (Account.met o) → stopFor o ≡ n → FirstOf (Condition d s r ins) (OutsideBounds ∷ NoArm ∷ C.afterActions) (some n)
+      met-so : {n : Stop} (o : Met) (es : List Executed) → Cycle d s r ins es (Account.met o) → stopFor o ≡ n → FirstOf (Condition d s r ins) (OutsideBounds ∷ C.afterActions) (some n)
       met-so (outside t v) es h e = rw (← e) (this-one (C.subscript-outside h))
-      met-so (armless a m v) es h e = rw (← e) (a-later-one (no-other d s r ins h) (this-one (C.value-armless h)))
 
       after : (x : Ran Held) → Good (numbers d) d (Inv d) (numbers-keep d) L x → ToldRun (numbers d) d (stateWork d s r ins) (nothingDone d (begin (d .facilities) s ins)) x
-          → FirstOf (Condition d s r ins) (OutsideBounds ∷ NoArm ∷ C.afterActions) (stopOf (afterActions d r x))
-      after (went e) g (told-went es h y) = rw (finished-stop e, y) (a-later-one (no-subscript d s r ins es h) (a-later-one (no-case d s r ins es h) (after-all d s r ins es h)))
+          → FirstOf (Condition d s r ins) (OutsideBounds ∷ C.afterActions) (stopOf (afterActions d r x))
+      after (went e) g (told-went es h y) = rw (finished-stop e, y) (a-later-one (no-subscript d s r ins es h) (after-all d s r ins es h))
       after (Ran.stopped n) g (told-stopped {o = o} es h y) = met-so o es h y
 
       go : (b : Bool) → leb lastCycle (r .cycle) ≡ b → FirstOf (Condition d s r ins) order (stopOf (cond b (Outcome.stopped LastCycleReached) (afterActions d r run)))
@@ -194,11 +181,3 @@ module _ (d : Description) (L : Legal d) (s : StoreWords) (r : Record) (ins : St
     (λ e. there-outside d s r ins (first-holds (rw e at stops-in-order))),
     (λ h. first-one stops-in-order (a-later-one (not-last d s r ins l) (this-one (C.subscript-outside (h .met-first))))),
   )
-
-  -- No legal description comes to a CASE value without an arm.
-  pub armless-never : Condition d s r ins NoArm → ⊥
-  armless-never (C.value-armless h) = go run (run-good d L s r ins sound fitting) (actions-told (numbers d) d (stateAt d (r .state) .actions) (nothingDone d (begin (d .facilities) s ins)))
-    where
-      go : (x : Ran Held) → Good (numbers d) d (Inv d) (numbers-keep d) L x → ToldRun (numbers d) d (stateWork d s r ins) (nothingDone d (begin (d .facilities) s ins)) x → ⊥
-      go (went e) g (told-went es k y) = no-end d s r ins es k h
-      go (Ran.stopped n) E.stops-so (told-stopped es k y) = let e = met-alone d s r ins k h in let z : _≡_ {A = ℕ} 0 1 = cc in omega arith

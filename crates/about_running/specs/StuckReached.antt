@@ -12,7 +12,7 @@ use Rattle.language.specs.Description.{Action, Facility, Node, bounds}
 use Rattle.language.specs.Encode.{encode}
 use Rattle.language.specs.Image.{passes}
 use Rattle.language.specs.Kinds.{conWord, delayedSign, headWord, minus, plus, sumSign}
-use Rattle.language.specs.Meaning.{Stuck, lengthDiffers, missingArm, noFacility, noOperation, noOperator, noState, noStateValue, notBefore, notOneBit, notStorable, outside, runsOver, sidesDiffer, tooLarge, wrongCount, wrongLength, wrongRecord, wrongSubscripts}
+use Rattle.language.specs.Meaning.{Stuck, lengthDiffers, missingArm, noArm, noFacility, noOperation, noOperator, noState, noStateValue, notBefore, notOneBit, notStorable, outside, runsOver, sidesDiffer, tooLarge, wrongCount, wrongLength, wrongRecord, wrongSubscripts}
 use Rattle.language.specs.Step.{Outcome, openRecord, step}
 use Rattle.language.specs.Store.{inputsOf, zeroWords}
 use Rattle.language.specs.Tree.{Kind, computed, input, plain, register, sequencing}
@@ -106,6 +106,8 @@ pub data Place : Type 0 where
   terminalDiffers : Place
   -- an IF expression whose condition is A, of four bits
   choiceNotOneBit : Place
+  -- a CASE expression of three arms over the constant 2D3
+  expressionArmless : Place
   -- an expression whose last arm is no arm
   expressionArmMissing : Place
   -- a store to a constant
@@ -128,6 +130,8 @@ pub data Place : Type 0 where
   ifNotOneBit : Place
   -- IF A with ELSE
   ifElseNotOneBit : Place
+  -- CASE of three arms over the constant 2D3
+  actionArmless : Place
   -- RETURN where the arm should stand
   actionArmMissing : Place
   -- a conditional that ends after its list
@@ -167,6 +171,7 @@ stuckAt prefixAbsent = noOperator
 stuckAt cutAbsent = noOperator
 stuckAt terminalDiffers = lengthDiffers
 stuckAt choiceNotOneBit = notOneBit
+stuckAt expressionArmless = noArm
 stuckAt expressionArmMissing = missingArm
 stuckAt sideNoReference = wrongRecord
 stuckAt sidesUnequal = sidesDiffer
@@ -178,6 +183,7 @@ stuckAt wentNowhere = noState
 stuckAt calledNowhere = noState
 stuckAt ifNotOneBit = notOneBit
 stuckAt ifElseNotOneBit = notOneBit
+stuckAt actionArmless = noArm
 stuckAt actionArmMissing = missingArm
 stuckAt conditionalRunsOver = runsOver
 stuckAt armRunsOver = runsOver
@@ -208,6 +214,7 @@ forgedFor prefixAbsent = operating (D.prefix conWord 1)
 forgedFor cutAbsent = operating (D.cut plus 1 2)
 forgedFor terminalDiffers = forged (a ∷ facility 66 computed 3 0 ∷ []) (D.whole 0 ∷ D.whole 0 ∷ D.whole 1 ∷ []) (D.store delayedSign 1 2 ∷ [])
 forgedFor choiceNotOneBit = choosing (D.choice 1 3 2)
+forgedFor expressionArmless = forged (a ∷ []) (D.constant (value 2 3) ∷ D.whole 0 ∷ D.firstArm 1 ∷ D.nextArm 2 1 ∷ D.nextArm 3 1 ∷ D.choice 0 4 3 ∷ []) (D.store delayedSign 1 5 ∷ [])
 forgedFor expressionArmMissing = choosing (D.choice 0 1 2)
 forgedFor sideNoReference = forged (a ∷ []) (D.constant (value 4 0) ∷ D.whole 0 ∷ []) (D.store delayedSign 0 1 ∷ [])
 forgedFor sidesUnequal = storing (D.constant (value 3 0))
@@ -219,6 +226,7 @@ forgedFor wentNowhere = acting (D.goto 9 ∷ [])
 forgedFor calledNowhere = acting (D.call 9 ∷ [])
 forgedFor ifNotOneBit = acting (D.when 0 1 ∷ D.arm 0 ∷ [])
 forgedFor ifElseNotOneBit = acting (D.choose 0 2 2 ∷ D.arm 0 ∷ D.arm 0 ∷ [])
+forgedFor actionArmless = forged (a ∷ []) (D.constant (value 2 3) ∷ []) (D.choose 0 3 3 ∷ D.arm 0 ∷ D.arm 0 ∷ D.arm 0 ∷ [])
 forgedFor actionArmMissing = forged (a ∷ []) (D.constant (value 1 1) ∷ []) (D.when 0 1 ∷ D.return ∷ [])
 forgedFor conditionalRunsOver = forged (a ∷ []) (D.constant (value 1 0) ∷ []) (D.when 0 5 ∷ D.arm 0 ∷ [])
 forgedFor armRunsOver = forged (a ∷ []) (D.constant (value 1 1) ∷ []) (D.when 0 5 ∷ D.arm 4 ∷ [])
@@ -249,6 +257,7 @@ reached prefixAbsent = (refl, refl)
 reached cutAbsent = (refl, refl)
 reached terminalDiffers = (refl, refl)
 reached choiceNotOneBit = (refl, refl)
+reached expressionArmless = (refl, refl)
 reached expressionArmMissing = (refl, refl)
 reached sideNoReference = (refl, refl)
 reached sidesUnequal = (refl, refl)
@@ -260,6 +269,7 @@ reached wentNowhere = (refl, refl)
 reached calledNowhere = (refl, refl)
 reached ifNotOneBit = (refl, refl)
 reached ifElseNotOneBit = (refl, refl)
+reached actionArmless = (refl, refl)
 reached actionArmMissing = (refl, refl)
 reached conditionalRunsOver = (refl, refl)
 reached armRunsOver = (refl, refl)
@@ -278,6 +288,7 @@ place-reached w = let y = reached w in record { image = forgedFor w; fails = y .
 pub each-reached : (s : Stuck) → Reached s
 each-reached notBefore = place-reached partNotBefore
 each-reached wrongRecord = place-reached armAsExpression
+each-reached noArm = place-reached expressionArmless
 each-reached missingArm = place-reached expressionArmMissing
 each-reached noFacility = place-reached facilityAbsent
 each-reached noOperation = place-reached operationAbsent

@@ -11,7 +11,7 @@ use lib.ListN.{length}
 use Rattle.language.specs.Acting.{side, sideOf}
 use Rattle.language.specs.Description as D
 use Rattle.language.specs.Description.{Bounds, Description, Facility, Node, facilityAt, fromFirst, inBounds, isComputed, nodeAt, spanOf, wordLength}
-use Rattle.language.specs.Meaning.{Answer, Located, Place, Stores, Stuck, after, armBack, armNumber, armWorth, chosen, constantPart, decides, evalAt, evalBelow, evalNode, evalStep, fitting, is, lengthDiffers, located, noFacility, notBefore, notOneBit, outside, partOfValue, place, placeOf, read, stops, stuck, subscript, tooLarge, upToLongest, worthOr, wrongCount, wrongLength, wrongSubscripts}
+use Rattle.language.specs.Meaning.{Answer, Located, Place, Stores, Stuck, after, armBack, armNumber, armWorth, chosen, constantPart, decides, evalAt, evalBelow, evalNode, evalStep, fitting, is, lengthDiffers, located, noFacility, notBefore, notOneBit, outside, partOfValue, place, placeOf, read, stops, stuck, subscript, tooLarge, upToLongest, worthOr, wrongLength, wrongSubscripts}
 use Rattle.language.specs.Operators.{binaryOf, cutOf, prefixOf}
 use Rattle.language.specs.Recursion.{below-ge, below-lt}
 use Rattle.language.specs.References as R
@@ -21,7 +21,7 @@ use Rattle.language.specs.Value as Values
 use Rattle.language.specs.Value.{Made, Value, made, value}
 use Rattle.language.specs.Ceilings.{longest}
 use Rattle.about_running.specs.Account as Account
-use Rattle.about_running.specs.Account.{Armless, Comes, Meets, Met, Result, Takes, Task, Worth, computedSubscripts, expression, lie, meets, names, naming, placeAt, reading, recordAt, stopFor, subscripts, within, worth}
+use Rattle.about_running.specs.Account.{Comes, Meets, Met, Result, Takes, Task, Worth, computedSubscripts, expression, lie, meets, names, naming, placeAt, reading, recordAt, stopFor, subscripts, within, worth}
 use Rattle.about_running.specs.OneAccount.{names-apart, one-result, worth-apart}
 use Rattle.language.specs.Tests.{both}
 
@@ -35,15 +35,6 @@ arm-so n v m e = go (eqb v 0) refl (ltb v n) refl e
     go true p b q k = let z : n ≡ m = cc in rw (← z, eqb-true v 0 p) Account.last-for-zero
     go false p true q k = let z : v ≡ m = cc in rw (← z) (Account.by-number {v = v} (omega (arith, eqb-false v 0 p)) (ltb-true v n q))
     go false p false q k = absurd (let z : _≡_ {A = ℕ} 0 1 = cc in omega arith)
-
-pub no-arm-so : (n v : ℕ) → armNumber n v ≡ none → Armless n v
-unfolding armNumber
-no-arm-so n v e = go (eqb v 0) refl (ltb v n) refl e
-  where
-    go : (a : Bool) → eqb v 0 ≡ a → (b : Bool) → ltb v n ≡ b → cond a (some n) (cond b (some v) none) ≡ none → Armless n v
-    go true p b q k = absurd (let z : _≡_ {A = ℕ} 0 1 = cc in omega arith)
-    go false p true q k = absurd (let z : _≡_ {A = ℕ} 0 1 = cc in omega arith)
-    go false p false q k = record { not-zero = omega (arith, eqb-false v 0 p); too-large = ltb-false v n q }
 
 module _ {X : Type 0} (S : Stores X) (d : Description) (x : X) where
   -- An answer as the account has it.
@@ -174,7 +165,7 @@ module _ {X : Type 0} (S : Stores X) (d : Description) (x : X) where
     part-of e (stuck s) on told-stuck next before = told-stuck
 
     chosen-told : (e a n : ℕ) (v : Value) → Worth S d x e v → (m : Option ℕ) → armNumber n (v .number) ≡ m → Told (expression (D.choice e a n)) (chosen S d x ev a n m)
-    chosen-told e a n v h none q = told-meets (Account.no-arm h (no-arm-so n (v .number) q)) refl
+    chosen-told e a n v h none q = told-stuck
     chosen-told e a n v h (some m) q = go (armBack d (n - m) a) refl
       where
         go : (g : Option ℕ) → armBack d (n - m) a ≡ g → Told (expression (D.choice e a n)) (armWorth S d x ev g)

@@ -8,11 +8,10 @@ use lib.ListN.{length}
 use Rattle.language.specs.Description as D
 use Rattle.language.specs.Description.{Action, Description, Run, actionAt, facilityAt, isSequencing, nodeAt, operationAt}
 use Rattle.language.specs.Kinds.{delayedSign}
-use Rattle.language.specs.Meaning.{Answer, Located, Place, Stores, Stuck, Write, armNumber, decides, evalAt, evalBelow, is, missingArm, noOperation, noState, notOneBit, notStorable, placeOf, runsOver, sidesDiffer, stops, wrongRecord}
+use Rattle.language.specs.Meaning.{Answer, Located, Place, Stores, Stuck, Write, armNumber, decides, evalAt, evalBelow, is, missingArm, noArm, noOperation, noState, notOneBit, notStorable, placeOf, runsOver, sidesDiffer, stops, wrongRecord}
 use Rattle.language.specs.Recursion.{below}
 use Rattle.language.specs.References.{Reference, referenceOf}
 use Rattle.language.specs.declared.stops.Stop.{Stop}
-use Rattle.language.specs.declared.stops.Stop.the-variants.{NoArm}
 use Rattle.language.specs.Storing.{isPlain, mayStore}
 use Rattle.language.specs.Value.{Value}
 
@@ -155,7 +154,7 @@ module _ {X : Type 0} (S : Stores X) (d : Description) where
       inArm x (some r) c = onward (ev (r .count) (r .first) c) (passing x)
 
       abbrev pub armChosen : ℕ → Option ℕ → Doing X → Ran X
-      armChosen x none c = stopped NoArm
+      armChosen x none c = stuck noArm
       armChosen x (some k) c = inArm x (armAt d (k - 1) (i + 1) x) c
 
       -- IF without ELSE: one takes the arm, zero takes nothing.

@@ -12,7 +12,7 @@ use Rattle.language.specs.Recursion.{below}
 use Rattle.language.specs.References as R
 use Rattle.language.specs.References.{Reference, Subscripts, part, rightCount, sameDirection, two, whole, wordPart}
 use Rattle.language.specs.declared.stops.Stop.{Stop}
-use Rattle.language.specs.declared.stops.Stop.the-variants.{NoArm, OutsideBounds}
+use Rattle.language.specs.declared.stops.Stop.the-variants.{OutsideBounds}
 use Rattle.language.specs.Value as Value
 use Rattle.language.specs.Value.{Made, Value, made, value}
 use Rattle.language.specs.Ceilings.{longest}
@@ -41,8 +41,10 @@ pub record Stores (X : Type 0) : Type 0 where
 
 -- The ways to be stuck. No passing image reaches one.
 pub data Stuck : Type 0 where
-  -- a part whose record is not before its owner's; a record of the wrong kind; a chosen arm that is not where it should be
-  notBefore wrongRecord missingArm : Stuck
+  -- a part whose record is not before its owner's; a record of the wrong kind
+  notBefore wrongRecord : Stuck
+  -- a value that takes none of the arms; a chosen arm that is not where it should be
+  noArm missingArm : Stuck
   -- a facility, an operation, a state or an operator that is not there
   noFacility noOperation noState noOperator : Stuck
   -- subscripts that do not fit the dimensions; a part that leaves its word
@@ -183,9 +185,8 @@ module _ {X : Type 0} (S : Stores X) (d : Description) (x : X) where
   armWorth ev none = stuck missingArm
   armWorth ev (some e) = ev e
 
-  -- S8: a CASE value without an arm.
   abbrev pub chosen : (ℕ → Answer) → ℕ → ℕ → Option ℕ → Answer
-  chosen ev a n none = stops NoArm
+  chosen ev a n none = stuck noArm
   chosen ev a n (some k) = armWorth ev (armBack d (n - k) a)
 
   abbrev pub choiceWorth : (ℕ → Answer) → ℕ → ℕ → Value → Answer

@@ -1,4 +1,4 @@
--- One cycle (01, "One cycle") on the words of the store. The stops are tested in 01's order: S7; S1 and S8 when met; then S2, S4, S3, S6, S5.
+-- One cycle (01, "One cycle") on the words of the store. The stops are tested in 01's order: S7; S1 when met; then S2, S4, S3, S6, S5.
 use mathlib.Core.Bool.{Bool, true, false, cond, _||_}
 use mathlib.Core.List.{List, []}
 use mathlib.Core.Option.{Option, none, some}

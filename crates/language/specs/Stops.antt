@@ -4,7 +4,7 @@ use Prim.Native.Nat.{ℕ}
 use Rattle.language.specs.declared.stops.Halt.{Halt}
 use Rattle.language.specs.declared.stops.Halt.the-variants as Halts
 use Rattle.language.specs.declared.stops.Stop.{Stop}
-use Rattle.language.specs.declared.stops.Stop.the-variants.{OutsideBounds, TwoNextStates, ValueUnborne, NothingToReturn, TooManyCalls, NoNextState, LastCycleReached, NoArm}
+use Rattle.language.specs.declared.stops.Stop.the-variants.{OutsideBounds, TwoNextStates, ValueUnborne, NothingToReturn, TooManyCalls, NoNextState, LastCycleReached}
 
 abbrev pub halted : Halt → Option Stop
 halted Halts.None = none
@@ -18,4 +18,3 @@ stopNumber NothingToReturn = 4
 stopNumber TooManyCalls = 5
 stopNumber NoNextState = 6
 stopNumber LastCycleReached = 7
-stopNumber NoArm = 8

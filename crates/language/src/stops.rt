@@ -1,4 +1,4 @@
-// The stops (01, "One cycle"). S7 is tested first, S1 and S8 come when met, then S2, S4, S3, S6, S5.
+// The stops (01, "One cycle"). S7 is tested first, S1 comes when met, then S2, S4, S3, S6, S5.
 ghost use mathlib.Core.Path.{_≡_};
 ghost use Rattle.language.specs.Stops.{stopNumber};
 
@@ -17,8 +17,6 @@ pub enum Stop {
     NoNextState,
     // cycle number 4,294,967,295
     LastCycleReached,
-    // a CASE value without an arm
-    NoArm,
 }
 
 // The stop that ended something, if one did.
@@ -39,6 +37,5 @@ pub fn stop_number(s: Stop) -> u8
         Stop::TooManyCalls => 5,
         Stop::NoNextState => 6,
         Stop::LastCycleReached => 7,
-        Stop::NoArm => 8,
     }
 }

@@ -11,7 +11,6 @@ use Rattle.language.specs.Decode.{actionOf}
 use Rattle.language.specs.Description as D
 use Rattle.language.specs.Description.{Description, actionAt, operationAt}
 use Rattle.language.specs.Meaning as M
-use Rattle.language.specs.declared.stops.Stop.the-variants.{NoArm}
 use Rattle.language.specs.Tree.{Name}
 use Rattle.language.specs.Value.{Value}
 use Rattle.image_records.specs.declared.actions.Action.{Action}
@@ -111,7 +110,7 @@ module _ {X : Type 0} (S : M.Stores X) (d : Description) (perform : ℕ → T.Do
       cond (eqb (v .length) 1) (cond (eqb (v .number) 0) (T.went c) (armDone (T.armAt d 0 (i + 1) x) c)) (T.stuck M.notOneBit)
 
   abbrev pub chosenDone : ℕ → ℕ → Option ℕ → T.Doing X → T.Ran X
-  chosenDone i x none c = T.stopped NoArm
+  chosenDone i x none c = T.stuck M.noArm
   chosenDone i x (some k) c = armDone (T.armAt d (k - 1) (i + 1) x) c
 
   abbrev pub chooseDone : ℕ → ℕ → ℕ → Value → T.Doing X → T.Ran X

@@ -97,7 +97,7 @@ pub fn choose(
                 return Way::Stuck(Stuck::NotOneBit);
             }
             let Found::At(k) = run_references::arms::arm_number(n, v) else {
-                return Way::Stopped(Stop::NoArm);
+                return Way::Stuck(Stuck::NoArm);
             };
             into_arm(limit, m, arms::arm_at(actions, arms::before(k), i + 1, x))
         }

@@ -153,7 +153,7 @@ fn arm(
     ensures { λ r. ⌜ ForEach (now (section .entry)) (now (expressions .entry)) (now (store .entry)) (λ d x. answered r ≡ M.chosen (bytes d) d x (evalBelow (bytes d) d x n) last count (foundMeant number)) ⌝ }
 {
     let Found::At(k) = number else {
-        return worth::stops(Stop::NoArm);
+        return worth::sticks(Stuck::NoArm);
     };
     let back = lengths::minus(count as u32, k as u32);
     match arms::arm_back(expressions, last, back) {

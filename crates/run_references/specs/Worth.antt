@@ -11,6 +11,7 @@ use Rattle.run_references.specs.declared.worth.Worth.{Worth}
 abbrev pub stuckMeant : Stuck → M.Stuck
 stuckMeant S.NotBefore = M.notBefore
 stuckMeant S.WrongRecord = M.wrongRecord
+stuckMeant S.NoArm = M.noArm
 stuckMeant S.MissingArm = M.missingArm
 stuckMeant S.NoFacility = M.noFacility
 stuckMeant S.NoOperation = M.noOperation

@@ -12,6 +12,7 @@ ghost use Rattle.run_references.specs.Worth.{answered, stuckMeant};
 pub enum Stuck {
     NotBefore,
     WrongRecord,
+    NoArm,
     MissingArm,
     NoFacility,
     NoOperation,

@@ -148,7 +148,7 @@ abbrev part-below : ℕ → In 3 part-kinds.ps
 part-below t = and 3 part-kinds.ps (falls 3 part-kinds.ps _<_ μ-part t) part.Pre
 
 abbrev arm-calls : ℕ → arm-lts.Claims
-arm-calls t = (stops-reads.Asked, stops-reads.Learnt, minus-reads.Asked, minus-reads.Learnt, arm-back-reads.Asked, arm-back-reads.Learnt, part-below t, part.Post, sticks-reads.Asked, sticks-reads.Learnt)
+arm-calls t = (sticks-reads.Asked, sticks-reads.Learnt, minus-reads.Asked, minus-reads.Learnt, arm-back-reads.Asked, arm-back-reads.Learnt, part-below t, part.Post)
 
 abbrev binary-calls : ℕ → binary-lts.Claims
 binary-calls t = (part-below t, part.Post, binary-reads.Asked, binary-reads.Learnt)
@@ -177,12 +177,12 @@ arm-enum-known-number t c = search needs
 arm-enum-told : (t : ℕ) → arm-lts.Need-enum-told (arm-calls t) (arm-at t) arm.Post
 arm-enum-told t c = search needs
 
-arm-stops-requires : (t : ℕ) → arm-lts.Need-stops-requires (arm-calls t) (arm-at t) arm.Post
-arm-stops-requires t c κs = search needs
+arm-sticks-requires : (t : ℕ) → arm-lts.Need-sticks-requires (arm-calls t) (arm-at t) arm.Post
+arm-sticks-requires t c κs = search needs
 
 arm-returns : (t : ℕ) → arm-lts.Need-returns (arm-calls t) (arm-at t) arm.Post
 arm-returns t c =
-    λ d x h e. rw (c .before .enum-told .given .1) (c .stops .ensures)
+    λ d x h e. rw (c .before .enum-told .given .1) (c .sticks .ensures)
 
 arm-cast-minus : (t : ℕ) → arm-lts.Need-cast-minus (arm-calls t) (arm-at t) arm.Post
 arm-cast-minus t c = search needs
@@ -202,8 +202,8 @@ arm-part-requires t c κs = search needs
 arm-enum-told-2 : (t : ℕ) → arm-lts.Need-enum-told-2 (arm-calls t) (arm-at t) arm.Post
 arm-enum-told-2 t c = search needs
 
-arm-sticks-requires : (t : ℕ) → arm-lts.Need-sticks-requires (arm-calls t) (arm-at t) arm.Post
-arm-sticks-requires t c κs = search needs
+arm-sticks-requires-2 : (t : ℕ) → arm-lts.Need-sticks-requires-2 (arm-calls t) (arm-at t) arm.Post
+arm-sticks-requires-2 t c κs = search needs
 
 arm-returns-2 : (t : ℕ) → arm-lts.Need-returns-2 (arm-calls t) (arm-at t) arm.Post
 arm-returns-2 t c =
@@ -215,7 +215,7 @@ arm-returns-3 : (t : ℕ) → arm-lts.Need-returns-3 (arm-calls t) (arm-at t) ar
 arm-returns-3 t c =
     λ d x h g.
     let q = sym (c .before .before .before .arm-back .ensures d (h .nodes) ∙ ap (λ (b : ℕ). armBack d b (c .before .before .before .before .before .before .before .before .before .before .before .args .last)) (c .before .before .before .before .minus .ensures)) ∙ ap foundMeant (c .before .enum-told2 .given .1) in
-    rw (c .before .before .before .before .before .before .number .given .1, q) (c .sticks .ensures)
+    rw (c .before .before .before .before .before .before .number .given .1, q) (c .sticks2 .ensures)
 
 binary-part-requires : (t : ℕ) → binary-lts.Need-part-requires (binary-calls t) (binary-at t) binary.Post
 binary-part-requires t c κs = search needs
@@ -530,7 +530,7 @@ pub +arm+binary+choice+distance+eval+operand+other+part-spec : {M : Type 1} → 
     arm.Post
     (arm-enum-known-number t)
     (arm-enum-told t)
-    (arm-stops-requires t)
+    (arm-sticks-requires t)
     (arm-returns t)
     (arm-cast-minus t)
     (arm-minus-requires t)
@@ -538,7 +538,7 @@ pub +arm+binary+choice+distance+eval+operand+other+part-spec : {M : Type 1} → 
     (arm-enum-known-e t)
     (arm-part-requires t)
     (arm-enum-told-2 t)
-    (arm-sticks-requires t)
+    (arm-sticks-requires-2 t)
     (arm-returns-2 t)
     (arm-returns-3 t))
     (λ t. binary-lts.spec (binary-calls t)
