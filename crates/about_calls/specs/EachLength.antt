@@ -114,7 +114,7 @@ module _ (image : List ℕ) (passing : passes image ≡ true) where
       → {X : Type 0} (S : Stores X) (x : X) → Loads S x → (f : ℕ) × NamesPart (decode image) f l (side S (decode image) x n)
   unfolding side
   each-left {i} {n} {l} a k h S x loads =
-      let y = side-long d (actionAt d i) n (acts-roots d L a) k in
+      let y = side-long d i (actionAt d i) n (acts-roots d L a) k in
       let u = subscripts-of (y .1 .1 .0) in
       (y .0, rw (u .1) (each-part (W.left-side a k) h (u .1) S x loads))
 

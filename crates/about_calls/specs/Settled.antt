@@ -129,7 +129,7 @@ module _ (d : Description) (L : Legal d) where
   value-order (D.choose c m x) n o W.choose = (o .0 .0, o .0 .1, o .0 .2)
 
   -- What an action of a state or an operation holds.
-  pub acts-roots : {i : ℕ} → Acts d i → Roots d (actionAt d i)
+  pub acts-roots : {i : ℕ} → Acts d i → Roots d i (actionAt d i)
   unfolding operationJudged
   acts-roots {i} (W.of-state {s = s} l h) =
       every-action d i (right-run d noPlaces true (length (d .operations)) (stateAt d s .actions) (L .states s l .1 .1 .run-fine)) (h .0) (h .1)
@@ -165,8 +165,8 @@ module _ (d : Description) (L : Legal d) where
       }
 
   pub settled : {n : ℕ} → WorkedOut d n → Settled d n
-  settled {n} (W.left-side {i = i} a h) = root-settled (side-order (actionAt d i) n (L .actions-order i) h) (side-long d (actionAt d i) n (acts-roots a) h .1 .1 .1)
-  settled {n} (W.valued {i = i} a h) = root-settled (value-order (actionAt d i) n (L .actions-order i) h) (value-long d (actionAt d i) n (acts-roots a) h .1)
+  settled {n} (W.left-side {i = i} a h) = root-settled (side-order (actionAt d i) n (L .actions-order i) h) (side-long d i (actionAt d i) n (acts-roots a) h .1 .1 .1)
+  settled {n} (W.valued {i = i} a h) = root-settled (value-order (actionAt d i) n (L .actions-order i) h) (value-long d i (actionAt d i) n (acts-roots a) h .1)
   settled (W.terminal f c q) = subst (Settled d) q (terminal-settled f c)
   settled (W.part o h) =
       let s = settled o in

@@ -1,7 +1,7 @@
 -- What is judged fine has the length judged, by the relation of HasLength. Assumes nothing.
 use mathlib.Core.Bool.{Bool, true, false, cond}
 use mathlib.Core.List.{[]}
-use mathlib.Core.Path.{_≡_, refl, sym, subst, _∙_}
+use mathlib.Core.Path.{_≡_, refl, sym, ap, subst, _∙_}
 use native.Mathlib.Numerals.{add-one}
 use native.Mathlib.Omega.{arith}
 use Prim.Native.Nat.{ℕ, zero, suc, _*_, _^_, _≤_, _<_}
@@ -121,6 +121,14 @@ pub selected : (l c : ℕ) → selects l c ≡ true → (l ≤ mostCaseBits) × 
 unfolding selects longestSelector
 selected l c e = (leb-true l longestSelector (both-left _ _ e), eqb-true c (2 ^ l) (both-right (leb l longestSelector) _ e))
 
+-- What a conditional without fault has: a condition of at most 6 bits, and arms of l bits, one for each of its values.
+pub record Chosen (d : Description) (known e a n l : ℕ) : Type 0 where
+  pub bits : ℕ
+  pub condition : Long d known expression e bits
+  pub few : bits ≤ mostCaseBits
+  pub each-value : n ≡ 2 ^ bits
+  pub all-long : Long d known (arms n) a l
+
 module _ (d : Description) (p : Places) (known : ℕ)
     (terms : (f : ℕ) (w : Worth) → f < known → expressionAt d p (terminalBelow d p f) f (facilityAt d f .expression) ≡ fine w
     → (m : ℕ) × Long d f expression (facilityAt d f .expression) m) where
@@ -223,23 +231,33 @@ module _ (d : Description) (p : Places) (known : ℕ)
             let z = even-so l m s in
             rw (z .1, ← add-one c) (H.next q h k (i (rw (z .1) at s)) (rw (z .0) j))
 
-    choice-says : (a b c : ℕ) → nodeAt d n ≡ D.choice a b c → {w : Worth}
-        → judgeNode d p terminals known ev (nodePlace p n) (D.choice a b c) ≡ fine w → Says n w
+    choice-chosen : (a b c : ℕ) {w : Worth} → judgeNode d p terminals known ev (nodePlace p n) (D.choice a b c) ≡ fine w
+        → (a < n) × (b < n) × Chosen d known a b c (w .length) × (w .arms ≡ 0)
     unfolding judgeNode
-    choice-says a b c q {w} e =
+    choice-chosen a b c {w} e =
         let y = both-fine (proper (nodePlace p a .at) (ev a)) (armList (nodePlace p n .at) (ev b)) _ e in
         let i = part-long _ a (y .left) in
         let j = arms-long _ b (y .right) in
         go (y .u .length) (y .v .arms) (y .v .length) _ (i .0) (i .1) (j .0) (j .1) _ refl (y .own)
       where
         go : (l m r k : ℕ) → a < n → Long d known expression a l → b < n → (1 ≤ r → Long d known (arms m) b r)
-            → (t : Bool) → both (selects l c) (eqb m c) ≡ t → cond t (sized (nodePlace p n .at) r k) (refuse (nodePlace p n .at) BadLength) ≡ fine w → Says n w
+            → (t : Bool) → both (selects l c) (eqb m c) ≡ t → cond t (sized (nodePlace p n .at) r k) (refuse (nodePlace p n .at) BadLength) ≡ fine w
+            → (a < n) × (b < n) × Chosen d known a b c (w .length) × (w .arms ≡ 0)
         go l m r w′ h i k j false s e′ = faulty-fine e′
         go l m r w′ h i k j true s e′ =
             let z = sized-fine _ r _ e′ in
             let t = selected l c (both-left _ _ s) in
-            let u : m ≡ 2 ^ l = eqb-true m c (both-right (selects l c) _ s) ∙ t .1 in
-            sized-says z (H.case (subst (λ (x : ℕ). nodeAt d n ≡ D.choice a b x) (t .1) q) h k i (t .0) (rw (← u) (j (z .some))))
+            let u : m ≡ c = eqb-true m c (both-right (selects l c) _ s) in
+            let v : w .length ≡ r = ap (λ (x : Worth). x .length) (z .same) in
+            (h, k, record { bits = l; condition = i; few = t .0; each-value = t .1; all-long = rw (v, ← u) (j (z .some)) }, ap (λ (x : Worth). x .arms) (z .same))
+
+    choice-says : (a b c : ℕ) → nodeAt d n ≡ D.choice a b c → {w : Worth}
+        → judgeNode d p terminals known ev (nodePlace p n) (D.choice a b c) ≡ fine w → Says n w
+    choice-says a b c q {w} e =
+        let y = choice-chosen a b c e in
+        let t = y .2 in
+        let h = H.case (subst (λ (x : ℕ). nodeAt d n ≡ D.choice a b x) (t .each-value) q) (y .0) (y .1) (t .condition) (t .few) (subst (λ (x : ℕ). Long d known (arms x) b (w .length)) (t .each-value) (t .all-long)) in
+        record { as-expression = λ z. h; as-arms = λ h s. absurd (omega (arith, y .3)) }
 
     -- ---- References.
 
@@ -373,3 +391,8 @@ module _ (d : Description) (p : Places) where
   -- An expression that is judged fine has the length judged.
   pub fine-is-long : (known n : ℕ) {w : Worth} → judged d p known n ≡ fine w → w .arms ≡ 0 → Long d known expression n (w .length)
   fine-is-long known n e h = expression-long d p known (terminals-long known) n e h
+
+  -- A conditional that is judged fine.
+  pub fine-choice : (known n : ℕ) {a b c : ℕ} {w : Worth} → judged d p known n ≡ fine w → nodeAt d n ≡ D.choice a b c → Chosen d known a b c (w .length)
+  unfolding judgeAt
+  fine-choice known n {a} {b} {c} e q = choice-chosen d p known (terminals-long known) n (λ m v l. says-below d p known (terminals-long known) (suc m) m v (omega arith)) a b c (rw q at e) .2
