@@ -99,8 +99,7 @@ enum ddlp_stop {
     DDLP_STOP_NOTHING_TO_RETURN = 4,
     DDLP_STOP_TOO_MANY_CALLS = 5,   /* a call with 16 returns held */
     DDLP_STOP_NO_STATE_BELOW = 6,
-    DDLP_STOP_LAST_CYCLE = 7,       /* cycle number 4,294,967,295 */
-    DDLP_STOP_NO_ARM = 8            /* a CASE value without an arm */
+    DDLP_STOP_LAST_CYCLE = 7        /* cycle number 4,294,967,295 */
 };
 
 /* ---- Kinds of facilities. */

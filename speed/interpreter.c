@@ -355,18 +355,16 @@ static struct value constant(struct interpreter *self, unsigned n)
 }
 
 /* Which of so many arms a value takes, from 1: the last for 0. */
-static unsigned chosen(struct interpreter *self, struct value condition, unsigned arms)
+static unsigned chosen(struct value condition, unsigned arms)
 {
     uint64_t value = number(condition);
-    if (value >= arms)
-        stop(self, 8);
     return value == 0 ? arms : (unsigned)value;
 }
 
 static struct value conditional(struct interpreter *self, const uint8_t *record)
 {
     unsigned arms = two(record + 6), arm = two(record + 4);
-    unsigned steps = arms - chosen(self, evaluate(self, two(record + 2)), arms);
+    unsigned steps = arms - chosen(evaluate(self, two(record + 2)), arms);
     for (; steps > 0; steps--)
         arm = two(self->expressions + EXPRESSION * arm + 2);
     record = self->expressions + EXPRESSION * arm;
@@ -428,7 +426,7 @@ static void choose(struct interpreter *self, unsigned n)
     struct value condition = evaluate(self, two(record + 1));
     unsigned arm = n + 1, steps = 0;
     if (record[0] == 11)
-        steps = chosen(self, condition, two(record + 3)) - 1;
+        steps = chosen(condition, two(record + 3)) - 1;
     else if (number(condition) == 0)
         return;
     for (; steps > 0; steps--)

@@ -48,7 +48,6 @@ static const char *const stops[] = {
     [DDLP_STOP_TOO_MANY_CALLS] = "a call with 16 returns held",
     [DDLP_STOP_NO_STATE_BELOW] = "no state stands below",
     [DDLP_STOP_LAST_CYCLE] = "the cycle number is at its end",
-    [DDLP_STOP_NO_ARM] = "a CASE has no arm for its value",
 };
 
 /* A facility as the lookups tell of it. */

@@ -102,13 +102,11 @@ pub enum Stop {
     NoStateBelow,
     /// S7: the cycle number is 4,294,967,295.
     LastCycle,
-    /// S8: a CASE has no arm for its value.
-    NoArm,
     /// A number that the module does not give.
     Other(u32),
 }
 
-const STOPS: [(Stop, u32, &str); 8] = [
+const STOPS: [(Stop, u32, &str); 7] = [
     (Stop::Subscript, 1, "a computed subscript lies outside its bounds"),
     (Stop::TwoNextStates, 2, "two plain next states, or two calls"),
     (Stop::NoStateBears, 3, "the sequencing register got a value that no state bears"),
@@ -116,7 +114,6 @@ const STOPS: [(Stop, u32, &str); 8] = [
     (Stop::TooManyCalls, 5, "a call with 16 returns held"),
     (Stop::NoStateBelow, 6, "no next state is given and no state stands below"),
     (Stop::LastCycle, 7, "the cycle number is 4,294,967,295"),
-    (Stop::NoArm, 8, "a CASE has no arm for its value"),
 ];
 
 impl Stop {

@@ -140,17 +140,28 @@ fn each_refusal_and_stop_keeps_its_number() {
     for number in (1..=10).chain(12..=15) {
         assert_eq!(Refusal::answered(number).map_err(Refusal::number), Err(number));
     }
-    for number in 1..=8 {
+    for number in 1..=7 {
         assert_eq!(Stop::answered(number).map(Stop::number), Some(number));
+        assert_ne!(Stop::answered(number), Some(Stop::Other(number)));
     }
+    assert_eq!(Stop::answered(8), Some(Stop::Other(8)));
     assert_eq!((Refusal::answered(0), Stop::answered(0)), (Ok(()), None));
     assert_eq!(Refusal::answered(11), Err(Refusal::Other(11)));
 }
 
+const HEADER: &str = include_str!("../../include/ddlp.h");
+
+#[test]
+fn the_header_has_the_same_stops() {
+    let numbered = HEADER.lines().filter_map(|line| line.trim().strip_prefix("DDLP_STOP_")?.split_once(" = "));
+    let digits = |rest: &str| rest.chars().take_while(char::is_ascii_digit).collect::<String>().parse().ok();
+    let stops: Vec<Option<u32>> = numbered.map(|(_, rest)| digits(rest)).collect();
+    assert_eq!(stops, (1..=7).map(Some).collect::<Vec<_>>());
+}
+
 /// The number that the header gives a name.
 fn defined(name: &str) -> Option<usize> {
-    let header = include_str!("../../include/ddlp.h");
-    let definition = header.lines().find_map(|line| line.strip_prefix("#define DDLP_")?.strip_prefix(name));
+    let definition = HEADER.lines().find_map(|line| line.strip_prefix("#define DDLP_")?.strip_prefix(name));
     definition.and_then(|number| number.trim().parse().ok())
 }
 

@@ -43,14 +43,14 @@ impl Values<'_> {
                     Counted::Extend => operand.repeated(count),
                 })
             }
-            Expression::Conditional(conditional) => match self.chosen(conditional)? {
-                Some(arm) => self.value(arm),
-                None => Err(Stop(8)),
-            },
+            Expression::Conditional(conditional) => {
+                let arm = self.chosen(conditional)?.expect("an IF in an expression has ELSE");
+                self.value(arm)
+            }
         }
     }
 
-    /// The arm that the condition takes; none for an IF without ELSE.
+    /// The arm that the condition takes; none for an IF without ELSE. The rules give a CASE an arm for each value.
     pub fn chosen<'c, Arm>(&self, conditional: &'c Conditional<Arm>) -> Result<Option<&'c Arm>, Stop> {
         let value = self.value(&conditional.condition)?.number();
         let arms = &conditional.arms;
@@ -58,8 +58,10 @@ impl Values<'_> {
             (Choice::If, 1) => Ok(arms.first()),
             (Choice::If, _) => Ok(arms.get(1)),
             (Choice::Case, 0) => Ok(arms.last()),
-            (Choice::Case, _) if value < arms.len() => Ok(arms.get(value - 1)),
-            (Choice::Case, _) => Err(Stop(8)),
+            (Choice::Case, _) => {
+                assert!(value < arms.len(), "value {value} of {} arms", arms.len());
+                Ok(arms.get(value - 1))
+            }
         }
     }
 
