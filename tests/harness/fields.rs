@@ -38,10 +38,14 @@ fn set_two(image: &mut [u8], at: usize, number: u16) {
     image[at..at + 2].copy_from_slice(&number.to_le_bytes());
 }
 
+/// The first bytes of the records of this section.
+fn records(image: &[u8], section: usize) -> impl Iterator<Item = usize> + '_ {
+    (0..count(image, section)).map(move |number| start(image, section) + number * SIZES[section])
+}
+
 /// The first byte of a random record of this section whose mark fits.
 fn some_record(image: &[u8], section: usize, random: &mut Random, fits: impl Fn(u8) -> bool) -> Option<usize> {
-    let records = (0..count(image, section)).map(|number| start(image, section) + number * SIZES[section]);
-    let fitting: Vec<usize> = records.filter(|&at| fits(image[at])).collect();
+    let fitting: Vec<usize> = records(image, section).filter(|&at| fits(image[at])).collect();
     (!fitting.is_empty()).then(|| random.pick(&fitting))
 }
 
@@ -167,6 +171,26 @@ fn conditional(image: &mut [u8], random: &mut Random) -> Option<&'static str> {
     set_two(image, at + 3, second);
     set_two(image, at + 5, third);
     Some("with another conditional")
+}
+
+/// For each conditional of several arms the image in which it has one less.
+pub fn forge_conditionals(image: &[u8]) -> Vec<Vec<u8>> {
+    let choices = records(image, EXPRESSIONS).filter(|&at| image[at] == 10).map(|at| at + 6);
+    let chooses = records(image, ACTIONS).filter(|&at| image[at] == 11).map(|at| at + 3);
+    let one_less = |at: usize| {
+        let mut forged = image.to_vec();
+        set_two(&mut forged, at, two(image, at) - 1);
+        forged
+    };
+    choices.chain(chooses).map(one_less).collect()
+}
+
+/// The image with a bit more in its last facility.
+pub fn forge_last_bound(image: &[u8]) -> Vec<u8> {
+    let mut forged = image.to_vec();
+    let at = start(image, FACILITIES) + (count(image, FACILITIES) - 1) * FACILITY + 9;
+    set_two(&mut forged, at, two(image, at) + 1);
+    forged
 }
 
 /// Another operation or state in the place of one that is named.

@@ -25,7 +25,11 @@ fn same<T: PartialEq + Debug>(what: &str, found: T, expected: T) -> Result<(), F
     }
 }
 
+/// The stops end at S7.
+const LAST_STOP: u32 = 7;
+
 fn outcome(refusal: u32, stop: u32) -> String {
+    assert!(stop <= LAST_STOP, "stop {stop}");
     match (refusal, stop) {
         (0, 0) => "done".to_string(),
         (0, stop) => format!("stop {stop}"),

@@ -10,6 +10,7 @@
 //! repeats it alone.
 
 mod altered;
+mod arms;
 mod corpus;
 mod decimals;
 mod deep;
@@ -66,8 +67,9 @@ impl Harness<'_> {
 }
 
 fn attempt(harness: &mut Harness) -> Result<(), Failure> {
-    match harness.random.below(20) {
+    match harness.random.below(21) {
         0 => decimals::some_decimals(harness),
+        20 => arms::some_arms(harness),
         1..=6 => texts::any_text(harness),
         7..=11 => runs::some_cycles(harness),
         12..=14 => spoiled::some_spoiled(harness),

@@ -2,7 +2,7 @@
 
 use second::bytes;
 use second::calls::{self, store_size, CycleAnswer, Lent, ReadAnswer, RunAnswer};
-use second::description::{Action, Description, Kind};
+use second::description::{Action, Choice, Description, Kind};
 use second::image::{image as image_of, FACILITY, HEADER};
 use second::load::{load, Loaded};
 use second::record::RECORD;
@@ -21,6 +21,8 @@ pub enum Fault {
     MemoriesKept,
     /// Each delayed store lands at once, so that a swap copies.
     LandsAtOnce,
+    /// The arms of a CASE are counted from zero.
+    ArmsFromZero,
     /// A cycle that stops leaves its inputs in the store.
     StopLands,
     /// A store in conflict counts twice.
@@ -49,12 +51,13 @@ pub enum Fault {
     BoundsSwapped,
 }
 
-const FAULTS: [(Fault, &str); 18] = [
+const FAULTS: [(Fault, &str); 19] = [
     (Fault::LastPlace, "last-place"),
     (Fault::DecimalsWrap, "decimals-wrap"),
     (Fault::ImageTail, "image-tail"),
     (Fault::MemoriesKept, "memories-kept"),
     (Fault::LandsAtOnce, "lands-at-once"),
+    (Fault::ArmsFromZero, "arms-from-zero"),
     (Fault::StopLands, "stop-lands"),
     (Fault::ConflictTwice, "conflict-twice"),
     (Fault::ScratchByte, "scratch-byte"),
@@ -193,14 +196,27 @@ fn facility_bytes(record: &[u8]) -> usize {
 
 // Cycles.
 
-/// The same description with every delayed store immediate.
-fn at_once(image: &[u8]) -> Option<Vec<u8>> {
+/// Changes an action of an operation; the name is that of the sequencing register.
+type Change = fn(&mut Action, Option<&str>);
+
+/// The same description with its actions changed.
+fn changed(image: &[u8], change: Change) -> Option<Vec<u8>> {
     let mut description: Description = load(image)?.description;
     let sequencing = description.sequencing.map(|number| description.outline.facilities[number].name.text.clone());
     for operation in &mut description.outline.operations {
-        operation.actions.iter_mut().for_each(|action| land_at_once(action, sequencing.as_deref()));
+        operation.actions.iter_mut().for_each(|action| change(action, sequencing.as_deref()));
     }
     Some(image_of(&description))
+}
+
+fn count_from_zero(action: &mut Action, sequencing: Option<&str>) {
+    let Action::Conditional(conditional) = action else {
+        return;
+    };
+    if conditional.choice == Choice::Case {
+        conditional.arms.rotate_left(1);
+    }
+    conditional.arms.iter_mut().flatten().for_each(|action| count_from_zero(action, sequencing));
 }
 
 fn land_at_once(action: &mut Action, sequencing: Option<&str>) {
@@ -281,8 +297,10 @@ fn held(record: &[u8]) -> usize {
 }
 
 pub fn cycle(image: &[u8], lent: Lent, stimulus: &[u8]) -> CycleAnswer {
-    let at_once = Some(image).filter(|_| Fault::LandsAtOnce.is_on()).and_then(at_once);
-    let image = at_once.as_deref().unwrap_or(image);
+    let changes = [(Fault::LandsAtOnce, land_at_once as Change), (Fault::ArmsFromZero, count_from_zero)];
+    let change = changes.into_iter().find(|(fault, _)| fault.is_on());
+    let other = change.and_then(|(_, change)| changed(image, change));
+    let image = other.as_deref().unwrap_or(image);
     let narrow = Fault::SpareBits.is_on().then(|| without_spare_bits(image, stimulus));
     let stimulus = narrow.as_deref().unwrap_or(stimulus);
     let Lent { store, record, scratch, .. } = lent;
