@@ -209,14 +209,14 @@ fn changed(image: &[u8], change: Change) -> Option<Vec<u8>> {
     Some(image_of(&description))
 }
 
-fn count_from_zero(action: &mut Action, sequencing: Option<&str>) {
+fn count_from_zero(action: &mut Action, _: Option<&str>) {
     let Action::Conditional(conditional) = action else {
         return;
     };
     if conditional.choice == Choice::Case {
         conditional.arms.rotate_left(1);
     }
-    conditional.arms.iter_mut().flatten().for_each(|action| count_from_zero(action, sequencing));
+    conditional.arms.iter_mut().flatten().for_each(|action| count_from_zero(action, None));
 }
 
 fn land_at_once(action: &mut Action, sequencing: Option<&str>) {

@@ -5,6 +5,7 @@ use mathlib.Core.Option.{some}
 use mathlib.Core.Path.{_≡_, refl, sym, subst}
 use native.Mathlib.Omega.{arith}
 use Prim.Native.Nat.{ℕ, zero, suc, _+_, _-_, _^_, _≤_, _<_}
+use lib.ListN.{length}
 use Rattle.language.specs.Acting.{armAt}
 use Rattle.language.specs.Decode.{decode}
 use Rattle.language.specs.Description as D
@@ -21,7 +22,7 @@ use Rattle.about_running.specs.ValuesAccounted.{arm-so, is-worth}
 use Rattle.about_rules.specs.ActionsRight.{Has}
 use Rattle.about_rules.specs.FineIsLong.{fine-choice}
 use Rattle.about_rules.specs.HasLength as H
-use Rattle.about_rules.specs.HasLength.{Long, arms, mostCaseBits}
+use Rattle.about_rules.specs.HasLength.{Long, Selects, arms}
 use Rattle.about_calls.specs.EachLength.{each-length, each-never-stuck}
 use Rattle.about_calls.specs.EveryAction.{Roots}
 use Rattle.about_calls.specs.MoreKnown.{more-known}
@@ -40,14 +41,6 @@ abbrev pub ArmStands : {d : Description} {e m : ℕ} → Conditional d e m → �
 ArmStands {d} {m = m} (in-expression {a = a} o q) k = (g : ℕ) × (armBack d (m - k) a ≡ some g)
 ArmStands {d} (in-action {i = i} {x = x} o q) k = (r : Run) × (armAt d (k - 1) (i + 1) x ≡ some r)
 
--- A condition of at most 6 bits, 2 to the length arms, and all of them standing.
-pub record ForEachValue {d : Description} {e m : ℕ} (c : Conditional d e m) : Type 0 where
-  pub bits : ℕ
-  pub long : Has d e bits
-  pub few : bits ≤ mostCaseBits
-  pub each-value : m ≡ 2 ^ bits
-  pub stand : (k : ℕ) → 1 ≤ k → k ≤ m → ArmStands c k
-
 -- The arms of an expression, counted back from the last.
 arms-stand : {d : Description} {known c a l : ℕ} → Long d known (arms c) a l → (j : ℕ) → j < c → (g : ℕ) × (armBack d j a ≡ some g)
 unfolding armBack
@@ -63,20 +56,16 @@ module _ (image : List ℕ) (passing : passes image ≡ true) where
   abbrev L : Legal d
   L = legal-image image passing
 
-  pub for-each-value : {e m : ℕ} (c : Conditional (decode image) e m) → ForEachValue c
+  -- A condition of at most 6 bits, 2 to the length arms, and all of them standing.
+  pub for-each-value : {e m : ℕ} (c : Conditional (decode image) e m) → Selects (decode image) (length (decode image .facilities)) e m × ((k : ℕ) → 1 ≤ k → k ≤ m → ArmStands c k)
   for-each-value {m = m} (in-expression o q) =
       let s = settled d L o in
       let y = fine-choice d noPlaces (s .known) _ (s .proper .stands .same) q in
-      record {
-        bits = y .bits;
-        long = more-known (s .within) (y .condition);
-        few = y .few;
-        each-value = y .each-value;
-        stand = λ k h l. arms-stand (y .all-long) (m - k) (omega arith);
-      }
+      let c = y .0 in
+      (record { bits = c .bits; long = more-known (s .within) (c .long); few = c .few; each-value = c .each-value }, λ k h l. arms-stand (y .1) (m - k) (omega arith))
   for-each-value (in-action {i = i} a q) =
       let y = subst (Roots d i) q (acts-roots d L a) in
-      record { bits = y .bits; long = y .long; few = y .few; each-value = y .each-value; stand = λ k h l. y .stand (k - 1) (omega arith) }
+      (y .0, λ k h l. y .1 (k - 1) (omega arith))
 
   -- The condition is worked out.
   condition-out : {e m : ℕ} → Conditional (decode image) e m → WorkedOut (decode image) e
@@ -98,9 +87,9 @@ module _ (image : List ℕ) (passing : passes image ≡ true) where
       → (k : ℕ) × Takes m (v .number) k × ArmStands c k
   arm-always {m = m} {v = v} c S x loads w =
       let y = for-each-value c in
-      let l : v .number < m = rw (y .each-value) (fits (condition-out c) (y .long) S x loads w) in
+      let l : v .number < m = rw (y .0 .each-value) (fits (condition-out c) (y .0 .long) S x loads w) in
       let k = arm-number m (v .number) (omega arith) l in
-      (k .0, arm-so m (v .number) (k .0) (k .1), y .stand (k .0) (k .2) (k .3))
+      (k .0, arm-so m (v .number) (k .0) (k .1), y .1 (k .0) (k .2) (k .3))
 
   -- IF without ELSE: one takes its arm, which stands, and zero takes nothing; there is no other value.
   pub if-always : {i e y : ℕ} {v : Value} → Acts (decode image) i → actionAt (decode image) i ≡ D.when e y → {X : Type 0} (S : Stores X) (x : X) → Loads S x → Worth S (decode image) x e v

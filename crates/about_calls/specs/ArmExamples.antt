@@ -62,8 +62,8 @@ s-2 : Has d 0 2
 unfolding computing text image
 s-2 = has-length d noPlaces 4 0 2 .1 (1, refl)
 
-two-bits : for-each-value image passing chooses .bits ≡ 2
-two-bits = one-length (for-each-value image passing chooses .long) s-2
+two-bits : for-each-value image passing chooses .0 .bits ≡ 2
+two-bits = one-length (for-each-value image passing chooses .0 .long) s-2
 
 -- ---- A store in which the word of S holds 7: what is loaded of it is 3, which takes the third arm.
 

@@ -3,15 +3,16 @@ use mathlib.Core.Bool.{Bool, true, false}
 use mathlib.Core.Option.{some}
 use mathlib.Core.Path.{_≡_, refl, sym, subst}
 use native.Mathlib.Omega.{arith}
-use Prim.Native.Nat.{ℕ, zero, suc, _+_, _-_, _^_, _≤_, _<_}
+use Prim.Native.Nat.{ℕ, zero, suc, _+_, _-_, _≤_, _<_}
 use borrow.Author.Tests.{eqb-false, eqb-true, lt-ltb, ltb-false, ltb-true}
 use lib.Dec.{eqb, ltb}
+use lib.ListN.{length}
 use Rattle.language.specs.Acting.{armAt}
 use Rattle.language.specs.Description as D
 use Rattle.language.specs.Description.{Action, Description, Run, actionAt}
 use Rattle.about_rules.specs.ActionsRight as A
 use Rattle.about_rules.specs.ActionsRight.{Has, ListOf, Right, Side, arms}
-use Rattle.about_rules.specs.HasLength.{mostCaseBits}
+use Rattle.about_rules.specs.HasLength.{Selects}
 use Rattle.about_calls.specs.WorkedOut as W
 use Rattle.about_calls.specs.WorkedOut.{LeftSide, Valued}
 
@@ -27,14 +28,6 @@ module _ (d : Description) where
   abbrev pub ArmsStand : ℕ → ℕ → ℕ → Type 0
   ArmsStand n i m = (j : ℕ) → j < n → (r : Run) × (armAt d j i m ≡ some r)
 
-  -- CASE, and IF with ELSE: a condition of at most 6 bits, and an arm for each of its values.
-  pub record Chooses (c n i m : ℕ) : Type 0 where
-    pub bits : ℕ
-    pub long : Has d c bits
-    pub few : bits ≤ mostCaseBits
-    pub each-value : n ≡ 2 ^ bits
-    pub stand : ArmsStand n i m
-
   -- What the action at record i holds, if anything.
   abbrev pub Roots : ℕ → Action → Type 0
   Roots i (D.store k l r) = LeftLong l × ValueLong r
@@ -45,7 +38,7 @@ module _ (d : Description) where
   Roots i (D.call s) = Unit {0}
   Roots i D.return = Unit {0}
   Roots i (D.when c x) = Has d c 1 × ArmsStand 1 (i + 1) x
-  Roots i (D.choose c n x) = Chooses c n (i + 1) x
+  Roots i (D.choose c n x) = Selects d (length (d .facilities)) c n × ArmsStand n (i + 1) x
   Roots i (D.arm x) = Unit {0}
   Roots i D.Action.broken = Unit {0}
 
@@ -59,7 +52,7 @@ module _ (d : Description) where
   value-long i (D.store k l r) n h W.right = h .1
   value-long i (D.storePair k l m r) n h W.pair-right = h .2
   value-long i (D.when c x) n h W.when = (1, h .0)
-  value-long i (D.choose c m x) n h W.choose = (h .bits, h .long)
+  value-long i (D.choose c m x) n h W.choose = (h .0 .bits, h .0 .long)
 
   -- Arms that keep the rules stand.
   arms-stand : {s : Bool} {known i n c : ℕ} → Right d s known (arms c) i n → ArmsStand c i n
@@ -103,9 +96,9 @@ module _ (d : Description) where
     every-action (A.when {i = i} {m = m} q c a r) from to =
         here-or q (c, arms-stand a) from (λ h. before-or (i + 1 + m) (λ k. every-action a h k) (λ k. every-action r k (omega arith)))
     every-action (A.when-else {i = i} {m = m} q c a r) from to =
-        here-or q (record { bits = 1; long = c; few = omega arith; each-value = refl; stand = arms-stand a }) from (λ h. before-or (i + 1 + m) (λ k. every-action a h k) (λ k. every-action r k (omega arith)))
+        here-or q (record { bits = 1; long = c; few = omega arith; each-value = refl }, arms-stand a) from (λ h. before-or (i + 1 + m) (λ k. every-action a h k) (λ k. every-action r k (omega arith)))
     every-action (A.choose {i = i} {m = m} q c l a r) from to =
-        here-or q (record { bits = _; long = c; few = l; each-value = refl; stand = arms-stand a }) from (λ h. before-or (i + 1 + m) (λ k. every-action a h k) (λ k. every-action r k (omega arith)))
+        here-or q (record { bits = _; long = c; few = l; each-value = refl }, arms-stand a) from (λ h. before-or (i + 1 + m) (λ k. every-action a h k) (λ k. every-action r k (omega arith)))
     every-action A.no-arms from to = absurd (omega arith)
     every-action (A.arm {i = i} {m = m} q l a r) from to =
         here-or q tt from (λ h. before-or (i + 1 + m) (λ k. every-action a h k) (λ k. every-action r k (omega arith)))

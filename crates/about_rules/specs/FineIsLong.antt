@@ -4,14 +4,13 @@ use mathlib.Core.List.{[]}
 use mathlib.Core.Path.{_≡_, refl, sym, ap, subst, _∙_}
 use native.Mathlib.Numerals.{add-one}
 use native.Mathlib.Omega.{arith}
-use Prim.Native.Nat.{ℕ, zero, suc, _*_, _^_, _≤_, _<_}
+use Prim.Native.Nat.{ℕ, zero, suc, _^_, _≤_, _<_}
 use borrow.Author.Tests.{eqb-false, eqb-true, leb-true, ltb-false, ltb-true}
 use lib.Dec.{eqb, leb, ltb}
 use Rattle.language.specs.Description as D
 use Rattle.language.specs.Description.{Bounds, Description, Node, Places, facilityAt, inBounds, isComputed, nodeAt, nodePlace, wordLength}
 use Rattle.language.specs.Expressions.{evenly, expressionAt, judgeAt, judgeBelow, judgeNode, judgeStep, longestSelector, notBefore, ownWork, selects, terminalBelow}
 use Rattle.language.specs.Judging.{Judged, Worth, armList, fine, proper, refuse, sized, unless, worth}
-use Rattle.language.specs.Kinds.{atLeastSign, atMostSign, conWord, differenceSign, exclusiveSign, extWord, greaterSign, hash, headWord, lessSign, minus, plus, sameSign, star, sumSign, tailWord}
 use Rattle.language.specs.Meaning as M
 use Rattle.language.specs.Operators.{binaryLength, cutLengthOf, prefixLength}
 use Rattle.language.specs.Recursion.{below-ge}
@@ -20,91 +19,17 @@ use Rattle.language.specs.References as R
 use Rattle.language.specs.References.{Subscripts, rightCount, sameDirection, takenLength}
 use Rattle.language.specs.declared.refusals.Refusal.the-variants.{BadLength, BadSubscript}
 use Rattle.language.specs.declared.stops.Stop.the-variants.{OutsideBounds}
-use Rattle.language.specs.Value.{Value, complementLength, countLength, cutLength, differenceLength, joinLength, logicalLength, negationLength, reductionLength, relationLength, repeatLength, sumLength}
+use Rattle.language.specs.Value.{Value}
 use Rattle.language.specs.Words.{Position}
 use Rattle.about_running.specs.Finds.{Refers, reference-fine}
 use Rattle.about_running.specs.Judged.{Sized, append-none-left, append-none-right, arms-fine, both-fine, faulty-fine, given-fine, proper-fine, sized-fine, unless-none}
 use Rattle.about_running.specs.LegalForm.{left-of as both-left, right-of as both-right}
-use Rattle.about_running.specs.Operators.{by-kind}
 use Rattle.about_rules.specs.HasLength as H
-use Rattle.about_rules.specs.HasLength.{Binary, Cut, Long, Prefix, Subscript, arms, expression, facility, mostBits, mostCaseBits}
+use Rattle.about_rules.specs.HasLength.{Long, Selects, Subscript, arms, expression, facility, mostBits, mostCaseBits}
 use Rattle.about_rules.specs.LongIsFine.{judge-lt, judged, most-bits, terminal-lt}
+use Rattle.about_rules.specs.OperatorsLong.{binary-long, cut-long, prefix-long}
 use Rattle.about_rules.specs.WithinBounds.{in-within, tested-part}
 use Rattle.language.specs.Tests.{both}
-
--- ---- The operators, one by one: a length that judging works out is one of the relation.
-
-module _ (d : Description) (known n a b l m : ℕ) (left : Long d known expression a l) (right : Long d known expression b m) where
-  abbrev BinaryLong : ℕ → Type 0
-  BinaryLong k = Binary d n k a b → 1 ≤ binaryLength k l m → binaryLength k l m ≤ mostBits → Long d known expression n (binaryLength k l m)
-
-  pub binary-long : (k : ℕ) → BinaryLong k
-  unfolding binaryLength sumLength differenceLength joinLength logicalLength relationLength
-  binary-long k =
-      by-kind BinaryLong k sumSign (λ e h j. H.sum e left right j) (λ e1.
-      by-kind BinaryLong k differenceSign (λ e h j. H.difference e left right) (λ e2.
-      by-kind BinaryLong k conWord (λ e h j. H.joined e left right j) (λ e3.
-      by-kind BinaryLong k plus (λ e h j. H.logical H.either e left right) (λ e4.
-      by-kind BinaryLong k star (λ e h j. H.logical H.each e left right) (λ e5.
-      by-kind BinaryLong k exclusiveSign (λ e h j. H.logical H.exclusive e left right) (λ e6.
-      by-kind BinaryLong k sameSign (λ e h j. H.relation H.equals e left right) (λ e7.
-      by-kind BinaryLong k hash (λ e h j. H.relation H.unequal e left right) (λ e8.
-      by-kind BinaryLong k lessSign (λ e h j. H.relation H.less e left right) (λ e9.
-      by-kind BinaryLong k greaterSign (λ e h j. H.relation H.greater e left right) (λ ea.
-      by-kind BinaryLong k atMostSign (λ e h j. H.relation H.at-most e left right) (λ eb.
-      by-kind BinaryLong k atLeastSign (λ e h j. H.relation H.at-least e left right) (λ ec.
-      λ e h j. absurd (other e1 e2 e3 e4 e5 e6 e7 e8 e9 ea eb ec h)))))))))))))
-    where
-      other : eqb k sumSign ≡ false → eqb k differenceSign ≡ false → eqb k conWord ≡ false → eqb k plus ≡ false → eqb k star ≡ false → eqb k exclusiveSign ≡ false
-          → eqb k sameSign ≡ false → eqb k hash ≡ false → eqb k lessSign ≡ false → eqb k greaterSign ≡ false → eqb k atMostSign ≡ false → eqb k atLeastSign ≡ false
-          → 1 ≤ binaryLength k l m → ⊥
-      other e1 e2 e3 e4 e5 e6 e7 e8 e9 ea eb ec h = let z = rw (e1, e2, e3, e4, e5, e6, e7, e8, e9, ea, eb, ec) at h in omega arith
-
-module _ (d : Description) (known n a l : ℕ) (of : Long d known expression a l) where
-  abbrev PrefixLong : ℕ → Type 0
-  PrefixLong k = Prefix d n k a → 1 ≤ prefixLength k l → Long d known expression n (prefixLength k l)
-
-  pub prefix-long : (k : ℕ) → PrefixLong k
-  unfolding prefixLength complementLength negationLength countLength reductionLength
-  prefix-long k =
-      by-kind PrefixLong k minus (λ e h. H.complement e of) (λ e1.
-      by-kind PrefixLong k differenceSign (λ e h. H.negation e of) (λ e2.
-      by-kind PrefixLong k sumSign (λ e h. H.counted e of) (λ e3.
-      by-kind PrefixLong k plus (λ e h. H.reduced H.either e of) (λ e4.
-      by-kind PrefixLong k star (λ e h. H.reduced H.each e of) (λ e5.
-      by-kind PrefixLong k exclusiveSign (λ e h. H.reduced H.exclusive e of) (λ e6.
-      λ e h. absurd (other e1 e2 e3 e4 e5 e6 h)))))))
-    where
-      other : eqb k minus ≡ false → eqb k differenceSign ≡ false → eqb k sumSign ≡ false → eqb k plus ≡ false → eqb k star ≡ false → eqb k exclusiveSign ≡ false
-          → 1 ≤ prefixLength k l → ⊥
-      other e1 e2 e3 e4 e5 e6 h = let z = rw (e1, e2, e3, e4, e5, e6) at h in omega arith
-
-  -- HEAD and TAIL give c bits, where there are as many.
-  cut-so : (c : ℕ) → 1 ≤ cutLength l c → (c ≤ l → 1 ≤ c → Long d known expression n c) → Long d known expression n (cutLength l c)
-  unfolding cutLength
-  cut-so c h on = go (leb c l) refl h
-    where
-      go : (t : Bool) → leb c l ≡ t → 1 ≤ cond t c 0 → Long d known expression n (cond t c 0)
-      go true q h′ = on (leb-true c l q) h′
-      go false q h′ = absurd (omega arith)
-
-  times-some : (c : ℕ) → 1 ≤ l * c → 1 ≤ c
-  times-some zero h = absurd (omega arith)
-  times-some (suc c) h = omega arith
-
-  abbrev CutLong : ℕ → ℕ → Type 0
-  CutLong c k = Cut d n k a c → 1 ≤ cutLengthOf k l c → cutLengthOf k l c ≤ mostBits → Long d known expression n (cutLengthOf k l c)
-
-  pub cut-long : (k c : ℕ) → CutLong c k
-  unfolding cutLengthOf repeatLength
-  cut-long k c =
-      by-kind (CutLong c) k headWord (λ e h j. cut-so c h (λ m s. H.substring H.head e of s m)) (λ e1.
-      by-kind (CutLong c) k tailWord (λ e h j. cut-so c h (λ m s. H.substring H.tail e of s m)) (λ e2.
-      by-kind (CutLong c) k extWord (λ e h j. H.extended e of (times-some c h) j) (λ e3.
-      λ e h j. absurd (other e1 e2 e3 h))))
-    where
-      other : eqb k headWord ≡ false → eqb k tailWord ≡ false → eqb k extWord ≡ false → 1 ≤ cutLengthOf k l c → ⊥
-      other e1 e2 e3 h = let z = rw (e1, e2, e3) at h in omega arith
 
 -- ---- Conditionals.
 
@@ -120,14 +45,6 @@ even-so l m h = go (eqb l m) refl h
 pub selected : (l c : ℕ) → selects l c ≡ true → (l ≤ mostCaseBits) × (c ≡ 2 ^ l)
 unfolding selects longestSelector
 selected l c e = (leb-true l longestSelector (both-left _ _ e), eqb-true c (2 ^ l) (both-right (leb l longestSelector) _ e))
-
--- What a conditional without fault has: a condition of at most 6 bits, and arms of l bits, one for each of its values.
-pub record Chosen (d : Description) (known e a n l : ℕ) : Type 0 where
-  pub bits : ℕ
-  pub condition : Long d known expression e bits
-  pub few : bits ≤ mostCaseBits
-  pub each-value : n ≡ 2 ^ bits
-  pub all-long : Long d known (arms n) a l
 
 module _ (d : Description) (p : Places) (known : ℕ)
     (terms : (f : ℕ) (w : Worth) → f < known → expressionAt d p (terminalBelow d p f) f (facilityAt d f .expression) ≡ fine w
@@ -232,7 +149,7 @@ module _ (d : Description) (p : Places) (known : ℕ)
             rw (z .1, ← add-one c) (H.next q h k (i (rw (z .1) at s)) (rw (z .0) j))
 
     choice-chosen : (a b c : ℕ) {w : Worth} → judgeNode d p terminals known ev (nodePlace p n) (D.choice a b c) ≡ fine w
-        → (a < n) × (b < n) × Chosen d known a b c (w .length) × (w .arms ≡ 0)
+        → (a < n) × (b < n) × Selects d known a c × Long d known (arms c) b (w .length) × (w .arms ≡ 0)
     unfolding judgeNode
     choice-chosen a b c {w} e =
         let y = both-fine (proper (nodePlace p a .at) (ev a)) (armList (nodePlace p n .at) (ev b)) _ e in
@@ -242,22 +159,22 @@ module _ (d : Description) (p : Places) (known : ℕ)
       where
         go : (l m r k : ℕ) → a < n → Long d known expression a l → b < n → (1 ≤ r → Long d known (arms m) b r)
             → (t : Bool) → both (selects l c) (eqb m c) ≡ t → cond t (sized (nodePlace p n .at) r k) (refuse (nodePlace p n .at) BadLength) ≡ fine w
-            → (a < n) × (b < n) × Chosen d known a b c (w .length) × (w .arms ≡ 0)
+            → (a < n) × (b < n) × Selects d known a c × Long d known (arms c) b (w .length) × (w .arms ≡ 0)
         go l m r w′ h i k j false s e′ = faulty-fine e′
         go l m r w′ h i k j true s e′ =
             let z = sized-fine _ r _ e′ in
             let t = selected l c (both-left _ _ s) in
             let u : m ≡ c = eqb-true m c (both-right (selects l c) _ s) in
             let v : w .length ≡ r = ap (λ (x : Worth). x .length) (z .same) in
-            (h, k, record { bits = l; condition = i; few = t .0; each-value = t .1; all-long = rw (v, ← u) (j (z .some)) }, ap (λ (x : Worth). x .arms) (z .same))
+            (h, k, record { bits = l; long = i; few = t .0; each-value = t .1 }, rw (v, ← u) (j (z .some)), ap (λ (x : Worth). x .arms) (z .same))
 
     choice-says : (a b c : ℕ) → nodeAt d n ≡ D.choice a b c → {w : Worth}
         → judgeNode d p terminals known ev (nodePlace p n) (D.choice a b c) ≡ fine w → Says n w
     choice-says a b c q {w} e =
         let y = choice-chosen a b c e in
         let t = y .2 in
-        let h = H.case (subst (λ (x : ℕ). nodeAt d n ≡ D.choice a b x) (t .each-value) q) (y .0) (y .1) (t .condition) (t .few) (subst (λ (x : ℕ). Long d known (arms x) b (w .length)) (t .each-value) (t .all-long)) in
-        record { as-expression = λ z. h; as-arms = λ h s. absurd (omega (arith, y .3)) }
+        let h = H.case (subst (λ (x : ℕ). nodeAt d n ≡ D.choice a b x) (t .each-value) q) (y .0) (y .1) (t .long) (t .few) (subst (λ (x : ℕ). Long d known (arms x) b (w .length)) (t .each-value) (y .3)) in
+        record { as-expression = λ z. h; as-arms = λ h s. absurd (omega (arith, y .4)) }
 
     -- ---- References.
 
@@ -392,7 +309,9 @@ module _ (d : Description) (p : Places) where
   pub fine-is-long : (known n : ℕ) {w : Worth} → judged d p known n ≡ fine w → w .arms ≡ 0 → Long d known expression n (w .length)
   fine-is-long known n e h = expression-long d p known (terminals-long known) n e h
 
-  -- A conditional that is judged fine.
-  pub fine-choice : (known n : ℕ) {a b c : ℕ} {w : Worth} → judged d p known n ≡ fine w → nodeAt d n ≡ D.choice a b c → Chosen d known a b c (w .length)
+  -- A conditional that is judged fine: its condition, and its arms.
+  pub fine-choice : (known n : ℕ) {a b c : ℕ} {w : Worth} → judged d p known n ≡ fine w → nodeAt d n ≡ D.choice a b c → Selects d known a c × Long d known (arms c) b (w .length)
   unfolding judgeAt
-  fine-choice known n {a} {b} {c} e q = choice-chosen d p known (terminals-long known) n (λ m v l. says-below d p known (terminals-long known) (suc m) m v (omega arith)) a b c (rw q at e) .2
+  fine-choice known n {a} {b} {c} e q =
+      let y = choice-chosen d p known (terminals-long known) n (λ m v l. says-below d p known (terminals-long known) (suc m) m v (omega arith)) a b c (rw q at e) in
+      (y .2, y .3)

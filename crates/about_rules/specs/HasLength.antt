@@ -149,3 +149,10 @@ pub data Long (d : Description) : ℕ → Notion → ℕ → ℕ → Type 0 wher
 -- The expression at record n has l bits.
 abbrev pub HasLength : Description → ℕ → ℕ → ℕ → Type 0
 HasLength d known n l = Long d known expression n l
+
+-- "CASE takes up to 6 bits and exactly 2-to-the-length arms", and IF with ELSE one bit and two: the condition at record e, where there are n arms.
+pub record Selects (d : Description) (known e n : ℕ) : Type 0 where
+  pub bits : ℕ
+  pub long : HasLength d known e bits
+  pub few : bits ≤ mostCaseBits
+  pub each-value : n ≡ 2 ^ bits

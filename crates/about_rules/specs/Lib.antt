@@ -9,6 +9,7 @@ pub mod HasLength
 pub mod WithinBounds
 pub mod JudgedFine
 pub mod LongIsFine
+pub mod OperatorsLong
 pub mod FineIsLong
 pub mod LengthsJudged
 pub mod LengthExamples
