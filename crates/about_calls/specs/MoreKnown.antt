@@ -11,8 +11,8 @@ below-more h i = omega arith
 pub more-known : {d : Description} {known more n l : ℕ} {s : Notion} → known ≤ more → Long d known s n l → Long d more s n l
 more-known h (H.constant e s m) = H.constant e s m
 more-known h (H.sum e a b m) = H.sum e (more-known h a) (more-known h b) m
-more-known h (H.difference e a b) = H.difference e (more-known h a) (more-known h b)
-more-known h (H.negation e a) = H.negation e (more-known h a)
+more-known h (H.difference e a b m) = H.difference e (more-known h a) (more-known h b) m
+more-known h (H.negation e a m) = H.negation e (more-known h a) m
 more-known h (H.relation r e a b) = H.relation r e (more-known h a) (more-known h b)
 more-known h (H.complement e a) = H.complement e (more-known h a)
 more-known h (H.logical r e a b) = H.logical r e (more-known h a) (more-known h b)

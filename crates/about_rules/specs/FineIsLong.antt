@@ -109,7 +109,7 @@ module _ (d : Description) (p : Places) (known : ℕ)
         let y = given-fine (proper (nodePlace p a .at) (ev a)) _ e in
         let i = part-long _ a (y .part) in
         let z = sized-fine _ (prefixLength k (y .v .length)) _ (y .own) in
-        sized-says z (prefix-long d known n a _ (i .1) k (q, i .0) (z .some))
+        sized-says z (prefix-long d known n a _ (i .1) k (q, i .0) (z .some) (few z))
 
     cut-says : (k a c : ℕ) → nodeAt d n ≡ D.cut k a c → {w : Worth}
         → judgeNode d p terminals known ev (nodePlace p n) (D.cut k a c) ≡ fine w → Says n w

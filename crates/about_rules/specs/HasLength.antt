@@ -1,4 +1,4 @@
--- HOW LONG A RECORD IS, sentence by sentence after 01, "Lengths", and written from it alone: no rule of judging stands behind this relation. LengthsJudged shows that judging agrees with it.
+-- HOW LONG A RECORD IS, sentence by sentence after 01, "Lengths", of (-) after 02, ticket 1, and written from them alone: no rule of judging stands behind this relation. LengthsJudged shows that judging agrees with it.
 use mathlib.Core.Bool.{true, false}
 use mathlib.Core.Path.{_≡_}
 use Prim.Native.Nat.{ℕ, _+_, _-_, _*_, _^_, _≤_, _<_, max}
@@ -87,11 +87,11 @@ pub data Long (d : Description) : ℕ → Notion → ℕ → ℕ → Type 0 wher
   -- "(+): max(m, n) + 1 bits, exact"
   sum : {known n a b l m : ℕ} → Binary d n sumSign a b → Long d known expression a l → Long d known expression b m
       → max l m + 1 ≤ mostBits → Long d known expression n (max l m + 1)
-  -- "(-): max(m, n) bits"
-  difference : {known n a b l m : ℕ} → Binary d n differenceSign a b → Long d known expression a l → Long d known expression b m
-      → Long d known expression n (max l m)
-  -- "as a prefix, from zero": as long as the operand.
-  negation : {known n a l : ℕ} → Prefix d n differenceSign a → Long d known expression a l → Long d known expression n l
+  -- "a difference has max(m, n) + 1 bits" (02, ticket 1)
+  difference : {known n a b l m : ℕ} → Binary d n differenceSign a b → Long d known expression a l → Long d known expression b m → max l m + 1 ≤ mostBits
+      → Long d known expression n (max l m + 1)
+  -- "a prefix (-) has one bit more than its operand" (02, ticket 1)
+  negation : {known n a l : ℕ} → Prefix d n differenceSign a → Long d known expression a l → l + 1 ≤ mostBits → Long d known expression n (l + 1)
   -- "relational: unsigned, 1 bit"
   relation : {known n k a b l m : ℕ} → Relational k → Binary d n k a b → Long d known expression a l → Long d known expression b m
       → Long d known expression n 1

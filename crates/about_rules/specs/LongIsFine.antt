@@ -330,11 +330,8 @@ module _ (d : Description) (p : Places) where
   unfolding binaryLength prefixLength cutLengthOf sumLength differenceLength joinLength negationLength complementLength countLength repeatLength
   long-is-fine {known} {n} (H.constant e h m) = constant-fine known n e h m
   long-is-fine {known} {n} (H.sum e a b m) = let i = long-is-fine a in binary-fine known n _ e i (long-is-fine b) refl (omega arith) m
-  long-is-fine {known} {n} (H.difference e a b) =
-      let i = long-is-fine a in
-      let j = long-is-fine b in
-      binary-fine known n _ e i j refl (omega (arith, i .some)) (omega (arith, i .most, j .most))
-  long-is-fine {known} {n} (H.negation e a) = let i = long-is-fine a in prefix-fine known n _ e i refl (i .some) (i .most)
+  long-is-fine {known} {n} (H.difference e a b m) = binary-fine known n _ e (long-is-fine a) (long-is-fine b) refl (omega arith) m
+  long-is-fine {known} {n} (H.negation e a m) = prefix-fine known n _ e (long-is-fine a) refl (omega arith) m
   long-is-fine {known} {n} (H.relation r e a b) = binary-fine known n _ e (long-is-fine a) (long-is-fine b) (relation-length r _ _) (omega arith) (omega arith)
   long-is-fine {known} {n} (H.complement e a) = let i = long-is-fine a in prefix-fine known n _ e i refl (i .some) (i .most)
   long-is-fine {known} {n} (H.logical r e a b) =

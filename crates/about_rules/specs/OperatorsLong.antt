@@ -21,7 +21,7 @@ module _ (d : Description) (known n a b l m : ℕ) (left : Long d known expressi
   unfolding binaryLength sumLength differenceLength joinLength logicalLength relationLength
   binary-long k =
       by-kind BinaryLong k sumSign (λ e h j. H.sum e left right j) (λ e1.
-      by-kind BinaryLong k differenceSign (λ e h j. H.difference e left right) (λ e2.
+      by-kind BinaryLong k differenceSign (λ e h j. H.difference e left right j) (λ e2.
       by-kind BinaryLong k conWord (λ e h j. H.joined e left right j) (λ e3.
       by-kind BinaryLong k plus (λ e h j. H.logical H.either e left right) (λ e4.
       by-kind BinaryLong k star (λ e h j. H.logical H.each e left right) (λ e5.
@@ -41,18 +41,18 @@ module _ (d : Description) (known n a b l m : ℕ) (left : Long d known expressi
 
 module _ (d : Description) (known n a l : ℕ) (of : Long d known expression a l) where
   abbrev PrefixLong : ℕ → Type 0
-  PrefixLong k = Prefix d n k a → 1 ≤ prefixLength k l → Long d known expression n (prefixLength k l)
+  PrefixLong k = Prefix d n k a → 1 ≤ prefixLength k l → prefixLength k l ≤ mostBits → Long d known expression n (prefixLength k l)
 
   pub prefix-long : (k : ℕ) → PrefixLong k
   unfolding prefixLength complementLength negationLength countLength reductionLength
   prefix-long k =
-      by-kind PrefixLong k minus (λ e h. H.complement e of) (λ e1.
-      by-kind PrefixLong k differenceSign (λ e h. H.negation e of) (λ e2.
-      by-kind PrefixLong k sumSign (λ e h. H.counted e of) (λ e3.
-      by-kind PrefixLong k plus (λ e h. H.reduced H.either e of) (λ e4.
-      by-kind PrefixLong k star (λ e h. H.reduced H.each e of) (λ e5.
-      by-kind PrefixLong k exclusiveSign (λ e h. H.reduced H.exclusive e of) (λ e6.
-      λ e h. absurd (other e1 e2 e3 e4 e5 e6 h)))))))
+      by-kind PrefixLong k minus (λ e h j. H.complement e of) (λ e1.
+      by-kind PrefixLong k differenceSign (λ e h j. H.negation e of j) (λ e2.
+      by-kind PrefixLong k sumSign (λ e h j. H.counted e of) (λ e3.
+      by-kind PrefixLong k plus (λ e h j. H.reduced H.either e of) (λ e4.
+      by-kind PrefixLong k star (λ e h j. H.reduced H.each e of) (λ e5.
+      by-kind PrefixLong k exclusiveSign (λ e h j. H.reduced H.exclusive e of) (λ e6.
+      λ e h j. absurd (other e1 e2 e3 e4 e5 e6 h)))))))
     where
       other : eqb k minus ≡ false → eqb k differenceSign ≡ false → eqb k sumSign ≡ false → eqb k plus ≡ false → eqb k star ≡ false → eqb k exclusiveSign ≡ false
           → 1 ≤ prefixLength k l → ⊥

@@ -31,7 +31,7 @@ cases =
     ∷ entry "REGISTER A[7]. OPERATION X=[A=5B10110 * 7B1111111]. CONTROL P: X, ->P/ ." ("" ∷ []) "1 P A=0010110\nend 1\n"
     ∷ entry "REGISTER A[16]. OPERATION X=[A=(+) RED 5B11101]. CONTROL P: X, ->P/ ." ("" ∷ []) "1 P A=0000000000000100\nend 1\n"
     ∷ entry "REGISTER A[10]. OPERATION X=[A=4B1 CON 6B.1]. CONTROL P: X, ->P/ ." ("" ∷ []) "1 P A=0001100000\nend 1\n"
-    ∷ entry "REGISTER A[3]. OPERATION X=[A=3B001 (-) 3B011]. CONTROL P: X, ->P/ ." ("" ∷ []) "1 P A=110\nend 1\n"
+    ∷ entry "REGISTER A[4]. OPERATION X=[A=3B001 (-) 3B011]. CONTROL P: X, ->P/ ." ("" ∷ []) "1 P A=1110\nend 1\n"
     ∷ entry "REGISTER A[5]. OPERATION X=[A=4B1001 (+) 4B1100]. CONTROL P: X, ->P/ ." ("" ∷ []) "1 P A=10101\nend 1\n"
     ∷ entry
     "REGISTER A[4], B[4].\nTERMINAL GO = INPUT(1,GO).\nOPERATION SWAP = [A <- B, B <- A],\n  LOAD = [A = 4D9, B <- (A (+) 4D3) TAIL 4].\nCONTROL P: IF GO THEN SWAP ENDIF/ Q: LOAD, ->P/ .\n"

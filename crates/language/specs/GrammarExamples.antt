@@ -49,7 +49,7 @@ abbrev with : String → String → Pair
 with a b = record { left = a; right = b }
 
 abbrev imageWith : String → List ℕ
-imageWith e = imageOf (readText (bytes "REGISTER A,B,C,D[2]. OPERATION X=[" ++ (bytes e ++ bytes "]. CONTROL X/.")))
+imageWith e = imageOf (readText (bytes "REGISTER A,B,C,D[2],E[3]. OPERATION X=[" ++ (bytes e ++ bytes "]. CONTROL X/.")))
 
 unfoldable pub alike : List Pair → Bool
 alike [] = true
@@ -67,7 +67,8 @@ binds-so :
     ∷ with "D<- -A CON B" "D<- -(A CON B)"
     ∷ with "D<-A CON B HEAD 1" "D<-A CON (B HEAD 1)"
     ∷ with "A<-A (+) B<C" "A<-(A (+) B)<C"
-    ∷ with "D<-A (+) B (-) C" "D<-(A (+) B) (-) C"
+    ∷ with "E<-A (+) B (-) C" "E<-(A (+) B) (-) C"
+    ∷ with "A<-A (-) B HEAD 1" "A<-(A (-) B) HEAD 1"
     ∷ [])
     ≡ true
 unfolding computing alike
@@ -82,7 +83,8 @@ not-otherwise :
     ∷ with "D<- -A CON B" "D<-(-A) CON B"
     ∷ with "D<-A CON B HEAD 1" "A<-(A CON B) HEAD 1"
     ∷ with "A<-A (+) B<C" "D<-A (+) (B<C)"
-    ∷ with "D<-A (+) B (-) C" "D<-A (+) (B (-) C)"
+    ∷ with "E<-A (+) B (-) C" "E<-A (+) (B (-) C)"
+    ∷ with "A<-A (-) B HEAD 1" "D<-A (-) (B HEAD 1)"
     ∷ [])
     ≡ true
 unfolding computing unlike

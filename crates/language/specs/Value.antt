@@ -36,13 +36,13 @@ bit false = 0
 unfoldable pub sumLength : ℕ → ℕ → ℕ
 sumLength m n = max m n + 1
 
--- A difference is as long as the longer operand.
+-- A difference has "the length of the longer operand plus one" (the manual, 5.3.1; 02, ticket 1).
 unfoldable pub differenceLength : ℕ → ℕ → ℕ
-differenceLength m n = max m n
+differenceLength m n = max m n + 1
 
--- As a prefix, (-) takes its operand from zero.
+-- As a prefix, (-) has one bit more than its operand (02, ticket 1).
 unfoldable pub negationLength : ℕ → ℕ
-negationLength m = m
+negationLength m = m + 1
 
 -- A relation is one bit.
 unfoldable pub relationLength : ℕ
@@ -80,7 +80,7 @@ partLength m from count = cond (leb (from + count) m) count 0
 
 -- ---- Numbers (the manual, 5.3).
 
--- x - y modulo 2 to the length l (01, "Lengths").
+-- x - y as "a two's complement signed binary number" of l bits: x - y, or 2 to the l less y - x.
 unfoldable pub differenceNumber : ℕ → ℕ → ℕ → ℕ
 differenceNumber l x y = x + (2 ^ l - y % 2 ^ l)
 

@@ -1,7 +1,8 @@
--- The manual's constants and operators (2.3 and 5.3), computed; subtraction as 01 has it.
+-- The manual's constants and operators (2.3 and 5.3), computed; subtraction as 02 has it.
 use mathlib.Core.Bool.{true, false}
 use mathlib.Core.List.{[], _∷_}
 use mathlib.Core.Path.{_≡_, refl}
+use Prim.Native.Nat.{_-_, _^_}
 use Rattle.language.specs.Value.{value, made, none, fit, sum, sumLength, difference, differenceLength, differenceNumber, negation, negationLength, equal, unequal, greater, atLeast, related, relationLength, complement, complementLength, complementNumber, conjunction, exclusive, disjunction, logicalLength, join, joinLength, extended, repeatLength, repeated, head, tail, cutLength, orReduction, andReduction, exclusiveReduction, sumReduction, reductionLength, countLength, part, replaced}
 use Rattle.language.specs.Ceilings.{longest}
 use Rattle.language.specs.Constants.{binaryConstant, decimalConstant, bareConstant, bareLength, digitsAfter, rightJustified, leftJustified}
@@ -59,15 +60,48 @@ sum-too-long : sum (value 256 1) (value 3 1) ≡ none
 unfolding sum sumLength fit longest
 sum-too-long = refl
 
--- 3B001 (-) 3B011 = 110 (01, "Cases")
-difference-1 : difference (value 3 0b001) (value 3 0b011) ≡ made (value 3 0b110)
+-- 3B001 (-) 3B011 = 1110 (02, ticket 1), 1B1 (-) 4B1011 = 10110, 4B1111 (-) 4B1111 = 00000, 3B111 (-) 3B000 = 0111
+difference-1 : difference (value 3 0b001) (value 3 0b011) ≡ made (value 4 0b1110)
 unfolding difference differenceLength differenceNumber fit longest
 difference-1 = refl
 
--- (-) 3B110 = 3B010
-negation-1 : negation (value 3 0b110) ≡ made (value 3 0b010)
+difference-longer : difference (value 1 0b1) (value 4 0b1011) ≡ made (value 5 0b10110)
+unfolding difference differenceLength differenceNumber fit longest
+difference-longer = refl
+
+difference-equal : difference (value 4 0b1111) (value 4 0b1111) ≡ made (value 5 0b00000)
+unfolding difference differenceLength differenceNumber fit longest
+difference-equal = refl
+
+difference-largest : difference (value 3 0b111) (value 3 0b000) ≡ made (value 4 0b0111)
+unfolding difference differenceLength differenceNumber fit longest
+difference-largest = refl
+
+-- Both operands are unsigned, also where one is a difference: 4B1110 (-) 3B001 = 01101, 14 less 1.
+difference-unsigned : difference (value 4 0b1110) (value 3 0b001) ≡ made (value 5 0b01101)
+unfolding difference differenceLength differenceNumber fit longest
+difference-unsigned = refl
+
+difference-longest : difference (value 255 0) (value 1 1) ≡ made (value 256 (2 ^ 256 - 1))
+unfolding difference differenceLength differenceNumber fit longest
+difference-longest = refl
+
+difference-too-long : difference (value 256 0) (value 1 1) ≡ none
+unfolding difference differenceLength differenceNumber fit longest
+difference-too-long = refl
+
+-- (-) 3B110 = 1010, (-) 3B000 = 0000
+negation-1 : negation (value 3 0b110) ≡ made (value 4 0b1010)
 unfolding negation negationLength differenceNumber fit longest
 negation-1 = refl
+
+negation-of-zero : negation (value 3 0b000) ≡ made (value 4 0b0000)
+unfolding negation negationLength differenceNumber fit longest
+negation-of-zero = refl
+
+negation-too-long : negation (value 256 1) ≡ none
+unfolding negation negationLength differenceNumber fit longest
+negation-too-long = refl
 
 -- 2B10 > 16D1 = 1, 10D1 # 1B1 = 0, 8D2 (=) 8D3 = 0, 1B1 >= 2@3 = 0
 greater-1 : greater (value 2 2) (value 16 1) ≡ made (value 1 1)

@@ -11,7 +11,8 @@ pub binary-known : (k : ℕ) → ltb 0 (binaryLength k 1 1) ≡ isBinary k
 unfolding binaryLength sumLength differenceLength joinLength logicalLength relationLength
 binary-known k = by-tests (eqb k sumSign) (eqb k differenceSign) (eqb k conWord) (eqb k plus) (eqb k star) (eqb k exclusiveSign) (isRelation k)
   where
-    by-tests : (a b c d e f g : Bool) → ltb 0 (cond a 2 (cond b 1 (cond c 2 (cond (d || e || f) 1 (cond g 1 0))))) ≡ (a || b) || c || d || e || f || g
+    by-tests : (a b c d e f g : Bool)
+        → ltb 0 (cond a (sumLength 1 1) (cond b (differenceLength 1 1) (cond c (joinLength 1 1) (cond (d || e || f) (logicalLength 1 1) (cond g relationLength 0))))) ≡ (a || b) || c || d || e || f || g
     by-tests true b c d e f g = refl
     by-tests false true c d e f g = refl
     by-tests false false true d e f g = refl
@@ -25,7 +26,7 @@ pub prefix-known : (k : ℕ) → ltb 0 (prefixLength k 1) ≡ isPrefix k
 unfolding prefixLength complementLength negationLength countLength reductionLength
 prefix-known k = by-tests (eqb k minus) (eqb k differenceSign) (eqb k plus) (eqb k star) (eqb k exclusiveSign) (eqb k sumSign)
   where
-    by-tests : (a b c d e f : Bool) → ltb 0 (cond a 1 (cond b 1 (cond f 16 (cond (c || d || e) 1 0)))) ≡ a || b || (c || d || e || f)
+    by-tests : (a b c d e f : Bool) → ltb 0 (cond a (complementLength 1) (cond b (negationLength 1) (cond f countLength (cond (c || d || e) reductionLength 0)))) ≡ a || b || (c || d || e || f)
     by-tests true b c d e f = refl
     by-tests false true c d e f = refl
     by-tests false false true d e true = refl

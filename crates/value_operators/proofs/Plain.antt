@@ -1,18 +1,16 @@
--- What the operators say of normal values, those whose number is below 2 to their length, in the papers' words.
+-- What the operators but (-) say of normal values, those whose number is below 2 to their length, in the papers' words; (-) stands in Differences.
 use mathlib.Core.Bool.{Bool, true, false, cond}
 use mathlib.Core.Path.{_≡_, refl, sym, ap, _∙_, subst}
-use mathlib.Core.Logic.{⊎-elim}
 use Prim.Native.Nat.{ℕ, _+_, _-_, _*_, _/_, _%_, _^_, _≤_, _<_, max}
-use native.Mathlib.Nat.{eq-zero-or-pos, mod-eq-of-lt, mod-lt, lt-of-lt-of-le, le-trans, le-max-left, le-max-right, max-le, add-mod-right, add-sub-of-le}
+use native.Mathlib.Nat.{mod-eq-of-lt, mod-lt, lt-of-lt-of-le, le-trans, le-max-left, le-max-right, max-le, add-sub-of-le}
 use native.Mathlib.Numerals.{add-one}
 use native.Mathlib.Omega.{arith}
 use lib.Arith.{digits-lt}
 use lib.Bits.{bitAnd, bitOr, bitXor, and-lt, or-lt, xor-lt}
 use lib.Count.{ones, ones-le}
-use lib.Dec.{leb}
 use lib.Pow.{pow-add, pow-mono, pow-pos, add-lt-pow, shr-lt, split, ones-sub-lt}
-use borrow.Author.Tests.{lt-leb, le-leb}
-use Rattle.language.specs.Value.{Value, value, made, none, fit, sum, sumLength, difference, differenceLength, differenceNumber, negation, negationLength, complement, complementLength, complementNumber, conjunction, exclusive, disjunction, logicalLength, join, joinLength, head, tail, cutLength, orReduction, andReduction, exclusiveReduction, sumReduction, countLength, extended, part, equal, unequal, less, greater, atMost, atLeast, related, relationLength, bit}
+use borrow.Author.Tests.{le-leb}
+use Rattle.language.specs.Value.{Value, value, made, none, fit, sum, sumLength, difference, negation, complement, complementLength, complementNumber, conjunction, exclusive, disjunction, logicalLength, join, joinLength, head, tail, cutLength, orReduction, andReduction, exclusiveReduction, sumReduction, countLength, extended, part, equal, unequal, less, greater, atMost, atLeast, related, relationLength, bit}
 use Rattle.language.specs.Ceilings.{longest}
 use Rattle.value_operators.specs.Meaning.{allowed}
 use Rattle.value_operators.proofs.Fits.{fit-cond, fit-allowed, allowed-le, allowed-some, allowed-of}
@@ -43,28 +41,13 @@ exact {l} {n} h k b = fit-allowed l n (allowed-of l h k) ∙ ap (λ (m : ℕ). m
 modulo : {l k : ℕ} (n : ℕ) → 1 ≤ l → l ≤ 256 → n % 2 ^ l ≡ k → fit l n ≡ made (value l k)
 modulo {l} n h k e = fit-allowed l n (allowed-of l h k) ∙ ap (λ (m : ℕ). made (value l m)) e
 
--- A difference modulo P of two numbers below P.
-less-modulo : (P x y : ℕ) → x < P → y < P → (x + (P - y % P)) % P ≡ cond (leb y x) (x - y) (x + P - y)
-less-modulo P x y hx hy =
-    ap (λ (n : ℕ). (x + (P - n)) % P) (mod-eq-of-lt hy) ∙ ⊎-elim (λ e. large (omega arith)) (λ e. small (omega arith)) (eq-zero-or-pos (y - x))
-  where
-    large : y ≤ x → (x + (P - y)) % P ≡ cond (leb y x) (x - y) (x + P - y)
-    large l =
-        let e : x + (P - y) ≡ (x - y) + P = omega arith in
-        ap (λ (n : ℕ). n % P) e ∙ add-mod-right (x - y) P ∙ mod-eq-of-lt (omega arith) ∙ sym (ap (λ (b : Bool). cond b (x - y) (x + P - y)) (le-leb y x l))
-
-    small : x < y → (x + (P - y)) % P ≡ cond (leb y x) (x - y) (x + P - y)
-    small l =
-        let e : x + (P - y) ≡ x + P - y = omega arith in
-        mod-eq-of-lt (omega arith) ∙ e ∙ sym (ap (λ (b : Bool). cond b (x - y) (x + P - y)) (lt-leb y x l))
-
 -- ---- Two operands, of m and n bits.
 
 module _ (x y : Value) (hx : Normal x) (hy : Normal y) where
-  longer-x : x .number < 2 ^ max (x .length) (y .length)
+  pub longer-x : x .number < 2 ^ max (x .length) (y .length)
   longer-x = lt-of-lt-of-le (hx .below) (pow-mono (le-max-left (x .length) (y .length)))
 
-  longer-y : y .number < 2 ^ max (x .length) (y .length)
+  pub longer-y : y .number < 2 ^ max (x .length) (y .length)
   longer-y = lt-of-lt-of-le (hy .below) (pow-mono (le-max-right (x .length) (y .length)))
 
   some : 1 ≤ max (x .length) (y .length)
@@ -79,14 +62,6 @@ module _ (x y : Value) (hx : Normal x) (hy : Normal y) where
   sum-exact h =
       let l = max (x .length) (y .length) in
       exact (omega arith) (omega arith) (subst (λ (k : ℕ). x .number + y .number < 2 ^ k) (sym (add-one l)) (add-lt-pow l longer-x longer-y))
-
-  -- A difference is modulo 2 to its length.
-  pub difference-modulo : difference x y
-      ≡ made (value (max (x .length) (y .length)) (cond (leb (y .number) (x .number)) (x .number - y .number) (x .number + 2 ^ max (x .length) (y .length) - y .number)))
-  unfolding difference differenceLength differenceNumber
-  difference-modulo =
-      let P = 2 ^ max (x .length) (y .length) in
-      modulo (x .number + (P - y .number % P)) some most (less-modulo P (x .number) (y .number) longer-x longer-y)
 
   -- The logical operators work bit by bit on the longer length.
   pub conjunction-exact : conjunction x y ≡ made (value (max (x .length) (y .length)) (bitAnd (x .number) (y .number)))
@@ -111,12 +86,6 @@ module _ (x y : Value) (hx : Normal x) (hy : Normal y) where
 -- ---- One operand, of m bits.
 
 module _ (x : Value) (h : Normal x) where
-  -- As a prefix, (-) takes its operand from zero.
-  pub negation-modulo : negation x ≡ made (value (x .length) (cond (leb (x .number) 0) (0 - x .number) (0 + 2 ^ x .length - x .number)))
-  unfolding negation negationLength differenceNumber
-  negation-modulo =
-      modulo (0 + (2 ^ x .length - x .number % 2 ^ x .length)) (h .some) (h .most) (less-modulo (2 ^ x .length) 0 (x .number) (pow-pos (x .length)) (h .below))
-
   pub complement-exact : complement x ≡ made (value (x .length) (2 ^ x .length - 1 - x .number))
   unfolding complement complementLength complementNumber
   complement-exact =

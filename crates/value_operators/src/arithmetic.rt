@@ -17,7 +17,7 @@ pub fn sum(x: Value, y: Value) -> Made
     fitting::fit(lengths::sum_length(x.length, y.length), c)
 }
 
-// x (-) y: modulo 2 to the length.
+// x (-) y: exact with its sign, in two's complement.
 pub fn difference(x: Value, y: Value) -> Made
     ensures { λ r. ⌜ Means r (L.difference (valued x) (valued y)) ⌝ }
 {

@@ -8,6 +8,8 @@ ghost use Rattle.value_operators.specs.Meaning.{allowed as Allowed};
 
 // The longest value.
 pub const LONGEST: u32 = ceilings::VALUE as u32;
+// The first bit of a difference, which tells a borrow.
+const SIGN: u32 = 1;
 
 // Whether a value may have this length.
 pub fn allowed(length: u32) -> bool
@@ -44,18 +46,18 @@ pub fn sum_length(m: u16, n: u16) -> u32
     longer(m, n) + 1
 }
 
-// (-): as long as the longer operand.
+// (-): one bit more than the longer operand.
 pub fn difference_length(m: u16, n: u16) -> u32
     ensures { λ r. ⌜ r ≡ differenceLength m n ⌝ }
 {
-    longer(m, n)
+    longer(m, n) + SIGN
 }
 
-// (-) as a prefix.
+// (-) as a prefix: one bit more than the operand.
 pub fn negation_length(m: u16) -> u32
     ensures { λ r. ⌜ r ≡ negationLength m ⌝ }
 {
-    m as u32
+    wide(m) + SIGN
 }
 
 // A relation is one bit.
