@@ -192,7 +192,7 @@ static struct value binary(unsigned operator, struct value a, struct value b)
     case SUM:
         return sum(a, b, 0, longer(a, b) + 1);
     case DIFFERENCE:
-        return sum(a, complement(b), 1, longer(a, b));
+        return sum(a, complement(b), 1, longer(a, b) + 1);
     case EQUAL:
         return small(order(a, b) == 0, 1);
     case UNEQUAL:
@@ -216,7 +216,7 @@ static struct value prefix(unsigned operator, struct value a)
     case COMPLEMENT:
         return cut(complement(a), a.length);
     case DIFFERENCE:
-        return sum(zero(a.length), complement(a), 1, a.length);
+        return sum(zero(a.length), complement(a), 1, a.length + 1);
     case OR:
         return small(ones(a) > 0, 1);
     case AND:

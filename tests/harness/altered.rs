@@ -13,7 +13,7 @@ fn of_expression(expression: &mut Expression, visit: Visit) {
     match expression {
         Expression::Constant(_) => {}
         Expression::Reference(reference) => of_reference(reference, visit),
-        Expression::Prefix(_, operand) | Expression::Counted { operand, .. } => of_expression(operand, visit),
+        Expression::Prefix { operand, .. } | Expression::Counted { operand, .. } => of_expression(operand, visit),
         Expression::Infix { left, right, .. } => {
             of_expression(left, visit);
             of_expression(right, visit);
@@ -87,14 +87,17 @@ fn alter(expression: &mut Expression, random: &mut Random) {
     let some = constant(random.below(300), random.pick(&[1, 2, 16, 48, 49, 256]));
     let inner = Box::new(replace(expression, Expression::Constant(some)));
     *expression = match random.below(5) {
-        0 => Expression::Prefix(random.pick(&[Prefix::Complement, Prefix::ReduceSum, Prefix::ReduceAnd]), inner),
+        0 => {
+            let operator = random.pick(&[Prefix::Complement, Prefix::Negate, Prefix::ReduceSum, Prefix::ReduceAnd]);
+            Expression::Prefix { operator, place: 0, operand: inner }
+        }
         1 => {
             let operator = random.pick(&[Counted::Head, Counted::Tail, Counted::Extend]);
             let count = constant(random.pick(&[0, 1, 2, 64, 256, 65_535]), 16);
             Expression::Counted { operator, place: 0, operand: inner, count }
         }
         2 | 3 => {
-            let operator = random.pick(&[Infix::Join, Infix::Sum, Infix::And, Infix::Less]);
+            let operator = random.pick(&[Infix::Join, Infix::Sum, Infix::Difference, Infix::And, Infix::Less]);
             Expression::Infix { operator, place: 0, left: inner.clone(), right: inner }
         }
         _ => return,

@@ -75,23 +75,30 @@ fn outline(actions: Vec<Action>) -> Outline {
     }
 }
 
+fn before(operator: Prefix, operand: Expression) -> Expression {
+    Expression::Prefix { operator, place: 0, operand: Box::new(operand) }
+}
+
+/// The first bit of an expression.
+fn first(operand: Expression) -> Expression {
+    let count = constant(1, 16);
+    Expression::Counted { operator: Counted::Head, place: 0, operand: Box::new(operand), count }
+}
+
 /// An expression of one bit around another, and how many it counts.
 fn around(inner: Expression, random: &mut Random) -> (Expression, usize) {
     let operand = || Box::new(Expression::Reference(whole("A")));
     let inner_box = Box::new(inner);
     match random.below(7) {
-        0 => (Expression::Prefix(Prefix::Complement, inner_box), 1),
-        1 => (Expression::Prefix(random.pick(&[Prefix::ReduceOr, Prefix::ReduceXor, Prefix::Negate]), inner_box), 1),
+        0 => (before(random.pick(&[Prefix::Complement, Prefix::ReduceOr, Prefix::ReduceXor]), *inner_box), 1),
+        1 => (first(before(Prefix::Negate, *inner_box)), 2),
         2 => (Expression::Infix { operator: Infix::Xor, place: 0, left: operand(), right: inner_box }, 2),
         3 => (Expression::Infix { operator: Infix::Less, place: 0, left: inner_box, right: operand() }, 2),
         4 => {
             let subscripts = vec![Subscript::Single(*inner_box)];
             (Expression::Reference(Reference { name: name("X"), subscripts }), 1)
         }
-        5 => {
-            let count = constant(1, 16);
-            (Expression::Counted { operator: Counted::Head, place: 0, operand: inner_box, count }, 1)
-        }
+        5 => (first(*inner_box), 1),
         _ => {
             let arms = if random.chance(50) { vec![*operand(), *inner_box] } else { vec![*inner_box, *operand()] };
             let conditional = Conditional { choice: Choice::Case, place: 0, condition: *operand(), arms };
@@ -109,7 +116,7 @@ fn deep_expression(random: &mut Random) -> Outline {
     while counted < goal {
         let room = goal - counted;
         let (outer, more) = match room {
-            1 | 2 => (Expression::Prefix(Prefix::Complement, Box::new(expression)), 1),
+            1 | 2 => (before(Prefix::Complement, expression), 1),
             _ => around(expression, random),
         };
         (expression, counted) = (outer, counted + more);
@@ -122,7 +129,7 @@ fn deep_actions(random: &mut Random) -> Outline {
     let levels = random.pick(&[30, 300, (COUNTED - BESIDES) / 2, (COUNTED - BESIDES) / 2 + 1]);
     let mut action = Action::Set { left: whole("T"), sign: 0 };
     for _ in 0..levels {
-        let condition = Expression::Prefix(Prefix::Complement, Box::new(Expression::Reference(whole("A"))));
+        let condition = before(Prefix::Complement, Expression::Reference(whole("A")));
         let plain = Expression::Reference(whole("A"));
         let condition = if levels <= 300 { condition } else { plain };
         let otherwise = random.chance(20) && levels <= 300;

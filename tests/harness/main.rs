@@ -14,6 +14,7 @@ mod arms;
 mod corpus;
 mod decimals;
 mod deep;
+mod differences;
 mod faults;
 mod fields;
 mod forged;
@@ -67,9 +68,10 @@ impl Harness<'_> {
 }
 
 fn attempt(harness: &mut Harness) -> Result<(), Failure> {
-    match harness.random.below(21) {
+    match harness.random.below(22) {
         0 => decimals::some_decimals(harness),
         20 => arms::some_arms(harness),
+        21 => differences::some_differences(harness),
         1..=6 => texts::any_text(harness),
         7..=11 => runs::some_cycles(harness),
         12..=14 => spoiled::some_spoiled(harness),

@@ -54,7 +54,7 @@ pub enum Counted {
 pub enum Expression {
     Constant(Constant),
     Reference(Reference),
-    Prefix(Prefix, Box<Expression>),
+    Prefix { operator: Prefix, place: Place, operand: Box<Expression> },
     Infix { operator: Infix, place: Place, left: Box<Expression>, right: Box<Expression> },
     Counted { operator: Counted, place: Place, operand: Box<Expression>, count: Constant },
     Conditional(Box<Conditional<Expression>>),

@@ -30,7 +30,7 @@ impl Values<'_> {
         match expression {
             Expression::Constant(constant) => Ok(constant.value.clone()),
             Expression::Reference(reference) => self.read(reference),
-            Expression::Prefix(prefix, operand) => Ok(prefixed(*prefix, &self.value(operand)?)),
+            Expression::Prefix { operator, operand, .. } => Ok(prefixed(*operator, &self.value(operand)?)),
             Expression::Infix { operator, left, right, .. } => {
                 let (left, right) = (self.value(left)?, self.value(right)?);
                 Ok(combined(*operator, &left, &right))

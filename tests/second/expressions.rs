@@ -41,19 +41,19 @@ impl Grammar<'_> {
         if !self.sees("-") {
             return self.chain(&JOIN, Self::reduction);
         }
-        self.open_operator()?;
+        let place = self.open_operator()?;
         let operand = self.chain(&JOIN, Self::reduction)?;
-        Ok(self.closed(Prefix::Complement, operand))
+        Ok(self.closed(Prefix::Complement, place, operand))
     }
 
     fn reduction(&mut self) -> Read {
         let Some(prefix) = self.seen_in(&REDUCTIONS) else {
             return self.adjustment();
         };
-        self.open_operator()?;
+        let place = self.open_operator()?;
         self.take("RED")?;
         let operand = self.adjustment()?;
-        Ok(self.closed(prefix, operand))
+        Ok(self.closed(prefix, place, operand))
     }
 
     fn adjustment(&mut self) -> Read {
@@ -86,9 +86,9 @@ impl Grammar<'_> {
         if !self.sees("(-)") {
             return self.term();
         }
-        self.open_operator()?;
+        let place = self.open_operator()?;
         let operand = self.term()?;
-        Ok(self.closed(Prefix::Negate, operand))
+        Ok(self.closed(Prefix::Negate, place, operand))
     }
 
     fn term(&mut self) -> Read {
@@ -130,14 +130,15 @@ impl Grammar<'_> {
     }
 
     /// A prefix operator is open until its operand ends.
-    fn open_operator(&mut self) -> Result<(), Refusal> {
+    fn open_operator(&mut self) -> Result<Place, Refusal> {
         let place = self.operator()?;
-        self.open(place)
+        self.open(place)?;
+        Ok(place)
     }
 
-    fn closed(&mut self, prefix: Prefix, operand: Expression) -> Expression {
+    fn closed(&mut self, operator: Prefix, place: Place, operand: Expression) -> Expression {
         self.close();
-        Expression::Prefix(prefix, Box::new(operand))
+        Expression::Prefix { operator, place, operand: Box::new(operand) }
     }
 
     fn infix(&mut self, operator: Infix, left: Expression, level: fn(&mut Self) -> Read) -> Read {

@@ -161,9 +161,9 @@ impl Writer<'_> {
         match expression {
             Expression::Constant(constant) => self.constant(&constant.value),
             Expression::Reference(reference) => self.reference(reference),
-            Expression::Prefix(prefix, operand) => {
+            Expression::Prefix { operator, operand, .. } => {
                 let operand = self.expression(operand);
-                self.record(128 + word_of(&PREFIXES, *prefix), 0, [operand, 0, 0])
+                self.record(128 + word_of(&PREFIXES, *operator), 0, [operand, 0, 0])
             }
             Expression::Infix { operator, left, right, .. } => {
                 let (left, right) = (self.expression(left), self.expression(right));

@@ -13,9 +13,9 @@ impl Rules<'_> {
         match expression {
             Expression::Constant(constant) => Some(constant.value.len()),
             Expression::Reference(reference) => self.reference(reference),
-            Expression::Prefix(prefix, operand) => {
+            Expression::Prefix { operator, place, operand } => {
                 let length = self.length(operand)?;
-                Some(prefix_length(*prefix, length))
+                self.held(Some(prefix_length(*operator, length)), *place)
             }
             Expression::Infix { operator, place, left, right } => {
                 let (left, right) = (self.length(left), self.length(right));
@@ -51,7 +51,8 @@ impl Rules<'_> {
 
 fn prefix_length(prefix: Prefix, length: usize) -> usize {
     match prefix {
-        Prefix::Complement | Prefix::Negate => length,
+        Prefix::Complement => length,
+        Prefix::Negate => length + 1,
         Prefix::ReduceOr | Prefix::ReduceAnd | Prefix::ReduceXor => 1,
         Prefix::ReduceSum => 16,
     }
@@ -59,8 +60,8 @@ fn prefix_length(prefix: Prefix, length: usize) -> usize {
 
 fn infix_length(operator: Infix, left: usize, right: usize) -> Length {
     Some(match operator {
-        Infix::Or | Infix::Xor | Infix::And | Infix::Difference => left.max(right),
-        Infix::Sum => left.max(right) + 1,
+        Infix::Or | Infix::Xor | Infix::And => left.max(right),
+        Infix::Sum | Infix::Difference => left.max(right) + 1,
         Infix::Join => left + right,
         _ => 1,
     })

@@ -55,9 +55,9 @@ impl Expressions<'_> {
             10 => self.conditional(rest),
             64..=127 => self.infix(operator_of(&INFIXES, mark - 64)?, rest),
             128..=191 => {
-                let prefix = operator_of(&PREFIXES, mark - 128)?;
+                let operator = operator_of(&PREFIXES, mark - 128)?;
                 let (operand, rest) = self.before(rest)?;
-                Some((Expression::Prefix(prefix, Box::new(operand)), rest))
+                Some((Expression::Prefix { operator, place: 0, operand: Box::new(operand) }, rest))
             }
             192.. => self.counted(operator_of(&COUNTED, mark - 192)?, two(record, 4), rest),
             _ => None,

@@ -81,9 +81,9 @@ impl Bits {
         self.added(right, self.len().max(right.len()) + 1, false)
     }
 
-    /// As long as the longer operand, modulo two to that length.
+    /// Exact with its sign, in two's complement: one bit more than the longer operand.
     pub fn difference(&self, right: &Bits) -> Bits {
-        let length = self.len().max(right.len());
+        let length = self.len().max(right.len()) + 1;
         self.added(&right.fitted(length).complement(), length, true)
     }
 

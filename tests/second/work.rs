@@ -59,7 +59,7 @@ impl<'a> Works<'a> {
         match expression {
             Expression::Constant(_) => 1,
             Expression::Reference(reference) => sum([1, self.added(&reference.name), self.subscripts(reference)]),
-            Expression::Prefix(_, operand) => sum([1, self.expression(operand)]),
+            Expression::Prefix { operand, .. } => sum([1, self.expression(operand)]),
             Expression::Infix { left, right, .. } => sum([1, self.expression(left), self.expression(right)]),
             Expression::Counted { operand, .. } => sum([1, self.expression(operand)]),
             Expression::Conditional(conditional) => self.conditional(conditional, |arm| self.expression(arm)),

@@ -2,7 +2,7 @@
 
 use second::bytes;
 use second::calls::{self, store_size, CycleAnswer, Lent, ReadAnswer, RunAnswer};
-use second::description::{Action, Choice, Description, Kind};
+use second::description::{Action, Choice, Counted, Description, Expression, Infix, Kind, Prefix};
 use second::image::{image as image_of, FACILITY, HEADER};
 use second::load::{load, Loaded};
 use second::record::RECORD;
@@ -23,6 +23,8 @@ pub enum Fault {
     LandsAtOnce,
     /// The arms of a CASE are counted from zero.
     ArmsFromZero,
+    /// The first bit of a difference is one where there is no borrow.
+    NoBorrow,
     /// A cycle that stops leaves its inputs in the store.
     StopLands,
     /// A store in conflict counts twice.
@@ -51,13 +53,14 @@ pub enum Fault {
     BoundsSwapped,
 }
 
-const FAULTS: [(Fault, &str); 19] = [
+const FAULTS: [(Fault, &str); 20] = [
     (Fault::LastPlace, "last-place"),
     (Fault::DecimalsWrap, "decimals-wrap"),
     (Fault::ImageTail, "image-tail"),
     (Fault::MemoriesKept, "memories-kept"),
     (Fault::LandsAtOnce, "lands-at-once"),
     (Fault::ArmsFromZero, "arms-from-zero"),
+    (Fault::NoBorrow, "no-borrow"),
     (Fault::StopLands, "stop-lands"),
     (Fault::ConflictTwice, "conflict-twice"),
     (Fault::ScratchByte, "scratch-byte"),
@@ -219,6 +222,18 @@ fn count_from_zero(action: &mut Action, _: Option<&str>) {
     conditional.arms.iter_mut().flatten().for_each(|action| count_from_zero(action, None));
 }
 
+fn turn_borrow(action: &mut Action, _: Option<&str>) {
+    let Action::Store { right, .. } = action else {
+        return;
+    };
+    let Expression::Counted { operator: Counted::Head, operand, .. } = right else {
+        return;
+    };
+    if let Expression::Infix { operator: Infix::Difference, .. } = **operand {
+        *right = Expression::Prefix { operator: Prefix::Complement, place: 0, operand: Box::new(right.clone()) };
+    }
+}
+
 fn land_at_once(action: &mut Action, sequencing: Option<&str>) {
     match action {
         Action::Store { left, delayed, .. } => {
@@ -297,7 +312,11 @@ fn held(record: &[u8]) -> usize {
 }
 
 pub fn cycle(image: &[u8], lent: Lent, stimulus: &[u8]) -> CycleAnswer {
-    let changes = [(Fault::LandsAtOnce, land_at_once as Change), (Fault::ArmsFromZero, count_from_zero)];
+    let changes = [
+        (Fault::LandsAtOnce, land_at_once as Change),
+        (Fault::ArmsFromZero, count_from_zero),
+        (Fault::NoBorrow, turn_borrow),
+    ];
     let change = changes.into_iter().find(|(fault, _)| fault.is_on());
     let other = change.and_then(|(_, change)| changed(image, change));
     let image = other.as_deref().unwrap_or(image);

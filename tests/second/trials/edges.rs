@@ -145,7 +145,7 @@ fn nest(draft: &mut Draft, open: usize, most: usize, forms: usize, random: &mut 
         2 => ("", "IF", 8, "THEN B ELSE B ENDIF"),
         3 => ("", "IF B THEN", 8, "ELSE B ENDIF"),
         4 => ("", "CASE B DO B DO", 8, "ENDCASE"),
-        5 => ("", "(-)", 5, ""),
+        5 => ("", "(-)", 5, "TAIL 1"),
         6 => ("", random.pick(&["+ RED", "* RED", "[+] RED"]), 6, ""),
         _ => ("", "-", 7, ""),
     };

@@ -49,7 +49,7 @@ impl Maker {
             let sign = self.random.pick(signs);
             let length = match sign {
                 "CON" => left.length + right.length,
-                "(+)" => left.length.max(right.length) + 1,
+                "(+)" | "(-)" => left.length.max(right.length) + 1,
                 _ => left.length.max(right.length),
             };
             if length <= VALUE {
@@ -110,8 +110,8 @@ impl Maker {
     fn arithmetic(&mut self, room: Room) -> Piece {
         if room.nesting > 0 && self.random.chance(10) {
             let operand = self.term(room.inner());
-            let length = operand.length;
-            return Piece::default().counting("(-)").with(operand).long(length);
+            let length = operand.length + 1;
+            return if length <= VALUE { Piece::default().counting("(-)").with(operand).long(length) } else { operand };
         }
         self.chain(&["(+)", "(-)"], Maker::term, room)
     }
@@ -287,8 +287,9 @@ impl Maker {
 
     /// A computed subscript of any value; a lone constant would have to lie within.
     fn any_subscript(&mut self, room: Room) -> Piece {
-        let operand = self.constant(1);
-        self.expression(room.inner()).bracketed().counting("(-)").with(operand)
+        let (left, right) = (self.expression(room.inner()), self.constant(1));
+        let sign = if left.length < VALUE { "(-)" } else { "[+]" };
+        left.bracketed().counting(sign).with(right)
     }
 
     fn within(&mut self, low: usize, high: usize) -> Piece {

@@ -17,7 +17,10 @@ pub fn try_values(random: &mut Random, tally: &mut Tally) -> Result<(), Failure>
     let length = left.len().max(right.len());
     let low = |number: u128, length: usize| number & ((1 << length) - 1);
     agree(number(&left.sum(&right)), x + y, "a sum")?;
-    agree(number(&left.difference(&right)), low(x.wrapping_sub(y), length), "a difference")?;
+    let difference = left.difference(&right);
+    agree(number(&difference), low(x.wrapping_sub(y), length + 1), "a difference")?;
+    agree(difference.head(1), Bits::bit(x < y), "a borrow")?;
+    agree(difference.ones() == 0, x == y, "a difference of equals")?;
     agree(number(&left.complement()), low(!x, left.len()), "a complement")?;
     agree(number(&left.bitwise(&right, |a, b| a ^ b)), x ^ y, "an exclusive or")?;
     agree(number(&left.join(&right.tail(1))), x << 1 | (y & 1), "a join")?;
@@ -27,7 +30,7 @@ pub fn try_values(random: &mut Random, tally: &mut Tally) -> Result<(), Failure>
     // Longer values against themselves.
     let ((left, _), (right, _)) = (some_value(255, random), some_value(255, random));
     let sum = left.sum(&right);
-    agree(sum.difference(&right), left.fitted(sum.len()), "a sum and back")?;
+    agree(sum.difference(&right), left.fitted(sum.len() + 1), "a sum and back")?;
     agree(sum.compare(&left).is_lt(), false, "a sum below its operand")
 }
 
