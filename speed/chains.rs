@@ -29,10 +29,10 @@ fn around(sketch: &mut Sketch, mark: u8, inner: u16, count: u16) -> u16 {
     sketch.expression(mark, 0, [inner, count, 0])
 }
 
-/// The first bit of what is longer.
+/// The last bit of what is longer.
 fn cut(sketch: &mut Sketch, mark: u8, left: u16, right: u16) -> u16 {
-    let both = sketch.expression(mark, 0, [left, right, 0]);
-    around(sketch, 192 + 42, both, 1)
+    let longer = sketch.expression(mark, 0, [left, right, 0]);
+    around(sketch, 192 + 42, longer, 1)
 }
 
 /// A CASE of two arms, whose first arm is written.
@@ -43,12 +43,9 @@ fn choice(sketch: &mut Sketch, condition: u16, first: u16, last: u16) -> u16 {
 
 pub const PREFIXES: [Level; 4] = [
     level("complements", no, |sketch, _, inner| around(sketch, 128 + 10, inner, 0)),
-    level("negations", no, |sketch, _, inner| around(sketch, 128 + 23, inner, 0)),
+    level("negations", no, |sketch, _, inner| cut(sketch, 128 + 23, inner, 0)),
     level("reductions", no, |sketch, _, inner| around(sketch, 128 + 8, inner, 0)),
-    level("counts of ones", no, |sketch, _, inner| {
-        let ones = around(sketch, 128 + 22, inner, 0);
-        around(sketch, 192 + 42, ones, 1)
-    }),
+    level("counts of ones", no, |sketch, _, inner| cut(sketch, 128 + 22, inner, 0)),
 ];
 
 pub const CUTS: [Level; 3] = [

@@ -74,7 +74,10 @@ const FLAT: [(&str, Making); 12] = [
     ("an operation of 1,020 stores to two", |name| operation(&list("A CON B<-X", 1_019, &format!("A<-{name}")))),
     ("2,040 times @", |name| operation(&list("T@", 2_039, &format!("A<-{name}")))),
     ("1,020 products", |name| operation(&format!("A<-{}", chained("B", "*", 1_020, name)))),
-    ("1,020 differences", |name| operation(&format!("A<-{}", chained("B", "(-)", 1_020, name)))),
+    ("four times 254 differences", |name| {
+        let store = |first: &str| format!("A<-{} TAIL 1", chained("B", "(-)", 254, first));
+        operation(&list(&store("B"), 3, &store(name)))
+    }),
     ("2,040 HEADs", |name| operation(&format!("A<-{}", chained("1", "HEAD ", 2_040, name)))),
     ("1,020 products of 256 bits", |name| operation(&format!("W<-{}", chained("256D1", "*", 1_020, name)))),
     ("1,019 stores of 256 bits", |name| operation(&list("W<-256D1", 1_019, &format!("A<-{name}")))),

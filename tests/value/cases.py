@@ -9,7 +9,7 @@ left, 20 the length before a base.
     column  0    2..4  6..69  71..73  75..138  140..142  144..146  148..211
             op   m     x      n       y        c         length    number
 
-The expected values are those of the manual and of document 01, and for random operands those of Python's integers."""
+The expected values are those of the manual and of documents 01 and 02, and for random operands those of Python's integers."""
 import random
 import re
 
@@ -34,8 +34,8 @@ def cut(m, c):
 # One operator a letter: its value from x, of m bits, y, of n bits, and the count c.
 OPERATORS = {
     "+": lambda m, x, n, y, c: fit(max(m, n) + 1, x + y),
-    "-": lambda m, x, n, y, c: fit(max(m, n), x - y),
-    "n": lambda m, x, n, y, c: fit(m, -x),
+    "-": lambda m, x, n, y, c: fit(max(m, n) + 1, x - y),
+    "n": lambda m, x, n, y, c: fit(m + 1, -x),
     "=": lambda m, x, n, y, c: fit(1, x == y),
     "#": lambda m, x, n, y, c: fit(1, x != y),
     "<": lambda m, x, n, y, c: fit(1, x < y),
@@ -125,7 +125,7 @@ def constant_line(text, made):
     return digits_line(digits, kind, length, made)
 
 
-# ---- The manual's examples (2.3 and 5.3, subtraction as 01 has it) and 01's cases.
+# ---- The manual's examples (2.3 and 5.3, subtraction as 02 has it) and 01's cases.
 
 CONSTANTS = """
 6D22 010110 | 1B1 1 | 8B101 00000101 | 8B.101 10100000 | 2B101 01 | 2B.101 10 | 16Q2321 0000000010111001 | 11@1367 01011110111
@@ -135,8 +135,9 @@ CONSTANTS = """
 
 EXAMPLES = """
 1B1 (+) 4B1011 = 01100 | 4B1111 (+) 4B1111 = 11110 | 1B1 (+) 1B0 = 01 | 4B1001 (+) 4B1100 = 10101
-1B1 (-) 4B1011 = 0110 | 4B1111 (-) 4B1111 = 0000 | 1B1 (-) 1B0 = 1 | 1B0 (-) 3B110 = 010 | 3B001 (-) 3B011 = 110
-(-) 3B110 = 010 | (-) 3B001 = 111
+1B1 (-) 4B1011 = 10110 | 4B1111 (-) 4B1111 = 00000 | 1B1 (-) 1B0 = 01 | 1B0 (-) 3B110 = 1010 | 3B001 (-) 3B011 = 1110
+3B111 (-) 3B000 = 0111 | 4B1110 (-) 3B001 = 01101 | 8D3 (-) 2 = 00000000000000001 | 16D0 (-) 65535 = 10000000000000001
+(-) 3B110 = 1010 | (-) 3B001 = 1111 | (-) 3B000 = 0000 | (-) 2B11 = 101 | 256D0 (-) 1B1 = none | (-) 256D1 = none
 2B10 > 16D1 = 1 | 10D1 # 1B1 = 0 | 8D2 (=) 8D3 = 0 | 1B1 >= 2@3 = 0
 3B101 EXT 3 = 101101101 | 8B11010110 HEAD 4 = 1101 | 8B11010110 TAIL 2 = 10
 4B1101 CON 6B1 = 1101000001 | 4B1 CON 6B.1 = 0001100000
