@@ -1,4 +1,4 @@
--- The cases that 01 marks P ("Cases"), as entries of one table under one statement: a text, its lines of input bits, and what the trace program prints.
+-- The cases that 01 marks P ("Cases"), the difference as 02, ticket 1, has it, as entries of one table under one statement: a text, its lines of input bits, and what the trace program prints.
 use mathlib.Core.Bool.{Bool, true, _&&_}
 use mathlib.Core.List.{List, [], _∷_, map}
 use mathlib.Core.Path.{_≡_, refl}
@@ -39,7 +39,7 @@ cases =
     "1 P A=0000 B=0000 GO=1\n2 Q A=1001 B=1100 GO=0\n3 P A=1100 B=1001 GO=1\nend 3\n"
     ∷ []
 
--- Each case gives what 01 says.
+-- Each case gives what the papers say.
 pub run-cases : allHold cases ≡ true
 unfolding computing holds allHold
 run-cases = refl
