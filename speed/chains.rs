@@ -29,7 +29,7 @@ fn around(sketch: &mut Sketch, mark: u8, inner: u16, count: u16) -> u16 {
     sketch.expression(mark, 0, [inner, count, 0])
 }
 
-/// The last bit of what is longer.
+/// The last bit of what is longer; an operator before its operand has no right one.
 fn cut(sketch: &mut Sketch, mark: u8, left: u16, right: u16) -> u16 {
     let longer = sketch.expression(mark, 0, [left, right, 0]);
     around(sketch, 192 + 42, longer, 1)
