@@ -60,6 +60,7 @@ module _ (image store record' stimulus : List ℕ) (scratch : ℕ) (none-refused
       go (completed s r n) q h =
           completed-so n (answer-so q) (few-conflicts d (legal-image image (unrefused image store record' stimulus scratch none-refused).passing) _ _ _ q)
       go (Outcome.stopped n) q h = stopped-so n (answer-so q)
+      go (Outcome.stuck _) q h = elim h [ ]
 
 pub ready-runs : (image store record' : List ℕ) (scratch : ℕ) (is : List (List ℕ)) → Ready image store record' scratch → AllFormed (decode image) is → Goes image scratch store record' is
 ready-runs image store record' scratch [] h k = over

@@ -7,6 +7,4 @@ pub mod ManyCycles
 pub mod OneCycle
 -- What a completed cycle keeps and lands, bit by bit of the bytes lent.
 pub mod StoreBits
-pub mod BitLaws
 pub mod KeptBytes
-pub mod KeptExamples

@@ -101,6 +101,7 @@ module _ (image store record' stimulus : List ℕ) (scratch : ℕ) where
   by-outcome : (o : Outcome) → Well (decode image) o → after_step (decode image) store record' scratch o ≡ single (whole (after_step (decode image) store record' scratch o))
   by-outcome (completed s r n) h = rw (zero-add n)
   by-outcome (Outcome.stopped n) h = refl
+  by-outcome (Outcome.stuck _) h = elim h [ ]
 
   pub one-cycle : cycle image store record' stimulus scratch ≡ single (run image store record' stimulus 1 scratch 0)
   unfolding cycle run cycles
@@ -120,6 +121,7 @@ module _ (image store record' stimulus : List ℕ) (scratch : ℕ) where
   unfolding most_work
   few-by (completed s r n) q p h = let m = few-conflicts d (legal-image image p) (from_bytes d.facilities store) (record_from record') (from_bytes (inputs_of d.facilities) stimulus) q in omega (arith, m)
   few-by (Outcome.stopped n) q p h = omega arith
+  few-by (Outcome.stuck _) q p h = elim h [ ]
 
   -- At most 65,536 conflicts.
   pub one-counted : Counted (run image store record' stimulus 1 scratch 0).answer

@@ -4,7 +4,7 @@ use Rattle.std.proofs.Math.Bool.{true, false}
 use Rattle.std.proofs.Math.Option.{Option, none, some}
 use Rattle.std.proofs.Math.Path.{◌≡◌, refl}
 use Rattle.std.proofs.Common.{arith, eq-eqb, le-leb, leb-false, leb-true, lt-ltb, length-append, length-drop}
-use Prim.Native.Nat.{ℕ, zero, suc, ◌+◌, ◌*◌, ◌^◌, ◌≤◌, ◌<◌}
+use Prim.Native.Nat.{ℕ, zero, suc, ◌*◌, ◌^◌, ◌≤◌, ◌<◌}
 use Rattle.std.proofs.Math.ListN.{get_or, set}
 use Rattle.language.specs.Acting.{Doing, Ran, run_actions, went}
 use Rattle.language.specs.Calls.{after_step, cycle, cycle_refusal, cycled, over, roomy, sound_bytes, well_formed}
@@ -204,6 +204,7 @@ module _ (image store record' stimulus : List ℕ) (scratch : ℕ) (none-refused
             form = w;
           })
       go (Outcome.stopped m) q h k = absurd (let z : ◌≡◌ {A = ℕ} 0 1 = cc in omega arith)
+      go (Outcome.stuck _) q h k = elim h [ ]
 
   -- The record of a completed cycle is read back from its bytes, and these are as many as any record's.
   pub completed-back : (K : List ℕ) {s : StoreWords} {r : Record} {n : ℕ} → step (decode image) (from_bytes (decode image).facilities store) (record_from record') (from_bytes (inputs_of (decode image).facilities) stimulus) ≡ completed s r n

@@ -133,6 +133,7 @@ module _ (image store record' stimulus : List ℕ) (scratch : ℕ) (store_long :
           let b = record-length r h.returns-in.places in
           completed-same s r n (omega (arith, a, store_long)) (omega (arith, b, record-long))
       after (Outcome.stopped n) h = refl
+      after (Outcome.stuck _) h = elim h [ ]
 
       by-refusal : (y : Option Refusal) → cycle_refusal image store record' stimulus scratch ≡ y → cycle_with d (store ++ x) (record' ++ u) scratch stimulus y ≡ behind x u (cycle_with d store record' scratch stimulus y)
       by-refusal (some n) e = refl
@@ -158,6 +159,7 @@ module _ (image store record' stimulus : List ℕ) (scratch : ℕ) (store_long :
           let b = record-length r h.returns-in.places in
           (over-long (to_bytes e.facilities s) store (omega (arith, a, store_long)), over-long (record_bytes r) record' (omega (arith, b, record-long)))
       after (Outcome.stopped n) h = (refl, refl)
+      after (Outcome.stuck _) h = elim h [ ]
 
       by-refusal : (y : Option Refusal) → cycle_refusal image store record' stimulus scratch ≡ y
           → (length (cycle_with e store record' scratch stimulus y).store ≡ length store) × (length (cycle_with e store record' scratch stimulus y).record' ≡ length record')

@@ -132,3 +132,5 @@ module _ (d : Description) where
 
         go : (y : Ran Noted) → executed d s r ins ≡ y → Alike (numbers d) (noting d) d (Stands d begins) (joins d begins) (went (lands_last d s r ins t q n e).done) y → Keeps
         go (went c) k (Actions.go_on h) = record { noted = c; executed-so = k; rest = λ f w i a b z x y. kept d s r ins c k t q n e f w i a b z x y }
+        go (Ran.stopped _) k x3 = elim x3 [ ]
+        go (Ran.stuck _) k x4 = elim x4 [ ]

@@ -47,12 +47,27 @@ module _ (d : Description) where
   side-long i (D.store_pair k l m r) n h W.high = h.0
   side-long i (D.store_pair k l m r) n h W.low = h.1
   side-long i (D.set l) n h W.set = h
+  side-long i (D.perform _) n h x3 = elim x3 [ ]
+  side-long i (D.goto _) n h x4 = elim x4 [ ]
+  side-long i (D.call _) n h x5 = elim x5 [ ]
+  side-long i D.return n h x5 = elim x5 [ ]
+  side-long i (D.when _ _) n h x8 = elim x8 [ ]
+  side-long i (D.choose _ _ _) n h x10 = elim x10 [ ]
+  side-long i (D.arm _) n h x9 = elim x9 [ ]
+  side-long i Action.broken n h x9 = elim x9 [ ]
 
   pub value-long : (i : ℕ) (a : Action) (n : ℕ) → Roots i a → Valued a n → ValueLong n
   value-long i (D.store k l r) n h W.right = h.1
   value-long i (D.store_pair k l m r) n h W.pair-right = h.2
   value-long i (D.when c x) n h W.when = (1, h.0)
   value-long i (D.choose c m x) n h W.choose = (h.0.bits, h.0.long)
+  value-long i (D.set _) n h x3 = elim x3 [ ]
+  value-long i (D.perform _) n h x4 = elim x4 [ ]
+  value-long i (D.goto _) n h x5 = elim x5 [ ]
+  value-long i (D.call _) n h x6 = elim x6 [ ]
+  value-long i D.return n h x6 = elim x6 [ ]
+  value-long i (D.arm _) n h x8 = elim x8 [ ]
+  value-long i Action.broken n h x8 = elim x8 [ ]
 
   -- Arms that keep the rules stand.
   arms-stand : {s : Bool} {known i n c : ℕ} → Right d s known (arms c) i n → ArmsStand c i n

@@ -25,10 +25,10 @@ use Rattle.about_rules.specs.TidyTexts.{tidy}
 use Rattle.about_rules.specs.WithinCounts.{declarations_of, names_in, terminals-alone}
 use Rattle.about_texts.specs.NameRoom.{declared_letters, label_letters, names-within, operation_letters, scan-letters, text_letters}
 use Rattle.about_texts.specs.RecordRoom.{lent-so, room, value_room, word_room}
-use Rattle.about_reading.specs.ReadsExactly.{LegalText, accepted}
+use Rattle.about_reading.specs.ReadsExactly.{LegalText}
+use Rattle.about_reading.proofs.ReadsExactly.{accepted}
 use Rattle.about_images.specs.Names.{names-length}
 use Rattle.about_images.specs.Whole.{encode-long}
-use Rattle.about_calls.specs.TextToCycles.{ItsCycles, text-to-cycles}
 
 -- The header; as many facilities, operations and states as the ceilings allow; the records of all counted words and of a value for each state; and names, which all stand in the text.
 unfoldable pub largest_image : ℕ
@@ -170,10 +170,6 @@ image-room s t h =
       length-append t.registers (t.memories ++ t.terminals),
       length-append t.memories t.terminals,
     )
-
--- A buffer of that length is enough for every legal text.
-pub always-room : (s : List ℕ) (t : Text) (room : ℕ) → LegalText s t → largest_image ≤ room → ItsCycles s t room
-always-room s t n h l = (text-to-cycles s n).then-cycles t h (omega (arith, image-room s t h, l))
 
 -- So is it for whatever reading accepts: it never refuses a text for its room (12).
 pub read_fits : (s : List ℕ) (d : Description) → read_text s ≡ legal d → length (encode d) ≤ largest_image

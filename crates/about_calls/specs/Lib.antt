@@ -14,11 +14,9 @@ pub mod NoOther
 pub mod MoreKnown
 pub mod OnStores
 pub mod EachLength
-pub mod EachLengthExamples
 pub mod Substrings
 -- ---- A conditional has an arm for each value of its condition.
 pub mod ArmAlways
-pub mod ArmExamples
 -- ---- What a completed cycle did: its delayed stores, and what no store names.
 pub mod DelayedWaits
 -- ---- What has no bearing: bytes beyond store and record, and past the image.

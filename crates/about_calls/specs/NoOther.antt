@@ -7,8 +7,7 @@ use Rattle.std.proofs.Common.{subst, arith}
 use Prim.Native.Nat.{ℕ, zero, suc, ◌-◌}
 use Rattle.language.specs.Description as D
 use Rattle.language.specs.Description.{Description, Facility, Node, facility_at, is_computed, node_at}
-use Rattle.language.specs.Meaning as M
-use Rattle.language.specs.Meaning.{Answer, Located, Place, Stores, after, arm_back, arm_here, arm_number, arm_worth, chosen, decides, eval_node, eval_step, is, located, not_one_bit, operand, part_of_value, place_of, read, stops, stuck, subscript}
+use Rattle.language.specs.Meaning.{Answer, Located, Stores, after, arm_back, arm_here, arm_number, arm_worth, chosen, decides, eval_node, eval_step, is, located, not_one_bit, operand, part_of_value, place_of, read, stops, stuck}
 use Rattle.language.specs.References as R
 use Rattle.language.specs.References.{Reference, Subscripts, reference_of}
 use Rattle.language.specs.Value.{Value, value}

@@ -23,7 +23,7 @@ use Rattle.about_running.specs.Gives.{Gives}
 use Rattle.about_running.specs.Judged.{proper-fine}
 use Rattle.about_running.specs.LegalForm.{Legal}
 use Rattle.about_running.specs.Terminals.{terminals-work}
-use Rattle.about_rules.specs.LongIsFine.{judge-lt, terminal-lt}
+use Rattle.about_rules.proofs.LongIsFine.{judge-lt, terminal-lt}
 use Rattle.about_calls.specs.PartsStand.{Part, part-stands}
 use Rattle.about_calls.specs.Settled.{Settled, computed-in, node_with, operand-judged, reference-node}
 use Rattle.about_calls.specs.WorkedOut as W
@@ -109,3 +109,4 @@ module _ (d : Description) (L : Legal d) where
           found : {l : ℕ} (loc : Located) → r.facility < length d.facilities → Finds (facility_at d r.facility) r.facility l loc → NamesPart d r.facility l loc
           found (Located.at p) h (F.finds i j) = inside refl (record { facility-in = h; word-in = i; part_in = j }) refl
           found (Located.stops m) h F.outside = outside
+          found {l = l} (Located.stuck _) h x4 = elim x4 [ ]

@@ -16,7 +16,7 @@ use Rattle.language.specs.declared.stops.Stop.TheVariants.{OutsideBounds}
 use Rattle.about_running.specs.Finds.{Refers, reference-fine}
 use Rattle.about_running.specs.Judged.{arms-fine, both-fine, given-fine, proper-fine}
 use Rattle.about_running.specs.Starts.{one-before, two-parts}
-use Rattle.about_rules.specs.LongIsFine.{judge-lt, judged}
+use Rattle.about_rules.proofs.LongIsFine.{judge-lt, judged}
 use Rattle.about_calls.specs.WorkedOut as W
 use Rattle.about_calls.specs.WorkedOut.{Arm, PartOf}
 

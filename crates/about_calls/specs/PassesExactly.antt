@@ -13,7 +13,8 @@ use Rattle.language.specs.Tree.{Text}
 use Rattle.language.specs.WordStage.{scan}
 use Rattle.about_rules.specs.LegalTexts.{in-legal-form}
 use Rattle.about_rules.specs.RightWords.{words_right}
-use Rattle.about_reading.specs.ReadsExactly.{Accepted, accepted, as-legal}
+use Rattle.about_reading.specs.ReadsExactly.{Accepted}
+use Rattle.about_reading.proofs.ReadsExactly.{accepted, as-legal}
 use Rattle.about_texts.specs.FromDescriptions.{text-of}
 use Rattle.about_texts.specs.WrittenTexts.{LegalBytes, text_in-bytes}
 use Rattle.about_images.specs.CheckExact.{Written, legal-back, passes-written, written-passes, written_read}

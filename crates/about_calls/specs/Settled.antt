@@ -1,33 +1,22 @@
--- In a description in legal form every record that a run can work out is judged fine and stands in order, behind the computed terminals that it may name. Assumes nothing.
-use Rattle.std.specs.Prelude.{Bool, false, ◌≡◌, ℕ, suc, ◌≤◌, ◌<◌, ltb}
+-- What it is for a record to be settled (proofs/Settled.antt): judged fine, and in order behind the computed terminals that it may name; and how a reference is judged. Assumes nothing.
+use Rattle.std.specs.Prelude.{Bool, false, ◌≡◌, ℕ, ◌≤◌, ◌<◌, ltb}
 use Rattle.std.proofs.Math.Bool.{true}
 use Rattle.std.proofs.Math.Option.{none, some}
 use Rattle.std.proofs.Math.Path.{refl, ap}
 use Rattle.std.proofs.Common.{subst, ◌∙◌, ltb-false, ltb-true}
 use native.Mathlib.Omega.{arith}
 use Rattle.std.proofs.Math.ListN.{get_or-eq_default, length}
-use Rattle.language.specs.ActionRules.{operation_judged}
 use Rattle.language.specs.Description as D
-use Rattle.language.specs.Description.{Action, Description, Facility, Node, NodePlaces, action_at, facility_at, is_computed, no_facility, no_places, node_at, node_place, state_at}
-use Rattle.language.specs.Expressions.{judge_at, judge_below, judge_node, own_work, terminal_below, terminal_judged}
+use Rattle.language.specs.Description.{Description, Facility, Node, NodePlaces, facility_at, is_computed, no_facility, no_places, node_at, node_place}
+use Rattle.language.specs.Expressions.{judge_at, judge_below, judge_node, own_work, terminal_below}
 use Rattle.language.specs.Judging.{Judged}
-use Rattle.language.specs.Order.{action_roots, start_at}
 use Rattle.language.specs.ReferenceRules.{reference_judged}
 use Rattle.language.specs.References as R
 use Rattle.language.specs.References.{Reference, Subscripts, reference_of}
-use Rattle.about_running.specs.Judged.{proper-fine}
-use Rattle.about_running.specs.LegalForm.{Legal}
-use Rattle.about_running.specs.Ordered.{InOrder}
-use Rattle.about_running.specs.Terminals.{roots}
-use Rattle.about_rules.specs.ActionsJudged.{right-run}
 use Rattle.about_rules.specs.ActionsRight as A
-use Rattle.about_rules.specs.ActionsRight.{Has, RefersTo}
-use Rattle.about_rules.specs.FineIsRight.{operations-right}
-use Rattle.about_rules.specs.LongIsFine.{judged, long-is-fine}
-use Rattle.about_calls.specs.EveryAction.{Roots, every-action, side-long, value-long}
-use Rattle.about_calls.specs.PartsStand.{Proper, part-stands}
-use Rattle.about_calls.specs.WorkedOut as W
-use Rattle.about_calls.specs.WorkedOut.{Acts, LeftSide, Valued, WorkedOut}
+use Rattle.about_rules.specs.ActionsRight.{RefersTo}
+use Rattle.about_rules.proofs.LongIsFine.{judged}
+use Rattle.about_calls.specs.PartsStand.{Proper}
 
 -- ---- References.
 
@@ -109,64 +98,3 @@ computed-in d f c = go (ltb f (length d.facilities)) refl
     go false q =
         let z = ap (λ (x : Facility). is_computed x.kind) (get_or-eq_default d.facilities no_facility (ltb-false f _ q)) in
         absurd (let y : ◌≡◌ {A = ℕ} 0 1 = cc in omega arith)
-
-module _ (d : Description) (L : Legal d) where
-  -- The tree of a record stands in order behind those of computed terminals.
-  abbrev Ordered : ℕ → Type 0
-  Ordered n = (s : ℕ) × (start_at d n ≡ some s) × (L.base ≤ s)
-
-  side-order : (a : Action) (n : ℕ) → InOrder d L.base (length d.expressions) (action_roots d a) → LeftSide a n → Ordered n
-  side-order (D.store k l r) n o W.stored = (o.0.0, o.0.1, o.0.2)
-  side-order (D.store_pair k l m r) n o W.high = (o.0.0, o.0.1, o.0.2)
-  side-order (D.store_pair k l m r) n o W.low = (o.1.0.0, o.1.0.1, o.1.0.2)
-  side-order (D.set l) n o W.set = (o.0.0, o.0.1, o.0.2)
-
-  value-order : (a : Action) (n : ℕ) → InOrder d L.base (length d.expressions) (action_roots d a) → Valued a n → Ordered n
-  value-order (D.store k l r) n o W.right = (o.1.0.0, o.1.0.1, o.1.0.2)
-  value-order (D.store_pair k l m r) n o W.pair-right = (o.1.1.0.0, o.1.1.0.1, o.1.1.0.2)
-  value-order (D.when c x) n o W.when = (o.0.0, o.0.1, o.0.2)
-  value-order (D.choose c m x) n o W.choose = (o.0.0, o.0.1, o.0.2)
-
-  -- What an action of a state or an operation holds.
-  pub acts-roots : {i : ℕ} → Acts d i → Roots d i (action_at d i)
-  unfolding operation_judged
-  acts-roots {i} (W.of-state {s = s} l h) =
-      every-action d i (right-run d no_places true (length d.operations) (state_at d s).actions (L.states s l).1.1.run-fine) h.0 h.1
-  acts-roots {i} (W.of-operation {o = o} l h) = every-action d i (operations-right d no_places (suc o) o _ (omega arith) (L.operations o l).1).1 h.0 h.1
-
-  -- A record that an action holds may name every facility.
-  root-settled : {n l : ℕ} → Ordered n → Has d n l → Settled d n
-  unfolding facility_at
-  root-settled o h =
-      let j = long-is-fine d no_places h in
-      record {
-        known = length d.facilities;
-        base = L.base;
-        within = omega arith;
-        before = λ f h c. (roots d d.facilities 0 L.base f L.terminals-order h c).end;
-        proper = record { worth = _; stands = record { same = j.same; start = o.0; starts = o.1; low = o.2 }; none = refl };
-      }
-
-  -- The expression of a computed terminal, only those before it.
-  terminal-settled : (f : ℕ) → is_computed (facility_at d f).kind ≡ true → Settled d (facility_at d f).expression
-  unfolding facility_at terminal_judged
-  terminal-settled f c =
-      let h = computed-in d f c in
-      let r = roots d d.facilities 0 L.base f L.terminals-order h c in
-      let j = L.terminals f h c in
-      let y = proper-fine _ (judged d no_places f (facility_at d f).expression) j.1 in
-      record {
-        known = f;
-        base = r.s;
-        within = omega arith;
-        before = r.earlier;
-        proper = record { worth = j.0; stands = record { same = y.same; start = r.s; starts = r.start; low = omega arith }; none = y.arms };
-      }
-
-  pub settled : {n : ℕ} → WorkedOut d n → Settled d n
-  settled {n} (W.left-side {i = i} a h) = root-settled (side-order (action_at d i) n (L.actions-order i) h) (side-long d i (action_at d i) n (acts-roots a) h).1.1.1
-  settled {n} (W.valued {i = i} a h) = root-settled (value-order (action_at d i) n (L.actions-order i) h) (value-long d i (action_at d i) n (acts-roots a) h).1
-  settled (W.terminal f c q) = subst (Settled d) q (terminal-settled f c)
-  settled (W.part o h) =
-      let s = settled o in
-      record { known = s.known; base = s.base; within = s.within; before = s.before; proper = (part-stands d s.known s.base s.proper.stands h).1 }

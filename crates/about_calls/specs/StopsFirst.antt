@@ -19,8 +19,9 @@ use Rattle.about_running.specs.Fitting.{Fit}
 use Rattle.about_running.specs.LegalForm.{Legal, right_of}
 use Rattle.about_running.specs.NeverStuck.{legal-image, never_stuck}
 use Rattle.about_running.specs.Soundness.{bytes_fit, sound-so}
-use Rattle.about_running.specs.StopOrder as S
-use Rattle.about_running.specs.StopOrder.{FirstOutside, first_one, stop_of, stops-in-order}
+use Rattle.about_running.proofs.StopOrder as S
+use Rattle.about_running.specs.StopOrder.{FirstOutside, stop_of}
+use Rattle.about_running.proofs.StopOrder.{first_one, stops-in-order}
 use Rattle.about_bytes.specs.StaysSound.{Unrefused, unrefused}
 
 -- This stop is the first of 01's conditions that holds in a cycle from these bytes; or none holds.
@@ -68,6 +69,7 @@ module _ (image store record' stimulus : List ℕ) (scratch : ℕ) (none-refused
       go : (o : Outcome) → step d words kept inputs ≡ o → Well d o → FirstStop image store record' stimulus (stop_of o) → Ends image store record' stimulus (after_step d store record' scratch o).answer
       go (completed s r n) q h f = goes_on f (few-conflicts d legal-there words kept inputs q)
       go (Outcome.stopped n) q h f = halts-for f
+      go (Outcome.stuck _) q h f = elim h [ ]
 
   -- The stop that is answered is the step's.
   stopped-step : {n : Stop} → (cycle image store record' stimulus scratch).answer ≡ stopped_for n → stop_of (step d words kept inputs) ≡ some n

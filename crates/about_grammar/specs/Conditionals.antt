@@ -155,7 +155,7 @@ module _ {C : Ceiling} {s : Section} {h : ℕ} where
           grown = omega arith;
           comes =
               case-word s (omega arith) ⊳ before m (λ xs _. begun xs)
-              (starts-as (building (λ _. refl)) (before (ends-in n (λ xs f. follows-right (do_word ∷ []) after_list xs f) (asking (λ xs f. follows-left (do_word ∷ []) after_list xs f) (no-arms s))) (λ xs _. refl) (closing-word (omega arith)
+              (starts-as (building (λ _. refl)) (before {ks = (do_word ∷ []) ++ after_list} (ends-in n (λ xs f. follows-right (do_word ∷ []) after_list xs f) (asking (λ xs f. follows-left (do_word ∷ []) after_list xs f) (no-arms s))) (λ xs _. refl) (closing-word (omega arith)
               ⊳ starts-as (building (λ _. refl)) (rebuilt (ap (λ (v : Actions). with_lists f (v ∷ ls)) (joined-assoc l (T.choose p e a T.done) b)) o))));
         };
   }

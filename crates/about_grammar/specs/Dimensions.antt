@@ -111,7 +111,7 @@ one-dimension {C} {h} {us} {p} q {x} z = record {
     grown = omega arith;
     comes =
         open-terminal (omega arith) ⊳ before (z.takes (ask terminal_rest ∷ K) (keep_word (W.name n o) b) (deeper c) (omega arith)) (λ ws _. refl)
-        (ends-in (then-move (at_last (shut-terminal-row (omega arith))) (building (λ _. refl))) (λ ws f. follows-within (equal_sign ∷ []) (open_bracket ∷ equal_sign ∷ []) refl ws f)
+        (ends-in {ks = equal_sign ∷ []} (then-move (at_last (shut-terminal-row (omega arith))) (building (λ _. refl))) (λ ws f. follows-within (equal_sign ∷ []) (open_bracket ∷ equal_sign ∷ []) refl ws f)
         (asking (λ ws f. follows-within (equal_sign ∷ []) (open_bracket ∷ equal_sign ∷ []) refl ws f) (leaving (kept equal_sign (ask function_of ∷ []) ∷ []) make_plain refl (λ _. refl))));
   };
   with-function = λ _ o K b c room. record {

@@ -57,11 +57,13 @@ more-split J in_operation K h n b c ws x = go (chosen J M.operation_more ws x)
     go : {ws : List Word} → Picks J (lead comma (ask M.operation_action ∷ ask M.operation_more ∷ []) ∷ []) K n h b c ws ⊎ Leaves J (M.may (λ p d. d)) K n h b c ws → Next comma n (λ m vs. Accepts J (ask M.operation_action ∷ ask M.operation_more ∷ K) m h b c vs) ws ⊎ Accepts J K n h b c ws
     go (inl (inl (at_sign_lem p vs z))) = inl (at_sign_lem p vs z)
     go (inr z) = inr z.1
+    go (inl (inr x)) = elim x [ ]
 more-split J in_state K h n b c ws x = go (chosen J M.state_more ws x)
   where
     go : {ws : List Word} → Picks J (lead comma (ask M.state_action ∷ ask M.state_more ∷ []) ∷ []) K n h b c ws ⊎ Leaves J (M.may (λ p d. d)) K n h b c ws → Next comma n (λ m vs. Accepts J (ask M.state_action ∷ ask M.state_more ∷ K) m h b c vs) ws ⊎ Accepts J K n h b c ws
     go (inl (inl (at_sign_lem p vs z))) = inl (at_sign_lem p vs z)
     go (inr z) = inr z.1
+    go (inl (inr x)) = elim x [ ]
 
 pub more-tail : (J : Judge) (s : Section) (K : Stack) (h : ℕ) → TailOf J s (more_of s) K h (λ n b c ws. Accepts J K n h b c ws)
 more-tail J s K h = record { split = more-split J s K h; weaken = λ n m b c ws e x. weaken e x }
@@ -75,12 +77,16 @@ if-rest J in_operation K h n b c ws x = go (chosen J M.operation_if_rest ws x)
         → Next end_if_word n (λ m vs. Accepts J (make make_when ∷ K) m (suc h) b (back c) vs) ws ⊎ Next else_word n (λ m vs. Accepts J (make begin_list ∷ ask M.operation_action ∷ ask M.operation_more ∷ closing end_if_word ∷ make make_if ∷ K) m h b c vs) ws
     go (inl (inl z)) = inl z
     go (inl (inr (inl z))) = inr z
+    go (inl (inr (inr x))) = elim x [ ]
+    go (inr x) = elim x [ ]
 if-rest J in_state K h n b c ws x = go (chosen J M.state_if_rest ws x)
   where
     go : {ws : List Word} → Picks J (shut end_if_word (make make_when ∷ []) ∷ lead else_word (make begin_list ∷ ask M.state_action ∷ ask M.state_more ∷ closing end_if_word ∷ make make_if ∷ []) ∷ []) K n h b c ws ⊎ Leaves J M.must K n h b c ws
         → Next end_if_word n (λ m vs. Accepts J (make make_when ∷ K) m (suc h) b (back c) vs) ws ⊎ Next else_word n (λ m vs. Accepts J (make begin_list ∷ ask M.state_action ∷ ask M.state_more ∷ closing end_if_word ∷ make make_if ∷ K) m h b c vs) ws
     go (inl (inl z)) = inl z
     go (inl (inr (inl z))) = inr z
+    go (inl (inr (inr x))) = elim x [ ]
+    go (inr x) = elim x [ ]
 
 pub arms-rest : (J : Judge) (s : Section) (K : Stack) (h n : ℕ) (b : Built) (c : Counts) (ws : List Word) → Accepts J (ask (arms_of s) ∷ K) n h b c ws
     → Next do_word n (λ m vs. Accepts J (make begin_list ∷ ask (action_of s) ∷ ask (more_of s) ∷ make make_arm ∷ ask (arms_of s) ∷ K) m h b c vs) ws ⊎ Accepts J K n h b c ws
@@ -91,12 +97,14 @@ arms-rest J in_operation K h n b c ws x = go (chosen J M.operation_arms ws x)
         → Next do_word n (λ m vs. Accepts J (make begin_list ∷ ask M.operation_action ∷ ask M.operation_more ∷ make make_arm ∷ ask M.operation_arms ∷ K) m h b c vs) ws ⊎ Accepts J K n h b c ws
     go (inl (inl z)) = inl z
     go (inr z) = inr z.1
+    go (inl (inr x)) = elim x [ ]
 arms-rest J in_state K h n b c ws x = go (chosen J M.state_arms ws x)
   where
     go : {ws : List Word} → Picks J (lead do_word (make begin_list ∷ ask M.state_action ∷ ask M.state_more ∷ make make_arm ∷ ask M.state_arms ∷ []) ∷ []) K n h b c ws ⊎ Leaves J (M.may (λ p d. d)) K n h b c ws
         → Next do_word n (λ m vs. Accepts J (make begin_list ∷ ask M.state_action ∷ ask M.state_more ∷ make make_arm ∷ ask M.state_arms ∷ K) m h b c vs) ws ⊎ Accepts J K n h b c ws
     go (inl (inl z)) = inl z
     go (inr z) = inr z.1
+    go (inl (inr x)) = elim x [ ]
 
 -- ---- The rest of a list.
 

@@ -55,6 +55,7 @@ operation-name J L h n x p b c ws y = go y (chosen J operation_name ws y)
     go a (inl (inr (inr (inr (inl (at_sign_lem o vs z)))))) = inl (restacked refl a)
     go a (inl (inr (inr (inr (inr (inl (at_sign_lem o vs z))))))) = inl (restacked refl a)
     go a (inr z) = inr z
+    go a (inl (inr (inr (inr (inr (inr x)))))) = elim x [ ]
 
 pub state-name : (J : Judge) (L : Stack) (h n : ℕ) (x : Name) (p : Position) (b : Built) (c : Counts) (ws : List Word) → Accepts J (ask state_name ∷ L) n h (keep_word (W.name x p) b) c ws
     → Accepts J (ask subscripts ∷ ask set_sign ∷ L) n h (keep_word (W.name x p) b) c ws ⊎ ((q : Position) × Accepts J L n h (make_perform q (keep_word (W.name x p) b)) (more counted c) ws)
@@ -66,6 +67,7 @@ state-name J L h n x p b c ws y = go y (chosen J state_name ws y)
     go a (inl (inl (at_sign_lem o vs z))) = inl (restacked refl a)
     go a (inl (inr (inl (at_sign_lem o vs z)))) = inl (restacked refl a)
     go a (inr z) = inr z
+    go a (inl (inr (inr x))) = elim x [ ]
 
 module _ {J : Judge} {n m : ℕ} (e : n ≡ suc m) (r : Inverts J m) (ih : InvertsActs J m) {t : Ask} {K : Stack} {h : ℕ} {Q : After} (b : Built) (c : Counts) (l : Actions) (ls : List Actions) (x : Name) (p : Position) where
   -- An operation that is named.
@@ -116,6 +118,8 @@ module _ {J : Judge} {n m : ℕ} (e : n ≡ suc m) (r : Inverts J m) (ih : Inver
               → ActsFound J in_operation Q n h b l ls c (W.name x p ∷ (us ++ sign con_word o ∷ W.name y q ∷ (us₁ ++ vs)))
           signs (inl (inl (at_sign_lem q₁ vs w))) = by delayed_sign refl q₁ vs w.0 w.1 w.2
           signs (inl (inr (inl (at_sign_lem q₁ vs w)))) = by equal_sign refl q₁ vs w.0 w.1 w.2
+          signs (inl (inr (inr x))) = elim x [ ]
+          signs (inr x) = elim x [ ]
 
   -- A left side in an operation.
   pub left_behind : TailOf J in_operation t K h Q → {ws : List Word} → Referred J (ask left_rest ∷ ask t ∷ K) m h x p (with_lists b (l ∷ ls)) c ws → ActsFound J in_operation Q n h b l ls c (W.name x p ∷ ws)
@@ -130,6 +134,8 @@ module _ {J : Judge} {n m : ℕ} (e : n ≡ suc m) (r : Inverts J m) (ih : Inver
       go (inl (inr (inl (at_sign_lem q vs w)))) = set-behind in_operation tail us f d i g q w.0 w.1 w.2
       go (inl (inr (inr (inl (at_sign_lem q vs w))))) = by delayed_sign refl q vs w.0 w.1 w.2
       go (inl (inr (inr (inr (inl (at_sign_lem q vs w)))))) = by equal_sign refl q vs w.0 w.1 w.2
+      go (inl (inr (inr (inr (inr x))))) = elim x [ ]
+      go (inr x) = elim x [ ]
 
   -- And in a state.
   pub set-in-state : TailOf J in_state t K h Q → {ws : List Word} → Referred J (ask set_sign ∷ ask t ∷ K) m h x p (with_lists b (l ∷ ls)) c ws → ActsFound J in_state Q n h b l ls c (W.name x p ∷ ws)
@@ -138,6 +144,8 @@ module _ {J : Judge} {n m : ℕ} (e : n ≡ suc m) (r : Inverts J m) (ih : Inver
     where
       go : {vs : List Word} → Picks J (set_way tree_steps ∷ []) (ask t ∷ K) m h (push f (with_lists b (l ∷ ls))) d vs ⊎ Leaves J M.must (ask t ∷ K) m h (push f (with_lists b (l ∷ ls))) d vs → ActsFound J in_state Q n h b l ls c (W.name x p ∷ (us ++ vs))
       go (inl (inl (at_sign_lem q vs w))) = set-behind in_state tail us f d i g q w.0 w.1 w.2
+      go (inl (inr x)) = elim x [ ]
+      go (inr x) = elim x [ ]
 
   pub named-in-operation : TailOf J in_operation t K h Q → (ws : List Word) → Accepts J (ask operation_name ∷ ask t ∷ K) m h (keep_word (W.name x p) (with_lists b (l ∷ ls))) c ws → ActsFound J in_operation Q n h b l ls c (W.name x p ∷ ws)
   named-in-operation tail ws y = go (operation-name J (ask t ∷ K) h m x p (with_lists b (l ∷ ls)) c ws y)

@@ -122,6 +122,8 @@ module _ {J : Judge} {n : ℕ} (ih : (m : ℕ) → n ≡ suc m → InvertsActs J
       go (inl (inl (at_name y p vs z))) = named-in-operation z.1 (inverts J z.0) (ih z.0 z.1) b c l ls y p tail vs z.2
       go (inl (inr (inl (at_sign_lem p vs z)))) = raised in_operation tail z.2.0 z.2.1 (λ u. conditional z.1 (inverts J z.0) (ih z.0 z.1) in_operation z.2.0 u b c l ls p vs z.2.2)
       go (inl (inr (inr (inl (at_sign_lem p vs z))))) = raised in_operation tail z.2.0 z.2.1 (λ u. cases z.1 (inverts J z.0) (ih z.0 z.1) in_operation z.2.0 u b c l ls p vs z.2.2)
+      go (inl (inr (inr (inr x)))) = elim x [ ]
+      go (inr x) = elim x [ ]
 
   in-state : TailOf J in_state t K h Q → (ws : List Word) → Accepts J (ask M.state_action ∷ ask t ∷ K) n h (with_lists b (l ∷ ls)) c ws → ActsFound J in_state Q n h b l ls c ws
   unfolding rule_of tallied
@@ -134,6 +136,8 @@ module _ {J : Judge} {n : ℕ} (ih : (m : ℕ) → n ≡ suc m → InvertsActs J
       go (inl (inr (inr (inr (inl (at_sign_lem p vs z)))))) = returns z.1 (ih z.0 z.1) tail b c l ls p vs z.2
       go (inl (inr (inr (inr (inr (inl (at_sign_lem p vs z))))))) = raised in_state tail z.2.0 z.2.1 (λ u. conditional z.1 (inverts J z.0) (ih z.0 z.1) in_state z.2.0 u b c l ls p vs z.2.2)
       go (inl (inr (inr (inr (inr (inr (inl (at_sign_lem p vs z)))))))) = raised in_state tail z.2.0 z.2.1 (λ u. cases z.1 (inverts J z.0) (ih z.0 z.1) in_state z.2.0 u b c l ls p vs z.2.2)
+      go (inl (inr (inr (inr (inr (inr (inr x))))))) = elim x [ ]
+      go (inr x) = elim x [ ]
 
 acts-by : (J : Judge) (n : ℕ) → ((m : ℕ) → n ≡ suc m → InvertsActs J m) → (s : Section) (t : Ask) (K : Stack) (h : ℕ) (Q : After) → TailOf J s t K h Q → (b : Built) (c : Counts) (l : Actions) (ls : List Actions) (ws : List Word)
     → Accepts J (ask (action_of s) ∷ ask t ∷ K) n h (with_lists b (l ∷ ls)) c ws → ActsFound J s Q n h b l ls c ws

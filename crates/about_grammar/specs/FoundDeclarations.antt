@@ -57,6 +57,8 @@ module _ (J : Judge) (K : Stack) (n h : ℕ) (b : Built) (c : Counts) where
     where
       go : {vs : List Word} → DimensionsFound J (make make_sequencing ∷ K) z.0 h (keep_word (W.name x p) b) (more M.facility c) vs → SpecFound J registers K n h b c (sign hash q ∷ W.name x p ∷ vs)
       go (sized us vs y d i g a) = spec (sign hash q ∷ W.name x p ∷ us) vs (as_declared sequencing x p y unspecified) d (G.a-sequencing i) (omega arith) (made vs (weaken e (weaken z.1 a))).1
+  sequenced q m e (inl (inr x)) = elim x [ ]
+  sequenced q m e (inr x) = elim x [ ]
 
   a-spec : (x : Shelf) (ws : List Word) → Accepts J (ask (spec_of x) ∷ K) n h b c ws → SpecFound J x K n h b c ws
   unfolding rule_of tallied word_no counted_terminals
@@ -68,6 +70,8 @@ module _ (J : Judge) (K : Stack) (n h : ℕ) (b : Built) (c : Counts) where
       go : {ws : List Word} → Picks J (named (ask M.dimensions ∷ make make_register ∷ []) ∷ lead hash (ask M.sequencing_spec ∷ []) ∷ []) K n h b c ws ⊎ Leaves J M.must K n h b c ws → SpecFound J registers K n h b c ws
       go (inl (inl (at_name x p vs z))) = registered z.1 (a-dimension J (make make_register ∷ K) z.0 h (keep_word (W.name x p) b) (more M.facility c) vs z.2)
       go (inl (inr (inl (at_sign_lem q vs z)))) = sequenced q z.0 z.1 (chosen J M.sequencing_spec vs z.2)
+      go (inl (inr (inr x))) = elim x [ ]
+      go (inr x) = elim x [ ]
   a-spec memories ws a = go (chosen J M.memory_spec ws a)
     where
       remembered : {x : Name} {p : Position} {m : ℕ} → n ≡ suc m → {vs : List Word} → DimensionsFound J (make make_memory ∷ K) m h (keep_word (W.name x p) b) (more M.facility c) vs → SpecFound J memories K n h b c (W.name x p ∷ vs)
@@ -75,6 +79,8 @@ module _ (J : Judge) (K : Stack) (n h : ℕ) (b : Built) (c : Counts) where
 
       go : {ws : List Word} → Picks J (named (ask M.dimensions ∷ make make_memory ∷ []) ∷ []) K n h b c ws ⊎ Leaves J M.must K n h b c ws → SpecFound J memories K n h b c ws
       go (inl (inl (at_name x p vs z))) = remembered z.1 (a-dimension J (make make_memory ∷ K) z.0 h (keep_word (W.name x p) b) (more M.facility c) vs z.2)
+      go (inl (inr x)) = elim x [ ]
+      go (inr x) = elim x [ ]
   a-spec terminals ws a = go (chosen J M.terminal_spec ws a)
     where
       connected : {x : Name} {p : Position} {m : ℕ} → n ≡ suc m → {vs : List Word} → TerminalFound J K m h x p b (more M.facility c) vs → SpecFound J terminals K n h b c (W.name x p ∷ vs)
@@ -82,6 +88,8 @@ module _ (J : Judge) (K : Stack) (n h : ℕ) (b : Built) (c : Counts) where
 
       go : {ws : List Word} → Picks J (named (ask M.terminal_dimensions ∷ []) ∷ []) K n h b c ws ⊎ Leaves J M.must K n h b c ws → SpecFound J terminals K n h b c ws
       go (inl (inl (at_name x p vs z))) = connected z.1 (a-terminal J K z.0 h x p b (more M.facility c) vs z.2)
+      go (inl (inr x)) = elim x [ ]
+      go (inr x) = elim x [ ]
 
 -- ---- Lists.
 
@@ -96,6 +104,8 @@ split J registers K n h b c ws a = go (chosen J M.register_more ws a)
     go (inl (inl z)) = inl z
     go (inl (inr (inl z))) = inr (inl z)
     go (inl (inr (inr (inl z)))) = inr (inr z)
+    go (inl (inr (inr (inr x)))) = elim x [ ]
+    go (inr x) = elim x [ ]
 split J memories K n h b c ws a = go (chosen J M.memory_more ws a)
   where
     go : {ws : List Word} → Picks J (lead comma (ask M.memory_spec ∷ ask M.memory_more ∷ []) ∷ lead period [] ∷ lead end_word [] ∷ []) K n h b c ws ⊎ Leaves J M.must K n h b c ws
@@ -103,6 +113,8 @@ split J memories K n h b c ws a = go (chosen J M.memory_more ws a)
     go (inl (inl z)) = inl z
     go (inl (inr (inl z))) = inr (inl z)
     go (inl (inr (inr (inl z)))) = inr (inr z)
+    go (inl (inr (inr (inr x)))) = elim x [ ]
+    go (inr x) = elim x [ ]
 split J terminals K n h b c ws a = go (chosen J M.terminal_more ws a)
   where
     go : {ws : List Word} → Picks J (lead comma (ask M.terminal_spec ∷ ask M.terminal_more ∷ []) ∷ lead period [] ∷ lead end_word [] ∷ []) K n h b c ws ⊎ Leaves J M.must K n h b c ws
@@ -110,6 +122,8 @@ split J terminals K n h b c ws a = go (chosen J M.terminal_more ws a)
     go (inl (inl z)) = inl z
     go (inl (inr (inl z))) = inr (inl z)
     go (inl (inr (inr (inl z)))) = inr (inr z)
+    go (inl (inr (inr (inr x)))) = elim x [ ]
+    go (inr x) = elim x [ ]
 
 specs-one : (x : Shelf) {h : ℕ} {us : List Word} {t : Declaration} → Is (one_of x) h us (facility t) → Is (list_of x) h us (facilities (t ∷ []))
 specs-one registers i = G.registers-one i

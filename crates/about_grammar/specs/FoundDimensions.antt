@@ -39,6 +39,7 @@ a-range J K n h b c ws x = with-constant (RangeFound J K n h b c) (kept_word a_c
         with-constant (λ v. RangeFound J K n h b c (W.constant y p ∷ sign colon q ∷ v)) (kept_word a_constant vs (weaken z.1 z.2)) λ y₁ p₁ vs₁ z₁.
         ranged (W.constant y p ∷ sign colon q ∷ W.constant y₁ p₁ ∷ []) vs₁ (pair_of y p y₁ p₁) G.range-both (made vs₁ (weaken z₁.1 z₁.2)).1
     go y p {vs} (inr z) = ranged (W.constant y p ∷ []) vs (pair_of one_bound p y p) G.range_last z.1
+    go y p (inl (inr x)) = elim x [ ]
 
 pub data DimensionsFound (J : Judge) (K : Stack) (n h : ℕ) (b : Built) (c : Counts) : List Word → Type 0 where
   sized : (us vs : List Word) (x : Extent) (d : Counts) → Is N.dimensions h us (extent x) → Grown 0 c d → Accepts J K n h (with_extents b (x ∷ b.extents)) d vs → DimensionsFound J K n h b c (us ++ vs)
@@ -60,6 +61,8 @@ module _ (J : Judge) (K : Stack) (n m g : ℕ) (b : Built) (c : Counts) (e : n �
       with-sign (λ v. DimensionsFound J K n (suc g) b c (sign open_bracket p ∷ (us ++ sign comma q ∷ (us₁ ++ v)))) (worded close_bracket closes vs₁ a) λ r vs₂ z₁.
       subst (λ (v : List Word). DimensionsFound J K n (suc g) b c (sign open_bracket p ∷ v)) (simp append_assoc)
       (sized (sign open_bracket p ∷ (us ++ sign comma q ∷ (us₁ ++ sign close_bracket r ∷ []))) vs₂ (table x y) (back (deeper c)) (G.two-dimensions q r i j) (omega arith) (made vs₂ (weaken e (weaken z₁.1 z₁.2))).1)
+  bracketed us x i (inl (inr (inr y))) = elim y [ ]
+  bracketed us x i (inr y) = elim y [ ]
 
 pub a-dimension : (J : Judge) (K : Stack) (n h : ℕ) (b : Built) (c : Counts) (ws : List Word) → Accepts J (ask dimensions ∷ K) n h b c ws → DimensionsFound J K n h b c ws
 unfolding rule_of tallied
@@ -70,3 +73,4 @@ a-dimension J K n h b c ws x = go (chosen J dimensions ws x)
         raised z.2.1 (with-range (λ v. DimensionsFound J K n (suc z.2.0) b c (sign open_bracket p ∷ v)) (a-range J (ask dimension_rest ∷ K) z.0 z.2.0 b (deeper c) vs z.2.2) λ us vs₁ y i a.
         bracketed J K n z.0 z.2.0 b c z.1 p us y i (chosen J dimension_rest vs₁ a))
     go {ws} (inr z) = sized [] ws T.single c G.no-dimension (omega arith) z.1
+    go (inl (inr x)) = elim x [ ]

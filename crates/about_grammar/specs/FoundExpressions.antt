@@ -47,6 +47,7 @@ module _ (J : Judge) (n : ℕ) (ih : (m : ℕ) → n ≡ suc m → Inverts J m) 
       go (inl (inl (at_sign_lem p vs z))) =
           raised z.2.1 (join (prefixed J (ask M.arithmetic_tail ∷ K) n z.0 z.2.0 difference_sign p b c z.1 [] (λ us e i. G.negation-of i) ((ih z.0 z.1).term _ _ _ _ _ z.2.2)) (λ us e i. i) (λ e d xs ws a i. arithmetic-tail J n ih K (suc z.2.0) b e d xs ws a i))
       go {ws} (inr y) = join (a-term J n ih (ask M.arithmetic_tail ∷ K) h b c ws y) (λ us e i. G.arithmetic-one i) (λ e d xs ws a i. arithmetic-tail J n ih K h b e d xs ws a i)
+      go (inl (inr x)) = elim x [ ]
 
 module _ (J : Judge) (n : ℕ) (ih : (m : ℕ) → n ≡ suc m → Inverts J m) (K : Stack) (h : ℕ) (b : Built) (c : Counts) where
   adjustment : (ws : List Word) → Accepts J (ask M.adjustment ∷ K) n h b c ws → Found J N.adjustment K n h b c ws
@@ -57,6 +58,7 @@ module _ (J : Judge) (n : ℕ) (ih : (m : ℕ) → n ≡ suc m → Inverts J m) 
       go {ws} (inr y) =
           join (join (arithmetic J n ih (ask M.relation_tail ∷ ask M.cut_tail ∷ K) h b c ws y) (λ us e i. i) (λ e d xs ws a i. relation-tail J n ih (ask M.cut_tail ∷ K) h b e d xs ws a i))
           (λ us e i. G.cut-none i) (λ e d xs ws a i. cut-tail J n ih K h b e d xs ws a i)
+      go (inl x) = elim x [ ]
 
 module _ (J : Judge) (n : ℕ) (ih : (m : ℕ) → n ≡ suc m → Inverts J m) (K : Stack) (h : ℕ) (b : Built) (c : Counts) where
   reduction-by : (k : ℕ) → is_reduction k ≡ true → (p : Position) (m g : ℕ) → n ≡ suc m → {vs : List Word} → AtSign red_word (λ q vs. (l : ℕ) × (m ≡ suc l) × Accepts J (ask M.adjustment ∷ make make_prefix ∷ ease ∷ K) l g (keep_word (sign k p) b) (deeper (more counted c)) vs) vs
@@ -77,6 +79,7 @@ module _ (J : Judge) (n : ℕ) (ih : (m : ℕ) → n ≡ suc m → Inverts J m) 
       go (inl (inr (inr (inl (at_sign_lem p vs z))))) = raised z.2.1 (reduction-by exclusive_sign refl p z.0 z.2.0 z.1 (worded red_word level vs z.2.2))
       go (inl (inr (inr (inr (inl (at_sign_lem p vs z)))))) = raised z.2.1 (reduction-by sum_sign refl p z.0 z.2.0 z.1 (worded red_word level vs z.2.2))
       go {ws} (inr y) = plainly (adjustment J n ih K h b c ws y)
+      go (inl (inr (inr (inr (inr x))))) = elim x [ ]
 
 module _ (J : Judge) (n : ℕ) (ih : (m : ℕ) → n ≡ suc m → Inverts J m) (K : Stack) (h : ℕ) (b : Built) (c : Counts) where
   complement : (ws : List Word) → Accepts J (ask M.complement ∷ K) n h b c ws → Found J N.complement K n h b c ws
@@ -91,6 +94,7 @@ module _ (J : Judge) (n : ℕ) (ih : (m : ℕ) → n ≡ suc m → Inverts J m) 
           let r = ih z.0 z.1 in
           raised z.2.1 (prefixed J K n z.0 z.2.0 minus p b c z.1 [] (λ us e i. G.complement-of i) (join (r.reduction _ _ _ _ _ z.2.2) (λ us e i. G.con-one i) (λ e d xs ws a i. r.con_tail _ _ _ _ _ _ _ a i)))
       go {ws} (inr y) = plainly (join (reduction J n ih (ask M.con_tail ∷ K) h b c ws y) (λ us e i. G.con-one i) (λ e d xs ws a i. con-tail J n ih K h b e d xs ws a i))
+      go (inl (inr x)) = elim x [ ]
 
 module _ (J : Judge) (n : ℕ) (ih : (m : ℕ) → n ≡ suc m → Inverts J m) (K : Stack) (h : ℕ) (b : Built) (c : Counts) where
   product : (ws : List Word) → Accepts J (ask M.product ∷ K) n h b c ws → Found J N.product K n h b c ws
@@ -99,6 +103,7 @@ module _ (J : Judge) (n : ℕ) (ih : (m : ℕ) → n ≡ suc m → Inverts J m) 
     where
       go : {ws : List Word} → Picks J [] K n h b c ws ⊎ Accepts J (ask M.complement ∷ ask M.and_tail ∷ K) n h b c ws → Found J N.product K n h b c ws
       go {ws} (inr y) = join (complement J n ih (ask M.and_tail ∷ K) h b c ws y) (λ us e i. G.and_one i) (λ e d xs ws a i. and-tail J n ih K h b e d xs ws a i)
+      go (inl x) = elim x [ ]
 
 module _ (J : Judge) (n : ℕ) (ih : (m : ℕ) → n ≡ suc m → Inverts J m) (K : Stack) (h : ℕ) (b : Built) (c : Counts) where
   minterm : (ws : List Word) → Accepts J (ask M.minterm ∷ K) n h b c ws → Found J N.minterm K n h b c ws
@@ -107,6 +112,7 @@ module _ (J : Judge) (n : ℕ) (ih : (m : ℕ) → n ≡ suc m → Inverts J m) 
     where
       go : {ws : List Word} → Picks J [] K n h b c ws ⊎ Accepts J (ask M.product ∷ ask M.exclusive_tail ∷ K) n h b c ws → Found J N.minterm K n h b c ws
       go {ws} (inr y) = join (product J n ih (ask M.exclusive_tail ∷ K) h b c ws y) (λ us e i. G.exclusive-one i) (λ e d xs ws a i. exclusive-tail J n ih K h b e d xs ws a i)
+      go (inl x) = elim x [ ]
 
 module _ (J : Judge) (n : ℕ) (ih : (m : ℕ) → n ≡ suc m → Inverts J m) (K : Stack) (h : ℕ) (b : Built) (c : Counts) where
   boolean : (ws : List Word) → Accepts J (ask M.expression ∷ K) n h b c ws → Found J N.boolean_exp K n h b c ws
@@ -115,6 +121,7 @@ module _ (J : Judge) (n : ℕ) (ih : (m : ℕ) → n ≡ suc m → Inverts J m) 
     where
       go : {ws : List Word} → Picks J [] K n h b c ws ⊎ Accepts J (ask M.minterm ∷ ask M.or_tail ∷ K) n h b c ws → Found J N.boolean_exp K n h b c ws
       go {ws} (inr y) = join (minterm J n ih (ask M.or_tail ∷ K) h b c ws y) (λ us e i. G.or-one i) (λ e d xs ws a i. or-tail J n ih K h b e d xs ws a i)
+      go (inl x) = elim x [ ]
 
 -- All levels, in n words, from those in fewer.
 inverts-by : (J : Judge) (n : ℕ) → ((m : ℕ) → n ≡ suc m → Inverts J m) → Inverts J n

@@ -51,6 +51,8 @@ split J K n h b c ws a = go (chosen J operations_more ws a)
     go (inl (inr (inl z))) = inr (inl z)
     go (inl (inr (inr (inl z)))) = inr (inr (inl z))
     go (inl (inr (inr (inr (inl z))))) = inr (inr (inr z))
+    go (inl (inr (inr (inr (inr x))))) = elim x [ ]
+    go (inr x) = elim x [ ]
 
 abbrev Lists : Judge → ℕ → Type 0
 Lists J n = (K : Stack) (h : ℕ) (b : Built) (c : Counts) (ws : List Word) → Accepts J (ask operation_spec ∷ ask operations_more ∷ K) n h b c ws → OperationsFound J K n h b c ws
@@ -92,6 +94,8 @@ list-by J n ih K h b c ws a = go (chosen J operation_spec ws a)
   where
     go : {ws : List Word} → Picks J (rule_of tree_steps operation_spec).ways (ask operations_more ∷ K) n h b c ws ⊎ Leaves J M.must (ask operations_more ∷ K) n h b c ws → OperationsFound J K n h b c ws
     go (inl (inl (at_name x p vs z))) = one J n ih K b c h z.0 z.1 x p vs z.2
+    go (inl (inr x)) = elim x [ ]
+    go (inr x) = elim x [ ]
 
 pub a-list : (J : Judge) (n : ℕ) → Lists J n
 a-list J zero = list-by J zero (λ m e. absurd (omega arith))

@@ -40,6 +40,8 @@ module _ (J : Judge) (m : ℕ) (r : Inverts J m) (K : Stack) (g : ℕ) (x : Name
       go (inl (inl (at_sign_lem q vs z))) =
           subst (λ (l : List Word). Referred J K m (suc g) x p b c (sign open_bracket o ∷ l)) (simp append_assoc)
           (referred (sign open_bracket o ∷ (us ++ sign comma k ∷ (us₁ ++ sign close_bracket q ∷ []))) vs (two x p e f) (back d₁) (G.ref-two q k i j) (omega arith) refl (made vs (weaken z.1 z.2)).1)
+      go (inl (inr x)) = elim x [ ]
+      go (inr x) = elim x [ ]
   comma-ends k l s (inr (second-one-part y z q n v t u vs a)) =
       subst (λ (l : List Word). Referred J K m (suc g) x p b c (sign open_bracket o ∷ l)) (simp append_assoc)
       (referred (sign open_bracket o ∷ (us ++ sign comma k ∷ W.constant y q ∷ sign colon n ∷ W.constant z v ∷ sign close_bracket t ∷ [])) vs (word_part x p e (pair_of y q z v)) (back d) (G.ref-word-part t k n i) (omega arith) refl a)
@@ -54,6 +56,8 @@ module _ (J : Judge) (m : ℕ) (r : Inverts J m) (K : Stack) (g : ℕ) (x : Name
       go (inl (inl (at_sign_lem q vs z))) =
           subst (λ (l : List Word). Referred J K m (suc g) x p b c (sign open_bracket o ∷ l)) (simp append_assoc)
           (referred (sign open_bracket o ∷ (us ++ sign close_bracket k ∷ sign open_bracket k₁ ∷ (us₁ ++ sign close_bracket q ∷ []))) vs (two x p e f) (back d₁) (G.ref-two-apart q k k₁ i j) (omega arith) refl (made vs (weaken z.1 z.2)).1)
+      go (inl (inr x)) = elim x [ ]
+      go (inr x) = elim x [ ]
   apart-ends k k₁ (inr (second-one-part y z q n v t u vs a)) =
       subst (λ (l : List Word). Referred J K m (suc g) x p b c (sign open_bracket o ∷ l)) (simp append_assoc)
       (referred (sign open_bracket o ∷ (us ++ sign close_bracket k ∷ sign open_bracket k₁ ∷ W.constant y q ∷ sign colon n ∷ W.constant z v ∷ sign close_bracket t ∷ [])) vs (word_part x p e (pair_of y q z v)) (back (deeper (back d))) (G.ref-word-part-apart t k n k₁ i) (omega arith) refl a)
@@ -66,11 +70,14 @@ module _ (J : Judge) (m : ℕ) (r : Inverts J m) (K : Stack) (g : ℕ) (x : Name
   one-or-two k {ws} (inr z) =
       subst (λ (l : List Word). Referred J K m (suc g) x p b c (sign open_bracket o ∷ l)) (append_assoc us (sign close_bracket k ∷ []) ws)
       (referred (sign open_bracket o ∷ (us ++ sign close_bracket k ∷ [])) ws (one x p e) (back d) (G.ref-one k i) (omega arith) refl z.1)
+  one-or-two k (inl (inr x)) = elim x [ ]
 
   after_first : {ws : List Word} → Picks J (after_subscript_ways tree_steps) K m g (push e (keep_word (W.name x p) b)) d ws ⊎ Leaves J M.must K m g (push e (keep_word (W.name x p) b)) d ws → Behind ws
   unfolding rule_of tallied
   after_first (inl (inl (at_sign_lem k vs z))) = one-or-two k (chosen J second_option vs (weaken z.1 z.2))
   after_first (inl (inr (inl (at_sign_lem k vs z)))) = comma-ends k z.0 z.1 (second-one-found J m r K g (push e (keep_word (W.name x p) b)) d vs (weaken z.1 z.2))
+  after_first (inl (inr (inr x))) = elim x [ ]
+  after_first (inr x) = elim x [ ]
 
 module _ (J : Judge) (n : ℕ) (ih : (m : ℕ) → n ≡ suc m → Inverts J m) (K : Stack) (h : ℕ) (x : Name) (p : Position) (b : Built) (c : Counts) where
   bracketed : (m g : ℕ) → n ≡ suc m → h ≡ suc g → (o : Position) {ws : List Word} → Referred J K m (suc g) x p b c (sign open_bracket o ∷ ws) → Referred J K n h x p b c (sign open_bracket o ∷ ws)
@@ -93,3 +100,4 @@ module _ (J : Judge) (n : ℕ) (ih : (m : ℕ) → n ≡ suc m → Inverts J m) 
       go : {ws : List Word} → Picks J (enter open_bracket (ask subscript ∷ []) ∷ []) K n h (keep_word (W.name x p) b) c ws ⊎ Leaves J (M.may make_whole) K n h (keep_word (W.name x p) b) c ws → Referred J K n h x p b c ws
       go (inl (inl (at_sign_lem o vs z))) = bracketed z.0 z.2.0 z.1 z.2.1 o (in-bracket z.0 z.2.0 z.1 o (first_found J z.0 (ih z.0 z.1) K z.2.0 (keep_word (W.name x p) b) (deeper c) vs z.2.2))
       go {ws} (inr z) = referred [] ws (whole x p) c G.ref-whole (omega arith) refl z.1
+      go (inl (inr x)) = elim x [ ]

@@ -71,6 +71,7 @@ module _ (J : Judge) (K : Stack) (n h : ℕ) (b : Built) (c : Counts) where
       go y (inl (inr (inr (inl (at_sign_lem q vs z))))) = unlabelled (W.name x p) (named-in-state e (inverts J m) (inverts-acts J m) (waiting p) (more M.state c) T.done b.lists x p (slash-tail J K h) _ (renamed x p _ refl y))
       go y (inl (inr (inr (inr (inl (at_sign_lem q vs z)))))) = unlabelled (W.name x p) (named-in-state e (inverts J m) (inverts-acts J m) (waiting p) (more M.state c) T.done b.lists x p (slash-tail J K h) _ (renamed x p _ refl y))
       go y (inr z) = unlabelled (W.name x p) (performed e (inverts J m) (inverts-acts J m) (waiting p) (more M.state c) T.done b.lists x p in_state (slash-tail J K h) z)
+      go y (inl (inr (inr (inr (inr x))))) = elim x [ ]
 
   start : (ws : List Word) → Accepts J (ask state_start ∷ K) n h b c ws → StateFound J K n h b c ws
   unfolding rule_of tallied
@@ -86,6 +87,8 @@ module _ (J : Judge) (K : Stack) (n h : ℕ) (b : Built) (c : Counts) where
           unlabelled (sign _ p) (raised (λ m e. inverts-acts J m) (waiting p) (more M.state c) T.done b.lists in_state (slash-tail J K h) z.2.0 z.2.1 (λ u. conditional z.1 (inverts J z.0) (inverts-acts J z.0) in_state z.2.0 u (waiting p) (more M.state c) T.done b.lists p vs z.2.2))
       go (inl (inr (inr (inr (inr (inr (inr (inl (at_sign_lem p vs z))))))))) =
           unlabelled (sign _ p) (raised (λ m e. inverts-acts J m) (waiting p) (more M.state c) T.done b.lists in_state (slash-tail J K h) z.2.0 z.2.1 (λ u. cases z.1 (inverts J z.0) (inverts-acts J z.0) in_state z.2.0 u (waiting p) (more M.state c) T.done b.lists p vs z.2.2))
+      go (inl (inr (inr (inr (inr (inr (inr (inr x)))))))) = elim x [ ]
+      go (inr x) = elim x [ ]
 
 -- ---- All states.
 
@@ -110,6 +113,8 @@ split J K n h b c ws a = go a (chosen J states_more ws a)
     go a (inl (inr (inr (inr (inr (inr (inr (inl (at_sign_lem p vs z))))))))) = inl (restacked refl a)
     go a (inl (inr (inr (inr (inr (inr (inr (inr (inl z))))))))) = inr (inl z)
     go a (inl (inr (inr (inr (inr (inr (inr (inr (inr (inl z)))))))))) = inr (inr z)
+    go a (inl (inr (inr (inr (inr (inr (inr (inr (inr (inr x)))))))))) = elim x [ ]
+    go a (inr x) = elim x [ ]
 
 abbrev Lists : Judge → ℕ → Type 0
 Lists J n = (K : Stack) (h : ℕ) (b : Built) (c : Counts) (ws : List Word) → Accepts J (ask state_start ∷ ask states_more ∷ K) n h b c ws → StatesFound J K n h b c ws

@@ -46,6 +46,8 @@ slash-tail J K h = record { split = λ n b c ws a. go n b c (chosen J state_rest
         → Next comma n (λ m vs. Accepts J (ask M.state_action ∷ ask state_rest ∷ K) m h b c vs) ws ⊎ Slashed J K h n b c ws
     go n b c (inl (inl z)) = inl z
     go n b c (inl (inr (inl z))) = inr z
+    go n b c (inl (inr (inr x))) = elim x [ ]
+    go n b c (inr x) = elim x [ ]
 
     later : (n m : ℕ) (b : Built) (c : Counts) {ws : List Word} → n ≡ suc m → Slashed J K h m b c ws → Slashed J K h n b c ws
     later n m b c e (at_sign_lem p vs z) = at_sign_lem p vs (m, e, weaken z.1 z.2)
@@ -99,3 +101,5 @@ module _ (J : Judge) (K : Stack) (n h : ℕ) (b : Built) (c d : Counts) (us : Li
           acts-behind (raised (λ m e. inverts-acts J m) waiting d T.done b.lists in_state (slash-tail J K h) z.2.0 z.2.1 (λ u. conditional z.1 (inverts J z.0) (inverts-acts J z.0) in_state z.2.0 u waiting d T.done b.lists p vs z.2.2))
       go (inl (inr (inr (inr (inr (inr (inr (inl (at_sign_lem p vs z))))))))) =
           acts-behind (raised (λ m e. inverts-acts J m) waiting d T.done b.lists in_state (slash-tail J K h) z.2.0 z.2.1 (λ u. cases z.1 (inverts J z.0) (inverts-acts J z.0) in_state z.2.0 u waiting d T.done b.lists p vs z.2.2))
+      go (inl (inr (inr (inr (inr (inr (inr (inr x)))))))) = elim x [ ]
+      go (inr x) = elim x [ ]

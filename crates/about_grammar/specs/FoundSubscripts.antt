@@ -83,6 +83,7 @@ module _ (J : Judge) (m : ℕ) (r : Inverts J m) (K : Stack) (g : ℕ) (b : Buil
           → Found J N.boolean_exp (ask after_subscript ∷ K) m g b c (W.constant y q ∷ vs) ⊎ FirstPart J K m g b c (W.constant y q ∷ vs)
       go (inl (inl (at_sign_lem k vs z))) = inr (first-last y q k s (kept_word a_constant vs (weaken z.1 z.2)))
       go {vs} (inr z) = inl (all-tails r (ask after_subscript ∷ K) g b c y q vs (restacked (first-goes-on J K (reading (push (constant y q) b) (more counted c)) vs) (weaken s z.1)))
+      go (inl (inr x)) = elim x [ ]
 
   pub first_found : (ws : List Word) → Accepts J (ask subscript ∷ K) m g b c ws → Found J N.boolean_exp (ask after_subscript ∷ K) m g b c ws ⊎ FirstPart J K m g b c ws
   unfolding run feed finish choose rule_of tallied
@@ -130,6 +131,7 @@ module _ (J : Judge) (m : ℕ) (r : Inverts J m) (K : Stack) (g : ℕ) (b : Buil
           → Found J N.boolean_exp (ask second_end ∷ K) m g b c (W.constant y q ∷ vs) ⊎ SecondPart J K m g b c (W.constant y q ∷ vs)
       go (inl (inl (at_sign_lem k vs z))) = inr (second-one-last y q k s (kept_word a_constant vs (weaken z.1 z.2)))
       go {vs} (inr z) = inl (all-tails r (ask second_end ∷ K) g b c y q vs (restacked (second-one-goes-on J K (reading (push (constant y q) b) (more counted c)) vs) (weaken s z.1)))
+      go (inl (inr x)) = elim x [ ]
 
   pub second-one-found : (ws : List Word) → Accepts J (ask second ∷ K) m g b c ws → Found J N.boolean_exp (ask second_end ∷ K) m g b c ws ⊎ SecondPart J K m g b c ws
   unfolding run feed finish choose rule_of tallied

@@ -38,6 +38,7 @@ module _ (J : Judge) (n : ℕ) (ih : (m : ℕ) → n ≡ suc m → Inverts J m) 
           let r = ih y.0 y.1 in
           loop y.1 (r.minterm _ _ _ _ _ y.2) (λ us f d ws j a. r.or_tail _ _ _ _ _ _ _ a (G.or-more i j))
       go (inr y) = no_more i y.1
+      go (inl (inr x)) = elim x [ ]
 
   pub exclusive-tail : (ws : List Word) → Accepts J (ask M.exclusive_tail ∷ K) n h (push e b) c ws → Is N.minterm h xs (expression e) → Extended J N.minterm K n h xs e b c ws
   unfolding rule_of tallied
@@ -48,6 +49,7 @@ module _ (J : Judge) (n : ℕ) (ih : (m : ℕ) → n ≡ suc m → Inverts J m) 
           let r = ih y.0 y.1 in
           loop y.1 (r.product _ _ _ _ _ y.2) (λ us f d ws j a. r.exclusive_tail _ _ _ _ _ _ _ a (G.exclusive-more i j))
       go (inr y) = no_more i y.1
+      go (inl (inr x)) = elim x [ ]
 
   pub and-tail : (ws : List Word) → Accepts J (ask M.and_tail ∷ K) n h (push e b) c ws → Is N.product h xs (expression e) → Extended J N.product K n h xs e b c ws
   unfolding rule_of tallied
@@ -58,6 +60,7 @@ module _ (J : Judge) (n : ℕ) (ih : (m : ℕ) → n ≡ suc m → Inverts J m) 
           let r = ih y.0 y.1 in
           loop y.1 (r.complement _ _ _ _ _ y.2) (λ us f d ws j a. r.and_tail _ _ _ _ _ _ _ a (G.and-more i j))
       go (inr y) = no_more i y.1
+      go (inl (inr x)) = elim x [ ]
 
   pub con-tail : (ws : List Word) → Accepts J (ask M.con_tail ∷ K) n h (push e b) c ws → Is N.chain h xs (expression e) → Extended J N.chain K n h xs e b c ws
   unfolding rule_of tallied
@@ -68,6 +71,7 @@ module _ (J : Judge) (n : ℕ) (ih : (m : ℕ) → n ≡ suc m → Inverts J m) 
           let r = ih y.0 y.1 in
           loop y.1 (r.reduction _ _ _ _ _ y.2) (λ us f d ws j a. r.con_tail _ _ _ _ _ _ _ a (G.con-more i j))
       go (inr y) = no_more i y.1
+      go (inl (inr x)) = elim x [ ]
 
   pub arithmetic-tail : (ws : List Word) → Accepts J (ask M.arithmetic_tail ∷ K) n h (push e b) c ws → Is N.arithmetic h xs (expression e) → Extended J N.arithmetic K n h xs e b c ws
   unfolding rule_of tallied
@@ -82,6 +86,7 @@ module _ (J : Judge) (n : ℕ) (ih : (m : ℕ) → n ≡ suc m → Inverts J m) 
       go (inl (inl (at_sign_lem p vs y))) = by sum_sign refl p vs y.0 y.1 y.2
       go (inl (inr (inl (at_sign_lem p vs y)))) = by difference_sign refl p vs y.0 y.1 y.2
       go (inr y) = no_more i y.1
+      go (inl (inr (inr x))) = elim x [ ]
 
   pub cut-tail : (ws : List Word) → Accepts J (ask M.cut_tail ∷ K) n h (push e b) c ws → Is N.adjustment h xs (expression e) → Extended J N.adjustment K n h xs e b c ws
   unfolding rule_of tallied counted_expression word_no expression_no
@@ -103,6 +108,7 @@ module _ (J : Judge) (n : ℕ) (ih : (m : ℕ) → n ≡ suc m → Inverts J m) 
       go (inl (inr (inl (at_sign_lem p vs y)))) = by tail_word refl p vs y.0 y.1 y.2
       go (inl (inr (inr (inl (at_sign_lem p vs y))))) = by ext_word refl p vs y.0 y.1 y.2
       go (inr y) = no_more i y.1
+      go (inl (inr (inr (inr x)))) = elim x [ ]
 
   pub relation-tail : (ws : List Word) → Accepts J (ask M.relation_tail ∷ K) n h (push e b) c ws → Is N.arithmetic h xs (expression e) → Extended J N.relation K n h xs e b c ws
   unfolding rule_of tallied counted_expression word_no expression_no
@@ -122,6 +128,7 @@ module _ (J : Judge) (n : ℕ) (ih : (m : ℕ) → n ≡ suc m → Inverts J m) 
       go (inl (inr (inr (inr (inr (inl (at_sign_lem p vs y))))))) = by at_most_sign refl p vs y.0 y.1 y.2
       go (inl (inr (inr (inr (inr (inr (inl (at_sign_lem p vs y)))))))) = by at_least_sign refl p vs y.0 y.1 y.2
       go (inr y) = no_more (G.relation-none i) y.1
+      go (inl (inr (inr (inr (inr (inr (inr x))))))) = elim x [ ]
 
   pub more-arms : (ws : List Word) → Accepts J (ask M.more_arms ∷ K) n h (push e b) c ws → Is N.expression_arms h xs (expression e) → Extended J N.expression_arms K n h xs e b c ws
   unfolding rule_of tallied counted_expression word_no expression_no
@@ -138,3 +145,4 @@ module _ (J : Judge) (n : ℕ) (ih : (m : ℕ) → n ≡ suc m → Inverts J m) 
       go : {ws : List Word} → Picks J (lead do_word (ask M.expression ∷ make make_next_arm ∷ ask M.more_arms ∷ []) ∷ []) K n h (push e b) c ws ⊎ Leaves J (M.may (λ p d. d)) K n h (push e b) c ws → Extended J N.expression_arms K n h xs e b c ws
       go (inl (inl (at_sign_lem p vs y))) = by p y.0 y.1 ((ih y.0 y.1).expression _ _ _ _ _ y.2)
       go (inr y) = no_more i y.1
+      go (inl (inr x)) = elim x [ ]

@@ -87,6 +87,7 @@ module _ (J : Judge) (K : Stack) (n h : ℕ) (x : Name) (p : Position) (b : Buil
       go : {ws : List Word} → Picks J (lead input_word (word open_paren opens ∷ plain_word a_constant ∷ plain_word comma ∷ again ∷ closing close_paren ∷ make make_input ∷ []) ∷ []) K n h sofar d ws ⊎ Accepts J (ask M.expression ∷ make make_computed ∷ K) n h sofar d ws → Behind ws
       go (inl (inl (at_sign_lem r vs z))) = from-input z.0 z.1 r vs z.2
       go {ws} (inr z) = computes ((inverts J n).expression _ _ _ _ _ z)
+      go (inl (inr x)) = elim x [ ]
 
 -- Behind the bracket of a terminal's dimensions.
 module _ (J : Judge) (K : Stack) (n m g : ℕ) (x : Name) (p : Position) (b : Built) (c : Counts) (e : n ≡ suc m) (o : Position) where
@@ -103,6 +104,7 @@ module _ (J : Judge) (K : Stack) (n m g : ℕ) (x : Name) (p : Position) (b : Bu
   one-row us y q i {ws} (inr z) =
       subst (λ (v : List Word). Opened v) (append_assoc us (sign close_bracket q ∷ []) ws)
       (terminal (sign open_bracket o ∷ (us ++ sign close_bracket q ∷ [])) ws (as_declared plain x p (row y) unspecified) (back (deeper c)) (G.a-terminal (G.one-dimension q i)) (omega arith) z.1)
+  one-row us y q i (inl (inr x)) = elim x [ ]
 
   sized : (us : List Word) (y : Ends) → Is N.range g us (ends y) → {ws : List Word}
       → Picks J (shut close_bracket (make make_row ∷ ask terminal_function ∷ []) ∷ lead comma (keep a_constant ∷ ask range_rest ∷ closing close_bracket ∷ make make_table ∷ make make_plain ∷ []) ∷ []) K m g (with_ends (keep_word (W.name x p) b) (y ∷ b.ends)) (deeper c) ws
@@ -115,6 +117,8 @@ module _ (J : Judge) (K : Stack) (n m g : ℕ) (x : Name) (p : Position) (b : Bu
       subst (λ (v : List Word). Opened v) (simp append_assoc)
       (terminal (sign open_bracket o ∷ (us ++ sign comma q ∷ (us₁ ++ sign close_bracket r ∷ []))) vs₂ (as_declared plain x p (table y y₁) unspecified) (back (deeper c)) (G.a-terminal (G.two-dimensions q r i j)) (omega arith)
       (made vs₂ (made vs₂ (weaken e (weaken z₁.1 z₁.2))).1).1)
+  sized us y i (inl (inr (inr x))) = elim x [ ]
+  sized us y i (inr x) = elim x [ ]
 
 pub a-terminal : (J : Judge) (K : Stack) (n h : ℕ) (x : Name) (p : Position) (b : Built) (c : Counts) (ws : List Word) → Accepts J (ask terminal_dimensions ∷ K) n h (keep_word (W.name x p) b) c ws → TerminalFound J K n h x p b c ws
 unfolding rule_of tallied word_no
@@ -127,3 +131,4 @@ a-terminal J K n h x p b c ws a = go (chosen J terminal_dimensions ws a)
         sized J K n z.0 z.2.0 x p b c z.1 o us y i (chosen J terminal_rest vs₁ a₁))
     go (inl (inr (inl (at_sign_lem q vs z)))) = a-function J K n h x p b c c [] T.single tt G.no-dimension (omega arith) q vs (weaken z.1 z.2)
     go {ws} (inr z) = terminal [] ws (as_declared plain x p T.single unspecified) c (G.a-terminal G.no-dimension) (omega arith) z.1
+    go (inl (inr (inr x))) = elim x [ ]

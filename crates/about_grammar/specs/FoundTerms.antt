@@ -82,3 +82,5 @@ module _ (J : Judge) (n : ℕ) (ih : (m : ℕ) → n ≡ suc m → Inverts J m) 
       go (inl (inr (inr (inl (at_sign_lem p vs z))))) = raised z.2.1 (parens J n ih K b c p z.0 z.2.0 vs z.1 z.2.2)
       go (inl (inr (inr (inr (inl (at_sign_lem p vs z)))))) = raised z.2.1 (conditional J n ih K b c p z.0 z.2.0 vs z.1 z.2.2)
       go (inl (inr (inr (inr (inr (inl (at_sign_lem p vs z))))))) = raised z.2.1 (cases J n ih K b c p z.0 z.2.0 vs z.1 z.2.2)
+      go (inl (inr (inr (inr (inr (inr x)))))) = elim x [ ]
+      go (inr x) = elim x [ ]

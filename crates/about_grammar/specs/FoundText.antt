@@ -62,6 +62,7 @@ controls J n h b c p ws a = go (S.a-list J n (ask dollar_option ∷ []) h b c ws
         ends : {vs : List Word} → Picks J (rule_of tree_steps dollar_option).ways [] n h (with_text b (stated b.text ss)) d vs ⊎ Leaves J (M.may (λ p x. x)) [] n h (with_text b (stated b.text ss)) d vs → Closing J h b c p (us ++ sign k q ∷ vs)
         ends (inl (inl (at_sign_lem r vs z))) = last (sign dollar r ∷ []) G.some-dollar (finished vs z.2)
         ends {vs} (inr z) = last [] G.no-dollar (finished vs z.1)
+        ends (inl (inr x)) = elim x [ ]
 
 -- ---- Operations, and the control section.
 
@@ -88,6 +89,8 @@ module _ (J : Judge) (n h : ℕ) (b : Built) (c : Counts) where
     where
       go : {ws : List Word} → Picks J (rule_of tree_steps control).ways [] n h (with_text b (operated b.text os)) d ws ⊎ Leaves J M.must [] n h (with_text b (operated b.text os)) d ws → Finishing J h b c (sign operation_word p ∷ (us ++ sign k r ∷ ws))
       go (inl (inl (at_sign_lem q vs z))) = behind-operations p us os d i g (sign k r ∷ []) (G.some-ending (G.an-ending f)) (controls J z.0 h (with_text b (operated b.text os)) d q vs z.2)
+      go (inl (inr x)) = elim x [ ]
+      go (inr x) = elim x [ ]
 
   at-operations : (p : Position) {ws : List Word} → OperationsFound J [] n h b c ws → Finishing J h b c (sign operation_word p ∷ ws)
   unfolding rule_of
@@ -120,6 +123,8 @@ module _ (J : Judge) (n h : ℕ) (b : Built) (c : Counts) where
       go : {ws : List Word} → Picks J (rule_of tree_steps after_terminals).ways [] n h b c ws ⊎ Leaves J M.must [] n h b c ws → Finishing J h b c ws
       go (inl (inl z)) = finishes J n h b c (inl z)
       go (inl (inr (inl z))) = finishes J n h b c (inr z)
+      go (inl (inr (inr x))) = elim x [ ]
+      go (inr x) = elim x [ ]
 
   memories-none : {ws : List Word} → Terminated J h b c ws → Remembered J h b c ws
   memories-none {ws} x = remembered [] ws [] c G.no-memories (omega arith) (subst (λ (t : Text). Terminated J h (with_text b t) c ws) (sym (filed-none memories b.text)) x)
@@ -138,6 +143,8 @@ module _ (J : Judge) (n h : ℕ) (b : Built) (c : Counts) where
       go (inl (inl (at_sign_lem p vs z))) = at-terminals (D.a-list J terminals n (ask after_terminals ∷ []) h b c vs (weaken z.1 z.2))
       go (inl (inr (inl z))) = terminals-none J n h b c (finishes J n h b c (inl z))
       go (inl (inr (inr (inl z)))) = terminals-none J n h b c (finishes J n h b c (inr z))
+      go (inl (inr (inr (inr x)))) = elim x [ ]
+      go (inr x) = elim x [ ]
 
 module _ (J : Judge) (n h : ℕ) (b : Built) (c : Counts) where
   at-memories : {p : Position} {ws : List Word} → ListFound J memories (ask after_memories ∷ []) n h b c ws → Remembered J h b c (sign memory_word p ∷ ws)
@@ -154,6 +161,8 @@ module _ (J : Judge) (n h : ℕ) (b : Built) (c : Counts) where
       go (inl (inr (inl (at_sign_lem p vs z)))) = memories-none J n h b c (at-terminals J n h b c (D.a-list J terminals n (ask after_terminals ∷ []) h b c vs (weaken z.1 z.2)))
       go (inl (inr (inr (inl z)))) = memories-none J n h b c (terminals-none J n h b c (finishes J n h b c (inl z)))
       go (inl (inr (inr (inr (inl z))))) = memories-none J n h b c (terminals-none J n h b c (finishes J n h b c (inr z)))
+      go (inl (inr (inr (inr (inr x))))) = elim x [ ]
+      go (inr x) = elim x [ ]
 
 -- ---- The whole.
 
@@ -209,3 +218,5 @@ module _ (J : Judge) (n : ℕ) where
       go (inl (inl (at_sign_lem p vs z))) = registers-first (D.a-list J registers n (ask after_registers ∷ []) J.deep nothing_built no_counts vs (weaken z.1 z.2))
       go (inl (inr (inl (at_sign_lem p vs z)))) = memories-first (D.a-list J memories n (ask after_memories ∷ []) J.deep nothing_built no_counts vs (weaken z.1 z.2))
       go (inl (inr (inr (inl (at_sign_lem p vs z))))) = terminals-first (D.a-list J terminals n (ask after_terminals ∷ []) J.deep nothing_built no_counts vs (weaken z.1 z.2))
+      go (inl (inr (inr (inr x)))) = elim x [ ]
+      go (inr x) = elim x [ ]

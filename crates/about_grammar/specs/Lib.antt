@@ -71,10 +71,7 @@ pub mod Sound
 -- All of it in one place, and worked examples.
 pub mod ProperWords
 pub mod FirstFault
-pub mod Chains
 pub mod Tens
-pub mod TenPlaces
-pub mod NoTens
 pub mod Exact
 pub mod Examples
 pub mod ExamplesDeeper

@@ -97,7 +97,7 @@ module _ {C : Ceiling} {h : ℕ} {n : Name} {p : Position} where
         record {
           counts = back d;
           grown = omega arith;
-          comes = opened (omega arith) ⊳ before m (λ ws _. refl) (ends-in (at_last (shut-first (omega arith))) (λ ws f. f) (leaving (enter open_bracket (ask second ∷ []) ∷ []) make_one refl (λ _. refl)));
+          comes = opened (omega arith) ⊳ before m (λ ws _. refl) (ends-in {ks = open_bracket ∷ []} (at_last (shut-first (omega arith))) (λ ws f. f) (leaving (enter open_bracket (ask second ∷ []) ∷ []) make_one refl (λ _. refl)));
         };
   }
 

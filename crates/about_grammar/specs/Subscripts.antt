@@ -2,7 +2,7 @@
 use Rattle.std.specs.Prelude.{Bool, false, List, [], ◌∷◌, ◌++◌, map, ◌≡◌, ℕ, ◌≤◌, eqb, drop, take}
 use Rattle.std.proofs.Common.{◌∙◌, arith}
 use Rattle.std.proofs.Math.Path.{ap, sym, refl}
-use Rattle.language.specs.Alternatives.{always, closing, followed, counts, kept}
+use Rattle.language.specs.Alternatives.{always, closing, followed, kept}
 use Rattle.language.specs.Building.{Built, keep_word, make_constant, make_part, make_word_part}
 use Rattle.language.specs.CountedWords.{counted_expression}
 use Rattle.language.specs.Declaring.{tree_steps}

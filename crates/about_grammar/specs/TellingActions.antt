@@ -148,7 +148,7 @@ module _ {s : Section} where
   act-case {vs = vs} {ws} p q x y z = record {
     takes = λ t i. by (λ K n.
         case-word s ⊳ before (at (whole-expression x) (make begin_list ∷ plain_word do_word ∷ make begin_list ∷ ask (action_of s) ∷ ask (more_of s) ∷ make make_arm ∷ ask (arms_of s) ∷ closing end_case_word ∷ make make_choose ∷ ask t ∷ K) (suc n)) (λ xs _. begun xs)
-        (starts-as building (before (ends-in (at y.takes (closing end_case_word ∷ make make_choose ∷ ask t ∷ K) (suc n)) (λ xs f. follows-right (do_word ∷ []) after_list xs f) (asking (λ xs f. follows-left (do_word ∷ []) after_list xs f) (no-arms s))) (λ xs _. refl)
+        (starts-as building (before {ks = (do_word ∷ []) ++ after_list} (ends-in (at y.takes (closing end_case_word ∷ make make_choose ∷ ask t ∷ K) (suc n)) (λ xs f. follows-right (do_word ∷ []) after_list xs f) (asking (λ xs f. follows-left (do_word ∷ []) after_list xs f) (no-arms s))) (λ xs _. refl)
         (closing-word ⊳ starts-as building (at (z.takes t i) K n)))));
   }
     where

@@ -95,7 +95,7 @@ one-dimension {us} {f} p q x z = record {
   takes = by (λ K n. open-dimensions ⊳ before (at z (ask dimension_rest ∷ K) (suc n)) (λ ws _. refl) (then-move (at_last shut_row) building));
   plainly = by (λ K n.
       open-terminal ⊳ before (at z (ask terminal_rest ∷ K) (suc n)) (λ ws _. refl)
-      (ends-in (then-move (at_last shut-terminal-row) building) (λ ws h. follows-within (equal_sign ∷ []) (open_bracket ∷ equal_sign ∷ []) refl ws h)
+      (ends-in {ks = equal_sign ∷ []} (then-move (at_last shut-terminal-row) building) (λ ws h. follows-within (equal_sign ∷ []) (open_bracket ∷ equal_sign ∷ []) refl ws h)
       (asking (λ ws h. follows-within (equal_sign ∷ []) (open_bracket ∷ equal_sign ∷ []) refl ws h) (leaving (kept equal_sign (ask function_of ∷ []) ∷ []) make_plain refl))));
   with-function = λ _ o K n.
       respelt (ap (λ (l : List Word). sign open_bracket p ∷ l) (sym (append_assoc us (sign close_bracket q ∷ []) (sign equal_sign o ∷ []))))

@@ -204,7 +204,7 @@ ref-part o s k q r x y = behind (by (λ K n. opened ⊳ then-move part-ends buil
 module _ {us : List Word} {f : Marks} where
   pub ref-one : (o s : Position) → Inside us f → Behind (sign open_bracket o ∷ (us ++ sign close_bracket s ∷ [])) (λ n ms. plain n ∷ plain (suc n) ∷ f (suc n) (plain n ∷ ms))
   unfolding rule_of among
-  ref-one o s x = behind (by (λ K n. opened ⊳ before (at (first x) K (suc n)) (λ ws _. refl) (ends-in (at_last shut-first) (λ ws h. h) (leaving (enter open_bracket (ask second ∷ []) ∷ []) make_one refl))))
+  ref-one o s x = behind (by (λ K n. opened ⊳ before (at (first x) K (suc n)) (λ ws _. refl) (ends-in {ks = open_bracket ∷ []} (at_last shut-first) (λ ws h. h) (leaving (enter open_bracket (ask second ∷ []) ∷ []) make_one refl))))
 
   pub ref-word-part : (o q r s k l : Position) (a b : Constant) → Inside us f
       → Behind (sign open_bracket o ∷ (us ++ sign comma k ∷ W.constant a q ∷ sign colon l ∷ W.constant b r ∷ sign close_bracket s ∷ [])) (λ n ms. plain n ∷ plain (suc n) ∷ f (suc n) (plain (suc n) ∷ plain (suc n) ∷ plain (suc n) ∷ plain (suc n) ∷ plain n ∷ ms))

@@ -7,14 +7,14 @@ use Rattle.language.specs.Machine.{Ask, Counts, Reading, ask, bears, counted, fe
 use Rattle.language.specs.SectionWays.{rule_of}
 use Rattle.language.specs.BuildSteps.{Step}
 use Rattle.language.specs.Words.{Position, Word, kind_of, word_at}
-use Rattle.about_grammar.specs.Calm.{calm, calm-below, calm-top, counts, top_waits, waits}
+use Rattle.about_grammar.specs.Calm.{calm, calm-below, calm-top, top_waits, waits}
 use Rattle.about_grammar.specs.Ceilingless.{Passes, all, by-counting, by-ease, by-kept, by-leaving, by-make, by_way, by_word}
 use Rattle.about_grammar.specs.Courses.{Stack}
 use Rattle.about_grammar.specs.Following.{Follows, among}
 use Rattle.about_grammar.specs.Places.{Within}
 use Rattle.about_grammar.specs.Stacks.{choose-none, kinds_of}
 use Rattle.about_grammar.specs.Stepping.{settled-begun, settled_counts}
-use Rattle.about_grammar.specs.Tale.{waiting, waits_for}
+use Rattle.about_grammar.specs.Tale.{waits_for}
 use Rattle.about_grammar.specs.TellingTerms.{none-next}
 
 abbrev Passing : ℕ → Stack → Reading Built → List Word → Position → Type 0

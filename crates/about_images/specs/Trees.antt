@@ -1,5 +1,5 @@
 -- Every record of a tree that is judged fine is sane, and a tree has few records for what it counts and is no deeper than that allows.
-use Rattle.std.specs.Prelude.{Bool, true, false, cond, ◌||◌, ◌≡◌, refl, ℕ, zero, suc, max, ◌+◌, ◌*◌, ◌/◌, ◌%◌, ◌^◌, ◌≤◌, ◌<◌, eqb, leb, ltb, length}
+use Rattle.std.specs.Prelude.{Bool, true, false, cond, ◌||◌, ◌≡◌, refl, ℕ, zero, suc, max, ◌+◌, ◌*◌, ◌/◌, ◌%◌, ◌^◌, ◌≤◌, ◌<◌, eqb, leb, ltb}
 use Rattle.std.proofs.Common.{true≢false, sym, subst, ◌∙◌, mod-lt, suc-mul, arith, eqb-true, leb-false, leb-true, ltb-false, ltb-true, ne_eqb, pow_mono}
 use Rattle.std.proofs.lemmas.Bool.{eqb-false}
 use Rattle.language.specs.Canonical.{node_count}

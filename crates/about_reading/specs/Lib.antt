@@ -8,8 +8,3 @@ pub mod GrammarStands
 pub mod WordsStand
 -- ---- How words are spelled, and that scanning takes the longest.
 pub mod Spelling
-pub mod SpelledBytes
-pub mod SpelledSymbols
-pub mod SpelledConstants
-pub mod LongestMatch
-pub mod SpellingExamples

@@ -1,1 +1,2 @@
 // What reading accepts and refuses: theorems over the definitions alone.
+#![tactic(auto)]

@@ -1,6 +1,5 @@
 -- The records of a text count no more than its words do, left sides and states' values apart. Assumes nothing.
-use Rattle.std.specs.Prelude.{List, [], ◌∷◌, ◌++◌, map, ◌≡◌, ℕ, zero, suc, ◌+◌, ◌-◌, ◌≤◌}
-use Rattle.std.proofs.Math.Option.{none}
+use Rattle.std.specs.Prelude.{List, [], ◌∷◌, ◌++◌, map, ◌≡◌, ℕ, zero, suc, ◌+◌, ◌≤◌}
 use Rattle.std.proofs.Math.Path.{refl}
 use native.Mathlib.Omega.{arith}
 use Rattle.language.specs.Canonical.{action_count, left_count, node_count, total}
@@ -83,17 +82,17 @@ module _ (s : Scope) where
   counted base (T.whole n p) = let z = facility-count (meaning s n) D.whole (λ k. refl) in omega (arith, z)
   counted base (T.one n p e) = one-after (nodes_of s base e) _ (counted base e) (facility-count (meaning s n) _ (λ k. refl))
   counted base (T.part n p x) = let z = facility-count (meaning s n) (λ f. D.part f (B.bounds_of x)) (λ k. refl) in omega (arith, z)
-  counted base (T.two n p e g) = two-after (nodes_of s base e) (nodes_of s _ g) _ (counted base e) (counted _ g) (facility-count (meaning s n) _ (λ k. refl))
+  counted base (T.two n p e g) = two-after (nodes_of s base e) (nodes_of s _ g) _ (counted base e) (counted (base + expression_size e) g) (facility-count (meaning s n) _ (λ k. refl))
   counted base (T.word_part n p e x) = one-after (nodes_of s base e) _ (counted base e) (facility-count (meaning s n) _ (λ k. refl))
-  counted base (T.binary k p e g) = two-after (nodes_of s base e) (nodes_of s _ g) _ (counted base e) (counted _ g) (omega arith)
+  counted base (T.binary k p e g) = two-after (nodes_of s base e) (nodes_of s _ g) _ (counted base e) (counted (base + expression_size e) g) (omega arith)
   counted base (T.prefix k p e) = one-after (nodes_of s base e) _ (counted base e) (omega arith)
   counted base (T.cut k p e c) = one-after (nodes_of s base e) _ (counted base e) (omega arith)
-  counted base (T.choice p e g) = two-after (nodes_of s base e) (nodes_of s _ g) _ (counted base e) (counted _ g) (omega arith)
+  counted base (T.choice p e g) = two-after (nodes_of s base e) (nodes_of s _ g) _ (counted base e) (counted (base + expression_size e) g) (omega arith)
   counted base (T.first_arm e) = arm-after (counted base e)
     where
       arm-after : nodes (nodes_of s base e) ≤ counted_expression e → nodes (nodes_of s base e ++ B.noted (D.first_arm (B.last_of base (expression_size e))) D.nowhere ∷ []) ≤ counted_expression e
       arm-after h = let a : nodes (nodes_of s base e ++ B.noted (D.first_arm (B.last_of base (expression_size e))) D.nowhere ∷ []) ≡ nodes (nodes_of s base e) + (0 + 0) = nodes-append (nodes_of s base e) _ in omega (arith, a)
-  counted base (T.next_arm e g) = two-arms (nodes_of s base e) (nodes_of s _ g) _ (counted base e) (counted _ g) refl
+  counted base (T.next_arm e g) = two-arms (nodes_of s base e) (nodes_of s _ g) _ (counted base e) (counted (base + expression_size e) g) refl
 
   -- A left side counts what its subscripts do, and itself.
   reference-count : (e : Expression) → ReferenceTidy e → counted_expression e ≡ suc (counted_reference e)

@@ -8,19 +8,8 @@ pub mod FaultsAlike
 pub mod HasLength
 pub mod WithinBounds
 pub mod JudgedFine
-pub mod LongIsFine
-pub mod OperatorsLong
-pub mod FineIsLong
-pub mod LengthsJudged
-pub mod LengthExamples
 -- ---- Which lists of actions keep the rules, by a relation of its own.
 pub mod ActionsRight
-pub mod LeftSides
-pub mod RightIsFine
-pub mod FineIsRight
-pub mod ActionsJudged
-pub mod LengthsWhole
-pub mod ActionExamples
 -- ---- What the grammar and the words give a tree.
 pub mod Tidy
 pub mod TidyTexts

@@ -235,6 +235,12 @@ module _ (d : Description) (p : Places) (s : Scope) (in_state : Bool) (works : �
   simple-rest D.return n i arms returns e j = faulty-fine (first-arm n i D.return e j)
   simple-rest D.Action.broken n i actions means-nothing e j = let y = plain-fine n i D.Action.broken e (first_fine n i D.Action.broken e j) in (y.rest, y.rest-fine)
   simple-rest D.Action.broken n i arms means-nothing e j = faulty-fine (first-arm n i D.Action.broken e j)
+  simple-rest (D.store _ _ _) n i t {w = w} x6 e j = elim x6 [ ]
+  simple-rest (D.store_pair _ _ _ _) n i t {w = w} x8 e j = elim x8 [ ]
+  simple-rest (D.set _) n i t {w = w} x6 e j = elim x6 [ ]
+  simple-rest (D.when _ _) n i t {w = w} x8 e j = elim x8 [ ]
+  simple-rest (D.choose _ _ _) n i t {w = w} x10 e j = elim x10 [ ]
+  simple-rest (D.arm _) n i t {w = w} x9 e j = elim x9 [ ]
 
   simply : (a : Actions) → Follows a → (base i : ℕ) (t : Shape) (b : Action) {w : Worth} → Rootless b → action_at d i ≡ b → ActionsTidy a → Stand d base (nodes_in s base a) → StandActions d (suc i) (actions_of s base a)
       → base + expressions_in a ≤ length d.expressions → judged (suc (actions_in a)) i t ≡ fine w → Ends base (base + expressions_in a) (run_roots d (suc (actions_in a)) i)

@@ -8,7 +8,6 @@ use Rattle.std.proofs.Common.{◌∙◌}
 use native.Mathlib.Omega.{arith}
 use Prim.Native.Nat.{ℕ, zero, suc, ◌+◌, ◌-◌, ◌<◌}
 use borrow.Author.Tests.{eq-eqb, lt-ltb}
-use Rattle.language.specs.ActionRules.{actions}
 use Rattle.language.specs.Describe as B
 use Rattle.language.specs.Describe.{NotedAction, expression_size, last_of, nodes_of}
 use Rattle.language.specs.Description as D

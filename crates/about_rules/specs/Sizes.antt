@@ -47,14 +47,14 @@ module _ (s : Scope) where
   nodes-size base (T.whole n p) = refl
   nodes-size base (T.one n p e) = length-append (nodes_of s base e) _ ∙ ap (λ (n : ℕ). n + 1) (nodes-size base e)
   nodes-size base (T.part n p x) = refl
-  nodes-size base (T.two n p e g) = two-sizes (nodes_of s base e) (nodes_of s _ g) _ (nodes-size base e) (nodes-size _ g)
+  nodes-size base (T.two n p e g) = two-sizes (nodes_of s base e) (nodes_of s _ g) _ (nodes-size base e) (nodes-size (base + expression_size e) g)
   nodes-size base (T.word_part n p e x) = length-append (nodes_of s base e) _ ∙ ap (λ (n : ℕ). n + 1) (nodes-size base e)
-  nodes-size base (T.binary k p e g) = two-sizes (nodes_of s base e) (nodes_of s _ g) _ (nodes-size base e) (nodes-size _ g)
+  nodes-size base (T.binary k p e g) = two-sizes (nodes_of s base e) (nodes_of s _ g) _ (nodes-size base e) (nodes-size (base + expression_size e) g)
   nodes-size base (T.prefix k p e) = length-append (nodes_of s base e) _ ∙ ap (λ (n : ℕ). n + 1) (nodes-size base e)
   nodes-size base (T.cut k p e c) = length-append (nodes_of s base e) _ ∙ ap (λ (n : ℕ). n + 1) (nodes-size base e)
-  nodes-size base (T.choice p e g) = two-sizes (nodes_of s base e) (nodes_of s _ g) _ (nodes-size base e) (nodes-size _ g)
+  nodes-size base (T.choice p e g) = two-sizes (nodes_of s base e) (nodes_of s _ g) _ (nodes-size base e) (nodes-size (base + expression_size e) g)
   nodes-size base (T.first_arm e) = length-append (nodes_of s base e) _ ∙ ap (λ (n : ℕ). n + 1) (nodes-size base e)
-  nodes-size base (T.next_arm e g) = two-sizes (nodes_of s base e) (nodes_of s _ g) _ (nodes-size base e) (nodes-size _ g)
+  nodes-size base (T.next_arm e g) = two-sizes (nodes_of s base e) (nodes_of s _ g) _ (nodes-size base e) (nodes-size (base + expression_size e) g)
 
   pub left-size : (base : ℕ) (l : Left) → length (left_nodes s base l) ≡ left_size l
   left-size base (T.single e) = nodes-size base e

@@ -1,5 +1,5 @@
 -- What the words of a text give to its tree: constants that fit, names that are right, declarations of the form that their section asks for. Assumes nothing.
-use Rattle.std.specs.Prelude.{true, List, [], ◌∷◌, ◌++◌, ◌≡◌, ℕ, ◌+◌}
+use Rattle.std.specs.Prelude.{true, List, [], ◌∷◌, ◌++◌, ◌≡◌, ℕ}
 use Rattle.std.proofs.Math.Option.{Option, none, some}
 use Rattle.language.specs.Canonical.{name_right, rank_of}
 use Rattle.language.specs.Image.{ConstantRight, WordsRight}

@@ -1,1 +1,3 @@
 // What a legal text gives is in legal form: definitions and theorems alone.
+
+#![tactic(auto)]

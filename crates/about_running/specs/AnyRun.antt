@@ -30,6 +30,7 @@ module _ (d : Description) (L : Legal d) where
       go : ((t : StoreWords) (q : Record) → Sound d t q → Runs d t q is) → (o : Outcome) → step d s r i ≡ o → Well d o → Runs d s r (i ∷ is)
       go on (completed t q n) e (completes z) = cycled h e (on t q z)
       go on (Outcome.stopped n) e stops = stopped h e (on s r h)
+      go on (Outcome.stuck _) e x3 = elim x3 [ ]
 
 pub any-run : (image : List ℕ) (is : List StoreWords) → passes image ≡ true → AllFit (decode image) is → Runs (decode image) (open_words (decode image)) (open_record (decode image)) is
 any-run image is p k = sound-runs (decode image) (legal-image image p) is (open_words (decode image)) (open_record (decode image)) (opens-sound image p) k

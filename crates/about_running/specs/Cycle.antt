@@ -16,7 +16,7 @@ use Rattle.language.specs.Step.{Outcome, Record, after_actions, completed, finis
 use Rattle.language.specs.Ceilings.{last_cycle}
 use Rattle.language.specs.declared.stops.Stop.{Stop}
 use Rattle.language.specs.declared.stops.Stop.TheVariants.{LastCycleReached}
-use Rattle.language.specs.Store.{Held, StoreWords, begin, begun, head_of, held, inputs_of, is_input, land_all, numbers, put_part, put_parts, set_word, word_of}
+use Rattle.language.specs.Store.{Held, StoreWords, begin, begun, head_of, inputs_of, is_input, land_all, numbers, put_part, put_parts, set_word, word_of}
 use Rattle.language.specs.Tree.{Kind, computed, input, memory, plain, register, sequencing}
 use Rattle.about_running.specs.Acts.{Good, state-acts}
 use Rattle.about_running.specs.Executes as E
@@ -164,6 +164,7 @@ module _ (d : Description) (L : Legal d) where
         after : (x : Ran Held) → Good (numbers d) d (Inv d) (numbers_keep d) L x → Well d (after_actions d r x)
         after (went c) (E.good i g q) = finish-well s r c h i g q
         after (Ran.stopped n) E.stops_so = stops
+        after (A.stuck _) x3 = elim x3 [ ]
 
         go : (b : Bool) → Well d (cond b (Outcome.stopped LastCycleReached) (after_actions d r run))
         go true = stops

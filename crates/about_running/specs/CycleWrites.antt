@@ -313,3 +313,5 @@ module _ (d : Description) (s : StoreWords) (r : Record) (ins t : StoreWords) (q
       where
         go : (y : Ran Noted) → executed d s r ins ≡ y → Alike (numbers d) (noting d) d (Stands d begins) (joins d begins) (went did.done) y → Wrote
         go (went c) k (go_on h) = record { noted = c; executed-so = k; words-so = all-put c h.stores; places-in = all_in c h.stores }
+        go (Ran.stopped _) k x3 = elim x3 [ ]
+        go (Ran.stuck _) k x3 = elim x3 [ ]

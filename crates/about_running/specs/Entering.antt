@@ -1,7 +1,7 @@
 -- The sequencing register takes the value of the state entered: what that asks of the value, and what it leaves. Assumes nothing.
 use Rattle.std.specs.Prelude.{Bool, true, false, cond, ◌≡◌, refl, ℕ, ◌^◌, ◌<◌, eqb}
 use Rattle.std.proofs.Math.Option.{Option, none, some}
-use Rattle.std.proofs.Common.{ap, sym, ◌∙◌, arith}
+use Rattle.std.proofs.Common.{ap, arith}
 use borrow.Author.Tests.{eq-eqb, lt-ltb}
 use Rattle.language.specs.Description.{Description, constant_in, facility_at, node_at, number_in, word_length}
 use Rattle.language.specs.Meaning.{fitting, sides_differ, too_large}

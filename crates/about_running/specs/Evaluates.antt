@@ -1,15 +1,15 @@
 -- Never stuck, for expressions: a record judged fine whose tree stands in order gives a value of the length judged, or stop S1. Assumes nothing.
-use Rattle.std.specs.Prelude.{Bool, ◌≡◌, leb, ltb, length}
+use Rattle.std.specs.Prelude.{Bool, ◌≡◌, length}
 use Rattle.std.proofs.Math.Bool.{true, false, cond}
-use Rattle.std.proofs.Math.Option.{none, some}
+use Rattle.std.proofs.Math.Option.{some}
 use Rattle.std.proofs.Math.Path.{refl, sym, ap, subst}
 use Rattle.std.proofs.Common.{◌∙◌, mod-lt, arith, pow_pos}
 use Prim.Native.Nat.{ℕ, zero, suc, ◌+◌, ◌-◌, ◌^◌, ◌≤◌, ◌<◌}
-use borrow.Author.Tests.{eq-eqb, eqb-false, eqb-true, lt-ltb}
+use borrow.Author.Tests.{eq-eqb, eqb-true, lt-ltb}
 use Rattle.std.proofs.Math.Dec.{eqb}
 use Rattle.language.specs.Description as D
 use Rattle.language.specs.Description.{Description, Facility, Node, NodePlaces, Places, facility_at, is_computed, node_at, node_place, word_length}
-use Rattle.language.specs.Expressions.{choice_judged, evenly, judge_at, judge_below, judge_node, judge_step, longest_selector, not_before, operand_at, own_work, proper_at, selects}
+use Rattle.language.specs.Expressions.{choice_judged, evenly, judge_at, judge_below, judge_node, judge_step, not_before, operand_at, own_work, proper_at, selects}
 use Rattle.language.specs.Judging.{Judged, Worth, arm_list, fine, proper, refuse, sized, worth}
 use Rattle.language.specs.Meaning as M
 use Rattle.language.specs.Meaning.{Answer, Located, Place, Stores, Stuck, after, arm_back, arm_number, arm_worth, chosen, eval_at, eval_below, eval_node, eval_step, fitting, is, operand, part_of_value, read, stops, worth_or, wrong_count, wrong_length}
@@ -86,6 +86,7 @@ module _ {X : Type 0} (S : Stores X) (d : Description) (p : Places) (x : X) (loa
       read-gives : (l : ℕ) (loc : Located) {w : Worth} → f < known → computed_work d p terminals f (facility_at d f) ≡ fine w
           → Finds (facility_at d f) f l loc → Gives l (read S d x EV (facility_at d f) loc)
       read-gives l (Located.stops m) h e outside = stopped
+      read-gives l (Located.stuck _) {w = w} h e x5 = elim x5 [ ]
       read-gives l (Located.at q) {w} h e (finds {w = i} {a = a} i1 i2) = go (is_computed (facility_at d f).kind) refl e
         where
           go : (c : Bool) → is_computed (facility_at d f).kind ≡ c → cond c (terminals f) (worth 1 0 0) ≡ fine w

@@ -9,7 +9,7 @@ use Prim.Native.Nat.{ℕ, ◌+◌, ◌*◌, ◌/◌, ◌%◌, ◌^◌, ◌≤◌
 use borrow.Author.Tests.{eq-eqb, eqb-true, lt-ltb, ltb-false, ltb-true}
 use Rattle.std.proofs.Math.Dec.{eqb, ltb}
 use Rattle.std.proofs.Math.ListN.{get_or-eq_default, length}
-use Rattle.language.specs.Acting.{Doing, Ran, landing, on_place, on_value, put_all, setting, side, side_of, store_to, store_to_pair, storing, to_state, went, with_store, write}
+use Rattle.language.specs.Acting.{Doing, Ran, landing, on_place, on_value, put_all, setting, side, side_of, store_to, store_to_pair, storing, went, with_store, write}
 use Rattle.language.specs.ActionRules as J
 use Rattle.language.specs.ActionRules.{kind_at, simple_judged}
 use Rattle.language.specs.Description as D
@@ -17,7 +17,7 @@ use Rattle.language.specs.Description.{Action, Description, Node, Places, facili
 use Rattle.language.specs.Expressions.{expression_at, judge_at, judge_below, left_at, left_of, own_work, terminal_below}
 use Rattle.language.specs.Judging.{Judged, Worth, faulty, fine, refuse, unless, worth}
 use Rattle.language.specs.Kinds.{delayed_sign, equal_sign}
-use Rattle.language.specs.Meaning.{Answer, Located, Place, Stores, Write, eval_at, eval_below, is, stops}
+use Rattle.language.specs.Meaning.{Answer, Located, Place, Stores, Write, eval_at, eval_below}
 use Rattle.language.specs.Order.{just_before, start_at, start_below, start_node}
 use Rattle.language.specs.ReferenceRules.{subscript_worth}
 use Rattle.language.specs.References as R
@@ -147,6 +147,7 @@ module _ {X : Type 0} (S : Stores X) (d : Description) (p : Places) (Inv : X →
       where
         found : (r : Reference) (loc : Located) (l : ℕ) → r.facility < length d.facilities → reference_of (node_at d n) ≡ some r → Finds (facility_at d r.facility) r.facility l loc → Names l loc
         found r (Located.stops m) l h q outside = outside-so
+        found r (Located.stuck _) l h q x5 = elim x5 [ ]
         found r (Located.at y) l h q (finds i1 i2) = names (record { facility-in = h; word-in = i1; part_in = i2 }) refl (rw q)
 
         go : (x' : Option Reference) → reference_of (node_at d n) ≡ x' → left_of d p terminals all n x' ≡ fine w → Names w.length (side_of S d x' x n)

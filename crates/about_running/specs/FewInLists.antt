@@ -16,7 +16,7 @@ use Rattle.language.specs.Description as D
 use Rattle.language.specs.Description.{Action, Description, Places, Run, action_at, action_place, operation_at}
 use Rattle.language.specs.Expressions.{own_work, selects}
 use Rattle.language.specs.Judging.{Judged, Worth, fine, given_both, refuse, worth}
-use Rattle.language.specs.Meaning.{Stores, arm_number, decides, eval_at, is, no_operation, runs_over}
+use Rattle.language.specs.Meaning.{Stores, arm_number, decides, eval_at, no_operation, runs_over}
 use Rattle.language.specs.Recursion.{below-ge, below-lt}
 use Rattle.language.specs.declared.refusals.Refusal.TheVariants.{BadLength, NoContinuation}
 use Rattle.language.specs.Words.{Position}

@@ -7,7 +7,7 @@ use Rattle.std.proofs.Common.{ap, arith}
 use borrow.Author.Tests.{eqb-false, eqb-true, le-leb, leb-true, ltb-true, eq-eqb, ne_eqb, lt-ltb}
 use Rattle.language.specs.Description.{Bounds, Description, Facility, NodePlaces, Places, facility_at, from_first, in_bounds, span_of, word_count, word_length}
 use Rattle.language.specs.Judging.{Judged, Worth, faults_of, fine, refuse, unless}
-use Rattle.language.specs.Meaning.{Answer, Located, constant_part, is, located, place, place_of, subscript, up_to_longest}
+use Rattle.language.specs.Meaning.{Answer, Located, constant_part, located, place, place_of, subscript, up_to_longest}
 use Rattle.language.specs.ReferenceRules.{bound_faults, computed_work, counted_right, counted_wrong, direction_faults, end_faults, reference_judged, subscript_faults, subscript_worth, subscripts_judged}
 use Rattle.language.specs.References.{Reference, Subscripts, one, part, right_count, same_direction, taken_length, two, whole, word_part}
 use Rattle.language.specs.declared.refusals.Refusal.TheVariants.{BadName, BadSubscript}

@@ -1,5 +1,5 @@
 -- What is judged fine has fine parts, and its own rules hold: the combinators of judging, read backwards. Assumes nothing.
-use Rattle.std.specs.Prelude.{Bool, true, false, cond, List, [], ◌∷◌, ◌++◌, ◌≡◌, refl, ℕ, ◌+◌, ◌≤◌, ◌<◌, eqb, leb, ltb}
+use Rattle.std.specs.Prelude.{Bool, true, false, cond, List, [], ◌∷◌, ◌++◌, ◌≡◌, refl, ℕ, ◌≤◌, ◌<◌, eqb, leb, ltb}
 use Rattle.std.proofs.Common.{arith, eqb-true, leb-true, ltb-true}
 use Rattle.std.proofs.lemmas.Bool.{eqb-false}
 use Rattle.language.specs.Judging.{Judged, Worth, arm_list, faulty, fine, given, given_both, or_faulty, proper, refuse, sized, unless, worth}

@@ -9,7 +9,7 @@ use Rattle.language.specs.Description.{Description, Facility, facility_at, no_fa
 use Rattle.language.specs.Meaning.{Stores, Write}
 use Rattle.language.specs.Step.{Record, completed, into, nothing_done, set_register, step}
 use Rattle.about_running.specs.Entering.{took}
-use Rattle.language.specs.Store.{Held, StoreWords, begin, begun, head_of, held, is_input, land_all, load_part, numbers, put_part, put_parts, set_word, word_of}
+use Rattle.language.specs.Store.{Held, StoreWords, begin, begun, head_of, held, is_input, land_all, load_part, numbers, put_part, put_parts, word_of}
 use Rattle.language.specs.Tree.{Kind, computed, input, memory, plain, register, sequencing}
 use Rattle.about_running.specs.BitsKept.{NoneHas, NoneHasAny, bit_of, land-keeps, other-facility, puts-keep}
 use Rattle.about_running.specs.LandsLast.{Did, lands_last}

@@ -1,7 +1,6 @@
 -- Delayed stores take the values standing when executed and land at the end of the cycle: none sees another, and A <- B, B <- A swaps. Assumes nothing.
 use Rattle.std.proofs.Math.Bool.{true}
 use Rattle.std.specs.Prelude.{false, List, [], ◌∷◌, ◌++◌, ◌≡◌, get_or, length}
-use Rattle.std.proofs.Math.Option.{none}
 use Rattle.std.proofs.Math.Path.{refl}
 use Rattle.std.proofs.Common.{sym, ap, ◌∙◌}
 use Rattle.std.proofs.Math.Nat.{div-eq_of_lt, mod-eq_of_lt, div-one, mod-one}

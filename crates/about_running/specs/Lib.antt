@@ -34,16 +34,9 @@ pub mod AnyRun
 pub mod StuckReached
 -- ---- What a cycle comes to, told from 01's sentences: there is one account, and the definition agrees with it.
 pub mod Account
-pub mod OneAccount
-pub mod MetThere
-pub mod ValuesAccounted
-pub mod ActionsAccounted
 -- ---- 01's conditions for a stop, of what is executed; every stop in 01's order.
 pub mod Conditionals
 pub mod Conditions
-pub mod AccountExamples
-pub mod Decided
-pub mod Counted
 pub mod StopOrder
 -- ---- Two kinds of store that stand for each other go through every list of actions alike, whatever the image.
 pub mod PlaceFound

@@ -1,12 +1,12 @@
 -- Never stuck, for lists of actions and their conditionals. Assumes nothing.
-use Rattle.std.specs.Prelude.{Bool, cond, eqb, leb, ltb, length}
+use Rattle.std.specs.Prelude.{Bool, cond, eqb, leb, length}
 use Rattle.std.proofs.Math.Bool.{true, false}
-use Rattle.std.proofs.Math.Option.{none, some}
+use Rattle.std.proofs.Math.Option.{some}
 use Rattle.std.proofs.Math.Path.{◌≡◌, refl, sym, ap, subst}
 use Rattle.std.proofs.Common.{◌∙◌}
 use native.Mathlib.Omega.{arith}
-use Prim.Native.Nat.{ℕ, zero, suc, ◌+◌, ◌-◌, ◌^◌, ◌≤◌, ◌<◌}
-use borrow.Author.Tests.{eq-eqb, eqb-false, eqb-true, le-leb, leb-true, lt-ltb}
+use Prim.Native.Nat.{ℕ, zero, suc, ◌+◌, ◌-◌, ◌≤◌, ◌<◌}
+use borrow.Author.Tests.{eq-eqb, eqb-true, le-leb, leb-true, lt-ltb}
 use Rattle.std.proofs.Math.Dec.{eqb-suc-zero}
 use Rattle.language.specs.Acting as A
 use Rattle.language.specs.Acting.{Doing, Ran, onward, went}
@@ -14,9 +14,9 @@ use Rattle.language.specs.ActionRules as J
 use Rattle.language.specs.ActionRules.{Shape, actions, arms, simple_judged}
 use Rattle.language.specs.Description as D
 use Rattle.language.specs.Description.{Action, Description, Places, Run, action_at, action_place, facility_at}
-use Rattle.language.specs.Expressions.{expression_at, longest_selector, selects, terminal_below}
+use Rattle.language.specs.Expressions.{expression_at, selects, terminal_below}
 use Rattle.language.specs.Judging.{Judged, Worth, fine, given_both, refuse, worth}
-use Rattle.language.specs.Meaning.{Stores, arm_number, runs_over}
+use Rattle.language.specs.Meaning.{Stores, runs_over}
 use Rattle.about_running.specs.Conditionals.{arm-number, decided, selected}
 use Rattle.language.specs.Recursion.{below-lt}
 use Rattle.about_running.specs.OneAction.{plainly, simple}
@@ -44,6 +44,7 @@ module _ {X : Type 0} (S : Stores X) (d : Description) (p : Places) (Inv : X →
   onward-good : (r : Ran X) (on : Doing X → Ran X) → Good r → ((c : Doing X) → Set c → Good (on c)) → Good (onward r on)
   onward-good (went c) on (E.good h g s) k = k c (h, g, s)
   onward-good (Ran.stopped n) on E.stops_so k = E.stops_so
+  onward-good (A.stuck _) on x3 k = elim x3 [ ]
 
   module _ (in_state : Bool) (works : ℕ → Judged) (perform : ℕ → Doing X → Ran X)
       (performs : (o : ℕ) (w : Worth) (c : Doing X) → works o ≡ fine w → Set c → Good (perform o c)) where
@@ -147,7 +148,7 @@ module _ {X : Type 0} (S : Stores X) (d : Description) (p : Places) (Inv : X →
           let y = held e x (λ v w. both (eqb v.length 1) (eqb w.arms 1)) k in
           let t = both_true (eqb y.condition.length 1) (eqb y.inner.arms 1) y.holds in
           let own : E.Own S d p Inv keeps base terms e = subst (Rooted S d p Inv keeps base terms) q (rooted i) in
-          E.on_value S d p Inv keeps base terms _ (E.right-gives S d p Inv keeps base terms c.store e own y.condition-fine) (λ v lv fv.
+          E.on_value_lem S d p Inv keeps base terms _ (E.right-gives S d p Inv keeps base terms c.store e own y.condition-fine) (λ v lv fv.
           let one : v.length ≡ 1 = lv ∙ eqb-true _ _ t.0 in
           let arms-one : y.inner.arms ≡ 1 = eqb-true _ _ t.1 in
           rw (eq-eqb v.length 1 one) (chosen (eqb v.number 0)
@@ -165,7 +166,7 @@ module _ {X : Type 0} (S : Stores X) (d : Description) (p : Places) (Inv : X →
           let t = both_true (selects y.condition.length n) (eqb y.inner.arms n) y.holds in
           let own : E.Own S d p Inv keeps base terms e = subst (Rooted S d p Inv keeps base terms) q (rooted i) in
           let all : y.inner.arms ≡ n = eqb-true _ _ t.1 in
-          E.on_value S d p Inv keeps base terms _ (E.right-gives S d p Inv keeps base terms c.store e own y.condition-fine) (λ v lv fv.
+          E.on_value_lem S d p Inv keeps base terms _ (E.right-gives S d p Inv keeps base terms c.store e own y.condition-fine) (λ v lv fv.
           let l : v.number < n = rw (selected y.condition.length n t.0) fv in
           let z = arm-number n v.number (omega arith) l in
           rw (decided n y.condition.length v lv (selected y.condition.length n t.0), z.1) (arm-good x (z.0 - 1) c y.fits y.inner-fine (omega (arith, z.2, z.3)) y.rest-fine h))

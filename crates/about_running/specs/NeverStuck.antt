@@ -12,7 +12,7 @@ use Rattle.language.specs.RecordBytes.{marked, record_from, sound}
 use Rattle.language.specs.declared.refusals.Refusal.{Refusal}
 use Rattle.language.specs.declared.refusals.Refusal.TheVariants.{BadStimulus, BufferTooShort, ImageFails, Unsound}
 use Rattle.language.specs.Scan.{same}
-use Rattle.language.specs.Step.{open_record, set_register, state_number, step}
+use Rattle.language.specs.Step.{open_record, set_register, step}
 use Rattle.language.specs.Ceilings.{most_returns}
 use Rattle.language.specs.Store.{StoreWords, from_bytes, inputs_of, narrow, zero_words}
 use Rattle.about_running.specs.Cycle.{Sound, Well, cycle-well, register-set, zeros-below, zeros-length}

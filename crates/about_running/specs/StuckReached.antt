@@ -1,7 +1,6 @@
--- Each way to be stuck is reached, and each at every place where the step has it: by an image that does not pass, from a store of zeroes and the record of opening. Assumes nothing.
-use Rattle.std.specs.Prelude.{false, List, [], ◌∷◌, ◌≡◌, refl, ℕ, length}
+-- Each way to be stuck, at every place where the step has it, and an image for it that does not pass (proofs/StuckReached.antt).
+use Rattle.std.specs.Prelude.{false, List, [], ◌∷◌, ◌≡◌, ℕ, length}
 use Rattle.std.proofs.Math.Option.{Option, none, some}
-use Rattle.language.specs.Computing.{computing}
 use Rattle.language.specs.Decode.{decode}
 use Rattle.language.specs.Description as D
 use Rattle.language.specs.Description.{Action, Facility, Node, bounds}
@@ -28,14 +27,14 @@ pub record Reached (s : Stuck) : Type 0 where
 
 -- ---- Small images: the facilities A, B and so on; one state, P, whose actions are all there are.
 
-unfoldable facility : ℕ → Kind → ℕ → ℕ → Facility
+unfoldable pub facility : ℕ → Kind → ℕ → ℕ → Facility
 facility letter k last root = record { name = letter ∷ []; kind = k; dimensions = 1; words = bounds 0 0; bits = bounds 1 last; expression = root }
 
 -- A register of four bits.
-unfoldable a : Facility
+unfoldable pub a : Facility
 a = facility 65 register 4 0
 
-unfoldable valued : Option ℕ → List Facility → List Node → List Action → List ℕ
+unfoldable pub valued : Option ℕ → List Facility → List Node → List Action → List ℕ
 valued v fs es xs =
     encode (record {
       facilities = fs;
@@ -45,26 +44,26 @@ valued v fs es xs =
       states = record { name = 80 ∷ []; value = v; actions = record { first = 0; count = length xs } } ∷ [];
     })
 
-unfoldable forged : List Facility → List Node → List Action → List ℕ
+unfoldable pub forged : List Facility → List Node → List Action → List ℕ
 forged = valued none
 
 -- A <- e, where e is record 1.
-unfoldable storing : Node → List ℕ
+unfoldable pub storing : Node → List ℕ
 storing e = forged (a ∷ []) (D.whole 0 ∷ e ∷ []) (D.store delayed_sign 0 1 ∷ [])
 
 -- A <- e, where e is record 2, after A.
-unfoldable operating : Node → List ℕ
+unfoldable pub operating : Node → List ℕ
 operating e = forged (a ∷ []) (D.whole 0 ∷ D.whole 0 ∷ e ∷ []) (D.store delayed_sign 0 2 ∷ [])
 
 -- A <- e, where e is record 4, after a constant of one bit, A, and two arms.
-unfoldable choosing : Node → List ℕ
+unfoldable pub choosing : Node → List ℕ
 choosing e = forged (a ∷ []) (D.constant (value 1 1) ∷ D.whole 0 ∷ D.first_arm 1 ∷ D.next_arm 2 1 ∷ e ∷ []) (D.store delayed_sign 1 4 ∷ [])
 
-unfoldable acting : List Action → List ℕ
+unfoldable pub acting : List Action → List ℕ
 acting xs = forged (a ∷ []) (D.whole 0 ∷ []) xs
 
 -- A is the sequencing register, and P, with this value, is entered once more.
-unfoldable sequenced : Option ℕ → List Node → List ℕ
+unfoldable pub sequenced : Option ℕ → List Node → List ℕ
 sequenced v es = valued v (facility 65 sequencing 4 0 ∷ []) es (D.goto 0 ∷ [])
 
 -- ---- Every place.
@@ -233,71 +232,3 @@ forged_for value_absent = sequenced none []
 forged_for value_no_constant = sequenced (some 0) (D.whole 0 ∷ [])
 forged_for value_too_large = sequenced (some 0) (D.constant (value 4 16) ∷ [])
 forged_for value_differs = sequenced (some 0) (D.constant (value 3 0) ∷ [])
-
--- It does not pass, and its first cycle is stuck in that way.
-reached : (w : Place) → (passes (forged_for w) ≡ false) × (first_cycle (forged_for w) ≡ Outcome.stuck (stuck_at w))
-unfolding computing first_cycle facility a valued forged storing operating choosing acting sequenced forged_for
-reached part_not_before = (refl, refl)
-reached arm_as_expression = (refl, refl)
-reached digits_as_expression = (refl, refl)
-reached broken_expression = (refl, refl)
-reached constant_too_large = (refl, refl)
-reached facility_absent = (refl, refl)
-reached subscripts_wrong = (refl, refl)
-reached part_outside = (refl, refl)
-reached word_too_long = (refl, refl)
-reached sum_too_long = (refl, refl)
-reached head_too_long = (refl, refl)
-reached binary_absent = (refl, refl)
-reached prefix_absent = (refl, refl)
-reached cut_absent = (refl, refl)
-reached terminal_differs = (refl, refl)
-reached choice_not_one_bit = (refl, refl)
-reached expression_armless = (refl, refl)
-reached expression_arm_missing = (refl, refl)
-reached side_no_reference = (refl, refl)
-reached sides_unequal = (refl, refl)
-reached not_stored_to = (refl, refl)
-reached set_too_long = (refl, refl)
-reached not_set = (refl, refl)
-reached operation_absent = (refl, refl)
-reached went_nowhere = (refl, refl)
-reached called_nowhere = (refl, refl)
-reached if_not_one_bit = (refl, refl)
-reached if_else_not_one_bit = (refl, refl)
-reached action_armless = (refl, refl)
-reached action_arm_missing = (refl, refl)
-reached conditional_runs_over = (refl, refl)
-reached arm_runs_over = (refl, refl)
-reached arm_as_action = (refl, refl)
-reached broken_action = (refl, refl)
-reached state_absent = (refl, refl)
-reached value_absent = (refl, refl)
-reached value_no_constant = (refl, refl)
-reached value_too_large = (refl, refl)
-reached value_differs = (refl, refl)
-
-pub place-reached : (w : Place) → Reached (stuck_at w)
-place-reached w = let y = reached w in record { image = forged_for w; fails = y.0; gets-stuck = y.1 }
-
--- Every way.
-pub each-reached : (s : Stuck) → Reached s
-each-reached not_before = place-reached part_not_before
-each-reached wrong_record = place-reached arm_as_expression
-each-reached no_arm = place-reached expression_armless
-each-reached missing_arm = place-reached expression_arm_missing
-each-reached no_facility = place-reached facility_absent
-each-reached no_operation = place-reached operation_absent
-each-reached no_state = place-reached went_nowhere
-each-reached no_operator = place-reached binary_absent
-each-reached wrong_subscripts = place-reached subscripts_wrong
-each-reached outside = place-reached part_outside
-each-reached wrong_length = place-reached word_too_long
-each-reached too_large = place-reached constant_too_large
-each-reached wrong_count = place-reached head_too_long
-each-reached length_differs = place-reached terminal_differs
-each-reached not_one_bit = place-reached choice_not_one_bit
-each-reached sides_differ = place-reached sides_unequal
-each-reached not_storable = place-reached not_stored_to
-each-reached runs_over = place-reached conditional_runs_over
-each-reached no_state_value = place-reached value_absent

@@ -12,7 +12,6 @@ use Rattle.language.specs.Expressions.{judge_at, terminal_below, terminal_judged
 use Rattle.language.specs.Judging.{Worth, fine}
 use Rattle.language.specs.Meaning.{Place, Stores, eval_at}
 use Rattle.language.specs.Order.{facility_roots, function_root, start_at, trees_end}
-use Rattle.language.specs.declared.refusals.Refusal.TheVariants.{BadName}
 use Rattle.language.specs.Tree as T
 use Rattle.language.specs.Tree.{Kind}
 use Rattle.about_running.specs.Evaluates.{Terminal, evaluates}

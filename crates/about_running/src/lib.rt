@@ -1,1 +1,3 @@
 // What is proved of the definitions alone.
+
+#![tactic(auto)]

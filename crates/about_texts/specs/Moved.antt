@@ -145,11 +145,11 @@ module _ (place : ℕ → Position) where
   moved i (G.ref-two {n = n} c k {us = us} {vs = vs} a1 a2) =
       lift2 (λ e1 e2. T.two n (place i) e1 e2) (λ e1 e2 d1 d2 q1 q2. simp at-append (G.ref-two (place (suc (suc (suc i) + length us) + length vs)) (place (suc (suc i) + length us)) d1 d2)) (λ e1 e2 q1 q2. rw (q1, q2) refl) (moved (suc (suc i)) a1) (moved (suc (suc (suc i) + length us)) a2)
   moved i (G.ref-two-apart {n = n} c k l {us = us} {vs = vs} a1 a2) =
-      lift2 (λ e1 e2. T.two n (place i) e1 e2) (λ e1 e2 d1 d2 q1 q2. simp at-append (G.ref-two-apart (place (suc (suc (suc (suc i) + length us)) + length vs)) (place (suc (suc i) + length us)) (place (suc (suc (suc i) + length us))) d1 d2)) (λ e1 e2 q1 q2. rw (q1, q2) refl) (moved (suc (suc i)) a1) (moved (suc (suc (suc (suc i) + length us))) a2)
+      lift2 (λ e1 e2. T.two n (place i) e1 e2) (λ e1 e2 d1 d2 q1 q2. rw (at-append place (suc (suc i)) us, at-append place (suc (suc (suc (suc i) + length us))) vs) (G.ref-two-apart (place (suc (suc (suc (suc i) + length us)) + length vs)) (place (suc (suc i) + length us)) (place (suc (suc (suc i) + length us))) d1 d2)) (λ e1 e2 q1 q2. rw (q1, q2) refl) (moved (suc (suc i)) a1) (moved (suc (suc (suc (suc i) + length us))) a2)
   moved i (G.ref-word-part {n = n} c k l {us = us} {x = x} {y = y} a1) =
       lift1 (λ e1. T.word_part n (place i) e1 (N.pair_of x (place (suc (suc (suc i) + length us))) y (place (suc (suc (suc (suc (suc i) + length us))))))) (λ e1 d1 q1. simp at-append (G.ref-word-part (place (suc (suc (suc (suc (suc (suc i) + length us)))))) (place (suc (suc i) + length us)) (place (suc (suc (suc (suc i) + length us)))) d1)) (λ e1 q1. rw q1 refl) (moved (suc (suc i)) a1)
   moved i (G.ref-word-part-apart {n = n} c k l m {us = us} {x = x} {y = y} a1) =
-      lift1 (λ e1. T.word_part n (place i) e1 (N.pair_of x (place (suc (suc (suc (suc i) + length us)))) y (place (suc (suc (suc (suc (suc (suc i) + length us)))))))) (λ e1 d1 q1. rw at-append (G.ref-word-part-apart (place (suc (suc (suc (suc (suc (suc (suc i) + length us))))))) (place (suc (suc i) + length us)) (place (suc (suc (suc (suc (suc i) + length us))))) (place (suc (suc (suc i) + length us))) d1)) (λ e1 q1. rw q1 refl) (moved (suc (suc i)) a1)
+      lift1 (λ e1. T.word_part n (place i) e1 (N.pair_of x (place (suc (suc (suc (suc i) + length us)))) y (place (suc (suc (suc (suc (suc (suc i) + length us)))))))) (λ e1 d1 q1. rw (at-append place (suc (suc i)) us) (G.ref-word-part-apart (place (suc (suc (suc (suc (suc (suc (suc i) + length us))))))) (place (suc (suc i) + length us)) (place (suc (suc (suc (suc (suc i) + length us))))) (place (suc (suc (suc i) + length us))) d1)) (λ e1 q1. rw q1 refl) (moved (suc (suc i)) a1)
   moved i (G.or-one {t = t} a1) = through t (λ v d. G.or-one d) (moved i a1)
   moved i (G.or-more {us = us} a1 a2) =
       lift2 (λ e1 e2. T.binary plus (place (i + length us)) e1 e2) (λ e1 e2 d1 d2 q1 q2. simp at-append (G.or-more d1 d2)) (λ e1 e2 q1 q2. rw (q1, q2) refl) (moved i a1) (moved (suc (i + length us)) a2)

@@ -12,7 +12,7 @@ use Rattle.std.proofs.Math.Dec.{eqb, eqb-suc-zero, ltb}
 use Rattle.std.proofs.Math.ListN.{get_or-map, length-map, length-take, take}
 use Rattle.language.specs.ActionRules as J
 use Rattle.language.specs.ActionRules.{operation_below, operation_judged, run_judged}
-use Rattle.language.specs.Canonical.{all, name_right, total}
+use Rattle.language.specs.Canonical.{name_right, total}
 use Rattle.language.specs.CountedWords.{counted_operations}
 use Rattle.language.specs.Describe.{actions_in, actions_of, expressions_in, nodes_in}
 use Rattle.language.specs.DescribeText as X

@@ -34,7 +34,7 @@ use Rattle.language.specs.Rules as Rules
 use Rattle.language.specs.Rules.{faults, sequencing_length, value_faults}
 use Rattle.language.specs.Tree as T
 use Rattle.language.specs.Tree.{Label, Name, StateValue}
-use Rattle.language.specs.Value.{Value, value}
+use Rattle.language.specs.Value.{Value}
 use Rattle.language.specs.Ceilings.{longest}
 use Rattle.language.specs.Words as W
 use Rattle.language.specs.Words.{Position, Word, sign}

@@ -550,7 +550,9 @@ unplaced (W.sign k p) = W.sign k here
 scan-on : (i : Item) (bs rest : List ℕ) (k at : ℕ) → Spells i bs → scan_from (suc (suc k)) at (bs ++ line_feed ∷ rest) ≡ noted (position at) i (scan_from k (at + length bs + 1) rest)
 unfolding scan_from item_at class_of
 scan-on i [] rest k at h = absurd (omega (arith, h.some_byte))
-scan-on i (b ∷ bs) rest k at h = rw (h.read-so rest, drop_at (b ∷ bs) (line_feed ∷ rest) (length (b ∷ bs)) refl) refl
+scan-on i (b ∷ bs) rest k at h =
+    ap (λ (f : Found). noted (position at) f.item (scan_from (suc k) (at + f.size) (drop f.size (b ∷ (bs ++ line_feed ∷ rest))))) (h.read-so rest)
+    ∙ ap (λ (s : List ℕ). noted (position at) i (scan_from (suc k) (at + length (b ∷ bs)) s)) (drop_at (b ∷ bs) (line_feed ∷ rest) (length (b ∷ bs)) refl)
 
 noted-same : (p : Position) (w : Word) (r : Scanned) → (map unplaced (noted p (item_of w) r).words ≡ unplaced w ∷ map unplaced r.words) × ((noted p (item_of w) r).faults ≡ r.faults)
 noted-same p (W.name n q) r = (refl, refl)

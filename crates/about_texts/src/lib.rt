@@ -1,1 +1,3 @@
 // Every description in legal form is that of a legal text: theorems over the definitions alone.
+
+#![tactic(auto)]

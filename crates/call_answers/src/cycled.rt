@@ -2,7 +2,7 @@
 use language::refusals::Refusal;
 use language::stops::Stop;
 
-#[derive(Drop)]
+#[derive(Clone, Copy)]
 pub enum CycleReply {
     // the conflict count
     Cycled(u32),

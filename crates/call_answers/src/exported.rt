@@ -1,6 +1,6 @@
 // The answers in C's form. A field that an answer has no use for is 0.
 #[repr(C)]
-#[derive(Drop)]
+#[derive(Clone, Copy)]
 pub struct ReadAnswer {
     pub refusal: u32,
     pub place: u32,
@@ -8,7 +8,7 @@ pub struct ReadAnswer {
 }
 
 #[repr(C)]
-#[derive(Drop)]
+#[derive(Clone, Copy)]
 pub struct CycleAnswer {
     pub refusal: u32,
     pub stop: u32,
@@ -16,7 +16,7 @@ pub struct CycleAnswer {
 }
 
 #[repr(C)]
-#[derive(Drop)]
+#[derive(Clone, Copy)]
 pub struct RunAnswer {
     pub refusal: u32,
     pub stop: u32,
@@ -25,7 +25,7 @@ pub struct RunAnswer {
 }
 
 #[repr(C)]
-#[derive(Drop)]
+#[derive(Clone, Copy)]
 pub struct NameAnswer {
     pub refusal: u32,
     pub offset: u32,
@@ -33,7 +33,7 @@ pub struct NameAnswer {
 }
 
 #[repr(C)]
-#[derive(Drop)]
+#[derive(Clone, Copy)]
 pub struct FacilityAnswer {
     pub refusal: u32,
     pub kind: u32,

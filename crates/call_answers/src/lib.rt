@@ -1,4 +1,6 @@
 // What each public call answers, and the numbers that C gets for it.
+#![tactic(auto)]
+
 pub mod cycled;
 pub mod exported;
 pub mod looked;

@@ -2,7 +2,7 @@
 use image_sections::facilities::FacilityRecord;
 use language::refusals::Refusal;
 
-#[derive(Drop)]
+#[derive(Clone, Copy)]
 pub enum Looked {
     // its `place` is the first byte in the store; of a computed terminal, the number of its expression
     Declared(FacilityRecord),

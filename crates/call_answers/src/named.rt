@@ -2,7 +2,7 @@
 use image_sections::names::Part;
 use language::refusals::Refusal;
 
-#[derive(Drop)]
+#[derive(Clone, Copy)]
 pub enum NameReply {
     Named(Part),
     Refused(Refusal),

@@ -1,7 +1,7 @@
 // What opening answers.
 use language::refusals::Refusal;
 
-#[derive(Drop)]
+#[derive(Clone, Copy)]
 pub enum OpenReply {
     Opened,
     Refused(Refusal),

@@ -2,7 +2,7 @@
 use language::refusals::Refusal;
 use language::stops::Halt;
 
-#[derive(Drop)]
+#[derive(Clone, Copy)]
 pub struct Tally {
     // cycles
     pub completed: u32,
@@ -12,7 +12,7 @@ pub struct Tally {
     pub stop: Halt,
 }
 
-#[derive(Drop)]
+#[derive(Clone, Copy)]
 pub enum RunReply {
     Ran(Tally),
     Refused(Refusal),

@@ -1,7 +1,7 @@
 // What reading answers.
 use language::refusals::Refusal;
 
-#[derive(Drop)]
+#[derive(Clone, Copy)]
 pub enum ReadReply {
     // The image's length.
     Accepted(usize),

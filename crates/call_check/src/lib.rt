@@ -1,4 +1,6 @@
 // The check of an image: what bounds the walks over it, its form, then the rules over what it describes.
+#![tactic(auto)]
+
 pub mod looked;
 
 ghost use Rattle.std.specs.Prelude.{◌≡◌, ◌/◌, ◌≤◌, eqb, length};

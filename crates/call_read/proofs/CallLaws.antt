@@ -7,7 +7,7 @@ use lib.ListN.{length}
 use Rattle.call_read.specs.declared.described.TextRead.{TextRead}
 use Rattle.call_read.specs.declared.described.TextRead.TheVariants as Oc
 use Rattle.call_read.specs.Outcomes.{Described, Parses}
-use Rattle.about_grammar.specs.Exact.{exact-text}
+use Rattle.about_grammar.proofs.Exact.{exact-text}
 use Rattle.language.specs.Building.{Built}
 use Rattle.language.specs.DescribeText.{describe}
 use Rattle.language.specs.Encode.{image_of}

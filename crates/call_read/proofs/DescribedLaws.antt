@@ -8,10 +8,9 @@ use lib.ListN.{length}
 use Rattle.parse_step.proofs.Ceilings.{few-counted}
 use Rattle.parse_step.specs.Course.{counts_of}
 use Rattle.parse_step.specs.declared.Answer.{Answer}
-use Rattle.parse_step.specs.declared.State.{State}
 use Rattle.parse_step.specs.declared.ReadVerdict.TheVariants as Vd
 use Rattle.parse_facilities.proofs.NameWords.{few-facilities}
-use Rattle.about_grammar.specs.Exact.{exact-text}
+use Rattle.about_grammar.proofs.Exact.{exact-text}
 use Rattle.language.specs.Building.{nothing_built, with_text}
 use Rattle.language.specs.DescribeText.{facilities_of, length_at}
 use Rattle.language.specs.Description.{Facility, sequencing_from}

@@ -9,7 +9,7 @@ use borrow.Author.Tests.{ltb-false}
 use lib.Dec.{leb, ltb}
 use lib.ListN.{get_or, length, length-take}
 use Rattle.call_read.specs.Outcomes.{Parses}
-use Rattle.about_grammar.specs.Exact.{exact-text}
+use Rattle.about_grammar.proofs.Exact.{exact-text}
 use Rattle.language.specs.Building.{Built}
 use Rattle.language.specs.Decode.{pick, up_to}
 use Rattle.language.specs.DescribeText.{describe}

@@ -7,7 +7,7 @@ pub mod states;
 pub mod whole;
 
 // The first fault against the grammar, or how many records the array holds.
-#[derive(Drop)]
+#[derive(Clone, Copy)]
 pub enum TextRead {
     Refused(Fault),
     Done(Holding),

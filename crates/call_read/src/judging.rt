@@ -19,7 +19,8 @@ use text_words::Judged;
 const MOST_LETTERS: usize = ceilings::NAME
     * (MOST_FACILITIES + MOST_OPERATIONS + MOST_STATES) as usize;
 
-// The least of all faults.
+// The least of all faults. In a frame of its own, so that the letters take no stack while the text is read.
+#[inline(never)]
 pub fn judge(text: &[u8], work: &Work, c: Holding) -> Judged
     ensures { Few c → length (names_held text.now work.now c) ≤ most_letters → judged result ≡ least (L.faults (noted_description (sections_held text.now work.now c) (beside_held work.now c)) (places_in (beside_held work.now c))) }
 {

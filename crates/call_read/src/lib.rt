@@ -1,4 +1,6 @@
 // Reading a text (01, "Refusal numbers"): its length, its words, its grammar and the rest of the rules, and at last its image.
+#![tactic(auto)]
+
 ghost use Rattle.std.specs.Prelude.{◌≡◌, ◌≤◌, length};
 ghost use Rattle.language.specs.Reading as L;
 ghost use Rattle.language.specs.SectionWays.{parse};

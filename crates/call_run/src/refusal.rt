@@ -13,7 +13,7 @@ use language::refusals::Refusal;
 use run_begin::formed;
 use run_soundness::{sizes, soundness};
 
-#[derive(Drop)]
+#[derive(Clone, Copy)]
 pub enum Tested {
     Refused(Refusal),
     Passed,

@@ -27,7 +27,7 @@ use store_words::slices;
 const SMALL: usize = 1024;
 
 // A run so far, and the record that it has come to.
-#[derive(Drop)]
+#[derive(Clone, Copy)]
 struct CarriedOn {
     tally: Tally,
     record: Record,

@@ -1,2 +1,4 @@
 // The cycles of a run that is not refused, each carried out after the other.
+#![tactic(auto)]
+
 pub mod carry;

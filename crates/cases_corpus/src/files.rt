@@ -1,30 +1,31 @@
 // The cases of a file that has nothing else: traces or images.
 use crate::tally::{Came, Score};
 use crate::{images, tally, traces};
+use std::alloc::Global;
+use std::io;
+use std::io::Read;
 
 pub const TRACES: u8 = 0;
 
 pub const IMAGES: u8 = 1;
 
 // The next case.
-fn next(file: i32, kind: u8) -> Came {
+fn next(alloc: Global, file: &mut impl Read, kind: u8) -> io::Result<Came> {
     if kind == TRACES {
-        return traces::next(file);
+        return traces::next(alloc, file);
     }
-    images::next(file)
+    images::next(alloc, file)
 }
 
 // Every case.
-pub fn run(file: i32, kind: u8) -> Score {
+pub fn run(alloc: Global, file: &mut impl Read, kind: u8) -> io::Result<Score> {
     let mut t = tally::nothing();
-    let mut left: u32 = 100000;
-    while 0 < left {
-        let came = next(file, kind);
+    for _ in 0..100000 {
+        let came = next(alloc, file, kind)?;
         if let Came::End = came {
-            return t;
+            break;
         }
         t = tally::counted(t, came);
-        left -= 1;
     }
-    t
+    Ok(t)
 }

@@ -1,7 +1,10 @@
 // The cases of data/images, as the second simulator packs them: the length of an image in four bytes, whether it passes, and its bytes.
 use crate::tally::Came;
 use crate::{fetched, tally};
-use image_records::{bytes, numbers};
+use image_records::numbers;
+use std::alloc::Global;
+use std::io;
+use std::io::Read;
 
 // Whether an image passes exactly if it should.
 fn agrees(image: &[u8], expected: u8) -> bool {
@@ -12,13 +15,11 @@ fn agrees(image: &[u8], expected: u8) -> bool {
 }
 
 // The next case.
-pub fn next(file: i32) -> Came {
+pub fn next(alloc: Global, file: &mut impl Read) -> io::Result<Came> {
     let mut head = [0u8; 5];
-    let got = io::read_full(file, &mut head);
-    if got < 5 {
-        return Came::End;
+    if !fetched::filled(file, &mut head)? {
+        return Ok(Came::End);
     }
-    let mut image = io::large_buffer();
-    let n = fetched::fetch(file, numbers::four(&head, 0) as usize, &mut image);
-    tally::told(agrees(bytes::part(&image, 0, n), head[4]))
+    let image = fetched::fetch(alloc, file, numbers::four(&head, 0) as usize)?;
+    Ok(tally::told(agrees(&image, head[4])))
 }

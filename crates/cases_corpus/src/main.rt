@@ -1,26 +1,44 @@
 // Runs the cases that the second simulator packs, and prints for each kind how many agree, how many differ, and the first that does: the traces of data/corpus and the images of data/images.
+#![tactic(auto)]
+
 mod fetched;
 mod files;
 mod images;
 mod tally;
 mod traces;
 
-use libc::STDOUT_FILENO;
+use std::rt::Files;
+use std::{fs, io};
 
-// Tries every case of the file of this name.
-fn each_of(path: &[u8], kind: u8) {
-    let file = os::open_read(path);
-    if file < 0 {
-        os::fail(path);
-        return;
+// Why a call failed, without the number that it has in the system.
+fn reason(said: &str) -> &str {
+    match said.rsplit_once(" (os error ") {
+        Some((reason, _)) => reason,
+        None => said,
     }
-    tally::shown(files::run(file, kind));
-    libc::close(file);
 }
 
-fn main() {
-    io::write_all(STDOUT_FILENO, b"traces: ");
-    each_of(b"corpus", files::TRACES);
-    io::write_all(STDOUT_FILENO, b"images: ");
-    each_of(b"images", files::IMAGES);
+// A line on standard error: the file, and why it does not open.
+fn fail(rt: &(impl Eprint + AllocGlobal), path: &str, error: io::Error) -> io::Result<()> {
+    let said = format!(in rt.alloc(); "{error}")?;
+    eprintln!(rt; "{path}: {}", reason(&said))
+}
+
+// Tries every case of the file of this name.
+fn each_of(
+    rt: &(impl Files + Print + Eprint + AllocGlobal),
+    path: &str,
+    kind: u8,
+) -> io::Result<()> {
+    match fs::open(rt, path) {
+        Ok(mut file) => tally::shown(rt, files::run(rt.alloc(), &mut file, kind)?),
+        Err(e) => fail(rt, path, e),
+    }
+}
+
+fn main(rt: HostRuntime) -> io::Result<()> {
+    print!(rt; "traces: ")?;
+    each_of(&rt, "corpus", files::TRACES)?;
+    print!(rt; "images: ")?;
+    each_of(&rt, "images", files::IMAGES)
 }

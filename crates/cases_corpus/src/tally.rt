@@ -1,7 +1,7 @@
 // How many cases agree, how many differ, and which is the first that does.
-use libc::STDOUT_FILENO;
+use std::io;
 
-#[derive(Drop)]
+#[derive(Clone, Copy)]
 pub struct Score {
     pub agree: u32,
     pub differ: u32,
@@ -10,7 +10,7 @@ pub struct Score {
 }
 
 // What the next case of a file comes to.
-#[derive(Drop)]
+#[derive(Clone, Copy)]
 pub enum Came {
     End,
     Agrees,
@@ -55,17 +55,10 @@ pub fn counted(t: Score, came: Came) -> Score {
     }
 }
 
-fn say(n: u32, what: &[u8]) {
-    io::print_decimal(STDOUT_FILENO, n as u64);
-    io::write_all(STDOUT_FILENO, what);
-}
-
-pub fn shown(t: Score) {
-    say(t.agree, b" agree, ");
-    say(t.differ, b" differ");
+pub fn shown(rt: &impl Print, t: Score) -> io::Result<()> {
+    print!(rt; "{} agree, {} differ", t.agree, t.differ)?;
     if t.differ != 0 {
-        io::write_all(STDOUT_FILENO, b", the first is case ");
-        io::print_decimal(STDOUT_FILENO, t.first as u64);
+        print!(rt; ", the first is case {}", t.first)?;
     }
-    io::write_all(STDOUT_FILENO, b"\n");
+    println!(rt; "")
 }

@@ -2,11 +2,14 @@
 use crate::tally::Came;
 use crate::{fetched, tally};
 use image_records::{bytes, numbers};
+use std::alloc::Global;
+use std::io;
+use std::io::Read;
 use trace_whole::printed;
 
 // Whether the trace of a text and its input is the output that is owed.
 fn agrees(text: &[u8], input: &[u8], owed: &[u8]) -> bool {
-    let mut out = io::large_buffer();
+    let mut out = [0u8; fetched::MOST];
     let n = printed::printed(text, input, &mut out);
     if n != owed.len() {
         return false;
@@ -15,21 +18,13 @@ fn agrees(text: &[u8], input: &[u8], owed: &[u8]) -> bool {
 }
 
 // The next case.
-pub fn next(file: i32) -> Came {
+pub fn next(alloc: Global, file: &mut impl Read) -> io::Result<Came> {
     let mut head = [0u8; 12];
-    let got = io::read_full(file, &mut head);
-    if got < 12 {
-        return Came::End;
+    if !fetched::filled(file, &mut head)? {
+        return Ok(Came::End);
     }
-    let mut text = io::large_buffer();
-    let mut input = io::large_buffer();
-    let mut owed = io::large_buffer();
-    let t = fetched::fetch(file, numbers::four(&head, 0) as usize, &mut text);
-    let i = fetched::fetch(file, numbers::four(&head, 4) as usize, &mut input);
-    let o = fetched::fetch(file, numbers::four(&head, 8) as usize, &mut owed);
-    tally::told(agrees(
-        bytes::part(&text, 0, t),
-        bytes::part(&input, 0, i),
-        bytes::part(&owed, 0, o),
-    ))
+    let text = fetched::fetch(alloc, file, numbers::four(&head, 0) as usize)?;
+    let input = fetched::fetch(alloc, file, numbers::four(&head, 4) as usize)?;
+    let owed = fetched::fetch(alloc, file, numbers::four(&head, 8) as usize)?;
+    Ok(tally::told(agrees(&text, &input, &owed)))
 }

@@ -4,7 +4,7 @@ ghost use Rattle.std.specs.Prelude.{◌<◌};
 use value_operators::Value;
 
 // Where a part lies, or the words of a facility, and the value for it.
-#[derive(Drop)]
+#[derive(Clone, Copy)]
 pub struct Command {
     pub at: usize,
     pub length: u32,

@@ -1,28 +1,25 @@
 // What a command gives, as a line.
 ghost use Rattle.std.specs.Prelude.{◌<◌};
 
-use libc::STDOUT_FILENO;
+use std::io;
 use value_operators::Value;
 
 // Whether something holds.
-pub fn holds(b: bool) {
+pub fn holds(rt: &impl Print, b: bool) -> io::Result<()> {
     if b {
-        io::write_all(STDOUT_FILENO, b"yes\n");
+        println!(rt; "yes")
     } else {
-        io::write_all(STDOUT_FILENO, b"no\n");
+        println!(rt; "no")
     }
 }
 
 // A value: its length, and its number in hexadecimal.
-pub fn value(v: Value) {
+pub fn value(rt: &impl Print, v: Value) -> io::Result<()> {
     let a = v.limbs;
-    io::print_decimal(STDOUT_FILENO, v.length as u64);
-    io::write_all(STDOUT_FILENO, b" ");
-    io::print_hex(STDOUT_FILENO, a[3], 16);
-    io::print_hex(STDOUT_FILENO, a[2], 16);
-    io::print_hex(STDOUT_FILENO, a[1], 16);
-    io::print_hex(STDOUT_FILENO, a[0], 16);
-    io::write_all(STDOUT_FILENO, b"\n");
+    println!(rt;
+        "{} {:016x}{:016x}{:016x}{:016x}",
+        v.length, a[3], a[2], a[1], a[0]
+    )
 }
 
 // A number in which every byte of a slice counts.
@@ -37,7 +34,6 @@ fn sum(s: &[u8]) -> u64 {
 }
 
 // All bytes of a slice, as one number.
-pub fn slice(s: &[u8]) {
-    io::print_hex(STDOUT_FILENO, sum(s), 8);
-    io::write_all(STDOUT_FILENO, b"\n");
+pub fn slice(rt: &impl Print, s: &[u8]) -> io::Result<()> {
+    println!(rt; "{:08x}", sum(s))
 }

@@ -1,13 +1,16 @@
 // Runs the cases of standard input, lines of fixed columns as tests/value/cases.py writes them, and prints each that comes out otherwise.
+#![tactic(auto)]
+
 mod columns;
 mod constant;
 mod operators;
 
-use libc::{STDIN_FILENO, STDOUT_FILENO};
+use std::io;
+use std::io::{ErrorKind, Read};
 use value_operators::Made;
 
 // What came of one line.
-#[derive(Drop)]
+#[derive(Clone, Copy)]
 enum Outcome {
     Right,
     Wrong,
@@ -39,33 +42,32 @@ fn given(line: &[u8; 213]) -> Made {
 }
 
 // Runs the next line.
-fn next() -> Outcome {
+fn next(rt: &impl Print, input: &mut impl Read) -> io::Result<Outcome> {
     let mut line = [0u8; 213];
-    let n = io::read_full(STDIN_FILENO, &mut line);
-    if n < 213 {
-        return Outcome::End;
+    match input.read_exact(&mut line) {
+        Ok(()) => {}
+        Err(e) if e.kind() == ErrorKind::UnexpectedEof => return Ok(Outcome::End),
+        Err(e) => return Err(e),
     }
     if same(given(&line), columns::expected(&line)) {
-        return Outcome::Right;
+        return Ok(Outcome::Right);
     }
-    io::write_all(STDOUT_FILENO, &line);
-    Outcome::Wrong
+    rt.write_all(&line)?;
+    Ok(Outcome::Wrong)
 }
 
 // Counts the cases, and those that are wrong.
-fn main() {
+fn main(rt: HostRuntime) -> io::Result<()> {
+    let mut input = rt.reader();
     let mut cases: u64 = 0;
     let mut wrong: u64 = 0;
     while cases < u64::MAX {
-        match next() {
+        match next(&rt, &mut input)? {
             Outcome::Right => {}
             Outcome::Wrong => wrong += 1,
             Outcome::End => break,
         }
         cases += 1;
     }
-    io::print_decimal(STDOUT_FILENO, cases);
-    io::write_all(STDOUT_FILENO, b" cases, ");
-    io::print_decimal(STDOUT_FILENO, wrong);
-    io::write_all(STDOUT_FILENO, b" wrong\n");
+    println!(rt; "{cases} cases, {wrong} wrong")
 }

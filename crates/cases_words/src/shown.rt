@@ -1,103 +1,80 @@
 // What came of a text, printed.
 use language::refusals::refusal_number;
-use libc::STDOUT_FILENO;
+use std::io;
 use text_characters::{letters, parts};
 use text_words::{Judged, Word, WordKind, next, places, stage};
 use value_operators::Value;
 
-fn say(s: &[u8]) {
-    io::write_all(STDOUT_FILENO, s);
-}
-
-fn number(n: u64) {
-    io::print_decimal(STDOUT_FILENO, n);
-}
-
 // A refusal: its number and its place.
-fn refused(n: u64, place: u64) {
-    say(b"refused ");
-    number(n);
-    say(b" ");
-    number(place);
-    say(b"\n");
+fn refused(rt: &impl Print, n: u64, place: u64) -> io::Result<()> {
+    println!(rt; "refused {n} {place}")
 }
 
 // The letters of a name, in capitals.
-fn capitals(name: &[u8]) {
-    let mut i = 0;
-    while i < name.len() {
-        let letter = [letters::fold(name[i])];
-        say(&letter);
-        i += 1;
+fn capitals(rt: &impl Print, name: &[u8]) -> io::Result<()> {
+    for b in name {
+        rt.write_all(&[letters::fold(*b)])?;
     }
+    Ok(())
 }
 
 // A constant: its length, its limbs, the highest first, and whether it is bare.
-fn constant(v: Value, bare: bool) {
+fn constant(rt: &impl Print, v: Value, bare: bool) -> io::Result<()> {
     let limbs = v.limbs;
     let l = value_limbs::taken(limbs);
-    number(v.length as u64);
-    say(b":");
-    number(l.l3);
-    say(b",");
-    number(l.l2);
-    say(b",");
-    number(l.l1);
-    say(b",");
-    number(l.l0);
+    print!(rt; "{}:{},{},{},{}", v.length, l.l3, l.l2, l.l1, l.l0)?;
     if bare {
-        say(b" bare");
+        print!(rt; " bare")?;
     }
+    Ok(())
 }
 
 // A word: its place, its size, and what it is.
-fn word(text: &[u8], w: Word) {
+fn word(rt: &impl Print, text: &[u8], w: Word) -> io::Result<()> {
     let place = places::place(w.at);
     let size = w.size;
-    number(place as u64);
-    say(b" ");
-    number(size as u64);
-    let kind = w.kind;
-    match kind {
-        WordKind::End => say(b" end"),
+    print!(rt; "{place} {size}")?;
+    match w.kind {
+        WordKind::End => print!(rt; " end")?,
         WordKind::Name => {
-            say(b" name ");
-            capitals(parts::first(parts::rest(text, place), size));
+            print!(rt; " name ")?;
+            capitals(rt, parts::first(parts::rest(text, place), size))?;
         }
         WordKind::Constant => {
-            let value = w.value;
-            say(b" constant ");
-            constant(value, w.bare);
+            print!(rt; " constant ")?;
+            constant(rt, w.value, w.bare)?;
         }
-        WordKind::Sign(k) => {
-            say(b" sign ");
-            number(k as u64);
-        }
+        WordKind::Sign(k) => print!(rt; " sign {k}")?,
     }
-    say(b"\n");
+    println!(rt; "")
 }
 
 // The words of a text.
-fn all_words(text: &[u8]) {
+fn all_words(rt: &impl Print, text: &[u8]) -> io::Result<()> {
     let mut at = 0;
     while at < text.len() {
         let w = next::next_word(text, at);
         let kind = w.kind;
         if next::is_end(kind) {
-            return;
+            break;
         }
-        word(text, w);
+        word(rt, text, w)?;
         at = places::place(w.at) + w.size;
     }
+    Ok(())
 }
 
 // The words of a text, or its refusal.
-pub fn text(s: &[u8]) {
+pub fn text(rt: &impl Print, s: &[u8]) -> io::Result<()> {
     match stage::first_fault(s) {
-        Judged::Passed => all_words(s),
+        Judged::Passed => all_words(rt, s),
         Judged::Refused(f) => {
             let refusal = f.refusal;
-            refused(refusal_number(refusal) as u64, places::place(f.at) as u64)
+            refused(
+                rt,
+                refusal_number(refusal) as u64,
+                places::place(f.at) as u64,
+            )
         }
     }
 }

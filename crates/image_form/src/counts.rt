@@ -125,7 +125,7 @@ fn left_count(mark: u8) -> usize
 }
 
 // Actions, and references on their left.
-#[derive(Drop)]
+#[derive(Clone, Copy)]
 struct Counted {
     all: usize,
     lefts: usize,

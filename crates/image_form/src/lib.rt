@@ -1,4 +1,6 @@
 // The form of an image: its bytes are those of what they describe, in the layout that reading writes. Of the check all but the rules.
+#![tactic(auto)]
+
 pub mod counts;
 pub mod labels;
 pub mod nesting;

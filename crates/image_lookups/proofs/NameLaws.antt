@@ -161,7 +161,7 @@ module _ (image : List ℕ) (h : passes image ≡ true) (n : ℕ) {f : List ℕ}
   facility-below = rw (ap (λ (x : L.Part). x.offset) q, e) (facility-short image h n (rw e at l))
 
   pub facility-found : in_image image (part_meant p) ≡ facility_name image n
-  facility-found = rw (q, e) (facility-named image h n (rw e at l))
+  facility-found = ap (in_image image) q ∙ rw e (facility-named image h n (rw e at l))
 
 module _ (image : List ℕ) (h : passes image ≡ true) (n : ℕ) {f o s : List ℕ} {c : Counts} {p : Part} (e : f ≡ section_at facilities_section facility_size image) (g : o ≡ section_at operations_section operation_size image) (k : s ≡ section_at states_section state_size image) (m : c ≡ counts_in image) (l : n < length s / state_size)
     (q : part_meant p ≡ I.state_part f c.facilities o c.operations s n) where
@@ -169,4 +169,4 @@ module _ (image : List ℕ) (h : passes image ≡ true) (n : ℕ) {f o s : List 
   state-below = rw (ap (λ (x : L.Part). x.offset) q, m, e, g, k) (state-short image h n (rw k at l))
 
   pub state-found : in_image image (part_meant p) ≡ state_name image n
-  state-found = rw (q, m, e, g, k) (state-named image h n (rw k at l))
+  state-found = ap (in_image image) q ∙ rw (m, e, g, k) (state-named image h n (rw k at l))

@@ -11,7 +11,7 @@ use image_records::nodes::Node;
 use image_records::{constants, marks, nodes, record_sizes};
 
 // What stands before a record and belongs to it.
-#[derive(Drop)]
+#[derive(Clone, Copy)]
 pub enum Parts {
     // no tree ends here
     No,

@@ -5,7 +5,7 @@ ghost use Rattle.image_records.specs.Actions.{meant};
 
 use crate::{marks, numbers, record_sizes};
 
-#[derive(Drop)]
+#[derive(Clone, Copy)]
 pub enum Action {
     // a store's sign, what is on its left, its right side
     Store(u8, u16, u16),

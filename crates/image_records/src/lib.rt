@@ -1,4 +1,6 @@
 // Records in bytes: read, written, and compared with what writing gives.
+#![tactic(auto)]
+
 pub mod action_bytes;
 pub mod actions;
 pub mod bytes;

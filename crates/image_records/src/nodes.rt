@@ -5,7 +5,7 @@ ghost use Rattle.image_records.specs.Nodes.{constant_number, meant};
 
 use crate::{constants, marks, numbers, record_sizes};
 
-#[derive(Drop)]
+#[derive(Clone, Copy)]
 pub enum Node {
     // its length; `constant_at` gives its value
     Constant(u16),

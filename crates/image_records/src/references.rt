@@ -9,7 +9,7 @@ use crate::numbers;
 use store_geometry::bounds::Bounds;
 use store_geometry::subscripts::Subscripts;
 
-#[derive(Drop)]
+#[derive(Clone, Copy)]
 pub enum Reference {
     // a facility, and what it is subscripted with
     To(u8, Subscripts),

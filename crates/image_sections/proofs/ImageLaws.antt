@@ -9,9 +9,8 @@ use lib.Dec.{eqb, leb}
 use lib.ListN.{drop, get_or, length, take, length-append, length-drop, length-take}
 use lib.Seq.{drop_at, get_or-take, length-take-le, take-add, take_at, take-take}
 use Rattle.language.specs.Decode.{number_at, sections_in}
-use Rattle.language.specs.Encode.{Sections, action_size, facility_size, four, header_size, image_of, length_field, little, node_size, operation_size, state_size}
+use Rattle.language.specs.Encode.{Sections, action_size, facility_size, header_size, image_of, length_field, little, node_size, operation_size, state_size}
 use Rattle.language.specs.RecordBytes.{fours}
-use Rattle.language.specs.Scan.{same}
 use Rattle.image_records.proofs.ByteLaws.{same_of, same_true}
 use Rattle.image_records.proofs.NumberLaws.{number-back}
 use Rattle.image_sections.proofs.HeaderLaws.{header-bytes, right-other, right-same, right-short}

@@ -7,7 +7,7 @@ ghost use Rattle.image_sections.specs.Declarations.{FacilityRead, facility_in, f
 
 use image_records::{numbers, record_sizes};
 
-#[derive(Drop)]
+#[derive(Clone, Copy)]
 pub enum FacilityKind {
     Register,
     Sequencing,
@@ -18,13 +18,13 @@ pub enum FacilityKind {
 }
 
 // The bounds of a dimension, as far as a record has room for them.
-#[derive(Drop)]
+#[derive(Clone, Copy)]
 pub struct ShortBounds {
     pub first: u16,
     pub last: u16,
 }
 
-#[derive(Drop)]
+#[derive(Clone, Copy)]
 pub struct FacilityRecord {
     pub kind: FacilityKind,
     pub dimensions: u8,

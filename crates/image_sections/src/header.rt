@@ -26,7 +26,7 @@ const ACTION: u64 = record_sizes::ACTION as u64;
 const STATE: u64 = record_sizes::STATE as u64;
 
 // How many records the sections have; of the names, bytes.
-#[derive(Drop)]
+#[derive(Clone, Copy)]
 pub struct Counts {
     pub facilities: u32,
     pub operations: u32,

@@ -1,4 +1,6 @@
 // The image: its declarations, names and header.
+#![tactic(auto)]
+
 pub mod facilities;
 pub mod facility_bytes;
 pub mod header;

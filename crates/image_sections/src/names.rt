@@ -16,7 +16,7 @@ pub const STATE: u8 = record_sizes::STATE as u8;
 pub const FACILITY_NAME: u8 = record_sizes::FACILITY_NAME as u8;
 
 // Where a name stands among the names.
-#[derive(Drop)]
+#[derive(Clone, Copy)]
 pub struct Part {
     pub offset: usize,
     pub length: usize,

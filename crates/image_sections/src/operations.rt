@@ -8,7 +8,7 @@ use crate::runs;
 use crate::runs::Run;
 use image_records::{numbers, record_sizes};
 
-#[derive(Drop)]
+#[derive(Clone, Copy)]
 pub struct OperationRecord {
     // the length of its name
     pub name: u8,

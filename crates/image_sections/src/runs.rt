@@ -5,7 +5,7 @@ ghost use Rattle.image_sections.specs.Declarations.{run_meant};
 
 use image_records::numbers;
 
-#[derive(Drop)]
+#[derive(Clone, Copy)]
 pub struct Run {
     pub first: u16,
     pub count: u16,

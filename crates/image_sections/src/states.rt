@@ -10,13 +10,13 @@ use crate::runs::Run;
 use image_records::{numbers, record_sizes};
 
 // The number of the constant that is a state's value, if it has one.
-#[derive(Drop)]
+#[derive(Clone, Copy)]
 pub enum StateValue {
     At(u16),
     None,
 }
 
-#[derive(Drop)]
+#[derive(Clone, Copy)]
 pub struct StateRecord {
     // the length of its label
     pub name: u8,

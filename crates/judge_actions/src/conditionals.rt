@@ -17,14 +17,14 @@ use language::refusals::Refusal;
 use text_words::Position;
 
 // What a conditional chooses among: IF without ELSE has one arm.
-#[derive(Drop)]
+#[derive(Clone, Copy)]
 pub enum Choices {
     One,
     Several(u16),
 }
 
 // A conditional: its condition, its choices, and how many records belong to it.
-#[derive(Drop)]
+#[derive(Clone, Copy)]
 pub struct Branch {
     pub condition: u16,
     pub choices: Choices,
@@ -32,7 +32,7 @@ pub struct Branch {
 }
 
 // An action is a conditional, or holds no others.
-#[derive(Drop)]
+#[derive(Clone, Copy)]
 pub enum Form {
     Simple,
     Conditional(Branch),

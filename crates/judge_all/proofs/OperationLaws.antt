@@ -5,10 +5,9 @@ use mathlib.Core.Option.{Option, none}
 use mathlib.Core.Path.{◌≡◌, refl, sym, ap, ◌∙◌}
 use native.Mathlib.Numerals.{add-one}
 use native.Mathlib.Omega.{arith}
-use Prim.Native.Nat.{ℕ, suc, ◌+◌, ◌-◌, ◌/◌, ◌<◌, ◌≤◌}
+use Prim.Native.Nat.{ℕ, suc, ◌+◌, ◌-◌, ◌<◌, ◌≤◌}
 use borrow.Author.Tests.{eq-eqb, eqb-false, eqb-true, ne_eqb}
 use lib.Dec.{eqb}
-use lib.ListN.{length}
 use Rattle.language.specs.ActionRules.{operation_below, operation_judged, operation_step, run_judged, unknown_operation}
 use Rattle.language.specs.Description as D
 use Rattle.language.specs.Description.{Description, Places, Run, operation_at}
@@ -26,7 +25,6 @@ use Rattle.judge_terms.specs.Shown.{worked}
 use Rattle.judge_actions.specs.Listed.{Listed, list_at}
 use Rattle.judge_all.proofs.MemoryLaws.{worked-seen}
 use Rattle.judge_all.specs.InSlices.{Acting, Performed}
-use Rattle.language.specs.Encode.{facility_size}
 
 module _ (d : Description) (p : Places) where
   operation-lt : (k o : ℕ) → o < k → operation_below d p k o ≡ operation_judged d p o

@@ -23,7 +23,7 @@ use judge_verdicts::Verdict;
 use text_words::{Judged, faults};
 
 // The faults of all facilities, and the number of the first expression's record that belongs to none.
-#[derive(Drop)]
+#[derive(Clone, Copy)]
 pub struct Terminals {
     pub faults: Judged,
     pub next: u16,

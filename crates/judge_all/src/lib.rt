@@ -1,4 +1,6 @@
 // All the rules over sections, with or without places: the least of all faults.
+#![tactic(auto)]
+
 pub mod bounds;
 pub mod facilities;
 pub mod memory;

@@ -1,5 +1,5 @@
 -- What is kept of computed terminals, and behind it what is noted of records.
-use Rattle.std.specs.Prelude.{List, ◌≡◌, ℕ, ◌<◌, ◌≤◌, length, take}
+use Rattle.std.specs.Prelude.{List, ◌≡◌, ℕ, ◌≤◌, length, take}
 use Rattle.language.specs.Description.{Description, Places}
 use Rattle.language.specs.Judging.{Judged}
 use Rattle.judge_verdicts.specs.Noted.{noted_from}

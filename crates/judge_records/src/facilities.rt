@@ -14,7 +14,7 @@ use image_sections::kinds;
 use store_geometry::bounds::Bounds;
 use store_geometry::shapes::Shape;
 
-#[derive(Drop)]
+#[derive(Clone, Copy)]
 pub struct Facility {
     pub kind: FacilityKind,
     pub dimensions: u8,

@@ -1,6 +1,6 @@
 -- Verdicts noted in one number are read back.
 use mathlib.Core.Bool.{Bool, true, false, cond}
-use mathlib.Core.Path.{◌≡◌, refl, sym, ap, ◌∙◌}
+use mathlib.Core.Path.{◌≡◌}
 use native.Mathlib.Omega.{arith}
 use Prim.Native.Nat.{ℕ, ◌+◌, ◌*◌, ◌/◌, ◌%◌, ◌^◌, ◌<◌}
 use borrow.Author.Tests.{eq-eqb, ne_eqb}
@@ -10,7 +10,6 @@ use Rattle.text_words.specs.declared.Fault.{Fault}
 use Rattle.judge_verdicts.proofs.KeptLaws.{numbered-back, small-number}
 use Rattle.judge_verdicts.specs.declared.Verdict.TheVariants.{Fine, Faulty}
 use Rattle.judge_verdicts.specs.declared.Worth.{Worth}
-use Rattle.judge_verdicts.specs.Meaning.{numbered}
 use Rattle.judge_verdicts.specs.Noted.{Notes, is_reference, joined, record_in, verdict_in}
 
 module _ (n : ℕ) (reference : Bool) (mark value : ℕ) (h : mark < 16) (k : value < 2 ^ 43) where

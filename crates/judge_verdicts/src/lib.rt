@@ -1,4 +1,6 @@
 // What judging says of an expression or of a list of actions, and how the verdicts on parts make that on the whole.
+#![tactic(auto)]
+
 use text_words::Fault;
 
 pub mod faults;
@@ -8,21 +10,21 @@ pub mod tests;
 pub mod work;
 
 // An expression without fault: its length, how many arms there are in a list of them, and its work; arms and work up to 65,537, which stands for all more.
-#[derive(Drop)]
+#[derive(Clone, Copy)]
 pub struct Worth {
     pub length: u16,
     pub arms: usize,
     pub work: usize,
 }
 
-#[derive(Drop)]
+#[derive(Clone, Copy)]
 pub enum Verdict {
     Fine(Worth),
     Faulty(Fault),
 }
 
 // Two parts without fault, or the earlier fault.
-#[derive(Drop)]
+#[derive(Clone, Copy)]
 pub enum Pair {
     Fine(Worth, Worth),
     Faulty(Fault),

@@ -1,5 +1,5 @@
 -- Characters (the manual, 2.1; 01, "The language taken": outside comments the manual's characters save code 136 octal, and space, tab, CR, LF).
-use Rattle.std.specs.Prelude.{Bool, false, cond, ◌||◌, ◌&&◌, List, [], ◌∷◌, ℕ, ◌+◌, ◌-◌, ◌<◌, eqb, leb}
+use Rattle.std.specs.Prelude.{Bool, false, cond, ◌||◌, ◌&&◌, List, [], ◌∷◌, ℕ, ◌-◌, eqb, leb}
 
 -- lo <= b <= hi
 abbrev pub within : ℕ → ℕ → ℕ → Bool

@@ -1,5 +1,5 @@
 -- Back from an image to a description. It is total: what no reading writes becomes a broken record.
-use Rattle.std.specs.Prelude.{Bool, true, false, cond, List, [], ◌∷◌, ℕ, zero, suc, ◌+◌, ◌-◌, ◌*◌, ◌/◌, ◌%◌, ◌^◌, eqb, leb, drop, get_or, length, take}
+use Rattle.std.specs.Prelude.{Bool, true, false, cond, List, [], ◌∷◌, ℕ, zero, suc, ◌+◌, ◌*◌, ◌/◌, ◌%◌, ◌^◌, eqb, leb, drop, get_or, length, take}
 use Rattle.std.proofs.Math.Option.{Option, none, some}
 use Rattle.language.specs.Description as D
 use Rattle.language.specs.Description.{Action, Bounds, Description, Facility, Node, Operation, Run, State, bounds, digit_length, further_digits, is_computed}

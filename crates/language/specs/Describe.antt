@@ -1,5 +1,5 @@
 -- From a tree to a description: records in the order of the text, an expression's parts before it, a conditional before its arms; names resolved.
-use Rattle.std.specs.Prelude.{List, [], ◌∷◌, ◌++◌, ℕ, zero, suc, ◌+◌, ◌-◌, ◌*◌, ◌/◌, ◌%◌, ◌^◌, min, length}
+use Rattle.std.specs.Prelude.{List, [], ◌∷◌, ◌++◌, ℕ, zero, suc, ◌+◌, ◌-◌, ◌*◌, ◌/◌, ◌%◌, ◌^◌, min}
 use Rattle.language.specs.Description.{Action, Bounds, Node, NodePlaces, bounds, digit_length, further_digits, node_places}
 use Rattle.language.specs.Description as D
 use Rattle.language.specs.Naming.{Scope, meaning, of_facility, of_operation, of_state}

@@ -10,7 +10,6 @@ use Rattle.language.specs.Layout.{facility_bytes}
 use Rattle.language.specs.declared.refusals.Refusal.TheVariants.{BadLength, BadName, BadSequencing, BadSubscript, CeilingPassed}
 use Rattle.language.specs.Scan.{same}
 use Rattle.language.specs.Tree.{Name}
-use Rattle.language.specs.Value.{value}
 use Rattle.language.specs.Ceilings.{largest_bound, largest_store, longest, most_work}
 use Rattle.language.specs.Words.{Fault, Position, fault}
 use Rattle.language.specs.Tests.{both}

@@ -3,7 +3,7 @@ use Rattle.std.specs.Prelude.{Bool, true, false, cond, ◌||◌, List, [], ℕ, 
 use Rattle.std.proofs.Math.Option.{Option, none, some}
 use Rattle.language.specs.Ceilings.{last_cycle, most_returns}
 use Rattle.language.specs.Acting.{Doing, Ran, run_actions, went}
-use Rattle.language.specs.Description.{Description, State, constant_in, number_of_constant, facility_at, node_at, sequencing_of, state_at, word_length}
+use Rattle.language.specs.Description.{Description, constant_in, number_of_constant, facility_at, node_at, sequencing_of, state_at, word_length}
 use Rattle.language.specs.Meaning.{Stuck, fitting, no_state, no_state_value, sides_differ, too_large, wrong_record}
 use Rattle.language.specs.declared.stops.Stop.{Stop}
 use Rattle.language.specs.declared.stops.Stop.TheVariants.{LastCycleReached, NoNextState, NothingToReturn, TooManyCalls, TwoNextStates, ValueUnborne}

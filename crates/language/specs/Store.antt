@@ -1,5 +1,5 @@
 -- The store as each facility's words as numbers (01, "Image, store, record"), delayed stores as a list in order of execution, and the same store in bytes.
-use Rattle.std.specs.Prelude.{Bool, true, false, cond, ◌||◌, List, [], ◌∷◌, ◌++◌, ℕ, zero, suc, ◌+◌, ◌-◌, ◌/◌, ◌%◌, ◌^◌, eqb, ltb, drop, get_or, length, replicate, set, take}
+use Rattle.std.specs.Prelude.{Bool, true, false, cond, ◌||◌, List, [], ◌∷◌, ◌++◌, ℕ, zero, suc, ◌+◌, ◌-◌, ◌/◌, ◌%◌, ◌^◌, eqb, ltb, drop, get_or, replicate, set, take}
 use Rattle.language.specs.Description.{Description, Facility, facility_at, is_computed, word_count, word_length}
 use Rattle.language.specs.Layout.{facility_bytes, no_spare_bits, word_bytes, word_from_bytes, word_to_bytes}
 use Rattle.language.specs.Meaning.{Place, Stores, Write}

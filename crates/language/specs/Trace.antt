@@ -1,5 +1,5 @@
 -- What the trace program prints (01, "Cases"), over the public calls alone: reading, opening, and a cycle for each line of input bits.
-use Rattle.std.specs.Prelude.{Bool, false, cond, List, [], ◌∷◌, ◌++◌, ℕ, zero, suc, ◌+◌, ◌-◌, ◌*◌, ◌/◌, ◌%◌, ◌^◌, eqb, leb, drop}
+use Rattle.std.specs.Prelude.{Bool, false, cond, List, [], ◌∷◌, ◌++◌, ℕ, zero, suc, ◌+◌, ◌*◌, ◌/◌, ◌%◌, ◌^◌, eqb, leb, drop}
 use Rattle.std.proofs.Math.Option.{Option, none, some}
 use Rattle.language.specs.Calls.{CycleAnswer, CycleCall, OpenCall, cycle, cycled, open', refused_for, stopped_for}
 use Rattle.language.specs.Decode.{decode}

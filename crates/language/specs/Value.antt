@@ -1,7 +1,7 @@
 -- Values and operators (01, "Lengths"; the manual, 2.3 and 5.3).
 -- A value is a length in bits and a number. Each operator has a rule for the length and a rule for the number, each with its own name.
 -- m and n are the operands' lengths, x and y their numbers.
-use Rattle.std.specs.Prelude.{Bool, true, false, cond, ℕ, zero, suc, ◌+◌, ◌-◌, ◌*◌, ◌/◌, ◌%◌, ◌^◌, max, eqb, leb, ltb, length}
+use Rattle.std.specs.Prelude.{Bool, true, false, cond, ℕ, zero, suc, ◌+◌, ◌-◌, ◌*◌, ◌/◌, ◌%◌, ◌^◌, max, eqb, leb, ltb}
 use Rattle.std.specs.Int.Bits.{bit_and, bit_or, bit_xor}
 use Rattle.std.specs.Int.Count.{ones}
 use Rattle.language.specs.Ceilings.{longest}

@@ -2,7 +2,7 @@
 ghost use Rattle.std.specs.Prelude.{◌≡◌};
 ghost use Rattle.language.specs.Stops.{stop_number};
 
-#[derive(Drop)]
+#[derive(Clone, Copy)]
 pub enum Stop {
     // a computed subscript outside its bounds
     OutsideBounds,
@@ -21,7 +21,7 @@ pub enum Stop {
 }
 
 // The stop that ended something, if one did.
-#[derive(Drop)]
+#[derive(Clone, Copy)]
 pub enum Halt {
     None,
     At(Stop),

@@ -1,4 +1,6 @@
 // Lists of actions and conditionals (the manual, 7.1 and 8.2), read as the machine of the grammar reads them.
+#![tactic(auto)]
+
 ghost use Rattle.std.specs.Prelude.{true, false, [], ◌∷◌};
 ghost use Rattle.language.specs.Machine.{ask};
 ghost use Rattle.parse_tables.specs.declared.meaning.KnownNames as M;

@@ -13,7 +13,7 @@ use text_words::Position;
 use value_operators::Value;
 
 // How many records there are then, and whether there was room.
-#[derive(Drop)]
+#[derive(Clone, Copy)]
 pub struct Room {
     pub nodes: u16,
     pub enough: bool,

@@ -1,4 +1,6 @@
 // The working array of reading: the records of the sections as they are made, the places of their words beside them, and the names declared so far.
+#![tactic(auto)]
+
 ghost use Rattle.std.specs.Prelude.{◌≡◌, length};
 ghost use Rattle.parse_array.specs.Layout.{work_size};
 

@@ -9,7 +9,7 @@ use image_records::nodes::Node;
 use image_records::{bytes, node_bytes, numbers, record_sizes};
 
 // The places beside a record: its word's, and those of the ends of a part, each with its mark.
-#[derive(Drop)]
+#[derive(Clone, Copy)]
 pub struct Beside {
     pub at: u16,
     pub first: u16,

@@ -10,7 +10,7 @@ use parse_tables::extents::{Ends, Extent};
 use text_words::{Word, places};
 
 // What became of dimensions, and where they are done their extent.
-#[derive(Drop)]
+#[derive(Clone, Copy)]
 pub struct Measured {
     pub answer: Answer,
     pub extent: Extent,

@@ -7,7 +7,7 @@ use parse_tables::extents::Ends;
 use text_words::Word;
 
 // What became of a range, and where it is done its ends.
-#[derive(Drop)]
+#[derive(Clone, Copy)]
 pub struct Ranged {
     pub answer: Answer,
     pub ends: Ends,

@@ -19,7 +19,7 @@ use Rattle.text_words.specs.Meaning.{positioned}
 use Rattle.parse_tables.specs.Names.{facility_names}
 use Rattle.parse_array.specs.Held.{held, with_nodes}
 use Rattle.parse_step.specs.declared.Answer.{Answer}
-use Rattle.parse_step.specs.declared.Bearing.TheVariants.{Level, Opens}
+use Rattle.parse_step.specs.declared.Bearing.TheVariants.{Opens}
 use Rattle.parse_step.specs.declared.State.{State}
 use Rattle.parse_step.specs.declared.ReadVerdict.TheVariants.{Done}
 use Rattle.parse_step.specs.Course.{Stack, ahead, counts_of, kind_no, runs}

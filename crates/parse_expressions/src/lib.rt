@@ -1,5 +1,7 @@
 // Expressions and references (the manual, 5.1 and 5.2): a recursive descent that writes their records, against the machine of the grammar.
 // A frame of each function stands for every level of nesting, so that each keeps one answer at a time, in `got`.
+#![tactic(auto)]
+
 ghost use Rattle.std.specs.Prelude.{false, true, [], ◌∷◌, ◌≡◌, ◌-◌, ◌≤◌};
 ghost use Rattle.language.specs.Kinds.{a_constant, a_name, open_paren};
 ghost use Rattle.language.specs.Machine as L;

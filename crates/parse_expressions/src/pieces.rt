@@ -23,7 +23,7 @@ use parse_step::{Answer, Bearing, ReadVerdict, State, adding, kinds, taking};
 use text_words::Word;
 
 // An answer, and how many arms there are.
-#[derive(Drop)]
+#[derive(Clone, Copy)]
 pub struct Armed {
     pub answer: Answer,
     pub count: u16,

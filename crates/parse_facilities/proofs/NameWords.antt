@@ -2,7 +2,7 @@
 use mathlib.Core.Bool.{true}
 use mathlib.Core.List.{List, ◌∷◌, ◌++◌}
 use mathlib.Core.Path.{◌≡◌, ◌∙◌, subst}
-use Prim.Native.Nat.{ℕ, ◌+◌, ◌≤◌}
+use Prim.Native.Nat.{ℕ, ◌≤◌}
 use borrow.Author.Tests.{leb-true, ne_eqb}
 use Rattle.language.specs.declared.refusals.Refusal.TheVariants.{NoContinuation}
 use Rattle.parse_step.proofs.Looking.{View, begun, ended, name-ahead, view}

@@ -1,7 +1,7 @@
 -- What stands in the tables are the sections of the description, and the bytes of its places.
 use mathlib.Core.List.{List, [], ◌∷◌, ◌++◌, map}
 use mathlib.Core.Path.{◌≡◌, refl, ap}
-use Prim.Native.Nat.{ℕ, ◌+◌}
+use Prim.Native.Nat.{ℕ}
 use Rattle.language.specs.Description.{Description, Places}
 use Rattle.language.specs.Encode.{Sections, concat, encode, image_of, name_bytes, sections_of}
 use Rattle.judge_records.specs.Noted.{Beside}

@@ -1,4 +1,6 @@
 // The sections that the working array holds: their gotos resolved when all labels are known, and they and their names counted and put where an image has them.
+#![tactic(auto)]
+
 pub mod body;
 pub mod counts;
 pub mod gotos;
@@ -6,7 +8,7 @@ pub mod letters;
 pub mod names;
 
 // How many records the array has of each section.
-#[derive(Drop)]
+#[derive(Clone, Copy)]
 pub struct Holding {
     pub facilities: u16,
     pub operations: u16,

@@ -1,10 +1,12 @@
 // The levels of an expression, the ranks of the operators that go on with one, and the prefix operators that begin one (the manual, 5.1 and 5.2).
+#![tactic(auto)]
+
 pub mod heads;
 mod kinds;
 pub mod ranks;
 
 // What an expression is read as, the tightest first; a chain is a complement without its sign.
-#[derive(Drop)]
+#[derive(Clone, Copy)]
 pub enum Level {
     Term,
     Arithmetic,
@@ -18,7 +20,7 @@ pub enum Level {
 }
 
 // The operators behind an operand, the tightest first.
-#[derive(Drop)]
+#[derive(Clone, Copy)]
 pub enum Rank {
     Sum,
     Relation,
@@ -31,7 +33,7 @@ pub enum Rank {
 }
 
 // What stands before the first operand.
-#[derive(Drop)]
+#[derive(Clone, Copy)]
 pub enum Lead {
     Plain,
     Negation,

@@ -8,7 +8,7 @@ use borrow.Author.Tests.{eqb-true}
 use lib.Dec.{eqb}
 use Rattle.language.specs.Building.{Built, keep_word}
 use Rattle.language.specs.Kinds.{a_constant, close_bracket, colon}
-use Rattle.language.specs.Machine.{Counts, ask, closes, keep, make, refused, word}
+use Rattle.language.specs.Machine.{Counts, ask, closes, keep, make, word}
 use Rattle.language.specs.Words as L
 use Rattle.text_words.specs.declared.Word.{Word}
 use Rattle.parse_step.specs.declared.Answer.{Answer}

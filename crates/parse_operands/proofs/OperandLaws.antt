@@ -9,7 +9,7 @@ use Rattle.language.specs.Describe.{constant_nodes, constant_size, count, expres
 use Rattle.language.specs.Description as D
 use Rattle.language.specs.Description.{node_places}
 use Rattle.language.specs.Encode.{node_bytes}
-use Rattle.language.specs.Machine.{Counts, ask, keep, make, refused, term}
+use Rattle.language.specs.Machine.{Counts, ask, keep, make, term}
 use Rattle.language.specs.Naming.{Scope}
 use Rattle.language.specs.Scan.{written}
 use Rattle.language.specs.Tree as T

@@ -34,7 +34,7 @@ pub fn counted(s: State, w: Word, next: Word, work: &mut Work) -> Answer
 }
 
 // The ends of a part, with the bracket that closes it; `last` is the second one.
-#[derive(Drop)]
+#[derive(Clone, Copy)]
 pub struct EndsRead {
     pub answer: Answer,
     pub last: Word,

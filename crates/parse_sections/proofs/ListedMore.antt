@@ -14,7 +14,7 @@ use Rattle.language.specs.Describe.{actions_in, actions_of, nodes_in}
 use Rattle.language.specs.DescribeText.{operation_actions, operation_expressions, operation_nodes, operation_records, operation_scope, operations_of}
 use Rattle.language.specs.Encode.{concat, operation_record}
 use Rattle.language.specs.Naming.{Scope}
-use Rattle.language.specs.Tree.{Actions, Name, Operation}
+use Rattle.language.specs.Tree.{Name, Operation}
 use Rattle.judge_records.specs.Noted.{place_bytes}
 use Rattle.parse_stores.proofs.Joining.{bytes-append}
 use Rattle.parse_stores.specs.Actions.{OthersKept, Written, action_besides, action_records, front_of}

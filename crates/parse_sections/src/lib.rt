@@ -1,4 +1,6 @@
 // The sections of a text up to CONTROL (the manual, 4, 6 and 7), read as the machine of the grammar reads them.
+#![tactic(auto)]
+
 ghost use Rattle.std.specs.Prelude.{◌<◌, ◌≡◌, length};
 ghost use Rattle.parse_sections.specs.Sections.{Preamble, start_state};
 

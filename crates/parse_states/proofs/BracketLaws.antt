@@ -16,7 +16,7 @@ use Rattle.parse_step.proofs.States.{counted, state-of}
 use Rattle.language.specs.Building.{Built, keep_word}
 use Rattle.language.specs.Declaring.{tree_steps}
 use Rattle.language.specs.Kinds.{a_constant, close_paren, colon, open_paren}
-use Rattle.language.specs.Machine.{ask, closes, first_name, keep, level, make, refused, state_body, state_rest, word}
+use Rattle.language.specs.Machine.{ask, closes, first_name, keep, level, make, state_body, state_rest, word}
 use Rattle.text_words.specs.declared.Word.{Word}
 use Rattle.parse_states.proofs.StateWords.{value-comes}
 use Rattle.parse_states.specs.Heads.{Brackets}

@@ -5,7 +5,6 @@ use Rattle.image_sections.specs.declared.runs.Run.{Run}
 use Rattle.image_sections.specs.Declarations.{run_meant, value_meant}
 use Rattle.language.specs.Describe.{actions_in}
 use Rattle.language.specs.DescribeText.{expressions_of_state, label_of, state_actions, state_nodes, states_of, value_place}
-use Rattle.language.specs.Description.{StatePlaces}
 use Rattle.language.specs.Encode.{concat, state_record}
 use Rattle.language.specs.Naming.{Scope}
 use Rattle.language.specs.Tree as T

@@ -12,7 +12,7 @@ use parse_step::{Answer, Bearing, ReadVerdict, State, adding, kinds, taking};
 use text_words::{Position, Word, places};
 
 // A constant that was read in parentheses with the colon behind them.
-#[derive(Drop)]
+#[derive(Clone, Copy)]
 pub struct Bracketed {
     pub answer: Answer,
     pub constant: Word,

@@ -1,4 +1,6 @@
 // The states of a text (the manual, 8.1), read as the machine of the grammar reads them; their records, places and labels go to their tables.
+#![tactic(auto)]
+
 use image_sections::states::StateValue;
 use parse_step::Answer;
 use text_words::Position;
@@ -11,7 +13,7 @@ pub mod reading;
 mod values;
 
 // A state before its actions: where it stands, how long its label is, its value and where that stands.
-#[derive(Drop)]
+#[derive(Clone, Copy)]
 pub struct Head {
     pub at: Position,
     pub size: usize,
@@ -20,7 +22,7 @@ pub struct Head {
 }
 
 // The beginning of a state, and whether it ended with the name that its first action begins with.
-#[derive(Drop)]
+#[derive(Clone, Copy)]
 pub struct Begun {
     pub answer: Answer,
     pub head: Head,

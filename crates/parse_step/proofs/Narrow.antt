@@ -42,7 +42,7 @@ from-right at s = moved (length s) 0 at s (words_right s)
 
 pub narrow : (text : List ℕ) (w : Word) → Seen text w → kind_no w.kind ≡ a_constant → w.value.length ≤ 256
 unfolding ahead longest
-narrow text w z e = (subst WordsRight (sym z.next.words ∙ constant-ahead text w z e) (from-right z.from (drop z.from text))).0.at_most
+narrow text w z e = (subst WordsRight (sym z.next.words ∙ constant-ahead text w z e) (from-right z.from (drop z.from text))).0.at-most
 
 pub few-records : (v : Value) → v.length ≤ 256 → constant_size v ≤ 6
 unfolding constant_size further_digits digit_length

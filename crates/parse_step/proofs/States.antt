@@ -1,6 +1,6 @@
 -- A state by its counts.
 use mathlib.Core.Path.{◌≡◌, ap}
-use Prim.Native.Nat.{ℕ, ◌-◌}
+use Prim.Native.Nat.{ℕ}
 use Rattle.parse_step.specs.declared.State.{State}
 use Rattle.parse_step.specs.Course.{counts_of}
 use Rattle.parse_step.specs.Taken.{Kept}

@@ -1,4 +1,6 @@
 // The course of parsing: what has been counted and written so far, a word taken, a record added; each as the machine of the grammar does it.
+#![tactic(auto)]
+
 ghost use Rattle.std.specs.Prelude.{false, true, ◌≡◌};
 ghost use Rattle.parse_step.specs.declared.ReadVerdict.TheVariants.{Done};
 
@@ -9,7 +11,7 @@ pub mod kinds;
 pub mod taking;
 
 // The counts of the grammar's machine; how many records of expressions and of actions are written, and how many facilities are known.
-#[derive(Drop)]
+#[derive(Clone, Copy)]
 pub struct State {
     pub facilities: u16,
     pub operations: u16,
@@ -22,7 +24,7 @@ pub struct State {
 }
 
 // What became of a part of the text: it was read, it is refused, or the working array is full.
-#[derive(Drop)]
+#[derive(Clone, Copy)]
 pub enum ReadVerdict {
     Done,
     Refused(Fault),
@@ -30,7 +32,7 @@ pub enum ReadVerdict {
 }
 
 // The verdict, and where it is done the next word and the state there.
-#[derive(Drop)]
+#[derive(Clone, Copy)]
 pub struct Answer {
     pub verdict: ReadVerdict,
     pub next: Word,
@@ -38,7 +40,7 @@ pub struct Answer {
 }
 
 // How a word bears on nesting.
-#[derive(Drop)]
+#[derive(Clone, Copy)]
 pub enum Bearing {
     Level,
     Opens,

@@ -1,4 +1,6 @@
 // Simple actions (the manual, 7.1 and 8.2), read as the machine of the grammar reads them.
+#![tactic(auto)]
+
 ghost use Rattle.std.specs.Prelude.{true, [], ◌∷◌, ◌≡◌};
 ghost use Rattle.parse_step.specs.Course.{kind_no};
 ghost use Rattle.about_grammar.specs.Following.{among};

@@ -16,7 +16,7 @@ use parse_step::{Answer, Bearing, State, adding, kinds, taking};
 use text_words::Word;
 
 // The records of a left side: one reference, or two joined by CON.
-#[derive(Drop)]
+#[derive(Clone, Copy)]
 pub enum Sides {
     One(u16),
     Two(u16, u16),

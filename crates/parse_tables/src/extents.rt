@@ -2,7 +2,7 @@
 use text_words::Position;
 
 // First and last bound of a dimension, at most 65,536 each, and where they stand.
-#[derive(Drop)]
+#[derive(Clone, Copy)]
 pub struct Ends {
     pub first: u32,
     pub left: Position,
@@ -11,7 +11,7 @@ pub struct Ends {
 }
 
 // With one dimension only the bits have bounds, with none neither.
-#[derive(Drop)]
+#[derive(Clone, Copy)]
 pub struct Extent {
     pub dimensions: u8,
     pub words: Ends,

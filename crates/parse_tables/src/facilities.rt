@@ -15,7 +15,7 @@ use parse_array::{Work, places};
 use text_words::Position;
 
 // What a declaration says: the name by its place and size, and of a computed terminal the number of its expression and the place of its `=`.
-#[derive(Drop)]
+#[derive(Clone, Copy)]
 pub struct Declared {
     pub kind: FacilityKind,
     pub at: Position,

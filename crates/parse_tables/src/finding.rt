@@ -13,7 +13,7 @@ use parse_array::Work;
 use parse_array::layout::NAME_SIZE;
 use text_characters::names::matches;
 
-#[derive(Drop)]
+#[derive(Clone, Copy)]
 pub enum Found {
     At(u8),
     Nothing,

@@ -1,4 +1,6 @@
 // The tables of the working array behind the expressions: the records of the other sections, the places of their words, and the names declared.
+#![tactic(auto)]
+
 pub mod actions;
 pub mod extents;
 pub mod facilities;
@@ -12,7 +14,7 @@ pub mod states;
 pub mod stores;
 
 // A table is a row of records of one size, each at its number.
-#[derive(Drop)]
+#[derive(Clone, Copy)]
 pub enum Table {
     Actions,
     ActionPlaces,

@@ -12,7 +12,7 @@ use crate::{Table, finding};
 use image_records::bytes;
 use parse_array::Work;
 
-#[derive(Drop)]
+#[derive(Clone, Copy)]
 pub enum Meaning {
     Facility(u8),
     Operation(u8),
@@ -22,7 +22,7 @@ pub enum Meaning {
 }
 
 // How many names are known, and whether any other waits for its state.
-#[derive(Drop)]
+#[derive(Clone, Copy)]
 pub struct KnownNames {
     pub facilities: u16,
     pub operations: u16,

@@ -22,7 +22,6 @@ use Rattle.language.specs.Building.{expression_no, word_no}
 use Rattle.language.specs.Declaring.{make_computed}
 use Rattle.language.specs.Describe.{Noted, expression_size, nodes_of}
 use Rattle.language.specs.DescribeText.{facility_nodes, function_sizes}
-use Rattle.language.specs.Encode as Encode
 use Rattle.language.specs.Machine.{ask, expression, function_of, make, within_ceilings}
 use Rattle.language.specs.Ceilings.{deepest, most_counted, most_facilities, most_operations, most_states}
 use Rattle.language.specs.Naming.{Scope}

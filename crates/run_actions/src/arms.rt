@@ -10,7 +10,7 @@ use image_records::{actions, record_sizes};
 use run_references::arms::Found;
 
 // The first action of an arm, and how many it has.
-#[derive(Drop)]
+#[derive(Clone, Copy)]
 pub enum Arm {
     At(usize, u16),
     Nowhere,

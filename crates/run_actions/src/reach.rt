@@ -16,14 +16,14 @@ use run_references::worth::Stuck;
 use run_stores::doing::{Did, Doing};
 
 // What an action comes to: a list that is still to be executed, as in `Way`, or what it did.
-#[derive(Drop)]
+#[derive(Clone, Copy)]
 pub enum Came {
     Into(usize, usize, u16),
     Done(Did),
 }
 
 // A list that an action holds, as in `Way`; and the records from `at` on that follow the action: so many, of which it passes over so many.
-#[derive(Drop)]
+#[derive(Clone, Copy)]
 pub struct Held {
     pub below: usize,
     pub first: usize,
@@ -34,7 +34,7 @@ pub struct Held {
     pub doing: Doing,
 }
 
-#[derive(Drop)]
+#[derive(Clone, Copy)]
 pub enum Reached {
     Inside(Held),
     Ended(Did),

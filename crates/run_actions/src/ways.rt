@@ -17,7 +17,7 @@ use run_references::bounds;
 use run_references::worth::{Outcome, Stuck};
 
 // A list of so many records from the first on, which may name the operations below a number; or none, and the outcome.
-#[derive(Drop)]
+#[derive(Clone, Copy)]
 pub enum Way {
     Into(usize, usize, u16),
     Past,

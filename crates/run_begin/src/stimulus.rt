@@ -14,7 +14,7 @@ use run_references::bounds;
 use store_words::spare;
 
 // What a facility takes of the stimulus: how many bytes, and whether they are its words without spare bits.
-#[derive(Drop)]
+#[derive(Clone, Copy)]
 struct Taken {
     fits: bool,
     bytes: usize,

@@ -5,7 +5,7 @@ use language::stops::Stop;
 use run_next::record::Record;
 use run_references::worth::Stuck;
 
-#[derive(Drop)]
+#[derive(Clone, Copy)]
 pub enum CycleEnd {
     Completed,
     Stopped(Stop),
@@ -13,7 +13,7 @@ pub enum CycleEnd {
 }
 
 // The record and the conflict count after the cycle, where it completed.
-#[derive(Drop)]
+#[derive(Clone, Copy)]
 pub struct Stepped {
     pub verdict: CycleEnd,
     pub record: Record,

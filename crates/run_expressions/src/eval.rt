@@ -30,7 +30,7 @@ use store_geometry::subscripts::Subscripts;
 use value_operators::lengths;
 
 // The facility that a reference names and the place in it, or why there is none.
-#[derive(Drop)]
+#[derive(Clone, Copy)]
 pub enum Side {
     At(FacilityRecord, Place),
     Stops(Stop),

@@ -1,4 +1,6 @@
 // What a cycle leaves of store, record and scratch, by how it ended.
+#![tactic(auto)]
+
 ghost use Rattle.std.specs.Prelude.{◌≡◌, ◌≤◌, length};
 ghost use Rattle.run_next.specs.Seen.{record_meant};
 ghost use Rattle.run_left.specs.Kept.{kept, kept_record, kept_store};

@@ -1,4 +1,6 @@
 // The next state: the stops after the actions, in their order, and the run record after a cycle.
+#![tactic(auto)]
+
 pub mod bearer;
 pub mod record;
 pub mod register;

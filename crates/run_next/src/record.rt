@@ -11,7 +11,7 @@ use run_stores::doing::Doing;
 pub const MOST_RETURNS: u32 = ceilings::RETURNS as u32;
 
 // State, cycle number, and the return states held, unused ones zero.
-#[derive(Drop)]
+#[derive(Clone, Copy)]
 pub struct Record {
     pub state: u32,
     pub cycle: u32,

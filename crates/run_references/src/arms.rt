@@ -13,7 +13,7 @@ use image_records::nodes;
 use image_records::nodes::Node;
 use value_operators::Value;
 
-#[derive(Drop)]
+#[derive(Clone, Copy)]
 pub enum Found {
     At(u16),
     Nowhere,

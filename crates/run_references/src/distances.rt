@@ -13,7 +13,7 @@ use image_sections::facilities::{FacilityRecord, ShortBounds};
 use store_geometry::subscripts::Subscripts;
 
 // A subscript's record and the bounds that it must keep, or nothing to work out.
-#[derive(Drop)]
+#[derive(Clone, Copy)]
 pub enum Sought {
     At(u16, ShortBounds),
     Nothing,

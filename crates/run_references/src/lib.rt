@@ -1,4 +1,6 @@
 // What references name, what constants are and what operators give: the parts that evaluation is made of.
+#![tactic(auto)]
+
 pub mod arms;
 pub mod bounds;
 pub mod constants;

@@ -19,7 +19,7 @@ use store_geometry::bounds::Bounds;
 use value_operators::Value;
 
 // Facility, word, first bit from the left, number of bits.
-#[derive(Drop)]
+#[derive(Clone, Copy)]
 pub struct Place {
     pub facility: u8,
     pub word: u16,
@@ -27,7 +27,7 @@ pub struct Place {
     pub count: u16,
 }
 
-#[derive(Drop)]
+#[derive(Clone, Copy)]
 pub enum Located {
     At(Place),
     Stops(Stop),
@@ -35,7 +35,7 @@ pub enum Located {
 }
 
 // How far a subscript is from the first bound, or why it is nowhere.
-#[derive(Drop)]
+#[derive(Clone, Copy)]
 pub enum Distance {
     At(u16),
     Stops(Stop),

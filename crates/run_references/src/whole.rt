@@ -17,7 +17,7 @@ use image_sections::{facilities, kinds};
 use value_operators::lengths;
 
 // What an operand is worth, where that is found at once.
-#[derive(Drop)]
+#[derive(Clone, Copy)]
 pub struct AtOnce {
     pub found: bool,
     pub worth: Worth,

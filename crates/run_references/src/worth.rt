@@ -9,7 +9,7 @@ use language::stops::Stop;
 use value_operators::{Value, operators};
 
 // The ways to be stuck that are tested for; no passing image reaches one.
-#[derive(Drop)]
+#[derive(Clone, Copy)]
 pub enum Stuck {
     NotBefore,
     WrongRecord,
@@ -31,7 +31,7 @@ pub enum Stuck {
     NoStateValue,
 }
 
-#[derive(Drop)]
+#[derive(Clone, Copy)]
 pub enum Outcome {
     Is,
     Stops(Stop),
@@ -39,7 +39,7 @@ pub enum Outcome {
 }
 
 // A value where the outcome is one; any other outcome stands beside some value.
-#[derive(Drop)]
+#[derive(Clone, Copy)]
 pub struct Worth {
     pub outcome: Outcome,
     pub value: Value,

@@ -9,14 +9,14 @@ use language::stops::Stop;
 use run_references::worth::Stuck;
 
 // Of the states named so far the first, and whether there is none, one or more.
-#[derive(Drop)]
+#[derive(Clone, Copy)]
 pub struct Named {
     pub first: u16,
     pub count: u8,
 }
 
 // The states gone to and called, returns counted up to two, whether a delayed store went to the sequencing register, and conflicts as far as 32 bits count.
-#[derive(Drop)]
+#[derive(Clone, Copy)]
 pub struct Doing {
     pub gotos: Named,
     pub returns: u8,
@@ -25,7 +25,7 @@ pub struct Doing {
     pub conflicts: u32,
 }
 
-#[derive(Drop)]
+#[derive(Clone, Copy)]
 pub enum Did {
     Went(Doing),
     Stopped(Stop),

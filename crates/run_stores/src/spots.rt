@@ -14,7 +14,7 @@ use store_words::{delayed, parts};
 use value_operators::Value;
 
 // The first byte of a word, its length, and which of its bits.
-#[derive(Drop)]
+#[derive(Clone, Copy)]
 pub struct Spot {
     pub at: usize,
     pub length: u32,

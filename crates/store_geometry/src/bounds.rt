@@ -5,7 +5,7 @@ ghost use Rattle.language.specs.References.{same_direction};
 ghost use Rattle.store_geometry.specs.Shapes.{bounds_meant};
 
 // The first and the last number of a dimension; a text can name larger ones than a record has room for.
-#[derive(Drop)]
+#[derive(Clone, Copy)]
 pub struct Bounds {
     pub first: u32,
     pub last: u32,

@@ -8,7 +8,7 @@ use crate::bounds;
 use crate::bounds::Bounds;
 
 // What the words of a facility depend on.
-#[derive(Drop)]
+#[derive(Clone, Copy)]
 pub struct Shape {
     pub computed: bool,
     pub dimensions: u8,

@@ -10,7 +10,7 @@ use crate::shapes::Shape;
 use crate::{bounds, shapes};
 
 // X, X[e], X[c:d], X[e,e], X[e,c:d].
-#[derive(Drop)]
+#[derive(Clone, Copy)]
 pub enum Subscripts {
     Whole,
     One(u16),

@@ -9,7 +9,7 @@ use crate::bytes;
 use store_geometry::shapes;
 
 // Bits that lie in one byte of a word: the byte, counted from the least significant one, and which of its bits.
-#[derive(Drop)]
+#[derive(Clone, Copy)]
 struct Cut {
     byte: usize,
     shift: usize,

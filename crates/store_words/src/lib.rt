@@ -1,4 +1,6 @@
 // How a part of a word in the store is read and written.
+#![tactic(auto)]
+
 mod bits;
 mod bytes;
 pub mod delayed;

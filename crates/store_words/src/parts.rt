@@ -31,7 +31,7 @@ fn inside(bytes: usize, at: usize, length: u32, from: u32, count: u32) -> bool
 }
 
 // A part in four runs of up to 64 bits, the lowest first: where each but the first begins, and how many bits each has.
-#[derive(Drop)]
+#[derive(Clone, Copy)]
 struct Runs {
     p1: usize,
     p2: usize,

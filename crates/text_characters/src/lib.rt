@@ -1,4 +1,6 @@
 // Characters (the manual, 2.1): their classes, and what words are told apart by.
+#![tactic(auto)]
+
 pub mod classes;
 pub mod letters;
 pub mod names;

@@ -6,7 +6,7 @@ ghost use Rattle.text_characters.specs.Runs.{belonging};
 use crate::letters;
 
 // What the bytes of a run are.
-#[derive(Drop)]
+#[derive(Clone, Copy)]
 pub enum Stretch {
     // Letters and digits.
     Name,

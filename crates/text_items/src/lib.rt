@@ -1,4 +1,6 @@
 // The item at the start of a text (the manual, 2.1 to 2.4): blanks, a comment, a name, a constant or a symbol.
+#![tactic(auto)]
+
 ghost use Rattle.std.specs.Prelude.{◌≡◌};
 ghost use Rattle.text_items.specs.Meaning.{made_item, plain_item};
 
@@ -12,7 +14,7 @@ pub mod reserved;
 pub mod symbols;
 
 // What an item is: a gap is blanks or a comment, a sign a symbol or a reserved word by its kind, and what is wrong has its refusal.
-#[derive(Drop)]
+#[derive(Clone, Copy)]
 pub enum ItemKind {
     Gap,
     Name,
@@ -22,7 +24,7 @@ pub enum ItemKind {
 }
 
 // An item, how many bytes it takes, and for a constant its value and whether it was written without a length.
-#[derive(Drop)]
+#[derive(Clone, Copy)]
 pub struct Item {
     pub kind: ItemKind,
     pub size: usize,

@@ -1,4 +1,6 @@
 // From bytes to words (01, "Words" and "Refusal numbers"): the next word from a place on, and the stage that judges a whole text.
+#![tactic(auto)]
+
 use language::refusals::Refusal;
 use value_operators::Value;
 
@@ -9,13 +11,13 @@ pub mod places;
 pub mod stage;
 
 // Where a word stands: only this crate takes it apart.
-#[derive(Drop)]
+#[derive(Clone, Copy)]
 pub struct Position {
     pub place: usize,
 }
 
 // What a word is; a sign is a symbol or a reserved word by its kind.
-#[derive(Drop)]
+#[derive(Clone, Copy)]
 pub enum WordKind {
     End,
     Name,
@@ -24,7 +26,7 @@ pub enum WordKind {
 }
 
 // A word or the end of the text: where it stands, how many bytes it takes, and for a constant its value and whether it was written without a length.
-#[derive(Drop)]
+#[derive(Clone, Copy)]
 pub struct Word {
     pub kind: WordKind,
     pub at: Position,
@@ -34,14 +36,14 @@ pub struct Word {
 }
 
 // What is at fault, and how.
-#[derive(Drop)]
+#[derive(Clone, Copy)]
 pub struct Fault {
     pub at: Position,
     pub refusal: Refusal,
 }
 
 // What comes of judging.
-#[derive(Drop)]
+#[derive(Clone, Copy)]
 pub enum Judged {
     Passed,
     Refused(Fault),

@@ -1,38 +1,55 @@
 // The trace program (01, "Cases"): the text of run.ddl, a line of input bits for each cycle from standard input, and a line of output for each.
+#![tactic(auto)]
+
 mod input;
 
 use image_records::bytes;
 use language::ceilings;
-use libc::STDOUT_FILENO;
+use std::alloc::Global;
+use std::io::Read;
+use std::{fs, io};
 use trace_whole::begun::Begun;
 use trace_whole::{begun, roomy};
 
-// Reads the text, and runs it or says why it is refused.
-fn run(text: &[u8]) {
+// Runs the text or says why it is refused.
+fn run(rt: &(impl Input + Print), text: &[u8]) -> io::Result<()> {
     let mut image = [0u8; begun::IMAGE];
     let mut store = [0u8; ceilings::STORE];
     let mut record = [0u8; ceilings::RECORD];
     let mut out = [0u8; begun::REFUSED];
     match roomy::begin_run(text, &mut image, &mut store, &mut record, &mut out) {
-        Begun::Refused(end) => {
-            io::write_all(STDOUT_FILENO, bytes::part(&out, 0, end));
-        }
+        Begun::Refused(end) => rt.write_all(bytes::part(&out, 0, end)),
         Begun::Runs(n, size) => {
-            input::cycles(&image[0..n], &mut store[0..size], &mut record);
+            input::cycles(rt, &image[0..n], &mut store[0..size], &mut record)
         }
     }
 }
 
 // One byte more is read than a text may have: a longer one is refused whatever follows.
-fn main() {
-    let path = b"run.ddl";
-    let file = os::open_read(path);
-    if file < 0 {
-        os::fail(path);
-        return;
+fn read_text(alloc: Global, file: impl Read + Drop) -> io::Result<Vec<u8>> {
+    let mut text = Vec::new(alloc);
+    file.take(ceilings::TEXT as u64 + 1).read_to_end(&mut text)?;
+    Ok(text)
+}
+
+// Why a call failed, without the number that it has in the system.
+fn reason(said: &str) -> &str {
+    match said.rsplit_once(" (os error ") {
+        Some((reason, _)) => reason,
+        None => said,
     }
-    let mut text = [0u8; ceilings::TEXT + 1];
-    let n = io::read_full(file, &mut text);
-    libc::close(file);
-    run(&text[..n]);
+}
+
+// A line on standard error: the file, and why it does not open.
+fn fail(rt: &(impl Eprint + AllocGlobal), path: &str, error: io::Error) -> io::Result<()> {
+    let said = format!(in rt.alloc(); "{error}")?;
+    eprintln!(rt; "{path}: {}", reason(&said))
+}
+
+fn main(rt: HostRuntime) -> io::Result<()> {
+    let path = "run.ddl";
+    match fs::open(&rt, path) {
+        Ok(file) => run(&rt, &read_text(rt.alloc(), file)?),
+        Err(e) => fail(&rt, path, e),
+    }
 }

@@ -16,13 +16,13 @@ use run_references::bounds;
 use store_geometry::shapes;
 use store_words::slices;
 
-#[derive(Drop)]
+#[derive(Clone, Copy)]
 enum Octet {
     Bits(u8),
     None,
 }
 
-#[derive(Drop)]
+#[derive(Clone, Copy)]
 pub enum Taken {
     // How many bytes the stimulus has.
     Bytes(usize),

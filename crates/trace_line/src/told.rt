@@ -21,7 +21,7 @@ use trace_output::line;
 pub const PRINTED: usize = 200000;
 
 // Whether the run goes on, and where the output ends.
-#[derive(Drop)]
+#[derive(Clone, Copy)]
 pub struct Turn {
     pub on: bool,
     pub end: usize,

@@ -15,7 +15,7 @@ pub const IMAGE: usize = 165556;
 
 pub const REFUSED: usize = 50;
 
-#[derive(Drop)]
+#[derive(Clone, Copy)]
 pub enum Begun {
     // The bytes of the image and of the store.
     Runs(usize, usize),

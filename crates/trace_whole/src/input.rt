@@ -6,10 +6,10 @@ ghost use Rattle.trace_whole.specs.Fed.{Ended, Fed};
 
 use crate::line;
 use trace_input::lines;
-use trace_output::line as print;
+use trace_output::line as printing;
 
 // The bytes held of the line so far, the cycles before it, whether the run goes on, and where the output ends.
-#[derive(Drop)]
+#[derive(Clone, Copy)]
 pub struct State {
     pub held: usize,
     pub done: u64,
@@ -79,11 +79,11 @@ pub fn finish(
 {
     let held = s.held;
     if held == 0 {
-        return print::numbered(out, s.end, b"end ", s.done);
+        return printing::numbered(out, s.end, b"end ", s.done);
     }
     let last = cycle(image, store, record, &line[0..held], s, out);
     if last.on {
-        return print::numbered(out, last.end, b"end ", last.done);
+        return printing::numbered(out, last.end, b"end ", last.done);
     }
     last.end
 }

@@ -1,4 +1,6 @@
 // Constants (the manual, 2.3): their digits, one by one, and the value once they end.
+#![tactic(auto)]
+
 ghost use Rattle.std.specs.Prelude.{◌≡◌, ◌+◌, ◌-◌, ◌/◌, ◌%◌, ◌^◌, min};
 ghost use Rattle.language.specs.Value as L;
 ghost use Rattle.language.specs.Constants.{left_justified};
@@ -11,14 +13,14 @@ use language::ceilings;
 use value_operators::{Made, fitting, lengths};
 
 // Decimal digits: their number modulo 2 to the 256, and whether it passed that.
-#[derive(Drop)]
+#[derive(Clone, Copy)]
 pub struct Decimal {
     pub limbs: [u64; 4],
     pub passed: bool,
 }
 
 // Digits of base 2, 4, 8 or 16: their bits at the right or at the left of 256, and how many there are, up to 256.
-#[derive(Drop)]
+#[derive(Clone, Copy)]
 pub struct Binary {
     pub limbs: [u64; 4],
     pub bits: u16,

@@ -1,4 +1,6 @@
 // Numbers of 256 bits in four limbs, the lowest first, handed over by value.
+#![tactic(auto)]
+
 pub mod bits;
 pub mod shifts;
 pub mod sums;
@@ -7,21 +9,21 @@ ghost use Rattle.std.specs.Prelude.{◌≡◌, ◌-◌, ◌^◌};
 ghost use Rattle.value_limbs.specs.Limbs.{number, four};
 
 // A limb, and what is carried out of it.
-#[derive(Drop)]
+#[derive(Clone, Copy)]
 struct Limb {
     pub low: u64,
     pub carry: u64,
 }
 
 // Four limbs, and what is carried out of the last.
-#[derive(Drop)]
+#[derive(Clone, Copy)]
 pub struct Wide {
     pub limbs: [u64; 4],
     pub carry: u64,
 }
 
 // Four limbs, each by its name: a field is known to be below 2 to the 64, an element of an array is not.
-#[derive(Drop)]
+#[derive(Clone, Copy)]
 pub struct Four {
     pub l0: u64,
     pub l1: u64,

@@ -1,4 +1,6 @@
 // Values of up to 256 bits, handed over by value, and the operators of DDL-P on them.
+#![tactic(auto)]
+
 pub mod arithmetic;
 pub mod fitting;
 pub mod lengths;
@@ -11,14 +13,14 @@ pub mod relations;
 pub mod substrings;
 
 // A value: its bits in four limbs, the lowest first, and its length.
-#[derive(Drop)]
+#[derive(Clone, Copy)]
 pub struct Value {
     pub limbs: [u64; 4],
     pub length: u16,
 }
 
 // What an operator gives: a value, or that none fits, beside the blank value.
-#[derive(Drop)]
+#[derive(Clone, Copy)]
 pub struct Made {
     pub fits: bool,
     pub value: Value,

@@ -1,0 +1,7 @@
+use mathlib.Core.Path.{ap, ◌∙◌}
+use Rattle.language.specs.Lookups.{part_of}
+use Rattle.image_lookups.proofs.named.state_name.Goals as goal
+
+pub returns : goal.returns
+returns c =
+    c.name.ensures ∙ ap (part_of c.args.image.now) c.state_part.ensures

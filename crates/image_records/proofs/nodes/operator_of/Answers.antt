@@ -1,0 +1,23 @@
+use borrow.Author.Tests.{ne_eqb}
+use Rattle.language.specs.Decode.{operator_of}
+use Rattle.image_records.proofs.nodes.operator_of.Goals as goal
+
+pub returns-in-1 : goal.returns-in-1
+unfolding operator_of
+returns-in-1 c =
+    λ v. rw c.in-1.is
+
+pub returns-in-2 : goal.returns-in-2
+unfolding operator_of
+returns-in-2 c =
+    λ v. rw c.in-2.is
+
+pub returns-in-3 : goal.returns-in-3
+unfolding operator_of
+returns-in-3 c =
+    λ v. rw c.in-3.is
+
+pub returns-in_default : goal.returns-in_default
+unfolding operator_of
+returns-in_default c =
+    λ v. simp (ne_eqb _ _ c.in_default.in_default-own.rest.1, ne_eqb _ _ c.in_default.in_default-own.rest.0.1, ne_eqb _ _ c.in_default.in_default-own.rest.0.0.1)

@@ -1,0 +1,11 @@
+use Prim.Native.Nat.{◌<◌}
+use native.Mathlib.Nat.{mod-eq_of_lt}
+use native.Mathlib.Omega.{arith}
+use Rattle.language.specs.Encode.{little, state_record}
+use Rattle.image_sections.proofs.states.state_bytes.Goals as goal
+
+pub returns : goal.returns
+unfolding little state_record
+returns c =
+    let h : c.args.s.name < 256 = omega arith in
+    λ name e. rw (e, mod-eq_of_lt h, c.low-v0.ensures, c.high-v1.ensures, c.value_field-v.ensures, c.low-f0.ensures, c.high-f1.ensures, c.low-c0.ensures, c.high-c1.ensures)

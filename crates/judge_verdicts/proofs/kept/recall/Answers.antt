@@ -1,0 +1,18 @@
+use Rattle.judge_verdicts.specs.declared.Verdict.TheVariants.{Faulty}
+use Rattle.language.specs.Words.{Position}
+use Prim.Native.Nat.{ℕ}
+use Rattle.judge_verdicts.specs.Meaning.{recalled}
+use borrow.Author.Tests.{eq-eqb, ne_eqb}
+use mathlib.Core.Path.{ap}
+use Rattle.judge_verdicts.proofs.kept.recall.Goals as goal
+
+pub returns-then-mark-eq0 : goal.returns-then-mark-eq0
+unfolding recalled
+returns-then-mark-eq0 c =
+    rw (← c.number-mark.ensures, eq-eqb _ 0 c.if-mark-eq0.true, ← c.number-value.ensures)
+
+pub returns : goal.returns
+unfolding recalled
+returns c =
+    rw (← c.number-mark.ensures, ne_eqb _ 0 c.if-mark-eq0.false, ← c.number-value.ensures, ← c.numbered-refusal.ensures)
+    (ap (λ (x : ℕ). Faulty (record { at = record { place = x }; refusal = c.numbered-refusal.result })) (ap (λ (p : Position). p.place) c.position-place.ensures))

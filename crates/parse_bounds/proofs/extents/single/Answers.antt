@@ -1,0 +1,6 @@
+use Rattle.parse_bounds.proofs.ExtentLaws.{none-sized}
+use Rattle.parse_bounds.proofs.extents.single.Goals as goal
+
+pub returns : goal.returns
+returns c =
+    none-sized c.nothing-words.ensures c.nothing-bits.ensures

@@ -1,0 +1,7 @@
+use mathlib.Core.Path.{refl}
+use Rattle.parse_bounds.proofs.RangeLaws.{both-bounded}
+use Rattle.parse_bounds.proofs.ranges.both.Goals as goal
+
+pub returns : goal.returns
+returns c =
+    both-bounded c.args.first c.args.last c.bound-a.ensures c.bound-b.ensures refl refl

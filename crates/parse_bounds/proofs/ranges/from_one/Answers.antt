@@ -1,0 +1,7 @@
+use mathlib.Core.Path.{refl}
+use Rattle.parse_bounds.proofs.RangeLaws.{last-bounded}
+use Rattle.parse_bounds.proofs.ranges.from_one.Goals as goal
+
+pub returns : goal.returns
+returns c =
+    last-bounded c.args.last refl c.bound-b.ensures refl refl

@@ -1,0 +1,8 @@
+use Rattle.language.specs.Description as D
+use Rattle.parse_operands.proofs.ReferenceLaws.{gained-as, reference-bytes, reference-beside, whole-beside}
+use mathlib.Core.Path.{◌∙◌}
+use Rattle.parse_operands.proofs.nodes.add_whole.Goals as goal
+
+pub returns : goal.returns
+returns c =
+    λ sc e. gained-as c.add.ensures (reference-bytes sc _ e c.facility.ensures D.whole (c.whole-node.ensures 0)) (c.plain-beside.ensures ∙ reference-beside sc _ e c.facility.ensures D.whole _ (whole-beside _))

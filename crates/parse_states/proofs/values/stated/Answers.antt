@@ -1,0 +1,6 @@
+use mathlib.Core.Path.{refl}
+use Rattle.parse_states.proofs.values.stated.Goals as goal
+
+pub returns : goal.returns
+returns c =
+    record { value = c.state_value-value.ensures; place = refl }

@@ -1,0 +1,37 @@
+use mathlib.Core.Path.{sym, ap, ◌∙◌}
+use Rattle.run_references.specs.Described.{There}
+use Rattle.run_expressions.specs.Sides.{side_meant}
+use Rattle.run_stores.proofs.StoreLaws.{bytes-seen}
+use Rattle.run_actions.proofs.sides.store_beside.Goals as goal
+
+pub returns-in-Is : goal.returns-in-Is
+returns-in-Is c =
+    λ d x h e u.
+    let b = bytes-seen d x c.args.g c.args.store.now c.args.pending.now c.args.mask.now e in
+    let l = c.left_side.ensures d x.store h b in
+    let t : There d c.args.section.now c.in-At.q.facility c.in-At.h = rw c.in-At.is at l.1 in
+    rw (sym l.0 ∙ ap side_meant c.in-At.is, ← (c.eval-w.ensures d x.store h b), c.in-Is.is) (c.store_pair.ensures c.args.section.now c.args.expressions.now d x h e u t)
+
+pub returns-in-Stops-outcome : goal.returns-in-Stops-outcome
+returns-in-Stops-outcome c =
+    λ d x h e u.
+    let b = bytes-seen d x c.args.g c.args.store.now c.args.pending.now c.args.mask.now e in
+    rw (sym (c.left_side.ensures d x.store h b).0 ∙ ap side_meant c.in-At.is, ← (c.eval-w.ensures d x.store h b), c.in-Stops-outcome.is)
+
+pub returns-in-Stuck-outcome : goal.returns-in-Stuck-outcome
+returns-in-Stuck-outcome c =
+    λ d x h e u.
+    let b = bytes-seen d x c.args.g c.args.store.now c.args.pending.now c.args.mask.now e in
+    rw (sym (c.left_side.ensures d x.store h b).0 ∙ ap side_meant c.in-At.is, ← (c.eval-w.ensures d x.store h b), c.in-Stuck-outcome.is)
+
+pub returns-in-Stops : goal.returns-in-Stops
+returns-in-Stops c =
+    λ d x h e u.
+    let b = bytes-seen d x c.args.g c.args.store.now c.args.pending.now c.args.mask.now e in
+    rw (sym (c.left_side.ensures d x.store h b).0 ∙ ap side_meant c.in-Stops.is)
+
+pub returns-in-Stuck : goal.returns-in-Stuck
+returns-in-Stuck c =
+    λ d x h e u.
+    let b = bytes-seen d x c.args.g c.args.store.now c.args.pending.now c.args.mask.now e in
+    rw (sym (c.left_side.ensures d x.store h b).0 ∙ ap side_meant c.in-Stuck.is)

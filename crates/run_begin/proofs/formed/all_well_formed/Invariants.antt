@@ -1,0 +1,14 @@
+use mathlib.Core.List.{List}
+use mathlib.Core.Path.{◌≡◌}
+use Prim.Native.Nat.{ℕ, ◌-◌, ◌≤◌}
+use lib.ListN.{drop, length}
+use Rattle.language.specs.Calls.{all_well_formed}
+use Rattle.language.specs.Description.{Description}
+use Rattle.run_references.specs.Described.{Describes}
+use Rattle.run_begin.proofs.formed.all_well_formed.Given as goal
+
+abbrev pub invariant-loop-n : goal.invariant-loop-n
+invariant-loop-n l = (l.n ≤ l.cycles) × (l.at ≤ length l.stimuli) × ((d : Description) (E : List ℕ) → Describes d l.section E → all_well_formed d (l.cycles - l.n) (drop l.at l.stimuli) ≡ all_well_formed d l.cycles l.stimuli)
+
+abbrev pub decreases-loop-n : goal.decreases-loop-n
+decreases-loop-n l = l.cycles - l.n

@@ -1,0 +1,18 @@
+use mathlib.Core.Path.{sym, ◌∙◌}
+use Rattle.language.specs.Characters.{folded}
+use Rattle.language.specs.Scan.{bytes, reserved_words}
+use Rattle.text_items.specs.Tables.{beginning, kind_with}
+use Rattle.text_items.proofs.Lookup.{among-here, among-last, among_next}
+use Rattle.text_items.proofs.reserved.with_c.Goals as goal
+
+pub returns-then-matches : goal.returns-then-matches
+unfolding kind_with beginning reserved_words bytes folded
+returns-then-matches c = among-here _ _ _ (sym c.matches.ensures ∙ c.if-matches.true)
+
+pub returns-then-matches-2 : goal.returns-then-matches-2
+unfolding kind_with beginning reserved_words bytes folded
+returns-then-matches-2 c = among_next _ _ _ _ (sym c.matches.ensures ∙ c.if-matches.false) (among-here _ _ _ (sym c.matches-2.ensures ∙ c.if-matches-2.true))
+
+pub returns : goal.returns
+unfolding kind_with beginning reserved_words bytes folded
+returns c = among_next _ _ _ _ (sym c.matches.ensures ∙ c.if-matches.false) (among_next _ _ _ _ (sym c.matches-2.ensures ∙ c.if-matches-2.false) (among-last _ _ _ c.only.ensures))

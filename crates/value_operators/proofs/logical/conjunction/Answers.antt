@@ -1,0 +1,8 @@
+use Rattle.language.specs.Value.{conjunction}
+use Rattle.value_operators.proofs.Fits.{means-fit}
+use Rattle.value_operators.proofs.logical.conjunction.Goals as goal
+
+pub returns : goal.returns
+unfolding conjunction
+returns c =
+    means-fit c.fit.ensures c.logical_length.ensures c.and.ensures
