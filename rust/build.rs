@@ -1,5 +1,5 @@
 //! Says where the module's archive is: in the folder that DDLP_ARCHIVE names,
-//! or where `rt staticlib ddlp` puts it.
+//! or where tools/archive puts it.
 
 use std::env;
 use std::path::PathBuf;

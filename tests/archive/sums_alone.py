@@ -2,8 +2,9 @@
 """Holds that decimal numbers are formed by doubling and adding: neither the code that forms them nor what it calls
 multiplies or divides, as it was written and as it was compiled.
 
-    sums_alone.py CODE ARCHIVE OBJDUMP           CODE is what `rt mir text_items` prints
-    sums_alone.py --wrong CODE ARCHIVE OBJDUMP   one thing wrong must be noticed, or this test shows nothing"""
+    sums_alone.py ARCHIVE OBJDUMP CODE..           CODE is a library's mir.json: its functions as the compiler gets them
+    sums_alone.py --wrong ARCHIVE OBJDUMP CODE..   one thing wrong must be noticed, or this test shows nothing"""
+import json
 import re
 import subprocess
 import sys
@@ -13,19 +14,24 @@ import sys
 DIGITS = 'text_items::digits::decimal'
 COUNTED = 'value_constants::counted'
 ITEM = 'text_items::items::item_at'
+# A function that both reach, and that adds.
+HALF = 'value_limbs::sums::half_sum'
 
-# Shifts too are products and quotients, by powers of two.
-WRITTEN = re.compile(r'\(op2 \(?(mul|div|rem|shl|shr)\b')
+# Shifts too are products and quotients, by powers of two. A function's or a type's name has `::`.
+WRITTEN = re.compile(r'"(\w*(?:mul|div|rem|shl|shr)\w*)"', re.I)
+# What is called, a function by its name or something else; and each name of a function.
+CALLS = re.compile(r'"Call": \[')
+NAMED = re.compile(r'"Fn": \["([^"]+)"')
+CALLS_NAMED = re.compile(r'"Call": \[\{"Fn": \["')
 # A shift by 32 is how the compiler multiplies or divides by half a limb.
 COMPILED = re.compile(r'\s((?:v?p?i?mul|i?div|v?div)\w*\s|sh[lr][dx]?[bwlq]?\s+\$0x20,)')
 # A call of another function, or by an address, of which nothing is known. A jump by an address is a `match`.
 CALLED = re.compile(r'\sR_X86_64_PLT32\s+(?:\.text\.)?(\S+?)[-+]0x|\scall\w*\s+(\*\S+)')
 
 
-def written(code):
+def written(files):
     """The text of each function, by its name."""
-    parts = re.split(r'\(fn-def "([^"]+)"', code)
-    return dict(zip(parts[1::2], parts[2::2]))
+    return {name: json.dumps(body) for file in files for name, body in json.load(open(file))}
 
 
 def compiled(archive, objdump):
@@ -52,10 +58,12 @@ def reached(functions, first, calls):
 def faults(code, listing):
     """What is wrong, a sentence each."""
     for first in (DIGITS, COUNTED):
-        found, absent = reached(written(code), first, re.compile(r'\(fnRef "([^"]+)"').findall)
+        found, absent = reached(code, first, NAMED.findall)
         yield from (f'{name} is called and was not written' for name in absent)
         for name, text in found.items():
             yield from (f'{name} has {sign}' for sign in WRITTEN.findall(text))
+            if len(CALLS.findall(text)) != len(CALLS_NAMED.findall(text)):
+                yield f'{name} calls what has no name'
     found, absent = reached(listing, ITEM, lambda text: [name or address for name, address in CALLED.findall(text)])
     yield from (f'{name} is called and is none of the archive' for name in absent)
     for name, text in found.items():
@@ -79,11 +87,15 @@ BY_HALVES = '''
 
 def wrong(code, listing):
     """The same with something wrong, each with its name."""
-    for sign in ('mul', 'div', 'rem', 'shl', 'shr'):
-        before, sums = re.split('(?=\\(fn-def "value_limbs::sums::half_sum")', code)
-        yield f'{sign} as written', before + sums.replace('(op2 (add', f'(op2 ({sign}', 1), listing
-    yield 'a call of what was not written', code.replace('value_limbs::sums::sum")', 'value_limbs::other")'), listing
-    yield 'no such function as written', code.replace(f'"{DIGITS}"', '"other"'), listing
+    sums = code[HALF]
+    for sign in ('{"Mul": "Unsigned"}', '{"Div": "Unsigned"}', '{"Rem": "Unsigned"}', '"Shl"', '{"Shr": "Unsigned"}', '"WrapMul"'):
+        yield f'{sign} as written', {**code, HALF: sums.replace('{"Add": "Unsigned"}', sign, 1)}, listing
+    call = '{"Fn": ["value_limbs::sums::sum"'
+    other = {name: text.replace(call, '{"Fn": ["value_limbs::other"') for name, text in code.items()}
+    yield 'a call of what was not written', other, listing
+    unnamed = {name: text.replace(call, '{"Held": ["value_limbs::sums::sum"') for name, text in code.items()}
+    yield 'a call of what has no name', unnamed, listing
+    yield 'no such function as written', {name: text for name, text in code.items() if name != DIGITS}, listing
     yield 'no such function in the archive', code, {name: text for name, text in listing.items() if name != ITEM}
     lines = ['imul   $0xa,%rbx,%rbx', 'mulx   %rax,%rbx,%rcx', 'mul    %rbx', 'div    %rcx', 'idivl  0x8(%rsp)',
              'vpmuludq %ymm0,%ymm1,%ymm2', 'mulsd  %xmm0,%xmm1', 'shld   $0x20,%rax,%rbx', 'call   *%rax']
@@ -96,10 +108,11 @@ def wrong(code, listing):
 
 
 def main():
-    *mode, code, archive, objdump = sys.argv[1:]
-    code, listing = open(code).read(), compiled(archive, objdump)
+    mode = sys.argv[1:2] if sys.argv[1:2] == ['--wrong'] else []
+    archive, objdump, *files = sys.argv[1 + len(mode):]
+    code, listing = written(files), compiled(archive, objdump)
     said = list(faults(code, listing))
-    if mode == ['--wrong']:
+    if mode:
         said = [f'{name} is not noticed' for name, *given in wrong(code, listing) if not list(faults(*given))]
     if said:
         sys.exit('\n'.join(said))

@@ -54,7 +54,7 @@ def wrong(claims, files):
 def main():
     text = open('docs/THEOREMS.md').read()
     if sys.argv[1:] == ['--wrong']:
-        for was, made in (('never-stuck', 'never-stock'), ('NeverStuck.antt', 'NeverStock.antt'), ('`carried`', '`carred`')):
+        for was, made in (('never_stuck', 'never_stock'), ('NeverStuck.antt', 'NeverStock.antt'), ('`carried`', '`carred`')):
             if not any(list(wrong(*row)) for row in rows(text.replace(f'| {was}', f'| {made}').replace(f'/{was}', f'/{made}').replace(f' {was} ', f' {made} '))):
                 sys.exit(f'{made} for {was} is not noticed')
         return
