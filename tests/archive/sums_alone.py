@@ -2,7 +2,7 @@
 """Holds that decimal numbers are formed by doubling and adding: neither the code that forms them nor what it calls
 multiplies or divides, as it was written and as it was compiled.
 
-    sums_alone.py ARCHIVE OBJDUMP CODE..           CODE is a library's mir.json: its functions as the compiler gets them
+    sums_alone.py ARCHIVE OBJDUMP CODE..           CODE is a library's mir.json: its functions as the compiler gets them, the kit's core among them
     sums_alone.py --wrong ARCHIVE OBJDUMP CODE..   one thing wrong must be noticed, or this test shows nothing"""
 import json
 import re
@@ -14,8 +14,8 @@ import sys
 DIGITS = 'text_items::digits::decimal'
 COUNTED = 'value_constants::counted'
 ITEM = 'text_items::items::item_at'
-# A function that both reach, and that adds.
-HALF = 'value_limbs::sums::half_sum'
+# The function of the kit's core that adds limbs, which the digits reach.
+LIMBS = 'core::int::checked::u64::overflowing_add'
 
 # Shifts too are products and quotients, by powers of two. A function's or a type's name has `::`.
 WRITTEN = re.compile(r'"(\w*(?:mul|div|rem|shl|shr)\w*)"', re.I)
@@ -87,9 +87,9 @@ BY_HALVES = '''
 
 def wrong(code, listing):
     """The same with something wrong, each with its name."""
-    sums = code[HALF]
+    sums = code[LIMBS]
     for sign in ('{"Mul": "Unsigned"}', '{"Div": "Unsigned"}', '{"Rem": "Unsigned"}', '"Shl"', '{"Shr": "Unsigned"}', '"WrapMul"'):
-        yield f'{sign} as written', {**code, HALF: sums.replace('{"Add": "Unsigned"}', sign, 1)}, listing
+        yield f'{sign} as written', {**code, LIMBS: sums.replace('"WrapAdd"', sign, 1)}, listing
     call = '{"Fn": ["value_limbs::sums::sum"'
     other = {name: text.replace(call, '{"Fn": ["value_limbs::other"') for name, text in code.items()}
     yield 'a call of what was not written', other, listing

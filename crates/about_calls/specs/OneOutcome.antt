@@ -1,5 +1,6 @@
 -- One outcome for each public call (01, "What each public call owes"): two answers, with two sets of later buffers, that meet a call's contract for the same inputs are the same. Buffers that are only written may have held other bytes before: their lengths alone are asked to be equal.
-use Rattle.std.specs.Prelude.{Bool, true, false, cond, List, ◌≡◌, refl, ℕ, length}
+use Rattle.std.specs.Prelude as Code
+use Rattle.std.specs.Prelude.{Bool, true, false, cond, Err, List, None, Ok, Result, Some, ◌≡◌, refl, ℕ, length}
 use Rattle.std.proofs.Math.Option.{Option, none, some}
 use Rattle.std.proofs.Common.{sym, ap, ap₂, ◌∙◌, arith}
 use Rattle.language.specs.Calls as L
@@ -20,25 +21,16 @@ use Rattle.image_sections.specs.declared.facilities.FacilityKind.TheVariants as 
 use Rattle.image_sections.specs.declared.facilities.ShortBounds.{ShortBounds}
 use Rattle.image_sections.specs.declared.names.Part.{Part}
 use Rattle.call_answers.specs.Lookups.{Looks, answered, name_meant}
-use Rattle.call_answers.specs.declared.looked.Looked.{Looked}
-use Rattle.call_answers.specs.declared.looked.Looked.TheVariants as F
-use Rattle.call_answers.specs.declared.named.NameReply as Named
-use Rattle.call_answers.specs.declared.named.NameReply.TheVariants as N
 use Rattle.call_answers.specs.Opening as Open
-use Rattle.call_answers.specs.declared.opened.OpenReply as OpenAnswer
-use Rattle.call_answers.specs.declared.opened.OpenReply.TheVariants as O
 use Rattle.call_answers.specs.Cycle as Cycle
-use Rattle.call_answers.specs.declared.cycled.CycleReply as CycleAnswer
-use Rattle.call_answers.specs.declared.cycled.CycleReply.TheVariants as C
+use Rattle.call_answers.specs.declared.cycled.Halt.{Halt}
+use Rattle.call_answers.specs.declared.cycled.Halt.TheVariants as C
 use Rattle.call_answers.specs.Reading as Called
-use Rattle.call_answers.specs.declared.read.ReadReply as Reading
-use Rattle.call_answers.specs.declared.read.ReadReply.TheVariants as A
+use Rattle.call_answers.specs.declared.read.Refused.{Refused}
 use Rattle.call_answers.specs.Run as Run
-use Rattle.call_answers.specs.declared.ran.RunReply as RunAnswer
-use Rattle.call_answers.specs.declared.ran.RunReply.TheVariants as W
 use Rattle.call_answers.specs.declared.ran.Tally.{Tally}
-use Rattle.language.specs.declared.stops.Halt.{Halt}
-use Rattle.language.specs.declared.stops.Halt.TheVariants as Halts
+use Rattle.language.specs.declared.refusals.Refusal.{Refusal}
+use Rattle.language.specs.declared.stops.Stop.{Stop}
 
 -- ---- The check, and names as parts of the image: the contract names the answer itself.
 
@@ -61,22 +53,22 @@ abbrev part_in : Lk.Part → Lk.NameAnswer → Lk.Part
 part_in p (Lk.named q) = q
 part_in p (Lk.refused n) = p
 
-name-one : (a b : Named.NameReply) → name_meant a ≡ name_meant b → a ≡ b
-name-one (N.Named p) (N.Named q) e = ap N.Named (part-one p q (ap (part_in (part_meant p)) e))
-name-one (N.Refused m) (N.Refused n) e =
+name-one : (a b : Result Part Refusal) → name_meant a ≡ name_meant b → a ≡ b
+name-one (Ok p) (Ok q) e = ap Ok (part-one p q (ap (part_in (part_meant p)) e))
+name-one (Err m) (Err n) e =
     let z : m ≡ n = cc in
-    ap N.Refused z
-name-one (N.Named p) (N.Refused n) e =
+    ap Err z
+name-one (Ok p) (Err n) e =
     let z : ◌≡◌ {A = ℕ} 0 1 = cc in
     absurd (omega arith)
-name-one (N.Refused n) (N.Named p) e =
+name-one (Err n) (Ok p) e =
     let z : ◌≡◌ {A = ℕ} 0 1 = cc in
     absurd (omega arith)
 
-pub facility-part-one : (image : List ℕ) (n : ℕ) (a b : Named.NameReply) → name_meant a ≡ Lk.facility_name image n → name_meant b ≡ Lk.facility_name image n → a ≡ b
+pub facility-part-one : (image : List ℕ) (n : ℕ) (a b : Result Part Refusal) → name_meant a ≡ Lk.facility_name image n → name_meant b ≡ Lk.facility_name image n → a ≡ b
 facility-part-one image n a b p q = name-one a b (p ∙ sym q)
 
-pub state-part-one : (image : List ℕ) (n : ℕ) (a b : Named.NameReply) → name_meant a ≡ Lk.state_name image n → name_meant b ≡ Lk.state_name image n → a ≡ b
+pub state-part-one : (image : List ℕ) (n : ℕ) (a b : Result Part Refusal) → name_meant a ≡ Lk.state_name image n → name_meant b ≡ Lk.state_name image n → a ≡ b
 state-part-one image n a b p q = name-one a b (p ∙ sym q)
 
 -- ---- A declaration, its place and the length of its name.
@@ -136,115 +128,115 @@ abbrev place_in : Lk.FacilityAnswer → Option ℕ
 place_in (Lk.declared g p) = p
 place_in (Lk.unknown n) = none
 
-pub facility-one : (image : List ℕ) (n : ℕ) (a b : Looked) → Looks image n a → Looks image n b → a ≡ b
-facility-one image n (F.Declared f) (F.Declared g) p q =
+pub facility-one : (image : List ℕ) (n : ℕ) (a b : Result FacilityRecord Refusal) → Looks image n a → Looks image n b → a ≡ b
+facility-one image n (Ok f) (Ok g) p q =
     let name = (facility_at (decode image) n).name in
-    let e : answered name (F.Declared f) ≡ answered name (F.Declared g) = p.facility ∙ sym q.facility in
-    ap F.Declared (declared-one name f g (p.name f refl ∙ sym (q.name g refl)) (ap (facility_in (facility_meant name f)) e) (ap place_in e))
-facility-one image n (F.Refused k) (F.Refused m) p q =
+    let e : answered name (Ok f) ≡ answered name (Ok g) = p.facility ∙ sym q.facility in
+    ap Ok (declared-one name f g (p.name f refl ∙ sym (q.name g refl)) (ap (facility_in (facility_meant name f)) e) (ap place_in e))
+facility-one image n (Err k) (Err m) p q =
     let e : Lk.unknown k ≡ Lk.unknown m = p.facility ∙ sym q.facility in
     let z : k ≡ m = cc in
-    ap F.Refused z
-facility-one image n (F.Declared f) (F.Refused m) p q =
+    ap Err z
+facility-one image n (Ok f) (Err m) p q =
     let e = p.facility ∙ sym q.facility in
     let z : ◌≡◌ {A = ℕ} 0 1 = cc in
     absurd (omega arith)
-facility-one image n (F.Refused k) (F.Declared g) p q =
+facility-one image n (Err k) (Ok g) p q =
     let e = p.facility ∙ sym q.facility in
     let z : ◌≡◌ {A = ℕ} 0 1 = cc in
     absurd (omega arith)
 
 -- ---- Opening.
 
-opened_one : (a b : OpenAnswer.OpenReply) → Open.answered a ≡ Open.answered b → a ≡ b
-opened_one O.Opened O.Opened e = refl
-opened_one (O.Refused m) (O.Refused n) e =
+opened_one : (a b : Result (Unit {0}) Refusal) → Open.answered a ≡ Open.answered b → a ≡ b
+opened_one (Ok _) (Ok _) e = refl
+opened_one (Err m) (Err n) e =
     let z : m ≡ n = cc in
-    ap O.Refused z
-opened_one O.Opened (O.Refused n) e =
+    ap Err z
+opened_one (Ok _) (Err n) e =
     let z : ◌≡◌ {A = ℕ} 0 1 = cc in
     absurd (omega arith)
-opened_one (O.Refused n) O.Opened e =
+opened_one (Err n) (Ok _) e =
     let z : ◌≡◌ {A = ℕ} 0 1 = cc in
     absurd (omega arith)
 
 module _ (image store store' kept kept' : List ℕ) (s : length store ≡ length store') (k : length kept ≡ length kept') where
-  pub open-one : (a b : OpenAnswer.OpenReply) (x y u v : List ℕ) → Open.called a x u ≡ L.open' image (length store) (length kept) → Open.called b y v ≡ L.open' image (length store') (length kept') → (a ≡ b) × ((x ≡ y) × (u ≡ v))
+  pub open-one : (a b : Result (Unit {0}) Refusal) (x y u v : List ℕ) → Open.called a x u ≡ L.open' image (length store) (length kept) → Open.called b y v ≡ L.open' image (length store') (length kept') → (a ≡ b) × ((x ≡ y) × (u ≡ v))
   open-one a b x y u v p q =
       let e : Open.called a x u ≡ Open.called b y v = p ∙ ap₂ (λ (m n : ℕ). L.open' image m n) s k ∙ sym q in
       (opened_one a b (ap (λ (c : L.OpenCall). c.answer) e), (ap (λ (c : L.OpenCall). c.store) e, ap (λ (c : L.OpenCall). c.record') e))
 
 -- ---- A cycle: store, record and stimulus are read, scratch is not.
 
-cycled-one : (a b : CycleAnswer.CycleReply) → Cycle.answered a ≡ Cycle.answered b → a ≡ b
-cycled-one (C.Cycled m) (C.Cycled n) e =
+cycled-one : (a b : Result ℕ Halt) → Cycle.answered a ≡ Cycle.answered b → a ≡ b
+cycled-one (Ok m) (Ok n) e =
     let z : m ≡ n = cc in
-    ap C.Cycled z
-cycled-one (C.Stopped m) (C.Stopped n) e =
+    ap Ok z
+cycled-one (Err (C.Stopped m)) (Err (C.Stopped n)) e =
     let z : m ≡ n = cc in
-    ap C.Stopped z
-cycled-one (C.Refused m) (C.Refused n) e =
+    ap (λ (s : Stop). Err (C.Stopped s)) z
+cycled-one (Err (C.Refused m)) (Err (C.Refused n)) e =
     let z : m ≡ n = cc in
-    ap C.Refused z
-cycled-one (C.Cycled m) (C.Stopped n) e =
+    ap (λ (r : Refusal). Err (C.Refused r)) z
+cycled-one (Ok m) (Err (C.Stopped n)) e =
     let z : ◌≡◌ {A = ℕ} 0 1 = cc in
     absurd (omega arith)
-cycled-one (C.Cycled m) (C.Refused n) e =
+cycled-one (Ok m) (Err (C.Refused n)) e =
     let z : ◌≡◌ {A = ℕ} 0 1 = cc in
     absurd (omega arith)
-cycled-one (C.Stopped m) (C.Cycled n) e =
+cycled-one (Err (C.Stopped m)) (Ok n) e =
     let z : ◌≡◌ {A = ℕ} 0 1 = cc in
     absurd (omega arith)
-cycled-one (C.Stopped m) (C.Refused n) e =
+cycled-one (Err (C.Stopped m)) (Err (C.Refused n)) e =
     let z : ◌≡◌ {A = ℕ} 0 1 = cc in
     absurd (omega arith)
-cycled-one (C.Refused m) (C.Cycled n) e =
+cycled-one (Err (C.Refused m)) (Ok n) e =
     let z : ◌≡◌ {A = ℕ} 0 1 = cc in
     absurd (omega arith)
-cycled-one (C.Refused m) (C.Stopped n) e =
+cycled-one (Err (C.Refused m)) (Err (C.Stopped n)) e =
     let z : ◌≡◌ {A = ℕ} 0 1 = cc in
     absurd (omega arith)
 
 module _ (image store kept stimulus scratch scratch' : List ℕ) (s : length scratch ≡ length scratch') where
-  pub cycle-one : (a b : CycleAnswer.CycleReply) (x y u v w z : List ℕ) → Cycle.call a x u w ≡ L.cycle image store kept stimulus (length scratch) → Cycle.call b y v z ≡ L.cycle image store kept stimulus (length scratch') → (a ≡ b) × ((x ≡ y) × ((u ≡ v) × (w ≡ z)))
+  pub cycle-one : (a b : Result ℕ Halt) (x y u v w z : List ℕ) → Cycle.call a x u w ≡ L.cycle image store kept stimulus (length scratch) → Cycle.call b y v z ≡ L.cycle image store kept stimulus (length scratch') → (a ≡ b) × ((x ≡ y) × ((u ≡ v) × (w ≡ z)))
   cycle-one a b x y u v w z p q =
       let e : Cycle.call a x u w ≡ Cycle.call b y v z = p ∙ ap (L.cycle image store kept stimulus) s ∙ sym q in
       (cycled-one a b (ap (λ (c : L.CycleCall). c.answer) e), (ap (λ (c : L.CycleCall). c.store) e, (ap (λ (c : L.CycleCall). c.record') e, ap (λ (c : L.CycleCall). c.scratch) e)))
 
 -- ---- Reading: of the image's buffer only the length counts.
 
-reading-one : (a b : Reading.ReadReply) → Called.answered a ≡ Called.answered b → a ≡ b
-reading-one (A.Accepted m) (A.Accepted n) e =
+reading-one : (a b : Result ℕ Refused) → Called.answered a ≡ Called.answered b → a ≡ b
+reading-one (Ok m) (Ok n) e =
     let z : m ≡ n = cc in
-    ap A.Accepted z
-reading-one (A.Refused m p) (A.Refused n q) e =
-    let y : m ≡ n = cc in
-    let z : p ≡ q = cc in
-    ap₂ A.Refused y z
-reading-one (A.Accepted m) (A.Refused n q) e =
+    ap Ok z
+reading-one (Err p) (Err q) e =
+    let y : p.refusal ≡ q.refusal = cc in
+    let z : p.place ≡ q.place = cc in
+    ap₂ (λ (r : Refusal) (n : ℕ). Err (record { refusal = r; place = n })) y z
+reading-one (Ok m) (Err q) e =
     let z : ◌≡◌ {A = ℕ} 0 1 = cc in
     absurd (omega arith)
-reading-one (A.Refused m p) (A.Accepted n) e =
+reading-one (Err p) (Ok n) e =
     let z : ◌≡◌ {A = ℕ} 0 1 = cc in
     absurd (omega arith)
 
 module _ (text image image' : List ℕ) (s : length image ≡ length image') where
-  pub read_one : (a b : Reading.ReadReply) (x y : List ℕ) → Called.called a x ≡ R.read text (length image) → Called.called b y ≡ R.read text (length image') → (a ≡ b) × (x ≡ y)
+  pub read_one : (a b : Result ℕ Refused) (x y : List ℕ) → Called.called a x ≡ R.read text (length image) → Called.called b y ≡ R.read text (length image') → (a ≡ b) × (x ≡ y)
   read_one a b x y p q =
       let e : Called.called a x ≡ Called.called b y = p ∙ ap (R.read text) s ∙ sym q in
       (reading-one a b (ap (λ (c : R.ReadCall). c.answer) e), ap (λ (c : R.ReadCall). c.image) e)
 
 -- ---- A run: scratch and trace are not read.
 
-halt-one : (a b : Halt) → halted a ≡ halted b → a ≡ b
-halt-one Halts.None Halts.None e = refl
-halt-one (Halts.At m) (Halts.At n) e =
+halt-one : (a b : Code.Option Stop) → halted a ≡ halted b → a ≡ b
+halt-one None None e = refl
+halt-one (Some m) (Some n) e =
     let z : m ≡ n = cc in
-    ap Halts.At z
-halt-one Halts.None (Halts.At n) e =
+    ap Some z
+halt-one None (Some n) e =
     let z : ◌≡◌ {A = ℕ} 0 1 = cc in
     absurd (omega arith)
-halt-one (Halts.At m) Halts.None e =
+halt-one (Some m) None e =
     let z : ◌≡◌ {A = ℕ} 0 1 = cc in
     absurd (omega arith)
 
@@ -253,24 +245,24 @@ tally-one s t a b c =
     let r : s ≡ record { completed = t.completed; conflicts = t.conflicts; stop = t.stop } = rw (← a, ← b, ← c) in
     r
 
-ran-one : (a b : RunAnswer.RunReply) → Run.answered a ≡ Run.answered b → a ≡ b
-ran-one (W.Ran s) (W.Ran t) e =
+ran-one : (a b : Result Tally Refusal) → Run.answered a ≡ Run.answered b → a ≡ b
+ran-one (Ok s) (Ok t) e =
     let x : s.completed ≡ t.completed = cc in
     let y : s.conflicts ≡ t.conflicts = cc in
     let z : halted s.stop ≡ halted t.stop = cc in
-    ap W.Ran (tally-one s t x y (halt-one s.stop t.stop z))
-ran-one (W.Refused m) (W.Refused n) e =
+    ap Ok (tally-one s t x y (halt-one s.stop t.stop z))
+ran-one (Err m) (Err n) e =
     let z : m ≡ n = cc in
-    ap W.Refused z
-ran-one (W.Ran s) (W.Refused n) e =
+    ap Err z
+ran-one (Ok s) (Err n) e =
     let z : ◌≡◌ {A = ℕ} 0 1 = cc in
     absurd (omega arith)
-ran-one (W.Refused m) (W.Ran t) e =
+ran-one (Err m) (Ok t) e =
     let z : ◌≡◌ {A = ℕ} 0 1 = cc in
     absurd (omega arith)
 
 module _ (image store kept stimuli : List ℕ) (count : ℕ) (scratch scratch' trace trace' : List ℕ) (s : length scratch ≡ length scratch') (t : length trace ≡ length trace') where
-  pub run-one : (a b : RunAnswer.RunReply) (x y u v w z m n : List ℕ) → Run.call a x u w m ≡ L.run image store kept stimuli count (length scratch) (length trace) → Run.call b y v z n ≡ L.run image store kept stimuli count (length scratch') (length trace') → (a ≡ b) × ((x ≡ y) × ((u ≡ v) × ((w ≡ z) × (m ≡ n))))
+  pub run-one : (a b : Result Tally Refusal) (x y u v w z m n : List ℕ) → Run.call a x u w m ≡ L.run image store kept stimuli count (length scratch) (length trace) → Run.call b y v z n ≡ L.run image store kept stimuli count (length scratch') (length trace') → (a ≡ b) × ((x ≡ y) × ((u ≡ v) × ((w ≡ z) × (m ≡ n))))
   run-one a b x y u v w z m n p q =
       let e : Run.call a x u w m ≡ Run.call b y v z n = p ∙ ap₂ (λ (i j : ℕ). L.run image store kept stimuli count i j) s t ∙ sym q in
       (ran-one a b (ap (λ (c : L.RunCall). c.answer) e), (ap (λ (c : L.RunCall). c.store) e, (ap (λ (c : L.RunCall). c.record') e, (ap (λ (c : L.RunCall). c.scratch) e, ap (λ (c : L.RunCall). c.trace) e))))

@@ -1,14 +1,13 @@
 -- The whole of a call for reading: its answer, and the buffer of the image.
-use Rattle.std.specs.Prelude.{List, ℕ, ◌^◌, ◌<◌}
+use Rattle.std.specs.Prelude.{Err, List, Ok, Result, ℕ, ◌^◌, ◌<◌}
 use Rattle.language.specs.Reading.{ReadAnswer, ReadCall, accepted, refused_for}
-use Rattle.call_answers.specs.declared.read.ReadReply.{ReadReply}
-use Rattle.call_answers.specs.declared.read.ReadReply.TheVariants as A
+use Rattle.call_answers.specs.declared.read.Refused.{Refused}
 
-abbrev pub answered : ReadReply → ReadAnswer
-answered (A.Accepted n) = accepted n
-answered (A.Refused n p) = refused_for n p
+abbrev pub answered : Result ℕ Refused → ReadAnswer
+answered (Ok n) = accepted n
+answered (Err e) = refused_for e.refusal e.place
 
-abbrev pub called : ReadReply → List ℕ → ReadCall
+abbrev pub called : Result ℕ Refused → List ℕ → ReadCall
 called a image = record { answer = answered a; image = image }
 
 -- The length of an image and the place of a refusal have 32 bits.

@@ -1,11 +1,8 @@
-// What each public call answers, and the numbers that C gets for it.
+// What the public calls answer beside a refusal, and the numbers that C gets for each answer.
 #![tactic(auto)]
 
 pub mod cycled;
 pub mod exported;
-pub mod looked;
-pub mod named;
 pub mod numbers;
-pub mod opened;
 pub mod ran;
 pub mod read;

@@ -1,6 +1,5 @@
-// What a run answers.
-use language::refusals::Refusal;
-use language::stops::Halt;
+// What a run that was not refused came to.
+use language::stops::Stop;
 
 #[derive(Clone, Copy)]
 pub struct Tally {
@@ -9,11 +8,5 @@ pub struct Tally {
     // the sum of conflicts
     pub conflicts: u64,
     // that ended the run
-    pub stop: Halt,
-}
-
-#[derive(Clone, Copy)]
-pub enum RunReply {
-    Ran(Tally),
-    Refused(Refusal),
+    pub stop: Option<Stop>,
 }

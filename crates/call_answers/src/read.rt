@@ -1,10 +1,9 @@
-// What reading answers.
+// Why a text was not read.
 use language::refusals::Refusal;
 
 #[derive(Clone, Copy)]
-pub enum ReadReply {
-    // The image's length.
-    Accepted(usize),
-    // With its place.
-    Refused(Refusal, usize),
+pub struct Refused {
+    pub refusal: Refusal,
+    // of the fault in the text, or 0 where no place is at fault
+    pub place: usize,
 }

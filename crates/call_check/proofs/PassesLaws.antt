@@ -17,6 +17,10 @@ use Rattle.language.specs.Image.{passes}
 use Rattle.language.specs.Ceilings.{most_facilities, most_operations}
 use Rattle.language.specs.Rules.{faults}
 use Rattle.language.specs.Words.{Fault}
+use Rattle.std.specs.Prelude.{Result, Ok, Err}
+use Rattle.std.specs.Result.{is_ok}
+use Rattle.text_words.specs.declared.Fault as C
+use Rattle.text_words.specs.Meaning.{judged}
 use Rattle.language.specs.WordStage.{least}
 use Rattle.image_sections.proofs.DescribedLaws.{facilities-count, operations-count}
 use Rattle.judge_records.proofs.NotedLaws.{noted-none}
@@ -30,15 +34,19 @@ use Rattle.about_images.specs.Depth.{bounded}
 
 -- ---- The least of no faults.
 
-pub none-least : (fs : List Fault) → none ≡ least fs → true ≡ eqb (length fs) 0
+none-least : (fs : List Fault) → none ≡ least fs → true ≡ eqb (length fs) 0
 unfolding least
 none-least [] e = refl
 none-least (f ∷ fs) e = cc
 
-pub some-least : (fs : List Fault) {f : Fault} → some f ≡ least fs → false ≡ eqb (length fs) 0
+some-least : (fs : List Fault) {f : Fault} → some f ≡ least fs → false ≡ eqb (length fs) 0
 unfolding least
 some-least [] e = cc
 some-least (f ∷ fs) e = sym (ne_eqb (length (f ∷ fs)) 0 (λ z. omega arith))
+
+pub passed-faultless : (r : Result (Unit {0}) C.Fault) (fs : List Fault) → judged r ≡ least fs → is_ok r ≡ eqb (length fs) 0
+passed-faultless (Ok u) fs e = none-least fs e
+passed-faultless (Err f) fs e = some-least fs e
 
 -- Beside an image there are no places.
 pub least-plain : (x : Sections) → least (faults (noted_description x nothing_beside) (places_in nothing_beside)) ≡ least (faults (described x) no_places)

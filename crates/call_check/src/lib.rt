@@ -13,7 +13,7 @@ ghost use Rattle.language.specs.Encode.{facility_size, operation_size};
 
 use image_records::bytes;
 use image_sections::sections;
-use text_words::Judged;
+use judge_all::Described;
 
 // Whether no rule finds a fault. An image has no places.
 fn faultless(fs: &[u8], os: &[u8], es: &[u8], acts: &[u8], ss: &[u8], ns: &[u8]) -> bool
@@ -21,10 +21,20 @@ fn faultless(fs: &[u8], os: &[u8], es: &[u8], acts: &[u8], ss: &[u8], ns: &[u8])
     ensures { result ≡ eqb (length (faults (described (sectioned fs.now os.now es.now acts.now ss.now ns.now)) no_places)) 0 }
 {
     let none = bytes::part(ns, 0, 0);
-    match judge_all::least_fault(fs, os, es, acts, ss, ns, none, none, none, none, none) {
-        Judged::Passed => true,
-        Judged::Refused(_) => false,
-    }
+    let described = Described {
+        facilities: fs,
+        operations: os,
+        expressions: es,
+        actions: acts,
+        states: ss,
+        names: ns,
+        facility_places: none,
+        operation_places: none,
+        expression_places: none,
+        action_places: none,
+        state_places: none,
+    };
+    judge_all::least_fault(&described).is_ok()
 }
 
 // Whether an image passes, whatever stands behind its total length. An image that is not bounded does not pass; the walks over it could be too deep.

@@ -4,19 +4,20 @@ ghost use Rattle.language.specs.Lookups as L;
 ghost use Rattle.call_answers.specs.Lookups.{Looks, name_meant};
 
 use crate::passes;
-use call_answers::looked::Looked;
-use call_answers::named::NameReply;
 use image_lookups::{declared, named};
+use image_sections::facilities::FacilityRecord;
+use image_sections::names::Part;
+use language::refusals::Refusal;
 
 // Where the name of facility n stands.
-pub fn facility_part(image: &[u8], n: u32) -> NameReply
+pub fn facility_part(image: &[u8], n: u32) -> Result<Part, Refusal>
     ensures { name_meant result ≡ L.facility_name image.now n }
 {
     named::facility_part(image, passes(image), n)
 }
 
 // Where the label of state n stands; an empty one is no refusal.
-pub fn state_part(image: &[u8], n: u32) -> NameReply
+pub fn state_part(image: &[u8], n: u32) -> Result<Part, Refusal>
     ensures { name_meant result ≡ L.state_name image.now n }
 {
     named::state_part(image, passes(image), n)
@@ -37,7 +38,7 @@ pub fn state_name(image: &[u8], n: u32) -> &[u8]
 }
 
 // The declaration of facility n and its place in the store.
-pub fn facility(image: &[u8], n: u32) -> Looked
+pub fn facility(image: &[u8], n: u32) -> Result<FacilityRecord, Refusal>
     ensures { Looks image.now n result }
 {
     declared::facility(image, passes(image), n)

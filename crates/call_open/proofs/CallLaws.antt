@@ -1,4 +1,5 @@
 -- The call by its tests. Assumes nothing.
+use Rattle.std.specs.Prelude.{Err, Ok}
 use mathlib.Core.Bool.{Bool, true, false}
 use mathlib.Core.List.{List}
 use mathlib.Core.Path.{◌≡◌, sym, ap, ◌∙◌}
@@ -17,7 +18,6 @@ use Rattle.language.specs.Step.{open_record}
 use Rattle.language.specs.Store.{to_bytes}
 use Rattle.about_running.specs.LegalForm.{left-of, right_of}
 use Rattle.call_answers.specs.Opening.{called}
-use Rattle.call_answers.specs.declared.opened.OpenReply.TheVariants as A
 use Rattle.language.specs.declared.refusals.Refusal.TheVariants.{BufferTooShort, ImageFails}
 use Rattle.language.specs.Tests.{both}
 
@@ -32,12 +32,12 @@ module _ (image s₀ t₀ : List ℕ) {s t : List ℕ} (e : s ≡ zeroes (length
   long-record : length t ≡ length t₀
   long-record = ap length f ∙ length-replicate (length t₀) 0
 
-  pub no-image : passes image ≡ false → called (A.Refused ImageFails) s t ≡ open' image (length s₀) (length t₀)
+  pub no-image : passes image ≡ false → called (Err ImageFails) s t ≡ open' image (length s₀) (length t₀)
   unfolding open' open_refusal
   no-image p = rw (p, e, f)
 
   module _ (p : passes image ≡ true) where
-    pub no_room : enough ≡ false → called (A.Refused BufferTooShort) s t ≡ open' image (length s₀) (length t₀)
+    pub no_room : enough ≡ false → called (Err BufferTooShort) s t ≡ open' image (length s₀) (length t₀)
     unfolding open' open_refusal
     no_room r = rw (p, rw (long-store, long-record) at r, e, f)
 
@@ -50,7 +50,7 @@ module _ (image s₀ t₀ : List ℕ) {s t : List ℕ} (e : s ≡ zeroes (length
 
       pub all_right : {u v : List ℕ} → (s ≡ zeroes (length s) → u ≡ filled (length s) (to_bytes (decode image).facilities (open_words (decode image))))
           → ((d : Description) → t ≡ zeroes (length t) → record_size ≤ length t → v ≡ filled (length t) (record_bytes (open_record d)))
-          → called A.Opened u v ≡ open' image (length s₀) (length t₀)
+          → called (Ok tt) u v ≡ open' image (length s₀) (length t₀)
       unfolding open' open_refusal
       all_right g h =
           rw (p, rw (long-store, long-record) at r, g (e ∙ ap zeroes (sym long-store)), h (decode image) (f ∙ ap zeroes (sym long-record)) record-room, long-store, long-record)

@@ -11,7 +11,7 @@ ghost use Rattle.language.specs.Step.{open_record};
 ghost use Rattle.language.specs.Store.{to_bytes};
 ghost use Rattle.run_next.specs.Seen.{record_meant};
 
-use image_sections::sections;
+use image_sections::sections::Sections;
 use language::ceilings;
 use run_end::register;
 use run_next::record::Record;
@@ -22,11 +22,9 @@ pub fn first_words(image: &[u8], store: &mut [u8])
     requires { (passes image.now ≡ true) × (store_size (decode image.now) ≤ length store.old) }
     ensures { store.old ≡ zeroes (length store.old) → store.new ≡ filled (length store.old) (to_bytes (decode image.now).facilities (open_words (decode image.now))) }
 {
-    let facilities = sections::section(image, sections::FACILITIES);
-    let expressions = sections::section(image, sections::EXPRESSIONS);
-    let states = sections::section(image, sections::STATES);
-    let size = sizes::store_size(facilities);
-    register::set_register(facilities, expressions, states, &mut store[0..size], 0);
+    let sections = Sections::of(image);
+    let size = sizes::store_size(sections.facilities);
+    register::set_register(&sections, &mut store[0..size], 0);
 }
 
 // State 0, cycle 0, no returns.

@@ -9,7 +9,6 @@ ghost use Rattle.call_answers.specs.Opening.{called};
 ghost use Rattle.language.specs.Tests.{both};
 
 use crate::first;
-use call_answers::opened::OpenReply;
 use image_sections::sections;
 use language::ceilings;
 use language::refusals::Refusal;
@@ -22,27 +21,23 @@ fn roomy(image: &[u8], store: usize, kept: usize) -> bool
     ensures { result ≡ both (leb (store_size (decode image.now)) store) (leb record_size kept) }
 {
     let size = sizes::store_size(sections::section(image, sections::FACILITIES));
-    if size <= store {
-        ceilings::RECORD <= kept
-    } else {
-        false
-    }
+    size <= store && ceilings::RECORD <= kept
 }
 
 // Store and record are zero, but on success for the first state's part of them.
-pub fn open(image: &[u8], passed: bool, store: &mut [u8], kept: &mut [u8]) -> OpenReply
+pub fn open(image: &[u8], passed: bool, store: &mut [u8], kept: &mut [u8]) -> Result<(), Refusal>
     requires { passed ≡ L.passes image.now }
     ensures { called result store.new kept.new ≡ open' image.now (length store.old) (length kept.old) }
 {
     slices::zero(store);
     slices::zero(kept);
     if !passed {
-        return OpenReply::Refused(Refusal::ImageFails);
+        return Err(Refusal::ImageFails);
     }
     if !roomy(image, store.len(), kept.len()) {
-        return OpenReply::Refused(Refusal::BufferTooShort);
+        return Err(Refusal::BufferTooShort);
     }
     first::first_words(image, store);
     first::first_record(kept);
-    OpenReply::Opened
+    Ok(())
 }

@@ -1,7 +1,6 @@
 pub mod DescribedLaws
 pub mod Fronts
 pub mod LengthLaws
-pub mod OutcomeLaws
 pub mod Sequenced
 pub mod StatesLaws
 pub mod WholeLaws

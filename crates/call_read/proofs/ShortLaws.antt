@@ -39,8 +39,7 @@ use Rattle.parse_tables.specs.declared.Table.TheVariants as T
 use Rattle.parse_array.specs.Held.{held}
 use Rattle.text_words.proofs.Stages.{short_none}
 use Rattle.text_words.specs.declared.Fault.{Fault}
-use Rattle.text_words.specs.declared.Judged.{Judged}
-use Rattle.text_words.specs.declared.Judged.TheVariants as J
+use Rattle.std.specs.Prelude.{Result, Err}
 use Rattle.text_words.specs.Meaning.{first_fault, judged}
 use Rattle.parse_held.proofs.BodyLaws.{row-most}
 use Rattle.parse_held.proofs.StandingLaws.{sections-stand}
@@ -198,5 +197,5 @@ read_short text n h = by_length (ltb 32768 (length text)) refl
 none-some : {A : Type 0} {f : L.Fault} → some f ≡ none → A
 none-some e = absurd (let z : ◌≡◌ {A = ℕ} 0 1 = cc in omega arith)
 
-pub words-short : (text : List ℕ) (n : ℕ) {j : Judged} {f : Fault} → judged j ≡ first_fault text → j ≡ J.Refused f → Short (read text n).answer
+pub words-short : (text : List ℕ) (n : ℕ) {j : Result (Unit {0}) Fault} {f : Fault} → judged j ≡ first_fault text → j ≡ Err f → Short (read text n).answer
 words-short text n h g = read_short text n (λ l e. none-some (sym (ap judged g) ∙ h ∙ short_none text l e))

@@ -8,9 +8,7 @@ use lib.ListN.{length, length-map}
 use Rattle.about_rules.specs.InOrder.{state_expressions}
 use Rattle.about_rules.specs.Runs.{state_records, states-size}
 use Rattle.parse_step.proofs.Ceilings.{few-counted}
-use Rattle.parse_step.specs.declared.Answer.{Answer}
 use Rattle.parse_step.specs.declared.State.{State}
-use Rattle.parse_step.specs.declared.ReadVerdict.TheVariants as Vd
 use Rattle.parse_step.specs.Course.{counts_of}
 use Rattle.parse_facilities.proofs.NameWords.{few-facilities}
 use Rattle.language.specs.Describe.{NotedAction}
@@ -46,6 +44,10 @@ use Rattle.parse_array.specs.Layout.{most_actions, work_size}
 use Rattle.call_read.proofs.Fronts.{rows_before}
 use Rattle.call_read.proofs.WholeLaws.{named, none-labelled, whole-at}
 use Rattle.call_read.specs.Ready.{Behind, Closes, Finished, tallied}
+use Rattle.parse_step.specs.Answers.{Answer}
+use Rattle.parse_step.specs.declared.Reached.{Reached}
+use Rattle.parse_step.proofs.Answers.{at_ok, not_ok, ok_err}
+use Rattle.std.specs.Prelude.{IsErr, Ok}
 
 -- The names known while states are read.
 abbrev pub counts : State → KnownNames
@@ -131,34 +133,34 @@ module _ {text : List ℕ} {ds : List Declaration} {os : List Operation} {w : Wo
   }
 
   module _ {l : ℕ} {r : Answer} {w₂ : List ℕ} (q : All start_stack l text (counts s) w s w₁ w₂ r) where
-    pub not-read : (r.verdict ≡ Vd.Done → ⊥) → Closes text ds os l w s w₂ r
-    not-read n = let z = q (waits ds os) stands in record { done = λ d. absurd (n d); refused = z.refused; full = z.full }
+    pub not-read : IsErr r → Closes text ds os l w s w₂ r
+    not-read n = let z = q (waits ds os) stands in record { done = λ d. not_ok n d; refused = z.refused; full = z.full }
 
-    module _ (d : r.verdict ≡ Vd.Done) where
-      y : AllRead text (waits ds os) (counts s) l start_stack w s w₁ w₂ r
+    module _ {r' : Reached} (d : r ≡ Ok r') where
+      y : AllRead text (waits ds os) (counts s) l start_stack w s w₁ w₂ r'
       y = (q (waits ds os) stands).done d
 
-      few : Few (tallied s r.state)
+      few : Few (tallied s r'.state)
       few = record {
         facilities = omega (arith, a.counted, few-facilities (counts_of s) a.standing.within);
         operations = few-operations (counts_of s) a.standing.within;
-        nodes = omega (arith, y.standing.nodes, few-counted (counts_of r.state) y.standing.within, few-states (counts_of r.state) y.standing.within);
-        actions = omega (arith, y.standing.actions, few-counted (counts_of r.state) y.standing.within);
-        states = few-states (counts_of r.state) y.standing.within;
+        nodes = omega (arith, y.standing.nodes, few-counted (counts_of r'.state) y.standing.within, few-states (counts_of r'.state) y.standing.within);
+        actions = omega (arith, y.standing.actions, few-counted (counts_of r'.state) y.standing.within);
+        states = few-states (counts_of r'.state) y.standing.within;
       }
 
-      pub few-actions : r.state.actions ≤ most_actions
+      pub few-actions : r'.state.actions ≤ most_actions
       few-actions = few.actions
 
       abbrev acted : List NotedAction
       acted = state_actions (length_of l) (waits ds os) s.nodes y.trees
 
-      labels : labels_in text w₂ r.state.states ≡ labels_of y.trees
+      labels : labels_in text w₂ r'.state.states ≡ labels_of y.trees
       labels =
-          names-few text Tb.Labels w₂ r.state.states few.states ∙ y.written.labels
+          names-few text Tb.Labels w₂ r'.state.states few.states ∙ y.written.labels
           ∙ ap (λ (x : List Name). x ++ labels_of y.trees) (none-labelled text w₁ a.standing.states)
 
-      waiting : StatesNear text y.trees → Waiting s.actions r.state.actions acted w₂
+      waiting : StatesNear text y.trees → Waiting s.actions r'.state.actions acted w₂
       waiting near = record {
         whole = y.standing.whole;
         fits = state-acts text (length_of l) (waits ds os) (omega (arith, length-map os (λ (o : Operation). o.name), a.standing.tabled.count, few.operations)) (waiting-fit ds os) s.nodes y.trees near
@@ -169,18 +171,18 @@ module _ {text : List ℕ} {ds : List Declaration} {os : List Operation} {w : Wo
       }
         where
           before-actions : rows Tb.Actions s.actions w₂ ≡ rows Tb.Actions s.actions w₁
-          before-actions = rows_before Tb.Actions s.actions r.state.actions w₁ w₂ _ a.standing.whole (omega (arith, y.written.count)) (omega (arith, y.written.count, few.actions)) y.written.actions
+          before-actions = rows_before Tb.Actions s.actions r'.state.actions w₁ w₂ _ a.standing.whole (omega (arith, y.written.count)) (omega (arith, y.written.count, few.actions)) y.written.actions
 
           before-places : rows Tb.ActionPlaces s.actions w₂ ≡ rows Tb.ActionPlaces s.actions w₁
-          before-places = rows_before Tb.ActionPlaces s.actions r.state.actions w₁ w₂ _ a.standing.whole (omega (arith, y.written.count)) (omega (arith, y.written.count, few.actions)) y.written.action_places
+          before-places = rows_before Tb.ActionPlaces s.actions r'.state.actions w₁ w₂ _ a.standing.whole (omega (arith, y.written.count)) (omega (arith, y.written.count, few.actions)) y.written.action_places
 
-      pub all_read : {w₃ : List ℕ} → ResolvesAll text s.actions r.state.actions r.state.states w₂ w₃ → Closes text ds os l w s w₃ r
-      all_read {w₃} f = record { done = λ e. finished; refused = (q (waits ds os) stands).refused; full = (q (waits ds os) stands).full }
+      pub all_read : {w₃ : List ℕ} → ResolvesAll text s.actions r'.state.actions r'.state.states w₂ w₃ → Closes text ds os l w s w₃ (Ok r')
+      all_read {w₃} f = record { done = λ e. at_ok (Finished text ds os l w s w₃) e finished; refused = λ i e. ok_err e; full = λ e. ok_err e }
         where
-          resolves : StatesNear text y.trees → Resolved text (labels_of y.trees) s.actions r.state.actions acted w₂ w₃
+          resolves : StatesNear text y.trees → Resolved text (labels_of y.trees) s.actions r'.state.actions acted w₂ w₃
           resolves near = rw labels at (f acted (waiting near))
 
-          finished : Finished text ds os l w s w₃ r
+          finished : Finished text ds os l w s w₃ r'
           finished = record {
             trees = y.trees;
             course = y.course;

@@ -1,9 +1,8 @@
 -- What stands when the states behind the other sections have been read.
-use Rattle.std.specs.Prelude.{List, ◌≡◌, ℕ}
+use Rattle.std.specs.Prelude.{List, ◌≡◌, ℕ, Err, Ok}
 use Rattle.std.proofs.Math.Option.{Option}
-use Rattle.parse_step.specs.declared.Answer.{Answer}
 use Rattle.parse_step.specs.declared.State.{State}
-use Rattle.parse_step.specs.declared.ReadVerdict.TheVariants as Vd
+use Rattle.parse_step.specs.declared.Unread.TheVariants as Vd
 use Rattle.parse_step.specs.Course.{runs}
 use Rattle.language.specs.Building.{Built, with_text}
 use Rattle.language.specs.DescribeText.{describe, facilities_of, length_at}
@@ -22,6 +21,8 @@ use Rattle.parse_held.specs.declared.Holding.{Holding}
 use Rattle.parse_held.specs.NearTexts.{TextNear}
 use Rattle.parse_held.specs.Sections.{Few}
 use Rattle.parse_held.specs.Standing.{Stands, StandsBeside}
+use Rattle.parse_step.specs.Answers.{Answer}
+use Rattle.parse_step.specs.declared.Reached.{Reached}
 
 -- For some facilities and operations.
 pub record Behind (text : List ℕ) (w : Word) (s : State) (work : List ℕ) : Type 0 where
@@ -44,15 +45,15 @@ pub record Whole (text work : List ℕ) (c : Holding) (t : Text) : Type 0 where
   pub beside : StandsBeside work c (describe t).description (describe t).places
 
 -- The states were read to the end of the text; where their values took the length that they should, and the names behind arrows stand in the text, the array holds the text.
-pub record Finished (text : List ℕ) (ds : List Declaration) (os : List Operation) (l : ℕ) (w : Word) (s : State) (work' : List ℕ) (r : Answer) : Type 0 where
+pub record Finished (text : List ℕ) (ds : List Declaration) (os : List Operation) (l : ℕ) (w : Word) (s : State) (work' : List ℕ) (r : Reached) : Type 0 where
   pub trees : List T.State
   pub course : (b : Built) → runs text start_stack w b s ≡ parsed (with_text b (more_of trees b.text))
   pub whole : (t : Text) → declarations_of t ≡ ds → t.operations ≡ os → t.states ≡ trees → length_of l ≡ length_in ds → TextNear text t → Whole text work' (tallied s r.state) t
 
 pub record Closes (text : List ℕ) (ds : List Declaration) (os : List Operation) (l : ℕ) (w : Word) (s : State) (work' : List ℕ) (r : Answer) : Type 0 where
-  pub done : r.verdict ≡ Vd.Done → Finished text ds os l w s work' r
-  pub refused : (f : Fault) → r.verdict ≡ Vd.Refused f → (b : Built) → runs text start_stack w b s ≡ refused (faulted f)
-  pub full : r.verdict ≡ Vd.Full → ⊥
+  pub done : {r' : Reached} → r ≡ Ok r' → Finished text ds os l w s work' r'
+  pub refused : (f : Fault) → r ≡ Err (Vd.Refused f) → (b : Built) → runs text start_stack w b s ≡ refused (faulted f)
+  pub full : {z : State} → r ≡ Err (Vd.Full z) → ⊥
 
 abbrev pub ReadsStates : List ℕ → ℕ → Word → State → List ℕ → List ℕ → Answer → Type 0
 ReadsStates text l w s work work' r = (ds : List Declaration) (os : List Operation) → Ready text ds os w s work → Closes text ds os l w s work' r

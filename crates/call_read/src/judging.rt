@@ -7,7 +7,7 @@ ghost use Rattle.text_words.specs.Meaning.{judged};
 ghost use Rattle.parse_held.specs.Sections.{Few, beside_held, most_letters, names_held, sections_held};
 
 use image_records::bytes;
-use judge_all::least_fault;
+use judge_all::Described;
 use language::ceilings;
 use parse_array::Work;
 use parse_array::layout::{MOST_FACILITIES, MOST_OPERATIONS, MOST_STATES};
@@ -29,16 +29,18 @@ pub fn judge(text: &[u8], work: &Work, c: Holding) -> Judged
     let mut letters = [0u8; MOST_LETTERS];
     names::put(&mut letters, 0, text, work, few);
     let n = names::count(text, work, few);
-    let ns = bytes::part(&letters, 0, n);
-    let fs = body::rows_of(s, Table::Facilities, few.facilities);
-    let os = body::rows_of(s, Table::Operations, few.operations);
-    let es = body::nodes_of(s, few.nodes);
-    let acts = body::rows_of(s, Table::Actions, few.actions);
-    let ss = body::rows_of(s, Table::States, few.states);
-    let fp = body::rows_of(s, Table::FacilityPlaces, few.facilities);
-    let op = body::rows_of(s, Table::OperationPlaces, few.operations);
-    let ep = body::node_places_of(s, few.nodes);
-    let ap = body::rows_of(s, Table::ActionPlaces, few.actions);
-    let sp = body::rows_of(s, Table::StatePlaces, few.states);
-    least_fault(fs, os, es, acts, ss, ns, fp, op, ep, ap, sp)
+    let described = Described {
+        facilities: body::rows_of(s, Table::Facilities, few.facilities),
+        operations: body::rows_of(s, Table::Operations, few.operations),
+        expressions: body::nodes_of(s, few.nodes),
+        actions: body::rows_of(s, Table::Actions, few.actions),
+        states: body::rows_of(s, Table::States, few.states),
+        names: bytes::part(&letters, 0, n),
+        facility_places: body::rows_of(s, Table::FacilityPlaces, few.facilities),
+        operation_places: body::rows_of(s, Table::OperationPlaces, few.operations),
+        expression_places: body::node_places_of(s, few.nodes),
+        action_places: body::rows_of(s, Table::ActionPlaces, few.actions),
+        state_places: body::rows_of(s, Table::StatePlaces, few.states),
+    };
+    judge_all::least_fault(&described)
 }

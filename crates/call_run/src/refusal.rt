@@ -13,23 +13,11 @@ use language::refusals::Refusal;
 use run_begin::formed;
 use run_soundness::{sizes, soundness};
 
-#[derive(Clone, Copy)]
-pub enum Tested {
-    Refused(Refusal),
-    Passed,
-}
-
 // Whether the buffers lent are long enough for a store of this size.
 fn roomy(size: usize, store: usize, record: usize, scratch: usize) -> bool
     ensures { (d : Description) → size ≡ store_size d → result ≡ L.roomy d store «record» scratch }
 {
-    if store < size {
-        return false;
-    }
-    if record < ceilings::RECORD {
-        return false;
-    }
-    size <= scratch / 4
+    size <= store && ceilings::RECORD <= record && size <= scratch / 4
 }
 
 // Whether the trace takes a store of this size after each cycle, or is empty.
@@ -37,10 +25,7 @@ fn trace_roomy(size: usize, cycles: u32, trace: usize) -> bool
     requires { size ≤ 16384 }
     ensures { (d : Description) → size ≡ store_size d → result ≡ trace_roomy d cycles trace }
 {
-    if trace == 0 {
-        return true;
-    }
-    cycles as usize * size <= trace
+    trace == 0 || cycles as usize * size <= trace
 }
 
 // The first refusal, if there is one: 13, 12, 14, 15 in this order. Whether the image passes is known; `scratch` and `trace` are the lengths of those buffers.
@@ -53,28 +38,25 @@ pub fn run_refusal(
     cycles: u32,
     scratch: usize,
     trace: usize,
-) -> Tested
+) -> Result<(), Refusal>
     requires { passed ≡ passes image.now }
     ensures { refusal_seen result ≡ run_refusal image.now store.now «record».now stimuli.now cycles scratch trace }
 {
     if !passed {
-        return Tested::Refused(Refusal::ImageFails);
+        return Err(Refusal::ImageFails);
     }
     let facilities = sections::section(image, sections::FACILITIES);
     let expressions = sections::section(image, sections::EXPRESSIONS);
     let states = sections::section(image, sections::STATES);
     let size = sizes::store_size(facilities);
-    if !roomy(size, store.len(), record.len(), scratch) {
-        return Tested::Refused(Refusal::BufferTooShort);
-    }
-    if !trace_roomy(size, cycles, trace) {
-        return Tested::Refused(Refusal::BufferTooShort);
+    if !roomy(size, store.len(), record.len(), scratch) || !trace_roomy(size, cycles, trace) {
+        return Err(Refusal::BufferTooShort);
     }
     if !soundness::sound(facilities, expressions, states, store, record) {
-        return Tested::Refused(Refusal::Unsound);
+        return Err(Refusal::Unsound);
     }
     if !formed::all_well_formed(facilities, stimuli, cycles) {
-        return Tested::Refused(Refusal::BadStimulus);
+        return Err(Refusal::BadStimulus);
     }
-    Tested::Passed
+    Ok(())
 }

@@ -5,9 +5,9 @@ ghost use Rattle.language.specs.Image.{passes};
 ghost use Rattle.call_answers.specs.Run.{call};
 
 use crate::refusal;
-use crate::refusal::Tested;
-use call_answers::ran::RunReply;
+use call_answers::ran::Tally;
 use call_stimuli::carry;
+use language::refusals::Refusal;
 use store_words::slices;
 
 // Refused or carried out. The trace is zero beyond the stores of completed cycles, and scratch is zero.
@@ -20,7 +20,7 @@ pub fn run(
     cycles: u32,
     scratch: &mut [u8],
     trace: &mut [u8],
-) -> RunReply
+) -> Result<Tally, Refusal>
     requires { passed ≡ passes image.now }
     ensures { call result store.new «record».new scratch.new trace.new ≡ L.run image.now store.old «record».old stimuli.now cycles (length scratch.old) (length trace.old) }
 {
@@ -35,13 +35,10 @@ pub fn run(
         scratch.len(),
         trace.len(),
     ) {
-        Tested::Refused(n) => {
+        Ok(()) => Ok(carry::carry_out(image, store, record, stimuli, cycles, scratch, trace)),
+        Err(refusal) => {
             slices::zero(scratch);
-            RunReply::Refused(n)
-        }
-        Tested::Passed => {
-            let tally = carry::carry_out(image, store, record, stimuli, cycles, scratch, trace);
-            RunReply::Ran(tally)
+            Err(refusal)
         }
     }
 }

@@ -15,6 +15,7 @@ use Rattle.image_records.specs.Placed.{placed}
 use Rattle.run_left.specs.Kept.{kept_record}
 use Rattle.run_advance.specs.Carried.{ReadBack}
 use Rattle.call_stimuli.proofs.RunLaws.{Left, left-all, left-more}
+use Rattle.image_sections.specs.declared.sections.Sections.{Sections}
 use Rattle.call_stimuli.specs.Lent.{Lent}
 
 -- The run of `count` cycles that began with B₀ and K₀, after n of them, which came to r.
@@ -33,8 +34,8 @@ kept-over (suc n) r q K h e =
     let y = ap (λ (k : ℕ). drop k (over (record_bytes r) K)) x ∙ drop-append_seam (record_bytes r) (drop (length (record_bytes r)) K) in
     rw (m, y, x) refl
 
-pub so-far-none : (image K F O E A S : List ℕ) (n : ℕ) (r : Record) (B stimuli : List ℕ) (cycles : ℕ) (W P M T : List ℕ) → Lent image K n F O E A S r B stimuli cycles W P M T → SoFar image stimuli cycles n B K B r T 0 0 0 0
-so-far-none image K F O E A S n r B stimuli cycles W P M T l =
+pub so-far-none : (image K : List ℕ) (n : ℕ) (x : Sections) (r : Record) (B stimuli : List ℕ) (cycles : ℕ) (W P M T : List ℕ) → Lent image K n x r B stimuli cycles W P M T → SoFar image stimuli cycles n B K B r T 0 0 0 0
+so-far-none image K n x r B stimuli cycles W P M T l =
     record { left = left-all image stimuli cycles n B K T l.free l.clear; read = l.read; whole = λ h. absurd (omega (arith, h)) }
 
 module _ (image S : List ℕ) (count scratch : ℕ) (B₀ K₀ B : List ℕ) (r : Record) (T : List ℕ) (n conflicts at to : ℕ) (h : n < count) (s : SoFar image S count scratch B₀ K₀ B r T n conflicts at to) where

@@ -14,12 +14,13 @@ ghost use Rattle.call_stimuli.specs.Lent.{Lent, SomeLent};
 use call_answers::ran::Tally;
 use image_records::bytes;
 use image_sections::sections;
+use image_sections::sections::Sections;
 use language::ceilings;
-use language::stops::Halt;
+use language::stops::Stop;
 use run_advance::carried;
 use run_begin::formed;
-use run_end::outcome::CycleEnd;
 use run_next::record::Record;
+use run_references::worth::Halted;
 use run_soundness::{record, sizes};
 use store_words::slices;
 
@@ -34,7 +35,7 @@ struct CarriedOn {
 }
 
 // So many cycles completed, with so many conflicts, and the stop that ended them, if one did.
-fn ended(completed: u32, conflicts: u64, stop: Halt, r: Record) -> CarriedOn
+fn ended(completed: u32, conflicts: u64, stop: Option<Stop>, r: Record) -> CarriedOn
     ensures { result ≡ record { tally = record { completed = completed; conflicts = conflicts; stop = stop }; «record» = r } }
 {
     let tally = Tally {
@@ -47,11 +48,7 @@ fn ended(completed: u32, conflicts: u64, stop: Halt, r: Record) -> CarriedOn
 
 // One cycle after the other, each with its own stimulus, until one stops; no later one is refused. The store after each goes to the trace, where there is one.
 fn carry_on(
-    facilities: &[u8],
-    operations: &[u8],
-    expressions: &[u8],
-    actions: &[u8],
-    states: &[u8],
+    image: &Sections,
     r: Record,
     store: &mut [u8],
     stimuli: &[u8],
@@ -61,23 +58,18 @@ fn carry_on(
     mask: &mut [u8],
     trace: &mut [u8],
 ) -> CarriedOn
-    requires { SomeLent facilities.now operations.now expressions.now actions.now states.now (record_meant r) store.old stimuli.now cycles work.old pending.old mask.old trace.old }
-    ensures { (i K : List ℕ) (n : ℕ) → Lent i K n facilities.now operations.now expressions.now actions.now states.now (record_meant r) store.old stimuli.now cycles work.old pending.old mask.old trace.old → tallied result.tally store.new (kept_record result.tally.completed (record_meant result.«record») K) (zeroes n) trace.new ≡ L.run i store.old K stimuli.now cycles n (length trace.old) }
+    requires { SomeLent image.now (record_meant r) store.old stimuli.now cycles work.old pending.old mask.old trace.old }
+    ensures { (i K : List ℕ) (n : ℕ) → Lent i K n image.now (record_meant r) store.old stimuli.now cycles work.old pending.old mask.old trace.old → tallied result.tally store.new (kept_record result.tally.completed (record_meant result.«record») K) (zeroes n) trace.new ≡ L.run i store.old K stimuli.now cycles n (length trace.old) }
 {
     let size = work.len();
     let each = formed::share(stimuli.len(), cycles);
-    let mut n: u32 = 0;
     let mut conflicts: u64 = 0;
     let mut at: usize = 0;
     let mut to: usize = 0;
     let mut reached = r;
-    while n < cycles {
-        let a = carried::carried(
-            facilities,
-            operations,
-            expressions,
-            actions,
-            states,
+    for n in 0..cycles {
+        let came = carried::carried(
+            image,
             reached,
             store,
             bytes::part(stimuli, at, each),
@@ -85,21 +77,19 @@ fn carry_on(
             pending,
             mask,
         );
-        let verdict = a.verdict;
-        match verdict {
-            CycleEnd::Completed => {
+        match came {
+            Ok(a) => {
                 conflicts += a.conflicts as u64;
                 bytes::put(trace, to, bytes::part(store, 0, size));
                 at += each;
                 to += size;
-                n += 1;
                 reached = a.record;
             }
-            CycleEnd::Stopped(stop) => return ended(n, conflicts, Halt::At(stop), reached),
-            CycleEnd::Stuck(_) => return ended(n, conflicts, Halt::None, reached),
+            Err(Halted::Stopped(stop)) => return ended(n, conflicts, Some(stop), reached),
+            Err(Halted::Stuck(_)) => return ended(n, conflicts, None, reached),
         }
     }
-    ended(n, conflicts, Halt::None, reached)
+    ended(cycles, conflicts, None, reached)
 }
 
 // The run that is owed, where nothing is refused and the trace is zero. Delayed stores wait in arrays that have n bytes, as the store has, or more.
@@ -119,11 +109,7 @@ fn carry_in(
     ensures { tallied result store.new «record».new scratch.new trace.new ≡ L.run image.now store.old «record».old stimuli.now cycles (length scratch.old) (length trace.old) }
 {
     let a = carry_on(
-        sections::section(image, sections::FACILITIES),
-        sections::section(image, sections::OPERATIONS),
-        sections::section(image, sections::EXPRESSIONS),
-        sections::section(image, sections::ACTIONS),
-        sections::section(image, sections::STATES),
+        &Sections::of(image),
         record::record_at(record),
         store,
         stimuli,

@@ -1,31 +1,32 @@
 // The cases of a file that has nothing else: traces or images.
-use crate::tally::{Came, Score};
-use crate::{images, tally, traces};
+use crate::tally::Score;
+use crate::{images, traces};
 use std::alloc::Global;
 use std::io;
 use std::io::Read;
 
-pub const TRACES: u8 = 0;
+#[derive(Clone, Copy)]
+pub enum Kind {
+    Traces,
+    Images,
+}
 
-pub const IMAGES: u8 = 1;
-
-// The next case.
-fn next(alloc: Global, file: &mut impl Read, kind: u8) -> io::Result<Came> {
-    if kind == TRACES {
-        return traces::next(alloc, file);
+// Whether the next case agrees; none at the end.
+fn next(alloc: Global, file: &mut impl Read, kind: Kind) -> io::Result<Option<bool>> {
+    match kind {
+        Kind::Traces => traces::next(alloc, file),
+        Kind::Images => images::next(alloc, file),
     }
-    images::next(alloc, file)
 }
 
 // Every case.
-pub fn run(alloc: Global, file: &mut impl Read, kind: u8) -> io::Result<Score> {
-    let mut t = tally::nothing();
+pub fn run(alloc: Global, file: &mut impl Read, kind: Kind) -> io::Result<Score> {
+    let mut score = Score::default();
     for _ in 0..100000 {
-        let came = next(alloc, file, kind)?;
-        if let Came::End = came {
+        let Some(agrees) = next(alloc, file, kind)? else {
             break;
-        }
-        t = tally::counted(t, came);
+        };
+        score = score.counted(agrees);
     }
-    Ok(t)
+    Ok(score)
 }

@@ -7,6 +7,7 @@ mod images;
 mod tally;
 mod traces;
 
+use files::Kind;
 use std::rt::Files;
 use std::{fs, io};
 
@@ -28,17 +29,17 @@ fn fail(rt: &(impl Eprint + AllocGlobal), path: &str, error: io::Error) -> io::R
 fn each_of(
     rt: &(impl Files + Print + Eprint + AllocGlobal),
     path: &str,
-    kind: u8,
+    kind: Kind,
 ) -> io::Result<()> {
     match fs::open(rt, path) {
-        Ok(mut file) => tally::shown(rt, files::run(rt.alloc(), &mut file, kind)?),
+        Ok(mut file) => files::run(rt.alloc(), &mut file, kind)?.shown(rt),
         Err(e) => fail(rt, path, e),
     }
 }
 
 fn main(rt: HostRuntime) -> io::Result<()> {
     print!(rt; "traces: ")?;
-    each_of(&rt, "corpus", files::TRACES)?;
+    each_of(&rt, "corpus", Kind::Traces)?;
     print!(rt; "images: ")?;
-    each_of(&rt, "images", files::IMAGES)
+    each_of(&rt, "images", Kind::Images)
 }

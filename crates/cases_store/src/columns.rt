@@ -44,10 +44,8 @@ fn limb(line: &[u8; 95], at: usize) -> u64
     requires { at < 79 }
 {
     let mut n: u64 = 0;
-    let mut i: usize = 0;
-    while i < 16 {
+    for i in 0..16 {
         n = (n << 4) | (digit(line[at + i]) as u64);
-        i += 1;
     }
     n
 }

@@ -21,13 +21,11 @@ fn on_store(
     match letter {
         b'l' => shown::value(rt, parts::load(store, c.at, c.length, c.from, c.count)),
         b's' => {
-            let v = c.value;
-            parts::save(store, c.at, c.length, c.from, c.count, v);
+            parts::save(store, c.at, c.length, c.from, c.count, c.value);
             shown::slice(rt, store)
         }
         b'p' => {
-            let v = c.value;
-            parts::save(pending, c.at, c.length, c.from, c.count, v);
+            parts::save(pending, c.at, c.length, c.from, c.count, c.value);
             shown::slice(rt, pending)
         }
         b'c' => {

@@ -6,11 +6,7 @@ use value_operators::Value;
 
 // Whether something holds.
 pub fn holds(rt: &impl Print, b: bool) -> io::Result<()> {
-    if b {
-        println!(rt; "yes")
-    } else {
-        println!(rt; "no")
-    }
+    println!(rt; "{}", if b { "yes" } else { "no" })
 }
 
 // A value: its length, and its number in hexadecimal.
@@ -25,10 +21,8 @@ pub fn value(rt: &impl Print, v: Value) -> io::Result<()> {
 // A number in which every byte of a slice counts.
 fn sum(s: &[u8]) -> u64 {
     let mut n: u64 = 0;
-    let mut i: usize = 0;
-    while i < s.len() {
-        n = (n * 31 + s[i] as u64) % 4294967296;
-        i += 1;
+    for b in s {
+        n = (n * 31 + *b as u64) % 4294967296;
     }
     n
 }

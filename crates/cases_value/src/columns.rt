@@ -1,7 +1,7 @@
 // The columns of a line: numbers of 64 hexadecimal digits, and lengths and counts of three decimal ones.
 ghost use Rattle.std.specs.Prelude.{◌<◌};
 
-use value_operators::{Made, Value};
+use value_operators::Value;
 
 // The number of a digit.
 pub fn digit(b: u8) -> u8
@@ -19,11 +19,9 @@ pub fn digit(b: u8) -> u8
 fn limb(line: &[u8; 213], at: usize) -> u64
     requires { at < 197 }
 {
-    let mut n: u64 = 0;
-    let mut i: usize = at;
-    while i < at + 16 {
-        n = (n << 4) | (digit(line[i]) as u64);
-        i += 1;
+    let mut n = 0;
+    for b in &line[at..at + 16] {
+        n = (n << 4) | digit(*b) as u64;
     }
     n
 }
@@ -47,18 +45,16 @@ fn small(a: u8, b: u8, c: u8) -> u16 {
 
 // The left operand.
 pub fn left(line: &[u8; 213]) -> Value {
-    let limbs = number(line, 6);
     Value {
-        limbs,
+        limbs: number(line, 6),
         length: small(line[2], line[3], line[4]),
     }
 }
 
 // The right operand.
 pub fn right(line: &[u8; 213]) -> Value {
-    let limbs = number(line, 75);
     Value {
-        limbs,
+        limbs: number(line, 75),
         length: small(line[71], line[72], line[73]),
     }
 }
@@ -68,13 +64,10 @@ pub fn count(line: &[u8; 213]) -> u16 {
     small(line[140], line[141], line[142])
 }
 
-// The value that is expected, or the blank one.
-pub fn expected(line: &[u8; 213]) -> Made {
-    let limbs = number(line, 148);
-    let length = small(line[144], line[145], line[146]);
-    let value = Value { limbs, length };
-    Made {
-        fits: 0 < length,
-        value,
+// The value that is expected, of length 0 where it is none.
+pub fn expected(line: &[u8; 213]) -> Value {
+    Value {
+        limbs: number(line, 148),
+        length: small(line[144], line[145], line[146]),
     }
 }

@@ -7,7 +7,7 @@ mod operators;
 
 use std::io;
 use std::io::{ErrorKind, Read};
-use value_operators::Made;
+use value_operators::{Value, numbers};
 
 // What came of one line.
 #[derive(Clone, Copy)]
@@ -17,26 +17,21 @@ enum Outcome {
     End,
 }
 
-// Whether two answers are the same, the blank value beside a refusal too.
-fn same(a: Made, b: Made) -> bool {
-    if a.fits != b.fits {
-        return false;
-    }
-    let x = a.value;
-    let y = b.value;
-    if x.length != y.length {
-        return false;
-    }
-    value_operators::numbers::same(x, y)
+// Whether an answer is the expected one: none stands as zeroes of length 0.
+fn same(answer: Option<Value>, expected: Value) -> bool {
+    let x = answer.unwrap_or(Value {
+        limbs: [0; 4],
+        length: 0,
+    });
+    x.length == expected.length && numbers::same(x, expected)
 }
 
 // What the line's operator gives.
-fn given(line: &[u8; 213]) -> Made {
+fn given(line: &[u8; 213]) -> Option<Value> {
     let x = columns::left(line);
     let c = columns::count(line);
     if line[0] == b'k' {
-        let s: &[u8] = line;
-        return constant::made(&s[6..139], c, x.length);
+        return constant::made(&line[6..139], c, x.length);
     }
     operators::applied(line[0], x, columns::right(line), c)
 }

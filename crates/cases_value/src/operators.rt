@@ -1,10 +1,10 @@
 // The operator that a letter stands for.
 use value_operators::{
-    Made, Value, arithmetic, fitting, logical, numbers, parts, reductions, relations, substrings,
+    Value, arithmetic, logical, numbers, parts, reductions, relations, substrings,
 };
 
 // Relations.
-fn related(op: u8, x: Value, y: Value) -> Made {
+fn related(op: u8, x: Value, y: Value) -> Option<Value> {
     match op {
         b'=' => relations::equal(x, y),
         b'#' => relations::unequal(x, y),
@@ -14,12 +14,12 @@ fn related(op: u8, x: Value, y: Value) -> Made {
         b'}' => relations::at_least(x, y),
         b'e' => relations::related(numbers::same(x, y)),
         b'i' => relations::related(numbers::fits64(x)),
-        _ => fitting::none(),
+        _ => None,
     }
 }
 
 // The other operators of two operands, and the negation.
-fn combined(op: u8, x: Value, y: Value) -> Made {
+fn combined(op: u8, x: Value, y: Value) -> Option<Value> {
     match op {
         b'+' => arithmetic::sum(x, y),
         b'-' => arithmetic::difference(x, y),
@@ -34,7 +34,7 @@ fn combined(op: u8, x: Value, y: Value) -> Made {
 }
 
 // The reductions, and the numbers of the machine.
-fn reduced(op: u8, x: Value, y: Value) -> Made {
+fn reduced(op: u8, x: Value, y: Value) -> Option<Value> {
     match op {
         b'o' => reductions::or_reduction(x),
         b'a' => reductions::and_reduction(x),
@@ -47,7 +47,7 @@ fn reduced(op: u8, x: Value, y: Value) -> Made {
 }
 
 // The value of the operator `op` on x, y and the count c.
-pub fn applied(op: u8, x: Value, y: Value, c: u16) -> Made {
+pub fn applied(op: u8, x: Value, y: Value, c: u16) -> Option<Value> {
     match op {
         b'@' => substrings::extended(x, c),
         b'h' => substrings::head(x, c),

@@ -18,14 +18,10 @@ fn line_end(list: &[u8], at: usize) -> usize
     requires { at ≤ length list.now }
     ensures { (at ≤ result) × (result ≤ length list.now) }
 {
-    let mut end = at;
-    while end < list.len() {
-        if list[end] == b'\n' {
-            return end;
-        }
-        end += 1;
+    match list[at..].iter().position(|b| *b == b'\n') {
+        Some(n) => at + n,
+        None => list.len(),
     }
-    end
 }
 
 // What a reader has, up to so many bytes.

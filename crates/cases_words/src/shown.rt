@@ -1,12 +1,13 @@
 // What came of a text, printed.
-use language::refusals::refusal_number;
 use std::io;
 use text_characters::{letters, parts};
-use text_words::{Judged, Word, WordKind, next, places, stage};
+use text_words::{Fault, Word, WordKind, next, places, stage};
 use value_operators::Value;
 
 // A refusal: its number and its place.
-fn refused(rt: &impl Print, n: u64, place: u64) -> io::Result<()> {
+fn refused(rt: &impl Print, f: Fault) -> io::Result<()> {
+    let n = u8::from(f.refusal);
+    let place = places::place(f.at);
     println!(rt; "refused {n} {place}")
 }
 
@@ -20,9 +21,8 @@ fn capitals(rt: &impl Print, name: &[u8]) -> io::Result<()> {
 
 // A constant: its length, its limbs, the highest first, and whether it is bare.
 fn constant(rt: &impl Print, v: Value, bare: bool) -> io::Result<()> {
-    let limbs = v.limbs;
-    let l = value_limbs::taken(limbs);
-    print!(rt; "{}:{},{},{},{}", v.length, l.l3, l.l2, l.l1, l.l0)?;
+    let l = v.limbs;
+    print!(rt; "{}:{},{},{},{}", v.length, l[3], l[2], l[1], l[0])?;
     if bare {
         print!(rt; " bare")?;
     }
@@ -54,8 +54,7 @@ fn all_words(rt: &impl Print, text: &[u8]) -> io::Result<()> {
     let mut at = 0;
     while at < text.len() {
         let w = next::next_word(text, at);
-        let kind = w.kind;
-        if next::is_end(kind) {
+        if next::is_end(w.kind) {
             break;
         }
         word(rt, text, w)?;
@@ -67,14 +66,7 @@ fn all_words(rt: &impl Print, text: &[u8]) -> io::Result<()> {
 // The words of a text, or its refusal.
 pub fn text(rt: &impl Print, s: &[u8]) -> io::Result<()> {
     match stage::first_fault(s) {
-        Judged::Passed => all_words(rt, s),
-        Judged::Refused(f) => {
-            let refusal = f.refusal;
-            refused(
-                rt,
-                refusal_number(refusal) as u64,
-                places::place(f.at) as u64,
-            )
-        }
+        Ok(()) => all_words(rt, s),
+        Err(f) => refused(rt, f),
     }
 }

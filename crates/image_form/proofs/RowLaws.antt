@@ -6,6 +6,11 @@ use Prim.Native.Nat.{ℕ, zero, suc, ◌+◌, ◌*◌, ◌/◌, ◌%◌, ◌<◌
 use native.Mathlib.Numerals.{add-one}
 use native.Mathlib.Omega.{arith}
 use lib.ListN.{drop, get_or, length, take}
+use mathlib.Core.Logic.{⊎_elim}
+use native.Mathlib.Nat.{eq-zero-or-pos}
+use Rattle.std.proofs.Common.{◌&&◌, ◌≤◌, ◌-◌}
+use Rattle.std.specs.Bool.{MatchBool}
+use Rattle.std.specs.List.{list_all, range_with_len}
 use Rattle.language.specs.Decode.{action_of, node_of}
 use Rattle.language.specs.Description as D
 use Rattle.language.specs.Description.{Description, Facility, action_at, facility_at, is_computed, no_facility, node_at}
@@ -31,6 +36,30 @@ differs s t h = by-test (same s t) refl
 
 unlike : {s t : List ℕ} → same s t ≡ false → s ≡ t → ⊥
 unlike f e = true≢false (sym (same_of e) ∙ f)
+
+-- ---- A test of every row, by its number.
+
+-- It holds of n rows from a on, or fails at one.
+below : (test : ℕ → Bool) (a n : ℕ) → MatchBool (list_all test (range_with_len a n)) ((k : ℕ) → a ≤ k → k < a + n → test k ≡ true) ((k : ℕ) × (k < a + n) × (test k ≡ false))
+below test a zero = λ k h g. absurd (omega arith)
+below test a (suc n) = go (test a) refl (list_all test (range_with_len (a + 1) n)) (below test (a + 1) n)
+  where
+    here : test a ≡ true → ((k : ℕ) → a + 1 ≤ k → k < a + 1 + n → test k ≡ true) → (k : ℕ) → a ≤ k → k < a + suc n → test k ≡ true
+    here e f k h g = ⊎_elim (λ z. let q : k ≡ a = omega arith in ap test q ∙ e) (λ l. f k (omega arith) (omega arith)) (eq-zero-or-pos (k - a))
+
+    go : (b : Bool) → test a ≡ b → (r : Bool) → MatchBool r ((k : ℕ) → a + 1 ≤ k → k < a + 1 + n → test k ≡ true) ((k : ℕ) × (k < a + 1 + n) × (test k ≡ false))
+        → MatchBool (b && r) ((k : ℕ) → a ≤ k → k < a + suc n → test k ≡ true) ((k : ℕ) × (k < a + suc n) × (test k ≡ false))
+    go true e true f = here e f
+    go true e false w = (w.0, omega (arith, w.1), w.2)
+    go false e r f = (a, omega arith, e)
+
+-- What holds where it holds of all n rows, and does not where it fails at one, is the test of all.
+pub all_rows : (test : ℕ → Bool) (n : ℕ) {r s : Bool} → r ≡ list_all test (range_with_len 0 n) → (((k : ℕ) → k < n → test k ≡ true) → s ≡ true) → ((k : ℕ) → k < n → test k ≡ false → s ≡ false) → r ≡ s
+all_rows test n {r} {s} e held failed = e ∙ go (list_all test (range_with_len 0 n)) (below test 0 n)
+  where
+    go : (b : Bool) → MatchBool b ((k : ℕ) → 0 ≤ k → k < 0 + n → test k ≡ true) ((k : ℕ) × (k < 0 + n) × (test k ≡ false)) → b ≡ s
+    go true f = sym (held (λ k l. f k (omega arith) (omega arith)))
+    go false w = sym (failed w.0 (omega (arith, w.1)) w.2)
 
 -- ---- Expressions and actions.
 

@@ -11,7 +11,6 @@ ghost use Rattle.language.specs.Encode.{action_size, node_size, state_size};
 
 use image_records::{constants, marks, record_sizes};
 use image_sections::states;
-use image_sections::states::StateValue;
 use language::ceilings;
 
 // The ceilings.
@@ -24,30 +23,25 @@ const MOST_STATES: usize = ceilings::STATES as usize;
 const MOST_COUNTED: usize = ceilings::COUNTED as usize;
 
 // An operator, by its mark's high bits.
+#[tactic(auto, using(std::proofs::lemmas::Bool::Decides::nat_tests), unfolding(language::specs::Decode::operator_of))]
 fn operator_count(mark: u8) -> usize
     ensures { (result ≤ 1) × ((a b : ℕ) → result ≡ node_count (operator_of mark a b)) }
 {
     match mark / 64 {
-        1 => 1,
-        2 => 1,
-        3 => 1,
+        1..=3 => 1,
         _ => 0,
     }
 }
 
 // An operator or operand that is no constant, by its mark.
+#[tactic(auto, using(std::proofs::lemmas::Bool::Decides::nat_tests), unfolding(language::specs::Decode::plain_node))]
 fn plain_count(mark: u8) -> usize
     ensures { (result ≤ 1) × ((x a b c : ℕ) → result ≡ node_count (plain_node mark x a b c)) }
 {
     match mark {
-        marks::WHOLE => 1,
-        marks::ONE => 1,
-        marks::PART => 1,
-        marks::TWO => 1,
-        marks::WORD_PART => 1,
-        marks::FIRST_ARM => 0,
-        marks::NEXT_ARM => 0,
-        marks::CHOICE => 1,
+        marks::FIRST_ARM | marks::NEXT_ARM => 0,
+        marks::WHOLE | marks::ONE | marks::PART | marks::TWO | marks::WORD_PART | marks::CHOICE =>
+            1,
         _ => operator_count(mark),
     }
 }
@@ -61,9 +55,10 @@ fn node_count(exprs: &[u8], n: usize) -> usize
     match exprs[at] {
         marks::CONSTANT => {
             if constants::digits_marked(exprs, n, exprs[at + 1] / 48) {
-                return 1;
+                1
+            } else {
+                0
             }
-            0
         }
         marks::MORE => 0,
         mark => plain_count(mark),
@@ -73,53 +68,42 @@ fn node_count(exprs: &[u8], n: usize) -> usize
 fn nodes_count(exprs: &[u8]) -> usize
     ensures { (result ≤ length exprs.now / node_size) × ((d : Description) → Nodes d exprs.now → result ≡ total node_count d.expressions) }
 {
-    let mut sum: usize = 0;
-    let mut n = 0;
-    while n < exprs.len() / record_sizes::NODE {
+    let mut sum = 0;
+    for n in 0..exprs.len() / record_sizes::NODE {
         sum += node_count(exprs, n);
-        n += 1;
     }
     sum
 }
 
 // An action, by its mark.
+#[tactic(auto, using(std::proofs::lemmas::Bool::Decides::nat_tests), unfolding(language::specs::Decode::action_with))]
 fn action_count(mark: u8) -> usize
     ensures { (result ≤ 1) × ((a b c : ℕ) → result ≡ action_count (action_with mark a b c)) }
 {
     match mark {
-        marks::STORE => 1,
-        marks::IMMEDIATE_STORE => 1,
-        marks::PAIR => 1,
-        marks::IMMEDIATE_PAIR => 1,
-        marks::SET => 1,
-        marks::PERFORM => 1,
-        marks::GOTO => 1,
-        marks::CALL => 1,
-        marks::RETURN => 1,
-        marks::WHEN => 1,
-        marks::CHOOSE => 1,
-        marks::ARM => 0,
+        marks::STORE
+        | marks::IMMEDIATE_STORE
+        | marks::PAIR
+        | marks::IMMEDIATE_PAIR
+        | marks::SET
+        | marks::PERFORM
+        | marks::GOTO
+        | marks::CALL
+        | marks::RETURN
+        | marks::WHEN
+        | marks::CHOOSE => 1,
         _ => 0,
     }
 }
 
 // References on its left, which are no operands.
+#[tactic(auto, using(std::proofs::lemmas::Bool::Decides::nat_tests), unfolding(language::specs::Decode::action_with))]
 fn left_count(mark: u8) -> usize
     ensures { (result ≤ 2) × ((a b c : ℕ) → result ≡ left_count (action_with mark a b c)) }
 {
     match mark {
-        marks::STORE => 1,
-        marks::IMMEDIATE_STORE => 1,
-        marks::PAIR => 2,
-        marks::IMMEDIATE_PAIR => 2,
-        marks::SET => 1,
-        marks::PERFORM => 0,
-        marks::GOTO => 0,
-        marks::CALL => 0,
-        marks::RETURN => 0,
-        marks::WHEN => 0,
-        marks::CHOOSE => 0,
-        marks::ARM => 0,
+        marks::PAIR | marks::IMMEDIATE_PAIR => 2,
+        marks::STORE | marks::IMMEDIATE_STORE | marks::SET => 1,
         _ => 0,
     }
 }
@@ -134,40 +118,31 @@ struct Counted {
 fn actions_count(acts: &[u8]) -> Counted
     ensures { (result.all ≤ length acts.now / action_size) × (result.lefts ≤ 2 * (length acts.now / action_size)) × ((d : Description) → Actions d acts.now → (result.all ≡ total action_count d.actions) × (result.lefts ≡ total left_count d.actions)) }
 {
-    let mut all: usize = 0;
-    let mut lefts: usize = 0;
-    let mut n = 0;
-    while n < acts.len() / record_sizes::ACTION {
+    let mut all = 0;
+    let mut lefts = 0;
+    for n in 0..acts.len() / record_sizes::ACTION {
         let mark = acts[record_sizes::ACTION * n];
         all += action_count(mark);
         lefts += left_count(mark);
-        n += 1;
     }
-    Counted {
-        all: all,
-        lefts: lefts,
-    }
+    Counted { all, lefts }
 }
 
-fn value_count(value: StateValue) -> usize
+fn value_count(value: Option<u16>) -> usize
     ensures { (result ≤ 1) × (result ≡ values_in (value_meant value)) }
 {
     match value {
-        StateValue::At(_) => 1,
-        StateValue::None => 0,
+        Some(_) => 1,
+        None => 0,
     }
 }
 
 fn values_count(states: &[u8]) -> usize
     ensures { (result ≤ length states.now / state_size) × ((d : Description) → States d states.now → result ≡ total value_count d.states) }
 {
-    let mut sum: usize = 0;
-    let mut n = 0;
-    while n < states.len() / record_sizes::STATE {
-        let s = states::state_at(states, n);
-        let value = s.value;
-        sum += value_count(value);
-        n += 1;
+    let mut sum = 0;
+    for n in 0..states.len() / record_sizes::STATE {
+        sum += value_count(states::state_at(states, n).value);
     }
     sum
 }

@@ -10,42 +10,30 @@ ghost use Rattle.language.specs.Encode.{facility_size, operation_size, state_siz
 
 use image_records::{bytes, numbers, record_sizes};
 use image_sections::header::Counts;
-use image_sections::states::StateValue;
 use image_sections::{names, states};
 use language::ceilings;
 use text_items::reserved;
 
+#[tactic(auto, using(std::proofs::lemmas::Bool::Decides::nat_tests))]
 fn within(lo: u8, b: u8, hi: u8) -> bool
     ensures { result ≡ L.within lo b hi }
 {
-    if hi < b {
-        return false;
-    }
-    lo <= b
+    lo <= b && b <= hi
 }
 
 // A capital or a digit.
+#[tactic(auto, using(std::proofs::lemmas::Bool::Decides::nat_tests))]
 fn part_right(b: u8) -> bool
     ensures { result ≡ cond (is_capital b) true (is_digit b) }
 {
-    if within(b'A', b, b'Z') {
-        return true;
-    }
-    within(b'0', b, b'9')
+    within(b'A', b, b'Z') || within(b'0', b, b'9')
 }
 
 // Whether all are capitals and digits.
 fn parts_right(name: &[u8]) -> bool
     ensures { result ≡ name_parts name.now }
 {
-    let mut i = 0;
-    while i < name.len() {
-        if !part_right(name[i]) {
-            return false;
-        }
-        i += 1;
-    }
-    true
+    name.iter().all(|b| part_right(*b))
 }
 
 pub fn name_right(name: &[u8]) -> bool
@@ -63,39 +51,34 @@ pub fn name_right(name: &[u8]) -> bool
     if !parts_right(name) {
         return false;
     }
-    reserved::kind_of(name) == 0
+    reserved::kind_of(name).is_none()
 }
 
 // One more than where the names of n records of `size` bytes end, whose lengths stand `inside` each; 0 where one is not right.
 pub fn names_end(s: &[u8], n: u32, inside: u8, size: u8, names: &[u8]) -> usize
     ensures { result ≡ cond (names_right n inside size s.now names.now) (names_length n inside size s.now + 1) 0 }
 {
-    let mut at = inside as usize;
-    let mut from: usize = 0;
-    let mut i: u32 = 0;
-    while i < n {
-        let length = numbers::byte(s, at) as usize;
-        let name = bytes::part(names, from, length);
-        if !name_right(name) {
+    let mut from = 0;
+    for i in 0..n as usize {
+        let length = numbers::byte(s, inside as usize + size as usize * i) as usize;
+        if !name_right(bytes::part(names, from, length)) {
             return 0;
         }
         from += length;
-        at += size as usize;
-        i += 1;
     }
     from + 1
 }
 
 // A state without a name has no value.
-fn label_right(name: &[u8], value: StateValue) -> bool
+fn label_right(name: &[u8], value: Option<u16>) -> bool
     ensures { result ≡ label_right name.now (value_meant value) }
 {
     if name.len() > 0 {
         return name_right(name);
     }
     match value {
-        StateValue::At(_) => false,
-        StateValue::None => true,
+        Some(_) => false,
+        None => true,
     }
 }
 
@@ -104,17 +87,14 @@ pub fn labels_right(states: &[u8], names: &[u8]) -> bool
     requires { length states.now < 2 ^ 36 }
     ensures { result ≡ labels_right states.now names.now }
 {
-    let mut from: usize = 0;
-    let mut n = 0;
-    while n < states.len() / record_sizes::STATE {
+    let mut from = 0;
+    for n in 0..states.len() / record_sizes::STATE {
         let s = states::state_at(states, n);
         let length = s.name as usize;
-        let value = s.value;
-        if !label_right(bytes::part(names, from, length), value) {
+        if !label_right(bytes::part(names, from, length), s.value) {
             return false;
         }
         from += length;
-        n += 1;
     }
     true
 }

@@ -1,5 +1,5 @@
 // What bounds the walks over an image, whose depth is that of its expressions and of its lists of actions: few records, and no expression too deep.
-ghost use Rattle.std.specs.Prelude.{◌≡◌, ℕ, max, ◌/◌, ◌≤◌, length};
+ghost use Rattle.std.specs.Prelude.{◌≡◌, ℕ, ◌/◌, ◌≤◌, length};
 ghost use Rattle.language.specs.Description.{Description};
 ghost use Rattle.about_images.specs.Depth as L;
 ghost use Rattle.image_order.specs.Holds.{Actions, Nodes};
@@ -16,24 +16,11 @@ const MOST_ACTIONS: usize = 4096;
 
 const DEEPEST: u16 = 4097;
 
-fn greater(a: u16, b: u16) -> u16
-    ensures { result ≡ max a b }
-{
-    if a < b {
-        return b;
-    }
-    a
-}
-
 // The depth that is noted for record a.
 fn noted_at(depths: &[u16], a: u16) -> u16
     ensures { result ≡ noted depths.now a }
 {
-    let n = a as usize;
-    if n < depths.len() {
-        return depths[n];
-    }
-    0
+    depths.get(a as usize).copied().unwrap_or(0)
 }
 
 // One more than the deepest part.
@@ -42,11 +29,9 @@ fn depth(depths: &[u16], parts: Parts) -> u16
     ensures { result ≡ depth_parts (noted depths.now) parts }
 {
     match parts {
-        Parts::No => 1,
-        Parts::Leaf => 1,
-        Parts::Digits(_) => 1,
+        Parts::No | Parts::Leaf | Parts::Digits(_) => 1,
         Parts::One(a) => noted_at(depths, a) + 1,
-        Parts::Two(a, b) => greater(noted_at(depths, a), noted_at(depths, b)) + 1,
+        Parts::Two(a, b) => noted_at(depths, a).max(noted_at(depths, b)) + 1,
     }
 }
 
@@ -55,15 +40,13 @@ fn shallow(exprs: &[u8]) -> bool
     requires { length exprs.now / node_size ≤ 34816 }
     ensures { (d : Description) → Nodes d exprs.now → result ≡ L.shallow d }
 {
-    let mut depths: [u16; MOST_EXPRESSIONS] = [0; MOST_EXPRESSIONS];
-    let mut n = 0;
-    while n < exprs.len() / record_sizes::NODE {
+    let mut depths = [0; MOST_EXPRESSIONS];
+    for n in 0..exprs.len() / record_sizes::NODE {
         let own = depth(&depths, starts::parts_of(nodes::node_at(exprs, n)));
         if DEEPEST < own {
             return false;
         }
         depths[n] = own;
-        n += 1;
     }
     true
 }

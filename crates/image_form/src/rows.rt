@@ -18,28 +18,14 @@ pub fn nodes_right(exprs: &[u8]) -> bool
     requires { length exprs.now ≡ node_size * (length exprs.now / node_size) }
     ensures { (d : Description) → Nodes d exprs.now → result ≡ same exprs.now (concat node_bytes d.expressions) }
 {
-    let mut n = 0;
-    while n < exprs.len() / record_sizes::NODE {
-        if !node_bytes::node_right(exprs, n) {
-            return false;
-        }
-        n += 1;
-    }
-    true
+    (0..exprs.len() / record_sizes::NODE).all(|n| node_bytes::node_right(exprs, n))
 }
 
 pub fn actions_right(acts: &[u8]) -> bool
     requires { length acts.now ≡ action_size * (length acts.now / action_size) }
     ensures { (d : Description) → Actions d acts.now → result ≡ same acts.now (concat action_bytes d.actions) }
 {
-    let mut n = 0;
-    while n < acts.len() / record_sizes::ACTION {
-        if !action_bytes::action_right(acts, n) {
-            return false;
-        }
-        n += 1;
-    }
-    true
+    (0..acts.len() / record_sizes::ACTION).all(|n| action_bytes::action_right(acts, n))
 }
 
 // The place after that of a facility, as far as a record has room for it.
@@ -55,13 +41,11 @@ pub fn facilities_right(facilities: &[u8]) -> bool
     ensures { (d : Description) → Facilities d facilities.now → NamesLong d facilities.now → result ≡ same facilities.now (facility_records 0 d.facilities) }
 {
     let mut place: u32 = 0;
-    let mut n = 0;
-    while n < facilities.len() / record_sizes::FACILITY {
+    for n in 0..facilities.len() / record_sizes::FACILITY {
         if !facility_bytes::facility_right(facilities, n, place) {
             return false;
         }
         place = place_after(place, facilities::facility_at(facilities, n));
-        n += 1;
     }
     true
 }

@@ -14,12 +14,9 @@ fn rank_of(kind: FacilityKind) -> u8
     ensures { result ≡ rank_of (kind_meant kind) }
 {
     match kind {
-        FacilityKind::Register => 0,
-        FacilityKind::Sequencing => 0,
+        FacilityKind::Register | FacilityKind::Sequencing => 0,
         FacilityKind::Memory => 1,
-        FacilityKind::Plain => 2,
-        FacilityKind::Input => 2,
-        FacilityKind::Computed => 2,
+        FacilityKind::Plain | FacilityKind::Input | FacilityKind::Computed => 2,
     }
 }
 
@@ -27,62 +24,38 @@ fn most_dimensions(kind: FacilityKind) -> u8
     ensures { result ≡ most_dimensions (kind_meant kind) }
 {
     match kind {
-        FacilityKind::Register => 2,
-        FacilityKind::Sequencing => 2,
-        FacilityKind::Memory => 2,
-        FacilityKind::Plain => 2,
-        FacilityKind::Input => 1,
-        FacilityKind::Computed => 1,
+        FacilityKind::Input | FacilityKind::Computed => 1,
+        _ => 2,
     }
 }
 
+#[tactic(auto, using(std::proofs::lemmas::Bool::Decides::nat_tests))]
 fn no_bounds(b: ShortBounds) -> bool
     ensures { result ≡ no_bounds (short_meant b) }
 {
-    if b.first != 0 {
-        return false;
-    }
-    b.last == 0
+    b.first == 0 && b.last == 0
 }
 
+#[tactic(auto, using(std::proofs::lemmas::Bool::Decides::nat_tests), unfolding(language::specs::Canonical::facility_right))]
 fn facility_shaped(f: FacilityRecord) -> bool
     ensures { (name : Name) → result ≡ facility_right (facility_meant name f) }
 {
-    let kind = f.kind;
-    if most_dimensions(kind) < f.dimensions {
-        return false;
-    }
-    if 2 <= f.dimensions {
-        return true;
-    }
-    let words = f.words;
-    if !no_bounds(words) {
-        return false;
-    }
-    if f.dimensions == 1 {
-        return true;
-    }
-    let bits = f.bits;
-    no_bounds(bits)
+    f.dimensions <= most_dimensions(f.kind)
+        && (2 <= f.dimensions || no_bounds(f.words))
+        && (1 <= f.dimensions || no_bounds(f.bits))
 }
 
 pub fn facilities_shaped(facilities: &[u8]) -> bool
     ensures { (d : Description) → Facilities d facilities.now → result ≡ facilities_right 0 d.facilities }
 {
     let mut rank = 0;
-    let mut n = 0;
-    while n < facilities.len() / record_sizes::FACILITY {
+    for n in 0..facilities.len() / record_sizes::FACILITY {
         let f = facilities::facility_at(facilities, n);
-        let kind = f.kind;
-        let own = rank_of(kind);
-        if own < rank {
-            return false;
-        }
-        if !facility_shaped(f) {
+        let own = rank_of(f.kind);
+        if own < rank || !facility_shaped(f) {
             return false;
         }
         rank = own;
-        n += 1;
     }
     true
 }

@@ -1,6 +1,7 @@
 -- Places of facilities in the store of an image that passes.
 use mathlib.Core.Bool.{Bool, true, false, cond, ◌||◌}
 use mathlib.Core.List.{List, [], ◌∷◌}
+use Rattle.std.specs.Prelude.{Err, Ok}
 use mathlib.Core.Option.{none, some}
 use mathlib.Core.Path.{◌≡◌, refl, sym, ap, subst, ◌∙◌}
 use Prim.Native.Nat.{ℕ, zero, suc, ◌+◌, ◌*◌, ◌/◌, ◌<◌, ◌≤◌}
@@ -30,7 +31,6 @@ use Rattle.image_order.proofs.DeclaredLaws.{facility-is}
 use Rattle.image_lookups.proofs.NameLaws.{length-is}
 use Rattle.image_lookups.proofs.PassLaws.{facilities-are, facilities-many, held, legal-so, range-so}
 use Rattle.call_answers.specs.Lookups.{Looks, answered}
-use Rattle.call_answers.specs.declared.looked.Looked.TheVariants as A
 
 pub store-fits : (d : Description) (n : ℕ) (another : Bool) (before : ℕ) (f : Facility) → facility_faults d no_places n another before f (facility_place no_places n) ≡ []
     → before + facility_bytes f ≤ 16384
@@ -55,14 +55,14 @@ place-low d n another before (f ∷ fs) e b (suc i) h =
     omega (arith, place-low d (suc n) (another || is_sequencing f.kind) (before + facility_bytes f) fs rest m i (omega arith))
 
 module _ (image : List ℕ) (n : ℕ) where
-  refused-so : (k : Refusal) → L.unknown k ≡ L.facility image n → Looks image n (A.Refused k)
+  refused-so : (k : Refusal) → L.unknown k ≡ L.facility image n → Looks image n (Err k)
   refused-so k e = record { facility = e; name = λ f q. absurd (let z : ◌≡◌ {A = ℕ} 0 1 = cc in omega arith) }
 
-  pub lookup-refused : passes image ≡ false → Looks image n (A.Refused ImageFails)
+  pub lookup-refused : passes image ≡ false → Looks image n (Err ImageFails)
   unfolding L.facility
   lookup-refused e = refused-so ImageFails (rw e)
 
-  pub lookup-none : passes image ≡ true → length (section_at facilities_section facility_size image) / facility_size ≤ n → Looks image n (A.Refused BadSubscript)
+  pub lookup-none : passes image ≡ true → length (section_at facilities_section facility_size image) / facility_size ≤ n → Looks image n (Err BadSubscript)
   unfolding L.facility
   lookup-none e h = refused-so BadSubscript (rw (e, le-ltb n (length (decode image).facilities) (omega (arith, facilities-many image))))
 
@@ -92,14 +92,14 @@ module _ (image : List ℕ) (n : ℕ) where
       places true e = refl
       places false e = ap some (r.place ∙ place-whole (section_at facilities_section facility_size image) n (omega arith) ∙ place_is (ap is_computed kind-is ∙ e))
 
-      pub lookup-declared : answered (facility_at (decode image) n).name (A.Declared f) ≡ L.facility image n
+      pub lookup-declared : answered (facility_at (decode image) n).name (Ok f) ≡ L.facility image n
       unfolding L.facility facility_at
       lookup-declared =
           rw (h, lt-ltb n (length (decode image).facilities) inside, kind-is, places (is_computed (kind_meant f.kind)) refl)
           (ap (λ (g : Facility). L.declared g (cond (is_computed (kind_meant f.kind)) none (some (place_in (decode image).facilities n)))) (sym is))
 
 -- The same of a section in hand.
-pub lookup-found : (image : List ℕ) (n : ℕ) {s : List ℕ} {f : F.FacilityRecord} → passes image ≡ true → s ≡ section_at facilities_section facility_size image → n < length s / facility_size → FacilityRead s n f → Looks image n (A.Declared f)
+pub lookup-found : (image : List ℕ) (n : ℕ) {s : List ℕ} {f : F.FacilityRecord} → passes image ≡ true → s ≡ section_at facilities_section facility_size image → n < length s / facility_size → FacilityRead s n f → Looks image n (Ok f)
 lookup-found image n {s} {f} h e l r =
     let i : n < length (section_at facilities_section facility_size image) / facility_size = rw e at l in
     let q : FacilityRead (section_at facilities_section facility_size image) n f = subst (λ (t : List ℕ). FacilityRead t n f) e r in

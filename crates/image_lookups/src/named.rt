@@ -7,50 +7,49 @@ ghost use Rattle.language.specs.Lookups.{facility_name, part_of, state_name};
 ghost use Rattle.call_answers.specs.Lookups.{name_meant};
 ghost use Rattle.language.specs.Encode.{names_section};
 
-use call_answers::named::NameReply;
 use image_records::{bytes, numbers, record_sizes};
 use image_sections::names::Part;
 use image_sections::{header, names, sections};
 use language::refusals::Refusal;
 
 // A part of the names as a part of the image.
-fn found(image: &[u8], part: Part) -> NameReply
+fn found(image: &[u8], part: Part) -> Result<Part, Refusal>
     requires { part.offset < 2 ^ 32 }
     ensures { name_meant result ≡ L.named (record { offset = offset_of names_section image.now + part.offset; length = part.length }) }
 {
     let names = numbers::four(image, 48) as usize;
-    NameReply::Named(Part {
+    Ok(Part {
         offset: names + part.offset,
         length: part.length,
     })
 }
 
 // Where the name of facility n stands.
-pub fn facility_part(image: &[u8], passed: bool, n: u32) -> NameReply
+pub fn facility_part(image: &[u8], passed: bool, n: u32) -> Result<Part, Refusal>
     requires { passed ≡ passes image.now }
     ensures { name_meant result ≡ facility_name image.now n }
 {
     if !passed {
-        return NameReply::Refused(Refusal::ImageFails);
+        return Err(Refusal::ImageFails);
     }
     let facilities = sections::section(image, sections::FACILITIES);
     if facilities.len() / record_sizes::FACILITY <= n as usize {
-        return NameReply::Refused(Refusal::BadSubscript);
+        return Err(Refusal::BadSubscript);
     }
     found(image, names::facility_part(facilities, n))
 }
 
 // Where the label of state n stands, which may be empty.
-pub fn state_part(image: &[u8], passed: bool, n: u32) -> NameReply
+pub fn state_part(image: &[u8], passed: bool, n: u32) -> Result<Part, Refusal>
     requires { passed ≡ passes image.now }
     ensures { name_meant result ≡ state_name image.now n }
 {
     if !passed {
-        return NameReply::Refused(Refusal::ImageFails);
+        return Err(Refusal::ImageFails);
     }
     let states = sections::section(image, sections::STATES);
     if states.len() / record_sizes::STATE <= n as usize {
-        return NameReply::Refused(Refusal::BadSubscript);
+        return Err(Refusal::BadSubscript);
     }
     let c = header::counts_at(image);
     let facilities = sections::section(image, sections::FACILITIES);
@@ -67,12 +66,12 @@ pub fn state_part(image: &[u8], passed: bool, n: u32) -> NameReply
 }
 
 // The part of the image that an answer names.
-pub fn name(image: &[u8], answer: NameReply) -> &[u8]
+pub fn name(image: &[u8], answer: Result<Part, Refusal>) -> &[u8]
     ensures { result.now ≡ part_of image.now (name_meant answer) }
 {
     match answer {
-        NameReply::Named(p) => names::name_at(image, p),
-        NameReply::Refused(_) => bytes::part(image, 0, 0),
+        Ok(p) => names::name_at(image, p),
+        Err(_) => bytes::part(image, 0, 0),
     }
 }
 

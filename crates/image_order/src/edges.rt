@@ -13,8 +13,5 @@ pub const FIRST: usize = 1;
 pub fn ends_at(at: usize, n: usize) -> bool
     ensures { (d : Description) → result ≡ ends_at d n (edge at) }
 {
-    if at == NONE {
-        return false;
-    }
-    at - 1 == n
+    at != NONE && at - 1 == n
 }

@@ -26,12 +26,8 @@ fn operations_end(operations: &[u8]) -> usize
     ensures { (d : Description) → Operations d operations.now → edge result ≡ operations_end d 0 d.operations }
 {
     let mut end = edges::FIRST;
-    let mut n = 0;
-    while n < operations.len() / record_sizes::OPERATION {
-        let o = operations::operation_at(operations, n);
-        let body = o.body;
-        end = run_end(end, body);
-        n += 1;
+    for n in 0..operations.len() / record_sizes::OPERATION {
+        end = run_end(end, operations::operation_at(operations, n).body);
     }
     end
 }
@@ -40,12 +36,8 @@ fn states_end(states: &[u8], at: usize) -> usize
     ensures { (d : Description) → States d states.now → edge result ≡ ending (edge at) (λ n. states_end d n d.states) }
 {
     let mut end = at;
-    let mut n = 0;
-    while n < states.len() / record_sizes::STATE {
-        let s = states::state_at(states, n);
-        let actions = s.actions;
-        end = run_end(end, actions);
-        n += 1;
+    for n in 0..states.len() / record_sizes::STATE {
+        end = run_end(end, states::state_at(states, n).actions);
     }
     end
 }

@@ -27,19 +27,15 @@ pub fn parts_of(node: Node) -> Parts
 {
     match node {
         Node::Constant(l) => Parts::Digits(l),
-        Node::More(_) => Parts::No,
-        Node::Whole(_) => Parts::Leaf,
-        Node::One(_, e) => Parts::One(e),
-        Node::Part(_, _, _) => Parts::Leaf,
-        Node::Two(_, e, g) => Parts::Two(e, g),
-        Node::WordPart(_, e, _, _) => Parts::One(e),
-        Node::Binary(_, a, b) => Parts::Two(a, b),
-        Node::Prefix(_, a) => Parts::One(a),
-        Node::Cut(_, a, _) => Parts::One(a),
-        Node::FirstArm(e) => Parts::One(e),
-        Node::NextArm(a, e) => Parts::Two(a, e),
-        Node::Choice(e, a, _) => Parts::Two(e, a),
-        Node::Broken => Parts::No,
+        Node::More(_) | Node::Broken => Parts::No,
+        Node::Whole(_) | Node::Part(_, _, _) => Parts::Leaf,
+        Node::One(_, a)
+        | Node::WordPart(_, a, _, _)
+        | Node::Prefix(_, a)
+        | Node::Cut(_, a, _)
+        | Node::FirstArm(a) => Parts::One(a),
+        Node::Two(_, a, b) | Node::Binary(_, a, b) | Node::NextArm(a, b) | Node::Choice(a, b, _) =>
+            Parts::Two(a, b),
     }
 }
 
@@ -85,8 +81,7 @@ fn walked(exprs: &[u8], n: u16) -> usize
     ensures { (d : Description) → Nodes d exprs.now → edge result ≡ start_at d n }
 {
     let last = n as usize;
-    let parts = parts_of(nodes::node_at(exprs, last));
-    match parts {
+    match parts_of(nodes::node_at(exprs, last)) {
         Parts::No => edges::NONE,
         Parts::Leaf => last + 1,
         Parts::Digits(l) => constant_start(exprs, n, l),

@@ -10,17 +10,13 @@ ghost use Rattle.image_order.specs.Holds.{Actions, Facilities, Nodes, Operations
 use crate::{edges, starts};
 use image_records::actions::Action;
 use image_records::{actions, record_sizes};
-use image_sections::states::StateValue;
 use image_sections::{facilities, kinds, operations, states};
 
 // One tree more, which ends at the record `root`.
 fn tree(exprs: &[u8], at: usize, root: u16) -> usize
     ensures { (d : Description) → Nodes d exprs.now → edge result ≡ after d (edge at) (root ∷ []) }
 {
-    if at == edges::NONE {
-        return edges::NONE;
-    }
-    if starts::start(exprs, root) != at {
+    if at == edges::NONE || starts::start(exprs, root) != at {
         return edges::NONE;
     }
     let last = root as usize;
@@ -54,10 +50,8 @@ fn run_trees(exprs: &[u8], acts: &[u8], at: usize, first: u16, count: u16) -> us
     ensures { (d : Description) → Nodes d exprs.now → Actions d acts.now → edge result ≡ after d (edge at) (run_roots d count first) }
 {
     let mut end = at;
-    let mut i: u16 = 0;
-    while i < count {
-        end = action_trees(exprs, acts, end, first as usize + i as usize);
-        i += 1;
+    for i in 0..count as usize {
+        end = action_trees(exprs, acts, end, first as usize + i);
     }
     end
 }
@@ -67,8 +61,7 @@ fn facility_tree(exprs: &[u8], facilities: &[u8], at: usize, n: usize) -> usize
     ensures { (d : Description) → Nodes d exprs.now → Facilities d facilities.now → edge result ≡ after d (edge at) (function_root d (facility_at d n) (facility_at d n).kind) }
 {
     let f = facilities::facility_at(facilities, n);
-    let kind = f.kind;
-    if kinds::is_computed(kind) {
+    if kinds::is_computed(f.kind) {
         return tree(exprs, at, f.place);
     }
     at
@@ -78,10 +71,8 @@ fn facility_trees(exprs: &[u8], facilities: &[u8]) -> usize
     ensures { (d : Description) → Nodes d exprs.now → Facilities d facilities.now → edge result ≡ after d (some 0) (facility_roots d d.facilities) }
 {
     let mut end = edges::FIRST;
-    let mut n = 0;
-    while n < facilities.len() / record_sizes::FACILITY {
+    for n in 0..facilities.len() / record_sizes::FACILITY {
         end = facility_tree(exprs, facilities, end, n);
-        n += 1;
     }
     end
 }
@@ -90,23 +81,20 @@ fn operation_trees(exprs: &[u8], acts: &[u8], operations: &[u8], at: usize) -> u
     ensures { (d : Description) → Nodes d exprs.now → Actions d acts.now → Operations d operations.now → edge result ≡ after d (edge at) (operation_roots d d.operations) }
 {
     let mut end = at;
-    let mut n = 0;
-    while n < operations.len() / record_sizes::OPERATION {
+    for n in 0..operations.len() / record_sizes::OPERATION {
         let o = operations::operation_at(operations, n);
-        let body = o.body;
-        end = run_trees(exprs, acts, end, body.first, body.count);
-        n += 1;
+        end = run_trees(exprs, acts, end, o.body.first, o.body.count);
     }
     end
 }
 
 // The constant that is a state's value, if it has one.
-fn value_tree(exprs: &[u8], at: usize, value: StateValue) -> usize
+fn value_tree(exprs: &[u8], at: usize, value: Option<u16>) -> usize
     ensures { (d : Description) → Nodes d exprs.now → edge result ≡ after d (edge at) (value_root d (value_meant value)) }
 {
     match value {
-        StateValue::At(n) => tree(exprs, at, n),
-        StateValue::None => at,
+        Some(n) => tree(exprs, at, n),
+        None => at,
     }
 }
 
@@ -114,14 +102,10 @@ fn state_trees(exprs: &[u8], acts: &[u8], states: &[u8], at: usize) -> usize
     ensures { (d : Description) → Nodes d exprs.now → Actions d acts.now → States d states.now → edge result ≡ after d (edge at) (state_roots d d.states) }
 {
     let mut end = at;
-    let mut n = 0;
-    while n < states.len() / record_sizes::STATE {
+    for n in 0..states.len() / record_sizes::STATE {
         let s = states::state_at(states, n);
-        let value = s.value;
-        let actions = s.actions;
-        let own = value_tree(exprs, end, value);
-        end = run_trees(exprs, acts, own, actions.first, actions.count);
-        n += 1;
+        let own = value_tree(exprs, end, s.value);
+        end = run_trees(exprs, acts, own, s.actions.first, s.actions.count);
     }
     end
 }

@@ -1,15 +1,14 @@
 -- What the code's references mean in the language, and ends of a part above what a record has room for.
 use Rattle.std.proofs.Math.Option.{Option, none}
-use Rattle.std.specs.Prelude.{ℕ, ◌+◌, ◌*◌}
+use Rattle.std.specs.Prelude.{Option as StdOption, None, Some, ℕ, ◌+◌, ◌*◌}
 use Rattle.language.specs.Description as D
 use Rattle.language.specs.Description.{Bounds, Node, bounds}
 use Rattle.language.specs.References as R
 use Rattle.store_geometry.specs.Subscripts.{subscripts_meant}
-use Rattle.image_records.specs.declared.references.Reference.{Reference}
-use Rattle.image_records.specs.declared.references.Reference.TheVariants.{To, None}
+use Rattle.store_geometry.specs.declared.subscripts.Subscripts.{Subscripts}
 
-abbrev pub reference_meant : Reference → Option R.Reference
-reference_meant (To f s) = R.refer_to f (subscripts_meant s)
+abbrev pub reference_meant : StdOption (ℕ × Subscripts) → Option R.Reference
+reference_meant (Some (f, s)) = R.refer_to f (subscripts_meant s)
 reference_meant None = none
 
 -- A bound whose record has no room for it.

@@ -9,15 +9,13 @@ use crate::actions::Action;
 use crate::{marks, numbers, record_sizes};
 
 // A mark and three numbers.
+#[tactic(auto, unfolding(language::specs::Encode::little))]
 fn fields(mark: u8, a: u16, b: u16, c: u16) -> [u8; record_sizes::ACTION]
     ensures { result ≡ action_record mark a b c }
 {
-    let a0 = numbers::low(a);
-    let a1 = numbers::high(a);
-    let b0 = numbers::low(b);
-    let b1 = numbers::high(b);
-    let c0 = numbers::low(c);
-    let c1 = numbers::high(c);
+    let [a0, a1] = a.to_le_bytes();
+    let [b0, b1] = b.to_le_bytes();
+    let [c0, c1] = c.to_le_bytes();
     [mark, a0, a1, b0, b1, c0, c1]
 }
 
@@ -69,12 +67,7 @@ fn fields_right(mark: u8, a: u16, b: u16, c: u16) -> bool
         marks::WHEN => c == 0,
         marks::CHOOSE => true,
         marks::ARM => numbers::two_zero(b, c),
-        _ => {
-            if mark != 0 {
-                return false;
-            }
-            numbers::three_zero(a, b, c)
-        }
+        _ => mark == 0 && numbers::three_zero(a, b, c),
     }
 }
 

@@ -23,6 +23,7 @@ pub enum Action {
 }
 
 // An action, by its mark.
+#[tactic(auto, using(std::proofs::lemmas::Bool::Decides::nat_tests), unfolding(language::specs::Decode::action_with))]
 fn action_with(mark: u8, a: u16, b: u16, c: u16) -> Action
     ensures { meant result ≡ action_with mark a b c }
 {

@@ -7,31 +7,15 @@ ghost use Rattle.image_records.specs.Placed.{placed};
 pub fn part(s: &[u8], at: usize, n: usize) -> &[u8]
     ensures { result.now ≡ take n (drop at s.now) }
 {
-    if s.len() <= at {
-        return &s[0..0];
-    }
-    if n <= s.len() - at {
-        let end = at + n;
-        return &s[at..end];
-    }
-    &s[at..]
+    let rest = &s[at.min(s.len())..];
+    &rest[..n.min(rest.len())]
 }
 
 // Whether two rows of bytes are the same.
 pub fn same(s: &[u8], t: &[u8]) -> bool
     ensures { result ≡ L.same s.now t.now }
 {
-    if s.len() != t.len() {
-        return false;
-    }
-    let mut i = 0;
-    while i < s.len() {
-        if s[i] != t[i] {
-            return false;
-        }
-        i += 1;
-    }
-    true
+    s == t
 }
 
 // Whether these bytes stand at a place.
@@ -45,15 +29,7 @@ pub fn stand(s: &[u8], at: usize, bytes: &[u8]) -> bool
 pub fn put(s: &mut [u8], at: usize, bytes: &[u8])
     ensures { s.new ≡ placed s.old at bytes.now }
 {
-    if s.len() < at {
-        return;
-    }
-    if s.len() - at < bytes.len() {
-        return;
-    }
-    let mut i = 0;
-    while i < bytes.len() {
-        s[at + i] = bytes[i];
-        i += 1;
+    if at <= s.len() && bytes.len() <= s.len() - at {
+        s[at..at + bytes.len()].copy_from_slice(bytes);
     }
 }

@@ -13,15 +13,8 @@ pub fn digits_marked(exprs: &[u8], n: usize, k: u8) -> bool
     requires { node_size * n ≤ length exprs.now }
     ensures { result ≡ digits_marked k n exprs.now }
 {
-    let mut left = k;
-    let mut m = n;
-    while left > 0 {
-        if m == 0 {
-            return false;
-        }
-        m -= 1;
-        left -= 1;
-        if exprs[record_sizes::NODE * m] != marks::MORE {
+    for i in 0..k as usize {
+        if n <= i || exprs[record_sizes::NODE * (n - i - 1)] != marks::MORE {
             return false;
         }
     }
@@ -29,10 +22,11 @@ pub fn digits_marked(exprs: &[u8], n: usize, k: u8) -> bool
 }
 
 // How many records a constant of l bits has before its own.
+#[tactic(auto, unfolding(language::specs::Description::further_digits, language::specs::Description::digit_length))]
 pub fn further_digits(l: u16) -> u16
     ensures { result ≡ further_digits l }
 {
-    if l == 0 { 0 } else { (l - 1) / 48 }
+    l.saturating_sub(1) / 48
 }
 
 // Whether the number of a constant that ends at record n fits its length: its highest digit does.

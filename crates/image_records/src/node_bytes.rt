@@ -26,34 +26,22 @@ const NEXT_ARM: u16 = marks::NEXT_ARM as u16;
 const CHOICE: u16 = marks::CHOICE as u16;
 
 // A mark, a byte, and three numbers.
+#[tactic(auto, unfolding(language::specs::Encode::little))]
 fn fields(mark: u16, x: u8, a: u16, b: u16, c: u16) -> [u8; record_sizes::NODE]
     ensures { result ≡ node_record mark x a b c }
 {
-    let m = numbers::low(mark);
-    let a0 = numbers::low(a);
-    let a1 = numbers::high(a);
-    let b0 = numbers::low(b);
-    let b1 = numbers::high(b);
-    let c0 = numbers::low(c);
-    let c1 = numbers::high(c);
-    [m, x, a0, a1, b0, b1, c0, c1]
+    let [a0, a1] = a.to_le_bytes();
+    let [b0, b1] = b.to_le_bytes();
+    let [c0, c1] = c.to_le_bytes();
+    [numbers::low(mark), x, a0, a1, b0, b1, c0, c1]
 }
 
 // A mark, a byte, and a number in six bytes.
+#[tactic(auto, unfolding(language::specs::Encode::little))]
 fn digit_record(mark: u8, x: u8, n: u64) -> [u8; record_sizes::NODE]
     ensures { result ≡ digit_record mark x n }
 {
-    let n1 = n / 256;
-    let n2 = n1 / 256;
-    let n3 = n2 / 256;
-    let n4 = n3 / 256;
-    let n5 = n4 / 256;
-    let b0 = (n % 256) as u8;
-    let b1 = (n1 % 256) as u8;
-    let b2 = (n2 % 256) as u8;
-    let b3 = (n3 % 256) as u8;
-    let b4 = (n4 % 256) as u8;
-    let b5 = (n5 % 256) as u8;
+    let [b0, b1, b2, b3, b4, b5, ..] = n.to_le_bytes();
     [mark, x, b0, b1, b2, b3, b4, b5]
 }
 
@@ -61,7 +49,7 @@ fn digit_record(mark: u8, x: u8, n: u64) -> [u8; record_sizes::NODE]
 fn length_field(l: u16) -> u8
     ensures { result ≡ (l - 1) % 256 }
 {
-    if l == 0 { 0 } else { numbers::low(l - 1) }
+    numbers::low(l.saturating_sub(1))
 }
 
 // The bytes of a record; v is a constant's number, or its low 64 bits.
@@ -95,15 +83,7 @@ fn operator_right(mark: u8, x: u16, a: u16, b: u16, c: u16) -> bool
         1 => numbers::two_zero(x, c),
         2 => numbers::three_zero(x, b, c),
         3 => numbers::two_zero(x, c),
-        _ => {
-            if mark != 0 {
-                return false;
-            }
-            if x != 0 {
-                return false;
-            }
-            numbers::three_zero(a, b, c)
-        }
+        _ => numbers::two_zero(mark as u16, x) && numbers::three_zero(a, b, c),
     }
 }
 

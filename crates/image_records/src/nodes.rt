@@ -27,6 +27,7 @@ pub enum Node {
 }
 
 // An operator, by its mark's high bits.
+#[tactic(auto, using(std::proofs::lemmas::Bool::Decides::nat_tests), unfolding(language::specs::Decode::operator_of))]
 fn operator_of(mark: u8, a: u16, b: u16) -> Node
     ensures { (v : ℕ) → meant v result ≡ operator_of mark a b }
 {
@@ -40,6 +41,7 @@ fn operator_of(mark: u8, a: u16, b: u16) -> Node
 }
 
 // What is no constant, by its mark.
+#[tactic(auto, using(std::proofs::lemmas::Bool::Decides::nat_tests), unfolding(language::specs::Decode::plain_node))]
 fn plain_node(mark: u8, x: u8, a: u16, b: u16, c: u16) -> Node
     ensures { (v : ℕ) → meant v result ≡ plain_node mark x a b c }
 {

@@ -21,37 +21,34 @@ pub fn joined(low: u16, high: u16) -> u32
 }
 
 // Whether numbers are zero, as fields are that a record has no use for.
+#[tactic(auto, using(std::proofs::lemmas::Bool::Decides::nat_tests))]
 pub fn two_zero(a: u16, b: u16) -> bool
     ensures { result ≡ both (eqb a 0) (eqb b 0) }
 {
-    if a != 0 {
-        return false;
-    }
-    b == 0
+    a == 0 && b == 0
 }
 
+#[tactic(auto, using(std::proofs::lemmas::Bool::Decides::nat_tests))]
 pub fn three_zero(a: u16, b: u16, c: u16) -> bool
     ensures { result ≡ both (eqb a 0) (both (eqb b 0) (eqb c 0)) }
 {
-    if a != 0 {
-        return false;
-    }
-    two_zero(b, c)
+    a == 0 && b == 0 && c == 0
 }
 
 // The byte at a place.
 pub fn byte(s: &[u8], at: usize) -> u8
     ensures { result ≡ get_or s.now at 0 }
 {
-    if at < s.len() { s[at] } else { 0 }
+    s.get(at).copied().unwrap_or(0)
 }
 
 // The number in two bytes that are all there.
+#[tactic(auto, unfolding(language::specs::Decode::number_at))]
 pub fn two_there(s: &[u8], at: usize) -> u16
     requires { at + 2 ≤ length s.now }
     ensures { result ≡ number_at 2 at s.now }
 {
-    wide(s[at]) + wide(s[at + 1]) * 256
+    u16::from_le_bytes([s[at], s[at + 1]])
 }
 
 // The number in two bytes.
@@ -68,11 +65,12 @@ pub fn two(s: &[u8], at: usize) -> u16
 }
 
 // The number in four bytes that are all there.
+#[tactic(auto, unfolding(language::specs::Decode::number_at))]
 pub fn four_there(s: &[u8], at: usize) -> u32
     requires { at + 4 ≤ length s.now }
     ensures { result ≡ number_at 4 at s.now }
 {
-    joined(two_there(s, at), two_there(s, at + 2))
+    u32::from_le_bytes([s[at], s[at + 1], s[at + 2], s[at + 3]])
 }
 
 // The number in four bytes.
@@ -123,23 +121,18 @@ pub fn high(x: u16) -> u8
 }
 
 // The four bytes of a number.
+#[tactic(auto, unfolding(language::specs::Encode::little))]
 pub fn four_bytes(x: u64) -> [u8; 4]
     ensures { result ≡ L.four x }
 {
-    let x1 = x / 256;
-    let x2 = x1 / 256;
-    let x3 = x2 / 256;
-    let b0 = (x % 256) as u8;
-    let b1 = (x1 % 256) as u8;
-    let b2 = (x2 % 256) as u8;
-    let b3 = (x3 % 256) as u8;
+    let [b0, b1, b2, b3, ..] = x.to_le_bytes();
     [b0, b1, b2, b3]
 }
 
 // Writes a number in four bytes at a place, where they fit.
+#[tactic(auto, unfolding(language::specs::Encode::little))]
 pub fn write_four(s: &mut [u8], at: usize, x: u32)
     ensures { s.new ≡ placed s.old at (L.four x) }
 {
-    let written = four_bytes(x as u64);
-    bytes::put(s, at, &written);
+    bytes::put(s, at, &x.to_le_bytes());
 }

@@ -1,5 +1,5 @@
 -- What the code's records of declarations mean in the language; a name comes beside its record.
-use Rattle.std.specs.Prelude.{cond, List, ◌≡◌, ℕ, ◌+◌, ◌*◌, leb, get_or, length}
+use Rattle.std.specs.Prelude.{Option as StdOption, None, Some, cond, List, ◌≡◌, ℕ, ◌+◌, ◌*◌, leb, get_or, length}
 use Rattle.std.proofs.Math.Option.{Option, none, some}
 use Rattle.language.specs.Decode.{facility_of, half_at, pick, run_at, value_of}
 use Rattle.language.specs.Description as D
@@ -14,8 +14,6 @@ use Rattle.image_sections.specs.declared.facilities.FacilityKind.TheVariants as 
 use Rattle.image_sections.specs.declared.operations.OperationRecord.{OperationRecord}
 use Rattle.image_sections.specs.declared.runs.Run.{Run}
 use Rattle.image_sections.specs.declared.states.StateRecord.{StateRecord}
-use Rattle.image_sections.specs.declared.states.StateValue.{StateValue}
-use Rattle.image_sections.specs.declared.states.StateValue.TheVariants as S
 
 -- The length of the name of record n, which stands `inside` each record; none where the record is not whole.
 unfoldable pub name_length_in : ℕ → ℕ → List ℕ → ℕ → ℕ
@@ -79,9 +77,9 @@ pub record OperationRead (s : List ℕ) (n : ℕ) (o : OperationRecord) : Type 0
   pub name : o.name ≡ name_length_in operation_size 0 s n
   pub meaning : (name : Name) → operation_meant name o ≡ operation_in s n name
 
-abbrev pub value_meant : StateValue → Option ℕ
-value_meant (S.At n) = some n
-value_meant S.None = none
+abbrev pub value_meant : StdOption ℕ → Option ℕ
+value_meant (Some n) = some n
+value_meant None = none
 
 abbrev pub state_meant : Name → StateRecord → D.State
 state_meant name s = record { name = name; value = value_meant s.value; actions = run_meant s.actions }

@@ -7,7 +7,7 @@ ghost use Rattle.image_sections.specs.Declarations.{FacilityRead, facility_in, f
 
 use image_records::{numbers, record_sizes};
 
-#[derive(Clone, Copy)]
+#[derive(Clone, Copy, PartialEq, Eq)]
 pub enum FacilityKind {
     Register,
     Sequencing,
@@ -36,31 +36,36 @@ pub struct FacilityRecord {
     pub place: u16,
 }
 
-// The kind that a number stands for.
-pub fn kind_of(k: u8) -> FacilityKind
-    ensures { kind_meant result ≡ kind_of k }
-{
-    match k {
-        0 => FacilityKind::Register,
-        1 => FacilityKind::Sequencing,
-        2 => FacilityKind::Memory,
-        3 => FacilityKind::Plain,
-        4 => FacilityKind::Input,
-        _ => FacilityKind::Computed,
+// The kind that a number stands for; greater ones than that of the last kind stand for it too.
+impl From<u8> for FacilityKind {
+    ghost from_gives = { λ k kind. kind_meant kind ≡ kind_of k };
+
+    #[tactic(auto, using(std::proofs::lemmas::Bool::Decides::nat_tests), unfolding(language::specs::Decode::kind_of))]
+    fn from(k: u8) -> FacilityKind {
+        match k {
+            0 => FacilityKind::Register,
+            1 => FacilityKind::Sequencing,
+            2 => FacilityKind::Memory,
+            3 => FacilityKind::Plain,
+            4 => FacilityKind::Input,
+            _ => FacilityKind::Computed,
+        }
     }
 }
 
 // The number that stands for a kind.
-pub fn kind_number(kind: FacilityKind) -> u8
-    ensures { result ≡ kind_number (kind_meant kind) }
-{
-    match kind {
-        FacilityKind::Register => 0,
-        FacilityKind::Sequencing => 1,
-        FacilityKind::Memory => 2,
-        FacilityKind::Plain => 3,
-        FacilityKind::Input => 4,
-        FacilityKind::Computed => 5,
+impl From<FacilityKind> for u8 {
+    ghost from_gives = { λ kind k. k ≡ kind_number (kind_meant kind) };
+
+    fn from(kind: FacilityKind) -> u8 {
+        match kind {
+            FacilityKind::Register => 0,
+            FacilityKind::Sequencing => 1,
+            FacilityKind::Memory => 2,
+            FacilityKind::Plain => 3,
+            FacilityKind::Input => 4,
+            FacilityKind::Computed => 5,
+        }
     }
 }
 
@@ -98,17 +103,13 @@ pub fn facility_at(facilities: &[u8], n: usize) -> FacilityRecord
         return no_facility();
     }
     let at = record_sizes::FACILITY * n;
-    let kind = kind_of(facilities[at]);
-    let words = bounds_at(facilities, at + 3);
-    let bits = bounds_at(facilities, at + 7);
-    let place = numbers::two_there(facilities, at + 11);
     FacilityRecord {
-        kind,
+        kind: FacilityKind::from(facilities[at]),
         dimensions: facilities[at + 1],
         name: facilities[at + record_sizes::FACILITY_NAME],
-        words,
-        bits,
-        place,
+        words: bounds_at(facilities, at + 3),
+        bits: bounds_at(facilities, at + 7),
+        place: numbers::two_there(facilities, at + 11),
     }
 }
 
@@ -119,5 +120,5 @@ pub fn kind_at(facilities: &[u8], n: usize) -> FacilityKind
     if facilities.len() / record_sizes::FACILITY <= n {
         return FacilityKind::Plain;
     }
-    kind_of(facilities[record_sizes::FACILITY * n])
+    FacilityKind::from(facilities[record_sizes::FACILITY * n])
 }

@@ -7,7 +7,7 @@ ghost use Rattle.language.specs.Tree.{Name};
 ghost use Rattle.image_sections.specs.Declarations.{facility_in, facility_meant, kind_meant, name_length_in};
 
 use crate::facilities::FacilityRecord;
-use crate::{facilities, kinds};
+use crate::kinds;
 use image_records::{numbers, record_sizes};
 
 // The number of the last kind, as which greater ones are read.
@@ -17,8 +17,7 @@ const COMPUTED: u8 = 5;
 fn located(f: FacilityRecord, place: u32) -> u32
     ensures { result ≡ cond (is_computed (kind_meant f.kind)) f.place place }
 {
-    let kind = f.kind;
-    if kinds::is_computed(kind) {
+    if kinds::is_computed(f.kind) {
         f.place as u32
     } else {
         place
@@ -26,26 +25,17 @@ fn located(f: FacilityRecord, place: u32) -> u32
 }
 
 // The bytes of a record, for the place in the store that the layout gives.
+#[tactic(auto, unfolding(language::specs::Encode::facility_record, language::specs::Encode::little))]
 pub fn facility_bytes(f: FacilityRecord, place: u32) -> [u8; record_sizes::FACILITY]
     ensures { (name : Name) → length name ≡ f.name → result ≡ facility_record place (facility_meant name f) }
 {
-    let kind = f.kind;
-    let words = f.words;
-    let bits = f.bits;
-    let k = facilities::kind_number(kind);
-    let w0 = numbers::low(words.first);
-    let w1 = numbers::high(words.first);
-    let w2 = numbers::low(words.last);
-    let w3 = numbers::high(words.last);
-    let b0 = numbers::low(bits.first);
-    let b1 = numbers::high(bits.first);
-    let b2 = numbers::low(bits.last);
-    let b3 = numbers::high(bits.last);
-    let p = located(f, place);
-    let p0 = (p % 256) as u8;
-    let p1 = (p / 256 % 256) as u8;
+    let [w0, w1] = f.words.first.to_le_bytes();
+    let [w2, w3] = f.words.last.to_le_bytes();
+    let [b0, b1] = f.bits.first.to_le_bytes();
+    let [b2, b3] = f.bits.last.to_le_bytes();
+    let [p0, p1, ..] = located(f, place).to_le_bytes();
     [
-        k,
+        u8::from(f.kind),
         f.dimensions,
         f.name,
         w0,

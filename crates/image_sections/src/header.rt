@@ -88,11 +88,8 @@ pub fn header_bytes(c: Counts) -> [u8; record_sizes::HEADER]
 {
     let all = header_numbers(c);
     let mut header = [0u8; record_sizes::HEADER];
-    let mut i = 0;
-    while i < NUMBERS {
-        let written = numbers::four_bytes(all[i]);
-        bytes::put(&mut header, 4 * i, &written);
-        i += 1;
+    for i in 0..NUMBERS {
+        bytes::put(&mut header, 4 * i, &numbers::four_bytes(all[i]));
     }
     header
 }
@@ -102,22 +99,16 @@ pub fn header_right(image: &[u8]) -> bool
     ensures { result ≡ header_right image.now }
 {
     let c = counts_at(image);
-    let all = header_numbers(c);
-    let total = all[0];
-    if (image.len() as u64) < total {
+    let total = header_numbers(c)[0];
+    if (image.len() as u64) < total || numbers::four(image, LENGTH_FIELD) as u64 != total {
         return false;
     }
-    if numbers::four(image, LENGTH_FIELD) as u64 != total {
-        return false;
-    }
-    let written = header_bytes(c);
-    bytes::stand(image, 0, &written)
+    bytes::stand(image, 0, &header_bytes(c))
 }
 
 // Writes the header for sections with these counts, where there is room for it.
 pub fn write_header(image: &mut [u8], c: Counts)
     ensures { image.new ≡ placed image.old 0 (fours (header_numbers c)) }
 {
-    let written = header_bytes(c);
-    bytes::put(image, 0, &written);
+    bytes::put(image, 0, &header_bytes(c));
 }

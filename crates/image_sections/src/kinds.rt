@@ -11,28 +11,17 @@ use crate::facilities::FacilityKind;
 fn takes_delayed(kind: FacilityKind) -> bool
     ensures { result ≡ takes_delayed (kind_meant kind) }
 {
-    match kind {
-        FacilityKind::Register => true,
-        FacilityKind::Sequencing => true,
-        FacilityKind::Memory => false,
-        FacilityKind::Plain => false,
-        FacilityKind::Input => false,
-        FacilityKind::Computed => false,
-    }
+    matches!(kind, FacilityKind::Register | FacilityKind::Sequencing)
 }
 
 // = goes to registers, memories and plain terminals.
 fn takes_immediate(kind: FacilityKind) -> bool
     ensures { result ≡ takes_immediate (kind_meant kind) }
 {
-    match kind {
-        FacilityKind::Register => true,
-        FacilityKind::Sequencing => false,
-        FacilityKind::Memory => true,
-        FacilityKind::Plain => true,
-        FacilityKind::Input => false,
-        FacilityKind::Computed => false,
-    }
+    matches!(
+        kind,
+        FacilityKind::Register | FacilityKind::Memory | FacilityKind::Plain
+    )
 }
 
 // Whether a store by this sign may go to a facility of this kind.
@@ -50,65 +39,33 @@ pub fn may_store(sign: u8, kind: FacilityKind) -> bool
 pub fn may_both(sign: u8, k: FacilityKind, l: FacilityKind) -> bool
     ensures { result ≡ cond (may_store sign (kind_meant k)) (may_store sign (kind_meant l)) false }
 {
-    if may_store(sign, k) {
-        may_store(sign, l)
-    } else {
-        false
-    }
+    may_store(sign, k) && may_store(sign, l)
 }
 
 // Whether a facility of this kind is the sequencing register.
 pub fn is_sequencing(kind: FacilityKind) -> bool
     ensures { result ≡ is_sequencing (kind_meant kind) }
 {
-    match kind {
-        FacilityKind::Register => false,
-        FacilityKind::Sequencing => true,
-        FacilityKind::Memory => false,
-        FacilityKind::Plain => false,
-        FacilityKind::Input => false,
-        FacilityKind::Computed => false,
-    }
+    kind == FacilityKind::Sequencing
 }
 
 // Whether a facility of this kind is a plain terminal.
 pub fn is_plain(kind: FacilityKind) -> bool
     ensures { result ≡ is_plain (kind_meant kind) }
 {
-    match kind {
-        FacilityKind::Register => false,
-        FacilityKind::Sequencing => false,
-        FacilityKind::Memory => false,
-        FacilityKind::Plain => true,
-        FacilityKind::Input => false,
-        FacilityKind::Computed => false,
-    }
+    kind == FacilityKind::Plain
 }
 
 // Whether a facility of this kind is an input terminal.
 pub fn is_input(kind: FacilityKind) -> bool
     ensures { result ≡ is_input (kind_meant kind) }
 {
-    match kind {
-        FacilityKind::Register => false,
-        FacilityKind::Sequencing => false,
-        FacilityKind::Memory => false,
-        FacilityKind::Plain => false,
-        FacilityKind::Input => true,
-        FacilityKind::Computed => false,
-    }
+    kind == FacilityKind::Input
 }
 
 // Whether a facility of this kind is computed.
 pub fn is_computed(kind: FacilityKind) -> bool
     ensures { result ≡ is_computed (kind_meant kind) }
 {
-    match kind {
-        FacilityKind::Register => false,
-        FacilityKind::Sequencing => false,
-        FacilityKind::Memory => false,
-        FacilityKind::Plain => false,
-        FacilityKind::Input => false,
-        FacilityKind::Computed => true,
-    }
+    kind == FacilityKind::Computed
 }

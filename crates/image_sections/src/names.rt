@@ -26,13 +26,9 @@ pub struct Part {
 pub fn names_length(s: &[u8], n: u32, inside: u8, size: u8) -> usize
     ensures { (result ≡ names_length n inside size s.now) × (result ≤ 255 * n) }
 {
-    let mut at = inside as usize;
-    let mut sum: usize = 0;
-    let mut i: u32 = 0;
-    while i < n {
-        sum += numbers::byte(s, at) as usize;
-        at += size as usize;
-        i += 1;
+    let mut sum = 0;
+    for i in 0..n as usize {
+        sum += numbers::byte(s, inside as usize + size as usize * i) as usize;
     }
     sum
 }
@@ -72,7 +68,5 @@ pub fn state_part(
 pub fn name_at(names: &[u8], part: Part) -> &[u8]
     ensures { result.now ≡ named (part_meant part) names.now }
 {
-    let offset = part.offset;
-    let length = part.length;
-    bytes::part(names, offset, length)
+    bytes::part(names, part.offset, part.length)
 }

@@ -6,7 +6,7 @@ ghost use Rattle.image_sections.specs.Declarations.{OperationRead, operation_mea
 
 use crate::runs;
 use crate::runs::Run;
-use image_records::{numbers, record_sizes};
+use image_records::record_sizes;
 
 #[derive(Clone, Copy)]
 pub struct OperationRecord {
@@ -20,28 +20,24 @@ pub fn operation_at(operations: &[u8], n: usize) -> OperationRecord
     ensures { OperationRead operations.now n result }
 {
     if operations.len() / record_sizes::OPERATION <= n {
-        let none = Run { first: 0, count: 0 };
         return OperationRecord {
             name: 0,
-            body: none,
+            body: Run { first: 0, count: 0 },
         };
     }
     let at = record_sizes::OPERATION * n;
-    let body = runs::run_at(operations, at + 1);
     OperationRecord {
         name: operations[at],
-        body,
+        body: runs::run_at(operations, at + 1),
     }
 }
 
 // The bytes of a record.
+#[tactic(auto, unfolding(language::specs::Encode::operation_record, language::specs::Encode::little))]
 pub fn operation_bytes(o: OperationRecord) -> [u8; record_sizes::OPERATION]
     ensures { (name : Name) → length name ≡ o.name → result ≡ operation_record (operation_meant name o) }
 {
-    let body = o.body;
-    let f0 = numbers::low(body.first);
-    let f1 = numbers::high(body.first);
-    let c0 = numbers::low(body.count);
-    let c1 = numbers::high(body.count);
+    let [f0, f1] = o.body.first.to_le_bytes();
+    let [c0, c1] = o.body.count.to_le_bytes();
     [o.name, f0, f1, c0, c1]
 }

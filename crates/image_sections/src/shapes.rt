@@ -23,15 +23,10 @@ pub fn bounds_of(b: ShortBounds) -> Bounds
 pub fn shape_of(f: FacilityRecord) -> Shape
     ensures { (name : Name) → Shaped result (facility_meant name f) }
 {
-    let kind = f.kind;
-    let words = f.words;
-    let bits = f.bits;
-    let w = bounds_of(words);
-    let b = bounds_of(bits);
     Shape {
-        computed: kinds::is_computed(kind),
+        computed: kinds::is_computed(f.kind),
         dimensions: f.dimensions,
-        words: w,
-        bits: b,
+        words: bounds_of(f.words),
+        bits: bounds_of(f.bits),
     }
 }

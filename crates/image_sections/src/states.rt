@@ -9,18 +9,12 @@ use crate::runs;
 use crate::runs::Run;
 use image_records::{numbers, record_sizes};
 
-// The number of the constant that is a state's value, if it has one.
-#[derive(Clone, Copy)]
-pub enum StateValue {
-    At(u16),
-    None,
-}
-
 #[derive(Clone, Copy)]
 pub struct StateRecord {
     // the length of its label
     pub name: u8,
-    pub value: StateValue,
+    // the number of the constant that is its value, if it has one
+    pub value: Option<u16>,
     pub actions: Run,
 }
 
@@ -28,14 +22,11 @@ pub struct StateRecord {
 const NO_VALUE: u16 = 65535;
 
 // The value that a field stands for.
-fn value_of(n: u16) -> StateValue
+#[tactic(auto, using(std::proofs::lemmas::Bool::Decides::nat_tests), unfolding(language::specs::Decode::value_of))]
+fn value_of(n: u16) -> Option<u16>
     ensures { value_meant result ≡ value_of n }
 {
-    if n == NO_VALUE {
-        StateValue::None
-    } else {
-        StateValue::At(n)
-    }
+    if n == NO_VALUE { None } else { Some(n) }
 }
 
 // Record n of a section of states.
@@ -43,45 +34,34 @@ pub fn state_at(states: &[u8], n: usize) -> StateRecord
     ensures { StateRead states.now n result }
 {
     if states.len() / record_sizes::STATE <= n {
-        let none = Run { first: 0, count: 0 };
         return StateRecord {
             name: 0,
-            value: StateValue::None,
-            actions: none,
+            value: None,
+            actions: Run { first: 0, count: 0 },
         };
     }
     let at = record_sizes::STATE * n;
-    let value = value_of(numbers::two_there(states, at + 1));
-    let actions = runs::run_at(states, at + 3);
     StateRecord {
         name: states[at],
-        value,
-        actions,
+        value: value_of(numbers::two_there(states, at + 1)),
+        actions: runs::run_at(states, at + 3),
     }
 }
 
 // The field that stands for a value.
-fn value_field(value: StateValue) -> u16
+fn value_field(value: Option<u16>) -> u16
     ensures { result ≡ value_field (value_meant value) }
 {
-    match value {
-        StateValue::At(n) => n,
-        StateValue::None => NO_VALUE,
-    }
+    value.unwrap_or(NO_VALUE)
 }
 
 // The bytes of a record.
+#[tactic(auto, unfolding(language::specs::Encode::state_record, language::specs::Encode::little))]
 pub fn state_bytes(s: StateRecord) -> [u8; record_sizes::STATE]
     ensures { (name : Name) → length name ≡ s.name → result ≡ state_record (state_meant name s) }
 {
-    let value = s.value;
-    let actions = s.actions;
-    let v = value_field(value);
-    let v0 = numbers::low(v);
-    let v1 = numbers::high(v);
-    let f0 = numbers::low(actions.first);
-    let f1 = numbers::high(actions.first);
-    let c0 = numbers::low(actions.count);
-    let c1 = numbers::high(actions.count);
+    let [v0, v1] = value_field(s.value).to_le_bytes();
+    let [f0, f1] = s.actions.first.to_le_bytes();
+    let [c0, c1] = s.actions.count.to_le_bytes();
     [s.name, v0, v1, f0, f1, c0, c1]
 }

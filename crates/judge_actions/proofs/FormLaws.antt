@@ -1,4 +1,4 @@
--- The forms of actions that a test leaves.
+-- The kinds of actions that a test leaves.
 use mathlib.Core.List.{List, [], ◌∷◌}
 use mathlib.Core.Path.{◌≡◌, refl}
 use Prim.Native.Nat.{ℕ}
@@ -7,13 +7,13 @@ use types.Run.{OneOf, miss}
 use Rattle.image_records.specs.contracts.actions.Action.{the_type}
 use Rattle.image_records.specs.declared.actions.Action.{Action}
 use Rattle.image_records.specs.declared.actions.Action.TheVariants as N
-use Rattle.judge_actions.specs.declared.conditionals.Form.TheVariants.{Simple}
-use Rattle.judge_actions.specs.Listed.{arm_holds, form_of}
+use Rattle.std.specs.Prelude.{None}
+use Rattle.judge_actions.specs.Listed.{arm_holds, branch_of}
 
 abbrev no-conditionals : List ℕ
 no-conditionals = 0 ∷ 1 ∷ 2 ∷ 3 ∷ 4 ∷ 5 ∷ 6 ∷ 9 ∷ 10 ∷ []
 
-pub not-conditional : (r : Action) → OneOf no-conditionals (tag_of the_type r) → Simple ≡ form_of r
+pub not-conditional : (r : Action) → OneOf no-conditionals (tag_of the_type r) → None ≡ branch_of r
 not-conditional (N.Store s l r) h = refl
 not-conditional (N.StorePair s l n r) h = refl
 not-conditional (N.Set l) h = refl

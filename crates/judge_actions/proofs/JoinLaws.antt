@@ -5,7 +5,7 @@ use native.Mathlib.Omega.{arith}
 use Prim.Native.Nat.{ℕ, ◌+◌}
 use Rattle.language.specs.Judging.{Judged, Worth, faulty, fine, given_both}
 use Rattle.language.specs.Words.{Fault}
-use Rattle.judge_verdicts.specs.declared.Verdict.{Verdict}
+use Rattle.judge_verdicts.specs.Meaning.{Verdict}
 use Rattle.judge_verdicts.specs.Meaning.{seen}
 
 abbrev pub joins : (Worth → Worth → Worth) → Judged → Judged → Judged

@@ -15,9 +15,9 @@ use Rattle.language.specs.Tests.{both}
 use Rattle.image_records.specs.Actions.{meant}
 use Rattle.image_records.specs.declared.actions.Action.{Action}
 use Rattle.image_records.specs.declared.actions.Action.TheVariants as N
-use Rattle.judge_actions.specs.declared.conditionals.Form.{Form}
-use Rattle.judge_actions.specs.declared.conditionals.Form.TheVariants.{Simple, Conditional}
-use Rattle.judge_actions.specs.Listed.{arm_holds, arms_at, form_of, held_by, list_at, one_at, right_arms}
+use Rattle.std.specs.Prelude.{Option, None, Some}
+use Rattle.judge_actions.specs.declared.conditionals.Branch.{Branch}
+use Rattle.judge_actions.specs.Listed.{arm_holds, arms_at, branch_of, held_by, list_at, one_at, right_arms}
 use Rattle.judge_actions.proofs.JoinLaws.{arm_first, joins, works}
 use Rattle.language.specs.declared.refusals.Refusal.TheVariants.{NoContinuation}
 
@@ -56,15 +56,15 @@ module _ (d : Description) (p : Places) (b : Bool) (w : ℕ → Judged) where
   -- ---- One action, and the list after what it holds.
 
   -- The action at i, where `ev` judges fewer records.
-  abbrev one_by : (ℕ → ℕ → Shape → Judged) → ℕ → Form → Judged
-  one_by ev i Simple = A.simple_judged d p b w (action_place p i) (action_at d i)
-  one_by ev i (Conditional c) =
+  abbrev one_by : (ℕ → ℕ → Shape → Judged) → ℕ → Option Branch → Judged
+  one_by ev i None = A.simple_judged d p b w (action_place p i) (action_at d i)
+  one_by ev i (Some c) =
       A.conditional d p b w (action_place p i) (A.right d p b w c.condition) (ev c.size (i + 1) arms) (right_arms c.choices)
 
-  one-by : (k i : ℕ) (f : Form) → held_by f < k → one_by (run_below d p b w k) i f ≡ one_at d p b w i f
+  one-by : (k i : ℕ) (f : Option Branch) → held_by f < k → one_by (run_below d p b w k) i f ≡ one_at d p b w i f
   unfolding one_at
-  one-by k i Simple h = refl
-  one-by k i (Conditional c) h = rw (arms-lt k c.size (i + 1) h)
+  one-by k i None h = refl
+  one-by k i (Some c) h = rw (arms-lt k c.size (i + 1) h)
 
   module _ (ev : ℕ → ℕ → Shape → Judged) (m i : ℕ) where
     plainly-held : plainly d p b w ev m i ≡ A.holding d p b w ev m i 0 (A.simple_judged d p b w (action_place p i) (action_at d i))
@@ -74,7 +74,7 @@ module _ (d : Description) (p : Places) (b : Bool) (w : ℕ → Judged) where
         let g : leb 0 m ≡ true = le-leb 0 m (omega arith) in
         rw (g, e, f)
 
-    one-held : (r : Action) → list_judged d p b w ev m i (meant r) ≡ A.holding d p b w ev m i (held_by (form_of r)) (one_by ev i (form_of r))
+    one-held : (r : Action) → list_judged d p b w ev m i (meant r) ≡ A.holding d p b w ev m i (held_by (branch_of r)) (one_by ev i (branch_of r))
     unfolding list_judged
     one-held (N.Store s l r) = plainly-held
     one-held (N.StorePair s l n r) = plainly-held
@@ -88,7 +88,7 @@ module _ (d : Description) (p : Places) (b : Bool) (w : ℕ → Judged) where
     one-held (N.Arm x) = plainly-held
     one-held N.Broken = plainly-held
 
-  module _ (k i n : ℕ) (r : Action) (f : Form) (h : k ≡ 0 → ⊥) (e : action_at d i ≡ meant r) (q : f ≡ form_of r) (z : n ≡ held_by f) where
+  module _ (k i n : ℕ) (r : Action) (f : Option Branch) (h : k ≡ 0 → ⊥) (e : action_at d i ≡ meant r) (q : f ≡ branch_of r) (z : n ≡ held_by f) where
     pub list-past : k - 1 < n → list_at d p b w k i ≡ refuse D.nowhere NoContinuation
     list-past g = sym (list-first k i h e) ∙ one-held (run_below d p b w k) (k - 1) i r ∙ rw (← q, ← z, lt-leb n (k - 1) g)
 

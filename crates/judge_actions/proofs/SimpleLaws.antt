@@ -16,8 +16,8 @@ use Rattle.language.specs.Judging.{Judged, faulty, fine, given, given_both, refu
 use Rattle.language.specs.declared.refusals.Refusal.TheVariants.{BadName, NoContinuation}
 use Rattle.language.specs.Storing.{is_plain, may_store}
 use Rattle.language.specs.Words as W
-use Rattle.judge_verdicts.specs.declared.Verdict.{Verdict}
-use Rattle.judge_verdicts.specs.declared.Verdict.TheVariants.{Fine, Faulty}
+use Rattle.judge_verdicts.specs.Meaning.{Verdict}
+use Rattle.std.specs.Prelude.{Ok, Err}
 use Rattle.judge_verdicts.specs.declared.Worth.{Worth}
 use Rattle.judge_verdicts.specs.Meaning.{capped, seen}
 use Rattle.text_words.specs.declared.Fault.{Fault}
@@ -28,7 +28,7 @@ use Rattle.language.specs.Tests as Tests
 
 -- ---- An operation that is named.
 
-pub perform-fine : (j : Judged) (v : Worth) {r : Verdict} → Fine v ≡ seen (worked j)
+pub perform-fine : (j : Judged) (v : Worth) {r : Verdict} → Ok v ≡ seen (worked j)
     → ((x : ℕ) → v.work ≡ capped x → r ≡ seen (worth 1 0 (own_work + x))) → r ≡ seen (given j (λ x. worth 1 0 (own_work + x.work)))
 unfolding seen
 perform-fine (fine x) v e g =
@@ -36,7 +36,7 @@ perform-fine (fine x) v e g =
     g x.work (ap (λ (z : Worth). z.work) m)
 perform-fine (faulty f fs) v e g = absurd (let z : ◌≡◌ {A = ℕ} 0 1 = cc in omega arith)
 
-pub perform-faulty : (j : Judged) (h : Fault) (on : L.Worth → Judged) → Faulty h ≡ seen (worked j) → Faulty h ≡ seen (given j on)
+pub perform-faulty : (j : Judged) (h : Fault) (on : L.Worth → Judged) → Err h ≡ seen (worked j) → Err h ≡ seen (given j on)
 unfolding seen
 perform-faulty (fine x) h on e = absurd (let z : ◌≡◌ {A = ℕ} 0 1 = cc in omega arith)
 perform-faulty (faulty f fs) h on e = e

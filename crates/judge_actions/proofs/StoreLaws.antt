@@ -6,9 +6,8 @@ use Prim.Native.Nat.{ℕ, ◌+◌}
 use Rattle.language.specs.Judging as L
 use Rattle.language.specs.Judging.{Judged, faulty, fine, given_both, worth}
 use Rattle.judge_verdicts.proofs.VerdictLaws.{pair-faulty}
-use Rattle.judge_verdicts.specs.declared.Pair.TheVariants as P
-use Rattle.judge_verdicts.specs.declared.Verdict.{Verdict}
-use Rattle.judge_verdicts.specs.declared.Verdict.TheVariants.{Fine, Faulty}
+use Rattle.judge_verdicts.specs.Meaning.{Verdict}
+use Rattle.std.specs.Prelude.{Ok, Err}
 use Rattle.judge_verdicts.specs.declared.Worth.{Worth}
 use Rattle.judge_verdicts.specs.Meaning.{capped, met, paired, seen}
 use Rattle.text_words.specs.declared.Fault.{Fault}
@@ -21,40 +20,39 @@ both_cond true b = refl
 both_cond false b = refl
 
 -- A part of which only faults and work are known.
-pub worked-fine : (j k : Judged) (v w : Worth) (on : L.Worth → L.Worth → Judged) {r : Verdict} → paired (seen (worked j)) (seen k) ≡ P.Fine v w
+pub worked-fine : (j k : Judged) (v w : Worth) (on : L.Worth → L.Worth → Judged) {r : Verdict} → paired (seen (worked j)) (seen k) ≡ Ok (v, w)
     → ((x y : L.Worth) → j ≡ fine x → v.work ≡ capped x.work → w ≡ met y → r ≡ seen (on x y)) → r ≡ seen (given_both j k on)
 unfolding seen
 worked-fine (fine x) (fine y) v w on e g =
-    let m : v ≡ record { length = 1; arms = capped 0; work = capped x.work } = cc in
-    let n : w ≡ met y = cc in
-    g x y refl (ap (λ (z : Worth). z.work) m) n
+    let q : ◌≡◌ {A = Worth × Worth} (v, w) (record { length = 1; arms = capped 0; work = capped x.work }, met y) = cc in
+    g x y refl (ap (λ (z : Worth × Worth). z.0.work) q) (ap (λ (z : Worth × Worth). z.1) q)
 worked-fine (fine x) (faulty h hs) v w on e g = absurd (let z : ◌≡◌ {A = ℕ} 0 1 = cc in omega arith)
 worked-fine (faulty f fs) (fine y) v w on e g = absurd (let z : ◌≡◌ {A = ℕ} 0 1 = cc in omega arith)
 worked-fine (faulty f fs) (faulty h hs) v w on e g = absurd (let z : ◌≡◌ {A = ℕ} 0 1 = cc in omega arith)
 
-pub worked-faulty : (j k : Judged) (h : Fault) (on : L.Worth → L.Worth → Judged) → paired (seen (worked j)) (seen k) ≡ P.Faulty h
-    → Faulty h ≡ seen (given_both j k on)
+pub worked-faulty : (j k : Judged) (h : Fault) (on : L.Worth → L.Worth → Judged) → paired (seen (worked j)) (seen k) ≡ Err h
+    → Err h ≡ seen (given_both j k on)
 unfolding seen
 worked-faulty (fine x) (fine y) h on e = absurd (let z : ◌≡◌ {A = ℕ} 0 1 = cc in omega arith)
 worked-faulty (fine x) (faulty g gs) h on e = cc
 worked-faulty (faulty f fs) (fine y) h on e = cc
 worked-faulty (faulty f fs) (faulty g gs) h on e = pair-faulty (faulty f fs) (faulty g gs) h on e
 
-pub worked-seen : (j : Judged) {v : Verdict} (w : Worth) → v ≡ Fine w → v ≡ seen j → Fine (record { length = 1; arms = 0; work = w.work }) ≡ seen (worked j)
+pub worked-seen : (j : Judged) {v : Verdict} (w : Worth) → v ≡ Ok w → v ≡ seen j → Ok (record { length = 1; arms = 0; work = w.work }) ≡ seen (worked j)
 unfolding seen capped
-worked-seen (fine x) w e f = let m : w ≡ met x = cc in ap (λ (z : ℕ). Fine (record { length = 1; arms = 0; work = z })) (ap (λ (z : Worth). z.work) m)
+worked-seen (fine x) w e f = let m : w ≡ met x = cc in ap (λ (z : ℕ). Ok (record { length = 1; arms = 0; work = z })) (ap (λ (z : Worth). z.work) m)
 worked-seen (faulty f fs) w e g = absurd (let z : ◌≡◌ {A = ℕ} 0 1 = cc in omega arith)
 
-pub worked-fault : (j : Judged) {v : Verdict} (h : Fault) → v ≡ Faulty h → v ≡ seen j → Faulty h ≡ seen (worked j)
+pub worked-fault : (j : Judged) {v : Verdict} (h : Fault) → v ≡ Err h → v ≡ seen j → Err h ≡ seen (worked j)
 unfolding seen
 worked-fault (fine x) h e f = absurd (let z : ◌≡◌ {A = ℕ} 0 1 = cc in omega arith)
 worked-fault (faulty f fs) h e g = cc
 
-pub fine-length : {v : Verdict} {w : Worth} (x : L.Worth) → v ≡ Fine w → v ≡ seen (fine x) → w.length ≡ x.length
+pub fine-length : {v : Verdict} {w : Worth} (x : L.Worth) → v ≡ Ok w → v ≡ seen (fine x) → w.length ≡ x.length
 unfolding seen
 fine-length {v} {w} x e f = let m : w ≡ met x = cc in ap (λ (z : Worth). z.length) m
 
-pub no_length : {v : Verdict} {h : Fault} (x : L.Worth) → v ≡ Faulty h → v ≡ seen (fine x) → 0 ≡ x.length
+pub no_length : {v : Verdict} {h : Fault} (x : L.Worth) → v ≡ Err h → v ≡ seen (fine x) → 0 ≡ x.length
 unfolding seen
 no_length x e f = absurd (let z : ◌≡◌ {A = ℕ} 0 1 = cc in omega arith)
 

@@ -1,5 +1,5 @@
 -- What slices show of a description and its places, as far as lists of actions need it.
-use Rattle.std.specs.Prelude.{Bool, true, false, cond, List, ◌≡◌, ℕ, ◌+◌, ◌/◌, ◌<◌, ◌≤◌, eqb, leb, drop, length, take}
+use Rattle.std.specs.Prelude.{Bool, true, false, cond, List, ◌≡◌, ℕ, ◌+◌, ◌/◌, ◌<◌, ◌≤◌, eqb, leb, drop, length, take, Option, None, Some}
 use Rattle.image_sections.specs.Declarations.{name_length_in}
 use Rattle.language.specs.ActionRules as A
 use Rattle.language.specs.ActionRules.{actions, arms, run_below, run_step}
@@ -12,15 +12,14 @@ use Rattle.language.specs.Judging.{Judged, Worth, refuse}
 use Rattle.language.specs.declared.refusals.Refusal.TheVariants.{BadName, NoContinuation}
 use Rattle.language.specs.Words.{Position}
 use Rattle.judge_records.specs.Read.{place_of}
-use Rattle.judge_verdicts.specs.declared.Verdict.{Verdict}
+use Rattle.judge_verdicts.specs.Meaning.{Verdict}
 use Rattle.judge_verdicts.specs.Meaning.{recalled, seen}
 use Rattle.judge_terms.specs.Shown.{Shown, worked}
 use Rattle.image_records.specs.declared.actions.Action.{Action}
 use Rattle.image_records.specs.declared.actions.Action.TheVariants as N
 use Rattle.judge_actions.specs.declared.conditionals.Choices.{Choices}
 use Rattle.judge_actions.specs.declared.conditionals.Choices.TheVariants.{One, Several}
-use Rattle.judge_actions.specs.declared.conditionals.Form.{Form}
-use Rattle.judge_actions.specs.declared.conditionals.Form.TheVariants.{Simple, Conditional}
+use Rattle.judge_actions.specs.declared.conditionals.Branch.{Branch}
 use Rattle.language.specs.Tests.{both}
 
 -- `works` judges the operations that may be named: `ops` of them, whose verdicts are kept.
@@ -56,31 +55,31 @@ abbrev pub in_right : Bool → Position → Judged → Judged
 in_right true at j = j
 in_right false at j = refuse at NoContinuation
 
--- The form of an action, and how many of the records after it belong to it.
-abbrev pub branched : ℕ → Choices → ℕ → Form
-branched c choices x = Conditional (record { condition = c; choices = choices; size = x })
+-- The conditional that an action is, and how many of the records after it belong to it.
+abbrev pub branched : ℕ → Choices → ℕ → Option Branch
+branched c choices x = Some (record { condition = c; choices = choices; size = x })
 
-abbrev pub form_of : Action → Form
-form_of (N.Store k l r) = Simple
-form_of (N.StorePair k l m r) = Simple
-form_of (N.Set l) = Simple
-form_of (N.Perform o) = Simple
-form_of (N.Goto s) = Simple
-form_of (N.Call s) = Simple
-form_of N.Return = Simple
-form_of (N.When c x) = branched c One x
-form_of (N.Choose c n x) = branched c (Several n) x
-form_of (N.Arm x) = Simple
-form_of N.Broken = Simple
+abbrev pub branch_of : Action → Option Branch
+branch_of (N.Store k l r) = None
+branch_of (N.StorePair k l m r) = None
+branch_of (N.Set l) = None
+branch_of (N.Perform o) = None
+branch_of (N.Goto s) = None
+branch_of (N.Call s) = None
+branch_of N.Return = None
+branch_of (N.When c x) = branched c One x
+branch_of (N.Choose c n x) = branched c (Several n) x
+branch_of (N.Arm x) = None
+branch_of N.Broken = None
 
-abbrev pub held_by : Form → ℕ
-held_by Simple = 0
-held_by (Conditional b) = b.size
+abbrev pub held_by : Option Branch → ℕ
+held_by None = 0
+held_by (Some b) = b.size
 
--- The action at i, by its form, without those after it.
-unfoldable pub one_at : Description → Places → Bool → (ℕ → Judged) → ℕ → Form → Judged
-one_at d p in_state w i Simple = A.simple_judged d p in_state w (action_place p i) (action_at d i)
-one_at d p in_state w i (Conditional b) =
+-- The action at i, by what it is, without those after it.
+unfoldable pub one_at : Description → Places → Bool → (ℕ → Judged) → ℕ → Option Branch → Judged
+one_at d p in_state w i None = A.simple_judged d p in_state w (action_place p i) (action_at d i)
+one_at d p in_state w i (Some b) =
     A.conditional d p in_state w (action_place p i) (A.right d p in_state w b.condition) (arms_at d p in_state w b.size (i + 1)) (right_arms b.choices)
 
 -- How many actions an arm has, none where there is no arm, or more than the m records after it.

@@ -7,16 +7,16 @@ ghost use Rattle.language.specs.Words as W;
 ghost use Rattle.judge_verdicts.specs.Meaning.{capped, met, seen};
 ghost use Rattle.language.specs.declared.refusals.Refusal.TheVariants.{BadLength, NoContinuation};
 ghost use Rattle.text_words.specs.Meaning.{positioned};
-ghost use Rattle.judge_actions.specs.Listed.{arm_holds, branched, form_of, held_by, right_arms};
+ghost use Rattle.judge_actions.specs.Listed.{arm_holds, branch_of, held_by, right_arms};
 
 use image_records::actions::Action;
 use judge_records::places;
 use judge_terms::{lengths, operators};
-use judge_verdicts::{Pair, Verdict, Worth, faults, work};
+use judge_verdicts::{Verdict, Worth, faults, work};
 use language::refusals::Refusal;
 use text_words::Position;
 
-// What a conditional chooses among: IF without ELSE has one arm.
+// What a conditional chooses among: IF without ELSE has one arm. No `Option`: one arm is a choice too, and none is absent.
 #[derive(Clone, Copy)]
 pub enum Choices {
     One,
@@ -31,43 +31,33 @@ pub struct Branch {
     pub size: u16,
 }
 
-// An action is a conditional, or holds no others.
-#[derive(Clone, Copy)]
-pub enum Form {
-    Simple,
-    Conditional(Branch),
-}
-
-// The conditional that a record's fields give.
-fn branch_of(condition: u16, choices: Choices, size: u16) -> Form
-    ensures { result ≡ branched condition choices size }
-{
-    Form::Conditional(Branch {
-        condition,
-        choices,
-        size,
-    })
-}
-
-// The form of an action.
-pub fn form_of(a: Action) -> Form
-    ensures { result ≡ form_of a }
+// The conditional that an action is, if it is one: any other holds no actions.
+pub fn branch_of(a: Action) -> Option<Branch>
+    ensures { result ≡ branch_of a }
 {
     match a {
-        Action::When(c, x) => branch_of(c, Choices::One, x),
-        Action::Choose(c, n, x) => branch_of(c, Choices::Several(n), x),
-        _ => Form::Simple,
+        Action::When(condition, size) => Some(Branch {
+            condition,
+            choices: Choices::One,
+            size,
+        }),
+        Action::Choose(condition, n, size) => Some(Branch {
+            condition,
+            choices: Choices::Several(n),
+            size,
+        }),
+        _ => None,
     }
 }
 
 // How many of the records after an action belong to it.
-pub fn held(f: Form) -> usize
-    ensures { (result ≡ held_by f) × (result < 65536) }
+pub fn held(b: Option<Branch>) -> usize
+    ensures { (result ≡ held_by b) × (result < 65536) }
 {
-    let Form::Conditional(b) = f else {
-        return 0;
-    };
-    b.size as usize
+    match b {
+        Some(b) => b.size as usize,
+        None => 0,
+    }
 }
 
 // How many actions an arm has, where m records stand after it: none where it is no arm, or has more.
@@ -96,18 +86,8 @@ fn right_arms(c: Choices, v: Worth, w: Worth) -> bool
     ensures { (x y : L.Worth) → v ≡ met x → w ≡ met y → result ≡ right_arms c x y }
 {
     match c {
-        Choices::One => {
-            if v.length == 1 {
-                return are(w.arms, 1);
-            }
-            false
-        }
-        Choices::Several(n) => {
-            if lengths::selects(v.length, n) {
-                return are(w.arms, n);
-            }
-            false
-        }
+        Choices::One => v.length == 1 && are(w.arms, 1),
+        Choices::Several(n) => lengths::selects(v.length, n) && are(w.arms, n),
     }
 }
 
@@ -115,25 +95,18 @@ fn right_arms(c: Choices, v: Worth, w: Worth) -> bool
 pub fn counted(x: usize, y: usize) -> Verdict
     ensures { (a b : ℕ) → x ≡ capped a → y ≡ capped b → result ≡ seen (L.worth 1 0 (own_work + a + b)) }
 {
-    Verdict::Fine(Worth {
-        length: 1,
-        arms: 0,
-        work: work::with_two(x, y),
-    })
+    work::only(work::with_two(x, y))
 }
 
 // A condition, and the arms that it chooses among.
 pub fn conditional(at: Position, c: Choices, a: Verdict, b: Verdict) -> Verdict
     ensures { (q : W.Position) (j k : L.Judged) → positioned at ≡ q → a ≡ seen j → b ≡ seen k → result ≡ seen (L.given_both j k (λ v w. cond (right_arms c v w) (L.worth 1 0 (own_work + v.work + w.work)) (L.refuse q BadLength))) }
 {
-    match faults::both(a, b) {
-        Pair::Fine(v, w) => {
-            if right_arms(c, v, w) {
-                return counted(v.work, w.work);
-            }
-            faults::refused(at, Refusal::BadLength)
-        }
-        Pair::Faulty(f) => Verdict::Faulty(f),
+    let (v, w) = faults::both(a, b)?;
+    if right_arms(c, v, w) {
+        counted(v.work, w.work)
+    } else {
+        faults::refused(at, Refusal::BadLength)
     }
 }
 
@@ -141,14 +114,12 @@ pub fn conditional(at: Position, c: Choices, a: Verdict, b: Verdict) -> Verdict
 pub fn arm(a: Verdict, b: Verdict) -> Verdict
     ensures { (j k : L.Judged) → a ≡ seen j → b ≡ seen k → result ≡ seen (L.given_both j k (λ v w. L.worth 1 (v.arms + 1) (v.work + w.work))) }
 {
-    match faults::both(a, b) {
-        Pair::Fine(v, w) => Verdict::Fine(Worth {
-            length: 1,
-            arms: work::added(v.arms, 1),
-            work: work::added(v.work, w.work),
-        }),
-        Pair::Faulty(f) => Verdict::Faulty(f),
-    }
+    let (v, w) = faults::both(a, b)?;
+    Ok(Worth {
+        length: 1,
+        arms: work::added(v.arms, 1),
+        work: work::added(v.work, w.work),
+    })
 }
 
 // Records that no list has, after what is judged already.

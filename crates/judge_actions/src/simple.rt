@@ -11,15 +11,16 @@ ghost use Rattle.judge_verdicts.specs.Meaning.{recalled, seen};
 ghost use Rattle.language.specs.declared.refusals.Refusal.TheVariants.{BadName};
 ghost use Rattle.text_words.specs.Meaning.{positioned};
 ghost use Rattle.judge_terms.specs.Shown.{worked};
-ghost use Rattle.judge_actions.specs.Listed.{Lists, in_right};
+ghost use Rattle.judge_actions.specs.Acting.{ListsBy};
+ghost use Rattle.judge_actions.specs.Listed.{in_right};
 ghost use Rattle.language.specs.Encode.{state_size};
 
-use crate::{Owner, stores};
+use crate::{Owner, Sections, stores};
 use image_records::actions::Action;
 use image_records::{actions, record_sizes};
 use image_sections::names;
 use judge_records::places;
-use judge_verdicts::{Verdict, Worth, faults, kept, work};
+use judge_verdicts::{Verdict, faults, kept, work};
 use language::refusals::Refusal;
 use text_words::Position;
 
@@ -37,14 +38,8 @@ fn operation(kept: &[usize], ops: usize, o: u16) -> Verdict
 fn perform(kept: &[usize], ops: usize, o: u16) -> Verdict
     ensures { (w : ℕ → L.Judged) → (o < ops → recalled kept.now o ≡ seen (worked (w o))) → (ops ≤ o → w o ≡ L.refuse nowhere BadName) → result ≡ seen (L.given (w o) (λ x. L.worth 1 0 (own_work + x.work))) }
 {
-    match operation(kept, ops, o) {
-        Verdict::Fine(w) => Verdict::Fine(Worth {
-            length: 1,
-            arms: 0,
-            work: work::with_one(w.work),
-        }),
-        Verdict::Faulty(f) => Verdict::Faulty(f),
-    }
+    let w = operation(kept, ops, o)?;
+    work::only(work::with_one(w.work))
 }
 
 // Whether state s has a name; `labels` are the states' names.
@@ -62,11 +57,7 @@ fn labelled(states: &[u8], labels: &[u8], s: u16) -> bool
 fn alone() -> Verdict
     ensures { result ≡ seen (L.worth 1 0 own_work) }
 {
-    Verdict::Fine(Worth {
-        length: 1,
-        arms: 0,
-        work: work::own(),
-    })
+    work::only(work::own())
 }
 
 // A state is gone to by its name.
@@ -90,41 +81,31 @@ fn only_in(right: bool, at: Position, v: Verdict) -> Verdict
 }
 
 // The action that record i is.
-pub fn simple(
-    fs: &[u8],
-    es: &[u8],
-    fp: &[u8],
-    ep: &[u8],
-    memo: &[usize],
-    acts: &[u8],
-    ap: &[u8],
-    ss: &[u8],
-    labels: &[u8],
-    kept: &[usize],
-    own: Owner,
-    i: usize,
-) -> Verdict
-    ensures { Lists fs.now es.now fp.now ep.now memo.now acts.now ap.now ss.now labels.now kept.now own.ops (λ d p w. simple_judged d p own.state w (action_place p i) (action_at d i)) result }
+pub fn simple(sections: &Sections<'_>, own: &Owner<'_>, i: usize) -> Verdict
+    ensures { ListsBy sections.now own.now (λ d p w. simple_judged d p own.now.state w (action_place p i) (action_at d i)) result }
 {
-    let at = places::of_record(ap, i);
-    let known = fs.len() / record_sizes::FACILITY;
-    match actions::action_at(acts, i) {
+    let at = places::of_record(sections.action_places, i);
+    let (records, memo) = (&sections.records, sections.memo);
+    let known = records.facilities.len() / record_sizes::FACILITY;
+    match actions::action_at(sections.actions, i) {
         Action::Store(k, l, r) => {
-            let v = stores::store(fs, es, fp, ep, memo, known, at, k, l, r);
+            let v = stores::store(records, memo, known, at, k, l, r);
             only_in(!own.state, at, v)
         }
         Action::StorePair(k, l, m, r) => {
-            let v = stores::store_pair(fs, es, fp, ep, memo, known, at, k, l, m, r);
+            let v = stores::store_pair(records, memo, known, at, k, l, m, r);
             only_in(!own.state, at, v)
         }
-        Action::Set(l) => stores::set(fs, es, fp, ep, memo, known, at, l),
-        Action::Perform(o) => perform(kept, own.ops, o),
-        Action::Goto(s) => only_in(own.state, at, to_state(ss, labels, at, s)),
-        Action::Call(s) => only_in(own.state, at, to_state(ss, labels, at, s)),
+        Action::Set(l) => stores::set(records, memo, known, at, l),
+        Action::Perform(o) => perform(own.kept, own.ops, o),
+        Action::Goto(s) | Action::Call(s) => {
+            let v = to_state(sections.states, sections.labels, at, s);
+            only_in(own.state, at, v)
+        }
         Action::Return => only_in(own.state, at, alone()),
-        Action::When(_, _) => faults::refused(at, Refusal::NoContinuation),
-        Action::Choose(_, _, _) => faults::refused(at, Refusal::NoContinuation),
-        Action::Arm(_) => faults::refused(at, Refusal::NoContinuation),
+        Action::When(..) | Action::Choose(..) | Action::Arm(_) => {
+            faults::refused(at, Refusal::NoContinuation)
+        }
         Action::Broken => faults::refused(at, Refusal::BadName),
     }
 }

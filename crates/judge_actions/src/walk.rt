@@ -1,9 +1,10 @@
-// Lists of actions and lists of arms: each record is judged once. A list goes on by a loop, so that only what stands inside another takes stack. Every function takes what expressions take, the actions and their places (`acts`, `ap`), the states and their names (`ss`, `labels`), what is kept of operations, and whose the list is.
+// Lists of actions and lists of arms: each record is judged once. A list goes on by a loop, so that only what stands inside another takes stack. Every function takes the sections, and whose the list is.
 ghost use Rattle.std.specs.Prelude.{◌+◌, ◌≤◌};
-ghost use Rattle.judge_actions.specs.Listed.{Lists, arms_at, held_by, list_at, one_at};
+ghost use Rattle.judge_actions.specs.Acting.{ListsBy};
+ghost use Rattle.judge_actions.specs.Listed.{arms_at, held_by, list_at, one_at};
 
-use crate::conditionals::Form;
-use crate::{Owner, conditionals, simple};
+use crate::conditionals::Branch;
+use crate::{Owner, Sections, conditionals, simple};
 use image_records::{actions, record_sizes};
 use judge_records::places;
 use judge_terms::operators;
@@ -11,35 +12,22 @@ use judge_verdicts::Verdict;
 
 // k records from i on: a list of actions.
 #[cycle(arms_list_one)]
-pub fn list(
-    fs: &[u8],
-    es: &[u8],
-    fp: &[u8],
-    ep: &[u8],
-    memo: &[usize],
-    acts: &[u8],
-    ap: &[u8],
-    ss: &[u8],
-    labels: &[u8],
-    kept: &[usize],
-    own: Owner,
-    k: usize,
-    i: usize,
-) -> Verdict
+pub fn list(sections: &Sections<'_>, own: &Owner<'_>, k: usize, i: usize) -> Verdict
     requires { i + k ≤ 0xffffffff }
-    ensures { Lists fs.now es.now fp.now ep.now memo.now acts.now ap.now ss.now labels.now kept.now own.ops (λ d p w. list_at d p own.state w k i) result }
+    ensures { ListsBy sections.now own.now (λ d p w. list_at d p own.now.state w k i) result }
 {
     let mut all = operators::nothing();
     let mut left = k;
     let mut j = i;
+    // No `for`: a step goes past all records that belong to an action.
     while 0 < left {
         left -= 1;
-        let f = conditionals::form_of(actions::action_at(acts, j));
-        let n = conditionals::held(f);
+        let b = conditionals::branch_of(actions::action_at(sections.actions, j));
+        let n = conditionals::held(b);
         if left < n {
             return conditionals::no_continuation(all);
         }
-        let v = one(fs, es, fp, ep, memo, acts, ap, ss, labels, kept, own, j, f);
+        let v = one(sections, own, j, b);
         all = operators::together(all, v);
         j = j + 1 + n;
         left -= n;
@@ -49,68 +37,41 @@ pub fn list(
 
 // The action at record i, with the records that belong to it.
 #[cycle(arms_list_one)]
-fn one(
-    fs: &[u8],
-    es: &[u8],
-    fp: &[u8],
-    ep: &[u8],
-    memo: &[usize],
-    acts: &[u8],
-    ap: &[u8],
-    ss: &[u8],
-    labels: &[u8],
-    kept: &[usize],
-    own: Owner,
-    i: usize,
-    f: Form,
-) -> Verdict
-    requires { i + 1 + held_by f ≤ 0xffffffff }
-    ensures { Lists fs.now es.now fp.now ep.now memo.now acts.now ap.now ss.now labels.now kept.now own.ops (λ d p w. one_at d p own.state w i f) result }
+fn one(sections: &Sections<'_>, own: &Owner<'_>, i: usize, b: Option<Branch>) -> Verdict
+    requires { i + 1 + held_by b ≤ 0xffffffff }
+    ensures { ListsBy sections.now own.now (λ d p w. one_at d p own.now.state w i b) result }
 {
-    let Form::Conditional(b) = f else {
-        return simple::simple(fs, es, fp, ep, memo, acts, ap, ss, labels, kept, own, i);
+    let Some(b) = b else {
+        return simple::simple(sections, own, i);
     };
-    let at = places::of_record(ap, i);
-    let known = fs.len() / record_sizes::FACILITY;
-    let a = judge_expressions::walk::expression(fs, es, fp, ep, memo, known, b.condition);
+    let at = places::of_record(sections.action_places, i);
+    let records = &sections.records;
+    let known = records.facilities.len() / record_sizes::FACILITY;
+    let a = judge_expressions::walk::expression(records, sections.memo, known, b.condition);
     let n = b.size as usize;
     let j = i + 1;
-    let inner = arms(fs, es, fp, ep, memo, acts, ap, ss, labels, kept, own, n, j);
-    let choices = b.choices;
-    conditionals::conditional(at, choices, a, inner)
+    let inner = arms(sections, own, n, j);
+    conditionals::conditional(at, b.choices, a, inner)
 }
 
 // k records from i on: a list of arms, each with at least one action.
 #[cycle(arms_list_one)]
-fn arms(
-    fs: &[u8],
-    es: &[u8],
-    fp: &[u8],
-    ep: &[u8],
-    memo: &[usize],
-    acts: &[u8],
-    ap: &[u8],
-    ss: &[u8],
-    labels: &[u8],
-    kept: &[usize],
-    own: Owner,
-    k: usize,
-    i: usize,
-) -> Verdict
+fn arms(sections: &Sections<'_>, own: &Owner<'_>, k: usize, i: usize) -> Verdict
     requires { i + k ≤ 0xffffffff }
-    ensures { Lists fs.now es.now fp.now ep.now memo.now acts.now ap.now ss.now labels.now kept.now own.ops (λ d p w. arms_at d p own.state w k i) result }
+    ensures { ListsBy sections.now own.now (λ d p w. arms_at d p own.now.state w k i) result }
 {
     let mut all = operators::nothing();
     let mut left = k;
     let mut j = i;
+    // No `for`: a step goes past all actions of an arm.
     while 0 < left {
         left -= 1;
-        let n = conditionals::arm_size(actions::action_at(acts, j), left);
+        let n = conditionals::arm_size(actions::action_at(sections.actions, j), left);
         if n == 0 {
             return conditionals::no_continuation(all);
         }
         let q = j + 1;
-        let body = list(fs, es, fp, ep, memo, acts, ap, ss, labels, kept, own, n, q);
+        let body = list(sections, own, n, q);
         all = conditionals::arm(all, body);
         j = q + n;
         left -= n;

@@ -29,12 +29,10 @@ use Rattle.image_sections.specs.Declarations.{facility_in, kind_meant}
 use Rattle.judge_records.specs.Read.{facility_meant}
 use Rattle.judge_records.specs.declared.facilities.Facility as N
 use Rattle.text_words.specs.declared.Fault.{Fault}
-use Rattle.text_words.specs.declared.Judged as J
-use Rattle.text_words.specs.declared.Judged.TheVariants.{Refused}
-use Rattle.text_words.specs.Meaning.{faulted, judged, lesser}
+use Rattle.text_words.specs.Meaning.{faulted, lesser}
 use Rattle.judge_verdicts.proofs.VerdictLaws.{is-faulty}
-use Rattle.judge_verdicts.specs.declared.Verdict.{Verdict}
-use Rattle.judge_verdicts.specs.declared.Verdict.TheVariants.{Faulty}
+use Rattle.judge_verdicts.specs.Meaning.{Verdict}
+use Rattle.std.specs.Prelude.{Err}
 use Rattle.judge_verdicts.specs.Meaning.{recalled, seen, work_of}
 use Rattle.judge_verdicts.specs.Noted.{noted_from}
 use Rattle.judge_terms.specs.Shown.{Shown, worked}
@@ -134,10 +132,10 @@ unfolding least
 or_else_none d p [] y e f = f
 or_else_none d p (g ∷ gs) y e f = absurd (let z : ◌≡◌ {A = ℕ} 0 1 = cc in omega arith)
 
-pub or_else_some : (d : Description) (p : Places) (x y : List W.Fault) {a : J.Judged} (g : Fault) → a ≡ Refused g → judged a ≡ least x → judged a ≡ least (first_faults d p x y)
+pub or_else_some : (d : Description) (p : Places) (x y : List W.Fault) (g : Fault) → some (faulted g) ≡ least x → some (faulted g) ≡ least (first_faults d p x y)
 unfolding least
-or_else_some d p [] y g q e = absurd (let w : some (faulted g) ≡ none = sym (ap judged q) ∙ e in let z : ◌≡◌ {A = ℕ} 0 1 = cc in omega arith)
-or_else_some d p (h ∷ hs) y g q e = e
+or_else_some d p [] y g e = absurd (let z : ◌≡◌ {A = ℕ} 0 1 = cc in omega arith)
+or_else_some d p (h ∷ hs) y g e = e
 
 -- ---- The loop: what is found so far and what is left make the whole.
 
@@ -192,6 +190,6 @@ module _ {facs exprs marks places : List ℕ} {d : Description} {p : Places} (s 
           rw q (here (omega arith) ∙ ap work_of (e ∙ ap (λ (b : Bool). seen (cond b (terminal_judged d p n) (L.worth 1 0 0))) k) ∙ worked-seen (terminal_judged d p n))
       by-test i l m c false t = let q : i < n = omega (arith, eqb-false i n t) in others i q l ∙ r.terminal i l q c
 
-pub same-faulty : (d : Description) (p : Places) (l : ℕ) (q : W.Position) (j : Judged) (g : Fault) → Faulty g ≡ seen j → some (faulted g) ≡ least (same_length d p l q j)
+pub same-faulty : (d : Description) (p : Places) (l : ℕ) (q : W.Position) (j : Judged) (g : Fault) → Err g ≡ seen j → some (faulted g) ≡ least (same_length d p l q j)
 unfolding least
 same-faulty d p l q j g e = is-faulty j g (λ k. some (faulted g) ≡ least (same_length d p l q k)) e (λ f fs m. ap (λ (x : Fault). some (faulted x)) m)

@@ -17,7 +17,7 @@ use Rattle.language.specs.declared.refusals.Refusal.TheVariants.{BadName, NoCont
 use Rattle.language.specs.Rules.{operations_faults}
 use Rattle.language.specs.WordStage.{least}
 use Rattle.language.specs.Words as W
-use Rattle.judge_verdicts.specs.declared.Verdict.{Verdict}
+use Rattle.judge_verdicts.specs.Meaning.{Verdict}
 use Rattle.judge_verdicts.specs.Meaning.{recalled, seen, work_of}
 use Rattle.text_words.proofs.Least.{least-both, lesser-all, lesser-none}
 use Rattle.text_words.specs.Meaning.{lesser}

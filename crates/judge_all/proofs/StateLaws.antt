@@ -1,5 +1,5 @@
 -- States one after the other.
-use mathlib.Core.Bool.{Bool, true, false, cond}
+use mathlib.Core.Bool.{Bool, true, false, cond, false≢true}
 use mathlib.Core.List.{List, [], ◌∷◌, ◌++◌}
 use mathlib.Core.Option.{Option, none, some}
 use mathlib.Core.Path.{◌≡◌, refl, sym, ap, ◌∙◌}
@@ -20,17 +20,17 @@ use Rattle.language.specs.WordStage.{least}
 use Rattle.language.specs.Words as W
 use Rattle.text_words.proofs.Least.{least-both, lesser-all, lesser-none}
 use Rattle.text_words.specs.declared.Fault.{Fault}
-use Rattle.text_words.specs.declared.Judged as J
-use Rattle.text_words.specs.declared.Judged.TheVariants.{Refused}
-use Rattle.text_words.specs.Meaning.{faulted, judged, lesser}
+use Rattle.text_words.specs.Meaning.{faulted, lesser}
 use Rattle.image_records.specs.References.{widened_node}
+use Rattle.image_sections.specs.Declarations.{value_meant}
 use Rattle.judge_records.specs.Noted.{large_no}
 use Rattle.judge_verdicts.proofs.VerdictLaws.{is-faulty}
-use Rattle.judge_verdicts.specs.declared.Verdict.TheVariants.{Faulty}
+use Rattle.std.specs.Prelude as C
+use Rattle.std.specs.Prelude.{Err}
+use Rattle.std.specs.Option.{is_some}
 use Rattle.judge_verdicts.specs.Meaning.{seen}
 use Rattle.judge_terms.specs.Shown.{node_noted}
 use Rattle.judge_actions.specs.Listed.{list_at}
-use Rattle.judge_all.proofs.ValueLaws.{wanted-none, wanted-some}
 use Rattle.judge_all.specs.Stated.{Stated, Valued, values_before, wanted_length}
 
 -- ---- What is shown of values.
@@ -62,17 +62,19 @@ valued-of {exprs = exprs} {places = places} s = record {
 -- ---- One state.
 
 module _ (d : Description) (p : Places) where
-  module _ (l : ℕ) (v : Option ℕ) where
-    pub there-unwanted : l ≡ 0 → true ≡ cond (missing d p (wanted_length l) v) false true
-    there-unwanted e = rw (wanted-none l e)
+  -- A value is missing where one is wanted and there is none.
+  pub there-unwanted : (w : C.Option ℕ) (v : Option ℕ) → is_some w ≡ false → true ≡ cond (missing d p (wanted_length w) v) false true
+  unfolding wanted_length
+  there-unwanted C.None v e = refl
+  there-unwanted (C.Some l) v e = absurd (false≢true (sym e))
 
-    pub there-some : (l ≡ 0 → ⊥) → (n : ℕ) → some n ≡ v → true ≡ cond (missing d p (wanted_length l) v) false true
-    there-some h n e = rw (wanted-some l h, ← e)
+  pub there-wanted : (w v : C.Option ℕ) → is_some w ≡ true → is_some v ≡ cond (missing d p (wanted_length w) (value_meant v)) false true
+  unfolding wanted_length
+  there-wanted C.None v e = absurd (false≢true e)
+  there-wanted (C.Some l) C.None e = refl
+  there-wanted (C.Some l) (C.Some k) e = refl
 
-    pub there-none : (l ≡ 0 → ⊥) → none ≡ v → false ≡ cond (missing d p (wanted_length l) v) false true
-    there-none h e = rw (wanted-some l h, ← e)
-
-  pub own-faulty : (l : Option ℕ) (q : W.Position) (s : State) (j : Judged) (g : Fault) → Faulty g ≡ seen j → some (faulted g) ≡ least (own_faults d p l q s j)
+  pub own-faulty : (l : Option ℕ) (q : W.Position) (s : State) (j : Judged) (g : Fault) → Err g ≡ seen j → some (faulted g) ≡ least (own_faults d p l q s j)
   unfolding least
   own-faulty l q s j g e = is-faulty j g (λ k. some (faulted g) ≡ least (own_faults d p l q s k)) e (λ f fs m. ap (λ (x : Fault). some (faulted x)) m)
 
@@ -93,11 +95,11 @@ unfolding least
 value-passed [] y z e f = f
 value-passed (g ∷ gs) y z e f = absurd (let w : ◌≡◌ {A = ℕ} 0 1 = cc in omega arith)
 
-pub value-refused : (x y z : List W.Fault) {a : J.Judged} {o : Option W.Fault} (g : Fault) → a ≡ Refused g → judged a ≡ least x → o ≡ least (x ++ z)
+pub value-refused : (x y z : List W.Fault) {o : Option W.Fault} (g : Fault) → some (faulted g) ≡ least x → o ≡ least (x ++ z)
     → o ≡ least (cond (eqb (length x) 0) y (x ++ z))
 unfolding least
-value-refused [] y z g q e w = absurd (let u : some (faulted g) ≡ none = sym (ap judged q) ∙ e in let t : ◌≡◌ {A = ℕ} 0 1 = cc in omega arith)
-value-refused (h ∷ hs) y z g q e w =
+value-refused [] y z g e w = absurd (let t : ◌≡◌ {A = ℕ} 0 1 = cc in omega arith)
+value-refused (h ∷ hs) y z g e w =
     w ∙ ap (λ (b : Bool). least (cond b y ((h ∷ hs) ++ z))) (sym (ne_eqb (suc (length hs)) 0 (λ (t : suc (length hs) ≡ 0). omega arith)))
 
 -- ---- The rest of them.

@@ -1,12 +1,13 @@
 -- Values of states: their numbers, and those borne before.
-use mathlib.Core.Bool.{Bool, true, false, cond, ◌||◌}
+use mathlib.Core.Bool.{Bool, true, false, cond, not, ◌||◌}
 use mathlib.Core.List.{List, []}
 use mathlib.Core.Logic.{◌⊎◌, inl, inr, ⊎_elim}
 use mathlib.Core.Option.{Option, none, some}
+use Rattle.std.specs.Prelude as C
 use mathlib.Core.Path.{◌≡◌, refl, sym, ap, ◌∙◌}
 use native.Mathlib.Numerals.{add-one}
 use native.Mathlib.Omega.{arith}
-use Prim.Native.Nat.{ℕ, zero, suc, ◌+◌, ◌-◌, ◌*◌, ◌/◌, ◌<◌, ◌≤◌}
+use Prim.Native.Nat.{ℕ, zero, suc, ◌+◌, ◌*◌, ◌/◌, ◌≤◌}
 use borrow.Author.Tests.{eq-eqb, eqb-false, eqb-true, ne_eqb}
 use lib.Dec.{eqb}
 use lib.ListN.{get_or}
@@ -77,6 +78,10 @@ zero-second a b e = ap (eqb a) (sym e)
 
 -- ---- Values borne before.
 
+or-true : (b : Bool) → (b || true) ≡ true
+or-true true = refl
+or-true false = refl
+
 module _ (d : Description) (p : Places) (v n : ℕ) where
   pub bears-some : (b : ℕ) (r : Bool) → some b ≡ (state_at d n).value → r ≡ eqb v (constant_value (node_at d b)).number
       → R.repeated d p v (values_before d p (n + 1)) ≡ (r || R.repeated d p v (values_before d p n))
@@ -87,39 +92,47 @@ module _ (d : Description) (p : Places) (v n : ℕ) where
   unfolding values_before R.repeated
   bears-none e = rw (add-one n, ← e)
 
-pub one_less : (f : ℕ → Bool) (n : ℕ) {r b whole : Bool} → 0 < n → f (n - 1 + 1) ≡ (r || f (n - 1)) → r ≡ b → f n ≡ whole → (b || f (n - 1)) ≡ whole
-one_less f n h e q w =
-    let z : n - 1 + 1 ≡ n = omega arith in
-    sym (ap (λ (t : Bool). t || f (n - 1)) q) ∙ sym e ∙ ap f z ∙ w
+-- A number that is borne stays so, whatever states follow.
+module _ (d : Description) (p : Places) (v : ℕ) where
+  abbrev pub borne_by : ℕ → Bool
+  borne_by n = R.repeated d p v (values_before d p n)
 
-pub none_left : (d : Description) (p : Places) (v n : ℕ) {whole : Bool} → n ≤ 0 → R.repeated d p v (values_before d p n) ≡ whole → false ≡ whole
-unfolding values_before R.repeated
-none_left d p v zero h w = w
-none_left d p v (suc n) h w = absurd (omega arith)
+  one-more : (n : ℕ) (o : Option ℕ) → o ≡ (state_at d n).value → borne_by n ≡ true → borne_by (n + 1) ≡ true
+  one-more n none q e = bears-none d p v n q ∙ e
+  one-more n (some b) q e = bears-some d p v n b _ q refl ∙ rw (e, or-true (eqb v (constant_value (node_at d b)).number))
+
+  pub still-borne : (n m : ℕ) → m ≤ n → borne_by m ≡ true → borne_by n ≡ true
+  still-borne zero m h e = let z : m ≡ 0 = omega arith in rw z at e
+  still-borne (suc n) m h e = by-test (eqb m (suc n)) refl (λ g. still-borne n m g e)
+    where
+      by-test : (b : Bool) → eqb m (suc n) ≡ b → (m ≤ n → borne_by n ≡ true) → borne_by (suc n) ≡ true
+      by-test true t more = let z : m ≡ suc n = eqb-true m (suc n) t in rw z at e
+      by-test false t more = rw (add-one n) at (one-more n (state_at d n).value refl (more (omega (arith, eqb-false m (suc n) t))))
+
+  pub none-borne : borne_by 0 ≡ false
+  unfolding values_before R.repeated
+  none-borne = refl
 
 -- ---- The length that is wanted.
 
-pub wanted-none : (l : ℕ) → l ≡ 0 → wanted_length l ≡ none
-unfolding wanted_length
-wanted-none zero e = refl
-wanted-none (suc l) e = absurd (omega arith)
+not-is : (b : Bool) → not b ≡ cond b false true
+not-is true = refl
+not-is false = refl
 
-pub wanted-some : (l : ℕ) → (l ≡ 0 → ⊥) → wanted_length l ≡ some l
-unfolding wanted_length
-wanted-some zero h = absurd (h refl)
-wanted-some (suc l) h = refl
+module _ (d : Description) (p : Places) (before : List ℕ) (a : ℕ) {w : C.Option ℕ} where
+  pub unwanted : w ≡ C.None → false ≡ right_value d p (wanted_length w) before a
+  unfolding wanted_length
+  unwanted e = rw e
 
-module _ (d : Description) (p : Places) (l : ℕ) (before : List ℕ) (a : ℕ) where
-  pub unwanted : l ≡ 0 → false ≡ right_value d p (wanted_length l) before a
-  unwanted e = sym (ap (λ (o : Option ℕ). right_value d p o before a) (wanted-none l e))
-
-  module _ (h : l ≡ 0 → ⊥) where
-    pub wrong-length : ((constant_value (node_at d a)).length ≡ l → ⊥) → false ≡ right_value d p (wanted_length l) before a
-    wrong-length g = rw (wanted-some l h, ne_eqb (constant_value (node_at d a)).length l g)
+  module _ (l : ℕ) (h : w ≡ C.Some l) where
+    pub wrong-length : ((constant_value (node_at d a)).length ≡ l → ⊥) → false ≡ right_value d p (wanted_length w) before a
+    unfolding wanted_length
+    wrong-length g = rw (h, ne_eqb (constant_value (node_at d a)).length l g)
 
     pub right-length : {b : Bool} → (constant_value (node_at d a)).length ≡ l → R.repeated d p (constant_value (node_at d a)).number before ≡ b
-        → cond b false true ≡ right_value d p (wanted_length l) before a
-    right-length g e = rw (wanted-some l h, eq-eqb (constant_value (node_at d a)).length l g, e)
+        → not b ≡ right_value d p (wanted_length w) before a
+    unfolding wanted_length
+    right-length {b} g e = rw (h, eq-eqb (constant_value (node_at d a)).length l g, e) (not-is b)
 
 module _ (d : Description) (p : Places) (before : List ℕ) (q : W.Position) where
   pub no-value-faults : (l : Option ℕ) → [] ≡ R.value_faults d p l before q none

@@ -1,33 +1,23 @@
 -- The length of the first sequencing register.
-use mathlib.Core.Bool.{Bool, true, false, cond}
+use mathlib.Core.Bool.{Bool, true, false}
 use mathlib.Core.List.{List}
 use mathlib.Core.Option.{Option, none, some}
 use mathlib.Core.Path.{◌≡◌, refl, sym, ap, ◌∙◌}
 use native.Mathlib.Numerals.{add-one}
 use native.Mathlib.Omega.{arith}
-use Prim.Native.Nat.{ℕ, ◌+◌, ◌-◌, ◌/◌, ◌<◌, ◌≤◌}
-use lib.Dec.{eqb, leb}
+use Prim.Native.Nat.{ℕ, ◌+◌, ◌/◌, ◌<◌, ◌≤◌}
 use lib.ListN.{drop, drop_of_length-le, length}
 use lib.Seq.{drop-cons}
 use Rattle.image_sections.specs.Declarations.{kind_meant}
-use Rattle.language.specs.Description.{Description, Facility, Places, facility_at, is_sequencing, no_facility, sequencing_from, sequencing_of, span_of, word_length}
+use Rattle.language.specs.Description.{Description, Facility, Places, facility_at, is_sequencing, no_facility, sequencing_from, sequencing_of, word_length}
 use Rattle.language.specs.Rules.{length_if_any, sequencing_length}
 use Rattle.language.specs.Tree.{Name}
 use Rattle.judge_records.specs.Read.{FacilityRead, facility_meant}
 use Rattle.judge_records.specs.declared.facilities.Facility as N
-use Rattle.judge_all.proofs.ValueLaws.{wanted-none, wanted-some}
+use Rattle.std.specs.Prelude as C
 use Rattle.judge_all.specs.InSlices.{Declared}
 use Rattle.judge_all.specs.Stated.{wanted_length}
 use Rattle.language.specs.Encode.{facility_size}
-
-some-length : (x : Facility) → word_length x ≡ 0 → ⊥
-unfolding word_length span_of
-some-length x = by-test (eqb x.dimensions 0) (leb x.bits.first x.bits.last)
-  where
-    by-test : (a b : Bool) → cond a 1 (cond b (x.bits.last - x.bits.first + 1) (x.bits.first - x.bits.last + 1)) ≡ 0 → ⊥
-    by-test true b e = omega arith
-    by-test false true e = omega arith
-    by-test false false e = omega arith
 
 module _ (d : Description) where
   abbrev pub from : ℕ → Option ℕ
@@ -57,12 +47,12 @@ module _ {facs exprs marks places : List ℕ} {d : Description} {p : Places} (s 
     pub not-here : {whole : Option ℕ} → b ≡ false → from d n ≡ whole → from d (n + 1) ≡ whole
     not-here e w = sym (next-from d n (omega (arith, s.count)) (kind-here ∙ e)) ∙ w
 
-    pub found_here : (l : ℕ) → b ≡ true → ((name : Name) → l ≡ word_length (facility_meant name f)) → from d n ≡ sequencing_of d → wanted_length l ≡ sequencing_length d p
-    unfolding sequencing_length
+    pub found_here : (l : ℕ) → b ≡ true → ((name : Name) → l ≡ word_length (facility_meant name f)) → from d n ≡ sequencing_of d → wanted_length (C.Some l) ≡ sequencing_length d p
+    unfolding sequencing_length wanted_length
     found_here l e m w =
         let k : l ≡ word_length (facility_at d n) = m (facility_at d n).name ∙ ap word_length (s.facility n h f g) in
-        wanted-some l (λ z. some-length (facility_at d n) (sym k ∙ z)) ∙ ap some k ∙ ap (length_if_any d p) (sym (here-from d n (omega (arith, s.count)) (kind-here ∙ e)) ∙ w)
+        ap some k ∙ ap (length_if_any d p) (sym (here-from d n (omega (arith, s.count)) (kind-here ∙ e)) ∙ w)
 
-  pub found_nowhere : length facs / facility_size ≤ n → from d n ≡ sequencing_of d → wanted_length 0 ≡ sequencing_length d p
-  unfolding sequencing_length
-  found_nowhere h w = wanted-none 0 refl ∙ ap (length_if_any d p) (sym (none_from d n (omega (arith, s.count))) ∙ w)
+  pub found_nowhere : length facs / facility_size ≤ n → from d n ≡ sequencing_of d → wanted_length C.None ≡ sequencing_length d p
+  unfolding sequencing_length wanted_length
+  found_nowhere h w = ap (length_if_any d p) (sym (none_from d n (omega (arith, s.count))) ∙ w)

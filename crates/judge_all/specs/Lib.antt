@@ -1,2 +1,3 @@
+pub mod BySections
 pub mod InSlices
 pub mod Stated

@@ -1,6 +1,7 @@
 -- What slices show of a description and its places, as far as states need it.
 use Rattle.std.specs.Prelude.{Bool, true, false, cond, List, [], ◌≡◌, ℕ, zero, suc, ◌/◌, eqb, length}
 use Rattle.std.proofs.Math.Option.{Option, none, some}
+use Rattle.std.specs.Prelude as C
 use Rattle.image_sections.specs.Declarations.{StateRead, state_meant}
 use Rattle.image_sections.specs.declared.states.StateRecord.{StateRecord}
 use Rattle.language.specs.ActionRules.{operation_below, run_judged}
@@ -13,10 +14,10 @@ use Rattle.judge_records.specs.Read.{place_of}
 use Rattle.judge_all.specs.InSlices.{Acting}
 use Rattle.language.specs.Tests.{both}
 
--- The length of the sequencing register; 0 stands for none.
-unfoldable pub wanted_length : ℕ → Option ℕ
-wanted_length zero = none
-wanted_length (suc l) = some (suc l)
+-- The length of the sequencing register, if there is one.
+unfoldable pub wanted_length : C.Option ℕ → Option ℕ
+wanted_length C.None = none
+wanted_length (C.Some l) = some l
 
 -- The values that the first n states bear.
 unfoldable pub values_before : Description → Places → ℕ → List ℕ

@@ -38,12 +38,10 @@ fn bound_fault(n: u32, at: Position) -> Judged
 pub fn bounds_faults(fp: &[u8], n: usize, f: Facility) -> Judged
     ensures { (d : Description) (p : Places) (name : Name) → facility_place p n ≡ facility_places_of fp.now n → judged result ≡ least (bounds_faults d p (facility_meant name f) (facility_place p n)) }
 {
-    let w = f.words;
-    let b = f.bits;
-    let one = bound_fault(w.first, places::of_facility(fp, n, 1));
-    let two = bound_fault(w.last, places::of_facility(fp, n, 2));
-    let three = bound_fault(b.first, places::of_facility(fp, n, 3));
-    let four = bound_fault(b.last, places::of_facility(fp, n, 4));
+    let one = bound_fault(f.words.first, places::of_facility(fp, n, 1));
+    let two = bound_fault(f.words.last, places::of_facility(fp, n, 2));
+    let three = bound_fault(f.bits.first, places::of_facility(fp, n, 3));
+    let four = bound_fault(f.bits.last, places::of_facility(fp, n, 4));
     faults::also(one, faults::also(two, faults::also(three, four)))
 }
 
@@ -51,8 +49,7 @@ pub fn bounds_faults(fp: &[u8], n: usize, f: Facility) -> Judged
 fn sequencing_right(another: bool, f: Facility) -> bool
     ensures { (d : Description) (p : Places) (name : Name) → result ≡ cond (is_sequencing (facility_meant name f).kind) (sequencing_right d p another (facility_meant name f)) true }
 {
-    let kind = f.kind;
-    if !kinds::is_sequencing(kind) {
+    if !kinds::is_sequencing(f.kind) {
         return true;
     }
     if another {
@@ -68,20 +65,16 @@ fn sequencing_right(another: bool, f: Facility) -> bool
 fn same_length(length: u64, at: Position, v: Verdict) -> Judged
     ensures { (d : Description) (p : Places) (q : W.Position) (j : L.Judged) → positioned at ≡ q → v ≡ seen j → judged result ≡ least (same_length d p length q j) }
 {
-    match v {
-        Verdict::Fine(w) => faults::unless(length == w.length as u64, at, Refusal::BadLength),
-        Verdict::Faulty(f) => Judged::Refused(f),
-    }
+    let w = v?;
+    faults::unless(length == w.length as u64, at, Refusal::BadLength)
 }
 
 // Faults, and else what comes after them.
 pub fn or_else(a: Judged, b: Judged) -> Judged
     ensures { (d : Description) (p : Places) (x y : List W.Fault) → judged a ≡ least x → judged b ≡ least y → judged result ≡ least (first_faults d p x y) }
 {
-    match a {
-        Judged::Passed => b,
-        Judged::Refused(_) => a,
-    }
+    a?;
+    b
 }
 
 // The length of a computed terminal, against that of its expression.

@@ -9,13 +9,14 @@ ghost use Rattle.judge_records.specs.Read.{FacilityRead, facility_meant};
 ghost use Rattle.judge_verdicts.specs.Meaning.{seen};
 ghost use Rattle.judge_verdicts.specs.Noted.{noted_from};
 ghost use Rattle.text_words.specs.Meaning.{judged};
-ghost use Rattle.judge_all.specs.InSlices.{Declared, Remembered, facility_places_of};
+ghost use Rattle.judge_all.specs.InSlices.{Remembered, facility_places_of};
+ghost use Rattle.judge_all.specs.BySections.{DeclaredBy};
 ghost use Rattle.language.specs.Encode.{facility_size};
 
 use crate::{bounds, memory};
 use image_records::record_sizes;
 use image_sections::kinds;
-use judge_expressions::{filled, walk};
+use judge_expressions::{Records, filled, walk};
 use judge_records::facilities;
 use judge_records::facilities::Facility;
 use judge_terms::operators;
@@ -31,34 +32,20 @@ pub struct Terminals {
 
 // The record after a terminal's expression, which is the last of its own.
 fn after(f: Facility, next: u16) -> u16 {
-    let kind = f.kind;
-    if !kinds::is_computed(kind) {
+    if !kinds::is_computed(f.kind) {
         return next;
     }
-    if f.expression == u16::MAX {
-        return next;
-    }
-    f.expression + 1
+    f.expression.checked_add(1).unwrap_or(next)
 }
 
 // The expression of facility n, if it is a computed terminal; its records are those from `next` on.
-fn terminal(
-    fs: &[u8],
-    es: &[u8],
-    fp: &[u8],
-    ep: &[u8],
-    memo: &mut [usize],
-    n: usize,
-    f: Facility,
-    next: u16,
-) -> Verdict
-    requires { (n < length fs.now / facility_size) × FacilityRead fs.now fp.now n f × (noted_from ≤ length memo.old) }
-    ensures { (length memo.new ≡ length memo.old) × (take noted_from memo.new ≡ take noted_from memo.old) × ((d : Description) (p : Places) → Declared fs.now es.now fp.now ep.now d p → Remembered fs.now memo.old n d p → result ≡ seen (cond (is_computed (facility_at d n).kind) (terminal_judged d p n) (L.worth 1 0 0))) }
+fn terminal(records: &Records<'_>, memo: &mut [usize], n: usize, f: Facility, next: u16) -> Verdict
+    requires { (n < length records.now.facilities.now / facility_size) × FacilityRead records.now.facilities.now records.now.facility_places.now n f × (noted_from ≤ length memo.old) }
+    ensures { (length memo.new ≡ length memo.old) × (take noted_from memo.new ≡ take noted_from memo.old) × ((d : Description) (p : Places) → DeclaredBy records.now d p → Remembered records.now.facilities.now memo.old n d p → result ≡ seen (cond (is_computed (facility_at d n).kind) (terminal_judged d p n) (L.worth 1 0 0))) }
 {
-    let kind = f.kind;
-    if kinds::is_computed(kind) {
-        let end = filled::fill(fs, es, fp, ep, memo, n, next, f.expression);
-        return walk::expression(fs, es, fp, ep, &memo[0..end], n, f.expression);
+    if kinds::is_computed(f.kind) {
+        let end = filled::fill(records, memo, n, next, f.expression);
+        return walk::expression(records, &memo[0..end], n, f.expression);
     }
     operators::nothing()
 }
@@ -67,41 +54,36 @@ fn terminal(
 fn one(fp: &[u8], n: usize, another: bool, before: u32, f: Facility, v: Verdict) -> Judged
     ensures { (d : Description) (p : Places) → facility_place p n ≡ facility_places_of fp.now n → facility_meant (facility_at d n).name f ≡ facility_at d n → v ≡ seen (cond (is_computed (facility_at d n).kind) (terminal_judged d p n) (L.worth 1 0 0)) → judged result ≡ least (first_faults d p (bounds_faults d p (facility_at d n) (facility_place p n)) (facility_faults d p n another before (facility_at d n) (facility_place p n))) }
 {
-    let kind = f.kind;
     let own = bounds::bounds_faults(fp, n, f);
     let after = memory::place_after(before, f);
-    if kinds::is_computed(kind) {
+    if kinds::is_computed(f.kind) {
         let terminal = bounds::terminal_faults(fp, n, f, v);
         return bounds::or_else(
             own,
             bounds::facility_faults(fp, n, another, after, f, terminal),
         );
     }
-    let all = bounds::facility_faults(fp, n, another, after, f, Judged::Passed);
+    let all = bounds::facility_faults(fp, n, another, after, f, Ok(()));
     bounds::or_else(own, all)
 }
 
 // All facilities; the verdicts on computed terminals are kept.
-pub fn facilities(fs: &[u8], es: &[u8], fp: &[u8], ep: &[u8], memo: &mut [usize]) -> Terminals
+pub fn facilities(records: &Records<'_>, memo: &mut [usize]) -> Terminals
     requires { noted_from ≤ length memo.old }
-    ensures { (length memo.new ≡ length memo.old) × ((d : Description) (p : Places) → Declared fs.now es.now fp.now ep.now d p → (judged result.faults ≡ least (facilities_faults d p 0 false 0 d.facilities)) × Remembered fs.now memo.new (length fs.now / facility_size) d p) }
+    ensures { (length memo.new ≡ length memo.old) × ((d : Description) (p : Places) → DeclaredBy records.now d p → (judged result.faults ≡ least (facilities_faults d p 0 false 0 d.facilities)) × Remembered records.now.facilities.now memo.new (length records.now.facilities.now / facility_size) d p) }
 {
-    let mut n = 0;
     let mut another = false;
     let mut before: u32 = 0;
     let mut next: u16 = 0;
-    let mut all = Judged::Passed;
-    while n < fs.len() / record_sizes::FACILITY {
-        let k = n;
-        n += 1;
-        let f = facilities::facility_at(fs, fp, k);
-        let kind = f.kind;
-        let v = terminal(fs, es, fp, ep, memo, k, f, next);
+    let mut all = Ok(());
+    for n in 0..records.facilities.len() / record_sizes::FACILITY {
+        let f = facilities::facility_at(records.facilities, records.facility_places, n);
+        let v = terminal(records, memo, n, f, next);
         next = after(f, next);
-        all = faults::earlier(all, one(fp, k, another, before, f, v));
-        another = another | kinds::is_sequencing(kind);
+        all = faults::earlier(all, one(records.facility_places, n, another, before, f, v));
+        another = another | kinds::is_sequencing(f.kind);
         before = memory::place_after(before, f);
-        memory::remember(memo, k, v);
+        memory::remember(memo, n, v);
     }
     Terminals { faults: all, next }
 }

@@ -11,19 +11,33 @@ pub mod wanted;
 
 ghost use Rattle.std.specs.Prelude.{◌≡◌, ◌+◌, ◌/◌, ◌≤◌, drop, length};
 ghost use Rattle.language.specs.Decode.{names_length};
-ghost use Rattle.language.specs.Encode.{Sections, facility_size, operation_size};
-ghost use Rattle.language.specs.Rules as L;
-ghost use Rattle.language.specs.WordStage.{least};
-ghost use Rattle.judge_records.specs.Noted.{Beside, noted_description, places_in};
+ghost use Rattle.language.specs.Encode.{facility_size, operation_size};
+ghost use Rattle.judge_all.specs.BySections.{LeastBy};
 ghost use Rattle.judge_verdicts.specs.Noted.{noted_from};
-ghost use Rattle.text_words.specs.Meaning.{judged};
 
 use image_records::{bytes, record_sizes};
 use image_sections::names as parts;
-use judge_expressions::filled;
+use judge_actions::Sections;
+use judge_expressions::{Records, filled};
 use judge_names::judged;
 use judge_verdicts::{faults, noted};
 use text_words::Judged;
+
+// A description in slices: its sections, and the places beside each. An image has no places.
+#[derive(Clone, Copy)]
+pub struct Described<'a> {
+    pub facilities: &'a [u8],
+    pub operations: &'a [u8],
+    pub expressions: &'a [u8],
+    pub actions: &'a [u8],
+    pub states: &'a [u8],
+    pub names: &'a [u8],
+    pub facility_places: &'a [u8],
+    pub operation_places: &'a [u8],
+    pub expression_places: &'a [u8],
+    pub action_places: &'a [u8],
+    pub state_places: &'a [u8],
+}
 
 // Two numbers for each facility or operation.
 const KEPT: usize = noted::FIRST;
@@ -56,66 +70,67 @@ fn labels_of<'a>(fs: &[u8], os: &[u8], ns: &'a [u8]) -> &'a [u8]
 
 // How many records of expressions there are, as far as a record can name them.
 fn expressions(es: &[u8]) -> u16 {
-    let n = es.len() / record_sizes::NODE;
-    if n < u16::MAX as usize {
-        n as u16
-    } else {
-        u16::MAX
-    }
+    (es.len() / record_sizes::NODE).min(u16::MAX as usize) as u16
 }
 
 // Names, facilities, operations and states; each computed terminal, each operation and each expression is judged once, where `memo` has room for it.
-fn least_in(
-    fs: &[u8],
-    os: &[u8],
-    es: &[u8],
-    acts: &[u8],
-    ss: &[u8],
-    ns: &[u8],
-    fp: &[u8],
-    op: &[u8],
-    ep: &[u8],
-    ap: &[u8],
-    sp: &[u8],
-    memo: &mut [usize],
-) -> Judged
-    requires { (length fs.now / facility_size ≤ 65536) × (length os.now / operation_size ≤ 256) × (noted_from ≤ length memo.old) }
-    ensures { (x : Sections) (q : Beside) → fs.now ≡ x.facilities → os.now ≡ x.operations → es.now ≡ x.expressions → acts.now ≡ x.actions → ss.now ≡ x.states → ns.now ≡ x.names → fp.now ≡ q.facilities → op.now ≡ q.operations → ep.now ≡ q.expressions → ap.now ≡ q.actions → sp.now ≡ q.states → judged result ≡ least (L.faults (noted_description x q) (places_in q)) }
+fn least_in(described: &Described<'_>, memo: &mut [usize]) -> Judged
+    requires { (length described.now.facilities.now / facility_size ≤ 65536) × (length described.now.operations.now / operation_size ≤ 256) × (noted_from ≤ length memo.old) }
+    ensures { LeastBy described.now result }
 {
     let mut kept: [usize; KEPT] = [0; KEPT];
-    let labels = labels_of(fs, os, ns);
-    let one = judged::names(fs, os, ss, ns, fp, op, sp);
-    let two = facilities::facilities(fs, es, fp, ep, memo);
-    let known = fs.len() / record_sizes::FACILITY;
-    let end = filled::fill(fs, es, fp, ep, memo, known, two.next, expressions(es));
-    let noted = &memo[0..end];
-    let three = operations::operations(fs, es, fp, ep, noted, acts, ap, ss, labels, os, &mut kept);
-    let four = states::states(fs, es, fp, ep, noted, acts, ap, ss, labels, os, &kept, sp);
-    let declared = two.faults;
-    faults::also(one, faults::also(declared, faults::also(three, four)))
+    let labels = labels_of(described.facilities, described.operations, described.names);
+    let one = judged::names(
+        described.facilities,
+        described.operations,
+        described.states,
+        described.names,
+        described.facility_places,
+        described.operation_places,
+        described.state_places,
+    );
+    let records = Records {
+        facilities: described.facilities,
+        expressions: described.expressions,
+        facility_places: described.facility_places,
+        expression_places: described.expression_places,
+    };
+    let two = facilities::facilities(&records, memo);
+    let known = described.facilities.len() / record_sizes::FACILITY;
+    let end = filled::fill(
+        &records,
+        memo,
+        known,
+        two.next,
+        expressions(described.expressions),
+    );
+    let sections = Sections {
+        records,
+        memo: &memo[0..end],
+        actions: described.actions,
+        action_places: described.action_places,
+        states: described.states,
+        labels,
+    };
+    let three = operations::operations(&sections, described.operations, &mut kept);
+    let four = states::states(
+        &sections,
+        described.operations,
+        &kept,
+        described.state_places,
+    );
+    faults::also(one, faults::also(two.faults, faults::also(three, four)))
 }
 
 // The least of all faults. What is noted takes less room where there are few expressions, since all of it is cleared first.
-pub fn least_fault(
-    fs: &[u8],
-    os: &[u8],
-    es: &[u8],
-    acts: &[u8],
-    ss: &[u8],
-    ns: &[u8],
-    fp: &[u8],
-    op: &[u8],
-    ep: &[u8],
-    ap: &[u8],
-    sp: &[u8],
-) -> Judged
-    requires { (length fs.now / facility_size ≤ 65536) × (length os.now / operation_size ≤ 256) }
-    ensures { (x : Sections) (q : Beside) → fs.now ≡ x.facilities → os.now ≡ x.operations → es.now ≡ x.expressions → acts.now ≡ x.actions → ss.now ≡ x.states → ns.now ≡ x.names → fp.now ≡ q.facilities → op.now ≡ q.operations → ep.now ≡ q.expressions → ap.now ≡ q.actions → sp.now ≡ q.states → judged result ≡ least (L.faults (noted_description x q) (places_in q)) }
+pub fn least_fault(described: &Described<'_>) -> Judged
+    requires { (length described.now.facilities.now / facility_size ≤ 65536) × (length described.now.operations.now / operation_size ≤ 256) }
+    ensures { LeastBy described.now result }
 {
-    if es.len() / record_sizes::NODE <= FEW {
+    if described.expressions.len() / record_sizes::NODE <= FEW {
         let mut memo: [usize; KEPT + FEW] = [0; KEPT + FEW];
-        return least_in(fs, os, es, acts, ss, ns, fp, op, ep, ap, sp, &mut memo);
+        return least_in(described, &mut memo);
     }
     let mut memo: [usize; KEPT + MOST] = [0; KEPT + MOST];
-    least_in(fs, os, es, acts, ss, ns, fp, op, ep, ap, sp, &mut memo)
+    least_in(described, &mut memo)
 }

@@ -8,35 +8,23 @@ ghost use Rattle.language.specs.WordStage.{least};
 ghost use Rattle.judge_verdicts.specs.Meaning.{seen};
 ghost use Rattle.judge_verdicts.specs.Noted.{noted_from};
 ghost use Rattle.text_words.specs.Meaning.{judged};
-ghost use Rattle.judge_all.specs.InSlices.{Acting, Performed};
+ghost use Rattle.judge_all.specs.InSlices.{Performed};
+ghost use Rattle.judge_all.specs.BySections.{ActingBy};
 ghost use Rattle.language.specs.Encode.{operation_size};
 
 use crate::memory;
 use image_records::record_sizes;
 use image_sections::runs::Run;
-use judge_actions::{Owner, walk};
+use judge_actions::{Owner, Sections, walk};
 use judge_records::places;
 use judge_verdicts::Verdict;
 use language::refusals::Refusal;
 use text_words::{Judged, faults};
 
 // Operation k, which has this body.
-fn operation(
-    fs: &[u8],
-    es: &[u8],
-    fp: &[u8],
-    ep: &[u8],
-    memo: &[usize],
-    acts: &[u8],
-    ap: &[u8],
-    ss: &[u8],
-    labels: &[u8],
-    kept: &[usize],
-    k: usize,
-    body: Run,
-) -> Verdict
+fn operation(sections: &Sections<'_>, kept: &[usize], k: usize, body: Run) -> Verdict
     requires { k ≤ 256 }
-    ensures { (d : Description) (p : Places) (os : List ℕ) → Acting fs.now es.now fp.now ep.now memo.now acts.now ap.now ss.now labels.now os d p → Performed kept.now k d p → run_meant body ≡ (operation_at d k).body → result ≡ seen (operation_judged d p k) }
+    ensures { (d : Description) (p : Places) (os : List ℕ) → ActingBy sections.now os d p → Performed kept.now k d p → run_meant body ≡ (operation_at d k).body → result ≡ seen (operation_judged d p k) }
 {
     let n = body.count as usize;
     let i = body.first as usize;
@@ -46,37 +34,22 @@ fn operation(
     let own = Owner {
         state: false,
         ops: k,
+        kept,
     };
-    walk::list(fs, es, fp, ep, memo, acts, ap, ss, labels, kept, own, n, i)
+    walk::list(sections, &own, n, i)
 }
 
 // All operations, of which there are at most 256; their verdicts are kept.
-pub fn operations(
-    fs: &[u8],
-    es: &[u8],
-    fp: &[u8],
-    ep: &[u8],
-    memo: &[usize],
-    acts: &[u8],
-    ap: &[u8],
-    ss: &[u8],
-    labels: &[u8],
-    os: &[u8],
-    kept: &mut [usize],
-) -> Judged
+pub fn operations(sections: &Sections<'_>, os: &[u8], kept: &mut [usize]) -> Judged
     requires { (noted_from ≤ length kept.old) × (length os.now / operation_size ≤ 256) }
-    ensures { (length kept.new ≡ length kept.old) × ((d : Description) (p : Places) → Acting fs.now es.now fp.now ep.now memo.now acts.now ap.now ss.now labels.now os.now d p → (judged result ≡ least (operations_faults d p (length os.now / operation_size) 0)) × Performed kept.new (length os.now / operation_size) d p) }
+    ensures { (length kept.new ≡ length kept.old) × ((d : Description) (p : Places) → ActingBy sections.now os.now d p → (judged result ≡ least (operations_faults d p (length os.now / operation_size) 0)) × Performed kept.new (length os.now / operation_size) d p) }
 {
-    let mut n = 0;
-    let mut all = Judged::Passed;
-    while n < os.len() / record_sizes::OPERATION {
-        let k = n;
-        n += 1;
-        let x = image_sections::operations::operation_at(os, k);
-        let body = x.body;
-        let v = operation(fs, es, fp, ep, memo, acts, ap, ss, labels, kept, k, body);
+    let mut all = Ok(());
+    for n in 0..os.len() / record_sizes::OPERATION {
+        let x = image_sections::operations::operation_at(os, n);
+        let v = operation(sections, kept, n, x.body);
         all = faults::earlier(all, judge_verdicts::faults::faults_of(v));
-        memory::remember(kept, k, v);
+        memory::remember(kept, n, v);
     }
     all
 }

@@ -12,7 +12,6 @@ ghost use Rattle.language.specs.Encode.{node_size};
 
 use image_records::nodes::Node;
 use image_records::{nodes, numbers, record_sizes};
-use image_sections::states::StateValue;
 use judge_terms::constants;
 use judge_verdicts::faults;
 use language::refusals::Refusal;
@@ -63,10 +62,9 @@ fn bears(es: &[u8], ss: &[u8], n: usize, a: u16) -> bool
     ensures { (d : Description) (p : Places) → Valued es.now ss.now d → R.repeated d p (constant_value (node_at d a)).number (values_before d p (n + 1)) ≡ (result || R.repeated d p (constant_value (node_at d a)).number (values_before d p n)) }
 {
     let s = image_sections::states::state_at(ss, n);
-    let value = s.value;
-    match value {
-        StateValue::At(b) => same_value(es, a, b),
-        StateValue::None => false,
+    match s.value {
+        Some(b) => same_value(es, a, b),
+        None => false,
     }
 }
 
@@ -74,10 +72,8 @@ fn bears(es: &[u8], ss: &[u8], n: usize, a: u16) -> bool
 fn repeats(es: &[u8], ss: &[u8], n: usize, a: u16) -> bool
     ensures { (d : Description) (p : Places) → Valued es.now ss.now d → result ≡ R.repeated d p (constant_value (node_at d a)).number (values_before d p n) }
 {
-    let mut left = n;
-    while left > 0 {
-        left -= 1;
-        if bears(es, ss, left, a) {
+    for m in 0..n {
+        if bears(es, ss, m, a) {
             return true;
         }
     }
@@ -85,19 +81,13 @@ fn repeats(es: &[u8], ss: &[u8], n: usize, a: u16) -> bool
 }
 
 // Whether a value that is there is right, after n states.
-fn right_value(es: &[u8], ss: &[u8], n: usize, wanted: u64, a: u16) -> bool
+fn right_value(es: &[u8], ss: &[u8], n: usize, wanted: Option<u64>, a: u16) -> bool
     ensures { (d : Description) (p : Places) → Valued es.now ss.now d → result ≡ right_value d p (wanted_length wanted) (values_before d p n) a }
 {
-    if wanted == 0 {
-        return false;
+    match wanted {
+        Some(length) => value_length(es, a) as u64 == length && !repeats(es, ss, n, a),
+        None => false,
     }
-    if value_length(es, a) as u64 != wanted {
-        return false;
-    }
-    if repeats(es, ss, n, a) {
-        return false;
-    }
-    true
 }
 
 // The value of state n.
@@ -105,14 +95,14 @@ pub fn value_faults(
     es: &[u8],
     ss: &[u8],
     n: usize,
-    wanted: u64,
+    wanted: Option<u64>,
     at: Position,
-    value: StateValue,
+    value: Option<u16>,
 ) -> Judged
     ensures { (d : Description) (p : Places) (q : W.Position) → Valued es.now ss.now d → positioned at ≡ q → judged result ≡ least (R.value_faults d p (wanted_length wanted) (values_before d p n) q (value_meant value)) }
 {
-    let StateValue::At(a) = value else {
-        return Judged::Passed;
+    let Some(a) = value else {
+        return Ok(());
     };
     faults::unless(
         right_value(es, ss, n, wanted, a),

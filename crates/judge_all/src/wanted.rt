@@ -10,19 +10,15 @@ use image_sections::kinds;
 use judge_records::facilities;
 use judge_terms::bounds;
 
-// The length of the first sequencing register; 0 where there is none, and states have no values.
-pub fn sequencing_length(fs: &[u8], fp: &[u8]) -> u64
+// The length of the first sequencing register, if there is one: else states have no values.
+pub fn sequencing_length(fs: &[u8], fp: &[u8]) -> Option<u64>
     ensures { (es ep : List ℕ) (d : Description) (p : Places) → Declared fs.now es fp.now ep d p → wanted_length result ≡ sequencing_length d p }
 {
-    let mut n = 0;
-    while n < fs.len() / record_sizes::FACILITY {
-        let k = n;
-        n += 1;
-        let f = facilities::facility_at(fs, fp, k);
-        let kind = f.kind;
-        if kinds::is_sequencing(kind) {
-            return bounds::word_length(f);
+    for n in 0..fs.len() / record_sizes::FACILITY {
+        let f = facilities::facility_at(fs, fp, n);
+        if kinds::is_sequencing(f.kind) {
+            return Some(bounds::word_length(f));
         }
     }
-    0
+    None
 }

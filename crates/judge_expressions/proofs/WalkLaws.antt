@@ -25,10 +25,10 @@ use Rattle.image_records.specs.Nodes.{meant}
 use Rattle.image_records.specs.declared.nodes.Node.{Node}
 use Rattle.image_records.specs.declared.nodes.Node.TheVariants as N
 use Rattle.language.specs.Words as W
-use Rattle.judge_verdicts.specs.declared.Verdict.{Verdict}
-use Rattle.judge_verdicts.specs.Meaning.{seen}
-use Rattle.judge_verdicts.specs.Noted.{Notes}
-use Rattle.judge_terms.specs.Shown.{NotedRight, with_own, worked}
+use Rattle.std.specs.Prelude.{IfSome, Option, None, Some}
+use Rattle.judge_verdicts.specs.Meaning.{Verdict, seen}
+use Rattle.judge_verdicts.specs.Noted.{NotedAt, Notes}
+use Rattle.judge_terms.specs.Shown.{NotedRight, NotesRight, Shown, with_own, worked}
 use Rattle.language.specs.declared.refusals.Refusal.TheVariants.{BadLength, BadName, BadSubscript, NoContinuation}
 
 -- ---- Work of its own, which a reference has as an operand alone.
@@ -121,7 +121,7 @@ module _ (d : Description) (p : Places) (t : ℕ → Judged) (known n : ℕ) whe
 
   -- ---- Records noted.
 
-  pub noted-reference : (e : ℕ) {v : Verdict} (r : Reference) → Notes e n true v → some r ≡ reference_of (node_at d n)
+  noted-reference : (e : ℕ) {v : Verdict} (r : Reference) → Notes e n true v → some r ≡ reference_of (node_at d n)
       → v ≡ seen (reference_judged d p t (judge_below d p t known n) 0 known r (node_place p n)) → NotedRight d p t known e
   noted-reference e r h q j = record {
     left = λ k. h.verdict ∙ j ∙ ap seen (left_is r q) ∙ ap (λ (m : ℕ). seen (left_at d p t known m)) (sym h.of);
@@ -129,7 +129,7 @@ module _ (d : Description) (p : Places) (t : ℕ → Judged) (known n : ℕ) whe
     other = λ k. absurd (true≢false (sym h.refers ∙ k));
   }
 
-  pub noted_other : (e : ℕ) {v : Verdict} → Notes e n false v → v ≡ seen (judge_at d p t known n) → NotedRight d p t known e
+  noted_other : (e : ℕ) {v : Verdict} → Notes e n false v → v ≡ seen (judge_at d p t known n) → NotedRight d p t known e
   noted_other e h j = record {
     left = λ k. absurd (true≢false (sym k ∙ h.refers));
     operand = λ k. absurd (true≢false (sym k ∙ h.refers));
@@ -157,6 +157,25 @@ module _ (d : Description) (p : Places) (t : ℕ → Judged) (known n : ℕ) whe
   broken-is a b v (N.NextArm x y) k e ev at = absurd (miss (2 ∷ 3 ∷ 4 ∷ 5 ∷ 6 ∷ 13 ∷ []) 11 tt k)
   broken-is a b v (N.Choice x y c) k e ev at = absurd (miss (2 ∷ 3 ∷ 4 ∷ 5 ∷ 6 ∷ 13 ∷ []) 12 tt k)
   broken-is a b v N.Broken k e ev at = refl
+
+-- ---- What is noted, and what is found among it.
+
+module _ {facs exprs marks places memo : List ℕ} {known : ℕ} where
+  pub noted-at : {d : Description} {p : Places} {t : ℕ → Judged} {n e : ℕ} → Shown facs exprs marks places memo known d p t → NotedAt memo n e → NotedRight d p t known e
+  noted-at s f = rw f.3 (s.noted f.0 f.1 f.2)
+
+  pub reference-noted : (o : Option ℕ) (n : ℕ) {v : Verdict} (r : Reference) → IfSome o (λ e. Notes e n true v)
+      → ((d : Description) (p : Places) (t : ℕ → Judged) → Shown facs exprs marks places memo known d p t
+      → (some r ≡ reference_of (node_at d n)) × (v ≡ seen (reference_judged d p t (judge_below d p t known n) 0 known r (node_place p n))))
+      → IfSome o (NotesRight facs exprs marks places memo known)
+  reference-noted None n r h g = tt
+  reference-noted (Some e) n r h g = λ d p t s. noted-reference d p t known n e r h (g d p t s).0 (g d p t s).1
+
+  pub other-noted : (o : Option ℕ) (n : ℕ) {v : Verdict} → IfSome o (λ e. Notes e n false v)
+      → ((d : Description) (p : Places) (t : ℕ → Judged) → Shown facs exprs marks places memo known d p t → v ≡ seen (judge_at d p t known n))
+      → IfSome o (NotesRight facs exprs marks places memo known)
+  other-noted None n h g = tt
+  other-noted (Some e) n h g = λ d p t s. noted_other d p t known n e h (g d p t s)
 
 -- ---- References.
 

@@ -13,14 +13,11 @@ use judge_verdicts::{Verdict, Worth, noted, work};
 pub fn with_own(v: Verdict) -> Verdict
     ensures { (j : L.Judged) → v ≡ seen j → result ≡ seen (with_own j) }
 {
-    match v {
-        Verdict::Fine(w) => Verdict::Fine(Worth {
-            length: w.length,
-            arms: w.arms,
-            work: work::with_one(w.work),
-        }),
-        Verdict::Faulty(f) => Verdict::Faulty(f),
-    }
+    let w = v?;
+    Ok(Worth {
+        work: work::with_one(w.work),
+        ..w
+    })
 }
 
 // A record that is noted, as an operand.

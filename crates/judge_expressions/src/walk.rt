@@ -1,6 +1,6 @@
-// Expressions, record by record: an owner is judged by the verdicts on its parts, which stand before it. Every function takes the facilities (`fs`) and the expressions (`es`), the places beside each (`fp`, `ep`), what is kept of computed terminals with what is noted of records (`memo`), and how many facilities may be named.
+// Expressions, record by record: an owner is judged by the verdicts on its parts, which stand before it. Every function takes the records, what is kept of computed terminals with what is noted of records (`memo`), and how many facilities may be named.
 ghost use Rattle.std.proofs.Math.Option.{none};
-ghost use Rattle.std.specs.Prelude.{◌≡◌, ℕ, ◌<◌};
+ghost use Rattle.std.specs.Prelude.{◌≡◌, ℕ, IfSome};
 ghost use Rattle.language.specs.Description.{Description, Places, node_at, node_place};
 ghost use Rattle.language.specs.Expressions.{expression_at, judge_at, judge_below, left_at, proper_at};
 ghost use Rattle.language.specs.Judging as L;
@@ -8,12 +8,11 @@ ghost use Rattle.language.specs.ReferenceRules.{reference_judged, subscripts_jud
 ghost use Rattle.language.specs.References.{reference_of};
 ghost use Rattle.store_geometry.specs.Subscripts.{subscripts_meant};
 ghost use Rattle.judge_verdicts.specs.Meaning.{seen};
-ghost use Rattle.judge_terms.specs.Shown.{Judges, NotedRight, Shown};
+ghost use Rattle.judge_expressions.specs.Judging.{JudgesBy, NotesBy, ShownBy};
 
-use crate::operands;
+use crate::{Records, operands};
 use image_records::nodes;
 use image_records::nodes::Node;
-use image_records::references::Reference;
 use judge_records::{facilities, places};
 use judge_terms::{bounds, operators, references};
 use judge_verdicts::{Verdict, faults, noted, tests};
@@ -23,99 +22,66 @@ use store_geometry::subscripts::Subscripts;
 
 // Part a of record n, which must stand before it: as it is noted, or else judged.
 #[cycle(judge_operand_operator_part_referred_subscripts)]
-fn part(
-    fs: &[u8],
-    es: &[u8],
-    fp: &[u8],
-    ep: &[u8],
-    memo: &[usize],
-    known: usize,
-    n: u16,
-    a: u16,
-) -> Verdict
-    ensures { Judges fs.now es.now fp.now ep.now memo.now known (λ d p t. judge_below d p t known n a) result }
+fn part(records: &Records<'_>, memo: &[usize], known: usize, n: u16, a: u16) -> Verdict
+    ensures { JudgesBy records.now memo.now known (λ d p t. judge_below d p t known n a) result }
 {
     if n <= a {
         return faults::refused(places::nowhere(), Refusal::NoContinuation);
     }
-    let i = noted::find(memo, a);
-    if i < memo.len() {
-        return operands::noted_operand(memo[i]);
+    match noted::find(memo, a) {
+        Some(e) => operands::noted_operand(e),
+        None => judge(records, memo, known, a),
     }
-    judge(fs, es, fp, ep, memo, known, a)
 }
 
 // Operand a of record n.
 #[cycle(judge_operand_operator_part_referred_subscripts)]
-fn operand(
-    fs: &[u8],
-    es: &[u8],
-    fp: &[u8],
-    ep: &[u8],
-    memo: &[usize],
-    known: usize,
-    n: u16,
-    a: u16,
-) -> Verdict
-    ensures { Judges fs.now es.now fp.now ep.now memo.now known (λ d p t. proper_at d p t known (judge_below d p t known n) a) result }
+fn operand(records: &Records<'_>, memo: &[usize], known: usize, n: u16, a: u16) -> Verdict
+    ensures { JudgesBy records.now memo.now known (λ d p t. proper_at d p t known (judge_below d p t known n) a) result }
 {
-    let at = places::of_node(ep, a as usize, 0);
-    tests::proper(at, part(fs, es, fp, ep, memo, known, n, a))
+    let at = places::of_node(records.expression_places, a as usize, 0);
+    tests::proper(at, part(records, memo, known, n, a))
 }
 
 // The subscripts of record n.
 #[cycle(judge_operand_operator_part_referred_subscripts)]
-fn subscripts(
-    fs: &[u8],
-    es: &[u8],
-    fp: &[u8],
-    ep: &[u8],
-    memo: &[usize],
-    known: usize,
-    n: u16,
-    s: Subscripts,
-) -> Verdict
-    ensures { Judges fs.now es.now fp.now ep.now memo.now known (λ d p t. subscripts_judged d p t (judge_below d p t known n) (subscripts_meant s)) result }
+fn subscripts(records: &Records<'_>, memo: &[usize], known: usize, n: u16, s: Subscripts) -> Verdict
+    ensures { JudgesBy records.now memo.now known (λ d p t. subscripts_judged d p t (judge_below d p t known n) (subscripts_meant s)) result }
 {
     match s {
-        Subscripts::Whole => operators::nothing(),
-        Subscripts::One(e) => operand(fs, es, fp, ep, memo, known, n, e),
-        Subscripts::Part(_) => operators::nothing(),
+        Subscripts::Whole | Subscripts::Part(_) => operators::nothing(),
+        Subscripts::One(e) | Subscripts::WordPart(e, _) => operand(records, memo, known, n, e),
         Subscripts::Two(e, g) => {
-            let x = operand(fs, es, fp, ep, memo, known, n, e);
-            operators::together(x, operand(fs, es, fp, ep, memo, known, n, g))
+            let x = operand(records, memo, known, n, e);
+            operators::together(x, operand(records, memo, known, n, g))
         }
-        Subscripts::WordPart(e, _) => operand(fs, es, fp, ep, memo, known, n, e),
     }
 }
 
 // The reference that record n is, without work of its own.
 #[cycle(judge_operand_operator_part_referred_subscripts)]
 fn referred(
-    fs: &[u8],
-    es: &[u8],
-    fp: &[u8],
-    ep: &[u8],
+    records: &Records<'_>,
     memo: &[usize],
     known: usize,
     n: u16,
     f: u8,
     s: Subscripts,
 ) -> Verdict
-    ensures { Judges fs.now es.now fp.now ep.now memo.now known (λ d p t. reference_judged d p t (judge_below d p t known n) 0 known (record { facility = f; subscripts = subscripts_meant s }) (node_place p n)) result }
+    ensures { JudgesBy records.now memo.now known (λ d p t. reference_judged d p t (judge_below d p t known n) 0 known (record { facility = f; subscripts = subscripts_meant s }) (node_place p n)) result }
 {
-    let at = places::of_node(ep, n as usize, 0);
+    let at = places::of_node(records.expression_places, n as usize, 0);
     if known <= f as usize {
         return faults::refused(at, Refusal::BadName);
     }
-    let x = facilities::facility_at(fs, fp, f as usize);
-    let subs = subscripts(fs, es, fp, ep, memo, known, n, s);
+    let x = facilities::facility_at(records.facilities, records.facility_places, f as usize);
+    let subs = subscripts(records, memo, known, n, s);
     if subscripts::right_count(x.dimensions, s) {
-        let kind = x.kind;
         let length = bounds::taken_length(x, s);
-        let ends = references::bound_faults(es, ep, n, x, s);
-        let direction = references::direction_faults(ep, n, x, s);
-        let computed = references::computed_work(memo, f, kind);
+        let places = records.expression_places;
+        let ends = references::bound_faults(records.expressions, places, n, x, s);
+        let direction = references::direction_faults(places, n, x, s);
+        let computed = references::computed_work(memo, f, x.kind);
         return references::counted_right(at, length, subs, ends, direction, computed);
     }
     references::counted_wrong(at, subs)
@@ -123,39 +89,27 @@ fn referred(
 
 // Record n, which is no reference.
 #[cycle(judge_operand_operator_part_referred_subscripts)]
-fn operator(
-    fs: &[u8],
-    es: &[u8],
-    fp: &[u8],
-    ep: &[u8],
-    memo: &[usize],
-    known: usize,
-    n: u16,
-) -> Verdict
-    ensures { (d : Description) (p : Places) (t : ℕ → L.Judged) → reference_of (node_at d n) ≡ none → Shown fs.now es.now fp.now ep.now memo.now known d p t → result ≡ seen (judge_at d p t known n) }
+fn operator(records: &Records<'_>, memo: &[usize], known: usize, n: u16) -> Verdict
+    ensures { (d : Description) (p : Places) (t : ℕ → L.Judged) → reference_of (node_at d n) ≡ none → ShownBy records.now memo.now known d p t → result ≡ seen (judge_at d p t known n) }
 {
-    let at = places::of_node(ep, n as usize, 0);
-    match nodes::node_at(es, n as usize) {
+    let at = places::of_node(records.expression_places, n as usize, 0);
+    match nodes::node_at(records.expressions, n as usize) {
         Node::Constant(l) => operators::constant(at, l),
         Node::More(_) => faults::refused(at, Refusal::NoContinuation),
         Node::Binary(k, a, b) => {
-            let x = operand(fs, es, fp, ep, memo, known, n, a);
-            operators::binary(at, k, x, operand(fs, es, fp, ep, memo, known, n, b))
+            let x = operand(records, memo, known, n, a);
+            operators::binary(at, k, x, operand(records, memo, known, n, b))
         }
-        Node::Prefix(k, a) => {
-            operators::prefix(at, k, operand(fs, es, fp, ep, memo, known, n, a))
-        }
-        Node::Cut(k, a, c) => {
-            operators::cut(at, k, operand(fs, es, fp, ep, memo, known, n, a), c)
-        }
-        Node::FirstArm(e) => operators::first_arm(operand(fs, es, fp, ep, memo, known, n, e)),
+        Node::Prefix(k, a) => operators::prefix(at, k, operand(records, memo, known, n, a)),
+        Node::Cut(k, a, c) => operators::cut(at, k, operand(records, memo, known, n, a), c),
+        Node::FirstArm(e) => operators::first_arm(operand(records, memo, known, n, e)),
         Node::NextArm(a, e) => {
-            let x = tests::arm_list(at, part(fs, es, fp, ep, memo, known, n, a));
-            operators::next_arm(x, operand(fs, es, fp, ep, memo, known, n, e))
+            let x = tests::arm_list(at, part(records, memo, known, n, a));
+            operators::next_arm(x, operand(records, memo, known, n, e))
         }
         Node::Choice(e, a, c) => {
-            let x = operand(fs, es, fp, ep, memo, known, n, e);
-            let y = tests::arm_list(at, part(fs, es, fp, ep, memo, known, n, a));
+            let x = operand(records, memo, known, n, e);
+            let y = tests::arm_list(at, part(records, memo, known, n, a));
             operators::choice(at, c, x, y)
         }
         _ => faults::refused(at, Refusal::BadName),
@@ -164,84 +118,50 @@ fn operator(
 
 // The expression that record n is.
 #[cycle(judge_operand_operator_part_referred_subscripts)]
-fn judge(
-    fs: &[u8],
-    es: &[u8],
-    fp: &[u8],
-    ep: &[u8],
-    memo: &[usize],
-    known: usize,
-    n: u16,
-) -> Verdict
-    ensures { Judges fs.now es.now fp.now ep.now memo.now known (λ d p t. judge_at d p t known n) result }
+fn judge(records: &Records<'_>, memo: &[usize], known: usize, n: u16) -> Verdict
+    ensures { JudgesBy records.now memo.now known (λ d p t. judge_at d p t known n) result }
 {
-    match references::reference_at(es, ep, n) {
-        Reference::To(f, s) => {
-            operands::with_own(referred(fs, es, fp, ep, memo, known, n, f, s))
-        }
-        Reference::None => operator(fs, es, fp, ep, memo, known, n),
+    match references::reference_at(records.expressions, records.expression_places, n) {
+        Some((f, s)) => operands::with_own(referred(records, memo, known, n, f, s)),
+        None => operator(records, memo, known, n),
     }
 }
 
-// Record n in one number, judged by what is noted of those before it; 0 where it has no room there.
-pub fn note(
-    fs: &[u8],
-    es: &[u8],
-    fp: &[u8],
-    ep: &[u8],
-    memo: &[usize],
-    known: usize,
-    n: u16,
-) -> usize
-    ensures { 0 < result → (d : Description) (p : Places) (t : ℕ → L.Judged) → Shown fs.now es.now fp.now ep.now memo.now known d p t → NotedRight d p t known result }
+// Record n in one number, judged by what is noted of those before it, where it has room there.
+pub fn note(records: &Records<'_>, memo: &[usize], known: usize, n: u16) -> Option<usize>
+    ensures { IfSome result (NotesBy records.now memo.now known) }
 {
-    match references::reference_at(es, ep, n) {
-        Reference::To(f, s) => noted::note(n, true, referred(fs, es, fp, ep, memo, known, n, f, s)),
-        Reference::None => noted::note(n, false, operator(fs, es, fp, ep, memo, known, n)),
+    match references::reference_at(records.expressions, records.expression_places, n) {
+        Some((f, s)) => noted::note(n, true, referred(records, memo, known, n, f, s)),
+        None => noted::note(n, false, operator(records, memo, known, n)),
     }
 }
 
 // The expression that record n is, on its own.
-pub fn expression(
-    fs: &[u8],
-    es: &[u8],
-    fp: &[u8],
-    ep: &[u8],
-    memo: &[usize],
-    known: usize,
-    n: u16,
-) -> Verdict
-    ensures { Judges fs.now es.now fp.now ep.now memo.now known (λ d p t. expression_at d p t known n) result }
+pub fn expression(records: &Records<'_>, memo: &[usize], known: usize, n: u16) -> Verdict
+    ensures { JudgesBy records.now memo.now known (λ d p t. expression_at d p t known n) result }
 {
-    let at = places::of_node(ep, n as usize, 0);
-    let i = noted::find(memo, n);
-    if i < memo.len() {
-        return tests::proper(at, operands::noted_operand(memo[i]));
+    let at = places::of_node(records.expression_places, n as usize, 0);
+    match noted::find(memo, n) {
+        Some(e) => tests::proper(at, operands::noted_operand(e)),
+        None => tests::proper(at, judge(records, memo, known, n)),
     }
-    tests::proper(at, judge(fs, es, fp, ep, memo, known, n))
 }
 
 // The left side of a store: a reference, which is no operand.
-pub fn left(
-    fs: &[u8],
-    es: &[u8],
-    fp: &[u8],
-    ep: &[u8],
-    memo: &[usize],
-    known: usize,
-    n: u16,
-) -> Verdict
-    ensures { Judges fs.now es.now fp.now ep.now memo.now known (λ d p t. left_at d p t known n) result }
+pub fn left(records: &Records<'_>, memo: &[usize], known: usize, n: u16) -> Verdict
+    ensures { JudgesBy records.now memo.now known (λ d p t. left_at d p t known n) result }
 {
-    let i = noted::find(memo, n);
-    if i < memo.len() {
-        let e = memo[i];
-        if noted::is_reference(e) {
-            return noted::verdict(e);
-        }
+    if let Some(e) = noted::find(memo, n)
+        && noted::is_reference(e)
+    {
+        return noted::verdict(e);
     }
-    match references::reference_at(es, ep, n) {
-        Reference::To(f, s) => referred(fs, es, fp, ep, memo, known, n, f, s),
-        Reference::None => faults::refused(places::of_node(ep, n as usize, 0), Refusal::BadName),
+    match references::reference_at(records.expressions, records.expression_places, n) {
+        Some((f, s)) => referred(records, memo, known, n, f, s),
+        None => {
+            let at = places::of_node(records.expression_places, n as usize, 0);
+            faults::refused(at, Refusal::BadName)
+        }
     }
 }

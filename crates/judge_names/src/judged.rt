@@ -19,21 +19,16 @@ fn is_new(fs: &[u8], os: &[u8], ss: &[u8], ns: &[u8], k: usize, name: &[u8], mar
     requires { mark ≡ 0 → L.declared name.now (earlier (lengths_of fs.now os.now ss.now) ns.now k) ≡ false }
     ensures { result ≡ cond (L.twice name.now (earlier (lengths_of fs.now os.now ss.now) ns.now k)) false true }
 {
-    if name.len() == 0 {
-        return true;
-    }
-    if mark == 0 {
+    if name.len() == 0 || mark == 0 {
         return true;
     }
     let mut offset = 0;
-    let mut i = 0;
-    while i < k {
+    for i in 0..k {
         let n = numbered::length_of(fs, os, ss, i);
         if bytes::same(name, bytes::part(ns, offset, n as usize)) {
             return false;
         }
         offset = numbered::after(ns, offset, n);
-        i += 1;
     }
     true
 }
@@ -44,10 +39,9 @@ pub fn names(fs: &[u8], os: &[u8], ss: &[u8], ns: &[u8], fp: &[u8], op: &[u8], s
 {
     let count = numbered::count(fs, os, ss);
     let mut marks = [0u8; 1024];
-    let mut all = Judged::Passed;
+    let mut all = Ok(());
     let mut offset = 0;
-    let mut k = 0;
-    while k < count {
+    for k in 0..count {
         let n = numbered::length_of(fs, os, ss, k);
         let name = bytes::part(ns, offset, n as usize);
         let slot = sums::sum(name) as usize;
@@ -56,7 +50,6 @@ pub fn names(fs: &[u8], os: &[u8], ss: &[u8], ns: &[u8], fp: &[u8], op: &[u8], s
         let at = numbered::place_of(fp, op, sp, k);
         all = text_words::faults::earlier(all, faults::unless(fresh, at, Refusal::BadName));
         offset = numbered::after(ns, offset, n);
-        k += 1;
     }
     all
 }

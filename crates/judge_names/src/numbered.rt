@@ -39,11 +39,11 @@ pub fn length_of(fs: &[u8], os: &[u8], ss: &[u8], k: usize) -> u8
 pub fn place_of(fp: &[u8], op: &[u8], sp: &[u8], k: usize) -> Position
     ensures { positioned result ≡ get_or (places_of fp.now op.now sp.now) k nowhere }
 {
-    let f = fp.len() / 12;
+    let f = fp.len() / places::FACILITY;
     if k < f {
         return places::of_facility(fp, k, 0);
     }
-    let o = op.len() / 2;
+    let o = op.len() / places::WORD;
     if k - f < o {
         return places::of_record(op, k - f);
     }

@@ -7,10 +7,8 @@ pub fn sum(name: &[u8]) -> u16
     ensures { (result < 1024) × (result ≡ sum_of name.now) }
 {
     let mut total: u16 = 0;
-    let mut i: usize = 0;
-    while i < name.len() {
-        total = (total * 45 + name[i] as u16) % 1024;
-        i += 1;
+    for b in name {
+        total = (total * 45 + *b as u16) % 1024;
     }
     total
 }

@@ -29,11 +29,9 @@ fn widened_at(places: &[u8], k: usize, first: u16, last: u16) -> Bounds
     requires { k < 0x7fffffffffffffff }
     ensures { bounds_meant result ≡ widened (D.bounds first last) (large_no places.now k) (large_no places.now (k + 1)) }
 {
-    let f = places::large_no(places, k);
-    let l = places::large_no(places, k + 1);
     Bounds {
-        first: numbers::joined(first, f),
-        last: numbers::joined(last, l),
+        first: numbers::joined(first, places::large_no(places, k)),
+        last: numbers::joined(last, places::large_no(places, k + 1)),
     }
 }
 
@@ -42,26 +40,21 @@ pub fn facility_at(facilities: &[u8], places: &[u8], n: usize) -> Facility
     ensures { FacilityRead facilities.now places.now n result }
 {
     let f = image_sections::facilities::facility_at(facilities, n);
-    let kind = f.kind;
-    let w = f.words;
-    let b = f.bits;
     if facilities.len() / record_sizes::FACILITY <= n {
         let none = Bounds { first: 0, last: 0 };
         return Facility {
-            kind,
+            kind: f.kind,
             dimensions: 0,
             words: none,
             bits: none,
             expression: 0,
         };
     }
-    let words = widened_at(places, 6 * n + 1, w.first, w.last);
-    let bits = widened_at(places, 6 * n + 3, b.first, b.last);
     Facility {
-        kind,
+        kind: f.kind,
         dimensions: f.dimensions,
-        words,
-        bits,
+        words: widened_at(places, 6 * n + 1, f.words.first, f.words.last),
+        bits: widened_at(places, 6 * n + 3, f.bits.first, f.bits.last),
         expression: f.place,
     }
 }
@@ -70,13 +63,10 @@ pub fn facility_at(facilities: &[u8], places: &[u8], n: usize) -> Facility
 pub fn shape_of(f: Facility) -> Shape
     ensures { (name : Name) → Shaped result (facility_meant name f) }
 {
-    let kind = f.kind;
-    let words = f.words;
-    let bits = f.bits;
     Shape {
-        computed: kinds::is_computed(kind),
+        computed: kinds::is_computed(f.kind),
         dimensions: f.dimensions,
-        words,
-        bits,
+        words: f.words,
+        bits: f.bits,
     }
 }

@@ -10,8 +10,7 @@ use Rattle.image_records.specs.References.{widened_node}
 use Rattle.judge_records.specs.Noted.{large_no}
 use Rattle.judge_records.specs.Read.{FacilityRead, facility_meant, place_of}
 use Rattle.judge_records.specs.declared.facilities.Facility.{Facility}
-use Rattle.judge_verdicts.specs.declared.Verdict.{Verdict}
-use Rattle.judge_verdicts.specs.Meaning.{recalled, seen}
+use Rattle.judge_verdicts.specs.Meaning.{Verdict, recalled, seen}
 use Rattle.judge_verdicts.specs.Noted.{is_reference, noted_from, record_in, verdict_in}
 
 -- Record n with the marks beside it.
@@ -53,3 +52,8 @@ pub record Shown (facs exprs marks places memo : List ℕ) (known : ℕ) (d : De
 abbrev pub Judges : List ℕ → List ℕ → List ℕ → List ℕ → List ℕ → ℕ → (Description → Places → (ℕ → Judged) → Judged) → Verdict → Type 0
 Judges facs exprs marks places memo known j r =
     (d : Description) (p : Places) (t : ℕ → Judged) → Shown facs exprs marks places memo known d p t → r ≡ seen (j d p t)
+
+-- A number that notes a record right for every description with these slices.
+abbrev pub NotesRight : List ℕ → List ℕ → List ℕ → List ℕ → List ℕ → ℕ → ℕ → Type 0
+NotesRight facs exprs marks places memo known e =
+    (d : Description) (p : Places) (t : ℕ → Judged) → Shown facs exprs marks places memo known d p t → NotedRight d p t known e

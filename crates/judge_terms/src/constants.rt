@@ -1,5 +1,5 @@
 // Numbers of constants, compared whole, however many records they take.
-ghost use Rattle.std.specs.Prelude.{◌≡◌, ◌+◌, ◌*◌, eqb};
+ghost use Rattle.std.specs.Prelude.{◌≡◌, ◌+◌, ◌*◌, ◌<◌, ◌^◌, eqb};
 ghost use Rattle.language.specs.Decode.{digits_before, node_of, number_at};
 ghost use Rattle.language.specs.Description as D;
 ghost use Rattle.language.specs.Description.{in_bounds};
@@ -11,68 +11,45 @@ use image_records::{numbers, record_sizes};
 use store_geometry::bounds;
 use store_geometry::bounds::Bounds;
 
+// The digit in record n.
+fn digit(exprs: &[u8], n: u16) -> u64
+    ensures { (result ≡ number_at 6 (node_size * n + 2) exprs.now) × (result < 2 ^ 48) }
+{
+    numbers::six(exprs, record_sizes::NODE * n as usize + 2)
+}
+
 // Whether the k records before record n hold nothing but zeros.
-fn digits_zero(exprs: &[u8], n: u16, k: u8) -> bool
+fn digits_zero(exprs: &[u8], n: u16, k: u16) -> bool
     ensures { result ≡ eqb (digits_before k n exprs.now) 0 }
 {
-    let mut left = k;
-    let mut m = n;
-    while left > 0 {
-        if m == 0 {
-            return true;
-        }
-        m -= 1;
-        left -= 1;
-        if numbers::six(exprs, record_sizes::NODE * m as usize + 2) != 0 {
-            return false;
-        }
-    }
-    true
+    (n.saturating_sub(k)..n).all(|m| digit(exprs, m) == 0)
 }
 
 // Whether the constant that ends at record n lies within bounds.
 pub fn within(exprs: &[u8], n: u16, b: Bounds) -> bool
     ensures { (v : Value) → node_of exprs.now n ≡ D.constant v → result ≡ in_bounds (bounds_meant b) v.number }
 {
-    let at = record_sizes::NODE * n as usize;
-    let more = numbers::byte(exprs, at + 1) / 48;
-    if digits_zero(exprs, n, more) {
-        return bounds::in_bounds(b, numbers::six(exprs, at + 2));
-    }
-    false
+    let more = numbers::byte(exprs, record_sizes::NODE * n as usize + 1) / 48;
+    digits_zero(exprs, n, u16::from(more)) && bounds::in_bounds(b, digit(exprs, n))
 }
 
 // Whether the constant that ends at record n after k more has the number 0.
 pub fn number_zero(exprs: &[u8], n: u16, k: u8) -> bool
     ensures { result ≡ eqb (number_at 6 (node_size * n + 2) exprs.now + digits_before k n exprs.now) 0 }
 {
-    if numbers::six(exprs, record_sizes::NODE * n as usize + 2) != 0 {
-        return false;
-    }
-    digits_zero(exprs, n, k)
+    digit(exprs, n) == 0 && digits_zero(exprs, n, u16::from(k))
 }
 
 // Whether two constants have the same number: the one that ends at record n after k more, the other at record m after j more.
 pub fn same_number(exprs: &[u8], n: u16, k: u8, m: u16, j: u8) -> bool
     ensures { result ≡ eqb (number_at 6 (node_size * n + 2) exprs.now + digits_before k n exprs.now) (number_at 6 (node_size * m + 2) exprs.now + digits_before j m exprs.now) }
 {
-    let mut a = n;
-    let mut left = k;
-    let mut b = m;
-    let mut right = j;
-    while numbers::six(exprs, record_sizes::NODE * a as usize + 2)
-        == numbers::six(exprs, record_sizes::NODE * b as usize + 2)
-    {
-        if digits_zero(exprs, a, left) {
-            return digits_zero(exprs, b, right);
-        }
-        if digits_zero(exprs, b, right) {
+    let (k, j) = (u16::from(k), u16::from(j));
+    let shared = k.min(n).min(j).min(m);
+    for d in 0..=shared {
+        if digit(exprs, n - d) != digit(exprs, m - d) {
             return false;
         }
-        a -= 1;
-        left -= 1;
-        b -= 1;
-        right -= 1;
     }
-    false
+    digits_zero(exprs, n - shared, k - shared) && digits_zero(exprs, m - shared, j - shared)
 }

@@ -19,13 +19,12 @@ ghost use Rattle.judge_terms.specs.Shown.{Records};
 
 use crate::{constants, operators};
 use image_records::nodes::Node;
-use image_records::references::Reference;
 use image_records::{nodes, references};
 use image_sections::facilities::FacilityKind;
 use image_sections::kinds;
 use judge_records::facilities::Facility;
 use judge_records::places;
-use judge_verdicts::{Pair, Verdict, faults, kept, tests, work};
+use judge_verdicts::{Verdict, faults, kept, tests, work};
 use language::refusals::Refusal;
 use store_geometry::bounds;
 use store_geometry::bounds::Bounds;
@@ -33,7 +32,7 @@ use store_geometry::subscripts::Subscripts;
 use text_words::{Judged, Position};
 
 // What record n refers to, if it is a reference.
-pub fn reference_at(exprs: &[u8], places: &[u8], n: u16) -> Reference
+pub fn reference_at(exprs: &[u8], places: &[u8], n: u16) -> Option<(u8, Subscripts)>
     ensures { (d : Description) (p : Places) → Records exprs.now places.now d p → reference_meant result ≡ reference_of (node_at d n) }
 {
     let first = places::large_no(places, 3 * n as usize + 1);
@@ -46,7 +45,7 @@ fn subscript_faults(exprs: &[u8], places: &[u8], b: Bounds, e: u16) -> Judged
     ensures { (d : Description) (p : Places) (t : ℕ → L.Judged) → Records exprs.now places.now d p → judged result ≡ least (subscript_faults d p t (bounds_meant b) e) }
 {
     let Node::Constant(_) = nodes::node_at(exprs, e as usize) else {
-        return Judged::Passed;
+        return Ok(());
     };
     let at = places::of_node(places, e as usize, 0);
     faults::unless(constants::within(exprs, e, b), at, Refusal::BadSubscript)
@@ -58,17 +57,10 @@ fn end_faults(places: &[u8], n: u16, b: Bounds, x: Bounds) -> Judged
 {
     let first = places::of_node(places, n as usize, 1);
     let last = places::of_node(places, n as usize, 2);
-    let one = faults::unless(
-        bounds::in_bounds(b, x.first as u64),
-        first,
-        Refusal::BadSubscript,
-    );
-    let other = faults::unless(
-        bounds::in_bounds(b, x.last as u64),
-        last,
-        Refusal::BadSubscript,
-    );
-    faults::also(one, other)
+    let right = bounds::in_bounds(b, x.first as u64);
+    let one = faults::unless(right, first, Refusal::BadSubscript);
+    let right = bounds::in_bounds(b, x.last as u64);
+    faults::also(one, faults::unless(right, last, Refusal::BadSubscript))
 }
 
 // The constants of a reference with the right number of subscripts.
@@ -78,12 +70,10 @@ pub fn bound_faults(exprs: &[u8], places: &[u8], n: u16, f: Facility, s: Subscri
     let w = f.words;
     let b = f.bits;
     match s {
-        Subscripts::Whole => Judged::Passed,
+        Subscripts::Whole => Ok(()),
         Subscripts::One(e) => {
-            if f.dimensions == 1 {
-                return subscript_faults(exprs, places, b, e);
-            }
-            subscript_faults(exprs, places, w, e)
+            let taken = if f.dimensions == 1 { b } else { w };
+            subscript_faults(exprs, places, taken, e)
         }
         Subscripts::Part(x) => end_faults(places, n, b, x),
         Subscripts::Two(e, g) => {
@@ -102,21 +92,12 @@ pub fn direction_faults(places: &[u8], n: u16, f: Facility, s: Subscripts) -> Ju
     ensures { (d : Description) (p : Places) (t : ℕ → L.Judged) (exprs : List ℕ) (name : Name) → Records exprs places.now d p → judged result ≡ least (direction_faults d p t (facility_meant name f) (subscripts_meant s) (node_place p n)) }
 {
     let last = places::of_node(places, n as usize, 2);
-    let b = f.bits;
     match s {
-        Subscripts::Whole => Judged::Passed,
-        Subscripts::One(_) => Judged::Passed,
-        Subscripts::Part(x) => faults::unless(
-            bounds::same_direction(b, x),
-            last,
-            Refusal::BadSubscript,
-        ),
-        Subscripts::Two(_, _) => Judged::Passed,
-        Subscripts::WordPart(_, x) => faults::unless(
-            bounds::same_direction(b, x),
-            last,
-            Refusal::BadSubscript,
-        ),
+        Subscripts::Part(x) | Subscripts::WordPart(_, x) => {
+            let right = bounds::same_direction(f.bits, x);
+            faults::unless(right, last, Refusal::BadSubscript)
+        }
+        _ => Ok(()),
     }
 }
 
@@ -134,10 +115,8 @@ pub fn computed_work(memo: &[usize], f: u8, kind: FacilityKind) -> Verdict
 fn with_computed(at: Position, length: u64, subs: Verdict, computed: Verdict) -> Verdict
     ensures { (q : W.Position) (j k : L.Judged) → positioned at ≡ q → subs ≡ seen j → computed ≡ seen k → result ≡ seen (L.given_both j k (λ v w. L.sized q length (v.work + w.work))) }
 {
-    match faults::both(subs, computed) {
-        Pair::Fine(v, w) => tests::sized(at, length, work::added(v.work, w.work)),
-        Pair::Faulty(f) => Verdict::Faulty(f),
-    }
+    let (v, w) = faults::both(subs, computed)?;
+    tests::sized(at, length, work::added(v.work, w.work))
 }
 
 // A reference with the right number of subscripts, from what is known of its parts.
@@ -151,17 +130,15 @@ pub fn counted_right(
 ) -> Verdict
     ensures { (q : W.Position) (j k : L.Judged) (x y : List W.Fault) → positioned at ≡ q → subs ≡ seen j → computed ≡ seen k → judged bounds ≡ least x → judged direction ≡ least y → result ≡ seen (L.or_faulty (L.faults_of j ++ x) (L.or_faulty y (L.given_both j k (λ v w. L.sized q length (v.work + w.work))))) }
 {
-    let all = with_computed(at, length, subs, computed);
-    let parts = faults::also(faults::faults_of(subs), bounds);
-    faults::or_faulty(parts, faults::or_faulty(direction, all))
+    faults::also(faults::faults_of(subs), bounds)?;
+    direction?;
+    with_computed(at, length, subs, computed)
 }
 
 // One with another number of them.
 pub fn counted_wrong(at: Position, subs: Verdict) -> Verdict
     ensures { (q : W.Position) (j : L.Judged) → positioned at ≡ q → subs ≡ seen j → result ≡ seen (L.or_faulty (L.faults_of j) (L.refuse q BadSubscript)) }
 {
-    faults::or_faulty(
-        faults::faults_of(subs),
-        faults::refused(at, Refusal::BadSubscript),
-    )
+    subs?;
+    faults::refused(at, Refusal::BadSubscript)
 }

@@ -3,7 +3,7 @@ use mathlib.Core.Bool.{Bool, true, false}
 use mathlib.Core.Logic.{◌⊎◌, inl, inr, ⊎_elim}
 use mathlib.Core.Path.{◌≡◌, refl, sym, ◌∙◌}
 use native.Mathlib.Omega.{arith}
-use Prim.Native.Nat.{ℕ, ◌+◌, ◌-◌, ◌<◌, ◌≤◌}
+use Prim.Native.Nat.{ℕ, ◌+◌, ◌<◌, ◌≤◌, min}
 use borrow.Author.Tests.{le-leb, leb-false, leb-true, lt-leb, ne_eqb}
 use lib.Dec.{eqb, leb}
 use Rattle.language.specs.Ceilings.{most_work}
@@ -27,19 +27,12 @@ capped-either n = go (leb n 65536) refl
     go true t = let h : n ≤ 65536 = leb-true n 65536 t in inl (h, capped_small n h)
     go false t = let h : 65536 < n = leb-false n 65536 t in inr (h, capped-large n h)
 
-module _ (a b x y : ℕ) (p : x ≡ capped a) (q : y ≡ capped b) where
-  pub sum_first : 65536 < x → 65537 ≡ capped (a + b)
-  sum_first h = ⊎_elim (λ e. absurd (omega arith)) (λ e. sym (capped-large (a + b) (omega arith))) (capped-either a)
+capped-min : (n : ℕ) → capped n ≡ min n 65537
+capped-min n = ⊎_elim (λ e. omega arith) (λ e. omega arith) (capped-either n)
 
-  pub sum-second : x ≤ 65536 → 65536 - x < y → 65537 ≡ capped (a + b)
-  sum-second h k =
-      ⊎_elim (λ e. ⊎_elim (λ f. sym (capped-large (a + b) (omega arith))) (λ f. sym (capped-large (a + b) (omega arith))) (capped-either b)) (λ e. absurd (omega arith)) (capped-either a)
-
-  pub sum_both : x ≤ 65536 → y ≤ 65536 - x → x + y ≡ capped (a + b)
-  sum_both h k =
-      ⊎_elim
-      (λ e. ⊎_elim (λ f. let z : a + b ≤ 65536 = omega arith in let g : capped (a + b) ≡ a + b = capped_small (a + b) z in omega arith) (λ f. absurd (omega arith)) (capped-either b))
-      (λ e. absurd (omega arith)) (capped-either a)
+-- Sums that stop at the largest number of 64 bits stop no sooner.
+pub sum_capped : (a b x y : ℕ) → x ≡ capped a → y ≡ capped b → min (min (x + y) 18446744073709551615) 65537 ≡ capped (a + b)
+sum_capped a b x y p q = omega (arith, capped-min a, capped-min b, capped-min (a + b))
 
 -- A number up to the ceiling is told from all others.
 pub capped-eqb : (a n : ℕ) → n ≤ 65536 → eqb (capped a) n ≡ eqb a n

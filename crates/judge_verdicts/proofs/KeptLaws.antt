@@ -10,7 +10,7 @@ use Rattle.language.specs.Refusals.{refusal_number}
 use Rattle.language.specs.declared.refusals.Refusal.{Refusal}
 use Rattle.language.specs.declared.refusals.Refusal.TheVariants.{BadCharacter, BadConstant, BadLength, BadName, BadSequencing, BadStimulus, BadStore, BadSubscript, BufferTooShort, CeilingPassed, ImageFails, NoContinuation, TextTooLong, Unsound}
 use Rattle.text_words.specs.declared.Fault.{Fault}
-use Rattle.judge_verdicts.specs.declared.Verdict.TheVariants.{Fine, Faulty}
+use Rattle.std.specs.Prelude.{Ok, Err}
 use Rattle.judge_verdicts.specs.declared.Worth.{Worth}
 use Rattle.judge_verdicts.specs.Meaning.{Kept, numbered, recalled}
 
@@ -71,11 +71,11 @@ module _ (m : List ℕ) (k a b : ℕ) (h : 2 * k + 1 < length m) where
   size = length-set (set m (2 * k) a) (2 * k + 1) b ∙ length-set m (2 * k) a
 
 module _ (m : List ℕ) (k : ℕ) (h : 2 * k + 1 < length m) where
-  pub kept_fine : (w : Worth) → Kept m k (Fine w) (set (set m (2 * k) 0) (2 * k + 1) w.work)
+  pub kept_fine : (w : Worth) → Kept m k (Ok w) (set (set m (2 * k) 0) (2 * k + 1) w.work)
   unfolding recalled
   kept_fine w = record { size = size m k 0 w.work h; here = rw (first m k 0 w.work h, second m k 0 w.work h); others = others m k 0 w.work h }
 
-  pub kept-faulty : (f : Fault) → Kept m k (Faulty f) (set (set m (2 * k) (refusal_number f.refusal)) (2 * k + 1) f.at.place)
+  pub kept-faulty : (f : Fault) → Kept m k (Err f) (set (set m (2 * k) (refusal_number f.refusal)) (2 * k + 1) f.at.place)
   unfolding recalled
   kept-faulty f =
       let n = refusal_number f.refusal in

@@ -8,7 +8,7 @@ use lib.Dec.{eqb}
 use Rattle.language.specs.Refusals.{refusal_number}
 use Rattle.text_words.specs.declared.Fault.{Fault}
 use Rattle.judge_verdicts.proofs.KeptLaws.{numbered-back, small-number}
-use Rattle.judge_verdicts.specs.declared.Verdict.TheVariants.{Fine, Faulty}
+use Rattle.std.specs.Prelude.{IfSome, Option, None, Some, Ok, Err}
 use Rattle.judge_verdicts.specs.declared.Worth.{Worth}
 use Rattle.judge_verdicts.specs.Noted.{Notes, is_reference, joined, record_in, verdict_in}
 
@@ -45,8 +45,8 @@ module _ (n : ℕ) (reference : Bool) (mark value : ℕ) (h : mark < 16) (k : va
   refers-in = rw head_in (refers-of reference)
 
 module _ (n : ℕ) (reference : Bool) where
-  pub noted-fine : (w : Worth) → w.length < 512 → w.arms < 2 ^ 17 → w.work < 2 ^ 17
-      → Notes (joined n reference 0 ((w.length * 2 ^ 17 + w.arms) * 2 ^ 17 + w.work)) n reference (Fine w)
+  noted-fine : (w : Worth) → w.length < 512 → w.arms < 2 ^ 17 → w.work < 2 ^ 17
+      → Notes (joined n reference 0 ((w.length * 2 ^ 17 + w.arms) * 2 ^ 17 + w.work)) n reference (Ok w)
   unfolding verdict_in
   noted-fine w a b c =
       let v = (w.length * 2 ^ 17 + w.arms) * 2 ^ 17 + w.work in
@@ -60,8 +60,8 @@ module _ (n : ℕ) (reference : Bool) where
         verdict = rw (mark-in n reference 0 v (omega arith) k, value_in n reference 0 v (omega arith) k, x, y, z);
       }
 
-  pub noted-faulty : (f : Fault) → f.at.place < 2 ^ 43
-      → Notes (joined n reference (refusal_number f.refusal) f.at.place) n reference (Faulty f)
+  noted-faulty : (f : Fault) → f.at.place < 2 ^ 43
+      → Notes (joined n reference (refusal_number f.refusal) f.at.place) n reference (Err f)
   unfolding verdict_in
   noted-faulty f k =
       let m = refusal_number f.refusal in
@@ -71,3 +71,15 @@ module _ (n : ℕ) (reference : Bool) where
         refers = refers-in n reference m f.at.place h k;
         verdict = rw (mark-in n reference m f.at.place h k, value_in n reference m f.at.place h k, ne_eqb m 0 (λ z. omega (arith, small-number f.refusal)), numbered-back f.refusal);
       }
+
+-- Where a number has room, it notes the verdict.
+pub fine-noted : (o : Option ℕ) (n : ℕ) (reference : Bool) (w : Worth) (v : ℕ)
+    → (w.length < 512) × (w.arms < 2 ^ 17) × (w.work < 2 ^ 17) × (v ≡ (w.length * 2 ^ 17 + w.arms) * 2 ^ 17 + w.work)
+    → IfSome o (λ e. (v < 2 ^ 43) × (e ≡ joined n reference 0 v)) → IfSome o (λ e. Notes e n reference (Ok w))
+fine-noted None n reference w v r j = tt
+fine-noted (Some e) n reference w v r j = rw (j.1, r.3) (noted-fine n reference w r.0 r.1 r.2)
+
+pub faulty-noted : (o : Option ℕ) (n : ℕ) (reference : Bool) (f : Fault) (m v : ℕ) → m ≡ refusal_number f.refusal → v ≡ f.at.place
+    → IfSome o (λ e. (v < 2 ^ 43) × (e ≡ joined n reference m v)) → IfSome o (λ e. Notes e n reference (Err f))
+faulty-noted None n reference f m v p q j = tt
+faulty-noted (Some e) n reference f m v p q j = rw (j.1, p, q) (noted-faulty n reference f (rw q at j.0))

@@ -1,5 +1,5 @@
 -- What the code's verdicts mean in the language: of faults the least, of work and of arms as much as any rule tells apart.
-use Rattle.std.specs.Prelude.{cond, List, ◌≡◌, ℕ, suc, ◌+◌, ◌*◌, ◌<◌, eqb, leb, get_or, length}
+use Rattle.std.specs.Prelude.{cond, List, ◌≡◌, ℕ, suc, ◌+◌, ◌*◌, ◌<◌, eqb, leb, get_or, length, Result, Ok, Err}
 use Rattle.language.specs.Decode.{pick}
 use Rattle.language.specs.Judging as L
 use Rattle.language.specs.Judging.{Judged, fine, faulty}
@@ -10,11 +10,11 @@ use Rattle.language.specs.declared.refusals.Refusal.{Refusal}
 use Rattle.language.specs.declared.refusals.Refusal.TheVariants.{BadCharacter, BadConstant, BadLength, BadName, BadSequencing, BadStimulus, BadStore, BadSubscript, BufferTooShort, CeilingPassed, ImageFails, NoContinuation, TextTooLong, Unsound}
 use Rattle.text_words.specs.declared.Fault.{Fault}
 use Rattle.text_words.specs.Meaning.{faulted}
-use Rattle.judge_verdicts.specs.declared.Pair.{Pair}
-use Rattle.judge_verdicts.specs.declared.Pair.TheVariants as P
-use Rattle.judge_verdicts.specs.declared.Verdict.{Verdict}
-use Rattle.judge_verdicts.specs.declared.Verdict.TheVariants.{Fine, Faulty}
 use Rattle.judge_verdicts.specs.declared.Worth.{Worth}
+
+-- The code's verdict: what a part is worth, or the fault that answers.
+abbrev pub Verdict : Type 0
+Verdict = Result Worth Fault
 
 -- The most work, and one more that stands for every larger number.
 unfoldable pub capped : ℕ → ℕ
@@ -29,24 +29,24 @@ coded f = record { at = record { place = f.at.place }; refusal = f.refusal }
 
 -- What judging shows of an expression.
 unfoldable pub seen : Judged → Verdict
-seen (fine w) = Fine (met w)
-seen (faulty f fs) = Faulty (coded (smaller f (least fs)))
+seen (fine w) = Ok (met w)
+seen (faulty f fs) = Err (coded (smaller f (least fs)))
 
 -- The earlier of two faults.
 unfoldable pub earlier_of : Fault → Fault → Fault
 earlier_of f g = pick (before (faulted g) (faulted f)) g f
 
 -- Two parts: both fine, or the earlier fault.
-abbrev pub paired : Verdict → Verdict → Pair
-paired (Fine v) (Fine w) = P.Fine v w
-paired (Fine v) (Faulty g) = P.Faulty g
-paired (Faulty f) (Fine w) = P.Faulty f
-paired (Faulty f) (Faulty g) = P.Faulty (earlier_of f g)
+abbrev pub paired : Verdict → Verdict → Result (Worth × Worth) Fault
+paired (Ok v) (Ok w) = Ok (v, w)
+paired (Ok v) (Err g) = Err g
+paired (Err f) (Ok w) = Err f
+paired (Err f) (Err g) = Err (earlier_of f g)
 
 -- Of a verdict that is named elsewhere only faults and work count.
 abbrev pub work_of : Verdict → Verdict
-work_of (Fine w) = Fine (record { length = 1; arms = 0; work = w.work })
-work_of (Faulty f) = Faulty f
+work_of (Ok w) = Ok (record { length = 1; arms = 0; work = w.work })
+work_of (Err f) = Err f
 
 -- The refusal of a number.
 unfoldable pub numbered : ℕ → Refusal
@@ -68,8 +68,8 @@ numbered n =
 -- Verdicts kept in numbers, two for each: 0 and the work, or the fault's number and its place.
 unfoldable pub recalled : List ℕ → ℕ → Verdict
 recalled memo k =
-    pick (eqb (get_or memo (2 * k) 0) 0) (Fine (record { length = 1; arms = 0; work = get_or memo (2 * k + 1) 0 }))
-    (Faulty (record { at = record { place = get_or memo (2 * k + 1) 0 }; refusal = numbered (get_or memo (2 * k) 0) }))
+    pick (eqb (get_or memo (2 * k) 0) 0) (Ok (record { length = 1; arms = 0; work = get_or memo (2 * k + 1) 0 }))
+    (Err (record { at = record { place = get_or memo (2 * k + 1) 0 }; refusal = numbered (get_or memo (2 * k) 0) }))
 
 -- The k-th verdict kept, and those before it left.
 pub record Kept (memo : List ℕ) (k : ℕ) (v : Verdict) (after : List ℕ) : Type 0 where

@@ -1,9 +1,7 @@
 -- A verdict on a record of expressions in one number: from the top 16 bits for the record's number, one that says whether it is a reference, four for the number of a refusal or 0, and 43 for the place of a fault, or for a length, arms and work.
-use Rattle.std.specs.Prelude.{Bool, cond, List, ◌≡◌, ℕ, ◌+◌, ◌*◌, ◌/◌, ◌%◌, ◌^◌, ◌≤◌, ◌<◌, eqb, get_or, length}
+use Rattle.std.specs.Prelude.{Bool, cond, List, ◌≡◌, ℕ, ◌+◌, ◌*◌, ◌/◌, ◌%◌, ◌^◌, ◌≤◌, ◌<◌, eqb, get_or, length, Ok, Err}
 use Rattle.language.specs.Decode.{pick}
-use Rattle.judge_verdicts.specs.Meaning.{numbered}
-use Rattle.judge_verdicts.specs.declared.Verdict.{Verdict}
-use Rattle.judge_verdicts.specs.declared.Verdict.TheVariants.{Fine, Faulty}
+use Rattle.judge_verdicts.specs.Meaning.{Verdict, numbered}
 
 -- Where such numbers begin, behind two for each facility.
 abbrev pub noted_from : ℕ
@@ -18,16 +16,16 @@ is_reference e = eqb (e / 2 ^ 43 / 16 % 2) 1
 unfoldable pub verdict_in : ℕ → Verdict
 verdict_in e =
     pick (eqb (e / 2 ^ 43 % 16) 0)
-    (Fine (record { length = e % 2 ^ 43 / 2 ^ 17 / 2 ^ 17; arms = e % 2 ^ 43 / 2 ^ 17 % 2 ^ 17; work = e % 2 ^ 43 % 2 ^ 17 }))
-    (Faulty (record { at = record { place = e % 2 ^ 43 }; refusal = numbered (e / 2 ^ 43 % 16) }))
+    (Ok (record { length = e % 2 ^ 43 / 2 ^ 17 / 2 ^ 17; arms = e % 2 ^ 43 / 2 ^ 17 % 2 ^ 17; work = e % 2 ^ 43 % 2 ^ 17 }))
+    (Err (record { at = record { place = e % 2 ^ 43 }; refusal = numbered (e / 2 ^ 43 % 16) }))
 
 -- A record's number, whether it is a reference, a mark and a value in one number.
 unfoldable pub joined : ℕ → Bool → ℕ → ℕ → ℕ
 joined n reference mark value = (32 * n + cond reference 16 0 + mark) * 2 ^ 43 + value
 
--- Where record n is noted, if r is within the numbers.
-abbrev pub FoundAt : List ℕ → ℕ → ℕ → Type 0
-FoundAt memo n r = r < length memo → (noted_from ≤ r) × (record_in (get_or memo r 0) ≡ n)
+-- The number e stands among those noted, and is that of record n.
+abbrev pub NotedAt : List ℕ → ℕ → ℕ → Type 0
+NotedAt memo n e = (r : ℕ) × (noted_from ≤ r) × (r < length memo) × (e ≡ get_or memo r 0) × (record_in e ≡ n)
 
 -- What a number notes.
 pub record Notes (e n : ℕ) (reference : Bool) (v : Verdict) : Type 0 where

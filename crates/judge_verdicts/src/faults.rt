@@ -6,7 +6,7 @@ ghost use Rattle.language.specs.Words as W;
 ghost use Rattle.text_words.specs.Meaning.{judged, positioned};
 ghost use Rattle.judge_verdicts.specs.Meaning.{earlier_of, paired, seen};
 
-use crate::{Pair, Verdict};
+use crate::{Verdict, Worth};
 use language::refusals::Refusal;
 use text_words::{Fault, Judged, Position, faults};
 
@@ -14,7 +14,7 @@ use text_words::{Fault, Judged, Position, faults};
 pub fn refused(at: Position, refusal: Refusal) -> Verdict
     ensures { result ≡ seen (L.refuse (positioned at) refusal) }
 {
-    Verdict::Faulty(Fault { at, refusal })
+    Err(Fault { at, refusal })
 }
 
 // One fault where a test fails.
@@ -22,9 +22,10 @@ pub fn unless(right: bool, at: Position, refusal: Refusal) -> Judged
     ensures { judged result ≡ least (L.unless right (positioned at) refusal) }
 {
     if right {
-        return Judged::Passed;
+        Ok(())
+    } else {
+        Err(Fault { at, refusal })
     }
-    Judged::Refused(Fault { at, refusal })
 }
 
 // The faults of both.
@@ -38,20 +39,8 @@ pub fn also(a: Judged, b: Judged) -> Judged
 pub fn faults_of(v: Verdict) -> Judged
     ensures { (j : L.Judged) → v ≡ seen j → judged result ≡ least (L.faults_of j) }
 {
-    match v {
-        Verdict::Fine(_) => Judged::Passed,
-        Verdict::Faulty(f) => Judged::Refused(f),
-    }
-}
-
-// Faults of parts, and else what comes after them.
-pub fn or_faulty(a: Judged, v: Verdict) -> Verdict
-    ensures { (x : List W.Fault) (j : L.Judged) → judged a ≡ least x → v ≡ seen j → result ≡ seen (L.or_faulty x j) }
-{
-    match a {
-        Judged::Passed => v,
-        Judged::Refused(f) => Verdict::Faulty(f),
-    }
+    v?;
+    Ok(())
 }
 
 // The earlier of two faults.
@@ -61,18 +50,14 @@ fn earlier(f: Fault, g: Fault) -> Fault
     if faults::before(g, f) { g } else { f }
 }
 
-// Two parts together.
-pub fn both(a: Verdict, b: Verdict) -> Pair
+// Two parts together: both without fault, or the earlier fault.
+pub fn both(a: Verdict, b: Verdict) -> Result<(Worth, Worth), Fault>
     ensures { result ≡ paired a b }
 {
-    match a {
-        Verdict::Fine(v) => match b {
-            Verdict::Fine(w) => Pair::Fine(v, w),
-            Verdict::Faulty(g) => Pair::Faulty(g),
-        },
-        Verdict::Faulty(f) => match b {
-            Verdict::Fine(_) => Pair::Faulty(f),
-            Verdict::Faulty(g) => Pair::Faulty(earlier(f, g)),
-        },
+    match (a, b) {
+        (Ok(v), Ok(w)) => Ok((v, w)),
+        (Err(f), Err(g)) => Err(earlier(f, g)),
+        (Err(f), Ok(_)) => Err(f),
+        (Ok(_), Err(g)) => Err(g),
     }
 }

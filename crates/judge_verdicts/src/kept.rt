@@ -2,8 +2,7 @@
 ghost use Rattle.std.specs.Prelude.{◌≡◌, ◌+◌, ◌*◌, ◌<◌, get_or, length, set};
 ghost use Rattle.judge_verdicts.specs.Meaning.{Kept, numbered, recalled};
 
-use crate::{Verdict, Worth};
-use language::refusals;
+use crate::{Verdict, work};
 use language::refusals::Refusal;
 use text_words::Fault;
 
@@ -11,7 +10,7 @@ use text_words::Fault;
 fn number(memo: &[usize], at: usize) -> usize
     ensures { result ≡ get_or memo.now at 0 }
 {
-    if at < memo.len() { memo[at] } else { 0 }
+    memo.get(at).copied().unwrap_or(0)
 }
 
 // The refusal of a number.
@@ -44,15 +43,12 @@ pub fn recall(memo: &[usize], k: u16) -> Verdict
     let mark = number(memo, at);
     let value = number(memo, at + 1);
     if mark == 0 {
-        return Verdict::Fine(Worth {
-            length: 1,
-            arms: 0,
-            work: value,
-        });
+        return work::only(value);
     }
-    let place = text_words::places::position(value);
-    let refusal = numbered(mark);
-    Verdict::Faulty(Fault { at: place, refusal })
+    Err(Fault {
+        at: text_words::places::position(value),
+        refusal: numbered(mark),
+    })
 }
 
 // Writes the two numbers of the k-th verdict.
@@ -71,10 +67,9 @@ pub fn keep(memo: &mut [usize], k: u16, v: Verdict)
     ensures { Kept memo.old k v memo.new }
 {
     match v {
-        Verdict::Fine(w) => put(memo, k, 0, w.work),
-        Verdict::Faulty(f) => {
-            let refusal = f.refusal;
-            let mark = refusals::refusal_number(refusal) as usize;
+        Ok(w) => put(memo, k, 0, w.work),
+        Err(f) => {
+            let mark = u8::from(f.refusal) as usize;
             put(memo, k, mark, text_words::places::place(f.at))
         }
     }

@@ -17,15 +17,5 @@ pub struct Worth {
     pub work: usize,
 }
 
-#[derive(Clone, Copy)]
-pub enum Verdict {
-    Fine(Worth),
-    Faulty(Fault),
-}
-
-// Two parts without fault, or the earlier fault.
-#[derive(Clone, Copy)]
-pub enum Pair {
-    Fine(Worth, Worth),
-    Faulty(Fault),
-}
+// What an expression is worth, or the fault that answers.
+pub type Verdict = Result<Worth, Fault>;

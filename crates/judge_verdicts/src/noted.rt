@@ -1,9 +1,8 @@
 // Verdicts on records of expressions, noted in one number each behind what is kept, so that an owner finds those of its parts.
-ghost use Rattle.std.specs.Prelude.{◌≡◌, ◌+◌, ◌*◌, ◌^◌, ◌≤◌, ◌<◌};
-ghost use Rattle.judge_verdicts.specs.Noted.{FoundAt, Notes, is_reference, joined, noted_from, record_in, verdict_in};
+ghost use Rattle.std.specs.Prelude.{◌≡◌, ◌+◌, ◌*◌, ◌^◌, ◌≤◌, ◌<◌, IfSome};
+ghost use Rattle.judge_verdicts.specs.Noted.{NotedAt, Notes, is_reference, joined, noted_from, record_in, verdict_in};
 
 use crate::{Verdict, Worth, kept};
-use language::refusals;
 use text_words::Fault;
 
 // Where the numbers begin: behind two for each facility.
@@ -39,57 +38,49 @@ pub fn verdict(e: usize) -> Verdict
     let mark = e / VALUES % 16;
     let value = e % VALUES;
     if mark == 0 {
-        return Verdict::Fine(Worth {
+        return Ok(Worth {
             length: (value / COUNTS / COUNTS) as u16,
             arms: value / COUNTS % COUNTS,
             work: value % COUNTS,
         });
     }
-    let place = text_words::places::position(value);
-    let refusal = kept::numbered(mark);
-    Verdict::Faulty(Fault { at: place, refusal })
+    Err(Fault {
+        at: text_words::places::position(value),
+        refusal: kept::numbered(mark),
+    })
 }
 
-// Length, arms and work in one number, or `VALUES` where they have no room in it.
-fn worth_value(w: Worth) -> usize
-    ensures { result < 2 ^ 43 → (w.length < 512) × (w.arms < 2 ^ 17) × (w.work < 2 ^ 17) × (result ≡ (w.length * 2 ^ 17 + w.arms) * 2 ^ 17 + w.work) }
+// Length, arms and work in one number, where they have room in it.
+fn worth_value(w: Worth) -> Option<usize>
+    ensures { IfSome result (λ value. (w.length < 512) × (w.arms < 2 ^ 17) × (w.work < 2 ^ 17) × (value ≡ (w.length * 2 ^ 17 + w.arms) * 2 ^ 17 + w.work)) }
 {
-    if LENGTHS <= w.length {
-        return VALUES;
+    if LENGTHS <= w.length || COUNTS <= w.arms || COUNTS <= w.work {
+        return None;
     }
-    if COUNTS <= w.arms {
-        return VALUES;
-    }
-    if COUNTS <= w.work {
-        return VALUES;
-    }
-    (w.length as usize * COUNTS + w.arms) * COUNTS + w.work
+    Some((w.length as usize * COUNTS + w.arms) * COUNTS + w.work)
 }
 
-// A record's number and whether it is a reference, a mark and a value in one number, and 0 where the value has no room there.
-fn joined(n: u16, reference: bool, mark: u8, value: usize) -> usize
+// A record's number and whether it is a reference, a mark and a value in one number, where the value has room there.
+fn joined(n: u16, reference: bool, mark: u8, value: usize) -> Option<usize>
     requires { mark < 16 }
-    ensures { 0 < result → (value < 2 ^ 43) × (result ≡ joined n reference mark value) }
+    ensures { IfSome result (λ e. (value < 2 ^ 43) × (e ≡ joined n reference mark value)) }
 {
     if VALUES <= value {
-        return 0;
+        return None;
     }
     let own = 32 * n as usize + mark as usize;
-    if reference {
-        return (own + 16) * VALUES + value;
-    }
-    own * VALUES + value
+    let head = if reference { own + 16 } else { own };
+    Some(head * VALUES + value)
 }
 
-// The verdict on record n in one number, and 0 where it has no room there, which none by the rules lacks.
-pub fn note(n: u16, reference: bool, v: Verdict) -> usize
-    ensures { 0 < result → Notes result n reference v }
+// The verdict on record n in one number, where it has room there, which none by the rules lacks.
+pub fn note(n: u16, reference: bool, v: Verdict) -> Option<usize>
+    ensures { IfSome result (λ e. Notes e n reference v) }
 {
     match v {
-        Verdict::Fine(w) => joined(n, reference, 0, worth_value(w)),
-        Verdict::Faulty(f) => {
-            let refusal = f.refusal;
-            let mark = refusals::refusal_number(refusal);
+        Ok(w) => joined(n, reference, 0, worth_value(w)?),
+        Err(f) => {
+            let mark = u8::from(f.refusal);
             joined(n, reference, mark, text_words::places::place(f.at))
         }
     }
@@ -107,9 +98,9 @@ fn back(gone: usize, left: usize) -> usize
     if gone == 0 { 1 } else { gone }
 }
 
-// The index at which record n is noted, or the length where it is not. Numbers of records rise, and an owner's parts stand last.
-fn search(memo: &[usize], n: u16) -> usize
-    ensures { FoundAt memo.now n result }
+// What is noted of record n. Numbers of records rise, and an owner's parts stand last.
+fn search(memo: &[usize], n: u16) -> Option<usize>
+    ensures { IfSome result (NotedAt memo.now n) }
 {
     let mut low = FIRST;
     let mut high = memo.len();
@@ -117,7 +108,7 @@ fn search(memo: &[usize], n: u16) -> usize
         let middle = high - back(memo.len() - high, high - low);
         let there = record_of(memo[middle]);
         if there == n as usize {
-            return middle;
+            return Some(memo[middle]);
         }
         if there < n as usize {
             low = middle + 1;
@@ -125,33 +116,25 @@ fn search(memo: &[usize], n: u16) -> usize
             high = middle;
         }
     }
-    memo.len()
+    None
 }
 
 // Where record n stands if all records from the first noted on are.
 fn guess(memo: &[usize], n: u16) -> usize
     ensures { noted_from ≤ result }
 {
-    if memo.len() <= FIRST {
-        return FIRST;
+    match memo.get(FIRST) {
+        Some(e) => FIRST + (n as usize).saturating_sub(record_of(*e)),
+        None => FIRST,
     }
-    let first = record_of(memo[FIRST]);
-    let number = n as usize;
-    if number < first {
-        return FIRST;
-    }
-    FIRST + (number - first)
 }
 
 // The same, looked for where it stands if no record before it is left out.
-pub fn find(memo: &[usize], n: u16) -> usize
-    ensures { FoundAt memo.now n result }
+pub fn find(memo: &[usize], n: u16) -> Option<usize>
+    ensures { IfSome result (NotedAt memo.now n) }
 {
-    let i = guess(memo, n);
-    if i < memo.len() {
-        if record_of(memo[i]) == n as usize {
-            return i;
-        }
+    match memo.get(guess(memo, n)) {
+        Some(e) if record_of(*e) == n as usize => Some(*e),
+        _ => search(memo, n),
     }
-    search(memo, n)
 }

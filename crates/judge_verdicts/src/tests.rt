@@ -15,13 +15,10 @@ const LONGEST: u64 = ceilings::VALUE as u64;
 pub fn sized(at: Position, length: u64, work: usize) -> Verdict
     ensures { (w : ℕ) → work ≡ capped w → result ≡ seen (L.sized (positioned at) length w) }
 {
-    if length == 0 {
+    if length == 0 || LONGEST < length {
         return faults::refused(at, Refusal::BadLength);
     }
-    if LONGEST < length {
-        return faults::refused(at, Refusal::BadLength);
-    }
-    Verdict::Fine(Worth {
+    Ok(Worth {
         length: length as u16,
         arms: 0,
         work,
@@ -32,9 +29,7 @@ pub fn sized(at: Position, length: u64, work: usize) -> Verdict
 pub fn proper(at: Position, v: Verdict) -> Verdict
     ensures { (j : L.Judged) → v ≡ seen j → result ≡ seen (L.proper (positioned at) j) }
 {
-    let Verdict::Fine(w) = v else {
-        return v;
-    };
+    let w = v?;
     if w.arms == 0 {
         v
     } else {
@@ -46,9 +41,7 @@ pub fn proper(at: Position, v: Verdict) -> Verdict
 pub fn arm_list(at: Position, v: Verdict) -> Verdict
     ensures { (j : L.Judged) → v ≡ seen j → result ≡ seen (L.arm_list (positioned at) j) }
 {
-    let Verdict::Fine(w) = v else {
-        return v;
-    };
+    let w = v?;
     if w.arms == 0 {
         faults::refused(at, Refusal::NoContinuation)
     } else {

@@ -1,14 +1,14 @@
 -- The stops (01, "One cycle"), which src/stops.rt lists, and 01's number of each.
 use Rattle.std.proofs.Math.Option.{Option, none, some}
-use Rattle.std.specs.Prelude.{ℕ}
-use Rattle.language.specs.declared.stops.Halt.{Halt}
-use Rattle.language.specs.declared.stops.Halt.TheVariants as Halts
+use Rattle.std.specs.Prelude as Code
+use Rattle.std.specs.Prelude.{None, Some, ℕ}
 use Rattle.language.specs.declared.stops.Stop.{Stop}
 use Rattle.language.specs.declared.stops.Stop.TheVariants.{OutsideBounds, TwoNextStates, ValueUnborne, NothingToReturn, TooManyCalls, NoNextState, LastCycleReached}
 
-abbrev pub halted : Halt → Option Stop
-halted Halts.None = none
-halted (Halts.At s) = some s
+-- The stop that ended something, if one did.
+abbrev pub halted : Code.Option Stop → Option Stop
+halted None = none
+halted (Some s) = some s
 
 abbrev pub stop_number : Stop → ℕ
 stop_number OutsideBounds = 1

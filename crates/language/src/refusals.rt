@@ -31,23 +31,25 @@ pub enum Refusal {
 }
 
 // 01's number of each; 11 is none.
-pub fn refusal_number(r: Refusal) -> u8
-    ensures { result ≡ refusal_number r }
-{
-    match r {
-        Refusal::TextTooLong => 1,
-        Refusal::BadCharacter => 2,
-        Refusal::NoContinuation => 3,
-        Refusal::BadName => 4,
-        Refusal::BadConstant => 5,
-        Refusal::BadSubscript => 6,
-        Refusal::BadLength => 7,
-        Refusal::BadStore => 8,
-        Refusal::BadSequencing => 9,
-        Refusal::CeilingPassed => 10,
-        Refusal::BufferTooShort => 12,
-        Refusal::ImageFails => 13,
-        Refusal::Unsound => 14,
-        Refusal::BadStimulus => 15,
+impl From<Refusal> for u8 {
+    ghost from_gives = { λ r n. n ≡ refusal_number r };
+
+    fn from(r: Refusal) -> u8 {
+        match r {
+            Refusal::TextTooLong => 1,
+            Refusal::BadCharacter => 2,
+            Refusal::NoContinuation => 3,
+            Refusal::BadName => 4,
+            Refusal::BadConstant => 5,
+            Refusal::BadSubscript => 6,
+            Refusal::BadLength => 7,
+            Refusal::BadStore => 8,
+            Refusal::BadSequencing => 9,
+            Refusal::CeilingPassed => 10,
+            Refusal::BufferTooShort => 12,
+            Refusal::ImageFails => 13,
+            Refusal::Unsound => 14,
+            Refusal::BadStimulus => 15,
+        }
     }
 }

@@ -20,24 +20,19 @@ pub enum Stop {
     LastCycleReached,
 }
 
-// The stop that ended something, if one did.
-#[derive(Clone, Copy)]
-pub enum Halt {
-    None,
-    At(Stop),
-}
-
 // 01's number of each.
-pub fn stop_number(s: Stop) -> u8
-    ensures { result ≡ stop_number s }
-{
-    match s {
-        Stop::OutsideBounds => 1,
-        Stop::TwoNextStates => 2,
-        Stop::ValueUnborne => 3,
-        Stop::NothingToReturn => 4,
-        Stop::TooManyCalls => 5,
-        Stop::NoNextState => 6,
-        Stop::LastCycleReached => 7,
+impl From<Stop> for u8 {
+    ghost from_gives = { λ s n. n ≡ stop_number s };
+
+    fn from(s: Stop) -> u8 {
+        match s {
+            Stop::OutsideBounds => 1,
+            Stop::TwoNextStates => 2,
+            Stop::ValueUnborne => 3,
+            Stop::NothingToReturn => 4,
+            Stop::TooManyCalls => 5,
+            Stop::NoNextState => 6,
+            Stop::LastCycleReached => 7,
+        }
     }
 }

@@ -6,7 +6,6 @@ use Prim.Native.Nat.{ℕ, suc, ◌+◌, ◌-◌, ◌≤◌}
 use native.Mathlib.Omega.{arith}
 use lib.ListN.{length}
 use Rattle.parse_step.proofs.Saying.{makes-it}
-use Rattle.parse_step.specs.declared.Answer.{Answer}
 use Rattle.parse_step.specs.declared.Bearing.TheVariants.{Closes}
 use Rattle.parse_step.specs.declared.State.{State}
 use Rattle.parse_step.specs.Course.{Stack, counts5, counts_of, runs}
@@ -23,7 +22,7 @@ use Rattle.language.specs.Words as L
 use Rattle.parse_tables.specs.declared.meaning.KnownNames as M
 use Rattle.parse_expressions.specs.Phrases.{same}
 use Rattle.parse_stores.proofs.Standings.{standing-after}
-use Rattle.parse_stores.specs.Actions.{Paid, Reads, Standing, Written, front_of, grown}
+use Rattle.parse_stores.specs.Actions.{ActionsRead, Paid, Reads, Standing, Written, front_of, grown}
 use Rattle.text_words.specs.declared.Word.{Word}
 use Rattle.parse_tables.specs.declared.Table.TheVariants as Tb
 use Rattle.parse_tables.specs.Rows.{rows}
@@ -31,6 +30,9 @@ use Rattle.parse_array.specs.Layout.{work_size}
 use Rattle.parse_actions.proofs.Laying.{laid-written}
 use Rattle.parse_actions.specs.Laid.{Laid}
 use Rattle.parse_actions.specs.Lists.{Entered, action_ask}
+use Rattle.parse_step.specs.Answers.{Answer}
+use Rattle.parse_step.specs.declared.Reached.{Reached}
+use Rattle.std.specs.Prelude.{Ok}
 
 -- ---- The records of a conditional.
 
@@ -85,17 +87,21 @@ pub concluded : (q : Bool) {text : List ℕ} {sc : Scope} {n : M.KnownNames} {w 
     → (whole : Actions) → Written sc whole s work s₂ work₃ → {k : ℕ} {t : Answer} → Expected text k Closes w₂ s₂ t → 3 ≤ k → (f : Step Built) (mid : Built → Built)
     → ((K : Stack) (b : Built) → runs text (ask (action_ask q) ∷ K) w b s ≡ runs text (word k closes ∷ make f ∷ K) w₂ (mid b) s₂) → ((b : Built) (p : L.Position) → f p (mid b) ≡ grown whole b)
     → Reads text sc n (ask (action_ask q) ∷ []) [] (same text) w s work work₃ t
-concluded q {text} st a e p st₂ l whole x {t = t} y h f mid g made = record {
-  done = λ d. let o = y.done d st₂.seen h in
-      let v = written-to x o.0.kept in
-      let u = paid-whole a e p o.0.counts o.0.kept in
-      record {
-        tree = whole;
-        course = λ K b. g K b ∙ o.1 (make f ∷ K) (mid b) ∙ makes-it text f K t.next (mid b) (grown whole b) t.state (made b);
-        written = v;
-        paid = u;
-        standing = standing-after st v u o.0.seen l (ap within_ceilings o.0.counts ∙ o.0.fits);
-      };
+concluded q {text} {sc} {n} {w} {s} {work} st a e {work₃ = work₃} p st₂ l whole x {t = t} y h f mid g made = record {
+  done = λ d. read d;
   refused = λ v d K b. g K b ∙ y.refused v d st₂.seen h (make f ∷ K) (mid b);
   full = λ d. absurd (y.full d);
 }
+  where
+    read : {t' : Reached} → t ≡ Ok t' → ActionsRead text sc n (ask (action_ask q) ∷ []) [] (same text) w s work work₃ t'
+    read {t'} d =
+        let o = y.done d st₂.seen h in
+        let v = written-to x o.0.kept in
+        let u = paid-whole a e p o.0.counts o.0.kept in
+        record {
+          tree = whole;
+          course = λ K b. g K b ∙ o.1 (make f ∷ K) (mid b) ∙ makes-it text f K t'.next (mid b) (grown whole b) t'.state (made b);
+          written = v;
+          paid = u;
+          standing = standing-after st v u o.0.seen l (ap within_ceilings o.0.counts ∙ o.0.fits);
+        }

@@ -1,8 +1,7 @@
 -- What reading lists of actions and conditionals answers.
-use Rattle.std.specs.Prelude.{Bool, true, false, List, [], ◌∷◌, ◌++◌, ◌≡◌, ℕ, suc, ◌+◌, ◌-◌, ◌*◌, ◌≤◌}
-use Rattle.parse_step.specs.declared.Answer.{Answer}
+use Rattle.std.specs.Prelude.{Bool, true, false, List, [], ◌∷◌, ◌++◌, ◌≡◌, ℕ, suc, ◌+◌, ◌-◌, ◌*◌, ◌≤◌, Err, Ok, Result}
 use Rattle.parse_step.specs.declared.State.{State}
-use Rattle.parse_step.specs.declared.ReadVerdict.TheVariants as Vd
+use Rattle.parse_step.specs.declared.Unread.TheVariants as Vd
 use Rattle.parse_step.specs.Course.{Stack, kind_no, runs}
 use Rattle.parse_step.specs.Says.{pushed}
 use Rattle.language.specs.Building.{Built, joined, keep_word, with_lists}
@@ -28,6 +27,9 @@ use Rattle.text_words.specs.declared.Word.{Word}
 use Rattle.text_words.specs.Meaning.{faulted, positioned}
 use Rattle.parse_expressions.specs.declared.pieces.Armed.{Armed}
 use Rattle.parse_actions.specs.Laid.{Laid}
+use Rattle.parse_step.specs.Answers.{Answer}
+use Rattle.parse_step.specs.declared.Reached.{Reached}
+use Rattle.parse_step.specs.declared.Unread.{Unread}
 
 -- ---- The machine's notions, in an operation or in a state.
 
@@ -64,10 +66,10 @@ arm_stack q = own_stack q ++ make tree_steps.make_arm ∷ ask (arms_ask q) ∷ [
 -- ---- Answers.
 
 -- What was read, or the machine's refusal; there is room for everything.
-pub record Told (text : List ℕ) (P : Stack) (w : Word) (s : State) (a : Answer) (Read : Type 0) : Type 0 where
-  pub done : a.verdict ≡ Vd.Done → Read
-  pub refused : (f : Fault) → a.verdict ≡ Vd.Refused f → (K : Stack) (b : Built) → runs text (P ++ K) w b s ≡ refused (faulted f)
-  pub full : a.verdict ≡ Vd.Full → ⊥
+pub record Told {A : Type 0} (text : List ℕ) (P : Stack) (w : Word) (s : State) (a : Result A Unread) (Read : A → Type 0) : Type 0 where
+  pub done : {x : A} → a ≡ Ok x → Read x
+  pub refused : (f : Fault) → a ≡ Err (Vd.Refused f) → (K : Stack) (b : Built) → runs text (P ++ K) w b s ≡ refused (faulted f)
+  pub full : {z : State} → a ≡ Err (Vd.Full z) → ⊥
 
 -- A comma and the action behind it.
 abbrev pub Another : Bool → List ℕ → KnownNames → Word → State → List ℕ → List ℕ → Answer → Type 0
@@ -77,7 +79,7 @@ Another q text n w s work work' r =
 -- ---- Arms. An arm's own record is paid for beforehand.
 
 -- From the stack P to the stack Q with a list of its own, and the records of an arm that holds it.
-pub record ArmRead (P Q : Stack) (text : List ℕ) (sc : Scope) (n : KnownNames) (w : Word) (s : State) (work work' : List ℕ) (r : Answer) : Type 0 where
+pub record ArmRead (P Q : Stack) (text : List ℕ) (sc : Scope) (n : KnownNames) (w : Word) (s : State) (work work' : List ℕ) (r : Reached) : Type 0 where
   pub tree : Actions
   pub course : (K : Stack) (b : Built) → runs text (P ++ K) w b s ≡ runs text (Q ++ K) r.next (with_lists b (tree ∷ b.lists)) r.state
   pub written : Written sc (T.arm tree T.done) s work r.state work'
@@ -86,7 +88,7 @@ pub record ArmRead (P Q : Stack) (text : List ℕ) (sc : Scope) (n : KnownNames)
 
 abbrev pub Arm : Bool → List ℕ → KnownNames → Word → State → List ℕ → List ℕ → Answer → Type 0
 Arm q text n w s work work' r =
-    (sc : Scope) → Standing text sc n w s (s.actions + 1) work → Told text (own_stack q) w s r (ArmRead (own_stack q) [] text sc n w s work work' r)
+    (sc : Scope) → Standing text sc n w s (s.actions + 1) work → Told text (own_stack q) w s r (ArmRead (own_stack q) [] text sc n w s work work')
 
 -- ELSE and its list; the end of the conditional is still to come.
 abbrev pub else_stack : Stack
@@ -95,10 +97,10 @@ else_stack = word end_if_word closes ∷ make tree_steps.make_if ∷ []
 abbrev pub Else : Bool → List ℕ → KnownNames → Word → State → List ℕ → List ℕ → Answer → Type 0
 Else q text n w s work work' r =
     (kind_no w.kind ≡ end_if_word → ⊥) → (sc : Scope) → Standing text sc n w s (s.actions + 1) work
-    → Told text (ask (rest_ask q) ∷ []) w s r (ArmRead (ask (rest_ask q) ∷ []) else_stack text sc n w s work work' r)
+    → Told text (ask (rest_ask q) ∷ []) w s r (ArmRead (ask (rest_ask q) ∷ []) else_stack text sc n w s work work')
 
 -- From the stack P to the stack Q with k arms more.
-pub record ArmsRead (k : ℕ) (P Q : Stack) (text : List ℕ) (sc : Scope) (n : KnownNames) (w : Word) (s : State) (work work' : List ℕ) (r : Answer) : Type 0 where
+pub record ArmsRead (k : ℕ) (P Q : Stack) (text : List ℕ) (sc : Scope) (n : KnownNames) (w : Word) (s : State) (work work' : List ℕ) (r : Reached) : Type 0 where
   pub tree : Actions
   pub arms : (t : Actions) → arms_in (joined tree t) ≡ k + arms_in t
   pub counted : s.counted + k ≤ r.state.counted
@@ -110,12 +112,12 @@ pub record ArmsRead (k : ℕ) (P Q : Stack) (text : List ℕ) (sc : Scope) (n : 
 abbrev pub NextArm : Bool → List ℕ → KnownNames → Word → State → List ℕ → List ℕ → Answer → Type 0
 NextArm q text n w s work work' r =
     kind_no w.kind ≡ do_word → (sc : Scope) → Standing text sc n w s (s.actions + 1) work
-    → Told text (ask (arms_ask q) ∷ []) w s r (ArmsRead 1 (ask (arms_ask q) ∷ []) (ask (arms_ask q) ∷ []) text sc n w s work work' r)
+    → Told text (ask (arms_ask q) ∷ []) w s r (ArmsRead 1 (ask (arms_ask q) ∷ []) (ask (arms_ask q) ∷ []) text sc n w s work work')
 
-abbrev pub Arms : Bool → List ℕ → KnownNames → Word → State → List ℕ → List ℕ → Armed → Type 0
+abbrev pub Arms : Bool → List ℕ → KnownNames → Word → State → List ℕ → List ℕ → Result Armed Unread → Type 0
 Arms q text n w s work work' r =
     (sc : Scope) → Standing text sc n w s (s.actions + 1) work
-    → Told text (arm_stack q) w s r.answer (ArmsRead r.count (arm_stack q) [] text sc n w s work work' r.answer)
+    → Told text (arm_stack q) w s r (λ a. ArmsRead a.count (arm_stack q) [] text sc n w s work work' a.reached)
 
 -- An action that begins with a name.
 abbrev pub Named : Bool → List ℕ → KnownNames → Word → State → List ℕ → List ℕ → Answer → Type 0
@@ -157,7 +159,7 @@ pub record Entered (s s' : State) : Type 0 where
   pub nodes : s'.nodes + 7 * s.counted ≤ s.nodes + 7 * s'.counted
 
 -- A conditional up to its first arm. Its own record is still to be written again; that of an arm is paid for besides.
-pub record ConditionRead (case : Bool) (text : List ℕ) (sc : Scope) (n : KnownNames) (w : Word) (s : State) (work work' : List ℕ) (r : Answer) : Type 0 where
+pub record ConditionRead (case : Bool) (text : List ℕ) (sc : Scope) (n : KnownNames) (w : Word) (s : State) (work work' : List ℕ) (r : Reached) : Type 0 where
   pub tree : Expression
   pub course : (q : Bool) (K : Stack) (b : Built) → runs text (ask (action_ask q) ∷ K) w b s ≡ runs text (branch_stack q case ++ K) r.next (branching case (pushed tree (keep_word (sign_of case w) b))) r.state
   pub laid : Laid (expression_size tree) (nodes_of sc s.nodes tree) 1 (act D.Action.broken (positioned w.at) ∷ []) s work r.state work'
@@ -166,11 +168,11 @@ pub record ConditionRead (case : Bool) (text : List ℕ) (sc : Scope) (n : Known
 
 abbrev pub Condition : Bool → List ℕ → KnownNames → Word → State → List ℕ → List ℕ → Answer → Type 0
 Condition case text n w s work work' r =
-    kind_no w.kind ≡ choice_word case → (q : Bool) (sc : Scope) → Standing text sc n w s s.actions work → Told text (ask (action_ask q) ∷ []) w s r (ConditionRead case text sc n w s work work' r)
+    kind_no w.kind ≡ choice_word case → (q : Bool) (sc : Scope) → Standing text sc n w s s.actions work → Told text (ask (action_ask q) ∷ []) w s r (ConditionRead case text sc n w s work work')
 
 -- One more is open, and not too many.
 abbrev pub Deeper : State → Answer → Type 0
-Deeper s r = r.verdict ≡ Vd.Done → (r.state.nesting ≡ suc s.nesting) × (r.state.nesting ≤ 24)
+Deeper s r = (r' : Reached) → r ≡ Ok r' → (r'.state.nesting ≡ suc s.nesting) × (r'.state.nesting ≤ 24)
 
 abbrev pub Conditional : Bool → Bool → List ℕ → KnownNames → Word → State → List ℕ → List ℕ → Answer → Type 0
 Conditional q case text n w s work work' r =

@@ -14,36 +14,34 @@ ghost use Rattle.parse_actions.specs.Lists.{OneBranch};
 
 use image_records::actions::Action;
 use parse_array::Work;
-use parse_step::{Answer, Bearing, adding, kinds, taking};
+use parse_step::{Answer, Bearing, Reached, adding, kinds, taking};
 use parse_tables::{Table, actions, places, rows};
 use text_words::Word;
 
 // Whether a word is of a kind.
+#[tactic(auto, using(std::proofs::lemmas::Bool::Decides::nat_tests))]
 pub fn is(w: Word, kind: u8) -> bool
     ensures { result ≡ eqb (kind_no w.kind) kind }
 {
-    let found = w.kind;
-    kinds::number(found) == kind
+    kinds::kind_of(w) == kind
 }
 
 // Whether an action begins with a kind in a state besides a name: `->`, `=>` or RETURN.
+#[tactic(auto, using(std::proofs::lemmas::Bool::Decides::nat_tests), unfolding(about_grammar::specs::Following::among))]
 pub fn signs(kind: u8) -> bool
     ensures { result ≡ among kind (goto_sign ∷ call_sign ∷ return_word ∷ []) }
 {
-    if kind == language::kinds::GOTO {
-        return true;
-    }
-    if kind == language::kinds::CALL {
-        return true;
-    }
-    kind == language::kinds::RETURN
+    matches!(
+        kind,
+        language::kinds::GOTO | language::kinds::CALL | language::kinds::RETURN
+    )
 }
 
 // How many of `count` records stand behind record n.
 pub fn behind(n: u16, count: u16) -> u16
     ensures { result ≡ count - n - 1 }
 {
-    if count <= n { 0 } else { count - n - 1 }
+    count.saturating_sub(n).saturating_sub(1)
 }
 
 // Writes the record of an arm again: those behind it belong to it.
@@ -67,13 +65,12 @@ pub fn when_again(work: &mut Work, acts: u16, arm: u16, nodes: u16, count: u16, 
 {
     let action = Action::When(adding::last(nodes), behind(acts, count));
     actions::rewrite_action(work, acts, action);
-    let at = w.at;
-    let beside = places::place_row(at);
+    let beside = places::place_row(w.at);
     rows::write(work, Table::ActionPlaces, arm, &beside);
 }
 
-// The word ENDIF behind what an answer has read.
-pub fn end_if(text: &[u8], a: Answer) -> Answer
+// The word ENDIF behind what was read.
+pub fn end_if(text: &[u8], a: Reached) -> Answer
     ensures { Expected text.now end_if_word Closes a.next a.state result }
 {
     taking::expect(

@@ -14,7 +14,7 @@ use language::refusals::Refusal;
 use parse_array::Work;
 use parse_expressions::pieces::Armed;
 use parse_levels::Level;
-use parse_step::{Answer, Bearing, State, kinds, taking};
+use parse_step::{Answer, Bearing, State, Unread, kinds, taking};
 use parse_tables::meaning::KnownNames;
 use text_words::Word;
 
@@ -35,21 +35,15 @@ pub fn list(
 ) -> Answer
     ensures { Acts (list_stack in_state) same text.now n w s work.old work.new result }
 {
-    let mut read = action(s, in_state, text, w, work, n);
-    let mut count: u16 = 1;
-    while count < TURNS {
-        if parse_step::unread(read) {
-            return read;
+    let mut read = action(s, in_state, text, w, work, n)?;
+    for _ in 1..TURNS {
+        if !leaves::is(read.next, language::kinds::COMMA) {
+            return Ok(read);
         }
-        if leaves::is(read.next, language::kinds::COMMA) {
-            let state = parse_expressions::pieces::at(read.state, s.nesting);
-            read = another(state, in_state, text, read.next, work, n);
-            count += 1;
-        } else {
-            return read;
-        }
+        let state = parse_expressions::pieces::at(read.state, s.nesting);
+        read = another(state, in_state, text, read.next, work, n)?;
     }
-    read
+    Ok(read)
 }
 
 // A comma and the action behind it.
@@ -57,10 +51,7 @@ pub fn list(
 fn another(s: State, in_state: bool, text: &[u8], w: Word, work: &mut Work, n: KnownNames) -> Answer
     ensures { Another in_state text.now n w s work.old work.new result }
 {
-    let comma = taking::take(text, w, s, false, Bearing::Level);
-    if parse_step::unread(comma) {
-        return comma;
-    }
+    let comma = taking::take(text, w, s, false, Bearing::Level)?;
     let state = parse_expressions::pieces::at(comma.state, s.nesting);
     action(state, in_state, text, comma.next, work, n)
 }
@@ -77,8 +68,7 @@ pub fn action(
 ) -> Answer
     ensures { Acts (ask (action_ask in_state) ∷ []) same text.now n w s work.old work.new result }
 {
-    let found = w.kind;
-    let kind = kinds::number(found);
+    let kind = kinds::kind_of(w);
     if kind == language::kinds::IF {
         return when(s, in_state, text, w, work, n);
     }
@@ -92,22 +82,12 @@ pub fn action(
 fn condition(s: State, case: bool, text: &[u8], w: Word, work: &mut Work) -> Answer
     ensures { ((m : M.KnownNames) → Condition case text.now m w s work.old work.new result) × Deeper s result }
 {
-    let opened = taking::take(text, w, s, true, Bearing::Opens);
-    if parse_step::unread(opened) {
-        return opened;
-    }
-    let read = parse_expressions::start(opened.state, Level::Expression, text, opened.next, work);
-    if parse_step::unread(read) {
-        return read;
-    }
+    let opened = taking::take(text, w, s, true, Bearing::Opens)?;
+    let read = parse_expressions::start(opened.state, Level::Expression, text, opened.next, work)?;
     let kind = parse_expressions::pieces::first_word(case);
-    let word = taking::expect(text, read.next, read.state, kind, Bearing::Level);
-    if parse_step::unread(word) {
-        return word;
-    }
+    let word = taking::expect(text, read.next, read.state, kind, Bearing::Level)?;
     let inner = parse_expressions::pieces::at(word.state, opened.state.nesting);
-    let at = w.at;
-    parse_stores::leaves::put(inner, Action::Broken, at, word.next, work)
+    parse_stores::leaves::put(inner, Action::Broken, w.at, word.next, work)
 }
 
 // IF, with or without ELSE.
@@ -115,14 +95,8 @@ fn condition(s: State, case: bool, text: &[u8], w: Word, work: &mut Work) -> Ans
 fn when(s: State, in_state: bool, text: &[u8], w: Word, work: &mut Work, n: KnownNames) -> Answer
     ensures { Conditional in_state false text.now n w s work.old work.new result }
 {
-    let head = condition(s, false, text, w, work);
-    if parse_step::unread(head) {
-        return head;
-    }
-    let first = arm(head.state, in_state, text, head.next, work, n);
-    if parse_step::unread(first) {
-        return first;
-    }
+    let head = condition(s, false, text, w, work)?;
+    let first = arm(head.state, in_state, text, head.next, work, n)?;
     if leaves::is(first.next, language::kinds::END_IF) {
         let end = leaves::end_if(text, first);
         leaves::when_again(
@@ -136,10 +110,7 @@ fn when(s: State, in_state: bool, text: &[u8], w: Word, work: &mut Work, n: Know
         return end;
     }
     let state = parse_expressions::pieces::at(first.state, head.state.nesting);
-    let second = otherwise(state, in_state, text, first.next, work, n);
-    if parse_step::unread(second) {
-        return second;
-    }
+    let second = otherwise(state, in_state, text, first.next, work, n)?;
     let end = leaves::end_if(text, second);
     leaves::choose_again(work, s.actions, head.state.nodes, 2, second.state.actions);
     end
@@ -157,10 +128,7 @@ fn otherwise(
 ) -> Answer
     ensures { Else in_state text.now n w s work.old work.new result }
 {
-    let word = taking::expect(text, w, s, language::kinds::ELSE, Bearing::Level);
-    if parse_step::unread(word) {
-        return word;
-    }
+    let word = taking::expect(text, w, s, language::kinds::ELSE, Bearing::Level)?;
     let state = parse_expressions::pieces::at(word.state, s.nesting);
     arm(state, in_state, text, word.next, work, n)
 }
@@ -170,15 +138,9 @@ fn otherwise(
 fn cases(s: State, in_state: bool, text: &[u8], w: Word, work: &mut Work, n: KnownNames) -> Answer
     ensures { Conditional in_state true text.now n w s work.old work.new result }
 {
-    let head = condition(s, true, text, w, work);
-    if parse_step::unread(head) {
-        return head;
-    }
-    let chosen = arms(head.state, in_state, text, head.next, work, n);
-    let last = chosen.answer;
-    if parse_step::unread(last) {
-        return last;
-    }
+    let head = condition(s, true, text, w, work)?;
+    let chosen = arms(head.state, in_state, text, head.next, work, n)?;
+    let last = chosen.reached;
     let end = taking::expect(
         text,
         last.next,
@@ -198,33 +160,28 @@ fn cases(s: State, in_state: bool, text: &[u8], w: Word, work: &mut Work, n: Kno
 
 // The arms of CASE, behind the first DO. Each counts a word, of which there are at most 2,048.
 #[cycle(action_another_arm_arms_cases_list_next_arm_otherwise_when)]
-fn arms(s: State, in_state: bool, text: &[u8], w: Word, work: &mut Work, n: KnownNames) -> Armed
+fn arms(
+    s: State,
+    in_state: bool,
+    text: &[u8],
+    w: Word,
+    work: &mut Work,
+    n: KnownNames,
+) -> Result<Armed, Unread>
     ensures { Arms in_state text.now n w s work.old work.new result }
 {
-    let mut read = arm(s, in_state, text, w, work, n);
-    let mut count: u16 = 1;
-    while count < TURNS {
-        if parse_step::unread(read) {
-            return Armed {
-                answer: read,
-                count,
-            };
+    let mut reached = arm(s, in_state, text, w, work, n)?;
+    for count in 1..TURNS {
+        if !leaves::is(reached.next, language::kinds::DO) {
+            return Ok(Armed { reached, count });
         }
-        if leaves::is(read.next, language::kinds::DO) {
-            let state = parse_expressions::pieces::at(read.state, s.nesting);
-            read = next_arm(state, in_state, text, read.next, work, n);
-            count += 1;
-        } else {
-            return Armed {
-                answer: read,
-                count,
-            };
-        }
+        let state = parse_expressions::pieces::at(reached.state, s.nesting);
+        reached = next_arm(state, in_state, text, reached.next, work, n)?;
     }
-    Armed {
-        answer: read,
-        count,
-    }
+    Ok(Armed {
+        reached,
+        count: TURNS,
+    })
 }
 
 // DO and its list.
@@ -239,10 +196,7 @@ fn next_arm(
 ) -> Answer
     ensures { NextArm in_state text.now n w s work.old work.new result }
 {
-    let word = taking::take(text, w, s, false, Bearing::Level);
-    if parse_step::unread(word) {
-        return word;
-    }
+    let word = taking::take(text, w, s, false, Bearing::Level)?;
     let state = parse_expressions::pieces::at(word.state, s.nesting);
     arm(state, in_state, text, word.next, work, n)
 }
@@ -253,40 +207,30 @@ fn arm(s: State, in_state: bool, text: &[u8], w: Word, work: &mut Work, n: Known
     ensures { Arm in_state text.now n w s work.old work.new result }
 {
     let at = text_words::places::position(0);
-    let begun = parse_stores::leaves::put(s, Action::Broken, at, w, work);
-    if parse_step::unread(begun) {
-        return begun;
-    }
-    let read = list(begun.state, in_state, text, w, work, n);
-    if parse_step::unread(read) {
-        return read;
-    }
+    let begun = parse_stores::leaves::put(s, Action::Broken, at, w, work)?;
+    let read = list(begun.state, in_state, text, w, work, n)?;
     leaves::arm_again(work, s.actions, read.state.actions);
-    read
+    Ok(read)
 }
 
 // An action that is no conditional.
 fn plain(s: State, in_state: bool, text: &[u8], w: Word, work: &mut Work, n: KnownNames) -> Answer
     ensures { Plain in_state text.now n w s work.old work.new result }
 {
-    let found = w.kind;
-    if kinds::number(found) == language::kinds::NAME {
+    if kinds::kind_of(w) == language::kinds::NAME {
         return named(s, in_state, text, w, work, n);
     }
     if in_state {
         return signed(s, text, w, work, n);
     }
-    taking::refuse(w, s, Refusal::NoContinuation)
+    taking::refuse(w, Refusal::NoContinuation)
 }
 
 // An action that begins with a name.
 fn named(s: State, in_state: bool, text: &[u8], w: Word, work: &mut Work, n: KnownNames) -> Answer
     ensures { Named in_state text.now n w s work.old work.new result }
 {
-    let name = taking::take(text, w, s, false, Bearing::Level);
-    if parse_step::unread(name) {
-        return name;
-    }
+    let name = taking::take(text, w, s, false, Bearing::Level)?;
     if in_state {
         return parse_stores::named_in_state(name.state, w, text, name.next, work, n);
     }
@@ -297,9 +241,8 @@ fn named(s: State, in_state: bool, text: &[u8], w: Word, work: &mut Work, n: Kno
 fn signed(s: State, text: &[u8], w: Word, work: &mut Work, n: KnownNames) -> Answer
     ensures { Signed text.now n w s work.old work.new result }
 {
-    let found = w.kind;
-    if leaves::signs(kinds::number(found)) {
+    if leaves::signs(kinds::kind_of(w)) {
         return parse_stores::signed(s, text, w, work, n);
     }
-    taking::refuse(w, s, Refusal::NoContinuation)
+    taking::refuse(w, Refusal::NoContinuation)
 }

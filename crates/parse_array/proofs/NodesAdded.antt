@@ -1,10 +1,10 @@
 -- Records added one after the other: what the array then holds.
-use mathlib.Core.Bool.{Bool, true}
 use mathlib.Core.List.{List, [], ◌∷◌, ◌++◌, append_assoc, append-nil}
 use mathlib.Core.Path.{◌≡◌, refl, sym, ap, ◌∙◌}
 use Prim.Native.Nat.{ℕ, zero, suc, ◌+◌, ◌-◌, ◌*◌, ◌/◌, ◌%◌, ◌^◌, ◌<◌, ◌≤◌}
 use native.Mathlib.Nat.{div-one, mod-mod}
 use native.Mathlib.Omega.{arith}
+use Rattle.std.specs.Prelude.{Option, Some}
 use Rattle.language.specs.Describe.{Noted, constant_nodes, constant_size, digits_above, noted}
 use Rattle.language.specs.Description as D
 use Rattle.language.specs.Description.{digit_length, further_digits, node_places}
@@ -44,9 +44,9 @@ node-one h x =
 
 -- ---- One record.
 
-pub node-added : {n : ℕ} {bs ps w w' : List ℕ} {b : Bool} → Added n bs ps w w' b → b ≡ true → (x : Noted) → bs ≡ node_bytes x.node → ps ≡ node_beside_bytes x.node x.places
+pub node-added : {n : ℕ} {bs ps w w' : List ℕ} {r : Option ℕ} → Added n bs ps w w' r → {m : ℕ} → r ≡ Some m → (x : Noted) → bs ≡ node_bytes x.node → ps ≡ node_beside_bytes x.node x.places
     → held (n + 1) w' ≡ with_nodes (held n w) (x ∷ [])
-node-added {n} {bs} {ps} {w} a e x p q = a.added e ∙ rw (p, q) (node-one (held n w) x)
+node-added {n} {bs} {ps} {w} {r = r} a {m} e x p q = a.added e ∙ rw (p, q) (node-one (held n w) x)
 
 -- ---- A constant's records.
 
@@ -92,14 +92,14 @@ module _ (v : Value) (p : Position) where
   constant-beside = refl
 
   -- A digit written.
-  pub digit-added : {k i : ℕ} {bs ps w w' : List ℕ} {b : Bool} → Added k bs ps w w' b → b ≡ true → 0 < i → bs ≡ node_bytes (digit_node i).node → ps ≡ plain_places (node_places p)
+  pub digit-added : {k i : ℕ} {bs ps w w' : List ℕ} {r : Option ℕ} → Added k bs ps w w' r → {m : ℕ} → r ≡ Some m → 0 < i → bs ≡ node_bytes (digit_node i).node → ps ≡ plain_places (node_places p)
       → with_nodes (held k w) (digits_from i) ≡ with_nodes (held (k + 1) w') (digits_from (i - 1))
-  digit-added {k} {i} {w = w} a e h f g =
+  digit-added {k} {i} {w = w} a {m} e h f g =
       ap (with_nodes (held k w)) (next-digit i h) ∙ nodes-append (held k w) (digit_node i ∷ []) (digits_from (i - 1))
       ∙ ap (λ (x : Held). with_nodes x (digits_from (i - 1))) (sym (node-added a e (digit_node i) f (g ∙ more-beside _)))
 
-  pub lowest-added : {k i : ℕ} {bs ps w w' : List ℕ} {b : Bool} → Added k bs ps w w' b → b ≡ true → i ≤ 0
+  pub lowest-added : {k i : ℕ} {bs ps w w' : List ℕ} {r : Option ℕ} → Added k bs ps w w' r → {m : ℕ} → r ≡ Some m → i ≤ 0
       → bs ≡ node_bytes (D.constant (value v.length (v.number / 2 ^ (48 * 0) % 2 ^ 48))) → ps ≡ plain_places (node_places p)
       → with_nodes (held k w) (digits_from i) ≡ held (k + 1) w'
-  lowest-added {k} {i} {w = w} a e h f g =
+  lowest-added {k} {i} {w = w} a {m} e h f g =
       ap (with_nodes (held k w)) (no_digit i h) ∙ sym (node-added a e (noted (D.constant v) p) (f ∙ lowest-bytes) (g ∙ constant-beside))

@@ -1,5 +1,4 @@
 -- Places in two bytes.
-use mathlib.Core.List.{List, ◌++◌}
 use mathlib.Core.Path.{◌≡◌}
 use Prim.Native.Nat.{ℕ, ◌+◌, ◌*◌, ◌/◌, ◌%◌}
 use Rattle.language.specs.Encode.{two}
@@ -9,6 +8,3 @@ use Rattle.judge_records.specs.Noted.{place_bytes}
 pub marked : (n place : ℕ) (p : Position) {x : ℕ} → position place ≡ p → x ≡ place % 32768 + 32768 * (n / 65536 % 2) → two x ≡ place_bytes n p
 unfolding place_bytes
 marked n place p e f = rw (← e, f)
-
-pub three : {x y z x' y' z' : List ℕ} → x ≡ x' → y ≡ y' → z ≡ z' → x ++ (y ++ z) ≡ x' ++ (y' ++ z')
-three p q r = rw (p, q, r)

@@ -1,5 +1,5 @@
 -- Bytes written behind those that a region holds: the region grows by them, and the others keep theirs.
-use mathlib.Core.List.{List, [], ◌∷◌, ◌++◌, append_assoc}
+use mathlib.Core.List.{List, ◌++◌, append_assoc}
 use mathlib.Core.Path.{◌≡◌, sym, ap, ◌∙◌}
 use Prim.Native.Nat.{ℕ, ◌+◌, ◌-◌, ◌*◌, ◌<◌, ◌≤◌}
 use native.Mathlib.Omega.{arith}
@@ -72,7 +72,3 @@ pub record-written : (w bs : List ℕ) {w₁ w₂ bs' ps' : List ℕ} (ps : List
     → w₁ ≡ placed w (node_size * n) bs' → bs' ≡ bs → w₂ ≡ placed w₁ (places_from + 6 * n) ps' → ps' ≡ ps
     → held (n + 1) w₂ ≡ with_bytes (held n w) bs ps
 record-written w bs ps n l h b p e f g i = rw (g, e, f, i) (record-added w bs ps n l h b p)
-
-pub six-bytes : {a b c d e f a' b' c' d' e' f' : ℕ} → a ≡ a' → b ≡ b' → c ≡ c' → d ≡ d' → e ≡ e' → f ≡ f'
-    → ◌≡◌ {A = List ℕ} (a ∷ b ∷ c ∷ d ∷ e ∷ f ∷ []) (a' ∷ b' ∷ c' ∷ d' ∷ e' ∷ f' ∷ [])
-six-bytes p q r s t u = rw (p, q, r, s, t, u)

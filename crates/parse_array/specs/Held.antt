@@ -1,9 +1,8 @@
 -- What the working array holds of the expressions: their records in bytes and the places beside them, each behind the other; and all the rest.
-use Rattle.std.specs.Prelude.{Bool, true, false, List, ◌++◌, ◌≡◌, ℕ, ◌+◌, ◌*◌, ◌<◌, ◌≤◌, drop, take}
+use Rattle.std.specs.Prelude.{List, ◌++◌, ◌≡◌, ℕ, ◌+◌, ◌*◌, ◌<◌, ◌≤◌, drop, take, Option, None, Some}
 use Rattle.language.specs.Describe.{Noted}
 use Rattle.language.specs.Encode.{concat, node_bytes, node_size, two}
 use Rattle.judge_records.specs.Noted.{node_beside_bytes}
-use Rattle.parse_array.specs.declared.constants.Room.{Room}
 use Rattle.parse_array.specs.declared.nodes.Beside.{Beside}
 use Rattle.parse_array.specs.Layout.{most_nodes, other_from, places_from}
 
@@ -31,14 +30,14 @@ abbrev pub fields : Beside → List ℕ
 fields p = two p.at ++ (two p.first ++ two p.last)
 
 -- What adding a record of these bytes to n others leaves: it, where there was room.
-pub record Added (n : ℕ) (bs ps w w' : List ℕ) (b : Bool) : Type 0 where
-  pub room : b ≡ true → n < most_nodes
-  pub added : b ≡ true → held (n + 1) w' ≡ with_bytes (held n w) bs ps
-  pub full : b ≡ false → most_nodes ≤ n
+pub record Added (n : ℕ) (bs ps w w' : List ℕ) (r : Option ℕ) : Type 0 where
+  pub room : {m : ℕ} → r ≡ Some m → n < most_nodes
+  pub count : {m : ℕ} → r ≡ Some m → m ≡ n + 1
+  pub added : {m : ℕ} → r ≡ Some m → held (n + 1) w' ≡ with_bytes (held n w) bs ps
+  pub full : r ≡ None → most_nodes ≤ n
 
--- What adding records that are `size` in number to n others leaves: them, where there was room, and never more.
-pub record Grew (n : ℕ) (ns : List Noted) (size : ℕ) (w w' : List ℕ) (r : Room) : Type 0 where
-  pub nodes : r.enough ≡ true → r.nodes ≡ n + size
-  pub added : r.enough ≡ true → held r.nodes w' ≡ with_nodes (held n w) ns
-  pub full : r.enough ≡ false → most_nodes ≤ r.nodes
-  pub most : r.nodes ≤ n + size
+-- What adding records that are `size` in number to n others leaves: them, where there was room for them all.
+pub record Grew (n : ℕ) (ns : List Noted) (size : ℕ) (w w' : List ℕ) (r : Option ℕ) : Type 0 where
+  pub nodes : {m : ℕ} → r ≡ Some m → m ≡ n + size
+  pub added : {m : ℕ} → r ≡ Some m → held m w' ≡ with_nodes (held n w) ns
+  pub full : r ≡ None → most_nodes < n + size

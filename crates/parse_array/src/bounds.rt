@@ -16,10 +16,10 @@ fn at_most(v: Value, ceiling: u64) -> u64
     ensures { (result ≡ min (number v.limbs) ceiling) × (result ≤ ceiling) }
 {
     if numbers::fits64(v) {
-        let n = numbers::low64(v);
-        return if n < ceiling { n } else { ceiling };
+        numbers::low64(v).min(ceiling)
+    } else {
+        ceiling
     }
-    ceiling
 }
 
 // A bound or an end of a part.

@@ -12,51 +12,22 @@ use image_records::nodes::Node;
 use text_words::Position;
 use value_operators::Value;
 
-// How many records there are then, and whether there was room.
-#[derive(Clone, Copy)]
-pub struct Room {
-    pub nodes: u16,
-    pub enough: bool,
-}
-
 // Digit i of a value: 48 bits, the lowest first.
 fn digit_of(v: Value, i: u16) -> u64
     ensures { result ≡ number v.limbs / 2 ^ (48 * i) % 2 ^ 48 }
 {
-    let limbs = v.limbs;
-    let above = value_limbs::shifts::right(limbs, 48 * (i as u32));
-    let low = value_limbs::taken(above);
-    low.l0 % 0x1000000000000
+    let above = value_limbs::shifts::right(v.limbs, 48 * (i as u32));
+    above[0] % 0x1000000000000
 }
 
-// Adds the records of a constant behind n others.
-pub fn add_constant(work: &mut Work, n: u16, v: Value, at: Position) -> Room
+// Adds the records of a constant behind n others; answers how many there are then, or none where there was no room.
+pub fn add_constant(work: &mut Work, n: u16, v: Value, at: Position) -> Option<u16>
     ensures { Grew n (constant_nodes (valued v) (positioned at)) (constant_size (valued v)) work.old work.new result }
 {
     let beside = places::plain(at);
-    let mut i = constants::further_digits(v.length);
     let mut k = n;
-    while i > 0 {
-        let digit = digit_of(v, i);
-        if nodes::add_node(work, k, Node::More(digit), 0, beside) {
-            k += 1;
-            i -= 1;
-        } else {
-            return Room {
-                nodes: k,
-                enough: false,
-            };
-        }
+    for i in (0..constants::further_digits(v.length)).rev() {
+        k = nodes::add_node(work, k, Node::More(digit_of(v, i + 1)), 0, beside)?;
     }
-    let lowest = digit_of(v, 0);
-    if nodes::add_node(work, k, Node::Constant(v.length), lowest, beside) {
-        return Room {
-            nodes: k + 1,
-            enough: true,
-        };
-    }
-    Room {
-        nodes: k,
-        enough: false,
-    }
+    nodes::add_node(work, k, Node::Constant(v.length), digit_of(v, 0), beside)
 }

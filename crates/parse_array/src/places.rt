@@ -31,22 +31,20 @@ pub fn plain(p: Position) -> Beside
     ensures { fields result ≡ plain_places (node_places (positioned p)) }
 {
     let nowhere = places::position(0);
-    let at = field(p, 0);
-    let first = field(nowhere, 0);
-    let last = field(nowhere, 0);
-    Beside { at, first, last }
+    Beside {
+        at: field(p, 0),
+        first: field(nowhere, 0),
+        last: field(nowhere, 0),
+    }
 }
 
 // Of a part with these ends.
 pub fn ended(p: Position, a: u32, first: Position, b: u32, last: Position) -> Beside
     ensures { fields result ≡ end_places (bounds a b) (record { at = positioned p; first = positioned first; last = positioned last }) }
 {
-    let at = field(p, 0);
-    let from = field(first, a);
-    let to = field(last, b);
     Beside {
-        at,
-        first: from,
-        last: to,
+        at: field(p, 0),
+        first: field(first, a),
+        last: field(last, b),
     }
 }

@@ -1,5 +1,5 @@
 -- Dimensions: their extent as a tree, and as the code has it. Those of terminals are read by rules of their own, since a function may follow.
-use Rattle.std.specs.Prelude.{List, [], ◌∷◌, ◌++◌, ◌≡◌, ℕ, ◌-◌}
+use Rattle.std.specs.Prelude.{List, [], ◌∷◌, ◌++◌, ◌≡◌, ℕ, ◌-◌, Result}
 use Rattle.parse_step.specs.declared.State.{State}
 use Rattle.parse_step.specs.Course.{Seen, Stack, runs}
 use Rattle.language.specs.Building.{Built, with_extents}
@@ -18,6 +18,7 @@ use Rattle.text_words.specs.Meaning.{positioned}
 use Rattle.parse_bounds.specs.declared.extents.Measured.{Measured}
 use Rattle.parse_bounds.specs.Ranges.{Bounded, with_range}
 use Rattle.parse_bounds.specs.Telling.{Tells, same}
+use Rattle.parse_step.specs.declared.Unread.{Unread}
 
 -- Of what: of a terminal, or of another facility.
 pub data Whose : Type 0 where
@@ -87,16 +88,16 @@ closed_state s = record { facilities = s.facilities; operations = s.operations; 
 -- From the stack P the machine comes to what follows the dimensions, with their extent on its row.
 pub record ExtentRead (text : List ℕ) (o : Whose) (P : Stack) (pre : Built → Built) (w : Word) (s s' : State) (r : Measured) : Type 0 where
   pub tree : Extent
-  pub course : (K : Stack) (b : Built) → runs text (P ++ K) w (pre b) s ≡ runs text (to_come o tree ++ K) r.answer.next (with_extent tree b) r.answer.state
-  pub state : r.answer.state ≡ s'
+  pub course : (K : Stack) (b : Built) → runs text (P ++ K) w (pre b) s ≡ runs text (to_come o tree ++ K) r.reached.next (with_extent tree b) r.reached.state
+  pub state : r.reached.state ≡ s'
   pub extent : Sized tree r.extent
-  pub seen : Seen text r.answer.next
+  pub seen : Seen text r.reached.next
 
-abbrev pub Measures : List ℕ → Word → State → Measured → Type 0
-Measures text w s r = (o : Whose) → Seen text w → Tells text (ask (ask_of o) ∷ []) same w s r.answer (ExtentRead text o (ask (ask_of o) ∷ []) same w s s r)
+abbrev pub Measures : List ℕ → Word → State → Result Measured Unread → Type 0
+Measures text w s r = (o : Whose) → Seen text w → Tells text (ask (ask_of o) ∷ []) same w s r (ExtentRead text o (ask (ask_of o) ∷ []) same w s s)
 
 -- Behind a first range.
-abbrev pub Follows : List ℕ → Word → State → Ends → Measured → Type 0
+abbrev pub Follows : List ℕ → Word → State → Ends → Result Measured Unread → Type 0
 Follows text w s e r =
     (o : Whose) → Seen text w → (x : T.Ends) → Bounded x e
-    → Tells text (ask (rest_of o) ∷ []) (with_range x) w s r.answer (ExtentRead text o (ask (rest_of o) ∷ []) (with_range x) w s (closed_state s) r)
+    → Tells text (ask (rest_of o) ∷ []) (with_range x) w s r (ExtentRead text o (ask (rest_of o) ∷ []) (with_range x) w s (closed_state s))

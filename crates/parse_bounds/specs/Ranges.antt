@@ -1,5 +1,5 @@
 -- Ranges: their ends as trees, and as the code has them.
-use Rattle.std.specs.Prelude.{List, [], ◌∷◌, ◌≡◌, ℕ}
+use Rattle.std.specs.Prelude.{List, [], ◌∷◌, ◌≡◌, ℕ, Result}
 use Rattle.parse_step.specs.declared.State.{State}
 use Rattle.parse_step.specs.Course.{Seen, Stack, runs}
 use Rattle.parse_step.specs.Taken.{constant_word}
@@ -15,6 +15,7 @@ use Rattle.text_words.specs.declared.Word.{Word}
 use Rattle.text_words.specs.Meaning.{positioned}
 use Rattle.parse_bounds.specs.declared.ranges.Ranged.{Ranged}
 use Rattle.parse_bounds.specs.Telling.{Tells, same}
+use Rattle.parse_step.specs.declared.Unread.{Unread}
 
 -- The bounds of these ends, as far as any rule tells them apart, and their places.
 pub record Bounded (x : T.Ends) (e : Ends) : Type 0 where
@@ -37,10 +38,10 @@ range_stack = keep a_constant ∷ ask range_rest ∷ []
 
 pub record RangeRead (text : List ℕ) (w : Word) (s : State) (r : Ranged) : Type 0 where
   pub tree : T.Ends
-  pub course : (K : Stack) (b : Built) → runs text (keep a_constant ∷ ask range_rest ∷ K) w b s ≡ runs text K r.answer.next (with_range tree b) r.answer.state
-  pub state : r.answer.state ≡ s
+  pub course : (K : Stack) (b : Built) → runs text (keep a_constant ∷ ask range_rest ∷ K) w b s ≡ runs text K r.reached.next (with_range tree b) r.reached.state
+  pub state : r.reached.state ≡ s
   pub ends : Bounded tree r.ends
-  pub seen : Seen text r.answer.next
+  pub seen : Seen text r.reached.next
 
-abbrev pub Ranges : List ℕ → Word → State → Ranged → Type 0
-Ranges text w s r = Seen text w → Tells text range_stack same w s r.answer (RangeRead text w s r)
+abbrev pub Ranges : List ℕ → Word → State → Result Ranged Unread → Type 0
+Ranges text w s r = Seen text w → Tells text range_stack same w s r (RangeRead text w s)

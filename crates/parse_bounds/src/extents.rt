@@ -5,14 +5,14 @@ ghost use Rattle.parse_bounds.specs.Ranges.{Bounded};
 
 use crate::ranges;
 use language::refusals::Refusal;
-use parse_step::{Answer, Bearing, ReadVerdict, State, kinds, taking};
+use parse_step::{Bearing, Reached, State, Unread, kinds, taking};
 use parse_tables::extents::{Ends, Extent};
 use text_words::{Word, places};
 
-// What became of dimensions, and where they are done their extent.
+// How far dimensions were read, and their extent.
 #[derive(Clone, Copy)]
 pub struct Measured {
-    pub answer: Answer,
+    pub reached: Reached,
     pub extent: Extent,
 }
 
@@ -33,12 +33,10 @@ fn nothing() -> Ends
 fn single() -> Extent
     ensures { Sized T.single result }
 {
-    let words = nothing();
-    let bits = nothing();
     Extent {
         dimensions: 0,
-        words,
-        bits,
+        words: nothing(),
+        bits: nothing(),
     }
 }
 
@@ -46,10 +44,9 @@ fn single() -> Extent
 fn row(bits: Ends) -> Extent
     ensures { (x : T.Ends) → Bounded x bits → Sized (T.row x) result }
 {
-    let words = nothing();
     Extent {
         dimensions: 1,
-        words,
+        words: nothing(),
         bits,
     }
 }
@@ -66,67 +63,41 @@ fn table(words: Ends, bits: Ends) -> Extent
 }
 
 // Reads dimensions, which may be left out.
-pub fn dimensions(text: &[u8], w: Word, s: State) -> Measured
+pub fn dimensions(text: &[u8], w: Word, s: State) -> Result<Measured, Unread>
     ensures { Measures text.now w s result }
 {
-    let extent = single();
-    let kind = w.kind;
-    if kinds::number(kind) != language::kinds::OPEN_BRACKET {
-        let answer = Answer {
-            verdict: ReadVerdict::Done,
-            next: w,
-            state: s,
-        };
-        return Measured { answer, extent };
+    if kinds::kind_of(w) != language::kinds::OPEN_BRACKET {
+        let reached = Reached { next: w, state: s };
+        let extent = single();
+        return Ok(Measured { reached, extent });
     }
-    let open = taking::take(text, w, s, false, Bearing::Opens);
-    if parse_step::unread(open) {
-        return Measured {
-            answer: open,
-            extent,
-        };
-    }
-    let first = ranges::range(text, open.next, open.state);
-    if parse_step::unread(first.answer) {
-        let answer = first.answer;
-        return Measured { answer, extent };
-    }
-    let ends = first.ends;
-    behind_range(text, first.answer.next, first.answer.state, ends)
+    let open = taking::take(text, w, s, false, Bearing::Opens)?;
+    let first = ranges::range(text, open.next, open.state)?;
+    behind_range(text, first.reached.next, first.reached.state, first.ends)
 }
 
 // Behind the first range: the bracket, or a comma, another range and the bracket.
-fn behind_range(text: &[u8], w: Word, s: State, first: Ends) -> Measured
+fn behind_range(text: &[u8], w: Word, s: State, first: Ends) -> Result<Measured, Unread>
     ensures { Follows text.now w s first result }
 {
-    let kind = w.kind;
-    let k = kinds::number(kind);
-    let extent = row(first);
-    if k == language::kinds::CLOSE_BRACKET {
-        let answer = taking::take(text, w, s, false, Bearing::Closes);
-        return Measured { answer, extent };
+    let kind = kinds::kind_of(w);
+    if kind == language::kinds::CLOSE_BRACKET {
+        let reached = taking::take(text, w, s, false, Bearing::Closes)?;
+        let extent = row(first);
+        return Ok(Measured { reached, extent });
     }
-    if k != language::kinds::COMMA {
-        let answer = taking::refuse(w, s, Refusal::NoContinuation);
-        return Measured { answer, extent };
+    if kind != language::kinds::COMMA {
+        return taking::refuse(w, Refusal::NoContinuation);
     }
-    let answer = taking::take(text, w, s, false, Bearing::Level);
-    if parse_step::unread(answer) {
-        return Measured { answer, extent };
-    }
-    let second = ranges::range(text, answer.next, answer.state);
-    if parse_step::unread(second.answer) {
-        let answer = second.answer;
-        return Measured { answer, extent };
-    }
-    let answer = taking::expect(
+    let comma = taking::take(text, w, s, false, Bearing::Level)?;
+    let second = ranges::range(text, comma.next, comma.state)?;
+    let reached = taking::expect(
         text,
-        second.answer.next,
-        second.answer.state,
+        second.reached.next,
+        second.reached.state,
         language::kinds::CLOSE_BRACKET,
         Bearing::Closes,
-    );
-    let ends = second.ends;
-    let extent = table(first, ends);
-    Measured { answer, extent }
+    )?;
+    let extent = table(first, second.ends);
+    Ok(Measured { reached, extent })
 }

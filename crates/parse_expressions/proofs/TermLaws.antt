@@ -16,11 +16,9 @@ use Rattle.language.specs.Tree.{Expression}
 use Rattle.text_words.specs.declared.Word.{Word}
 use Rattle.text_words.specs.Meaning.{positioned}
 use Rattle.parse_array.specs.Held.{Held, held}
-use Rattle.parse_step.specs.declared.Answer.{Answer}
 use Rattle.parse_step.specs.declared.Bearing as B
 use Rattle.parse_step.specs.declared.Bearing.TheVariants.{Closes, Level, Opens}
 use Rattle.parse_step.specs.declared.State.{State}
-use Rattle.parse_step.specs.declared.ReadVerdict.TheVariants.{Done}
 use Rattle.parse_step.specs.Course.{Stack, bearing_of, borne, counts_of, kind_no, runs}
 use Rattle.parse_step.specs.Says.{Here, Parses, Pending, Says, pushed}
 use Rattle.parse_step.specs.Taken.{Expected, Refuses, Took, after_word}
@@ -30,6 +28,9 @@ use Rattle.parse_operands.specs.References.{Adds, letters_of}
 use Rattle.parse_operands.proofs.TermWords.{group-term, name-term, no-subscript, no-term, subscript-opens}
 use Rattle.parse_expressions.specs.Phrases.{after_name, same}
 use Rattle.parse_expressions.proofs.PartLaws.{plus-nothing, with_nothing}
+use Rattle.parse_step.specs.Answers.{Answer}
+use Rattle.parse_step.specs.declared.Reached.{Reached}
+use Rattle.std.specs.Prelude.{IsErr, Ok}
 
 -- ---- An answer that ends with a word that must come.
 
@@ -57,35 +58,35 @@ from-kept work m n depth depth' e f x = rw (← e, ← f) x
 -- ---- Groups.
 
 module _ {text : List ℕ} {w : Word} {s : State} {work : List ℕ} (e : kind_no w.kind ≡ open_paren) {t : Answer} (x : Took text w (after_word false Opens s) s t) where
-  pub group-not : {work' : List ℕ} → (t.verdict ≡ Done → ⊥) → Parses (ask term ∷ []) same s.nesting text w s work work' t
+  pub group-not : {work' : List ℕ} → IsErr t → Parses (ask term ∷ []) same s.nesting text w s work work' t
   group-not n sc h = not_taken x n (λ K. ask expression ∷ word close_paren closes ∷ K) (λ b. b) (λ K b. group-term text w h.seen b (counts_of s) e K)
 
-  module _ (d₁ : t.verdict ≡ Done) {work₁ : List ℕ} {r : Answer} (y : Parses (ask expression ∷ []) same t.state.nesting text t.next t.state work work₁ r) where
-    group-course : {sc : Scope} → Here text sc w s work → (K : Stack) (b : Built) → runs text (ask term ∷ K) w b s ≡ runs text (ask expression ∷ word close_paren closes ∷ K) t.next b t.state
+  module _ {t' : Reached} (d₁ : t ≡ Ok t') {work₁ : List ℕ} {r : Answer} (y : Parses (ask expression ∷ []) same t'.state.nesting text t'.next t'.state work work₁ r) where
+    group-course : {sc : Scope} → Here text sc w s work → (K : Stack) (b : Built) → runs text (ask term ∷ K) w b s ≡ runs text (ask expression ∷ word close_paren closes ∷ K) t'.next b t'.state
     group-course h K b = group-term text w h.seen b (counts_of s) e K ∙ took-done (x.done d₁) h.seen (ask expression ∷ word close_paren closes ∷ K) b
 
-    pub inner-not : (r.verdict ≡ Done → ⊥) → Parses (ask term ∷ []) same s.nesting text w s work work₁ r
+    pub inner-not : IsErr r → Parses (ask term ∷ []) same s.nesting text w s work work₁ r
     inner-not n sc h = passed (y sc (here-passed h (x.done d₁))) n (λ K. word close_paren closes ∷ K) (λ b. b) (group-course h)
 
-    pub group-says : r.verdict ≡ Done → {a : Answer} → Expected text close_paren Closes r.next r.state a → Parses (ask term ∷ []) same s.nesting text w s work work₁ a
+    pub group-says : {r' : Reached} → r ≡ Ok r' → {a : Answer} → Expected text close_paren Closes r'.next r'.state a → Parses (ask term ∷ []) same s.nesting text w s work work₁ a
     group-says d {a} z sc h =
         let p = x.done d₁ in
         let o = (y sc (here-passed h p)).done d in
-        from-kept work t.state.nodes s.nodes s.nesting s.nesting p.kept.nodes refl
+        from-kept work t'.state.nodes s.nodes s.nesting s.nesting p.kept.nodes refl
         (ends_with z (omega arith) o.tree o.pending o.here (ap (λ (n : ℕ). n - 1) (o.nesting ∙ ap (λ (c : Counts). c.nesting) p.counts) ∙ omega arith)
         (λ K b. group-course h K b ∙ o.course (word close_paren closes ∷ K) b))
 
 -- ---- A name, and what no term begins with.
 
 module _ {text : List ℕ} {w : Word} {s : State} {work : List ℕ} (e : kind_no w.kind ≡ a_name) {t : Answer} (x : Took text w (after_word true Level s) s t) where
-  pub named-not : {work' : List ℕ} → (t.verdict ≡ Done → ⊥) → Parses (ask term ∷ []) same s.nesting text w s work work' t
+  pub named-not : {work' : List ℕ} → IsErr t → Parses (ask term ∷ []) same s.nesting text w s work work' t
   named-not n sc h = not_taken x n (λ K. ask subscripts ∷ K) (after_name w text) (λ K b. name-term text w h.seen b (counts_of s) e K)
 
-  pub named-says : t.verdict ≡ Done → {work₁ : List ℕ} {r : Answer} → Parses (ask subscripts ∷ []) (after_name w) t.state.nesting text t.next t.state work work₁ r
+  pub named-says : {t' : Reached} → t ≡ Ok t' → {work₁ : List ℕ} {r : Answer} → Parses (ask subscripts ∷ []) (after_name w) t'.state.nesting text t'.next t'.state work work₁ r
       → Parses (ask term ∷ []) same s.nesting text w s work work₁ r
-  named-says d y sc h =
+  named-says {t' = t'} d y sc h =
       let p = x.done d in
-      through (from-kept work t.state.nodes s.nodes t.state.nesting s.nesting p.kept.nodes (ap (λ (c : Counts). c.nesting) p.counts) (y sc (here-passed h p)))
+      through (from-kept work t'.state.nodes s.nodes t'.state.nesting s.nesting p.kept.nodes (ap (λ (c : Counts). c.nesting) p.counts) (y sc (here-passed h p)))
       (λ K b. name-term text w h.seen b (counts_of s) e K ∙ took-done p h.seen (ask subscripts ∷ K) (after_name w text b))
 
 pub term-not : {text : List ℕ} {w : Word} {s : State} {work : List ℕ} {k : ℕ} {r : Answer} → k ≡ kind_no w.kind → (k ≡ a_constant → ⊥) → (k ≡ a_name → ⊥) → (k ≡ open_paren → ⊥) → (k ≡ if_word → ⊥) → (k ≡ case_word → ⊥) → Refuses w NoContinuation r
@@ -104,12 +105,12 @@ module _ {text : List ℕ} {w : Word} {s : State} {work : List ℕ} (name : Word
       (λ K b. no-subscript text w h.seen (counts_of s) (λ q. n (e ∙ q)) (letters_of text name) (positioned name.at) b K)
 
   module _ (e : kind_no w.kind ≡ open_bracket) {t : Answer} (x : Took text w (after_word false Opens s) s t) where
-    pub reference-not : {work' : List ℕ} → (t.verdict ≡ Done → ⊥) → Parses (ask subscripts ∷ []) (after_name name) s.nesting text w s work work' t
+    pub reference-not : {work' : List ℕ} → IsErr t → Parses (ask subscripts ∷ []) (after_name name) s.nesting text w s work work' t
     reference-not n sc h = not_taken x n (λ K. ask subscript ∷ K) (after_name name text) (λ K b. subscript-opens text w h.seen (counts_of s) e (after_name name text b) K)
 
-    pub reference-says : t.verdict ≡ Done → {work₁ : List ℕ} {r : Answer} → Parses (ask subscript ∷ []) (after_name name) (t.state.nesting - 1) text t.next t.state work work₁ r
+    pub reference-says : {t' : Reached} → t ≡ Ok t' → {work₁ : List ℕ} {r : Answer} → Parses (ask subscript ∷ []) (after_name name) (t'.state.nesting - 1) text t'.next t'.state work work₁ r
         → Parses (ask subscripts ∷ []) (after_name name) s.nesting text w s work work₁ r
-    reference-says d y sc h =
+    reference-says {t' = t'} d y sc h =
         let p = x.done d in
-        through (from-kept work t.state.nodes s.nodes (t.state.nesting - 1) s.nesting p.kept.nodes (ap (λ (c : Counts). c.nesting - 1) p.counts ∙ omega arith) (y sc (here-passed h p)))
+        through (from-kept work t'.state.nodes s.nodes (t'.state.nesting - 1) s.nesting p.kept.nodes (ap (λ (c : Counts). c.nesting - 1) p.counts ∙ omega arith) (y sc (here-passed h p)))
         (λ K b. subscript-opens text w h.seen (counts_of s) e (after_name name text b) K ∙ took-done p h.seen (ask subscript ∷ K) (after_name name text b))

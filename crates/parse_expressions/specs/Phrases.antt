@@ -1,5 +1,5 @@
 -- What the functions of the descent answer, each by the stack that it comes from and goes to.
-use Rattle.std.specs.Prelude.{Bool, true, false, List, [], ◌∷◌, ◌++◌, ◌≡◌, ℕ, suc, ◌%◌, ◌≤◌, eqb}
+use Rattle.std.specs.Prelude.{Bool, true, false, List, [], ◌∷◌, ◌++◌, ◌≡◌, ℕ, suc, ◌%◌, ◌≤◌, eqb, Err, Ok, Result}
 use Rattle.about_grammar.specs.Following.{among}
 use Rattle.language.specs.Building.{Built, keep_word}
 use Rattle.language.specs.Declaring.{tree_steps}
@@ -16,12 +16,11 @@ use Rattle.text_words.specs.declared.Fault.{Fault}
 use Rattle.text_words.specs.declared.Word.{Word}
 use Rattle.text_words.specs.Meaning.{faulted, positioned}
 use Rattle.parse_array.specs.Held.{Held, held}
-use Rattle.parse_step.specs.declared.Answer.{Answer}
+use Rattle.parse_array.specs.Layout.{most_nodes}
 use Rattle.parse_step.specs.declared.State.{State}
-use Rattle.parse_step.specs.declared.ReadVerdict.TheVariants.{Done, Full, Refused}
 use Rattle.parse_step.specs.Course.{Seen, Stack, ahead, kind_no, runs}
 use Rattle.parse_step.specs.Gained.{Gained, Grows}
-use Rattle.parse_step.specs.Says.{Here, Parses, Pending, Says, pushed}
+use Rattle.parse_step.specs.Says.{Here, Parses, Pending, Read, Says, pushed}
 use Rattle.parse_step.specs.Taken.{Kept, ends_ahead}
 use Rattle.parse_levels.specs.declared.Lead.{Lead}
 use Rattle.parse_levels.specs.declared.Level.{Level}
@@ -33,6 +32,12 @@ use Rattle.parse_operands.specs.Brackets.{bracket_ask, bracket_end}
 use Rattle.parse_operands.specs.References.{letters_of}
 use Rattle.parse_expressions.specs.declared.pieces.Armed.{Armed}
 use Rattle.language.specs.Tests.{both}
+use Rattle.parse_step.specs.declared.Unread.{Unread}
+use Rattle.parse_step.specs.declared.Unread.{Unread}
+use Rattle.parse_step.specs.declared.Unread.TheVariants.{Full, Refused}
+use Rattle.parse_step.specs.Answers.{Answer}
+use Rattle.parse_step.specs.declared.Reached.{Reached}
+use Rattle.parse_step.specs.declared.Unread.{Unread}
 
 -- Nothing is kept before; or a name is.
 abbrev pub same : List ℕ → Built → Built
@@ -41,8 +46,8 @@ same text b = b
 abbrev pub after_name : Word → List ℕ → Built → Built
 after_name name text b = keep_word (L.name (letters_of text name) (positioned name.at)) b
 
-abbrev pub stayed : State → Word → Answer
-stayed s w = record { verdict = Done; next = w; state = s }
+abbrev pub stayed : State → Word → Reached
+stayed s w = record { next = w; state = s }
 
 -- The state at a nesting.
 abbrev pub at_nesting : State → ℕ → State
@@ -53,16 +58,16 @@ abbrev pub gains : Node → L.Position → Word → State → List ℕ → List 
 gains n p next s work work' r = Gained next s (node_bytes n) (plain_places (node_places p)) work work' r
 
 -- Behind a prefix operator its operand comes.
-pub record Operand (head : Lead) (text : List ℕ) (w : Word) (s : State) (r : Answer) : Type 0 where
+pub record Operand (head : Lead) (text : List ℕ) (w : Word) (s : State) (r : Reached) : Type 0 where
   pub course : (K : Stack) (b : Built) → runs text (prefix_stack head ++ K) w b s ≡ runs text (stack_of (prefix_level head) ++ K) r.next b r.state
   pub nesting : r.state.nesting ≡ s.nesting
   pub kept : Kept s r.state
   pub seen : Seen text r.next
 
 pub record Unprefixed (head : Lead) (text : List ℕ) (w : Word) (s : State) (r : Answer) : Type 0 where
-  pub done : r.verdict ≡ Done → Seen text w → Operand head text w s r
-  pub refused : (f : Fault) → r.verdict ≡ Refused f → Seen text w → (K : Stack) (b : Built) → runs text (prefix_stack head ++ K) w b s ≡ refused (faulted f)
-  pub full : r.verdict ≡ Full → ⊥
+  pub done : {r' : Reached} → r ≡ Ok r' → Seen text w → Operand head text w s r'
+  pub refused : (f : Fault) → r ≡ Err (Refused f) → Seen text w → (K : Stack) (b : Built) → runs text (prefix_stack head ++ K) w b s ≡ refused (faulted f)
+  pub full : {z : State} → r ≡ Err (Full z) → ⊥
 
 -- A level's first operand, by the head that the level has there.
 abbrev pub Begins : Lead → List ℕ → Word → State → List ℕ → List ℕ → Answer → Type 0
@@ -120,13 +125,13 @@ abbrev pub FirstArm : ℕ → List ℕ → Word → State → List ℕ → List 
 FirstArm sep text w s work work' r =
     (sc : Scope) → Here text sc w s work → 3 ≤ sep
     → (x : Says text sc (word sep level ∷ ask expression ∷ make tree_steps.make_first_arm ∷ []) [] (λ b. b) (held s.nodes work) s.nodes s.nesting w s r work')
-    × ((d : r.verdict ≡ Done) → arms_of (x.done d).tree ≡ 1)
+    × ((r' : Reached) (d : r ≡ Ok r') → arms_of (x.done d).tree ≡ 1)
 
 abbrev pub NextArm : ℕ → List ℕ → Word → State → List ℕ → List ℕ → Answer → Type 0
 NextArm sep text w s work work' r =
     (sc : Scope) → Here text sc w s work → 3 ≤ sep → (h : Held) (base : ℕ) (t : Expression) → Pending sc h base t s work
     → (x : Says text sc (word sep level ∷ ask expression ∷ make tree_steps.make_next_arm ∷ []) [] (pushed t) h base s.nesting w s r work')
-    × ((d : r.verdict ≡ Done) → arms_of (x.done d).tree ≡ suc (arms_of t)) × Grows s r
+    × ((r' : Reached) (d : r ≡ Ok r') → arms_of (x.done d).tree ≡ suc (arms_of t)) × Grows s r
 
 -- IF has two arms, CASE two or more: the words before them, and at the end.
 abbrev pub first_word : Bool → ℕ
@@ -157,14 +162,17 @@ arm_stack case =
 abbrev pub another : Bool → ℕ → Bool
 another case k = both case (eqb k do_word)
 
-abbrev pub MoreArms : Bool → ℕ → List ℕ → Word → State → List ℕ → List ℕ → Armed → Type 0
+-- An expression as it is read, and the number of its arms.
+pub record Counted (text : List ℕ) (sc : Scope) (P : Stack) (pre : Built → Built) (h : Held) (base depth : ℕ) (w : Word) (s : State) (r : Result Armed Unread) (work : List ℕ) : Type 0 where
+  pub done : {a : Armed} → r ≡ Ok a → (y : Read text sc P [] pre h base depth w s a.reached work) × (a.count ≡ arms_of y.tree % 65536)
+  pub refused : (f : Fault) → r ≡ Err (Refused f) → (K : Stack) (b : Built) → runs text (P ++ K) w (pre b) s ≡ refused (faulted f)
+  pub full : {z : State} → r ≡ Err (Full z) → most_nodes ≤ z.nodes
+
+abbrev pub MoreArms : Bool → ℕ → List ℕ → Word → State → List ℕ → List ℕ → Result Armed Unread → Type 0
 MoreArms case n text w s work work' r =
     (sc : Scope) → Here text sc w s work → (h : Held) (base : ℕ) (t : Expression) → Pending sc h base t s work → n ≡ arms_of t % 65536
-    → (x : Says text sc (more_stack case) [] (pushed t) h base s.nesting w s r.answer work')
-    × ((d : r.answer.verdict ≡ Done) → r.count ≡ arms_of (x.done d).tree % 65536)
+    → Counted text sc (more_stack case) (pushed t) h base s.nesting w s r work'
 
-abbrev pub Arms : Bool → List ℕ → Word → State → List ℕ → List ℕ → Armed → Type 0
+abbrev pub Arms : Bool → List ℕ → Word → State → List ℕ → List ℕ → Result Armed Unread → Type 0
 Arms case text w s work work' r =
-    (sc : Scope) → Here text sc w s work
-    → (x : Says text sc (arm_stack case) [] (λ b. b) (held s.nodes work) s.nodes s.nesting w s r.answer work')
-    × ((d : r.answer.verdict ≡ Done) → r.count ≡ arms_of (x.done d).tree % 65536)
+    (sc : Scope) → Here text sc w s work → Counted text sc (arm_stack case) (λ b. b) (held s.nodes work) s.nodes s.nesting w s r work'

@@ -1,11 +1,12 @@
 // Expressions and references (the manual, 5.1 and 5.2): a recursive descent that writes their records, against the machine of the grammar.
-// A frame of each function stands for every level of nesting, so that each keeps one answer at a time, in `got`.
+// A frame of each function stands for every level of nesting, so that none keeps more than it needs.
 #![tactic(auto)]
 
 ghost use Rattle.std.specs.Prelude.{false, true, [], ◌∷◌, ◌≡◌, ◌-◌, ◌≤◌};
 ghost use Rattle.language.specs.Kinds.{a_constant, a_name, open_paren};
 ghost use Rattle.language.specs.Machine as L;
 ghost use Rattle.language.specs.Machine.{ask};
+ghost use Rattle.parse_step.specs.Answers.{answered};
 ghost use Rattle.parse_step.specs.Course.{kind_no};
 ghost use Rattle.parse_step.specs.Pays.{Spends};
 ghost use Rattle.parse_step.specs.Says.{Extends, Parses};
@@ -18,10 +19,13 @@ use parse_array::Work;
 use parse_array::layout::MOST_NODES;
 use parse_levels::{Lead, Level, Rank, heads, ranks};
 use parse_operands::{constants, cuts, nodes};
-use parse_step::{Answer, Bearing, State, adding, kinds, taking};
+use parse_step::{Answer, Bearing, Reached, State, Unread, adding, kinds, taking};
 use text_words::Word;
 
 pub mod pieces;
+
+// A turn for each record that there may be, and for each rank.
+const TURNS: u16 = MOST_NODES + 7;
 
 // An expression of a level.
 #[cycle(arms_choice_first_arm_group_inside_leading_more_arms_named_next_arm_opening_operation_reference_rest_second_single_start_subscript_term_whole)]
@@ -37,10 +41,7 @@ fn whole(s: State, kept: bool, level: Level, text: &[u8], w: Word, work: &mut Wo
     ensures { Whole kept level text.now w s work.old work.new result × ((kept ≡ true → kind_no w.kind ≡ a_constant) → Spends text.now 0 w s result) }
 {
     let head = heads::head_of(level, kinds::kind_of(w));
-    let first = leading(s, kept, head, text, w, work);
-    if parse_step::unread(first) {
-        return first;
-    }
+    let first = leading(s, kept, head, text, w, work)?;
     let state = pieces::at(first.state, s.nesting);
     rest(state, heads::after(head), level, text, first.next, work)
 }
@@ -64,23 +65,14 @@ fn opening(s: State, head: Lead, text: &[u8], w: Word, work: &mut Work) -> Answe
     if let Lead::Plain = head {
         return term(s, text, w, work);
     }
-    let taken = taking::take(text, w, s, true, Bearing::Opens);
-    if parse_step::unread(taken) {
-        return taken;
-    }
-    let red = pieces::reducing(taken.state, head, text, taken.next);
-    if parse_step::unread(red) {
-        return red;
-    }
+    let taken = taking::take(text, w, s, true, Bearing::Opens)?;
+    let red = pieces::reducing(taken.state, head, text, taken.next)?;
     let inner = pieces::at(red.state, taken.state.nesting);
-    let operand = start(inner, heads::prefixed(head), text, red.next, work);
-    if parse_step::unread(operand) {
-        return operand;
-    }
+    let operand = start(inner, heads::prefixed(head), text, red.next, work)?;
     pieces::add_prefix(operand.state, w, operand.next, work)
 }
 
-// The operators of a level from a rank on, behind an operand, in one frame whatever their ranks. Each writes a record, so that they end before the array is full.
+// The operators of a level from a rank on, behind an operand, in one frame whatever their ranks. Each turn writes a record or goes to a looser rank, so that they end before the array is full.
 #[cycle(arms_choice_first_arm_group_inside_leading_more_arms_named_next_arm_opening_operation_reference_rest_second_single_start_subscript_term_whole)]
 fn rest(s: State, rank: Rank, level: Level, text: &[u8], w: Word, work: &mut Work) -> Answer
     ensures { Extends (tails_from rank level) [] s.nesting text.now w s work.old work.new result × Spends text.now 1 w s result }
@@ -88,25 +80,20 @@ fn rest(s: State, rank: Rank, level: Level, text: &[u8], w: Word, work: &mut Wor
     let mut state = s;
     let mut next = w;
     let mut from = rank;
-    let mut left: u16 = MOST_NODES;
-    while ranks::within(from, level) {
-        if pieces::operates(from, next) {
-            if left == 0 {
-                return pieces::full(state, next);
-            }
-            let one = operation(state, from, text, next, work);
-            if parse_step::unread(one) {
-                return one;
-            }
-            state = pieces::at(one.state, s.nesting);
-            next = one.next;
-            from = pieces::behind(from);
-            left -= 1;
-        } else {
-            from = ranks::next(from);
+    for _ in 0..TURNS {
+        if !ranks::within(from, level) {
+            return Ok(Reached { next, state });
         }
+        if !pieces::operates(from, next) {
+            from = ranks::next(from);
+            continue;
+        }
+        let one = operation(state, from, text, next, work)?;
+        state = pieces::at(one.state, s.nesting);
+        next = one.next;
+        from = pieces::behind(from);
     }
-    pieces::stay(state, next)
+    Err(Unread::Full(state))
 }
 
 // An operator of a rank and what is on its right.
@@ -114,17 +101,11 @@ fn rest(s: State, rank: Rank, level: Level, text: &[u8], w: Word, work: &mut Wor
 fn operation(s: State, rank: Rank, text: &[u8], w: Word, work: &mut Work) -> Answer
     ensures { Operates rank text.now w s work.old work.new result × Spends text.now 1 w s result }
 {
-    let mut got = taking::take(text, w, s, true, Bearing::Level);
-    if parse_step::unread(got) {
-        return got;
-    }
+    let got = taking::take(text, w, s, true, Bearing::Level)?;
     if let Rank::Cut = rank {
         return cuts::cut(got.state, kinds::kind_of(w), w, text, got.next, work);
     }
-    got = start(got.state, ranks::operand(rank), text, got.next, work);
-    if parse_step::unread(got) {
-        return got;
-    }
+    let got = start(got.state, ranks::operand(rank), text, got.next, work)?;
     pieces::add_binary(got.state, adding::last(s.nodes), w, got.next, work)
 }
 
@@ -149,7 +130,7 @@ fn term(s: State, text: &[u8], w: Word, work: &mut Work) -> Answer
     if kind == language::kinds::CASE {
         return choice(s, true, text, w, work);
     }
-    taking::refuse(w, s, Refusal::NoContinuation)
+    taking::refuse(w, Refusal::NoContinuation)
 }
 
 // An expression in parentheses.
@@ -157,14 +138,8 @@ fn term(s: State, text: &[u8], w: Word, work: &mut Work) -> Answer
 fn group(s: State, text: &[u8], w: Word, work: &mut Work) -> Answer
     ensures { (kind_no w.kind ≡ open_paren → Parses (ask L.term ∷ []) same s.nesting text.now w s work.old work.new result) × Spends text.now 0 w s result }
 {
-    let mut got = taking::take(text, w, s, false, Bearing::Opens);
-    if parse_step::unread(got) {
-        return got;
-    }
-    got = start(got.state, Level::Expression, text, got.next, work);
-    if parse_step::unread(got) {
-        return got;
-    }
+    let got = taking::take(text, w, s, false, Bearing::Opens)?;
+    let got = start(got.state, Level::Expression, text, got.next, work)?;
     taking::expect(
         text,
         got.next,
@@ -179,10 +154,7 @@ fn group(s: State, text: &[u8], w: Word, work: &mut Work) -> Answer
 fn named(s: State, text: &[u8], w: Word, work: &mut Work) -> Answer
     ensures { (kind_no w.kind ≡ a_name → Parses (ask L.term ∷ []) same s.nesting text.now w s work.old work.new result) × Spends text.now 0 w s result }
 {
-    let taken = taking::take(text, w, s, true, Bearing::Level);
-    if parse_step::unread(taken) {
-        return taken;
-    }
+    let taken = taking::take(text, w, s, true, Bearing::Level)?;
     reference(taken.state, w, text, taken.next, work)
 }
 
@@ -192,10 +164,7 @@ pub fn reference(s: State, name: Word, text: &[u8], w: Word, work: &mut Work) ->
     ensures { Parses (ask L.subscripts ∷ []) (after_name name) s.nesting text.now w s work.old work.new result × Spends text.now 2 w s result }
 {
     if kinds::kind_of(w) == language::kinds::OPEN_BRACKET {
-        let opened = taking::take(text, w, s, false, Bearing::Opens);
-        if parse_step::unread(opened) {
-            return opened;
-        }
+        let opened = taking::take(text, w, s, false, Bearing::Opens)?;
         return subscript(opened.state, name, text, opened.next, work);
     }
     nodes::add_whole(s, name, text, w, work)
@@ -209,28 +178,19 @@ pub fn subscript(s: State, name: Word, text: &[u8], w: Word, work: &mut Work) ->
     if taking::ends_ahead(text, w) {
         return pieces::part(s, name, text, w, work);
     }
-    let mut got = inside(s, false, text, w, work);
-    if parse_step::unread(got) {
-        return got;
-    }
+    let got = inside(s, false, text, w, work)?;
     if kinds::kind_of(got.next) == language::kinds::COMMA {
-        got = taking::take(text, got.next, got.state, false, Bearing::Level);
-        if parse_step::unread(got) {
-            return got;
-        }
+        let got = taking::take(text, got.next, got.state, false, Bearing::Level)?;
         let state = pieces::at(got.state, s.nesting);
         return second(state, name, text, got.next, work);
     }
-    got = taking::expect(
+    let got = taking::expect(
         text,
         got.next,
         got.state,
         language::kinds::CLOSE_BRACKET,
         Bearing::Closes,
-    );
-    if parse_step::unread(got) {
-        return got;
-    }
+    )?;
     let state = pieces::at(got.state, adding::last(s.nesting));
     single(state, name, text, got.next, work)
 }
@@ -241,10 +201,7 @@ fn single(s: State, name: Word, text: &[u8], w: Word, work: &mut Work) -> Answer
     ensures { Second L.second_option name s.nesting text.now w s work.old work.new result × Spends text.now 2 w s result }
 {
     if kinds::kind_of(w) == language::kinds::OPEN_BRACKET {
-        let opened = taking::take(text, w, s, false, Bearing::Opens);
-        if parse_step::unread(opened) {
-            return opened;
-        }
+        let opened = taking::take(text, w, s, false, Bearing::Opens)?;
         return second(opened.state, name, text, opened.next, work);
     }
     nodes::add_one(s, name, adding::last(s.nodes), text, w, work)
@@ -258,20 +215,14 @@ fn second(s: State, name: Word, text: &[u8], w: Word, work: &mut Work) -> Answer
     if taking::ends_ahead(text, w) {
         return pieces::word_part(s, name, text, w, work);
     }
-    let mut got = inside(s, true, text, w, work);
-    if parse_step::unread(got) {
-        return got;
-    }
-    got = taking::expect(
+    let got = inside(s, true, text, w, work)?;
+    let got = taking::expect(
         text,
         got.next,
         got.state,
         language::kinds::CLOSE_BRACKET,
         Bearing::Closes,
-    );
-    if parse_step::unread(got) {
-        return got;
-    }
+    )?;
     nodes::add_two(
         got.state,
         name,
@@ -299,55 +250,31 @@ fn inside(s: State, later: bool, text: &[u8], w: Word, work: &mut Work) -> Answe
 fn choice(s: State, case: bool, text: &[u8], w: Word, work: &mut Work) -> Answer
     ensures { (kind_no w.kind ≡ choice_word case → Parses (ask L.term ∷ []) same s.nesting text.now w s work.old work.new result) × Spends text.now 0 w s result }
 {
-    let mut got = taking::take(text, w, s, true, Bearing::Opens);
-    if parse_step::unread(got) {
-        return got;
-    }
+    let got = taking::take(text, w, s, true, Bearing::Opens)?;
     let nesting = got.state.nesting;
-    got = start(got.state, Level::Expression, text, got.next, work);
-    if parse_step::unread(got) {
-        return got;
-    }
+    let got = start(got.state, Level::Expression, text, got.next, work)?;
     let nodes = got.state.nodes;
     let before = pieces::at(got.state, nesting);
-    let chosen = arms(before, case, text, got.next, work);
-    if parse_step::unread(chosen.answer) {
-        return chosen.answer;
-    }
-    got = taking::expect(
+    let chosen = arms(before, case, text, got.next, work)?;
+    let got = taking::expect(
         text,
-        chosen.answer.next,
-        chosen.answer.state,
+        chosen.reached.next,
+        chosen.reached.state,
         pieces::last_word(case),
         Bearing::Closes,
-    );
-    if parse_step::unread(got) {
-        return got;
-    }
+    )?;
     let number = adding::last(nodes);
     pieces::add_choice(got.state, number, chosen.count, w, got.next, work)
 }
 
 // The arms of a conditional.
 #[cycle(arms_choice_first_arm_group_inside_leading_more_arms_named_next_arm_opening_operation_reference_rest_second_single_start_subscript_term_whole)]
-fn arms(s: State, case: bool, text: &[u8], w: Word, work: &mut Work) -> Armed
-    ensures { Arms case text.now w s work.old work.new result × Spends text.now 1 w s result.answer }
+fn arms(s: State, case: bool, text: &[u8], w: Word, work: &mut Work) -> Result<Armed, Unread>
+    ensures { Arms case text.now w s work.old work.new result × Spends text.now 1 w s (answered (λ a. a.reached) result) }
 {
-    let first = first_arm(s, pieces::first_word(case), text, w, work);
-    if parse_step::unread(first) {
-        return Armed {
-            answer: first,
-            count: 0,
-        };
-    }
+    let first = first_arm(s, pieces::first_word(case), text, w, work)?;
     let state = pieces::at(first.state, s.nesting);
-    let other = next_arm(state, pieces::other_word(case), text, first.next, work);
-    if parse_step::unread(other) {
-        return Armed {
-            answer: other,
-            count: 0,
-        };
-    }
+    let other = next_arm(state, pieces::other_word(case), text, first.next, work)?;
     let state = pieces::at(other.state, s.nesting);
     more_arms(state, case, 2, text, other.next, work)
 }
@@ -357,15 +284,9 @@ fn arms(s: State, case: bool, text: &[u8], w: Word, work: &mut Work) -> Armed
 fn first_arm(s: State, separator: u8, text: &[u8], w: Word, work: &mut Work) -> Answer
     ensures { FirstArm separator text.now w s work.old work.new result × (3 ≤ separator → Spends text.now 1 w s result) }
 {
-    let mut got = taking::expect(text, w, s, separator, Bearing::Level);
-    if parse_step::unread(got) {
-        return got;
-    }
+    let got = taking::expect(text, w, s, separator, Bearing::Level)?;
     let state = pieces::at(got.state, s.nesting);
-    got = start(state, Level::Expression, text, got.next, work);
-    if parse_step::unread(got) {
-        return got;
-    }
+    let got = start(state, Level::Expression, text, got.next, work)?;
     pieces::add_first_arm(got.state, got.next, work)
 }
 
@@ -374,48 +295,37 @@ fn first_arm(s: State, separator: u8, text: &[u8], w: Word, work: &mut Work) -> 
 fn next_arm(s: State, separator: u8, text: &[u8], w: Word, work: &mut Work) -> Answer
     ensures { NextArm separator text.now w s work.old work.new result × (3 ≤ separator → Spends text.now 1 w s result) }
 {
-    let mut got = taking::expect(text, w, s, separator, Bearing::Level);
-    if parse_step::unread(got) {
-        return got;
-    }
+    let got = taking::expect(text, w, s, separator, Bearing::Level)?;
     let state = pieces::at(got.state, s.nesting);
-    got = start(state, Level::Expression, text, got.next, work);
-    if parse_step::unread(got) {
-        return got;
-    }
+    let got = start(state, Level::Expression, text, got.next, work)?;
     pieces::add_next_arm(got.state, adding::last(s.nodes), got.next, work)
 }
 
 // Further arms of CASE, behind n. Each writes a record, so that they end before the array is full.
 #[cycle(arms_choice_first_arm_group_inside_leading_more_arms_named_next_arm_opening_operation_reference_rest_second_single_start_subscript_term_whole)]
-fn more_arms(s: State, case: bool, n: u16, text: &[u8], w: Word, work: &mut Work) -> Armed
-    ensures { MoreArms case n text.now w s work.old work.new result × Spends text.now 1 w s result.answer }
+fn more_arms(
+    s: State,
+    case: bool,
+    n: u16,
+    text: &[u8],
+    w: Word,
+    work: &mut Work,
+) -> Result<Armed, Unread>
+    ensures { MoreArms case n text.now w s work.old work.new result × Spends text.now 1 w s (answered (λ a. a.reached) result) }
 {
     let mut state = s;
     let mut next = w;
     let mut count = n;
-    let mut left: u16 = MOST_NODES;
-    while left > 0 {
-        if pieces::another(case, next) {
-            let one = next_arm(
-                pieces::at(state, s.nesting),
-                language::kinds::DO,
-                text,
-                next,
-                work,
-            );
-            if parse_step::unread(one) {
-                return Armed { answer: one, count };
-            }
-            state = one.state;
-            next = one.next;
-            count = pieces::one_more(count);
-            left -= 1;
-        } else {
-            let answer = pieces::stay(state, next);
-            return Armed { answer, count };
+    for _ in 0..MOST_NODES {
+        if !pieces::another(case, next) {
+            let reached = Reached { next, state };
+            return Ok(Armed { reached, count });
         }
+        let at = pieces::at(state, s.nesting);
+        let one = next_arm(at, language::kinds::DO, text, next, work)?;
+        state = one.state;
+        next = one.next;
+        count = pieces::one_more(count);
     }
-    let answer = pieces::full(state, next);
-    Armed { answer, count }
+    Err(Unread::Full(state))
 }

@@ -11,47 +11,24 @@ ghost use Rattle.parse_step.specs.Says.{Parses};
 ghost use Rattle.parse_step.specs.Taken.{ends_ahead};
 ghost use Rattle.parse_levels.specs.Orders.{operators_of};
 ghost use Rattle.text_words.specs.Meaning.{positioned};
-ghost use Rattle.parse_step.specs.declared.ReadVerdict.TheVariants.{Full};
 ghost use Rattle.parse_expressions.specs.Phrases as S;
-ghost use Rattle.parse_expressions.specs.Phrases.{Keeps, Second, Unprefixed, after_name, at_nesting, first_word, gains, last_word, other_word, rank_behind, stayed};
+ghost use Rattle.parse_expressions.specs.Phrases.{Keeps, Second, Unprefixed, after_name, at_nesting, first_word, gains, last_word, other_word, rank_behind};
 
 use image_records::nodes::Node;
 use parse_array::{Work, places};
 use parse_levels::{Lead, Rank, ranks};
 use parse_operands::{constants, nodes};
-use parse_step::{Answer, Bearing, ReadVerdict, State, adding, kinds, taking};
+use parse_step::{Answer, Bearing, Reached, State, adding, kinds, taking};
 use text_words::Word;
 
-// An answer, and how many arms there are.
+// How far arms were read, and how many there are.
 #[derive(Clone, Copy)]
 pub struct Armed {
-    pub answer: Answer,
+    pub reached: Reached,
     pub count: u16,
 }
 
-// Nothing more was read.
-pub fn stay(s: State, w: Word) -> Answer
-    ensures { result ≡ stayed s w }
-{
-    Answer {
-        verdict: ReadVerdict::Done,
-        next: w,
-        state: s,
-    }
-}
-
-// No room is left.
-pub fn full(s: State, w: Word) -> Answer
-    ensures { result ≡ record { verdict = Full; next = w; state = s } }
-{
-    Answer {
-        verdict: ReadVerdict::Full,
-        next: w,
-        state: s,
-    }
-}
-
-// The words of a conditional: before its arms, and at its end.
+// The words of a conditional: before its arms, and at its end. Three functions, since one with the place for a parameter would have the same six words in its arms.
 pub fn first_word(case: bool) -> u8
     ensures { result ≡ first_word case }
 {
@@ -86,34 +63,21 @@ pub fn last_word(case: bool) -> u8
 pub fn another(case: bool, w: Word) -> bool
     ensures { result ≡ S.another case (kind_no w.kind) }
 {
-    if case {
-        let kind = w.kind;
-        return kinds::number(kind) == language::kinds::DO;
-    }
-    false
+    case && kinds::kind_of(w) == language::kinds::DO
 }
 
 // The number of arms as a record has it.
 pub fn one_more(count: u16) -> u16
     ensures { result ≡ (count + 1) % 65536 }
 {
-    if count == 65535 { 0 } else { count + 1 }
+    count.wrapping_add(1)
 }
 
 // The state at the nesting that it has: said again, so that the descent is seen to end.
 pub fn at(s: State, nesting: u16) -> State
     ensures { result ≡ at_nesting s nesting }
 {
-    State {
-        facilities: s.facilities,
-        operations: s.operations,
-        states: s.states,
-        counted: s.counted,
-        nesting,
-        nodes: s.nodes,
-        actions: s.actions,
-        known: s.known,
-    }
+    State { nesting, ..s }
 }
 
 // The word RED behind a reduction's sign; nothing behind another prefix operator.
@@ -121,10 +85,8 @@ pub fn reducing(s: State, head: Lead, text: &[u8], w: Word) -> Answer
     ensures { Unprefixed head text.now w s result × Spends text.now 1 w s result }
 {
     match head {
-        Lead::Plain => stay(s, w),
-        Lead::Negation => stay(s, w),
         Lead::Reduction => taking::expect(text, w, s, language::kinds::RED, Bearing::Level),
-        Lead::Complement => stay(s, w),
+        Lead::Plain | Lead::Negation | Lead::Complement => Ok(Reached { next: w, state: s }),
     }
 }
 
@@ -132,8 +94,7 @@ pub fn reducing(s: State, head: Lead, text: &[u8], w: Word) -> Answer
 pub fn operates(rank: Rank, w: Word) -> bool
     ensures { result ≡ among (kind_no w.kind) (operators_of rank) }
 {
-    let kind = w.kind;
-    ranks::operates(rank, kinds::number(kind))
+    ranks::operates(rank, kinds::kind_of(w))
 }
 
 // The first rank whose operators may come behind one of a rank: the same, but for a relation, which comes at most once.
@@ -141,14 +102,8 @@ pub fn behind(rank: Rank) -> Rank
     ensures { result ≡ rank_behind rank }
 {
     match rank {
-        Rank::Sum => Rank::Sum,
         Rank::Relation => Rank::Cut,
-        Rank::Cut => Rank::Cut,
-        Rank::Con => Rank::Con,
-        Rank::And => Rank::And,
-        Rank::Exclusive => Rank::Exclusive,
-        Rank::Or => Rank::Or,
-        Rank::Beyond => Rank::Beyond,
+        _ => rank,
     }
 }
 
@@ -156,10 +111,8 @@ pub fn behind(rank: Rank) -> Rank
 pub fn add_prefix(s: State, w: Word, next: Word, work: &mut Work) -> Answer
     ensures { gains (D.prefix (kind_no w.kind) (s.nodes - 1)) (positioned w.at) next (eased_state s) work.old work.new result }
 {
-    let kind = w.kind;
-    let at = w.at;
-    let beside = places::plain(at);
-    let node = Node::Prefix(kinds::number(kind), adding::last(s.nodes));
+    let beside = places::plain(w.at);
+    let node = Node::Prefix(kinds::kind_of(w), adding::last(s.nodes));
     adding::add(work, next, adding::eased(s), node, 0, beside)
 }
 
@@ -167,10 +120,8 @@ pub fn add_prefix(s: State, w: Word, next: Word, work: &mut Work) -> Answer
 pub fn add_binary(s: State, left: u16, w: Word, next: Word, work: &mut Work) -> Answer
     ensures { gains (D.binary (kind_no w.kind) left (s.nodes - 1)) (positioned w.at) next s work.old work.new result }
 {
-    let kind = w.kind;
-    let at = w.at;
-    let beside = places::plain(at);
-    let node = Node::Binary(kinds::number(kind), left, adding::last(s.nodes));
+    let beside = places::plain(w.at);
+    let node = Node::Binary(kinds::kind_of(w), left, adding::last(s.nodes));
     adding::add(work, next, s, node, 0, beside)
 }
 
@@ -208,8 +159,7 @@ pub fn add_choice(
 ) -> Answer
     ensures { gains (D.choice condition (s.nodes - 1) count) (positioned w.at) next s work.old work.new result }
 {
-    let at = w.at;
-    let beside = places::plain(at);
+    let beside = places::plain(w.at);
     let node = Node::Choice(condition, adding::last(s.nodes), count);
     adding::add(work, next, s, node, 0, beside)
 }
@@ -218,10 +168,7 @@ pub fn add_choice(
 pub fn keep(s: State, text: &[u8], w: Word, work: &mut Work) -> Answer
     ensures { kind_no w.kind ≡ a_constant → ((later : Bool) → Keeps later text.now w s work.old work.new result) × Spends text.now 0 w s result }
 {
-    let kept = taking::take(text, w, s, false, Bearing::Level);
-    if parse_step::unread(kept) {
-        return kept;
-    }
+    let kept = taking::take(text, w, s, false, Bearing::Level)?;
     constants::counted(kept.state, w, kept.next, work)
 }
 
@@ -229,18 +176,14 @@ pub fn keep(s: State, text: &[u8], w: Word, work: &mut Work) -> Answer
 pub fn part(s: State, name: Word, text: &[u8], w: Word, work: &mut Work) -> Answer
     ensures { (ends_ahead (ahead text.now w) ≡ true → Parses (L.ask L.subscript ∷ []) (after_name name) (s.nesting - 1) text.now w s work.old work.new result) × Spends text.now 2 w s result }
 {
-    let ends = constants::ends_of(s, text, w);
-    if parse_step::unread(ends.answer) {
-        return ends.answer;
-    }
-    let last = ends.last;
+    let ends = constants::ends_of(s, text, w)?;
     nodes::add_part(
-        ends.answer.state,
+        ends.reached.state,
         name,
         w,
-        last,
+        ends.last,
         text,
-        ends.answer.next,
+        ends.reached.next,
         work,
     )
 }
@@ -249,19 +192,15 @@ pub fn part(s: State, name: Word, text: &[u8], w: Word, work: &mut Work) -> Answ
 pub fn word_part(s: State, name: Word, text: &[u8], w: Word, work: &mut Work) -> Answer
     ensures { (ends_ahead (ahead text.now w) ≡ true → Second L.second name (s.nesting - 1) text.now w s work.old work.new result) × Spends text.now 2 w s result }
 {
-    let ends = constants::ends_of(s, text, w);
-    if parse_step::unread(ends.answer) {
-        return ends.answer;
-    }
-    let last = ends.last;
+    let ends = constants::ends_of(s, text, w)?;
     nodes::add_word_part(
-        ends.answer.state,
+        ends.reached.state,
         name,
-        adding::last(ends.answer.state.nodes),
+        adding::last(ends.reached.state.nodes),
         w,
-        last,
+        ends.last,
         text,
-        ends.answer.next,
+        ends.reached.next,
         work,
     )
 }

@@ -7,12 +7,16 @@ use borrow.Author.Tests.{ne_eqb}
 use Rattle.language.specs.declared.refusals.Refusal.TheVariants.{NoContinuation}
 use Rattle.parse_step.proofs.Looking.{View, begun, ended, sign-ahead, view}
 use Rattle.parse_step.proofs.TakenWords.{on_taken, taken-on, took-done}
-use Rattle.parse_step.specs.declared.Answer.{Answer}
+use Rattle.parse_step.specs.declared.Reached.{Reached}
+use Rattle.parse_step.specs.declared.Unread.{Unread}
+use Rattle.parse_facilities.specs.declared.Progress.{Progress}
+use Rattle.std.specs.Prelude.{◌⊎◌, Err, Ok, Result}
+use Rattle.std.proofs.Common.{inl, inr}
 use Rattle.parse_step.specs.declared.State.{State}
 use Rattle.parse_step.specs.Course.{Seen, Stack, behind, counts_of, kind_no, runs, runs_on}
-use Rattle.parse_step.specs.Taken.{Passed, Refuses, Took}
+use Rattle.parse_step.specs.Taken.{Refuses, Took}
 use Rattle.parse_step.proofs.States.{state-of}
-use Rattle.parse_bounds.proofs.Telling.{refuses, word-taken}
+use Rattle.parse_bounds.proofs.Telling.{not-taken, refuses, tells-ok}
 use Rattle.parse_bounds.specs.Telling.{same}
 use Rattle.language.specs.Building.{Built}
 use Rattle.language.specs.Kinds.{comma, end_word, period}
@@ -21,7 +25,7 @@ use Rattle.language.specs.SectionWays.{rule_of}
 use Rattle.language.specs.Words.{fault}
 use Rattle.text_words.specs.declared.Word.{Word}
 use Rattle.text_words.specs.Meaning.{positioned}
-use Rattle.parse_facilities.specs.Lists.{EndRead, Ends, Listing, memories, more_in, registers, spec_in, terminals}
+use Rattle.parse_facilities.specs.Lists.{Ends, Listing, memories, more_in, registers, spec_in, terminals}
 
 module _ (text : List ℕ) (w : Word) (K : Stack) (b : Built) (s : State) where
   pub comma-taken : (l : Listing) → kind_no w.kind ≡ comma → runs text (ask (more_in l) ∷ K) w b s ≡ on_taken text w (ask (spec_in l) ∷ ask (more_in l) ∷ K) b (counts_of s)
@@ -30,17 +34,22 @@ module _ (text : List ℕ) (w : Word) (K : Stack) (b : Built) (s : State) where
   comma-taken memories e = rw (sign-ahead text w comma e (omega arith)) (taken-on text (positioned w.at) (ask (spec_in memories) ∷ ask (more_in memories) ∷ K) (behind text w) b (counts_of s))
   comma-taken terminals e = rw (sign-ahead text w comma e (omega arith)) (taken-on text (positioned w.at) (ask (spec_in terminals) ∷ ask (more_in terminals) ∷ K) (behind text w) b (counts_of s))
 
-  pub period-taken : (l : Listing) → kind_no w.kind ≡ period → runs text (ask (more_in l) ∷ K) w b s ≡ on_taken text w K b (counts_of s)
+  period-taken : (l : Listing) → kind_no w.kind ≡ period → runs text (ask (more_in l) ∷ K) w b s ≡ on_taken text w K b (counts_of s)
   unfolding runs_on run feed choose rule_of tallied
   period-taken registers e = rw (sign-ahead text w period e (omega arith)) (taken-on text (positioned w.at) K (behind text w) b (counts_of s))
   period-taken memories e = rw (sign-ahead text w period e (omega arith)) (taken-on text (positioned w.at) K (behind text w) b (counts_of s))
   period-taken terminals e = rw (sign-ahead text w period e (omega arith)) (taken-on text (positioned w.at) K (behind text w) b (counts_of s))
 
-  pub end-taken : (l : Listing) → kind_no w.kind ≡ end_word → runs text (ask (more_in l) ∷ K) w b s ≡ on_taken text w K b (counts_of s)
+  end-taken : (l : Listing) → kind_no w.kind ≡ end_word → runs text (ask (more_in l) ∷ K) w b s ≡ on_taken text w K b (counts_of s)
   unfolding runs_on run feed choose rule_of tallied
   end-taken registers e = rw (sign-ahead text w end_word e (omega arith)) (taken-on text (positioned w.at) K (behind text w) b (counts_of s))
   end-taken memories e = rw (sign-ahead text w end_word e (omega arith)) (taken-on text (positioned w.at) K (behind text w) b (counts_of s))
   end-taken terminals e = rw (sign-ahead text w end_word e (omega arith)) (taken-on text (positioned w.at) K (behind text w) b (counts_of s))
+
+  -- By either word that ends a list.
+  ends-taken : (l : Listing) → (kind_no w.kind ≡ period) ⊎ (kind_no w.kind ≡ end_word) → runs text (ask (more_in l) ∷ K) w b s ≡ on_taken text w K b (counts_of s)
+  ends-taken l (inl e) = period-taken l e
+  ends-taken l (inr e) = end-taken l e
 
   pub more-stuck : (l : Listing) → Seen text w → (kind_no w.kind ≡ comma → ⊥) → (kind_no w.kind ≡ period → ⊥) → (kind_no w.kind ≡ end_word → ⊥) → runs text (ask (more_in l) ∷ K) w b s ≡ refused (fault (positioned w.at) NoContinuation)
   unfolding runs_on run feed finish choose rule_of
@@ -56,16 +65,15 @@ module _ (text : List ℕ) (w : Word) (K : Stack) (b : Built) (s : State) where
 
 -- ---- The end of a list.
 
-module _ {text : List ℕ} {w : Word} {s : State} {place : ℕ} {a : Answer} where
-  end_read : (l : Listing) → Seen text w → ((K : Stack) (b : Built) → runs text (ask (more_in l) ∷ K) w b s ≡ on_taken text w K b (counts_of s)) → Passed text w (counts_of s) s a
-      → EndRead text l w s place (record { answer = a; place = place })
-  end_read l z g p = record { course = λ K b. g K b ∙ took-done p z K b; state = state-of p.counts p.kept; store = refl; seen = p.seen }
+module _ {text : List ℕ} {w : Word} {s : State} {place : ℕ} where
+  module _ (e : (kind_no w.kind ≡ period) ⊎ (kind_no w.kind ≡ end_word)) where
+    pub not_closed : {u : Unread} → Took text w (counts_of s) s (Err u) → Ends text w s place (Err u)
+    not_closed t l z n = not-taken t (λ K. K) same (λ K b. ends-taken text w K b s l e)
 
-  pub by-period : kind_no w.kind ≡ period → Took text w (counts_of s) s a → Ends text w s place (record { answer = a; place = place })
-  by-period e t l z n = word-taken t (λ d. end_read l z (λ K b. period-taken text w K b s l e) (t.done d)) (λ K. K) same (λ K b. period-taken text w K b s l e)
+    pub closed : {a : Reached} → Took text w (counts_of s) s (Ok a) → Ends text w s place (Ok (record { reached = a; place = place }))
+    closed t l z n =
+        let p = t.done refl in
+        tells-ok (record { course = λ K b. ends-taken text w K b s l e ∙ took-done p z K b; state = state-of p.counts p.kept; store = refl; seen = p.seen })
 
-  pub by_end : kind_no w.kind ≡ end_word → Took text w (counts_of s) s a → Ends text w s place (record { answer = a; place = place })
-  by_end e t l z n = word-taken t (λ d. end_read l z (λ K b. end-taken text w K b s l e) (t.done d)) (λ K. K) same (λ K b. end-taken text w K b s l e)
-
-  pub by-neither : (kind_no w.kind ≡ period → ⊥) → (kind_no w.kind ≡ end_word → ⊥) → Refuses w NoContinuation a → Ends text w s place (record { answer = a; place = place })
+  pub by-neither : {r : Result Progress Unread} → (kind_no w.kind ≡ period → ⊥) → (kind_no w.kind ≡ end_word → ⊥) → Refuses w NoContinuation r → Ends text w s place r
   by-neither m o r l z n = refuses NoContinuation r (λ K b. more-stuck text w K b s l z n m o)

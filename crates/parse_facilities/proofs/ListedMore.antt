@@ -7,7 +7,6 @@ use native.Mathlib.Omega.{arith}
 use lib.ListN.{drop, length, length-drop, length-take, take}
 use lib.Seq.{length-take-le, take-take}
 use Rattle.parse_step.specs.declared.State.{State}
-use Rattle.parse_step.specs.declared.ReadVerdict.TheVariants.{Done}
 use Rattle.language.specs.Describe.{Noted}
 use Rattle.language.specs.DescribeText.{facilities_of, facility_declared, facility_nodes, function_sizes}
 use Rattle.language.specs.Encode.{facility_records, node_size}
@@ -95,9 +94,8 @@ module _ (text : List ℕ) (ds : List Declaration) (d : Declaration) (place : �
 
 pub added : {next : Word} {s s' : State} {place after : ℕ} {x : Declared} {w w' : List ℕ} → (s.known < 256 → FacilityAdded s.known place x w w') → (s.known < 256 → s' ≡ known_state s)
     → ((name : Name) → after ≡ (place + facility_bytes (facility_said name x)) % 65536) → (text : List ℕ) (ds : List Declaration) (d : Declaration) → Awaiting text ds d place s w → Says text (function_sizes ds) d x
-    → Added text (ds ++ d ∷ []) next s w' (record { answer = record { verdict = Done; next = next; state = s' }; place = after })
+    → Added text (ds ++ d ∷ []) next s w' (record { reached = record { next = next; state = s' }; place = after })
 added {next} {s} {s'} {place} {after} {x} {w} {w'} f e g text ds d a y = record {
-  verdict = refl;
   word = refl;
   state = e a.room;
   listed = subst (λ (q : State). Listed text (ds ++ d ∷ []) after q w') (sym (e a.room)) (listed text ds d place s x w w' a y (f a.room) g);

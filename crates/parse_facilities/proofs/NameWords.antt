@@ -1,16 +1,19 @@
 -- The machine's words where a declaration begins.
-use mathlib.Core.Bool.{true}
+use mathlib.Core.Bool.{Bool, true, false}
 use mathlib.Core.List.{List, ◌∷◌, ◌++◌}
-use mathlib.Core.Path.{◌≡◌, ◌∙◌, subst}
+use mathlib.Core.Path.{◌≡◌, refl, ◌∙◌, subst}
 use Prim.Native.Nat.{ℕ, ◌≤◌}
-use borrow.Author.Tests.{leb-true, ne_eqb}
+use borrow.Author.Tests.{eqb-false, eqb-true, leb-true, ne_eqb}
+use lib.Dec.{eqb}
 use Rattle.language.specs.declared.refusals.Refusal.TheVariants.{NoContinuation}
 use Rattle.parse_step.proofs.Looking.{View, begun, ended, name-ahead, view}
 use Rattle.parse_step.proofs.TakenWords.{on_taken, taken-on, took-done}
-use Rattle.parse_step.specs.declared.Answer.{Answer}
+use Rattle.parse_step.specs.Answers.{Answer}
+use Rattle.parse_step.specs.declared.Reached.{Reached}
 use Rattle.parse_step.specs.declared.State.{State}
 use Rattle.parse_step.specs.Course.{Seen, Stack, behind, counts_of, kind_no, runs, runs_on}
-use Rattle.parse_step.specs.Taken.{Passed, Refuses, Took}
+use Rattle.parse_step.specs.declared.Bearing.TheVariants.{Level}
+use Rattle.parse_step.specs.Taken.{Expected, Passed, Refuses, Took}
 use Rattle.parse_step.proofs.States.{state-of}
 use Rattle.parse_bounds.proofs.Telling.{refuses, word-taken}
 use Rattle.parse_bounds.specs.Extents.{ask_of}
@@ -67,20 +70,27 @@ few-facilities c e = leb-true c.facilities 256 (both_first _ _ e)
 
 -- ---- As the code takes it.
 
-pub not_named : {text : List ℕ} {w : Word} {s : State} {r : Answer} → (kind_no w.kind ≡ a_name → ⊥) → Refuses w NoContinuation r → Names text w s r
+not_named : {text : List ℕ} {w : Word} {s : State} {r : Answer} → (kind_no w.kind ≡ a_name → ⊥) → Refuses w NoContinuation r → Names text w s r
 not_named {text} {w} {s} n x k h z f = refuses NoContinuation x (λ K b. name-stuck text w K b s z k h n)
 
-pub named : {text : List ℕ} {w : Word} {s s' : State} {r : Answer} → kind_no w.kind ≡ a_name → (s.facilities ≤ 256 → s' ≡ more_state s) → Took text w (counts_of s') s' r → Names text w s r
-named {text} {w} {s} {s'} {r} e g t k h z f = word-taken taken (λ d. read (taken.done d)) (λ K. ask (ask_of (whose_of k)) ∷ (end_of k ++ K)) (keep_word (named_word text w)) (λ K b. name-taken text w K b s z k e)
+named : {text : List ℕ} {w : Word} {s s' : State} {r : Answer} → kind_no w.kind ≡ a_name → (s.facilities ≤ 256 → s' ≡ more_state s) → Took text w (counts_of s') s' r → Names text w s r
+named {text} {w} {s} {s'} {r} e g t k h z f = word-taken taken (λ v d. read v (taken.done d)) (λ K. ask (ask_of (whose_of k)) ∷ (end_of k ++ K)) (keep_word (named_word text w)) (λ K b. name-taken text w K b s z k e)
   where
     taken : Took text w (counts_of (more_state s)) (more_state s) r
     taken = subst (λ (q : State). Took text w (counts_of q) q r) (g (few-facilities (counts_of s) f)) t
 
-    read : Passed text w (counts_of (more_state s)) (more_state s) r → NameRead text k w s r
-    read p = record {
+    read : (v : Reached) → Passed text w (counts_of (more_state s)) (more_state s) v → NameRead text k w s v
+    read v p = record {
       course = λ K b. name-taken text w K b s z k e ∙ took-done p z (ask (ask_of (whose_of k)) ∷ (end_of k ++ K)) (keep_word (named_word text w) b);
       state = state-of p.counts p.kept;
       room = few-facilities (counts_of (more_state s)) p.fits;
       within = p.fits;
       seen = p.seen;
     }
+
+pub name-told : {text : List ℕ} {w : Word} {s s' : State} {r : Answer} → (s.facilities ≤ 256 → s' ≡ more_state s) → Expected text a_name Level w s' r → Names text w s r
+name-told {text} {w} {s} {s'} {r} g x = by-test (eqb (kind_no w.kind) a_name) refl
+  where
+    by-test : (b : Bool) → eqb (kind_no w.kind) a_name ≡ b → Names text w s r
+    by-test true t = let e = eqb-true _ _ t in named e g (x.came e)
+    by-test false t = let n = eqb-false _ _ t in not_named n (x.missed n)

@@ -3,17 +3,17 @@ use mathlib.Core.List.{List, [], ◌∷◌, ◌++◌}
 use mathlib.Core.Path.{◌≡◌, refl, sym, ap, ◌∙◌, subst}
 use Prim.Native.Nat.{ℕ, ◌*◌, ◌≤◌}
 use native.Mathlib.Omega.{arith}
-use Rattle.parse_step.proofs.Answers.{done_full, done_refused}
 use Rattle.parse_step.proofs.Looking.{sign-ahead}
 use Rattle.parse_step.proofs.Saying.{makes-it}
 use Rattle.parse_step.proofs.TakenWords.{on_taken, taken-on, took-done}
-use Rattle.parse_step.specs.declared.Answer.{Answer}
+use Rattle.parse_step.specs.declared.Reached.{Reached}
+use Rattle.parse_step.specs.declared.Unread.{Unread}
+use Rattle.std.specs.Prelude.{Err, Ok, Result}
 use Rattle.parse_step.specs.declared.State.{State}
-use Rattle.parse_step.specs.declared.ReadVerdict.TheVariants.{Done}
 use Rattle.parse_step.specs.Course.{Seen, Stack, behind, counts_of, kind_no, runs, runs_on}
 use Rattle.parse_step.specs.Taken.{Passed, Took}
 use Rattle.parse_step.proofs.States.{state-of}
-use Rattle.parse_bounds.proofs.Telling.{through, word-taken}
+use Rattle.parse_bounds.proofs.Telling.{not-taken, tells-ok, through, untold}
 use Rattle.parse_bounds.specs.declared.extents.Measured.{Measured}
 use Rattle.parse_bounds.specs.Extents.{ExtentRead, Measures, ask_of, to_come, with_extent}
 use Rattle.parse_bounds.specs.Telling.{same}
@@ -57,7 +57,7 @@ standing-same {text} {ds} {place} {place'} {next = next} {s} {s'} {work} st e f 
   paid = subst (λ (j : State). j.nodes ≤ 7 * j.counted) (sym e) st.paid;
 }
 
-pub standing-passed : {text : List ℕ} {ds : List Declaration} {place : ℕ} {w : Word} {s : State} {work : List ℕ} {a : Answer} → Standing text ds place w s work → Passed text w (counts_of s) s a
+pub standing-passed : {text : List ℕ} {ds : List Declaration} {place : ℕ} {w : Word} {s : State} {work : List ℕ} {a : Reached} → Standing text ds place w s work → Passed text w (counts_of s) s a
     → Standing text ds place a.next a.state work
 standing-passed st p = standing-same st (state-of p.counts p.kept) refl p.seen
 
@@ -72,50 +72,45 @@ ends text F.Plain h w next x K b s = absurd h
 ends text F.Input h w next x K b s = absurd h
 ends text F.Computed h w next x K b s = absurd h
 
-module _ {text : List ℕ} {w : Word} {s : State} {place : ℕ} {k : FacilityKind} {work work' : List ℕ} {a : Answer} (x : Names text w s a) where
-  pub stored-unnamed : {p : ℕ} → (a.verdict ≡ Done → ⊥) → Stores text w s place k work work' (record { answer = a; place = p })
-  stored-unnamed n h q ds st = let t = x k q st.seen st.within in record { done = λ d. absurd (n d); refused = t.refused; full = t.full }
+module _ {text : List ℕ} {w : Word} {s : State} {place : ℕ} {k : FacilityKind} {work work' : List ℕ} where
+  pub stored-unnamed : {e : Unread} → Names text w s (Err e) → Stores text w s place k work work' (Err e)
+  stored-unnamed x h q ds st = untold (x k q st.seen st.within) (λ K. K) same (λ K b. refl)
 
-  module _ (done : a.verdict ≡ Done) {m : Measured} (g : Measures text a.next a.state m) where
-    pub stored-unmeasured : {p : ℕ} → (m.answer.verdict ≡ Done → ⊥) → Stores text w s place k work work' (record { answer = m.answer; place = p })
-    stored-unmeasured n h q ds st =
-        let y = (x k q st.seen st.within).done done in
-        let t = g (whose_of k) y.seen in
-        record { done = λ d. absurd (n d); refused = λ i d K b. y.course K b ∙ t.refused i d (end_of k ++ K) (keep_word (named_word text w) b); full = t.full }
+  module _ {a : Reached} (x : Names text w s (Ok a)) where
+    pub stored-unmeasured : {e : Unread} → Measures text a.next a.state (Err e) → Stores text w s place k work work' (Err e)
+    stored-unmeasured g h q ds st =
+        let y = (x k q st.seen st.within).done refl in
+        untold (g (whose_of k) y.seen) (λ K. end_of k ++ K) (keep_word (named_word text w)) y.course
 
-    pub stored-read : m.answer.verdict ≡ Done → {e : P.Position} → positioned e ≡ nowhere → {r : Progress} → Adds m.answer.next m.answer.state place (said_of k w m.extent 0 e) work work' r
-        → Stores text w s place k work work' r
-    stored-read measured o {r} f h q ds st = record {
-      done = λ d. read;
-      refused = λ i d. done_refused (sym v.verdict ∙ d);
-      full = λ d. done_full (sym v.verdict ∙ d);
-    }
+    pub stored-read : {m : Measured} → Measures text a.next a.state (Ok m) → {e : P.Position} → positioned e ≡ nowhere → {r : Progress} → Adds m.reached.next m.reached.state place (said_of k w m.extent 0 e) work work' r
+        → Stores text w s place k work work' (Ok r)
+    stored-read {m} g o {r} f h q ds st = tells-ok read
       where
         y : NameRead text k w s a
-        y = (x k q st.seen st.within).done done
+        y = (x k q st.seen st.within).done refl
 
         z : ExtentRead text (whose_of k) (ask (ask_of (whose_of k)) ∷ []) same a.next a.state a.state m
-        z = (g (whose_of k) y.seen).done measured
+        z = (g (whose_of k) y.seen).done refl
 
         d : Declaration
         d = declaration_of text k w z.tree T.unspecified
 
-        counted : m.answer.state ≡ more_state s
+        counted : m.reached.state ≡ more_state s
         counted = z.state ∙ y.state
 
-        v : Added text (ds ++ d ∷ []) m.answer.next m.answer.state work' r
+        v : Added text (ds ++ d ∷ []) m.reached.next m.reached.state work' r
         v = f text ds d (subst (λ (j : State). Awaiting text ds d place j work) (sym counted) (bare-awaits text k w z.tree T.unspecified tt ds place s work st.listed y.room))
             (bare-said text k w z.tree T.unspecified tt (function_sizes ds) st.seen st.short z.extent o)
 
-        known : r.answer.state ≡ known_state (more_state s)
+        known : r.reached.state ≡ known_state (more_state s)
         known = v.state ∙ ap known_state counted
 
-        untouched : OthersKept s r.answer.state
+        untouched : OthersKept s r.reached.state
         untouched = record { operations = ap (λ (j : State). j.operations) known; states = ap (λ (j : State). j.states) known; nesting = ap (λ (j : State). j.nesting) known; actions = ap (λ (j : State). j.actions) known }
 
-        course : (K : Stack) (b : Built) → runs text (ask (spec_of k) ∷ K) w b s ≡ runs text K r.answer.next (with_text b (put k d b.text)) r.answer.state
+        course : (K : Stack) (b : Built) → runs text (ask (spec_of k) ∷ K) w b s ≡ runs text K r.reached.next (with_text b (put k d b.text)) r.reached.state
         course K b =
-            y.course K b ∙ z.course (end_of k ++ K) (keep_word (named_word text w) b) ∙ ends text k h w m.answer.next z.tree K b m.answer.state
+            y.course K b ∙ z.course (end_of k ++ K) (keep_word (named_word text w) b) ∙ ends text k h w m.reached.next z.tree K b m.reached.state
             ∙ rw (v.word, v.state)
 
         read : OneRead text ds (ask (spec_of k) ∷ []) k w s work' r
@@ -139,21 +134,21 @@ unfolding runs_on run feed choose rule_of tallied
 hash-taken text w s e K b = rw (sign-ahead text w hash e (omega arith)) (taken-on text (positioned w.at) (ask sequencing_spec ∷ K) (behind text w) b (counts_of s))
 
 module _ {text : List ℕ} {w : Word} {s : State} {place : ℕ} {work work' : List ℕ} where
-  pub register-plain : (kind_no w.kind ≡ hash → ⊥) → {r : Progress} → Stores text w s place F.Register work work' r → Registers text w s place work work' r
+  pub register-plain : (kind_no w.kind ≡ hash → ⊥) → {r : Result Progress Unread} → Stores text w s place F.Register work work' r → Registers text w s place work work' r
   register-plain n f ds st = f tt n ds st
 
-  module _ (comes : kind_no w.kind ≡ hash) {a : Answer} (t : Took text w (counts_of s) s a) where
-    pub hash-not : {p : ℕ} → (a.verdict ≡ Done → ⊥) → Registers text w s place work work' (record { answer = a; place = p })
-    hash-not n ds st = word-taken t (λ d. absurd (n d)) (λ K. ask sequencing_spec ∷ K) same (hash-taken text w s comes)
+  module _ (comes : kind_no w.kind ≡ hash) where
+    pub hash-not : {e : Unread} → Took text w (counts_of s) s (Err e) → Registers text w s place work work' (Err e)
+    hash-not t ds st = not-taken t (λ K. ask sequencing_spec ∷ K) same (hash-taken text w s comes)
 
-    pub register-sequencing : a.verdict ≡ Done → {r : Progress} → Stores text a.next a.state place F.Sequencing work work' r → Registers text w s place work work' r
-    register-sequencing done {r} f ds st = through (f tt tt ds (standing-passed st p)) (λ K. K) same to-name read
+    pub register-sequencing : {a : Reached} → Took text w (counts_of s) s (Ok a) → {r : Result Progress Unread} → Stores text a.next a.state place F.Sequencing work work' r → Registers text w s place work work' r
+    register-sequencing {a} t {r} f ds st = through (f tt tt ds (standing-passed st p)) (λ K. K) same to-name read
       where
         p : Passed text w (counts_of s) s a
-        p = t.done done
+        p = t.done refl
 
         to-name : (K : Stack) (b : Built) → runs text (ask register_spec ∷ K) w b s ≡ runs text (ask sequencing_spec ∷ K) a.next b a.state
         to-name K b = hash-taken text w s comes K b ∙ took-done p st.seen (ask sequencing_spec ∷ K) b
 
-        read : OneRead text ds (ask sequencing_spec ∷ []) F.Sequencing a.next a.state work' r → OneRead text ds (ask register_spec ∷ []) F.Register w s work' r
-        read y = record { tree = y.tree; course = λ K b. to-name K b ∙ y.course K b; standing = y.standing; others = others-then (others_same (state-of p.counts p.kept)) y.others }
+        read : (v : Progress) → OneRead text ds (ask sequencing_spec ∷ []) F.Sequencing a.next a.state work' v → OneRead text ds (ask register_spec ∷ []) F.Register w s work' v
+        read v y = record { tree = y.tree; course = λ K b. to-name K b ∙ y.course K b; standing = y.standing; others = others-then (others_same (state-of p.counts p.kept)) y.others }

@@ -1,6 +1,7 @@
 -- What reading a declaration answers: the tree goes to its list of the text, the facility to its tables.
-use Rattle.std.specs.Prelude.{true, List, [], ◌∷◌, ◌++◌, ◌≡◌, ℕ, ◌*◌, ◌<◌, ◌≤◌, length}
+use Rattle.std.specs.Prelude.{true, List, [], ◌∷◌, ◌++◌, ◌≡◌, ℕ, ◌*◌, ◌<◌, ◌≤◌, length, Result}
 use Rattle.parse_step.specs.declared.State.{State}
+use Rattle.parse_step.specs.declared.Unread.{Unread}
 use Rattle.parse_step.specs.Course.{Seen, Stack, counts_of, runs}
 use Rattle.parse_bounds.specs.Telling.{Tells, same}
 use Rattle.image_sections.specs.declared.facilities.FacilityKind.{FacilityKind}
@@ -49,16 +50,16 @@ pub record OthersKept (s s' : State) : Type 0 where
 
 pub record OneRead (text : List ℕ) (ds : List Declaration) (P : Stack) (k : FacilityKind) (w : Word) (s : State) (work' : List ℕ) (r : Progress) : Type 0 where
   pub tree : Declaration
-  pub course : (K : Stack) (b : Built) → runs text (P ++ K) w b s ≡ runs text K r.answer.next (with_text b (put k tree b.text)) r.answer.state
-  pub standing : Standing text (ds ++ tree ∷ []) r.place r.answer.next r.answer.state work'
-  pub others : OthersKept s r.answer.state
+  pub course : (K : Stack) (b : Built) → runs text (P ++ K) w b s ≡ runs text K r.reached.next (with_text b (put k tree b.text)) r.reached.state
+  pub standing : Standing text (ds ++ tree ∷ []) r.place r.reached.next r.reached.state work'
+  pub others : OthersKept s r.reached.state
 
-abbrev pub Stores : List ℕ → Word → State → ℕ → FacilityKind → List ℕ → List ℕ → Progress → Type 0
+abbrev pub Stores : List ℕ → Word → State → ℕ → FacilityKind → List ℕ → List ℕ → Result Progress Unread → Type 0
 Stores text w s place k work work' r =
     Stored k → Plainly k w → (ds : List Declaration) → Standing text ds place w s work
-    → Tells text (ask (spec_of k) ∷ []) same w s r.answer (OneRead text ds (ask (spec_of k) ∷ []) k w s work' r)
+    → Tells text (ask (spec_of k) ∷ []) same w s r (OneRead text ds (ask (spec_of k) ∷ []) k w s work')
 
-abbrev pub Registers : List ℕ → Word → State → ℕ → List ℕ → List ℕ → Progress → Type 0
+abbrev pub Registers : List ℕ → Word → State → ℕ → List ℕ → List ℕ → Result Progress Unread → Type 0
 Registers text w s place work work' r =
     (ds : List Declaration) → Standing text ds place w s work
-    → Tells text (ask register_spec ∷ []) same w s r.answer (OneRead text ds (ask register_spec ∷ []) K.Register w s work' r)
+    → Tells text (ask register_spec ∷ []) same w s r (OneRead text ds (ask register_spec ∷ []) K.Register w s work')

@@ -1,7 +1,6 @@
 -- The facilities declared so far, as the working array holds them.
 use Rattle.std.specs.Prelude.{List, [], ◌∷◌, ◌++◌, map, ◌≡◌, ℕ, suc, ◌+◌, ◌%◌, ◌<◌, ◌≤◌, length}
 use Rattle.parse_step.specs.declared.State.{State}
-use Rattle.parse_step.specs.declared.ReadVerdict.TheVariants.{Done}
 use Rattle.language.specs.DescribeText.{facilities_of, facility_declared, facility_nodes, function_size, function_sizes, places_of}
 use Rattle.language.specs.Encode.{facility_records}
 use Rattle.language.specs.Layout.{store_size_of}
@@ -68,10 +67,9 @@ known_state s = record { facilities = s.facilities; operations = s.operations; s
 
 -- It was added.
 pub record Added (text : List ℕ) (ds : List Declaration) (next : Word) (s : State) (work' : List ℕ) (r : Progress) : Type 0 where
-  pub verdict : r.answer.verdict ≡ Done
-  pub word : r.answer.next ≡ next
-  pub state : r.answer.state ≡ known_state s
-  pub listed : Listed text ds r.place r.answer.state work'
+  pub word : r.reached.next ≡ next
+  pub state : r.reached.state ≡ known_state s
+  pub listed : Listed text ds r.place r.reached.state work'
 
 abbrev pub Adds : Word → State → ℕ → Declared → List ℕ → List ℕ → Progress → Type 0
 Adds next s place x work work' r =

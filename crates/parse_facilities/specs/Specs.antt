@@ -1,6 +1,7 @@
 -- How the declaration of a facility begins, by its kind, and what the machine then asks for.
 use Rattle.std.specs.Prelude.{true, List, [], ◌∷◌, ◌++◌, ◌≡◌, ℕ, suc, ◌<◌}
-use Rattle.parse_step.specs.declared.Answer.{Answer}
+use Rattle.parse_step.specs.Answers.{Answer}
+use Rattle.parse_step.specs.declared.Reached.{Reached}
 use Rattle.parse_step.specs.declared.State.{State}
 use Rattle.parse_step.specs.Course.{Seen, Stack, counts_of, kind_no, runs}
 use Rattle.parse_bounds.specs.Extents.{Whose, of_other, of_terminal, ask_of}
@@ -66,7 +67,7 @@ abbrev pub more_state : State → State
 more_state s = record { facilities = suc s.facilities; operations = s.operations; states = s.states; counted = s.counted; nesting = s.nesting; nodes = s.nodes; actions = s.actions; known = s.known }
 
 -- The name of a facility was taken.
-pub record NameRead (text : List ℕ) (k : FacilityKind) (w : Word) (s : State) (r : Answer) : Type 0 where
+pub record NameRead (text : List ℕ) (k : FacilityKind) (w : Word) (s : State) (r : Reached) : Type 0 where
   pub course : (K : Stack) (b : Built) → runs text (ask (spec_of k) ∷ K) w b s ≡ runs text (ask (ask_of (whose_of k)) ∷ (end_of k ++ K)) r.next (keep_word (named_word text w) b) r.state
   pub state : r.state ≡ more_state s
   pub room : s.facilities < 256
@@ -74,4 +75,4 @@ pub record NameRead (text : List ℕ) (k : FacilityKind) (w : Word) (s : State) 
   pub seen : Seen text r.next
 
 abbrev pub Names : List ℕ → Word → State → Answer → Type 0
-Names text w s r = (k : FacilityKind) → Plainly k w → Seen text w → within_ceilings (counts_of s) ≡ true → Tells text (ask (spec_of k) ∷ []) same w s r (NameRead text k w s r)
+Names text w s r = (k : FacilityKind) → Plainly k w → Seen text w → within_ceilings (counts_of s) ≡ true → Tells text (ask (spec_of k) ∷ []) same w s r (NameRead text k w s)

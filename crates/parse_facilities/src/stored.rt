@@ -5,7 +5,7 @@ use crate::{Progress, adding, naming};
 use image_sections::facilities::FacilityKind;
 use parse_array::Work;
 use parse_bounds::extents;
-use parse_step::{Bearing, State, kinds, taking};
+use parse_step::{Bearing, State, Unread, kinds, taking};
 use parse_tables::facilities::Declared;
 use text_words::{Word, places};
 
@@ -17,47 +17,37 @@ pub fn stored(
     s: State,
     place: u16,
     kind: FacilityKind,
-) -> Progress
+) -> Result<Progress, Unread>
     ensures { Stores text.now w s place kind work.old work.new result }
 {
-    let answer = naming::facility_name(text, w, s);
-    if parse_step::unread(answer) {
-        return Progress { answer, place };
-    }
-    let measured = extents::dimensions(text, answer.next, answer.state);
-    if parse_step::unread(measured.answer) {
-        let answer = measured.answer;
-        return Progress { answer, place };
-    }
-    let at = w.at;
-    let extent = measured.extent;
-    let nowhere = places::position(0);
+    let named = naming::facility_name(text, w, s)?;
+    let measured = extents::dimensions(text, named.next, named.state)?;
     let x = Declared {
         kind,
-        at,
+        at: w.at,
         size: w.size,
-        extent,
+        extent: measured.extent,
         expression: 0,
-        equals: nowhere,
+        equals: places::position(0),
     };
-    adding::declare(work, measured.answer.next, measured.answer.state, place, x)
+    let reached = measured.reached;
+    Ok(adding::declare(work, reached.next, reached.state, place, x))
 }
 
 // A register, or behind a `#` the sequencing register.
-pub fn register(text: &[u8], w: Word, work: &mut Work, s: State, place: u16) -> Progress
+pub fn register(
+    text: &[u8],
+    w: Word,
+    work: &mut Work,
+    s: State,
+    place: u16,
+) -> Result<Progress, Unread>
     ensures { Registers text.now w s place work.old work.new result }
 {
-    let kind = w.kind;
-    if kinds::number(kind) != language::kinds::HASH {
+    if kinds::kind_of(w) != language::kinds::HASH {
         return stored(text, w, work, s, place, FacilityKind::Register);
     }
-    let hash = taking::take(text, w, s, false, Bearing::Level);
-    if parse_step::unread(hash) {
-        return Progress {
-            answer: hash,
-            place,
-        };
-    }
+    let hash = taking::take(text, w, s, false, Bearing::Level)?;
     stored(
         text,
         hash.next,

@@ -33,7 +33,7 @@ use Rattle.parse_tables.proofs.NamesGrown.{names-kept}
 use Rattle.parse_tables.proofs.OtherRecords.{place-length}
 use Rattle.parse_tables.specs.declared.Table.TheVariants as T
 use Rattle.parse_tables.specs.Names.{found}
-use Rattle.parse_tables.specs.declared.finding.Found.{Found}
+use Rattle.std.specs.Prelude as R
 use Rattle.parse_tables.specs.Rows.{Kept, Wrote, rows}
 
 -- ---- Action k, read from its record and its place.
@@ -88,7 +88,7 @@ module _ (text : List ℕ) (k n : ℕ) {w : List ℕ} (h : k < most_actions) (a 
       row-stands T.Actions k w (action_bytes (resolved_at text (labels_in text w n) x.at x.action)) i.whole (action-length _) h (i.bytes ∙ rw same)
 
   -- A goto or a call of m letters.
-  pub one-led : (F : ℕ → D.Action) → ((p : Position) (j : ℕ) → resolved_at text (labels_in text w n) p (F j) ≡ or_broken (state_at text (labels_in text w n) p j) F) → (m : ℕ) → meant a ≡ F m → (f : Found)
+  pub one-led : (F : ℕ → D.Action) → ((p : Position) (j : ℕ) → resolved_at text (labels_in text w n) p (F j) ≡ or_broken (state_at text (labels_in text w n) p j) F) → (m : ℕ) → meant a ≡ F m → (f : R.Option ℕ)
       → found f ≡ state_at text (labels_in text w n) (place_of 1 (rows T.ActionPlaces (k + 1) w) k 0) m → (y : C.Action) → meant y ≡ or_broken (found f) F
       → {w' : List ℕ} → (k < most_actions → Wrote T.Actions k (action_bytes (meant y)) w w') → Resolves text k n w w'
   one-led F s m d f g y q {w'} z x i = subst (λ (v : D.Action). Wrote T.Actions k (action_bytes v) w w') eq (z h)

@@ -290,7 +290,7 @@ span-some b = go (leb b.first b.last)
     go true = omega arith
     go false = omega arith
 
-word_some : (f : Facility) → 1 ≤ word_length f
+pub word_some : (f : Facility) → 1 ≤ word_length f
 unfolding word_length
 word_some f = go (eqb f.dimensions 0)
   where

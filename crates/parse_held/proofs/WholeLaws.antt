@@ -19,7 +19,7 @@ use Rattle.parse_array.specs.Layout.{work_size}
 use Rattle.parse_held.proofs.BodyLaws.{node-length, records-length, row-length}
 use Rattle.image_records.proofs.FilledLaws.{filled-length, filled_more, filled_none}
 use Rattle.parse_held.specs.declared.Holding.{Holding}
-use Rattle.call_answers.specs.declared.read.ReadReply.TheVariants.{Accepted, Refused}
+use Rattle.std.specs.Prelude.{Err, Ok}
 use Rattle.call_answers.specs.Reading.{called}
 use Rattle.parse_held.specs.Sections.{Few, counts_held, letters_of, names_held, records_held, sections_held}
 
@@ -86,7 +86,7 @@ module _ (text w : List ℕ) (c : Holding) (l : length w ≡ work_size) (few : F
       ap length whole ∙ omega (arith, a, b, header-bytes counted, records-length w c l few)
 
   module _ {n from : ℕ} {i₁ : List ℕ} (i₀ : List ℕ) (e : n ≡ length (names_held text w c)) (f : from ≡ names_from (counts_held c 0)) (z : i₁ ≡ replicate (length i₀) 0) where
-    pub no_room : length i₁ < from + n → called (Refused BufferTooShort 0) i₁ ≡ with_room (length i₀) (image_of (sections_held text w c))
+    pub no_room : length i₁ < from + n → called (Err (record { refusal = BufferTooShort; place = 0 })) i₁ ≡ with_room (length i₀) (image_of (sections_held text w c))
     no_room h =
         let m : length i₁ ≡ length i₀ = ap length (z ∙ filled_none (length i₀)) ∙ filled-length (length i₀) [] (omega arith) in
         rw (lt-leb (length (image_of (sections_held text w c))) (length i₀) (omega (arith, whole_length)), z)
@@ -94,7 +94,7 @@ module _ (text w : List ℕ) (c : Holding) (l : length w ≡ work_size) (few : F
     pub room : {i₂ i₃ i₄ : List ℕ} {k : Counts} → from + n ≤ length i₁ → k ≡ counts_held c n → i₂ ≡ placed i₁ 0 (fours (header_numbers k))
         → ((p : List ℕ) → length w ≡ work_size → Few c → length p ≡ 52 → i₂ ≡ filled (length i₂) p → names_from (counts_held c 0) ≤ length i₂ → i₃ ≡ filled (length i₂) (p ++ records_held w c))
         → ((p : List ℕ) → length p ≡ from → i₃ ≡ filled (length i₃) p → from + length (names_held text w c) ≤ length i₃ → i₄ ≡ filled (length i₃) (p ++ names_held text w c))
-        → called (Accepted (from + n)) i₄ ≡ with_room (length i₀) (image_of (sections_held text w c))
+        → called (Ok (from + n)) i₄ ≡ with_room (length i₀) (image_of (sections_held text w c))
     room {i₂} {i₃} {i₄} h g a b d =
         let m = length i₀ in
         let head = fours (header_numbers counted) in

@@ -9,18 +9,18 @@ ghost use Rattle.parse_held.specs.Sections.{Few, counts_held, records_held};
 
 use crate::Holding;
 use image_records::{bytes, record_sizes};
-use parse_array::layout::NODE_PLACES;
+use parse_array::layout::{NODE_BESIDE, NODE_PLACES};
 use parse_tables::{Table, rows};
 
 // The first n records of a table.
 pub fn rows_of(work: &[u8], table: Table, n: u16) -> &[u8]
     ensures { result.now ≡ R.rows table n work.now }
 {
-    let from = rows::begin(table);
-    bytes::part(work, from, rows::bytes_of(table) * n as usize)
+    bytes::part(work, rows::begin(table), rows::bytes_of(table) * n as usize)
 }
 
 // The first n expressions.
+#[tactic(auto, unfolding(parse_array::specs::Held::held))]
 pub fn nodes_of(work: &[u8], n: u16) -> &[u8]
     ensures { result.now ≡ (held n work.now).nodes }
 {
@@ -28,10 +28,11 @@ pub fn nodes_of(work: &[u8], n: u16) -> &[u8]
 }
 
 // The places beside them.
+#[tactic(auto, unfolding(parse_array::specs::Held::held))]
 pub fn node_places_of(work: &[u8], n: u16) -> &[u8]
     ensures { result.now ≡ (held n work.now).places }
 {
-    bytes::part(work, NODE_PLACES, 6 * n as usize)
+    bytes::part(work, NODE_PLACES, NODE_BESIDE * n as usize)
 }
 
 // Writes the sections behind the header.

@@ -1,5 +1,5 @@
 // How many records of each section there are.
-ghost use Rattle.std.specs.Prelude.{◌≡◌, ◌≤◌, min};
+ghost use Rattle.std.specs.Prelude.{◌≡◌, ◌≤◌};
 ghost use Rattle.image_sections.specs.Header.{names_from};
 ghost use Rattle.parse_held.specs.Sections.{Few, counts_held, within as Within};
 
@@ -8,23 +8,17 @@ use image_records::record_sizes;
 use image_sections::header::Counts;
 use parse_array::layout;
 
-// The lesser of two numbers.
-fn least(a: u16, b: u16) -> u16
-    ensures { result ≡ min a b }
-{
-    if a < b { a } else { b }
-}
-
 // As many as there is room for in the array.
+#[tactic(auto, unfolding(crate::specs::Sections::within))]
 pub fn within(c: Holding) -> Holding
     ensures { (result ≡ Within c) × Few result }
 {
     Holding {
-        facilities: least(c.facilities, layout::MOST_FACILITIES),
-        operations: least(c.operations, layout::MOST_OPERATIONS),
-        nodes: least(c.nodes, layout::MOST_NODES),
-        actions: least(c.actions, layout::MOST_ACTIONS),
-        states: least(c.states, layout::MOST_STATES),
+        facilities: c.facilities.min(layout::MOST_FACILITIES),
+        operations: c.operations.min(layout::MOST_OPERATIONS),
+        nodes: c.nodes.min(layout::MOST_NODES),
+        actions: c.actions.min(layout::MOST_ACTIONS),
+        states: c.states.min(layout::MOST_STATES),
     }
 }
 

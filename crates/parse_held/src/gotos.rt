@@ -16,7 +16,6 @@ use image_records::actions::Action;
 use judge_records::places;
 use parse_array::Work;
 use parse_tables::actions::rewrite_action;
-use parse_tables::finding::Found;
 use parse_tables::{Table, finding};
 
 // Action k, as its record says.
@@ -29,7 +28,7 @@ fn action_of(work: &Work, k: u16) -> Action
 }
 
 // The state, among n labels, whose name of this length stands at the place of action k.
-fn state_named(text: &[u8], work: &Work, k: u16, length: u16, n: u16) -> Found
+fn state_named(text: &[u8], work: &Work, k: u16, length: u16, n: u16) -> Option<u8>
     requires { k < most_actions }
     ensures { N.found result ≡ state_at text.now (labels_in text.now work.now n) (place_of 1 (R.rows T.ActionPlaces (k + 1) work.now) k 0) length }
 {
@@ -46,23 +45,17 @@ fn state_named(text: &[u8], work: &Work, k: u16, length: u16, n: u16) -> Found
 }
 
 // The record of a goto; broken where there is no state.
-fn goto(state: Found) -> Action
+fn goto(state: Option<u8>) -> Action
     ensures { meant result ≡ or_broken (N.found state) D.goto }
 {
-    match state {
-        Found::At(k) => Action::Goto(k as u16),
-        Found::Nothing => Action::Broken,
-    }
+    state.map_or(Action::Broken, |k| Action::Goto(u16::from(k)))
 }
 
 // The record of a call; broken where there is no state.
-fn call(state: Found) -> Action
+fn call(state: Option<u8>) -> Action
     ensures { meant result ≡ or_broken (N.found state) D.call }
 {
-    match state {
-        Found::At(k) => Action::Call(k as u16),
-        Found::Nothing => Action::Broken,
-    }
+    state.map_or(Action::Broken, |k| Action::Call(u16::from(k)))
 }
 
 // Resolves action k where it waits for a state, by the first n labels.
@@ -70,8 +63,7 @@ fn resolve_one(text: &[u8], work: &mut Work, k: u16, n: u16)
     requires { k < most_actions }
     ensures { Resolves text.now k n work.old work.new }
 {
-    let action = action_of(work, k);
-    match action {
+    match action_of(work, k) {
         Action::Goto(length) => {
             let state = state_named(text, work, k, length, n);
             rewrite_action(work, k, goto(state))
@@ -89,9 +81,7 @@ pub fn resolve(text: &[u8], work: &mut Work, from: u16, to: u16, n: u16)
     requires { to ≤ most_actions }
     ensures { ResolvesAll text.now from to n work.old work.new }
 {
-    let mut k = from;
-    while k < to {
+    for k in from..to {
         resolve_one(text, work, k, n);
-        k += 1;
     }
 }

@@ -13,16 +13,11 @@ use text_characters::letters;
 fn put_word(s: &mut [u8], at: usize, word: &[u8])
     ensures { s.new ≡ placed s.old at (map folded word.now) }
 {
-    if s.len() < at {
+    if s.len() < at || s.len() - at < word.len() {
         return;
     }
-    if s.len() - at < word.len() {
-        return;
-    }
-    let mut i = 0;
-    while i < word.len() {
-        s[at + i] = letters::fold(word[i]);
-        i += 1;
+    for (i, letter) in word.iter().enumerate() {
+        s[at + i] = letters::fold(*letter);
     }
 }
 
@@ -31,11 +26,8 @@ pub fn count(text: &[u8], work: &Work, table: Table, n: u16) -> usize
     ensures { (size table ≡ 4 → result ≡ length (letters_of text.now table n work.now)) × (result ≤ 65535 * n) }
 {
     let mut sum: usize = 0;
-    let mut k: u16 = 0;
-    while k < n {
-        let word = names::word(text, work, table, k);
-        sum += word.len();
-        k += 1;
+    for k in 0..n {
+        sum += names::word(text, work, table, k).len();
     }
     sum
 }
@@ -46,12 +38,10 @@ pub fn put(s: &mut [u8], at: usize, text: &[u8], work: &Work, table: Table, n: u
     ensures { (size table ≡ 4 → result ≡ at + length (letters_of text.now table n work.now)) × (result ≤ at + 65535 * n) × (size table ≡ 4 → at + length (letters_of text.now table n work.now) ≤ length s.old → s.new ≡ placed s.old at (letters_of text.now table n work.now)) }
 {
     let mut to = at;
-    let mut k: u16 = 0;
-    while k < n {
+    for k in 0..n {
         let word = names::word(text, work, table, k);
         put_word(s, to, word);
         to += word.len();
-        k += 1;
     }
     to
 }

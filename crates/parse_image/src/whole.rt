@@ -5,7 +5,7 @@ ghost use Rattle.language.specs.Encode.{image_of};
 ghost use Rattle.language.specs.Reading.{with_room};
 ghost use Rattle.parse_held.specs.Sections.{Few, sections_held};
 
-use call_answers::read::ReadReply;
+use call_answers::read::Refused;
 use image_sections::header;
 use language::refusals::Refusal;
 use parse_array::Work;
@@ -13,7 +13,7 @@ use parse_held::{Holding, body, counts, names};
 use store_words::slices;
 
 // Writes the image, and zero behind it; where there is no room, zero alone.
-pub fn write_image(text: &[u8], work: &Work, c: Holding, image: &mut [u8]) -> ReadReply
+pub fn write_image(text: &[u8], work: &Work, c: Holding, image: &mut [u8]) -> Result<usize, Refused>
     ensures { Few c → called result image.new ≡ with_room (length image.old) (image_of (sections_held text.now work.now c)) }
 {
     let s: &[u8] = work;
@@ -22,10 +22,13 @@ pub fn write_image(text: &[u8], work: &Work, c: Holding, image: &mut [u8]) -> Re
     let from = counts::names_from(few);
     let n = names::count(text, work, few);
     if image.len() < from + n {
-        return ReadReply::Refused(Refusal::BufferTooShort, 0);
+        return Err(Refused {
+            refusal: Refusal::BufferTooShort,
+            place: 0,
+        });
     }
     header::write_header(image, counts::header_counts(few, n as u32));
     body::put(image, s, few);
     names::put(image, from, text, work, few);
-    ReadReply::Accepted(from + n)
+    Ok(from + n)
 }

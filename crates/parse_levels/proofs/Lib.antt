@@ -1,5 +1,3 @@
-pub mod Among
 pub mod Descent
-pub mod HeadTests
 pub mod HeadWords
 pub mod TailWords

@@ -2,7 +2,6 @@
 #![tactic(auto)]
 
 pub mod heads;
-mod kinds;
 pub mod ranks;
 
 // What an expression is read as, the tightest first; a chain is a complement without its sign.

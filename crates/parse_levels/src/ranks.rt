@@ -3,22 +3,22 @@ ghost use Rattle.std.specs.Prelude.{◌≡◌, ltb};
 ghost use Rattle.about_grammar.specs.Following.{among};
 ghost use Rattle.parse_levels.specs.Orders.{next_rank, operand_level, operators_of, rank_no, top_no};
 
-use crate::kinds::member;
 use crate::{Level, Rank};
 use value_operators::operators;
 
 // Whether a kind is an operator of a rank.
+#[tactic(auto, using(std::proofs::lemmas::Bool::Decides::nat_tests), unfolding(about_grammar::specs::Following::among))]
 pub fn operates(rank: Rank, kind: u8) -> bool
     ensures { result ≡ among kind (operators_of rank) }
 {
     match rank {
-        Rank::Sum => member(kind, &operators::SUM_SIGNS),
-        Rank::Relation => member(kind, &operators::RELATION_SIGNS),
-        Rank::Cut => member(kind, &operators::CUT_WORDS),
-        Rank::Con => member(kind, &[language::kinds::CON]),
-        Rank::And => member(kind, &[language::kinds::STAR]),
-        Rank::Exclusive => member(kind, &[language::kinds::EXCLUSIVE]),
-        Rank::Or => member(kind, &[language::kinds::PLUS]),
+        Rank::Sum => operators::SUM_SIGNS.contains(&kind),
+        Rank::Relation => operators::RELATION_SIGNS.contains(&kind),
+        Rank::Cut => operators::CUT_WORDS.contains(&kind),
+        Rank::Con => kind == language::kinds::CON,
+        Rank::And => kind == language::kinds::STAR,
+        Rank::Exclusive => kind == language::kinds::EXCLUSIVE,
+        Rank::Or => kind == language::kinds::PLUS,
         Rank::Beyond => false,
     }
 }
@@ -34,8 +34,7 @@ pub fn next(rank: Rank) -> Rank
         Rank::Con => Rank::And,
         Rank::And => Rank::Exclusive,
         Rank::Exclusive => Rank::Or,
-        Rank::Or => Rank::Beyond,
-        Rank::Beyond => Rank::Beyond,
+        Rank::Or | Rank::Beyond => Rank::Beyond,
     }
 }
 
@@ -44,30 +43,12 @@ pub fn operand(rank: Rank) -> Level
     ensures { result ≡ operand_level rank }
 {
     match rank {
-        Rank::Sum => Level::Term,
+        Rank::Sum | Rank::Cut | Rank::Beyond => Level::Term,
         Rank::Relation => Level::Arithmetic,
-        Rank::Cut => Level::Term,
         Rank::Con => Level::Reduction,
         Rank::And => Level::Complement,
         Rank::Exclusive => Level::Product,
         Rank::Or => Level::Minterm,
-        Rank::Beyond => Level::Term,
-    }
-}
-
-// Ranks in order.
-fn rank_number(rank: Rank) -> u8
-    ensures { result ≡ rank_no rank }
-{
-    match rank {
-        Rank::Sum => 0,
-        Rank::Relation => 1,
-        Rank::Cut => 2,
-        Rank::Con => 3,
-        Rank::And => 4,
-        Rank::Exclusive => 5,
-        Rank::Or => 6,
-        Rank::Beyond => 7,
     }
 }
 
@@ -78,10 +59,8 @@ fn top(level: Level) -> u8
     match level {
         Level::Term => 0,
         Level::Arithmetic => 1,
-        Level::Adjustment => 3,
-        Level::Reduction => 3,
-        Level::Chain => 4,
-        Level::Complement => 4,
+        Level::Adjustment | Level::Reduction => 3,
+        Level::Chain | Level::Complement => 4,
         Level::Product => 5,
         Level::Minterm => 6,
         Level::Expression => 7,
@@ -92,5 +71,5 @@ fn top(level: Level) -> u8
 pub fn within(rank: Rank, level: Level) -> bool
     ensures { result ≡ ltb (rank_no rank) (top_no level) }
 {
-    rank_number(rank) < top(level)
+    (rank as u8) < top(level)
 }

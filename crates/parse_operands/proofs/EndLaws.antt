@@ -1,7 +1,7 @@
 -- The ends of a part.
 use mathlib.Core.Bool.{Bool, true, true≢false}
 use mathlib.Core.List.{List, ◌∷◌}
-use mathlib.Core.Path.{◌≡◌, sym, ap, ◌∙◌}
+use mathlib.Core.Path.{◌≡◌, refl, sym, ap, ◌∙◌}
 use Prim.Native.Nat.{ℕ, ◌-◌}
 use native.Mathlib.Omega.{arith}
 use borrow.Author.Tests.{eqb-true}
@@ -11,10 +11,8 @@ use Rattle.language.specs.Kinds.{a_constant, close_bracket, colon}
 use Rattle.language.specs.Machine.{Counts, ask, closes, keep, make, word}
 use Rattle.language.specs.Words as L
 use Rattle.text_words.specs.declared.Word.{Word}
-use Rattle.parse_step.specs.declared.Answer.{Answer}
 use Rattle.parse_step.specs.declared.Bearing.TheVariants.{Closes}
 use Rattle.parse_step.specs.declared.State.{State}
-use Rattle.parse_step.specs.declared.ReadVerdict.TheVariants.{Done}
 use Rattle.parse_step.specs.Course.{Seen, Stack, ahead, behind, counts_of, kind_no, runs}
 use Rattle.parse_step.specs.Taken.{Expected, Keeps, Took, colon_first, constant_word, ends_ahead}
 use Rattle.parse_step.proofs.Ceilings.{both_true}
@@ -22,8 +20,12 @@ use Rattle.parse_step.proofs.Looking.{View, begun, ended, view}
 use Rattle.parse_step.proofs.TakenWords.{on_taken, took-done, took-refused}
 use Rattle.parse_operands.specs.declared.constants.EndsRead.{EndsRead}
 use Rattle.parse_operands.specs.Brackets.{bracket_ask, bracket_make, bracket_rest, bracket_waits}
-use Rattle.parse_operands.specs.Ended.{Closed, Ended}
+use Rattle.parse_operands.specs.Ended.{Closed, Ended, Through}
 use Rattle.parse_operands.proofs.BracketWords.{colon-follows, constant-first}
+use Rattle.parse_step.specs.declared.Reached.{Reached}
+use Rattle.parse_step.specs.declared.Unread.{Unread}
+use Rattle.parse_step.proofs.Answers.{at_ok, err_as, ok_err}
+use Rattle.std.specs.Prelude.{Err, Ok, Result}
 
 -- ---- A constant and a colon come.
 
@@ -43,70 +45,81 @@ colon-kind text w z e f = go (view text w z) (ap colon_first e ∙ f)
 
 -- ---- The second end and the bracket.
 
-pub closed-not : {text : List ℕ} {w l : Word} {s : State} {r : Answer} → Keeps text w s r → (r.verdict ≡ Done → ⊥) → Closed text w s (record { answer = r; last = l })
-closed-not k n = record {
-  done = λ d. absurd (n d);
-  refused = λ f d z K b. k.refused f d z (word close_bracket closes ∷ K) b;
-  full = k.full;
+pub closed-not : {text : List ℕ} {w : Word} {s : State} {e : Unread} → Keeps text w s (Err e) → Closed text w s (Err e)
+closed-not k = record {
+  done = λ d. ok_err (sym d);
+  refused = λ f d z K b. k.refused f (err_as d) z (word close_bracket closes ∷ K) b;
+  full = λ d. k.full (err_as d);
 }
 
-pub closed-says : {text : List ℕ} {w : Word} {s : State} {r a : Answer} → Keeps text w s r → r.verdict ≡ Done → Expected text close_bracket Closes r.next r.state a → Closed text w s (record { answer = a; last = w })
-closed-says {text} {w} {s} {r} {a} k e x = record {
-  done = λ d z. let q = k.done e z in
-      let y = x.done d q.seen (omega arith) in
-      let v = q.state in (
-        record {
-          seen = y.0.seen;
-          nesting = ap (λ (c : Counts). c.nesting) y.0.counts ∙ ap (λ (t : State). t.nesting - 1) v;
-          nodes = y.0.kept.nodes ∙ ap (λ (t : State). t.nodes) v;
-          known = y.0.kept.known ∙ ap (λ (t : State). t.known) v;
-        },
-        λ K b. q.course (word close_bracket closes ∷ K) b ∙ y.1 K (keep_word (constant_word w) b),
-      );
-  refused = λ f d z K b. let q = k.done e z in q.course (word close_bracket closes ∷ K) b ∙ x.refused f d q.seen (omega arith) K (keep_word (constant_word w) b);
-  full = x.full;
-}
+module _ {text : List ℕ} {w : Word} {s : State} {r : Reached} (k : Keeps text w s (Ok r)) where
+  pub closed-open : {e : Unread} → Expected text close_bracket Closes r.next r.state (Err e) → Closed text w s (Err e)
+  closed-open x = record {
+    done = λ d. ok_err (sym d);
+    refused = λ f d z K b. let q = k.done refl z in q.course (word close_bracket closes ∷ K) b ∙ x.refused f (err_as d) q.seen (omega arith) K (keep_word (constant_word w) b);
+    full = λ d. x.full (err_as d);
+  }
+
+  pub closed-says : {a : Reached} → Expected text close_bracket Closes r.next r.state (Ok a) → Closed text w s (Ok (record { reached = a; last = w }))
+  closed-says {a} x = record { done = λ d. at_ok Reads d reads; refused = λ f d. ok_err d; full = λ d. ok_err d }
+    where
+      Reads : EndsRead → Type 0
+      Reads e = Seen text w → Through text s e
+          × ((K : Stack) (b : Built) → runs text (keep a_constant ∷ word close_bracket closes ∷ K) w b s ≡ runs text K e.reached.next (keep_word (constant_word e.last) b) e.reached.state)
+
+      reads : Reads (record { reached = a; last = w })
+      reads z = let q = k.done refl z in
+          let y = x.done refl q.seen (omega arith) in
+          let v = q.state in (
+            record {
+              seen = y.0.seen;
+              nesting = ap (λ (c : Counts). c.nesting) y.0.counts ∙ ap (λ (t : State). t.nesting - 1) v;
+              nodes = y.0.kept.nodes ∙ ap (λ (t : State). t.nodes) v;
+              known = y.0.kept.known ∙ ap (λ (t : State). t.known) v;
+            },
+            λ K b. q.course (word close_bracket closes ∷ K) b ∙ y.1 K (keep_word (constant_word w) b),
+          )
 
 -- ---- From the first end on.
 
-module _ {text : List ℕ} {w : Word} {s : State} {t : Answer} (x : Took text w (counts_of s) s t) where
-  first-course : Seen text w → ends_ahead (ahead text w) ≡ true → (q : Bool) (K : Stack) (b : Built)
-      → runs text (ask (bracket_ask q) ∷ K) w b s ≡ on_taken text w (ask (bracket_waits q) ∷ ask (bracket_rest q) ∷ K) (keep_word (constant_word w) b) (counts_of s)
-  first-course z e q K b = constant-first text w z b (counts_of s) (ends-split text w z e).0 q K
+first-course : (s : State) {text : List ℕ} {w : Word} → Seen text w → ends_ahead (ahead text w) ≡ true → (q : Bool) (K : Stack) (b : Built)
+    → runs text (ask (bracket_ask q) ∷ K) w b s ≡ on_taken text w (ask (bracket_waits q) ∷ ask (bracket_rest q) ∷ K) (keep_word (constant_word w) b) (counts_of s)
+first-course s {text} {w} z e q K b = constant-first text w z b (counts_of s) (ends-split text w z e).0 q K
 
-  pub ended-not : {l : Word} → (t.verdict ≡ Done → ⊥) → Ended text w s (record { answer = t; last = l })
-  ended-not n = record {
-    done = λ d. absurd (n d);
-    refused = λ f d z e q K b. first-course z e q K b ∙ took-refused x f d (ask (bracket_waits q) ∷ ask (bracket_rest q) ∷ K) (keep_word (constant_word w) b);
-    full = x.full;
+module _ {text : List ℕ} {w : Word} {s : State} where
+  pub ended-not : {e : Unread} → Took text w (counts_of s) s (Err e) → Ended text w s (Err e)
+  ended-not x = record {
+    done = λ d. ok_err (sym d);
+    refused = λ f d z e q K b. first-course s z e q K b ∙ took-refused x f (err_as d) (ask (bracket_waits q) ∷ ask (bracket_rest q) ∷ K) (keep_word (constant_word w) b);
+    full = λ d. x.full (err_as d);
   }
 
-  module _ (d₁ : t.verdict ≡ Done) {u : Answer} (y : Took text t.next (counts_of t.state) t.state u) where
+  module _ {t : Reached} (x : Took text w (counts_of s) s (Ok t)) where
     second-course : Seen text w → ends_ahead (ahead text w) ≡ true → (q : Bool) (K : Stack) (b : Built)
         → runs text (ask (bracket_ask q) ∷ K) w b s ≡ on_taken text t.next (keep a_constant ∷ word close_bracket closes ∷ make (bracket_make q) ∷ K) (keep_word (constant_word w) b) (counts_of t.state)
     second-course z e q K b =
-        let p = x.done d₁ in
-        first-course z e q K b ∙ took-done p z (ask (bracket_waits q) ∷ ask (bracket_rest q) ∷ K) (keep_word (constant_word w) b)
+        let p = x.done refl in
+        first-course s z e q K b ∙ took-done p z (ask (bracket_waits q) ∷ ask (bracket_rest q) ∷ K) (keep_word (constant_word w) b)
         ∙ colon-follows text t.next p.seen (keep_word (constant_word w) b) (counts_of t.state) (colon-kind text t.next p.seen (p.words z) (ends-split text w z e).1) q K
 
-    pub colon-not : {l : Word} → (u.verdict ≡ Done → ⊥) → Ended text w s (record { answer = u; last = l })
-    colon-not n = record {
-      done = λ d. absurd (n d);
-      refused = λ f d z e q K b. second-course z e q K b ∙ took-refused y f d (keep a_constant ∷ word close_bracket closes ∷ make (bracket_make q) ∷ K) (keep_word (constant_word w) b);
-      full = y.full;
+    pub colon-not : {e : Unread} → Took text t.next (counts_of t.state) t.state (Err e) → Ended text w s (Err e)
+    colon-not y = record {
+      done = λ d. ok_err (sym d);
+      refused = λ f d z e q K b. second-course z e q K b ∙ took-refused y f (err_as d) (keep a_constant ∷ word close_bracket closes ∷ make (bracket_make q) ∷ K) (keep_word (constant_word w) b);
+      full = λ d. y.full (err_as d);
     }
 
-    module _ (d₂ : u.verdict ≡ Done) {r : EndsRead} (c : Closed text u.next u.state r) where
+    module _ {u : Reached} (y : Took text t.next (counts_of t.state) t.state (Ok u)) {r : Result EndsRead Unread} (c : Closed text u.next u.state r) where
       third-course : Seen text w → ends_ahead (ahead text w) ≡ true → (q : Bool) (K : Stack) (b : Built)
           → runs text (ask (bracket_ask q) ∷ K) w b s ≡ runs text (keep a_constant ∷ word close_bracket closes ∷ make (bracket_make q) ∷ K) u.next (keep_word (constant_word w) b) u.state
       third-course z e q K b =
-          second-course z e q K b ∙ took-done (y.done d₂) (x.done d₁).seen (keep a_constant ∷ word close_bracket closes ∷ make (bracket_make q) ∷ K) (keep_word (constant_word w) b)
+          second-course z e q K b ∙ took-done (y.done refl) (x.done refl).seen (keep a_constant ∷ word close_bracket closes ∷ make (bracket_make q) ∷ K) (keep_word (constant_word w) b)
 
       pub ended-says : Ended text w s r
       ended-says = record {
-        done = λ d z e. let i = c.done d (y.done d₂).seen in
-            let p = x.done d₁ in
-            let g = y.done d₂ in (
+        done = λ d z e. let g = y.done refl in
+            let i = c.done d g.seen in
+            let p = x.done refl in (
               record {
                 seen = i.0.seen;
                 nesting = i.0.nesting ∙ ap (λ (v : ℕ). v - 1) (ap (λ (v : Counts). v.nesting) g.counts ∙ ap (λ (v : Counts). v.nesting) p.counts);
@@ -115,6 +128,6 @@ module _ {text : List ℕ} {w : Word} {s : State} {t : Answer} (x : Took text w 
               },
               λ q K b. third-course z e q K b ∙ i.1 (make (bracket_make q) ∷ K) (keep_word (constant_word w) b),
             );
-        refused = λ f d z e q K b. third-course z e q K b ∙ c.refused f d (y.done d₂).seen (make (bracket_make q) ∷ K) (keep_word (constant_word w) b);
+        refused = λ f d z e q K b. third-course z e q K b ∙ c.refused f d (y.done refl).seen (make (bracket_make q) ∷ K) (keep_word (constant_word w) b);
         full = c.full;
       }

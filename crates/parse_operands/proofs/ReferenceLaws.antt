@@ -12,10 +12,10 @@ use Rattle.language.specs.Naming.{Scope, facility, meaning, number_of, of_facili
 use Rattle.language.specs.Tree.{Name}
 use Rattle.judge_records.specs.Noted.{end_places, node_beside_bytes, plain_places}
 use Rattle.text_words.specs.declared.Word.{Word}
-use Rattle.parse_step.specs.declared.Answer.{Answer}
 use Rattle.parse_step.specs.declared.State.{State}
 use Rattle.parse_step.specs.Gained.{Gained}
 use Rattle.parse_operands.specs.References.{of_found, of_known}
+use Rattle.parse_step.specs.Answers.{Answer}
 
 pub gained-as : {next : Word} {s : State} {bs bs' ps ps' w w' : List ℕ} {r : Answer} → Gained next s bs ps w w' r → bs ≡ bs' → ps ≡ ps' → Gained next s bs' ps' w w' r
 gained-as g p q = rw (← p, ← q) g

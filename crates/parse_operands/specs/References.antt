@@ -15,9 +15,9 @@ use Rattle.value_operators.specs.Meaning.{valued}
 use Rattle.text_words.specs.declared.Word.{Word}
 use Rattle.text_words.specs.Meaning.{positioned}
 use Rattle.parse_tables.specs.Names.{facility_names}
-use Rattle.parse_step.specs.declared.Answer.{Answer}
 use Rattle.parse_step.specs.declared.State.{State}
 use Rattle.parse_step.specs.Gained.{Gained}
+use Rattle.parse_step.specs.Answers.{Answer}
 
 -- A name in capitals.
 abbrev pub letters_of : List ℕ → Word → Name

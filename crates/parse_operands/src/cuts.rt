@@ -13,14 +13,9 @@ use text_words::Word;
 pub fn cut(s: State, kind: u8, operator: Word, text: &[u8], w: Word, work: &mut Work) -> Answer
     ensures { Cuts kind operator text.now w s work.old work.new result × (Seen text.now w → Grows s result) × Spends text.now 2 w s result }
 {
-    let kept = taking::keep_constant(text, w, s);
-    if parse_step::unread(kept) {
-        return kept;
-    }
-    let v = w.value;
-    let count = bounds::count(v);
-    let at = operator.at;
-    let beside = places::plain(at);
+    let kept = taking::keep_constant(text, w, s)?;
+    let count = bounds::count(w.value);
+    let beside = places::plain(operator.at);
     let operand = adding::last(kept.state.nodes);
     adding::add(
         work,

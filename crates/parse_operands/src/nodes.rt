@@ -12,50 +12,39 @@ ghost use Rattle.parse_operands.specs.References.{Adds, letters_of, of_found, of
 use image_records::nodes::Node;
 use parse_array::{Work, bounds};
 use parse_step::{Answer, State, adding};
-use parse_tables::finding::Found;
 use parse_tables::{Table, finding};
 use text_words::{Word, places};
 
 // Which facility a name means, of those known.
-fn facility(text: &[u8], work: &Work, known: u16, name: Word) -> Found
+fn facility(text: &[u8], work: &Work, known: u16, name: Word) -> Option<u8>
     ensures { found result ≡ number_of (letters_of text.now name) 0 (facility_names text.now work.now known) }
 {
-    let at = name.at;
     finding::find(
         text,
         work,
         Table::FacilityNames,
         known,
-        places::place(at),
+        places::place(name.at),
         name.size,
     )
 }
 
-fn whole(f: Found) -> Node
+fn whole(f: Option<u8>) -> Node
     ensures { (v : ℕ) → meant v result ≡ of_found (found f) D.whole }
 {
-    match f {
-        Found::At(k) => Node::Whole(k),
-        Found::Nothing => Node::Broken,
-    }
+    f.map_or(Node::Broken, |k| Node::Whole(k))
 }
 
-fn one(f: Found, e: u16) -> Node
+fn one(f: Option<u8>, e: u16) -> Node
     ensures { (v : ℕ) → meant v result ≡ of_found (found f) (λ k. D.one k e) }
 {
-    match f {
-        Found::At(k) => Node::One(k, e),
-        Found::Nothing => Node::Broken,
-    }
+    f.map_or(Node::Broken, |k| Node::One(k, e))
 }
 
-fn two(f: Found, e: u16, g: u16) -> Node
+fn two(f: Option<u8>, e: u16, g: u16) -> Node
     ensures { (v : ℕ) → meant v result ≡ of_found (found f) (λ k. D.two k e g) }
 {
-    match f {
-        Found::At(k) => Node::Two(k, e, g),
-        Found::Nothing => Node::Broken,
-    }
+    f.map_or(Node::Broken, |k| Node::Two(k, e, g))
 }
 
 // The low bits of a bound, which a record has room for.
@@ -66,31 +55,22 @@ fn low(bound: u32) -> u16
 }
 
 // A bound, of which a broken record has none.
-fn marked(f: Found, bound: u32) -> u32
+fn marked(f: Option<u8>, bound: u32) -> u32
     ensures { result ≡ of_known (found f) bound }
 {
-    match f {
-        Found::At(_) => bound,
-        Found::Nothing => 0,
-    }
+    if f.is_some() { bound } else { 0 }
 }
 
-fn part(f: Found, a: u32, b: u32) -> Node
+fn part(f: Option<u8>, a: u32, b: u32) -> Node
     ensures { (v : ℕ) → meant v result ≡ of_found (found f) (λ k. D.part k (bounds (a % 65536) (b % 65536))) }
 {
-    match f {
-        Found::At(k) => Node::Part(k, low(a), low(b)),
-        Found::Nothing => Node::Broken,
-    }
+    f.map_or(Node::Broken, |k| Node::Part(k, low(a), low(b)))
 }
 
-fn word_part(f: Found, e: u16, a: u32, b: u32) -> Node
+fn word_part(f: Option<u8>, e: u16, a: u32, b: u32) -> Node
     ensures { (v : ℕ) → meant v result ≡ of_found (found f) (λ k. D.word_part k e (bounds (a % 65536) (b % 65536))) }
 {
-    match f {
-        Found::At(k) => Node::WordPart(k, e, low(a), low(b)),
-        Found::Nothing => Node::Broken,
-    }
+    f.map_or(Node::Broken, |k| Node::WordPart(k, e, low(a), low(b)))
 }
 
 // A whole facility.
@@ -98,8 +78,7 @@ pub fn add_whole(s: State, name: Word, text: &[u8], next: Word, work: &mut Work)
     ensures { Adds (λ sc. noted (of_facility (meaning sc (letters_of text.now name)) D.whole) (positioned name.at)) text.now next s work.old work.new result }
 {
     let node = whole(facility(text, work, s.known, name));
-    let at = name.at;
-    let beside = parse_array::places::plain(at);
+    let beside = parse_array::places::plain(name.at);
     adding::add(work, next, s, node, 0, beside)
 }
 
@@ -108,8 +87,7 @@ pub fn add_one(s: State, name: Word, e: u16, text: &[u8], next: Word, work: &mut
     ensures { Adds (λ sc. noted (of_facility (meaning sc (letters_of text.now name)) (λ k. D.one k e)) (positioned name.at)) text.now next s work.old work.new result }
 {
     let node = one(facility(text, work, s.known, name), e);
-    let at = name.at;
-    let beside = parse_array::places::plain(at);
+    let beside = parse_array::places::plain(name.at);
     adding::add(work, next, s, node, 0, beside)
 }
 
@@ -126,8 +104,7 @@ pub fn add_two(
     ensures { Adds (λ sc. noted (of_facility (meaning sc (letters_of text.now name)) (λ k. D.two k e g)) (positioned name.at)) text.now next s work.old work.new result }
 {
     let node = two(facility(text, work, s.known, name), e, g);
-    let at = name.at;
-    let beside = parse_array::places::plain(at);
+    let beside = parse_array::places::plain(name.at);
     adding::add(work, next, s, node, 0, beside)
 }
 
@@ -143,16 +120,11 @@ pub fn add_part(
 ) -> Answer
     ensures { Adds (part_of text.now name first last) text.now next s work.old work.new result }
 {
-    let v = first.value;
-    let a = bounds::bound(v);
-    let u = last.value;
-    let b = bounds::bound(u);
+    let a = bounds::bound(first.value);
+    let b = bounds::bound(last.value);
     let f = facility(text, work, s.known, name);
     let node = part(f, a, b);
-    let at = name.at;
-    let from = first.at;
-    let to = last.at;
-    let beside = parse_array::places::ended(at, marked(f, a), from, marked(f, b), to);
+    let beside = parse_array::places::ended(name.at, marked(f, a), first.at, marked(f, b), last.at);
     adding::add(work, next, s, node, 0, beside)
 }
 
@@ -169,15 +141,10 @@ pub fn add_word_part(
 ) -> Answer
     ensures { Adds (word_part_of text.now name e first last) text.now next s work.old work.new result }
 {
-    let v = first.value;
-    let a = bounds::bound(v);
-    let u = last.value;
-    let b = bounds::bound(u);
+    let a = bounds::bound(first.value);
+    let b = bounds::bound(last.value);
     let f = facility(text, work, s.known, name);
     let node = word_part(f, e, a, b);
-    let at = name.at;
-    let from = first.at;
-    let to = last.at;
-    let beside = parse_array::places::ended(at, marked(f, a), from, marked(f, b), to);
+    let beside = parse_array::places::ended(name.at, marked(f, a), first.at, marked(f, b), last.at);
     adding::add(work, next, s, node, 0, beside)
 }

@@ -5,12 +5,13 @@ use mathlib.Core.Path.{◌≡◌, refl, sym, ap, ◌∙◌, subst}
 use Prim.Native.Nat.{ℕ, ◌+◌, ◌-◌, ◌<◌, ◌≤◌}
 use native.Mathlib.Omega.{arith}
 use Rattle.parse_actions.specs.Lists.{Told, list_stack}
-use Rattle.parse_step.proofs.Answers.{done_refused}
 use Rattle.parse_step.proofs.Ceilings.{few-counted}
 use Rattle.parse_step.proofs.Saying.{makes-it}
-use Rattle.parse_step.specs.declared.Answer.{Answer}
+use Rattle.parse_step.specs.Answers.{Answer}
+use Rattle.parse_step.specs.declared.Reached.{Reached}
+use Rattle.parse_step.specs.declared.Unread.{Unread}
+use Rattle.std.specs.Prelude.{Err, Ok}
 use Rattle.parse_step.specs.declared.State.{State}
-use Rattle.parse_step.specs.declared.ReadVerdict.TheVariants.{Done}
 use Rattle.parse_step.specs.Course.{Stack, counts_of, runs}
 use Rattle.parse_facilities.proofs.Unexpressed.{letters-length}
 use Rattle.language.specs.Building.{Built, joined, list_no, with_text, word_no}
@@ -35,7 +36,7 @@ use Rattle.parse_array.specs.Held.{Held}
 use Rattle.parse_array.specs.Names.{letters}
 use Rattle.parse_sections.proofs.Appended.{names_of}
 use Rattle.parse_sections.proofs.ListedMore.{bodies-more, tabled-more, tables-kept}
-use Rattle.parse_sections.proofs.Telling.{through_not}
+use Rattle.parse_sections.proofs.Telling.{told-ok, untold}
 use Rattle.parse_sections.specs.Heads.{Body, BodyRead, HeadRead, Heads, begun, close_stack, open_state}
 use Rattle.parse_sections.specs.Listed.{Bodies, Standing, Tabled, TablesKept}
 use Rattle.parse_sections.specs.Lists.{One, OneRead, with_operations}
@@ -51,7 +52,7 @@ module _ {text : List ℕ} {names : List Name} {first : ℕ} {h : Held} {os : Li
   known : Known text sc (before s) work
   known = record { facilities = st.known; operations = sym (names-few text T.OperationNames work s.operations (few-operations (counts_of s) st.within) ∙ st.tabled.names); states = λ m. refl }
 
-  module _ {a : Answer} (z : HeadRead text w s a) where
+  module _ {a : Reached} (z : HeadRead text w s a) where
     -- Where its body begins.
     pub body-stands : A.Standing text sc (before s) a.next (open_state s) s.actions work
     body-stands = record {
@@ -68,10 +69,10 @@ module _ {text : List ℕ} {names : List Name} {first : ℕ} {h : Held} {os : Li
     to-body : (K : Stack) (b : Built) → runs text (ask operation_spec ∷ K) w b s ≡ runs text (list_stack false ++ (close_stack ++ K)) a.next (begun text w b) (open_state s)
     to-body K b = z.course K b ∙ ap (λ (v : State). runs text (list_stack false ++ (close_stack ++ K)) a.next (begun text w b) v) z.state
 
-    module _ {work₁ : List ℕ} {r : Answer} where
-      pub body-fails : Body text (before s) a.next (open_state s) work work₁ r → (r.verdict ≡ Done → ⊥) → {Read : Type 0} → Told text (ask operation_spec ∷ []) w s r Read
-      body-fails y n = through_not (y sc body-stands) (λ K. make make_operation ∷ K) (begun text w) to-body n
+    pub body-fails : {work₁ : List ℕ} {e : Unread} → Body text (before s) a.next (open_state s) work work₁ (Err e) → {Read : Reached → Type 0} → Told text (ask operation_spec ∷ []) w s (Err e) Read
+    body-fails y = untold (y sc body-stands) (λ K. make make_operation ∷ K) (begun text w) to-body
 
+    module _ {work₁ : List ℕ} {r : Reached} where
       module _ (y : BodyRead text sc (before s) a.next (open_state s) work work₁ r) {c : ℕ} (e : c ≡ r.state.actions - s.actions) {work₂ : List ℕ} (f : OperationAdded s.operations w.at w.size (record { first = s.actions; count = c }) work₁ work₂) where
         abbrev o : Operation
         o = record { name = letters text w.at.place w.size; at = positioned w.at; body = y.tree }
@@ -124,26 +125,21 @@ module _ {text : List ℕ} {names : List Name} {first : ℕ} {h : Held} {os : Li
           };
         }
 
-module _ {text : List ℕ} {w : Word} {s : State} {work : List ℕ} {a : Answer} (x : Heads text w s a) where
-  pub one-unheaded : (a.verdict ≡ Done → ⊥) → {work' : List ℕ} → One text w s work work' a
-  one-unheaded n names first h os st = let t = x st.seen st.within in record { done = λ d. absurd (n d); refused = t.refused; full = t.full }
+module _ {text : List ℕ} {w : Word} {s : State} {work : List ℕ} where
+  pub one-unheaded : {e : Unread} → Heads text w s (Err e) → {work' : List ℕ} → One text w s work work' (Err e)
+  one-unheaded x names first h os st = untold (x st.seen st.within) (λ K. K) (λ b. b) (λ K b. refl)
 
-  module _ (done : a.verdict ≡ Done) {work₁ : List ℕ} {r : Answer} (y : Body text (before s) a.next a.state work work₁ r) where
-    module _ {names : List Name} {first : ℕ} {h : Held} {os : List Operation} (st : Standing text names first h os w s work) where
-      head : HeadRead text w s a
-      head = (x st.seen st.within).done done
+  module _ {a : Reached} (x : Heads text w s (Ok a)) {work₁ : List ℕ} where
+    -- The body, from the state behind the bracket.
+    body : {r : Answer} {names : List Name} {first : ℕ} {h : Held} {os : List Operation} → Standing text names first h os w s work → Body text (before s) a.next a.state work work₁ r → Body text (before s) a.next (open_state s) work work₁ r
+    body {r} st y = subst (λ (v : State). Body text (before s) a.next v work work₁ r) ((x st.seen st.within).done refl).state y
 
-      body : Body text (before s) a.next (open_state s) work work₁ r
-      body = subst (λ (v : State). Body text (before s) a.next v work work₁ r) head.state y
+    pub one-bodiless : {e : Unread} → Body text (before s) a.next a.state work work₁ (Err e) → One text w s work work₁ (Err e)
+    one-bodiless y names first h os st = body-fails st ((x st.seen st.within).done refl) (body st y)
 
-    pub one-bodiless : (r.verdict ≡ Done → ⊥) → One text w s work work₁ r
-    one-bodiless n names first h os st = body-fails st (head st) (body st) n
-
-    pub one-read : r.verdict ≡ Done → {c : ℕ} → c ≡ r.state.actions - s.actions → {work₂ : List ℕ} → (s.operations < 128 → OperationAdded s.operations w.at w.size (record { first = s.actions; count = c }) work₁ work₂) → One text w s work work₂ r
-    one-read d e f names first h os st =
-        let t = body st (operation_scope names (names_of os)) (body-stands st (head st)) in
-        record {
-          done = λ v. operation-read st (head st) (t.done d) e (f (head st).room);
-          refused = λ i v. done_refused (sym d ∙ v);
-          full = t.full;
-        }
+    pub one-read : {r : Reached} → Body text (before s) a.next a.state work work₁ (Ok r) → {c : ℕ} → c ≡ r.state.actions - s.actions
+        → {work₂ : List ℕ} → (s.operations < 128 → OperationAdded s.operations w.at w.size (record { first = s.actions; count = c }) work₁ work₂) → One text w s work work₂ (Ok r)
+    one-read y e f names first h os st =
+        let head = (x st.seen st.within).done refl in
+        let t = body st y (operation_scope names (names_of os)) (body-stands st head) in
+        told-ok (operation-read st head (t.done refl) e (f head.room))

@@ -6,10 +6,12 @@ use Prim.Native.Nat.{ℕ, ◌*◌, ◌-◌, ◌<◌, ◌≤◌}
 use native.Mathlib.Omega.{arith}
 use lib.ListN.{length}
 use Rattle.parse_actions.specs.Lists.{Told}
-use Rattle.parse_step.proofs.TakenWords.{on_taken, took-done, took-refused}
-use Rattle.parse_step.specs.declared.Answer.{Answer}
+use Rattle.parse_step.proofs.TakenWords.{on_taken, took-done}
+use Rattle.parse_step.specs.Answers.{Answer}
+use Rattle.parse_step.specs.declared.Reached.{Reached}
+use Rattle.parse_step.specs.declared.Unread.{Unread}
+use Rattle.std.specs.Prelude.{Err, Ok}
 use Rattle.parse_step.specs.declared.State.{State}
-use Rattle.parse_step.specs.declared.ReadVerdict.TheVariants.{Done}
 use Rattle.parse_step.specs.Course.{Seen, Stack, counts_of, kind_no, runs}
 use Rattle.parse_step.specs.Taken.{Passed, Took}
 use Rattle.parse_facilities.proofs.Appended.{length_last}
@@ -31,7 +33,8 @@ use Rattle.text_words.specs.declared.Word.{Word}
 use Rattle.parse_array.specs.Held.{Held}
 use Rattle.parse_array.specs.Layout.{work_size}
 use Rattle.parse_sections.proofs.HeadWords.{comma-taken}
-use Rattle.parse_sections.proofs.Telling.{through}
+use Rattle.parse_sections.proofs.Telling.{through, told, untold}
+use Rattle.parse_bounds.proofs.Telling as D
 use Rattle.parse_sections.specs.Heads.{ControlRead, Ends, control_stack}
 use Rattle.parse_sections.specs.Listed.{Standing, Stays}
 use Rattle.parse_sections.specs.Lists.{Lists, Mores, One, OneRead, SomeRead, Stands, with_operations}
@@ -90,32 +93,28 @@ module _ {text : List ℕ} {names : List Name} {first : ℕ} {h : Held} {os : Li
     with_read b = with_text b (with_operations b.text x.trees)
 
     pub list-ended : (kind_no next.kind ≡ comma → ⊥) → {a : Answer} → Ends text next state a
-        → Told text (ask operations_more ∷ []) w s a (SomeRead text names first h os (ask operations_more ∷ []) control_stack w s work a.next a.state work₁)
+        → Told text (ask operations_more ∷ []) w s a (λ v. SomeRead text names first h os (ask operations_more ∷ []) control_stack w s work v.next v.state work₁)
     list-ended n {a} f = through (f x.standing.seen n) (λ K. K) with_read x.course read
       where
-        read : ControlRead text (ask operations_more ∷ []) next state a → SomeRead text names first h os (ask operations_more ∷ []) control_stack w s work a.next a.state work₁
-        read y = record {
+        read : (v : Reached) → ControlRead text (ask operations_more ∷ []) next state v → SomeRead text names first h os (ask operations_more ∷ []) control_stack w s work v.next v.state work₁
+        read v y = record {
           trees = x.trees;
           course = λ K b. x.course K b ∙ y.course K (with_read b);
           stays = stays_then x.stays (stays_same y.state);
           tables = x.tables;
-          standing = standing_on a.next a.state x.standing y.state y.seen;
+          standing = standing_on v.next v.state x.standing y.state y.seen;
         }
 
-    module _ (k : kind_no next.kind ≡ comma) {a : Answer} (t : Took text next (counts_of state) state a) where
+    module _ (k : kind_no next.kind ≡ comma) where
       to-comma : (K : Stack) (b : Built) → runs text (ask operations_more ∷ K) w b s ≡ on_taken text next (ask operation_spec ∷ ask operations_more ∷ K) (with_read b) (counts_of state)
       to-comma K b = x.course K b ∙ comma-taken text next K (with_read b) state k
 
-      pub comma-not : (a.verdict ≡ Done → ⊥) → {Read : Type 0} → Told text (ask operations_more ∷ []) w s a Read
-      comma-not n = record {
-        done = λ d. absurd (n d);
-        refused = λ f d K b. to-comma K b ∙ took-refused t f d (ask operation_spec ∷ ask operations_more ∷ K) (with_read b);
-        full = t.full;
-      }
+      pub comma-not : {e : Unread} → Took text next (counts_of state) state (Err e) → {Read : Reached → Type 0} → Told text (ask operations_more ∷ []) w s (Err e) Read
+      comma-not t = told (D.not-taken t (λ K. ask operation_spec ∷ ask operations_more ∷ K) with_read to-comma)
 
-      module _ (done : a.verdict ≡ Done) {r : Answer} {work₂ : List ℕ} (f : One text a.next a.state work₁ work₂ r) where
+      module _ {a : Reached} (t : Took text next (counts_of state) state (Ok a)) where
         p : Passed text next (counts_of state) state a
-        p = t.done done
+        p = t.done refl
 
         same : a.state ≡ state
         same = state-of p.counts p.kept
@@ -123,19 +122,12 @@ module _ {text : List ℕ} {names : List Name} {first : ℕ} {h : Held} {os : Li
         to-spec : (K : Stack) (b : Built) → runs text (ask operations_more ∷ K) w b s ≡ runs text (ask operation_spec ∷ ask operations_more ∷ K) a.next (with_read b) a.state
         to-spec K b = to-comma K b ∙ took-done p x.standing.seen (ask operation_spec ∷ ask operations_more ∷ K) (with_read b)
 
-        one : Told text (ask operation_spec ∷ []) a.next a.state r (OneRead text names first h (os ++ x.trees) a.next a.state work₁ work₂ r)
-        one = f names first h (os ++ x.trees) (standing_on a.next a.state x.standing same p.seen)
+        pub another-not : {work₂ : List ℕ} {e : Unread} → One text a.next a.state work₁ work₂ (Err e) → {Read : Reached → Type 0} → Told text (ask operations_more ∷ []) w s (Err e) Read
+        another-not f = untold (f names first h (os ++ x.trees) (standing_on a.next a.state x.standing same p.seen)) (λ K. ask operations_more ∷ K) with_read to-spec
 
-        pub another-not : (r.verdict ≡ Done → ⊥) → {Read : Type 0} → Told text (ask operations_more ∷ []) w s r Read
-        another-not n = record {
-          done = λ d. absurd (n d);
-          refused = λ i d K b. to-spec K b ∙ one.refused i d (ask operations_more ∷ K) (with_read b);
-          full = one.full;
-        }
-
-        module _ (read : r.verdict ≡ Done) where
+        module _ {r : Reached} {work₂ : List ℕ} (f : One text a.next a.state work₁ work₂ (Ok r)) where
           y : OneRead text names first h (os ++ x.trees) a.next a.state work₁ work₂ r
-          y = one.done read
+          y = (f names first h (os ++ x.trees) (standing_on a.next a.state x.standing same p.seen)).done refl
 
           pub another : Here text names first h os w s work r.next r.state work₂
           another = record {
@@ -153,31 +145,32 @@ module _ {text : List ℕ} {names : List Name} {first : ℕ} {h : Held} {os : Li
 
 -- ---- All of them.
 
-module _ {text : List ℕ} {w : Word} {s : State} {work work₁ : List ℕ} {r : Answer} (f : One text w s work work₁ r) where
-  pub list-not : (r.verdict ≡ Done → ⊥) → Lists text w s work work₁ r
-  list-not n names first h os st = let t = f names first h os st in record { done = λ d. absurd (n d); refused = λ i d K b. t.refused i d (ask operations_more ∷ K) b; full = t.full }
+module _ {text : List ℕ} {w : Word} {s : State} {work work₁ : List ℕ} where
+  pub list-not : {e : Unread} → One text w s work work₁ (Err e) → Lists text w s work work₁ (Err e)
+  list-not f names first h os st = untold (f names first h os st) (λ K. ask operations_more ∷ K) (λ b. b) (λ K b. refl)
 
-  pub list-stands : r.verdict ≡ Done → Stands text w s work → Stands text r.next r.state work₁
-  list-stands d x =
-      let y = (f x.names x.first x.before x.declared x.standing).done d in
-      record { names = x.names; first = x.first; before = x.before; declared = x.declared ++ y.tree ∷ []; standing = y.standing }
+  module _ {r : Reached} (f : One text w s work work₁ (Ok r)) where
+    pub list-stands : Stands text w s work → Stands text r.next r.state work₁
+    list-stands x =
+        let y = (f x.names x.first x.before x.declared x.standing).done refl in
+        record { names = x.names; first = x.first; before = x.before; declared = x.declared ++ y.tree ∷ []; standing = y.standing }
 
-  pub list-more : r.verdict ≡ Done → {q : Answer} {work₂ : List ℕ} → Mores text r.next r.state work₁ work₂ q → Lists text w s work work₂ q
-  list-more d {q} {work₂} g names first h os st = through (g names first h (os ++ y.tree ∷ []) y.standing) (λ K. K) (λ b. with_text b (with_operations b.text (y.tree ∷ []))) (λ K b. y.course (ask operations_more ∷ K) b) read
-    where
-      y : OneRead text names first h os w s work work₁ r
-      y = (f names first h os st).done d
+    pub list-more : {q : Answer} {work₂ : List ℕ} → Mores text r.next r.state work₁ work₂ q → Lists text w s work work₂ q
+    list-more {q} {work₂} g names first h os st = through (g names first h (os ++ y.tree ∷ []) y.standing) (λ K. K) (λ b. with_text b (with_operations b.text (y.tree ∷ []))) (λ K b. y.course (ask operations_more ∷ K) b) read
+      where
+        y : OneRead text names first h os w s work work₁ r
+        y = (f names first h os st).done refl
 
-      read : SomeRead text names first h (os ++ y.tree ∷ []) (ask operations_more ∷ []) control_stack r.next r.state work₁ q.next q.state work₂
-          → SomeRead text names first h os (ask operation_spec ∷ ask operations_more ∷ []) control_stack w s work q.next q.state work₂
-      read v = record {
-        trees = y.tree ∷ v.trees;
-        course = λ K b. y.course (ask operations_more ∷ K) b ∙ v.course K (with_text b (with_operations b.text (y.tree ∷ [])))
-            ∙ ap (λ (z : Built). runs text (control_stack ++ K) q.next z q.state) (more-with b (y.tree ∷ []) v.trees);
-        stays = stays_then y.stays v.stays;
-        tables = λ u e m l. v.tables u e m l ∙ y.tables u e m l;
-        standing = subst (λ (z : List Operation). Standing text names first h z q.next q.state work₂) (append_assoc os (y.tree ∷ []) v.trees) v.standing;
-      }
+        read : (x : Reached) → SomeRead text names first h (os ++ y.tree ∷ []) (ask operations_more ∷ []) control_stack r.next r.state work₁ x.next x.state work₂
+            → SomeRead text names first h os (ask operation_spec ∷ ask operations_more ∷ []) control_stack w s work x.next x.state work₂
+        read x v = record {
+          trees = y.tree ∷ v.trees;
+          course = λ K b. y.course (ask operations_more ∷ K) b ∙ v.course K (with_text b (with_operations b.text (y.tree ∷ [])))
+              ∙ ap (λ (z : Built). runs text (control_stack ++ K) x.next z x.state) (more-with b (y.tree ∷ []) v.trees);
+          stays = stays_then y.stays v.stays;
+          tables = λ u e m l. v.tables u e m l ∙ y.tables u e m l;
+          standing = subst (λ (z : List Operation). Standing text names first h z x.next x.state work₂) (append_assoc os (y.tree ∷ []) v.trees) v.standing;
+        }
 
 -- ---- Before the first.
 

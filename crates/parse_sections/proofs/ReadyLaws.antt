@@ -6,9 +6,11 @@ use native.Mathlib.Omega.{arith}
 use lib.ListN.{length}
 use Rattle.language.specs.declared.refusals.Refusal.TheVariants.{NoContinuation}
 use Rattle.parse_step.proofs.TakenWords.{took-done}
-use Rattle.parse_step.specs.declared.Answer.{Answer}
+use Rattle.parse_step.specs.Answers.{Answer}
+use Rattle.parse_step.specs.declared.Reached.{Reached}
+use Rattle.parse_step.specs.declared.Unread.{Unread}
+use Rattle.std.specs.Prelude.{Err, Ok}
 use Rattle.parse_step.specs.declared.State.{State}
-use Rattle.parse_step.specs.declared.ReadVerdict.TheVariants.{Done}
 use Rattle.parse_step.specs.Course.{Stack, counts_of, kind_no, runs}
 use Rattle.parse_step.specs.Taken.{Refuses, Took}
 use Rattle.parse_facilities.proofs.NameWords.{few-facilities}
@@ -97,55 +99,53 @@ no_more b = rw (append-nil b.text.registers, append-nil b.text.memories, append-
 abbrev list_stack : Stack → Stack
 list_stack K = ask operation_spec ∷ ask operations_more ∷ K
 
-module _ {text : List ℕ} {w : Word} {s : State} {place : ℕ} {work : List ℕ} {a : Answer} (l : length work ≡ work_size) (t : Took text w (counts_of s) s a) where
-  pub operations-not : (a.verdict ≡ Done → ⊥) → Operates text w s place work work a
-  operations-not n k ds x = told (D.word-taken t (λ d. absurd (n d)) list_stack (λ b. b) (λ K b. operation-taken text w K b s k)) t.full
+module _ {text : List ℕ} {w : Word} {s : State} {place : ℕ} {work : List ℕ} (l : length work ≡ work_size) where
+  pub operations-not : {e : Unread} → Took text w (counts_of s) s (Err e) → Operates text w s place work work (Err e)
+  operations-not t k ds x = told (D.not-taken t list_stack (λ b. b) (λ K b. operation-taken text w K b s k))
 
-  module _ (done : a.verdict ≡ Done) where
+  module _ {a : Reached} (t : Took text w (counts_of s) s (Ok a)) where
     pub operations-stand : Somewhere text place w s work → Stands text a.next a.state work
-    operations-stand x = record { names = names_of x.declared; first = function_sizes x.declared; before = held_of x.declared; declared = []; standing = stands (between-passed x.between (t.done done)) l }
+    operations-stand x = record { names = names_of x.declared; first = function_sizes x.declared; before = held_of x.declared; declared = []; standing = stands (between-passed x.between (t.done refl)) l }
 
     pub operations-read : {r : Answer} {work' : List ℕ} → Lists text a.next a.state work work' r → Operates text w s place work work' r
     operations-read {r} {work'} f k ds x = through (f (names_of ds) (function_sizes ds) (held_of ds) [] (stands here l)) (λ K. K) (λ b. b) to-list read
       where
         here : Between text ds place a.next a.state work
-        here = between-passed x (t.done done)
+        here = between-passed x (t.done refl)
 
         to-list : (K : Stack) (b : Built) → runs text (ask after_terminals ∷ K) w b s ≡ runs text (list_stack K) a.next b a.state
-        to-list K b = operation-taken text w K b s k ∙ took-done (t.done done) x.standing.seen (list_stack K) b
+        to-list K b = operation-taken text w K b s k ∙ took-done (t.done refl) x.standing.seen (list_stack K) b
 
-        gains : (b : Built) (y : SomeRead text (names_of ds) (function_sizes ds) (held_of ds) [] (list_stack []) control_stack a.next a.state work r.next r.state work')
-            → with_text b (with_operations b.text y.trees) ≡ with_text b (with_sections b.text [] [] [] y.trees)
-        gains b y = rw (append-nil b.text.registers, append-nil b.text.memories, append-nil b.text.terminals)
+        gains : (b : Built) (v : Reached) (y : SomeRead text (names_of ds) (function_sizes ds) (held_of ds) [] (list_stack []) control_stack a.next a.state work v.next v.state work') → with_text b (with_operations b.text y.trees) ≡ with_text b (with_sections b.text [] [] [] y.trees)
+        gains b v y = rw (append-nil b.text.registers, append-nil b.text.memories, append-nil b.text.terminals)
 
-        read : SomeRead text (names_of ds) (function_sizes ds) (held_of ds) [] (list_stack []) control_stack a.next a.state work r.next r.state work'
-            → AllRead text ds terminals (ask after_terminals ∷ []) w s work' r
-        read y = record {
+        read : (v : Reached) → SomeRead text (names_of ds) (function_sizes ds) (held_of ds) [] (list_stack []) control_stack a.next a.state work v.next v.state work' → AllRead text ds terminals (ask after_terminals ∷ []) w s work' v
+        read v y = record {
           registers = [];
           memories = [];
           terminals = [];
           operations = y.trees;
           since = from_terminals [];
-          course = λ K b. to-list K b ∙ y.course K b ∙ ap (λ (v : Built). runs text (control_stack ++ K) r.next v r.state) (gains b y);
-          ready = subst (λ (v : List Declaration). Ready text v y.trees r.next r.state work') (sym (append-nil ds)) (ready-behind here y);
+          course = λ K b. to-list K b ∙ y.course K b ∙ ap (λ (u : Built). runs text (control_stack ++ K) v.next u v.state) (gains b v y);
+          ready = subst (λ (u : List Declaration). Ready text u y.trees v.next v.state work') (sym (append-nil ds)) (ready-behind here y);
         }
 
 -- ---- CONTROL at once, or neither.
 
 module _ {text : List ℕ} {w : Word} {s : State} {place : ℕ} {work : List ℕ} {a : Answer} where
   pub control-read : length work ≡ work_size → kind_no w.kind ≡ control_word → Took text w (counts_of s) s a → Goes terminals after_terminals text w s place work work a
-  control-read l k t ds x = told (D.word-taken t read (λ K. control_stack ++ K) (λ b. b) (λ K b. control-taken text w K b s k)) t.full
+  control-read l k t ds x = told (D.word-taken t read (λ K. control_stack ++ K) (λ b. b) (λ K b. control-taken text w K b s k))
     where
-      read : a.verdict ≡ Done → AllRead text ds terminals (ask after_terminals ∷ []) w s work a
-      read d = record {
+      read : (v : Reached) → a ≡ Ok v → AllRead text ds terminals (ask after_terminals ∷ []) w s work v
+      read v d = record {
         registers = [];
         memories = [];
         terminals = [];
         operations = [];
         since = from_terminals [];
         course = λ K b. control-taken text w K b s k ∙ took-done (t.done d) x.standing.seen (control_stack ++ K) b
-            ∙ ap (λ (v : Built). runs text (control_stack ++ K) a.next v a.state) (no_more b);
-        ready = subst (λ (v : List Declaration). Ready text v [] a.next a.state work) (sym (append-nil ds)) (ready_at (between-passed x (t.done d)) l);
+            ∙ ap (λ (u : Built). runs text (control_stack ++ K) v.next u v.state) (no_more b);
+        ready = subst (λ (u : List Declaration). Ready text u [] v.next v.state work) (sym (append-nil ds)) (ready_at (between-passed x (t.done d)) l);
       }
 
   pub no-section : (kind_no w.kind ≡ operation_word → ⊥) → (kind_no w.kind ≡ control_word → ⊥) → Refuses w NoContinuation a → Goes terminals after_terminals text w s place work work a

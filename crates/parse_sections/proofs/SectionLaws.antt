@@ -3,9 +3,12 @@ use mathlib.Core.List.{List, [], ◌∷◌, ◌++◌, append_assoc}
 use mathlib.Core.Path.{◌≡◌, refl, sym, ap, ◌∙◌, subst}
 use Prim.Native.Nat.{ℕ}
 use Rattle.parse_actions.specs.Lists.{Told}
-use Rattle.parse_step.specs.declared.Answer.{Answer}
+use Rattle.parse_step.specs.Answers.{Answer}
+use Rattle.parse_step.specs.declared.Reached.{Reached}
+use Rattle.parse_step.specs.declared.Unread.{Unread}
+use Rattle.std.specs.Prelude.{Err, Ok}
+use Rattle.parse_sections.proofs.Telling.{through, untold}
 use Rattle.parse_step.specs.declared.State.{State}
-use Rattle.parse_step.specs.declared.ReadVerdict.TheVariants.{Done}
 use Rattle.parse_step.specs.Course.{Stack, kind_no, runs}
 use Rattle.parse_facilities.specs.declared.Progress.{Progress}
 use Rattle.parse_facilities.specs.Lists.{Listing, memories, put_all, registers, terminals}
@@ -37,13 +40,13 @@ terminals-put t [] rs ms ts os = refl
 terminals-put t (d ∷ ds) rs ms ts os = terminals-put (with_terminal t d) ds rs ms ts os ∙ rw (append_assoc t.terminals (d ∷ []) (ds ++ ts))
 
 -- From what is asked to the states, with the text t; and there with the facilities v.
-abbrev Leads : List ℕ → Ask → Word → State → Answer → Stack → Built → Text → Type 0
+abbrev Leads : List ℕ → Ask → Word → State → Reached → Stack → Built → Text → Type 0
 Leads text p w s r K b t = runs text (ask p ∷ K) w b s ≡ runs text (control_stack ++ K) r.next (with_text b t) r.state
 
-abbrev ReadyWith : List ℕ → List ℕ → Answer → List Operation → List Declaration → Type 0
+abbrev ReadyWith : List ℕ → List ℕ → Reached → List Operation → List Declaration → Type 0
 ReadyWith text work' r os v = Ready text v os r.next r.state work'
 
-module _ {text : List ℕ} {ds : List Declaration} {p : Ask} {w : Word} {s : State} {work' : List ℕ} {r : Answer} where
+module _ {text : List ℕ} {ds : List Declaration} {p : Ask} {w : Word} {s : State} {work' : List ℕ} {r : Reached} where
   joined : {l : Listing} {rs ms ts : List Declaration} (trees : List Declaration) (os : List Operation) → Since l rs ms ts → ((K : Stack) (b : Built) → Leads text p w s r K b (with_sections (put_all l trees b.text) rs ms ts os))
       → ReadyWith text work' r os ((ds ++ trees) ++ (rs ++ (ms ++ ts))) → AllRead text ds l (ask p ∷ []) w s work' r
   joined trees os (from_registers rs ms ts) c y = record {
@@ -76,32 +79,25 @@ module _ {text : List ℕ} {ds : List Declaration} {p : Ask} {w : Word} {s : Sta
 
 -- ---- A section, and what follows.
 
-module _ {text : List ℕ} (l : Listing) {w : Word} {s : State} {place : ℕ} {work work₁ : List ℕ} {r : Progress} (f : Section l text w s place work work₁ r) where
-  pub from-not : (r.answer.verdict ≡ Done → ⊥) → From l text w s place work work₁ r.answer
-  from-not n p c ds x = let t = f p c ds x in record { done = λ d. absurd (n d); refused = t.refused; full = t.full }
+module _ {text : List ℕ} (l : Listing) {w : Word} {s : State} {place : ℕ} {work work₁ : List ℕ} where
+  pub from-not : {e : Unread} → Section l text w s place work work₁ (Err e) → From l text w s place work work₁ (Err e)
+  from-not f p c ds x = untold (f p c ds x) (λ K. K) (λ b. b) (λ K b. refl)
 
-  module _ (done : r.answer.verdict ≡ Done) where
-    pub from-stands : Starts l text place w s work → Somewhere text r.place r.answer.next r.answer.state work₁
+  module _ {r : Progress} (f : Section l text w s place work work₁ (Ok r)) where
+    pub from-stands : Starts l text place w s work → Somewhere text r.place r.reached.next r.reached.state work₁
     from-stands i =
         let x = i.somewhere in
-        let y = (f sections (at_start l) x.declared x.between).done done in
+        let y = (f sections (at_start l) x.declared x.between).done refl in
         record { declared = x.declared ++ y.trees; between = y.between }
 
-    pub from-read : {q : Answer} {work₂ : List ℕ} → Goes l (after_in l) text r.answer.next r.answer.state r.place work₁ work₂ q → From l text w s place work work₂ q
-    from-read {q} {work₂} g p c ds x = record {
-      done = λ d. read (z.done d);
-      refused = λ h d K b. y.course K b ∙ z.refused h d K (with_text b (put_all l y.trees b.text));
-      full = z.full;
-    }
+    pub from-read : {q : Answer} {work₂ : List ℕ} → Goes l (after_in l) text r.reached.next r.reached.state r.place work₁ work₂ q → From l text w s place work work₂ q
+    from-read {q} {work₂} g p c ds x = through (g (ds ++ y.trees) y.between) (λ K. K) (λ b. with_text b (put_all l y.trees b.text)) y.course read
       where
         y : SectionRead text ds l p w s work₁ r
-        y = (f p c ds x).done done
+        y = (f p c ds x).done refl
 
-        z : Told text (ask (after_in l) ∷ []) r.answer.next r.answer.state q (AllRead text (ds ++ y.trees) l (ask (after_in l) ∷ []) r.answer.next r.answer.state work₂ q)
-        z = g (ds ++ y.trees) y.between
-
-        read : AllRead text (ds ++ y.trees) l (ask (after_in l) ∷ []) r.answer.next r.answer.state work₂ q → AllRead text ds l (ask p ∷ []) w s work₂ q
-        read v = joined y.trees v.operations v.since (λ K b. y.course K b ∙ v.course K (with_text b (put_all l y.trees b.text))) v.ready
+        read : (z : Reached) → AllRead text (ds ++ y.trees) l (ask (after_in l) ∷ []) r.reached.next r.reached.state work₂ z → AllRead text ds l (ask p ∷ []) w s work₂ z
+        read z v = joined y.trees v.operations v.since (λ K b. y.course K b ∙ v.course K (with_text b (put_all l y.trees b.text))) v.ready
 
 -- ---- A section that may come.
 
@@ -111,12 +107,12 @@ sooner rs ms ts (from_terminals us) = from_memories [] us
 module _ {text : List ℕ} {w : Word} {s : State} {work' : List ℕ} {r : Answer} where
   -- Where the machine asks p as it would ask q.
   sooner-read : {ds : List Declaration} {l k : Listing} {p q : Ask} → ((K : Stack) (b : Built) → runs text (ask p ∷ K) w b s ≡ runs text (ask q ∷ K) w b s)
-      → ((rs ms ts : List Declaration) → Since l rs ms ts → Since k rs ms ts) → Told text (ask q ∷ []) w s r (AllRead text ds l (ask q ∷ []) w s work' r)
-      → Told text (ask p ∷ []) w s r (AllRead text ds k (ask p ∷ []) w s work' r)
-  sooner-read {ds} {l} {k} {p} {q} e f t = record { done = λ d. read (t.done d); refused = λ h d K b. e K b ∙ t.refused h d K b; full = t.full }
+      → ((rs ms ts : List Declaration) → Since l rs ms ts → Since k rs ms ts) → Told text (ask q ∷ []) w s r (AllRead text ds l (ask q ∷ []) w s work')
+      → Told text (ask p ∷ []) w s r (AllRead text ds k (ask p ∷ []) w s work')
+  sooner-read {ds} {l} {k} {p} {q} e f t = through t (λ K. K) (λ b. b) e read
     where
-      read : AllRead text ds l (ask q ∷ []) w s work' r → AllRead text ds k (ask p ∷ []) w s work' r
-      read y = record {
+      read : (z : Reached) → AllRead text ds l (ask q ∷ []) w s work' z → AllRead text ds k (ask p ∷ []) w s work' z
+      read z y = record {
         registers = y.registers;
         memories = y.memories;
         terminals = y.terminals;

@@ -7,7 +7,8 @@ use lib.ListN.{length}
 use Rattle.language.specs.declared.refusals.Refusal.TheVariants.{NoContinuation}
 use Rattle.parse_actions.specs.Lists.{Told}
 use Rattle.parse_step.proofs.Looking.{next-seen}
-use Rattle.parse_step.specs.declared.Answer.{Answer}
+use Rattle.parse_step.specs.Answers.{Answer}
+use Rattle.parse_step.specs.declared.Reached.{Reached}
 use Rattle.parse_step.specs.declared.State.{State}
 use Rattle.parse_step.specs.Course.{ahead, kind_no, runs, runs_on}
 use Rattle.parse_step.specs.Taken.{Refuses}
@@ -69,13 +70,13 @@ module _ {text : List ℕ} {w : Word} {s : State} (n : Next text 0 w) (e : s ≡
   to_start = parse-runs n ∙ ap (λ (j : State). runs text (ask sections ∷ []) w nothing_built j) (sym e)
 
   pub opened : (l : Listing) {work work' : List ℕ} {r : Answer} → From l text w s 0 work work' r → Preamble text work' r
-  opened l {work} {work'} {r} f = record { done = λ d. read (t.done d); refused = λ i d. to_start ∙ t.refused i d [] nothing_built; full = t.full }
+  opened l {work} {work'} {r} f = record { done = λ d. read _ (t.done d); refused = λ i d. to_start ∙ t.refused i d [] nothing_built; full = λ d. t.full d }
     where
-      t : Told text (ask sections ∷ []) w s r (AllRead text [] l (ask sections ∷ []) w s work' r)
+      t : Told text (ask sections ∷ []) w s r (AllRead text [] l (ask sections ∷ []) w s work')
       t = f sections (at_start l) [] (between_start work)
 
-      read : AllRead text [] l (ask sections ∷ []) w s work' r → Opened text work' r
-      read y = record {
+      read : (z : Reached) → AllRead text [] l (ask sections ∷ []) w s work' z → Opened text work' z
+      read z y = record {
         registers = y.registers;
         memories = y.memories;
         terminals = y.terminals;
@@ -85,7 +86,7 @@ module _ {text : List ℕ} {w : Word} {s : State} (n : Next text 0 w) (e : s ≡
       }
 
   pub not_opened : (kind_no w.kind ≡ register_word → ⊥) → (kind_no w.kind ≡ memory_word → ⊥) → (kind_no w.kind ≡ terminal_word → ⊥) → {a : Answer} → Refuses w NoContinuation a → {work : List ℕ} → Preamble text work a
-  not_opened i j k {a} x {work} = record { done = t.done; refused = λ f d. to_start ∙ t.refused f d [] nothing_built; full = t.full }
+  not_opened i j k {a} x {work} = record { done = λ d. t.done d; refused = λ f d. to_start ∙ t.refused f d [] nothing_built; full = λ d. t.full d }
     where
-      t : Told text (ask sections ∷ []) w s a (Opened text work a)
+      t : Told text (ask sections ∷ []) w s a (Opened text work)
       t = refuses NoContinuation x (λ K b. nothing-first text w K b s (next-seen 0 n) i j k)

@@ -1,7 +1,8 @@
 -- How an operation begins and ends, and what the machine then asks for.
 use Rattle.std.specs.Prelude.{true, false, List, [], ◌∷◌, ◌++◌, ◌≡◌, ℕ, suc, ◌-◌, ◌<◌}
 use Rattle.parse_actions.specs.Lists.{Told, list_stack}
-use Rattle.parse_step.specs.declared.Answer.{Answer}
+use Rattle.parse_step.specs.Answers.{Answer}
+use Rattle.parse_step.specs.declared.Reached.{Reached}
 use Rattle.parse_step.specs.declared.State.{State}
 use Rattle.parse_step.specs.Course.{Seen, Stack, counts_of, kind_no, runs}
 use Rattle.parse_facilities.specs.Specs.{named_word}
@@ -40,7 +41,7 @@ abbrev pub begun : List ℕ → Word → Built → Built
 begun text w b = with_lists (keep_word (named_word text w) b) (T.done ∷ b.lists)
 
 -- The name was taken, which counts the operation.
-pub record NameRead (text : List ℕ) (w : Word) (s : State) (r : Answer) : Type 0 where
+pub record NameRead (text : List ℕ) (w : Word) (s : State) (r : Reached) : Type 0 where
   pub course : (K : Stack) (b : Built) → runs text (ask operation_spec ∷ K) w b s ≡ runs text (name_stack ++ K) r.next (keep_word (named_word text w) b) r.state
   pub state : r.state ≡ more_state s
   pub room : s.operations < 128
@@ -48,10 +49,10 @@ pub record NameRead (text : List ℕ) (w : Word) (s : State) (r : Answer) : Type
   pub seen : Seen text r.next
 
 abbrev pub Names : List ℕ → Word → State → Answer → Type 0
-Names text w s r = Seen text w → within_ceilings (counts_of s) ≡ true → Told text (ask operation_spec ∷ []) w s r (NameRead text w s r)
+Names text w s r = Seen text w → within_ceilings (counts_of s) ≡ true → Told text (ask operation_spec ∷ []) w s r (NameRead text w s)
 
 -- All before the body was taken.
-pub record HeadRead (text : List ℕ) (w : Word) (s : State) (r : Answer) : Type 0 where
+pub record HeadRead (text : List ℕ) (w : Word) (s : State) (r : Reached) : Type 0 where
   pub course : (K : Stack) (b : Built) → runs text (ask operation_spec ∷ K) w b s ≡ runs text (list_stack false ++ (close_stack ++ K)) r.next (begun text w b) r.state
   pub state : r.state ≡ open_state s
   pub room : s.operations < 128
@@ -59,7 +60,7 @@ pub record HeadRead (text : List ℕ) (w : Word) (s : State) (r : Answer) : Type
   pub seen : Seen text r.next
 
 abbrev pub Heads : List ℕ → Word → State → Answer → Type 0
-Heads text w s r = Seen text w → within_ceilings (counts_of s) ≡ true → Told text (ask operation_spec ∷ []) w s r (HeadRead text w s r)
+Heads text w s r = Seen text w → within_ceilings (counts_of s) ≡ true → Told text (ask operation_spec ∷ []) w s r (HeadRead text w s)
 
 -- ---- The body and `]`.
 
@@ -71,7 +72,7 @@ pub record Closed (s s' : State) : Type 0 where
   pub known : s'.known ≡ s.known
   pub nesting : s'.nesting ≡ s.nesting - 1
 
-pub record BodyRead (text : List ℕ) (sc : Scope) (n : KnownNames) (w : Word) (s : State) (work work' : List ℕ) (r : Answer) : Type 0 where
+pub record BodyRead (text : List ℕ) (sc : Scope) (n : KnownNames) (w : Word) (s : State) (work work' : List ℕ) (r : Reached) : Type 0 where
   pub tree : Actions
   pub course : (K : Stack) (b : Built) → runs text (list_stack false ++ (word close_bracket closes ∷ K)) w b s ≡ runs text K r.next (grown tree b) r.state
   pub written : Written sc tree s work r.state work'
@@ -80,7 +81,7 @@ pub record BodyRead (text : List ℕ) (sc : Scope) (n : KnownNames) (w : Word) (
 
 abbrev pub Body : List ℕ → KnownNames → Word → State → List ℕ → List ℕ → Answer → Type 0
 Body text n w s work work' r =
-    (sc : Scope) → Standing text sc n w s s.actions work → Told text (list_stack false ++ word close_bracket closes ∷ []) w s r (BodyRead text sc n w s work work' r)
+    (sc : Scope) → Standing text sc n w s s.actions work → Told text (list_stack false ++ word close_bracket closes ∷ []) w s r (BodyRead text sc n w s work work')
 
 -- ---- The end of the section.
 
@@ -88,14 +89,14 @@ Body text n w s work work' r =
 abbrev pub control_stack : Stack
 control_stack = ask state_start ∷ ask states_more ∷ ask dollar_option ∷ []
 
-pub record ControlRead (text : List ℕ) (P : Stack) (w : Word) (s : State) (r : Answer) : Type 0 where
+pub record ControlRead (text : List ℕ) (P : Stack) (w : Word) (s : State) (r : Reached) : Type 0 where
   pub course : (K : Stack) (b : Built) → runs text (P ++ K) w b s ≡ runs text (control_stack ++ K) r.next b r.state
   pub state : r.state ≡ s
   pub seen : Seen text r.next
 
 -- CONTROL must come.
 abbrev pub Controls : List ℕ → Word → State → Answer → Type 0
-Controls text w s r = Seen text w → Told text (ask control ∷ []) w s r (ControlRead text (ask control ∷ []) w s r)
+Controls text w s r = Seen text w → Told text (ask control ∷ []) w s r (ControlRead text (ask control ∷ []) w s)
 
 -- A period or END.
 pub data Ending : ℕ → Type 0 where
@@ -105,8 +106,8 @@ pub data Ending : ℕ → Type 0 where
 -- And CONTROL behind it.
 abbrev pub Shuts : List ℕ → Word → State → Answer → Type 0
 Shuts text w s r =
-    Seen text w → (k : ℕ) → Ending k → kind_no w.kind ≡ k → Told text (ask operations_more ∷ []) w s r (ControlRead text (ask operations_more ∷ []) w s r)
+    Seen text w → (k : ℕ) → Ending k → kind_no w.kind ≡ k → Told text (ask operations_more ∷ []) w s r (ControlRead text (ask operations_more ∷ []) w s)
 
 -- No comma follows.
 abbrev pub Ends : List ℕ → Word → State → Answer → Type 0
-Ends text w s r = Seen text w → (kind_no w.kind ≡ comma → ⊥) → Told text (ask operations_more ∷ []) w s r (ControlRead text (ask operations_more ∷ []) w s r)
+Ends text w s r = Seen text w → (kind_no w.kind ≡ comma → ⊥) → Told text (ask operations_more ∷ []) w s r (ControlRead text (ask operations_more ∷ []) w s)

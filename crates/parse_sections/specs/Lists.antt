@@ -1,7 +1,8 @@
 -- What reading operations answers: they go to the end of the text's operations, and to their tables.
 use Rattle.std.specs.Prelude.{List, [], ◌∷◌, ◌++◌, ◌≡◌, ℕ}
 use Rattle.parse_actions.specs.Lists.{Told}
-use Rattle.parse_step.specs.declared.Answer.{Answer}
+use Rattle.parse_step.specs.Answers.{Answer}
+use Rattle.parse_step.specs.declared.Reached.{Reached}
 use Rattle.parse_step.specs.declared.State.{State}
 use Rattle.parse_step.specs.Course.{Stack, runs}
 use Rattle.language.specs.Building.{Built, with_text}
@@ -25,7 +26,7 @@ pub record SomeRead (text : List ℕ) (names : List Name) (first : ℕ) (h : Hel
   pub standing : Standing text names first h (os ++ trees) next state work'
 
 -- One operation more.
-pub record OneRead (text : List ℕ) (names : List Name) (first : ℕ) (h : Held) (os : List Operation) (w : Word) (s : State) (work work' : List ℕ) (r : Answer) : Type 0 where
+pub record OneRead (text : List ℕ) (names : List Name) (first : ℕ) (h : Held) (os : List Operation) (w : Word) (s : State) (work work' : List ℕ) (r : Reached) : Type 0 where
   pub tree : Operation
   pub course : (K : Stack) (b : Built) → runs text (ask operation_spec ∷ K) w b s ≡ runs text K r.next (with_text b (with_operations b.text (tree ∷ []))) r.state
   pub stays : Stays s r.state
@@ -43,13 +44,13 @@ pub record Stands (text : List ℕ) (w : Word) (s : State) (work : List ℕ) : T
 abbrev pub One : List ℕ → Word → State → List ℕ → List ℕ → Answer → Type 0
 One text w s work work' r =
     (names : List Name) (first : ℕ) (h : Held) (os : List Operation) → Standing text names first h os w s work
-    → Told text (ask operation_spec ∷ []) w s r (OneRead text names first h os w s work work' r)
+    → Told text (ask operation_spec ∷ []) w s r (OneRead text names first h os w s work work')
 
 -- Operations by the stack P, up to CONTROL and with it.
 abbrev pub Further : Stack → List ℕ → Word → State → List ℕ → List ℕ → Answer → Type 0
 Further P text w s work work' r =
     (names : List Name) (first : ℕ) (h : Held) (os : List Operation) → Standing text names first h os w s work
-    → Told text P w s r (SomeRead text names first h os P control_stack w s work r.next r.state work')
+    → Told text P w s r (λ x. SomeRead text names first h os P control_stack w s work x.next x.state work')
 
 abbrev pub Mores : List ℕ → Word → State → List ℕ → List ℕ → Answer → Type 0
 Mores text w s work work' r = Further (ask operations_more ∷ []) text w s work work' r

@@ -1,9 +1,11 @@
 -- The sections of a text up to CONTROL, in the order in which the machine asks for them.
-use Rattle.std.specs.Prelude.{List, [], ◌∷◌, ◌++◌, map, ◌≡◌, ℕ, ◌%◌, length}
+use Rattle.std.specs.Prelude.{List, [], ◌∷◌, ◌++◌, map, ◌≡◌, ℕ, ◌%◌, length, Err, Ok, Result}
 use Rattle.parse_actions.specs.Lists.{Told}
-use Rattle.parse_step.specs.declared.Answer.{Answer}
+use Rattle.parse_step.specs.Answers.{Answer}
+use Rattle.parse_step.specs.declared.Reached.{Reached}
+use Rattle.parse_step.specs.declared.Unread.{Unread}
 use Rattle.parse_step.specs.declared.State.{State}
-use Rattle.parse_step.specs.declared.ReadVerdict.TheVariants as Vd
+use Rattle.parse_step.specs.declared.Unread.TheVariants as Vd
 use Rattle.parse_step.specs.Course.{Stack, kind_no, runs}
 use Rattle.parse_facilities.specs.declared.Progress.{Progress}
 use Rattle.parse_facilities.specs.Declares as D
@@ -79,12 +81,12 @@ pub record Ready (text : List ℕ) (ds : List Declaration) (os : List Operation)
 
 pub record SectionRead (text : List ℕ) (ds : List Declaration) (l : Listing) (p : Ask) (w : Word) (s : State) (work' : List ℕ) (r : Progress) : Type 0 where
   pub trees : List Declaration
-  pub course : (K : Stack) (b : Built) → runs text (ask p ∷ K) w b s ≡ runs text (ask (after_in l) ∷ K) r.answer.next (with_text b (put_all l trees b.text)) r.answer.state
-  pub between : Between text (ds ++ trees) r.place r.answer.next r.answer.state work'
+  pub course : (K : Stack) (b : Built) → runs text (ask p ∷ K) w b s ≡ runs text (ask (after_in l) ∷ K) r.reached.next (with_text b (put_all l trees b.text)) r.reached.state
+  pub between : Between text (ds ++ trees) r.place r.reached.next r.reached.state work'
 
-abbrev pub Section : Listing → List ℕ → Word → State → ℕ → List ℕ → List ℕ → Progress → Type 0
+abbrev pub Section : Listing → List ℕ → Word → State → ℕ → List ℕ → List ℕ → Result Progress Unread → Type 0
 Section l text w s place work work' r =
-    (p : Ask) → Comes l p → (ds : List Declaration) → Between text ds place w s work → Told text (ask p ∷ []) w s r.answer (SectionRead text ds l p w s work' r)
+    (p : Ask) → Comes l p → (ds : List Declaration) → Between text ds place w s work → Told text (ask p ∷ []) w s r (SectionRead text ds l p w s work')
 
 -- ---- All sections up to CONTROL.
 
@@ -92,7 +94,7 @@ abbrev pub with_sections : Text → List Declaration → List Declaration → Li
 with_sections t rs ms ts os = record { registers = t.registers ++ rs; memories = t.memories ++ ms; terminals = t.terminals ++ ts; operations = t.operations ++ os; states = t.states }
 
 -- From the stack P the machine comes to the states, with nothing of the lists before l.
-pub record AllRead (text : List ℕ) (ds : List Declaration) (l : Listing) (P : Stack) (w : Word) (s : State) (work' : List ℕ) (r : Answer) : Type 0 where
+pub record AllRead (text : List ℕ) (ds : List Declaration) (l : Listing) (P : Stack) (w : Word) (s : State) (work' : List ℕ) (r : Reached) : Type 0 where
   pub registers : List Declaration
   pub memories : List Declaration
   pub terminals : List Declaration
@@ -104,7 +106,7 @@ pub record AllRead (text : List ℕ) (ds : List Declaration) (l : Listing) (P : 
 -- Where the machine asks p.
 abbrev pub Goes : Listing → Ask → List ℕ → Word → State → ℕ → List ℕ → List ℕ → Answer → Type 0
 Goes l p text w s place work work' r =
-    (ds : List Declaration) → Between text ds place w s work → Told text (ask p ∷ []) w s r (AllRead text ds l (ask p ∷ []) w s work' r)
+    (ds : List Declaration) → Between text ds place w s work → Told text (ask p ∷ []) w s r (AllRead text ds l (ask p ∷ []) w s work')
 
 -- Where the list l begins.
 abbrev pub From : Listing → List ℕ → Word → State → ℕ → List ℕ → List ℕ → Answer → Type 0
@@ -120,7 +122,7 @@ abbrev pub start_state : State
 start_state = record { facilities = 0; operations = 0; states = 0; counted = 0; nesting = 0; nodes = 0; actions = 0; known = 0 }
 
 -- Parsing comes to the states, with these declarations and operations.
-pub record Opened (text work' : List ℕ) (r : Answer) : Type 0 where
+pub record Opened (text work' : List ℕ) (r : Reached) : Type 0 where
   pub registers : List Declaration
   pub memories : List Declaration
   pub terminals : List Declaration
@@ -130,6 +132,6 @@ pub record Opened (text work' : List ℕ) (r : Answer) : Type 0 where
   pub ready : Ready text (registers ++ (memories ++ terminals)) operations r.next r.state work'
 
 pub record Preamble (text work' : List ℕ) (r : Answer) : Type 0 where
-  pub done : r.verdict ≡ Vd.Done → Opened text work' r
-  pub refused : (f : Fault) → r.verdict ≡ Vd.Refused f → parse (scan text).words (length text) ≡ refused (faulted f)
-  pub full : r.verdict ≡ Vd.Full → ⊥
+  pub done : {r' : Reached} → r ≡ Ok r' → Opened text work' r'
+  pub refused : (f : Fault) → r ≡ Err (Vd.Refused f) → parse (scan text).words (length text) ≡ refused (faulted f)
+  pub full : {z : State} → r ≡ Err (Vd.Full z) → ⊥

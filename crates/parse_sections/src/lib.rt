@@ -36,8 +36,7 @@ pub fn preamble(text: &[u8], work: &mut Work) -> Answer
 {
     let w = next::next_word(text, 0);
     let s = start();
-    let kind = w.kind;
-    let k = kinds::number(kind);
+    let k = kinds::kind_of(w);
     if k == language::kinds::REGISTER {
         return sections::registers(text, w, work, s, 0);
     }
@@ -47,5 +46,5 @@ pub fn preamble(text: &[u8], work: &mut Work) -> Answer
     if k == language::kinds::TERMINAL {
         return sections::terminals(text, w, work, s, 0);
     }
-    taking::refuse(w, s, Refusal::NoContinuation)
+    taking::refuse(w, Refusal::NoContinuation)
 }

@@ -1,38 +1,23 @@
 // A section of declarations: the word that begins it, and its list.
-ghost use Rattle.parse_facilities.specs.Lists.{listing, terminals};
 ghost use Rattle.parse_sections.specs.Sections.{Section, Starts};
 
 use parse_array::Work;
-use parse_facilities::{List, Progress};
-use parse_step::{Bearing, State, taking};
+use parse_facilities::lists::List;
+use parse_facilities::{Progress, lists};
+use parse_step::{Bearing, State, Unread, taking};
 use text_words::Word;
 
-// Registers or memories, whose word has been seen.
-pub fn stored(text: &[u8], w: Word, work: &mut Work, s: State, place: u16, list: List) -> Progress
-    requires { Starts (listing list) text.now place w s work.old }
-    ensures { Section (listing list) text.now w s place work.old work.new result }
+// The list L, whose word has been seen.
+pub fn section<L: List>(
+    text: &[u8],
+    w: Word,
+    work: &mut Work,
+    s: State,
+    place: u16,
+) -> Result<Progress, Unread>
+    requires { Starts L.listing text.now place w s work.old }
+    ensures { Section L.listing text.now w s place work.old work.new result }
 {
-    let first = taking::take(text, w, s, false, Bearing::Level);
-    if parse_step::unread(first) {
-        return Progress {
-            answer: first,
-            place,
-        };
-    }
-    parse_facilities::lists::declarations(text, first.next, work, first.state, place, list)
-}
-
-// Terminals, whose word has been seen.
-pub fn defined(text: &[u8], w: Word, work: &mut Work, s: State, place: u16) -> Progress
-    requires { Starts terminals text.now place w s work.old }
-    ensures { Section terminals text.now w s place work.old work.new result }
-{
-    let first = taking::take(text, w, s, false, Bearing::Level);
-    if parse_step::unread(first) {
-        return Progress {
-            answer: first,
-            place,
-        };
-    }
-    parse_terminals::lists::terminals(text, first.next, work, first.state, place)
+    let first = taking::take(text, w, s, false, Bearing::Level)?;
+    lists::declarations::<L>(text, first.next, work, first.state, place)
 }

@@ -7,8 +7,9 @@ use crate::lists;
 use crate::operations::lists as operations;
 use language::refusals::Refusal;
 use parse_array::Work;
-use parse_facilities::List;
+use parse_facilities::lists::{MemoryList, RegisterList};
 use parse_step::{Answer, Bearing, State, kinds, taking};
+use parse_terminals::lists::TerminalList;
 use text_words::Word;
 
 // Operations, whose word has been seen, and CONTROL.
@@ -17,10 +18,7 @@ fn operations(text: &[u8], w: Word, work: &mut Work, s: State, place: u16) -> An
     ensures { Operates text.now w s place work.old work.new result }
 {
     parse_array::whole(work);
-    let first = taking::take(text, w, s, false, Bearing::Level);
-    if parse_step::unread(first) {
-        return first;
-    }
+    let first = taking::take(text, w, s, false, Bearing::Level)?;
     operations::operations(text, first.next, work, first.state)
 }
 
@@ -29,8 +27,7 @@ fn behind_terminals(text: &[u8], w: Word, work: &mut Work, s: State, place: u16)
     requires { Somewhere text.now place w s work.old }
     ensures { Goes terminals after_terminals text.now w s place work.old work.new result }
 {
-    let kind = w.kind;
-    let k = kinds::number(kind);
+    let k = kinds::kind_of(w);
     if k == language::kinds::OPERATION {
         return operations(text, w, work, s, place);
     }
@@ -38,7 +35,7 @@ fn behind_terminals(text: &[u8], w: Word, work: &mut Work, s: State, place: u16)
     if k == language::kinds::CONTROL {
         return taking::take(text, w, s, false, Bearing::Level);
     }
-    taking::refuse(w, s, Refusal::NoContinuation)
+    taking::refuse(w, Refusal::NoContinuation)
 }
 
 // Terminals, whose word has been seen, and what follows.
@@ -46,20 +43,23 @@ pub fn terminals(text: &[u8], w: Word, work: &mut Work, s: State, place: u16) ->
     requires { Starts terminals text.now place w s work.old }
     ensures { From terminals text.now w s place work.old work.new result }
 {
-    let read = lists::defined(text, w, work, s, place);
-    if parse_step::unread(read.answer) {
-        return read.answer;
-    }
-    behind_terminals(text, read.answer.next, work, read.answer.state, read.place)
+    let read = lists::section::<TerminalList>(text, w, work, s, place)?;
+    behind_terminals(
+        text,
+        read.reached.next,
+        work,
+        read.reached.state,
+        read.place,
+    )
 }
 
+// One function for both lists would call itself, for the memories behind the registers: two state the order plainly.
 // Behind the memories.
 fn behind_memories(text: &[u8], w: Word, work: &mut Work, s: State, place: u16) -> Answer
     requires { Somewhere text.now place w s work.old }
     ensures { Goes memories after_memories text.now w s place work.old work.new result }
 {
-    let kind = w.kind;
-    if kinds::number(kind) == language::kinds::TERMINAL {
+    if kinds::kind_of(w) == language::kinds::TERMINAL {
         return terminals(text, w, work, s, place);
     }
     behind_terminals(text, w, work, s, place)
@@ -70,11 +70,14 @@ pub fn memories(text: &[u8], w: Word, work: &mut Work, s: State, place: u16) -> 
     requires { Starts memories text.now place w s work.old }
     ensures { From memories text.now w s place work.old work.new result }
 {
-    let read = lists::stored(text, w, work, s, place, List::Memories);
-    if parse_step::unread(read.answer) {
-        return read.answer;
-    }
-    behind_memories(text, read.answer.next, work, read.answer.state, read.place)
+    let read = lists::section::<MemoryList>(text, w, work, s, place)?;
+    behind_memories(
+        text,
+        read.reached.next,
+        work,
+        read.reached.state,
+        read.place,
+    )
 }
 
 // Behind the registers.
@@ -82,8 +85,7 @@ fn behind_registers(text: &[u8], w: Word, work: &mut Work, s: State, place: u16)
     requires { Somewhere text.now place w s work.old }
     ensures { Goes registers after_registers text.now w s place work.old work.new result }
 {
-    let kind = w.kind;
-    if kinds::number(kind) == language::kinds::MEMORY {
+    if kinds::kind_of(w) == language::kinds::MEMORY {
         return memories(text, w, work, s, place);
     }
     behind_memories(text, w, work, s, place)
@@ -94,9 +96,12 @@ pub fn registers(text: &[u8], w: Word, work: &mut Work, s: State, place: u16) ->
     requires { Starts registers text.now place w s work.old }
     ensures { From registers text.now w s place work.old work.new result }
 {
-    let read = lists::stored(text, w, work, s, place, List::Registers);
-    if parse_step::unread(read.answer) {
-        return read.answer;
-    }
-    behind_registers(text, read.answer.next, work, read.answer.state, read.place)
+    let read = lists::section::<RegisterList>(text, w, work, s, place)?;
+    behind_registers(
+        text,
+        read.reached.next,
+        work,
+        read.reached.state,
+        read.place,
+    )
 }

@@ -7,10 +7,8 @@ use native.Mathlib.Omega.{arith}
 use Rattle.parse_actions.proofs.ListLaws.{counts-one, level-same}
 use Rattle.parse_step.proofs.Ceilings.{few-counted}
 use Rattle.parse_step.proofs.TakenWords.{took-done, took-refused}
-use Rattle.parse_step.specs.declared.Answer.{Answer}
 use Rattle.parse_step.specs.declared.Bearing.TheVariants.{Level}
 use Rattle.parse_step.specs.declared.State.{State}
-use Rattle.parse_step.specs.declared.ReadVerdict.TheVariants.{Done}
 use Rattle.parse_step.specs.Course.{Stack, counts_of, kind_no, runs}
 use Rattle.parse_step.specs.Taken.{Expected, Passed, Took, after_word}
 use Rattle.about_grammar.specs.Conditionals.{joined-assoc, joined-done}
@@ -34,6 +32,10 @@ use Rattle.text_words.specs.declared.Word.{Word}
 use Rattle.parse_states.proofs.StateWords.{body-acts, body-ends, rest-comma, rest-last}
 use Rattle.parse_states.specs.Begins.{Stays, Tells, same, with_list}
 use Rattle.parse_states.specs.Bodies.{Bodies, BodyRead, Firsts, Lists, RestRead, Rests, Stands, complete, first_ask, first_built}
+use Rattle.parse_step.specs.Answers.{Answer}
+use Rattle.parse_step.specs.declared.Reached.{Reached}
+use Rattle.parse_step.proofs.Answers.{not_ok}
+use Rattle.std.specs.Prelude.{IsErr, Ok}
 
 -- ---- Nothing read.
 
@@ -82,7 +84,7 @@ module _ {text : List ℕ} {sc : Scope} {n : KnownNames} {w : Word} {s : State} 
 
   module _ {next : Word} {state : State} {work₁ : List ℕ} (h : Here text sc n w s work next state work₁) where
     pub rest_ended : (kind_no next.kind ≡ comma → ⊥) → {a : Answer} → Expected text slash Level next state a → (t : Actions)
-        → Tells text (ask state_rest ∷ []) (with_list t) w s a (RestRead text sc n complete w s work a.next a.state work₁)
+        → Tells text (ask state_rest ∷ []) (with_list t) w s a (λ x. RestRead text sc n complete w s work x.next x.state work₁)
     rest_ended m {a} x t = record {
       done = λ d. read (x.done d h.standing.seen (omega arith));
       refused = λ f d K b. to-slash K b t ∙ x.refused f d h.standing.seen (omega arith) (complete ++ K) (with_list (joined t h.tree) b);
@@ -92,8 +94,8 @@ module _ {text : List ℕ} {sc : Scope} {n : KnownNames} {w : Word} {s : State} 
         to-slash : (K : Stack) (b : Built) (t : Actions) → runs text (ask state_rest ∷ K) w (with_list t b) s ≡ runs text (word slash level ∷ (complete ++ K)) next (with_list (joined t h.tree) b) state
         to-slash K b t = h.course K b t ∙ rest-last text next h.standing.seen state K (with_list (joined t h.tree) b) m
 
-        read : Passed text next (after_word false Level state) state a × ((K : Stack) (b : Built) → runs text (word slash level ∷ K) next b state ≡ runs text K a.next b a.state)
-            → RestRead text sc n complete w s work a.next a.state work₁
+        read : {a' : Reached} → Passed text next (after_word false Level state) state a' × ((K : Stack) (b : Built) → runs text (word slash level ∷ K) next b state ≡ runs text K a'.next b a'.state)
+            → RestRead text sc n complete w s work a'.next a'.state work₁
         read y = record {
           tree = h.tree;
           course = λ K b u. to-slash K b u ∙ y.1 (complete ++ K) (with_list (joined u h.tree) b);
@@ -103,53 +105,53 @@ module _ {text : List ℕ} {sc : Scope} {n : KnownNames} {w : Word} {s : State} 
         }
 
     module _ (k : kind_no next.kind ≡ comma) {a : Answer} (x : Took text next (after_word false Level state) state a) where
-      pub comma-not : (a.verdict ≡ Done → ⊥) → (t : Actions) {Read : Type 0} → Tells text (ask state_rest ∷ []) (with_list t) w s a Read
+      pub comma-not : IsErr a → (t : Actions) {Read : Reached → Type 0} → Tells text (ask state_rest ∷ []) (with_list t) w s a Read
       comma-not m t = record {
-        done = λ d. absurd (m d);
+        done = λ d. not_ok m d;
         refused = λ f d K b. h.course K b t ∙ rest-comma text next h.standing.seen state K (with_list (joined t h.tree) b) k ∙ took-refused x f d (ask state_action ∷ ask state_rest ∷ K) (with_list (joined t h.tree) b);
         full = λ d. absurd (x.full d);
       }
 
-      module _ (done : a.verdict ≡ Done) {r : Answer} {work₂ : List ℕ} (f : Acts (ask state_action ∷ []) Ph.same text n a.next a.state work₁ work₂ r) where
-        p : Passed text next (after_word false Level state) state a
+      module _ {a' : Reached} (done : a ≡ Ok a') {r : Answer} {work₂ : List ℕ} (f : Acts (ask state_action ∷ []) Ph.same text n a'.next a'.state work₁ work₂ r) where
+        p : Passed text next (after_word false Level state) state a'
         p = x.done done
 
-        to-action : (K : Stack) (b : Built) (t : Actions) → runs text (ask state_rest ∷ K) w (with_list t b) s ≡ runs text (ask state_action ∷ ask state_rest ∷ K) a.next (with_list (joined t h.tree) b) a.state
+        to-action : (K : Stack) (b : Built) (t : Actions) → runs text (ask state_rest ∷ K) w (with_list t b) s ≡ runs text (ask state_action ∷ ask state_rest ∷ K) a'.next (with_list (joined t h.tree) b) a'.state
         to-action K b t =
             h.course K b t ∙ rest-comma text next h.standing.seen state K (with_list (joined t h.tree) b) k
             ∙ took-done p h.standing.seen (ask state_action ∷ ask state_rest ∷ K) (with_list (joined t h.tree) b)
 
-        told : Reads text sc n (ask state_action ∷ []) [] (Ph.same text) a.next a.state work₁ work₂ r
+        told : Reads text sc n (ask state_action ∷ []) [] (Ph.same text) a'.next a'.state work₁ work₂ r
         told = f sc (standing-word false Level h.standing p)
 
-        pub another-not : (r.verdict ≡ Done → ⊥) → (t : Actions) {Read : Type 0} → Tells text (ask state_rest ∷ []) (with_list t) w s r Read
+        pub another-not : IsErr r → (t : Actions) {Read : Reached → Type 0} → Tells text (ask state_rest ∷ []) (with_list t) w s r Read
         another-not m t = record {
-          done = λ d. absurd (m d);
+          done = λ d. not_ok m d;
           refused = λ i d K b. to-action K b t ∙ told.refused i d (ask state_rest ∷ K) (with_list (joined t h.tree) b);
           full = told.full;
         }
 
-        module _ (read : r.verdict ≡ Done) where
-          y : ActionsRead text sc n (ask state_action ∷ []) [] (Ph.same text) a.next a.state work₁ work₂ r
+        module _ {r' : Reached} (read : r ≡ Ok r') where
+          y : ActionsRead text sc n (ask state_action ∷ []) [] (Ph.same text) a'.next a'.state work₁ work₂ r'
           y = told.done read
 
           behind : (b : Built) (t : Actions) → grown y.tree (with_list (joined t h.tree) b) ≡ with_list (joined t (joined h.tree y.tree)) b
           unfolding list_no
           behind b t = rw (joined-assoc t h.tree y.tree)
 
-          pub another : Here text sc n w s work r.next r.state work₂
+          pub another : Here text sc n w s work r'.next r'.state work₂
           another = record {
             tree = joined h.tree y.tree;
             course = λ K b t. to-action K b t ∙ y.course (ask state_rest ∷ K) (with_list (joined t h.tree) b)
-                ∙ ap (λ (v : Built). runs text (ask state_rest ∷ K) r.next v r.state) (behind b t);
-            written = written_then h.written (subst (λ (q : State). Written sc y.tree q work₁ r.state work₂) (level-same p) y.written);
-            stays = stays_then h.stays (subst (λ (q : State). Stays q r.state) (level-same p) (paid-stays y.paid));
+                ∙ ap (λ (v : Built). runs text (ask state_rest ∷ K) r'.next v r'.state) (behind b t);
+            written = written_then h.written (subst (λ (q : State). Written sc y.tree q work₁ r'.state work₂) (level-same p) y.written);
+            stays = stays_then h.stays (subst (λ (q : State). Stays q r'.state) (level-same p) (paid-stays y.paid));
             standing = y.standing;
           }
 
           -- Words are counted, and no more than there may be.
-          pub one_fewer : 2049 - r.state.counted < 2049 - state.counted
-          one_fewer = omega (arith, counts-one y, ap (λ (q : State). q.counted) (level-same p), few-counted (counts_of r.state) y.standing.within)
+          pub one_fewer : 2049 - r'.state.counted < 2049 - state.counted
+          one_fewer = omega (arith, counts-one y, ap (λ (q : State). q.counted) (level-same p), few-counted (counts_of r'.state) y.standing.within)
 
 -- ---- The list.
 
@@ -165,32 +167,32 @@ module _ {named : Bool} (name : Word) {text : List ℕ} {n : KnownNames} {w : Wo
   first-other e f = subst (λ (q : Bool). Firsts q name text n w s work work' r) (sym e) f
 
 module _ (named : Bool) (name : Word) {text : List ℕ} {n : KnownNames} {w : Word} {s : State} {work work₁ : List ℕ} {r : Answer} (f : Firsts named name text n w s work work₁ r) where
-  pub list-not : (r.verdict ≡ Done → ⊥) → Lists named name text n w s work work₁ r
+  pub list-not : IsErr r → Lists named name text n w s work work₁ r
   list-not m sc st =
       let x = f sc st in
-      record { done = λ d. absurd (m d); refused = λ i d K b. x.refused i d (ask state_rest ∷ K) (with_list T.done b); full = x.full }
+      record { done = λ d. not_ok m d; refused = λ i d K b. x.refused i d (ask state_rest ∷ K) (with_list T.done b); full = x.full }
 
-  pub list-stands : r.verdict ≡ Done → Stands text n w s work → Stands text n r.next r.state work₁
+  pub list-stands : {r' : Reached} → r ≡ Ok r' → Stands text n w s work → Stands text n r'.next r'.state work₁
   list-stands d st = record { scope = st.scope; standing = ((f st.scope st.standing).done d).standing }
 
-  pub list_read : r.verdict ≡ Done → {q : Answer} {work₂ : List ℕ} → Rests text n r.next r.state work₁ work₂ q → Lists named name text n w s work work₂ q
-  list_read d {q} {work₂} g sc st = record {
+  pub list_read : {r' : Reached} → r ≡ Ok r' → {q : Answer} {work₂ : List ℕ} → Rests text n r'.next r'.state work₁ work₂ q → Lists named name text n w s work work₂ q
+  list_read {r' = r'} d {q} {work₂} g sc st = record {
     done = λ e. read (told.done e);
     refused = λ i e K b. to-rest K b ∙ told.refused i e K b;
     full = told.full;
   }
     where
-      x : ActionsRead text sc n (ask (first_ask named) ∷ []) [] (first_built named name text) w s work work₁ r
+      x : ActionsRead text sc n (ask (first_ask named) ∷ []) [] (first_built named name text) w s work work₁ r'
       x = (f sc st).done d
 
-      to-rest : (K : Stack) (b : Built) → runs text (ask (first_ask named) ∷ ask state_rest ∷ K) w (first_built named name text (with_list T.done b)) s ≡ runs text (ask state_rest ∷ K) r.next (with_list x.tree b) r.state
-      to-rest K b = x.course (ask state_rest ∷ K) (with_list T.done b) ∙ ap (λ (v : Built). runs text (ask state_rest ∷ K) r.next v r.state) (first-list x.tree b)
+      to-rest : (K : Stack) (b : Built) → runs text (ask (first_ask named) ∷ ask state_rest ∷ K) w (first_built named name text (with_list T.done b)) s ≡ runs text (ask state_rest ∷ K) r'.next (with_list x.tree b) r'.state
+      to-rest K b = x.course (ask state_rest ∷ K) (with_list T.done b) ∙ ap (λ (v : Built). runs text (ask state_rest ∷ K) r'.next v r'.state) (first-list x.tree b)
 
-      told : Tells text (ask state_rest ∷ []) (with_list x.tree) r.next r.state q (RestRead text sc n complete r.next r.state work₁ q.next q.state work₂)
+      told : Tells text (ask state_rest ∷ []) (with_list x.tree) r'.next r'.state q (λ x. RestRead text sc n complete r'.next r'.state work₁ x.next x.state work₂)
       told = g sc x.standing x.tree
 
-      read : RestRead text sc n complete r.next r.state work₁ q.next q.state work₂
-          → BodyRead text sc n (ask (first_ask named) ∷ ask state_rest ∷ []) (λ b. first_built named name text (with_list T.done b)) w s work work₂ q
+      read : {q' : Reached} → RestRead text sc n complete r'.next r'.state work₁ q'.next q'.state work₂
+          → BodyRead text sc n (ask (first_ask named) ∷ ask state_rest ∷ []) (λ b. first_built named name text (with_list T.done b)) w s work work₂ q'
       read y = record {
         tree = joined x.tree y.tree;
         course = λ K b. to-rest K b ∙ y.course K b x.tree;
@@ -222,7 +224,7 @@ module _ {named : Bool} (name : Word) {text : List ℕ} {n : KnownNames} {w : Wo
     full = λ d. absurd (x.full d);
   }
     where
-      read : (sc : Scope) → Standing text sc n w s s.actions work → Passed text w (after_word false Level s) s a → BodyRead text sc n (ask state_body ∷ []) same w s work work a
+      read : {a' : Reached} → (sc : Scope) → Standing text sc n w s s.actions work → Passed text w (after_word false Level s) s a' → BodyRead text sc n (ask state_body ∷ []) same w s work work a'
       read sc st p = record {
         tree = T.done;
         course = λ K b. body-ends text w st.seen s K b k ∙ took-done p st.seen (complete ++ K) (with_list T.done b);

@@ -7,7 +7,6 @@ use native.Mathlib.Omega.{arith}
 use lib.ListN.{drop, length, length-drop}
 use lib.Seq.{length-take-le}
 use Rattle.parse_step.proofs.Ceilings.{few-counted}
-use Rattle.parse_step.specs.declared.Answer.{Answer}
 use Rattle.parse_step.specs.declared.State.{State}
 use Rattle.parse_step.specs.Course.{Stack, counts_of}
 use Rattle.image_sections.specs.declared.runs.Run.{Run}
@@ -40,6 +39,7 @@ use Rattle.parse_states.specs.declared.Begun.{Begun}
 use Rattle.parse_states.specs.declared.Head.{Head}
 use Rattle.parse_states.specs.Heads.{HeadRead}
 use Rattle.parse_states.specs.Written.{Closed, Written, state_beside, states_actions, states_size}
+use Rattle.parse_step.specs.declared.Reached.{Reached}
 
 -- ---- The tables.
 
@@ -85,9 +85,9 @@ module _ (u : Table) (e : apart_from u (Tb.Actions ∷ Tb.ActionPlaces ∷ Tb.St
 
 -- ---- One state.
 
-module _ {text : List ℕ} {sc : Scope} {n : KnownNames} {l : ℕ} {name : Word} {P R : Stack} {pre mid : Built → Built} {w v : Word} {s : State} {work work₁ work₂ work₃ : List ℕ} {h : Begun} {r : Answer} {run : Run}
+module _ {text : List ℕ} {sc : Scope} {n : KnownNames} {l : ℕ} {name : Word} {P R : Stack} {pre mid : Built → Built} {w v : Word} {s : State} {work work₁ work₂ work₃ : List ℕ} {h : Begun} {r : Reached} {run : Run}
     (st : Standing text sc n w s s.actions work) (x : HeadRead text sc n l name P pre w s (more_states s) work work₁ h)
-    (y : BodyRead text sc n R mid v h.answer.state work₁ work₂ r) (few : s.states < 256) (c : Closed s.states h.head run work₂ work₃)
+    (y : BodyRead text sc n R mid v h.reached.state work₁ work₂ r) (few : s.states < 256) (c : Closed s.states h.head run work₂ work₃)
     (e : run ≡ record { first = s.actions; count = r.state.actions - s.actions }) where
   abbrev pub tree : T.State
   tree = record { at = x.tree.at; label = x.tree.label; value = x.tree.value; actions = y.tree }
@@ -101,7 +101,7 @@ module _ {text : List ℕ} {sc : Scope} {n : KnownNames} {l : ℕ} {name : Word}
   pub number : s₂.states ≡ s.states + 1
   number = omega (arith, y.stays.states, x.stays.states)
 
-  nodes₁ : h.answer.state.nodes ≡ s.nodes + vs
+  nodes₁ : h.reached.state.nodes ≡ s.nodes + vs
   nodes₁ = x.nodes
 
   most-acts : s₂.actions ≤ most_actions
@@ -116,7 +116,7 @@ module _ {text : List ℕ} {sc : Scope} {n : KnownNames} {l : ℕ} {name : Word}
       let front = front_of s.nodes work in
       let value = value_nodes (length_of l) x.tree.value in
       front_kept work₂ work₃ y.standing.whole c.whole c.kept.front s₂.nodes most-nodes ∙ y.written.expressions
-      ∙ ap (λ (z : Held). with_nodes z (nodes_in sc h.answer.state.nodes y.tree)) x.expressions
+      ∙ ap (λ (z : Held). with_nodes z (nodes_in sc h.reached.state.nodes y.tree)) x.expressions
       ∙ ap (λ (j : ℕ). with_nodes (with_nodes front value) (nodes_in sc j y.tree)) nodes₁
       ∙ sym (nodes-append front value (nodes_in sc (s.nodes + vs) y.tree))
       ∙ ap (λ (ns : List Noted). with_nodes front (value ++ ns)) (sym (append-nil (nodes_in sc (s.nodes + vs) y.tree)))
@@ -126,14 +126,14 @@ module _ {text : List ℕ} {sc : Scope} {n : KnownNames} {l : ℕ} {name : Word}
   before u a m g = y.written.tables u a m g ∙ rows_other work work₁ x.other u m
 
   -- The head adds no action.
-  as_before : (u : Table) → rows u h.answer.state.actions work₁ ≡ rows u s.actions work
-  as_before u = rows_other work work₁ x.other u h.answer.state.actions ∙ ap (λ (m : ℕ). rows u m work) x.actions
+  as_before : (u : Table) → rows u h.reached.state.actions work₁ ≡ rows u s.actions work
+  as_before u = rows_other work work₁ x.other u h.reached.state.actions ∙ ap (λ (m : ℕ). rows u m work) x.actions
 
   actions : rows Tb.Actions s₂.actions work₃ ≡ rows Tb.Actions s.actions work ++ action_records (state_actions (length_of l) sc s.nodes (tree ∷ []))
   unfolding state_actions
   actions =
       c.kept.tables Tb.Actions refl s₂.actions most-acts ∙ y.written.records
-      ∙ ap (λ (z : List ℕ). z ++ action_records (actions_of sc h.answer.state.nodes y.tree)) (as_before Tb.Actions)
+      ∙ ap (λ (z : List ℕ). z ++ action_records (actions_of sc h.reached.state.nodes y.tree)) (as_before Tb.Actions)
       ∙ ap (λ (j : ℕ). rows Tb.Actions s.actions work ++ action_records (actions_of sc j y.tree)) nodes₁
       ∙ ap (λ (xs : List NotedAction). rows Tb.Actions s.actions work ++ action_records xs) (sym (append-nil (actions_of sc (s.nodes + vs) y.tree)))
 
@@ -141,7 +141,7 @@ module _ {text : List ℕ} {sc : Scope} {n : KnownNames} {l : ℕ} {name : Word}
   unfolding state_actions
   action-places =
       c.kept.tables Tb.ActionPlaces refl s₂.actions most-acts ∙ y.written.places
-      ∙ ap (λ (z : List ℕ). z ++ action_besides (actions_of sc h.answer.state.nodes y.tree)) (as_before Tb.ActionPlaces)
+      ∙ ap (λ (z : List ℕ). z ++ action_besides (actions_of sc h.reached.state.nodes y.tree)) (as_before Tb.ActionPlaces)
       ∙ ap (λ (j : ℕ). rows Tb.ActionPlaces s.actions work ++ action_besides (actions_of sc j y.tree)) nodes₁
       ∙ ap (λ (xs : List NotedAction). rows Tb.ActionPlaces s.actions work ++ action_besides xs) (sym (append-nil (actions_of sc (s.nodes + vs) y.tree)))
 

@@ -4,15 +4,11 @@ use mathlib.Core.List.{List, [], ◌∷◌}
 use mathlib.Core.Path.{◌≡◌, refl, sym, ap, ◌∙◌}
 use Prim.Native.Nat.{ℕ, suc, ◌+◌, ◌<◌, ◌≤◌}
 use native.Mathlib.Omega.{arith}
-use borrow.Author.Tests.{ne_eqb}
 use Rattle.language.specs.declared.refusals.Refusal.{Refusal}
 use Rattle.language.specs.declared.refusals.Refusal.TheVariants.{CeilingPassed, NoContinuation}
-use Rattle.parse_step.proofs.Answers.{done_full, done_refused, refused_full, same-fault}
 use Rattle.parse_step.proofs.Looking.{View, begun, ended, sign-ahead, view}
 use Rattle.parse_step.proofs.TakenWords.{on_taken, taken-on}
-use Rattle.parse_step.specs.declared.Answer.{Answer}
 use Rattle.parse_step.specs.declared.State.{State}
-use Rattle.parse_step.specs.declared.ReadVerdict.TheVariants.{Done}
 use Rattle.parse_step.specs.Course.{Seen, Stack, behind, counts5, kind_no, runs, runs_on}
 use Rattle.parse_step.specs.Taken.{Refuses}
 use Rattle.about_grammar.specs.Following.{among, among_first, among-rest}
@@ -26,8 +22,12 @@ use Rattle.parse_stores.proofs.Standings.{few-states}
 use Rattle.text_words.specs.declared.Word.{Word}
 use Rattle.text_words.specs.Meaning.{faulted, positioned}
 use Rattle.parse_states.proofs.StateWords.{name-starts}
+use Rattle.parse_expressions.specs.Phrases.{stayed}
 use Rattle.parse_states.specs.Begins.{more_states}
 use Rattle.parse_states.specs.Heads.{Counted, state_kinds}
+use Rattle.parse_step.specs.Answers.{Answer}
+use Rattle.parse_step.proofs.Answers.{at_ok, ok_err, refused_full, same-fault}
+use Rattle.std.specs.Prelude.{Ok}
 
 pub over : (c : Counts) → 256 < c.states → within_ceilings c ≡ false
 over c h = go (within_ceilings c) refl
@@ -98,29 +98,25 @@ module _ (text : List ℕ) (w : Word) (z : Seen text w) (s : State) (K : Stack) 
 
 -- ---- As the code counts it.
 
-pub none_of : (k : ℕ) → (k ≡ a_name → ⊥) → (k ≡ slash → ⊥) → (k ≡ goto_sign → ⊥) → (k ≡ call_sign → ⊥) → (k ≡ return_word → ⊥) → (k ≡ if_word → ⊥) → (k ≡ case_word → ⊥) → false ≡ among k state_kinds
-unfolding among
-none_of k n₁ n₂ n₃ n₄ n₅ n₆ n₇ = rw (ne_eqb k a_name n₁, ne_eqb k slash n₂, ne_eqb k goto_sign n₃, ne_eqb k call_sign n₄, ne_eqb k return_word n₅, ne_eqb k if_word n₆, ne_eqb k case_word n₇)
-
 module _ {w : Word} {s : State} {r : Answer} where
   pub one-over : 256 ≤ s.states → among (kind_no w.kind) state_kinds ≡ true → Refuses w CeilingPassed r → Counted w s r
   one-over h e x = record {
-    done = λ d. done_refused (sym d ∙ x.verdict);
-    refused = λ f d text z i K b. begins-over text w z s K b h e ∙ ap refused (sym (ap faulted (same-fault (sym d ∙ x.verdict)) ∙ x.is));
-    full = λ d. refused_full (sym x.verdict ∙ d);
+    done = λ d. ok_err (sym d ∙ x.refused);
+    refused = λ f d text z i K b. begins-over text w z s K b h e ∙ ap refused (sym (ap faulted (same-fault (sym d ∙ x.refused)) ∙ x.is));
+    full = λ d. refused_full (sym x.refused ∙ d);
   }
 
   pub none-begins : among (kind_no w.kind) state_kinds ≡ false → Refuses w NoContinuation r → Counted w s r
   none-begins e x = record {
-    done = λ d. done_refused (sym d ∙ x.verdict);
-    refused = λ f d text z i K b. begins-none text w z s K b e ∙ ap refused (sym (ap faulted (same-fault (sym d ∙ x.verdict)) ∙ x.is));
-    full = λ d. refused_full (sym x.verdict ∙ d);
+    done = λ d. ok_err (sym d ∙ x.refused);
+    refused = λ f d text z i K b. begins-none text w z s K b e ∙ ap refused (sym (ap faulted (same-fault (sym d ∙ x.refused)) ∙ x.is));
+    full = λ d. refused_full (sym x.refused ∙ d);
   }
 
 pub one_more : {w : Word} {s : State} → s.states < 256 → {m : ℕ} → m ≡ s.states + 1
-    → Counted w s (record { verdict = Done; next = w; state = record { facilities = s.facilities; operations = s.operations; states = m; counted = s.counted; nesting = s.nesting; nodes = s.nodes; actions = s.actions; known = s.known } })
+    → Counted w s (Ok (record { next = w; state = record { facilities = s.facilities; operations = s.operations; states = m; counted = s.counted; nesting = s.nesting; nodes = s.nodes; actions = s.actions; known = s.known } }))
 one_more {w} {s} h {m} e = record {
-  done = λ d. (let q : m ≡ suc s.states = omega arith in rw q, h);
-  refused = λ f d. done_refused d;
-  full = λ d. done_full d;
+  done = λ d. at_ok (λ x. (x ≡ stayed (more_states s) w) × (s.states < 256)) d (let q : m ≡ suc s.states = omega arith in rw q, h);
+  refused = λ f d. ok_err d;
+  full = λ d. ok_err d;
 }

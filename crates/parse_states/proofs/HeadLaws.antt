@@ -8,20 +8,17 @@ use native.Mathlib.Omega.{arith}
 use borrow.Author.Tests.{le-leb}
 use lib.ListN.{length}
 use Rattle.parse_actions.proofs.ListLaws.{level-same}
-use Rattle.parse_step.proofs.Answers.{done_full, done_refused}
 use Rattle.parse_step.proofs.Ceilings.{by-nesting, few-counted, few-open}
 use Rattle.parse_step.proofs.Narrow.{few-records, narrow}
 use Rattle.parse_step.proofs.Saying.{makes-it}
 use Rattle.parse_step.proofs.TakenWords.{took-done, took-refused}
-use Rattle.parse_step.specs.declared.Answer.{Answer}
 use Rattle.parse_step.specs.declared.Bearing.TheVariants.{Level}
 use Rattle.parse_step.specs.declared.State.{State}
-use Rattle.parse_step.specs.declared.ReadVerdict.TheVariants.{Done}
 use Rattle.parse_step.specs.Course.{Seen, Stack, counts_of, kind_no, runs}
 use Rattle.parse_step.specs.Gained as G
 use Rattle.parse_step.specs.Taken.{Passed, Took, after_word, constant_word}
 use Rattle.parse_facilities.proofs.Unexpressed.{letters-length}
-use Rattle.image_sections.specs.declared.states.StateValue.TheVariants as Sv
+use Rattle.std.specs.Prelude as Sv
 use Rattle.image_sections.specs.Declarations.{value_meant}
 use Rattle.language.specs.Building.{Built, keep_word, word_no}
 use Rattle.language.specs.Declaring.{tree_steps}
@@ -50,11 +47,17 @@ use Rattle.parse_array.specs.Names.{letters}
 use Rattle.parse_states.proofs.BodyLaws.{stays-refl}
 use Rattle.parse_states.proofs.StateWords.{action-comes, body-starts, label-comes, name-starts}
 use Rattle.parse_states.proofs.ValueLaws.{not-longer}
+use Rattle.parse_states.proofs.BracketLaws.{tells-ok}
 use Rattle.parse_states.specs.Begins.{Stays, Tells, length_of, more_states, opened, plain_at, same}
 use Rattle.parse_states.specs.declared.Begun.{Begun}
 use Rattle.parse_states.specs.declared.Head.{Head}
 use Rattle.parse_states.specs.declared.heads.Bracketed.{Bracketed}
 use Rattle.parse_states.specs.Heads.{AfterName, Brackets, BracketsRead, Counted, HeadRead, Heads, PlainHead, Says, Stated, Valued}
+use Rattle.parse_step.specs.Answers.{Answer}
+use Rattle.parse_step.specs.declared.Reached.{Reached}
+use Rattle.parse_step.specs.declared.Unread.{Unread}
+use Rattle.parse_step.proofs.Answers.{err_as, ok_err}
+use Rattle.std.specs.Prelude.{Err, Ok, Result}
 
 -- ---- What heads say.
 
@@ -98,33 +101,32 @@ front-none s work = sym (nodes-none (front_of s.nodes work))
 
 module _ {l : ℕ} {text : List ℕ} (name : Word) {w : Word} {s : State} {work : List ℕ} where
   pub named-first : (kind_no w.kind ≡ colon → ⊥) → (kind_no w.kind ≡ open_paren → ⊥) → {x : Head} → PlainHead name.at 0 x
-      → AfterName l name text w s work work (record { answer = stayed s w; head = x; named = true })
-  named-first m k {x} h sc n z st room = record {
-    done = λ d. record {
-      tree = plain_at (positioned name.at);
-      course = λ K b. action-comes text w st.seen s (ask state_rest ∷ K) b m k name;
-      says = says_plain l s.nodes z st.short h;
-      stays = stays-refl s;
-      nodes = omega arith;
-      expressions = front-none s work;
-      other = refl;
-      actions = refl;
-      standing = st;
-    };
-    refused = λ f d. done_refused d;
-    full = λ d. done_full d;
+      → AfterName l name text w s work work (Ok (record { reached = stayed s w; head = x; named = true }))
+  named-first m k {x} h sc n z st room = tells-ok (record {
+    tree = plain_at (positioned name.at);
+    course = λ K b. action-comes text w st.seen s (ask state_rest ∷ K) b m k name;
+    says = says_plain l s.nodes z st.short h;
+    stays = stays-refl s;
+    nodes = omega arith;
+    expressions = front-none s work;
+    other = refl;
+    actions = refl;
+    standing = st;
+  })
+
+  pub label-not : kind_no w.kind ≡ colon → {u : Unread} → Took text w (after_word false Level s) s (Err u) → AfterName l name text w s work work (Err u)
+  label-not k t sc n z st room = record {
+    done = λ d. ok_err (sym d);
+    refused = λ f d K b. label-comes text w st.seen s K (after_name name text b) k ∙ took-refused t f (err_as d) (make tree_steps.begin_labelled ∷ ask state_body ∷ K) (after_name name text b);
+    full = λ d. absurd (t.full (err_as d));
   }
 
-  pub label-read : kind_no w.kind ≡ colon → {a : Answer} → Took text w (after_word false Level s) s a → {x : Head} → PlainHead name.at name.size x
-      → AfterName l name text w s work work (record { answer = a; head = x; named = false })
+  pub label-read : kind_no w.kind ≡ colon → {a : Reached} → Took text w (after_word false Level s) s (Ok a) → {x : Head} → PlainHead name.at name.size x
+      → AfterName l name text w s work work (Ok (record { reached = a; head = x; named = false }))
   unfolding word_no
-  label-read k {a} t {x} h sc n z st room = record {
-    done = λ d. read (t.done d);
-    refused = λ f d K b. label-comes text w st.seen s K (after_name name text b) k ∙ took-refused t f d (make tree_steps.begin_labelled ∷ ask state_body ∷ K) (after_name name text b);
-    full = λ d. absurd (t.full d);
-  }
+  label-read k {a} t {x} h sc n z st room = tells-ok (read (t.done refl))
     where
-      read : Passed text w (after_word false Level s) s a → HeadRead text sc n l name (ask first_name ∷ ask state_rest ∷ []) (after_name name text) w s s work work (record { answer = a; head = x; named = false })
+      read : Passed text w (after_word false Level s) s a → HeadRead text sc n l name (ask first_name ∷ ask state_rest ∷ []) (after_name name text) w s s work work (record { reached = a; head = x; named = false })
       read p = record {
         tree = labelled text name;
         course = λ K b.
@@ -141,14 +143,14 @@ module _ {l : ℕ} {text : List ℕ} (name : Word) {w : Word} {s : State} {work 
 
 -- ---- A value.
 
-module _ {l : ℕ} {text : List ℕ} (name : Word) {w : Word} {s : State} {work : List ℕ} {q : Bracketed} (x : Brackets text w s q) where
-  pub value_not : (q.answer.verdict ≡ Done → ⊥) → {h : Head} → Valued l name text w s work work (record { answer = q.answer; head = h; named = false })
-  value_not m k sc n z st room =
+module _ {l : ℕ} {text : List ℕ} (name : Word) {w : Word} {s : State} {work : List ℕ} where
+  pub value_not : {u : Unread} → Brackets text w s (Err u) → Valued l name text w s work work (Err u)
+  value_not x k sc n z st room =
       let t = x k st.seen in
-      record { done = λ d. absurd (m d); refused = λ f d K b. t.refused f d K (after_name name text b); full = t.full }
+      record { done = λ d. ok_err (sym d); refused = λ f d K b. t.refused f (err_as d) K (after_name name text b); full = λ d. t.full (err_as d) }
 
-  module _ (done : q.answer.verdict ≡ Done) {v : Word} (g : Stated l q.constant v) {work' : List ℕ} {a : Answer}
-      (e : G.Written (constant_nodes (valued v.value) (positioned v.at)) (constant_size (valued v.value)) q.answer.next q.answer.state work work' a) where
+  module _ {q : Bracketed} (x : Brackets text w s (Ok q)) {v : Word} (g : Stated l q.constant v) {work' : List ℕ} {a : Answer}
+      (e : G.Written (constant_nodes (valued v.value) (positioned v.at)) (constant_size (valued v.value)) q.reached.next q.reached.state work work' a) where
     abbrev c : Constant
     c = written q.constant.bare (valued q.constant.value)
 
@@ -163,37 +165,49 @@ module _ {l : ℕ} {text : List ℕ} (name : Word) {w : Word} {s : State} {work 
     abbrev size : ℕ
     size = value_size (length_of l) tree.value
 
-    wrote : q.answer.state ≡ s → G.Written (value_nodes (length_of l) tree.value) size q.answer.next s work work' a
+    wrote : q.reached.state ≡ s → G.Written (value_nodes (length_of l) tree.value) size q.reached.next s work work' a
     wrote h =
-        subst (λ (j : State). G.Written (value_nodes (length_of l) tree.value) size q.answer.next j work work' a) h
-        (subst (λ (u : L.Value). G.Written (constant_nodes u (positioned q.constant.at)) (constant_size u) q.answer.next q.answer.state work work' a) g.value
-        (subst (λ (p : Position). G.Written (constant_nodes (valued v.value) (positioned p)) (constant_size (valued v.value)) q.answer.next q.answer.state work work' a) g.place e))
+        subst (λ (j : State). G.Written (value_nodes (length_of l) tree.value) size q.reached.next j work work' a) h
+        (subst (λ (u : L.Value). G.Written (constant_nodes u (positioned q.constant.at)) (constant_size u) q.reached.next q.reached.state work work' a) g.value
+        (subst (λ (p : Position). G.Written (constant_nodes (valued v.value) (positioned p)) (constant_size (valued v.value)) q.reached.next q.reached.state work work' a) g.place e))
 
-    pub value_read : {m : ℕ} → m ≡ a.state.nodes - 1
-        → Valued l name text w s work work' (record { answer = a; head = record { at = name.at; size = name.size; value = Sv.At m; spot = q.constant.at }; named = false })
-    unfolding word_no letters
-    value_read {m} i k sc n z st room = record {
-      done = read;
-      refused = λ f d. absurd (r.refused f d);
-      full = λ d. omega (arith, r.full d, r.most, few, room, few-states (counts_of s) st.within, few-counted (counts_of s) st.within);
+    pub value-full : {u : Unread} → a ≡ Err u → Valued l name text w s work work' (Err u)
+    value-full i k sc n z st room = record {
+      done = λ d. ok_err (sym d);
+      refused = λ f d. absurd (r.refused f (i ∙ err_as d));
+      full = λ d. omega (arith, r.full (i ∙ err_as d), r.most (i ∙ err_as d), few, room, few-states (counts_of s) st.within, few-counted (counts_of s) st.within);
     }
       where
         y : BracketsRead text w s q
-        y = (x k st.seen).done done
+        y = (x k st.seen).done refl
 
-        r : G.Written (value_nodes (length_of l) tree.value) size q.answer.next s work work' a
+        r : G.Written (value_nodes (length_of l) tree.value) size q.reached.next s work work' a
         r = wrote y.state
 
         few : size ≤ 6
         few = few-records (state_constant (length_of l) c) (not-longer l c (narrow text q.constant y.constant y.kind))
 
-        read : a.verdict ≡ Done → HeadRead text sc n l name (ask first_name ∷ ask state_rest ∷ []) (after_name name text) w s s work work' (record { answer = a; head = record { at = name.at; size = name.size; value = Sv.At m; spot = q.constant.at }; named = false })
-        read d = record {
+    pub value_read : {a' : Reached} → a ≡ Ok a' → {m : ℕ} → m ≡ a'.state.nodes - 1
+        → Valued l name text w s work work' (Ok (record { reached = a'; head = record { at = name.at; size = name.size; value = Sv.Some m; spot = q.constant.at }; named = false }))
+    unfolding word_no letters
+    value_read {a' = a'} d {m} i k sc n z st room = tells-ok read
+      where
+        y : BracketsRead text w s q
+        y = (x k st.seen).done refl
+
+        r : G.Written (value_nodes (length_of l) tree.value) size q.reached.next s work work' a
+        r = wrote y.state
+
+        few : size ≤ 6
+        few = few-records (state_constant (length_of l) c) (not-longer l c (narrow text q.constant y.constant y.kind))
+
+        read : HeadRead text sc n l name (ask first_name ∷ ask state_rest ∷ []) (after_name name text) w s s work work' (record { reached = a'; head = record { at = name.at; size = name.size; value = Sv.Some m; spot = q.constant.at }; named = false })
+        read = record {
           tree = tree;
           course = λ K b.
               y.course K (after_name name text b)
-              ∙ makes-it text tree_steps.begin_valued (ask state_body ∷ K) q.answer.next (keep_word (constant_word q.constant) (after_name name text b)) (opened tree b) q.answer.state (λ p. refl)
-              ∙ rw (r.word, state, y.state);
+              ∙ makes-it text tree_steps.begin_valued (ask state_body ∷ K) q.reached.next (keep_word (constant_word q.constant) (after_name name text b)) (opened tree b) q.reached.state (λ p. refl)
+              ∙ rw (r.word d, state, y.state);
           says = record {
             at = refl;
             label = refl;
@@ -209,7 +223,7 @@ module _ {l : ℕ} {text : List ℕ} (name : Word) {w : Word} {s : State} {work 
           other = other;
           actions = ap (λ (j : State). j.actions) state;
           standing = record {
-            seen = subst (Seen text) (sym r.word) y.seen;
+            seen = subst (Seen text) (sym (r.word d)) y.seen;
             short = st.short;
             whole = whole-other work work' other st.whole;
             within = ap (λ (j : State). within_ceilings (counts_of j)) state ∙ st.within;
@@ -220,10 +234,10 @@ module _ {l : ℕ} {text : List ℕ} (name : Word) {w : Word} {s : State} {work 
           };
         }
           where
-            state : a.state ≡ G.with_node_count s (s.nodes + size)
+            state : a'.state ≡ G.with_node_count s (s.nodes + size)
             state = r.state d
 
-            nodes : a.state.nodes ≡ s.nodes + size
+            nodes : a'.state.nodes ≡ s.nodes + size
             nodes = ap (λ (j : State). j.nodes) state
 
             other : other_in work' ≡ other_in work
@@ -236,8 +250,8 @@ within-one s e h =
     let t = first_three (counts_of s) e in
     sym (by-nesting (counts_of (more_states s)) t.0 t.1 (omega (arith, h)) (few-counted (counts_of s) e)) ∙ le-leb s.nesting 24 (few-open (counts_of s) e)
 
-counted : {w : Word} {s : State} {a : Answer} → Counted w s a → a.verdict ≡ Done → a.state ≡ more_states s
-counted f d = ap (λ (j : Answer). j.state) (f.done d).0
+counted : {w : Word} {s : State} {a : Reached} → Counted w s (Ok a) → a.state ≡ more_states s
+counted f = ap (λ (j : Reached). j.state) (f.done refl).0
 
 standing : {text : List ℕ} {sc : Scope} {n : KnownNames} {w : Word} {s : State} {acts : ℕ} {work : List ℕ} → s.states < 256 → Standing text sc n w s acts work → Standing text sc n w (more_states s) acts work
 standing {s = s} h st = record {
@@ -251,67 +265,62 @@ standing {s = s} h st = record {
   actions = st.actions;
 }
 
-taken : {text : List ℕ} {w : Word} {s : State} {a c : Answer} → Counted w s a → a.verdict ≡ Done → Took text w (after_word false Level a.state) a.state c → Took text w (counts_of (more_states s)) (more_states s) c
-taken {text} {w} {c = c} f d t = subst (λ (j : State). Took text w (counts_of j) j c) (counted f d) t
+taken : {text : List ℕ} {w : Word} {s : State} {a : Reached} {c : Answer} → Counted w s (Ok a) → Took text w (after_word false Level a.state) a.state c → Took text w (counts_of (more_states s)) (more_states s) c
+taken {text} {w} {c = c} f t = subst (λ (j : State). Took text w (counts_of j) j c) (counted f) t
 
-module _ {l : ℕ} {text : List ℕ} {w : Word} {s : State} {work : List ℕ} {a : Answer} (f : Counted w s a) where
-  pub head-not : {x : Head} → (a.verdict ≡ Done → ⊥) → Heads l text w s work work (record { answer = a; head = x; named = false })
-  head-not m sc n st = record { done = λ d. absurd (m d); refused = λ i d K b. f.refused i d text st.seen st.within K b; full = f.full }
+pub head-not : {l : ℕ} {text : List ℕ} {w : Word} {s : State} {work : List ℕ} {u : Unread} → Counted w s (Err u) → Heads l text w s work work (Err u)
+head-not {text = text} f sc n st = record { done = λ d. ok_err (sym d); refused = λ i d K b. f.refused i (err_as d) text st.seen st.within K b; full = λ d. f.full (err_as d) }
 
-  module _ (done : a.verdict ≡ Done) where
-    pub head_plain : (kind_no w.kind ≡ a_name → ⊥) → {x : Head} → PlainHead w.at 0 x → Heads l text w s work work (record { answer = a; head = x; named = false })
-    head_plain m {x} h = subst (λ (j : Answer). Heads l text w s work work (record { answer = j; head = x; named = false })) (sym (f.done done).0) λ sc n st. record {
-      done = λ d. record {
-        tree = plain_at (positioned w.at);
-        course = λ K b. body-starts text w st.seen s K b m;
-        says = says_plain l s.nodes st.seen st.short h;
-        stays = stays-refl (more_states s);
-        nodes = omega arith;
-        expressions = front-none s work;
-        other = refl;
-        actions = refl;
-        standing = standing (f.done done).1 st;
-      };
-      refused = λ i d. done_refused d;
-      full = λ d. done_full d;
+module _ {l : ℕ} {text : List ℕ} {w : Word} {s : State} {work : List ℕ} {a : Reached} (f : Counted w s (Ok a)) where
+  pub head_plain : (kind_no w.kind ≡ a_name → ⊥) → {x : Head} → PlainHead w.at 0 x → Heads l text w s work work (Ok (record { reached = a; head = x; named = false }))
+  head_plain m {x} h = subst (λ (j : Reached). Heads l text w s work work (Ok (record { reached = j; head = x; named = false }))) (sym (f.done refl).0) λ sc n st. tells-ok (record {
+    tree = plain_at (positioned w.at);
+    course = λ K b. body-starts text w st.seen s K b m;
+    says = says_plain l s.nodes st.seen st.short h;
+    stays = stays-refl (more_states s);
+    nodes = omega arith;
+    expressions = front-none s work;
+    other = refl;
+    actions = refl;
+    standing = standing (f.done refl).1 st;
+  })
+
+  module _ (k : kind_no w.kind ≡ a_name) where
+    pub name-not : {u : Unread} → Took text w (after_word false Level a.state) a.state (Err u) → Heads l text w s work work (Err u)
+    name-not t sc n st = record {
+      done = λ d. ok_err (sym d);
+      refused = λ i d K b. name-starts text w st.seen s K b k ∙ took-refused (taken f t) i (err_as d) (ask first_name ∷ ask state_rest ∷ K) (after_name w text b);
+      full = λ d. absurd (t.full (err_as d));
     }
 
-    module _ (k : kind_no w.kind ≡ a_name) {c : Answer} (t : Took text w (after_word false Level a.state) a.state c) where
-      pub name-not : {x : Head} → (c.verdict ≡ Done → ⊥) → Heads l text w s work work (record { answer = c; head = x; named = false })
-      name-not m sc n st = record {
-        done = λ d. absurd (m d);
-        refused = λ i d K b. name-starts text w st.seen s K b k ∙ took-refused (taken f done t) i d (ask first_name ∷ ask state_rest ∷ K) (after_name w text b);
-        full = λ d. absurd (t.full d);
-      }
+    pub head-named : {c : Reached} → Took text w (after_word false Level a.state) a.state (Ok c) → {r : Result Begun Unread} {work' : List ℕ} → AfterName l w text c.next c.state work work' r → Heads l text w s work work' r
+    head-named {c} t {r} {work'} g sc n st = record {
+      done = λ i. read _ (told.done i);
+      refused = λ i h K b. to-name K b ∙ told.refused i h K b;
+      full = told.full;
+    }
+      where
+        p : Passed text w (counts_of (more_states s)) (more_states s) c
+        p = (taken f t).done refl
 
-      pub head-named : c.verdict ≡ Done → {r : Begun} {work' : List ℕ} → AfterName l w text c.next c.state work work' r → Heads l text w s work work' r
-      head-named d {r} {work'} g sc n st = record {
-        done = λ i. read (told.done i);
-        refused = λ i h K b. to-name K b ∙ told.refused i h K b;
-        full = told.full;
-      }
-        where
-          p : Passed text w (counts_of (more_states s)) (more_states s) c
-          p = (taken f done t).done d
+        to-name : (K : Stack) (b : Built) → runs text (ask state_start ∷ K) w b s ≡ runs text (ask first_name ∷ ask state_rest ∷ K) c.next (after_name w text b) c.state
+        to-name K b = name-starts text w st.seen s K b k ∙ took-done p st.seen (ask first_name ∷ ask state_rest ∷ K) (after_name w text b)
 
-          to-name : (K : Stack) (b : Built) → runs text (ask state_start ∷ K) w b s ≡ runs text (ask first_name ∷ ask state_rest ∷ K) c.next (after_name w text b) c.state
-          to-name K b = name-starts text w st.seen s K b k ∙ took-done p st.seen (ask first_name ∷ ask state_rest ∷ K) (after_name w text b)
+        same-state : c.state ≡ more_states s
+        same-state = level-same p
 
-          same-state : c.state ≡ more_states s
-          same-state = level-same p
+        told : Tells text (ask first_name ∷ ask state_rest ∷ []) (after_name w text) c.next c.state r (HeadRead text sc n l w (ask first_name ∷ ask state_rest ∷ []) (after_name w text) c.next c.state c.state work work')
+        told = g sc n st.seen (standing-word false Level (standing (f.done refl).1 st) p) (omega (arith, st.nodes, ap (λ (j : State). j.nodes) same-state, ap (λ (j : State). j.counted) same-state, ap (λ (j : State). j.states) same-state))
 
-          told : Tells text (ask first_name ∷ ask state_rest ∷ []) (after_name w text) c.next c.state r.answer (HeadRead text sc n l w (ask first_name ∷ ask state_rest ∷ []) (after_name w text) c.next c.state c.state work work' r)
-          told = g sc n st.seen (standing-word false Level (standing (f.done done).1 st) p) (omega (arith, st.nodes, ap (λ (j : State). j.nodes) same-state, ap (λ (j : State). j.counted) same-state, ap (λ (j : State). j.states) same-state))
-
-          read : HeadRead text sc n l w (ask first_name ∷ ask state_rest ∷ []) (after_name w text) c.next c.state c.state work work' r → HeadRead text sc n l w (ask state_start ∷ []) same w s (more_states s) work work' r
-          read y = record {
-            tree = y.tree;
-            course = λ K b. to-name K b ∙ y.course K b;
-            says = subst (λ (j : State). Says text l j.nodes y.tree r.head) same-state y.says;
-            stays = subst (λ (j : State). Stays j r.answer.state) same-state y.stays;
-            nodes = y.nodes ∙ ap (λ (j : State). j.nodes + value_size (length_of l) y.tree.value) same-state;
-            expressions = y.expressions ∙ ap (λ (j : State). with_nodes (front_of j.nodes work) (value_nodes (length_of l) y.tree.value)) same-state;
-            other = y.other;
-            actions = y.actions ∙ ap (λ (j : State). j.actions) same-state;
-            standing = y.standing;
-          }
+        read : (r : Begun) → HeadRead text sc n l w (ask first_name ∷ ask state_rest ∷ []) (after_name w text) c.next c.state c.state work work' r → HeadRead text sc n l w (ask state_start ∷ []) same w s (more_states s) work work' r
+        read r y = record {
+          tree = y.tree;
+          course = λ K b. to-name K b ∙ y.course K b;
+          says = subst (λ (j : State). Says text l j.nodes y.tree r.head) same-state y.says;
+          stays = subst (λ (j : State). Stays j r.reached.state) same-state y.stays;
+          nodes = y.nodes ∙ ap (λ (j : State). j.nodes + value_size (length_of l) y.tree.value) same-state;
+          expressions = y.expressions ∙ ap (λ (j : State). with_nodes (front_of j.nodes work) (value_nodes (length_of l) y.tree.value)) same-state;
+          other = y.other;
+          actions = y.actions ∙ ap (λ (j : State). j.actions) same-state;
+          standing = y.standing;
+        }

@@ -1,9 +1,8 @@
 -- How a state begins: the counts, the rows on which it waits, and the length that its value takes.
-use Rattle.std.specs.Prelude.{cond, List, ◌∷◌, ◌++◌, ◌≡◌, ℕ, suc, ◌≤◌}
+use Rattle.std.specs.Prelude.{cond, List, ◌∷◌, ◌++◌, ◌≡◌, ℕ, suc, ◌≤◌, Err, Ok, Result}
 use Rattle.std.proofs.Math.Option.{Option, none, some}
-use Rattle.parse_step.specs.declared.Answer.{Answer}
 use Rattle.parse_step.specs.declared.State.{State}
-use Rattle.parse_step.specs.declared.ReadVerdict.TheVariants as Vd
+use Rattle.parse_step.specs.declared.Unread.TheVariants as Vd
 use Rattle.parse_step.specs.Course.{Stack, runs}
 use Rattle.language.specs.Building.{Built, with_lists, with_states}
 use Rattle.language.specs.Machine.{refused}
@@ -14,6 +13,7 @@ use Rattle.value_operators.specs.Meaning.{allowed}
 use Rattle.text_words.specs.declared.Fault.{Fault}
 use Rattle.text_words.specs.declared.Word.{Word}
 use Rattle.text_words.specs.Meaning.{faulted}
+use Rattle.parse_step.specs.declared.Unread.{Unread}
 
 -- One state more.
 abbrev pub more_states : State → State
@@ -44,10 +44,10 @@ pub record Stays (s s' : State) : Type 0 where
   pub counted : s.counted ≤ s'.counted
 
 -- From the stack P and what `pre` makes of what was built: what was read, or the machine's refusal; there is room for everything.
-pub record Tells (text : List ℕ) (P : Stack) (pre : Built → Built) (w : Word) (s : State) (a : Answer) (Read : Type 0) : Type 0 where
-  pub done : a.verdict ≡ Vd.Done → Read
-  pub refused : (f : Fault) → a.verdict ≡ Vd.Refused f → (K : Stack) (b : Built) → runs text (P ++ K) w (pre b) s ≡ refused (faulted f)
-  pub full : a.verdict ≡ Vd.Full → ⊥
+pub record Tells {A : Type 0} (text : List ℕ) (P : Stack) (pre : Built → Built) (w : Word) (s : State) (a : Result A Unread) (Read : A → Type 0) : Type 0 where
+  pub done : {x : A} → a ≡ Ok x → Read x
+  pub refused : (f : Fault) → a ≡ Err (Vd.Refused f) → (K : Stack) (b : Built) → runs text (P ++ K) w (pre b) s ≡ refused (faulted f)
+  pub full : {z : State} → a ≡ Err (Vd.Full z) → ⊥
 
 abbrev pub same : Built → Built
 same b = b

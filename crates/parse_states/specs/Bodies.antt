@@ -1,6 +1,5 @@
 -- What reading the actions of a state and its `/` answers.
 use Rattle.std.specs.Prelude.{Bool, true, false, List, [], ◌∷◌, ◌++◌, ◌≡◌, ℕ}
-use Rattle.parse_step.specs.declared.Answer.{Answer}
 use Rattle.parse_step.specs.declared.State.{State}
 use Rattle.parse_step.specs.Course.{Stack, runs}
 use Rattle.language.specs.Building.{Built, joined}
@@ -15,6 +14,8 @@ use Rattle.parse_stores.specs.Actions.{Acts, Standing, Written}
 use Rattle.text_words.specs.declared.Word.{Word}
 use Rattle.parse_states.specs.Begins.{Stays, Tells, with_list}
 use Rattle.parse_states.specs.Heads.{head_built, head_stack}
+use Rattle.parse_step.specs.Answers.{Answer}
+use Rattle.parse_step.specs.declared.Reached.{Reached}
 
 -- Reading stands where some scope is known.
 pub record Stands (text : List ℕ) (n : KnownNames) (w : Word) (s : State) (work : List ℕ) : Type 0 where
@@ -37,7 +38,7 @@ pub record RestRead (text : List ℕ) (sc : Scope) (n : KnownNames) (Q : Stack) 
 abbrev pub Rests : List ℕ → KnownNames → Word → State → List ℕ → List ℕ → Answer → Type 0
 Rests text n w s work work' r =
     (sc : Scope) → Standing text sc n w s s.actions work → (t : Actions)
-    → Tells text (ask state_rest ∷ []) (with_list t) w s r (RestRead text sc n complete w s work r.next r.state work')
+    → Tells text (ask state_rest ∷ []) (with_list t) w s r (λ x. RestRead text sc n complete w s work x.next x.state work')
 
 -- ---- The first action, whose name was taken or not.
 
@@ -54,7 +55,7 @@ Firsts named name text n w s work work' r = Acts (ask (first_ask named) ∷ []) 
 
 -- ---- The whole.
 
-pub record BodyRead (text : List ℕ) (sc : Scope) (n : KnownNames) (P : Stack) (pre : Built → Built) (w : Word) (s : State) (work work' : List ℕ) (r : Answer) : Type 0 where
+pub record BodyRead (text : List ℕ) (sc : Scope) (n : KnownNames) (P : Stack) (pre : Built → Built) (w : Word) (s : State) (work work' : List ℕ) (r : Reached) : Type 0 where
   pub tree : Actions
   pub course : (K : Stack) (b : Built) → runs text (P ++ K) w (pre b) s ≡ runs text (complete ++ K) r.next (with_list tree b) r.state
   pub written : Written sc tree s work r.state work'
@@ -63,7 +64,7 @@ pub record BodyRead (text : List ℕ) (sc : Scope) (n : KnownNames) (P : Stack) 
 
 abbrev pub Tolds : Stack → (Built → Built) → List ℕ → KnownNames → Word → State → List ℕ → List ℕ → Answer → Type 0
 Tolds P pre text n w s work work' r =
-    (sc : Scope) → Standing text sc n w s s.actions work → Tells text P pre w s r (BodyRead text sc n P pre w s work work' r)
+    (sc : Scope) → Standing text sc n w s s.actions work → Tells text P pre w s r (BodyRead text sc n P pre w s work work')
 
 -- Some actions and the `/`; and the same, or only the `/`.
 abbrev pub Lists : Bool → Word → List ℕ → KnownNames → Word → State → List ℕ → List ℕ → Answer → Type 0

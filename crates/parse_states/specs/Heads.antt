@@ -1,11 +1,10 @@
 -- What reading the head of a state answers: its label and value, and whether its first action's name was taken.
-use Rattle.std.specs.Prelude.{Bool, true, false, List, [], ◌∷◌, ◌++◌, ◌≡◌, ℕ, ◌+◌, ◌*◌, ◌<◌, ◌≤◌, length}
-use Rattle.parse_step.specs.declared.Answer.{Answer}
+use Rattle.std.specs.Prelude.{Bool, true, false, List, [], ◌∷◌, ◌++◌, ◌≡◌, ℕ, ◌+◌, ◌*◌, ◌<◌, ◌≤◌, length, Err, Ok, Result}
 use Rattle.parse_step.specs.declared.State.{State}
-use Rattle.parse_step.specs.declared.ReadVerdict.TheVariants as Vd
+use Rattle.parse_step.specs.declared.Unread.TheVariants as Vd
 use Rattle.parse_step.specs.Course.{Seen, Stack, counts_of, kind_no, runs}
 use Rattle.parse_step.specs.Taken.{constant_word}
-use Rattle.image_sections.specs.declared.states.StateValue.TheVariants as Sv
+use Rattle.std.specs.Prelude as Sv
 use Rattle.image_sections.specs.Declarations.{value_meant}
 use Rattle.language.specs.Building.{Built, keep_word}
 use Rattle.language.specs.Declaring.{tree_steps}
@@ -30,6 +29,9 @@ use Rattle.parse_states.specs.Begins.{Stays, Tells, length_of, more_states, open
 use Rattle.parse_states.specs.declared.Begun.{Begun}
 use Rattle.parse_states.specs.declared.Head.{Head}
 use Rattle.parse_states.specs.declared.heads.Bracketed.{Bracketed}
+use Rattle.parse_step.specs.Answers.{Answer}
+use Rattle.parse_step.specs.declared.Reached.{Reached}
+use Rattle.parse_step.specs.declared.Unread.{Unread}
 
 -- The words that a state may begin with.
 abbrev pub state_kinds : List ℕ
@@ -37,22 +39,22 @@ state_kinds = a_name ∷ slash ∷ goto_sign ∷ call_sign ∷ return_word ∷ i
 
 -- A state is counted at its first word, which is not yet taken.
 pub record Counted (w : Word) (s : State) (r : Answer) : Type 0 where
-  pub done : r.verdict ≡ Vd.Done → (r ≡ stayed (more_states s) w) × (s.states < 256)
-  pub refused : (f : Fault) → r.verdict ≡ Vd.Refused f → (text : List ℕ) → Seen text w → within_ceilings (counts_of s) ≡ true → (K : Stack) (b : Built) → runs text (ask state_start ∷ K) w b s ≡ refused (faulted f)
-  pub full : r.verdict ≡ Vd.Full → ⊥
+  pub done : {r' : Reached} → r ≡ Ok r' → (r' ≡ stayed (more_states s) w) × (s.states < 256)
+  pub refused : (f : Fault) → r ≡ Err (Vd.Refused f) → (text : List ℕ) → Seen text w → within_ceilings (counts_of s) ≡ true → (K : Stack) (b : Built) → runs text (ask state_start ∷ K) w b s ≡ refused (faulted f)
+  pub full : {z : State} → r ≡ Err (Vd.Full z) → ⊥
 
 -- ---- A value in parentheses, and the colon behind it.
 
 pub record BracketsRead (text : List ℕ) (w : Word) (s : State) (r : Bracketed) : Type 0 where
-  pub course : (K : Stack) (b : Built) → runs text (ask first_name ∷ ask state_rest ∷ K) w b s ≡ runs text (make tree_steps.begin_valued ∷ ask state_body ∷ K) r.answer.next (keep_word (constant_word r.constant) b) r.answer.state
-  pub state : r.answer.state ≡ s
+  pub course : (K : Stack) (b : Built) → runs text (ask first_name ∷ ask state_rest ∷ K) w b s ≡ runs text (make tree_steps.begin_valued ∷ ask state_body ∷ K) r.reached.next (keep_word (constant_word r.constant) b) r.reached.state
+  pub state : r.reached.state ≡ s
   pub kind : kind_no r.constant.kind ≡ a_constant
   pub constant : Seen text r.constant
-  pub seen : Seen text r.answer.next
+  pub seen : Seen text r.reached.next
 
-abbrev pub Brackets : List ℕ → Word → State → Bracketed → Type 0
+abbrev pub Brackets : List ℕ → Word → State → Result Bracketed Unread → Type 0
 Brackets text w s r =
-    kind_no w.kind ≡ open_paren → Seen text w → Tells text (ask first_name ∷ ask state_rest ∷ []) same w s r.answer (BracketsRead text w s r)
+    kind_no w.kind ≡ open_paren → Seen text w → Tells text (ask first_name ∷ ask state_rest ∷ []) same w s r (BracketsRead text w s)
 
 -- A word with the value that a constant gives a state.
 pub record Stated (l : ℕ) (w r : Word) : Type 0 where
@@ -90,26 +92,26 @@ head_built false name text b = b
 -- From the stack P in the state s the machine comes to the head's end; s₁ is the state with this one counted.
 pub record HeadRead (text : List ℕ) (sc : Scope) (n : KnownNames) (l : ℕ) (name : Word) (P : Stack) (pre : Built → Built) (w : Word) (s s₁ : State) (work work' : List ℕ) (r : Begun) : Type 0 where
   pub tree : T.State
-  pub course : (K : Stack) (b : Built) → runs text (P ++ K) w (pre b) s ≡ runs text (head_stack r.named ++ K) r.answer.next (head_built r.named name text (opened tree b)) r.answer.state
+  pub course : (K : Stack) (b : Built) → runs text (P ++ K) w (pre b) s ≡ runs text (head_stack r.named ++ K) r.reached.next (head_built r.named name text (opened tree b)) r.reached.state
   pub says : Says text l s₁.nodes tree r.head
-  pub stays : Stays s₁ r.answer.state
-  pub nodes : r.answer.state.nodes ≡ s₁.nodes + value_size (length_of l) tree.value
-  pub expressions : front_of r.answer.state.nodes work' ≡ with_nodes (front_of s₁.nodes work) (value_nodes (length_of l) tree.value)
+  pub stays : Stays s₁ r.reached.state
+  pub nodes : r.reached.state.nodes ≡ s₁.nodes + value_size (length_of l) tree.value
+  pub expressions : front_of r.reached.state.nodes work' ≡ with_nodes (front_of s₁.nodes work) (value_nodes (length_of l) tree.value)
   pub other : other_in work' ≡ other_in work
-  pub actions : r.answer.state.actions ≡ s₁.actions
-  pub standing : Standing text sc n r.answer.next r.answer.state r.answer.state.actions work'
+  pub actions : r.reached.state.actions ≡ s₁.actions
+  pub standing : Standing text sc n r.reached.next r.reached.state r.reached.state.actions work'
 
 -- Behind the name that a state begins with. Six records of its value are not yet written.
-abbrev pub AfterName : ℕ → Word → List ℕ → Word → State → List ℕ → List ℕ → Begun → Type 0
+abbrev pub AfterName : ℕ → Word → List ℕ → Word → State → List ℕ → List ℕ → Result Begun Unread → Type 0
 AfterName l name text w s work work' r =
     (sc : Scope) (n : KnownNames) → Seen text name → Standing text sc n w s s.actions work → s.nodes + 6 ≤ 7 * s.counted + 6 * s.states
-    → Tells text (ask first_name ∷ ask state_rest ∷ []) (after_name name text) w s r.answer (HeadRead text sc n l name (ask first_name ∷ ask state_rest ∷ []) (after_name name text) w s s work work' r)
+    → Tells text (ask first_name ∷ ask state_rest ∷ []) (after_name name text) w s r (HeadRead text sc n l name (ask first_name ∷ ask state_rest ∷ []) (after_name name text) w s s work work')
 
 -- The same by a parenthesis.
-abbrev pub Valued : ℕ → Word → List ℕ → Word → State → List ℕ → List ℕ → Begun → Type 0
+abbrev pub Valued : ℕ → Word → List ℕ → Word → State → List ℕ → List ℕ → Result Begun Unread → Type 0
 Valued l name text w s work work' r = kind_no w.kind ≡ open_paren → AfterName l name text w s work work' r
 
-abbrev pub Heads : ℕ → List ℕ → Word → State → List ℕ → List ℕ → Begun → Type 0
+abbrev pub Heads : ℕ → List ℕ → Word → State → List ℕ → List ℕ → Result Begun Unread → Type 0
 Heads l text w s work work' r =
     (sc : Scope) (n : KnownNames) → Standing text sc n w s s.actions work
-    → Tells text (ask state_start ∷ []) same w s r.answer (HeadRead text sc n l w (ask state_start ∷ []) same w s (more_states s) work work' r)
+    → Tells text (ask state_start ∷ []) same w s r (HeadRead text sc n l w (ask state_start ∷ []) same w s (more_states s) work work')

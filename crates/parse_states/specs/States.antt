@@ -1,8 +1,7 @@
 -- What reading states answers: the trees go to the text, their records to the tables.
-use Rattle.std.specs.Prelude.{List, [], ◌∷◌, ◌++◌, ◌⊎◌, ◌≡◌, ℕ, ◌+◌}
-use Rattle.parse_step.specs.declared.Answer.{Answer}
+use Rattle.std.specs.Prelude.{List, [], ◌∷◌, ◌++◌, ◌⊎◌, ◌≡◌, ℕ, ◌+◌, Err, Ok}
 use Rattle.parse_step.specs.declared.State.{State}
-use Rattle.parse_step.specs.declared.ReadVerdict.TheVariants as Vd
+use Rattle.parse_step.specs.declared.Unread.TheVariants as Vd
 use Rattle.parse_step.specs.Course.{Seen, Stack, kind_no, runs}
 use Rattle.language.specs.Building.{Built, with_text}
 use Rattle.language.specs.Kinds.{end_word, period}
@@ -17,6 +16,8 @@ use Rattle.text_words.specs.declared.Word.{Word}
 use Rattle.text_words.specs.Meaning.{faulted}
 use Rattle.parse_states.specs.Begins.{Tells, same}
 use Rattle.parse_states.specs.Written.{Written}
+use Rattle.parse_step.specs.Answers.{Answer}
+use Rattle.parse_step.specs.declared.Reached.{Reached}
 
 -- States at the end of those of a text.
 abbrev pub more_of : List T.State → Text → Text
@@ -33,30 +34,30 @@ pub record SomeRead (text : List ℕ) (sc : Scope) (n : KnownNames) (l : ℕ) (P
 abbrev pub One : ℕ → List ℕ → KnownNames → Word → State → List ℕ → List ℕ → Answer → Type 0
 One l text n w s work work' r =
     (sc : Scope) → Standing text sc n w s s.actions work
-    → Tells text (ask state_start ∷ []) same w s r (SomeRead text sc n l (ask state_start ∷ []) [] w s work r.next r.state work' × (r.state.states ≡ s.states + 1))
+    → Tells text (ask state_start ∷ []) same w s r (λ x. SomeRead text sc n l (ask state_start ∷ []) [] w s work x.next x.state work' × (x.state.states ≡ s.states + 1))
 
 -- ---- The end of the text.
 
 -- From the stack P, with nothing below it, the machine takes the rest of the text.
-pub record AllRead (text : List ℕ) (sc : Scope) (n : KnownNames) (l : ℕ) (P : Stack) (w : Word) (s : State) (work work' : List ℕ) (r : Answer) : Type 0 where
+pub record AllRead (text : List ℕ) (sc : Scope) (n : KnownNames) (l : ℕ) (P : Stack) (w : Word) (s : State) (work work' : List ℕ) (r : Reached) : Type 0 where
   pub trees : List T.State
   pub course : (b : Built) → runs text P w b s ≡ parsed (with_text b (more_of trees b.text))
   pub written : Written text sc l trees s work r.state work'
   pub standing : Standing text sc n r.next r.state r.state.actions work'
 
-pub record Ends (text : List ℕ) (P : Stack) (w : Word) (s : State) (r : Answer) (Read : Type 0) : Type 0 where
-  pub done : r.verdict ≡ Vd.Done → Read
-  pub refused : (f : Fault) → r.verdict ≡ Vd.Refused f → (b : Built) → runs text P w b s ≡ refused (faulted f)
-  pub full : r.verdict ≡ Vd.Full → ⊥
+pub record Ends (text : List ℕ) (P : Stack) (w : Word) (s : State) (r : Answer) (Read : Reached → Type 0) : Type 0 where
+  pub done : {x : Reached} → r ≡ Ok x → Read x
+  pub refused : (f : Fault) → r ≡ Err (Vd.Refused f) → (b : Built) → runs text P w b s ≡ refused (faulted f)
+  pub full : {z : State} → r ≡ Err (Vd.Full z) → ⊥
 
 -- Nothing more of the text was read than the words that end it.
-pub record Ended (text : List ℕ) (P : Stack) (w : Word) (s : State) (r : Answer) : Type 0 where
+pub record Ended (text : List ℕ) (P : Stack) (w : Word) (s : State) (r : Reached) : Type 0 where
   pub course : (b : Built) → runs text P w b s ≡ parsed b
   pub state : r.state ≡ s
   pub seen : Seen text r.next
 
 abbrev pub Finish : Stack → List ℕ → Word → State → Answer → Type 0
-Finish P text w s r = (sc : Scope) (n : KnownNames) (work : List ℕ) → Standing text sc n w s s.actions work → Ends text P w s r (Ended text P w s r)
+Finish P text w s r = (sc : Scope) (n : KnownNames) (work : List ℕ) → Standing text sc n w s s.actions work → Ends text P w s r (Ended text P w s)
 
 -- A word behind which the text ends.
 abbrev pub Ending : Word → Type 0
@@ -70,4 +71,4 @@ start_stack = ask state_start ∷ more_stack
 
 abbrev pub All : Stack → ℕ → List ℕ → KnownNames → Word → State → List ℕ → List ℕ → Answer → Type 0
 All P l text n w s work work' r =
-    (sc : Scope) → Standing text sc n w s s.actions work → Ends text P w s r (AllRead text sc n l P w s work work' r)
+    (sc : Scope) → Standing text sc n w s s.actions work → Ends text P w s r (AllRead text sc n l P w s work work')

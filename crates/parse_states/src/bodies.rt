@@ -32,18 +32,11 @@ fn rest(s: State, text: &[u8], w: Word, work: &mut Work, n: KnownNames) -> Answe
     let mut next = w;
     let mut state = s;
     loop {
-        let kind = next.kind;
-        if kinds::number(kind) != language::kinds::COMMA {
+        if kinds::kind_of(next) != language::kinds::COMMA {
             return taking::expect(text, next, state, language::kinds::SLASH, Bearing::Level);
         }
-        let comma = taking::take(text, next, state, false, Bearing::Level);
-        if parse_step::unread(comma) {
-            return comma;
-        }
-        let another = parse_actions::action(comma.state, true, text, comma.next, work, n);
-        if parse_step::unread(another) {
-            return another;
-        }
+        let comma = taking::take(text, next, state, false, Bearing::Level)?;
+        let another = parse_actions::action(comma.state, true, text, comma.next, work, n)?;
         next = another.next;
         state = another.state;
     }
@@ -62,10 +55,7 @@ fn list(
     requires { Stands text.now n w s work.old }
     ensures { Lists named name text.now n w s work.old work.new result }
 {
-    let one = first(s, named, name, text, w, work, n);
-    if parse_step::unread(one) {
-        return one;
-    }
+    let one = first(s, named, name, text, w, work, n)?;
     rest(one.state, text, one.next, work, n)
 }
 
@@ -85,8 +75,7 @@ pub fn body(
     if named {
         return list(s, true, name, text, w, work, n);
     }
-    let kind = w.kind;
-    if kinds::number(kind) == language::kinds::SLASH {
+    if kinds::kind_of(w) == language::kinds::SLASH {
         return taking::take(text, w, s, false, Bearing::Level);
     }
     list(s, false, name, text, w, work, n)

@@ -11,17 +11,16 @@ use parse_tables::{Table, names, states};
 pub fn run(first: u16, end: u16) -> Run
     ensures { result ≡ record { first = first; count = end - first } }
 {
-    let count = if end < first { 0 } else { end - first };
-    Run { first, count }
+    Run {
+        first,
+        count: end.saturating_sub(first),
+    }
 }
 
 // Adds state n; its label's word is at its place.
 pub fn close(work: &mut Work, n: u16, x: Head, actions: Run)
     ensures { n < 256 → Closed n x actions work.old work.new }
 {
-    let at = x.at;
-    let value = x.value;
-    let spot = x.spot;
-    names::add_name(work, Table::Labels, n, at, x.size);
-    states::add_state(work, n, at, x.size, value, spot, actions);
+    names::add_name(work, Table::Labels, n, x.at, x.size);
+    states::add_state(work, n, x.at, x.size, x.value, x.spot, actions);
 }

@@ -4,34 +4,34 @@ ghost use Rattle.about_grammar.specs.Following.{among};
 ghost use Rattle.parse_states.specs.Heads.{AfterName, Brackets, Counted, Heads, PlainHead, Valued, state_kinds};
 
 use crate::{Begun, Head, values};
-use image_sections::states::StateValue;
 use language::ceilings;
 use language::refusals::Refusal;
 use parse_array::Work;
-use parse_step::{Answer, Bearing, ReadVerdict, State, adding, kinds, taking};
+use parse_step::{Answer, Bearing, Reached, State, Unread, adding, kinds, taking};
 use text_words::{Position, Word, places};
 
-// A constant that was read in parentheses with the colon behind them.
+// How far a constant in parentheses was read, with the colon behind them.
 #[derive(Clone, Copy)]
 pub struct Bracketed {
-    pub answer: Answer,
+    pub reached: Reached,
     pub constant: Word,
 }
 
 // Whether a state may begin with a word of a kind.
+#[tactic(auto, using(std::proofs::lemmas::Bool::Decides::nat_tests), unfolding(about_grammar::specs::Following::among))]
 fn begins(kind: u8) -> bool
     ensures { result ≡ among kind state_kinds }
 {
-    match kind {
-        language::kinds::NAME => true,
-        language::kinds::SLASH => true,
-        language::kinds::GOTO => true,
-        language::kinds::CALL => true,
-        language::kinds::RETURN => true,
-        language::kinds::IF => true,
-        language::kinds::CASE => true,
-        _ => false,
-    }
+    matches!(
+        kind,
+        language::kinds::NAME
+            | language::kinds::SLASH
+            | language::kinds::GOTO
+            | language::kinds::CALL
+            | language::kinds::RETURN
+            | language::kinds::IF
+            | language::kinds::CASE
+    )
 }
 
 // Counts a state at its first word, which is not yet taken.
@@ -40,177 +40,123 @@ fn count(w: Word, s: State) -> Answer
 {
     if s.states < ceilings::STATES {
         let state = State {
-            facilities: s.facilities,
-            operations: s.operations,
             states: s.states + 1,
-            counted: s.counted,
-            nesting: s.nesting,
-            nodes: s.nodes,
-            actions: s.actions,
-            known: s.known,
+            ..s
         };
-        return Answer {
-            verdict: ReadVerdict::Done,
-            next: w,
-            state,
-        };
+        return Ok(Reached { next: w, state });
     }
-    let kind = w.kind;
-    if begins(kinds::number(kind)) {
-        return taking::refuse(w, s, Refusal::CeilingPassed);
+    if begins(kinds::kind_of(w)) {
+        return taking::refuse(w, Refusal::CeilingPassed);
     }
-    taking::refuse(w, s, Refusal::NoContinuation)
+    taking::refuse(w, Refusal::NoContinuation)
 }
 
 // A state without a value; its label's word is at its place.
 fn plain(at: Position, size: usize) -> Head
     ensures { PlainHead at size result }
 {
-    let spot = places::position(0);
     Head {
         at,
         size,
-        value: StateValue::None,
-        spot,
+        value: None,
+        spot: places::position(0),
     }
 }
 
 // A constant in parentheses, and the colon.
-fn in_brackets(text: &[u8], w: Word, s: State) -> Bracketed
+fn in_brackets(text: &[u8], w: Word, s: State) -> Result<Bracketed, Unread>
     ensures { Brackets text.now w s result }
 {
-    let open = taking::take(text, w, s, false, Bearing::Opens);
-    if parse_step::unread(open) {
-        return Bracketed {
-            answer: open,
-            constant: w,
-        };
-    }
-    let constant = open.next;
-    let kept = taking::keep_constant(text, constant, open.state);
-    if parse_step::unread(kept) {
-        return Bracketed {
-            answer: kept,
-            constant,
-        };
-    }
+    let open = taking::take(text, w, s, false, Bearing::Opens)?;
+    let kept = taking::keep_constant(text, open.next, open.state)?;
     let close = taking::expect(
         text,
         kept.next,
         kept.state,
         language::kinds::CLOSE_PAREN,
         Bearing::Closes,
-    );
-    if parse_step::unread(close) {
-        return Bracketed {
-            answer: close,
-            constant,
-        };
-    }
-    let answer = taking::expect(
+    )?;
+    let reached = taking::expect(
         text,
         close.next,
         close.state,
         language::kinds::COLON,
         Bearing::Level,
-    );
-    Bracketed { answer, constant }
+    )?;
+    Ok(Bracketed {
+        reached,
+        constant: open.next,
+    })
 }
 
 // A label's value, whose records are written.
-fn valued(text: &[u8], name: Word, w: Word, work: &mut Work, s: State, l: u16) -> Begun
+fn valued(
+    text: &[u8],
+    name: Word,
+    w: Word,
+    work: &mut Work,
+    s: State,
+    l: u16,
+) -> Result<Begun, Unread>
     ensures { Valued l name text.now w s work.old work.new result }
 {
-    let read = in_brackets(text, w, s);
-    let at = name.at;
-    if parse_step::unread(read.answer) {
-        let head = plain(at, name.size);
-        let answer = read.answer;
-        return Begun {
-            answer,
-            head,
-            named: false,
-        };
-    }
-    let constant = read.constant;
-    let spot = constant.at;
-    let v = values::stated(constant, l);
-    let added = adding::add_constant(work, v, read.answer.next, read.answer.state);
-    let value = StateValue::At(adding::last(added.state.nodes));
+    let read = in_brackets(text, w, s)?;
+    let v = values::stated(read.constant, l);
+    let reached = adding::add_constant(work, v, read.reached.next, read.reached.state)?;
     let head = Head {
-        at,
+        at: name.at,
         size: name.size,
-        value,
-        spot,
+        value: Some(adding::last(reached.state.nodes)),
+        spot: read.constant.at,
     };
-    Begun {
-        answer: added,
+    Ok(Begun {
+        reached,
         head,
         named: false,
-    }
+    })
 }
 
 // Behind the name that a state begins with: it was a label, or the first action's.
-fn after_name(text: &[u8], name: Word, w: Word, work: &mut Work, s: State, l: u16) -> Begun
+fn after_name(
+    text: &[u8],
+    name: Word,
+    w: Word,
+    work: &mut Work,
+    s: State,
+    l: u16,
+) -> Result<Begun, Unread>
     ensures { AfterName l name text.now w s work.old work.new result }
 {
-    let kind = w.kind;
-    let k = kinds::number(kind);
-    if k == language::kinds::OPEN_PAREN {
+    let kind = kinds::kind_of(w);
+    if kind == language::kinds::OPEN_PAREN {
         return valued(text, name, w, work, s, l);
     }
-    let at = name.at;
-    if k == language::kinds::COLON {
-        let answer = taking::take(text, w, s, false, Bearing::Level);
-        let head = plain(at, name.size);
-        return Begun {
-            answer,
-            head,
+    if kind == language::kinds::COLON {
+        return Ok(Begun {
+            reached: taking::take(text, w, s, false, Bearing::Level)?,
+            head: plain(name.at, name.size),
             named: false,
-        };
+        });
     }
-    let answer = Answer {
-        verdict: ReadVerdict::Done,
-        next: w,
-        state: s,
-    };
-    let head = plain(at, 0);
-    Begun {
-        answer,
-        head,
+    Ok(Begun {
+        reached: Reached { next: w, state: s },
+        head: plain(name.at, 0),
         named: true,
-    }
+    })
 }
 
 // The head of a state.
-pub fn head(text: &[u8], w: Word, work: &mut Work, s: State, l: u16) -> Begun
+pub fn head(text: &[u8], w: Word, work: &mut Work, s: State, l: u16) -> Result<Begun, Unread>
     ensures { Heads l text.now w s work.old work.new result }
 {
-    let counted = count(w, s);
-    let at = w.at;
-    let head = plain(at, 0);
-    if parse_step::unread(counted) {
-        return Begun {
-            answer: counted,
-            head,
+    let counted = count(w, s)?;
+    if kinds::kind_of(w) != language::kinds::NAME {
+        return Ok(Begun {
+            reached: counted,
+            head: plain(w.at, 0),
             named: false,
-        };
+        });
     }
-    let kind = w.kind;
-    if kinds::number(kind) != language::kinds::NAME {
-        return Begun {
-            answer: counted,
-            head,
-            named: false,
-        };
-    }
-    let name = taking::take(text, w, counted.state, false, Bearing::Level);
-    if parse_step::unread(name) {
-        return Begun {
-            answer: name,
-            head,
-            named: false,
-        };
-    }
+    let name = taking::take(text, w, counted.state, false, Bearing::Level)?;
     after_name(text, w, name.next, work, name.state, l)
 }

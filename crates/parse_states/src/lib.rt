@@ -1,8 +1,7 @@
 // The states of a text (the manual, 8.1), read as the machine of the grammar reads them; their records, places and labels go to their tables.
 #![tactic(auto)]
 
-use image_sections::states::StateValue;
-use parse_step::Answer;
+use parse_step::Reached;
 use text_words::Position;
 
 mod bodies;
@@ -17,14 +16,14 @@ mod values;
 pub struct Head {
     pub at: Position,
     pub size: usize,
-    pub value: StateValue,
+    pub value: Option<u16>,
     pub spot: Position,
 }
 
 // The beginning of a state, and whether it ended with the name that its first action begins with.
 #[derive(Clone, Copy)]
 pub struct Begun {
-    pub answer: Answer,
+    pub reached: Reached,
     pub head: Head,
     pub named: bool,
 }

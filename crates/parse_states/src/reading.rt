@@ -13,26 +13,19 @@ fn one(s: State, text: &[u8], w: Word, work: &mut Work, n: KnownNames, l: u16) -
     requires { Stands text.now n w s work.old }
     ensures { One l text.now n w s work.old work.new result }
 {
-    let begun = heads::head(text, w, work, s, l);
-    if parse_step::unread(begun.answer) {
-        return begun.answer;
-    }
+    let begun = heads::head(text, w, work, s, l)?;
     let read = bodies::body(
-        begun.answer.state,
+        begun.reached.state,
         begun.named,
         w,
         text,
-        begun.answer.next,
+        begun.reached.next,
         work,
         n,
-    );
-    if parse_step::unread(read) {
-        return read;
-    }
-    let head = begun.head;
+    )?;
     let actions = closing::run(s.actions, read.state.actions);
-    closing::close(work, s.states, head, actions);
-    read
+    closing::close(work, s.states, begun.head, actions);
+    Ok(read)
 }
 
 // Behind a state: others, and the end of the text. Each is counted, so that there are not too many.
@@ -43,18 +36,11 @@ fn more(s: State, text: &[u8], w: Word, work: &mut Work, n: KnownNames, l: u16) 
     let mut next = w;
     let mut state = s;
     loop {
-        let kind = next.kind;
-        let k = kinds::number(kind);
-        if k == language::kinds::PERIOD {
+        let k = kinds::kind_of(next);
+        if k == language::kinds::PERIOD || k == language::kinds::END {
             return ends::ended(text, next, state);
         }
-        if k == language::kinds::END {
-            return ends::ended(text, next, state);
-        }
-        let another = one(state, text, next, work, n, l);
-        if parse_step::unread(another) {
-            return another;
-        }
+        let another = one(state, text, next, work, n, l)?;
         next = another.next;
         state = another.state;
     }
@@ -65,9 +51,6 @@ pub fn states(s: State, text: &[u8], w: Word, work: &mut Work, n: KnownNames, l:
     requires { Stands text.now n w s work.old }
     ensures { All start_stack l text.now n w s work.old work.new result }
 {
-    let first = one(s, text, w, work, n, l);
-    if parse_step::unread(first) {
-        return first;
-    }
+    let first = one(s, text, w, work, n, l)?;
     more(first.state, text, first.next, work, n, l)
 }

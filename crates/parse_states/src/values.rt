@@ -13,18 +13,11 @@ use value_operators::{Value, lengths};
 fn state_value(bare: bool, v: Value, l: u16) -> Value
     ensures { valued result ≡ state_constant (length_of l) (S.written bare (valued v)) }
 {
-    if !bare {
-        return v;
-    }
-    if !lengths::allowed(l as u32) {
-        return v;
-    }
-    let a = v.limbs;
-    if value_limbs::sums::same(value_limbs::shifts::low(a, l as u32), a) {
-        return Value {
-            limbs: a,
-            length: l,
-        };
+    if bare
+        && lengths::allowed(l as u32)
+        && value_limbs::sums::same(value_limbs::shifts::low(v.limbs, l as u32), v.limbs)
+    {
+        return Value { length: l, ..v };
     }
     v
 }
@@ -33,15 +26,8 @@ fn state_value(bare: bool, v: Value, l: u16) -> Value
 pub fn stated(w: Word, l: u16) -> Word
     ensures { Stated l w result }
 {
-    let v = w.value;
-    let value = state_value(w.bare, v, l);
-    let kind = w.kind;
-    let at = w.at;
     Word {
-        kind,
-        at,
-        size: w.size,
-        bare: w.bare,
-        value,
+        value: state_value(w.bare, w.value, l),
+        ..w
     }
 }

@@ -8,16 +8,18 @@ use Rattle.language.specs.Describe.{Noted}
 use Rattle.language.specs.Machine.{Counts, within_ceilings}
 use Rattle.language.specs.declared.refusals.Refusal.{Refusal}
 use Rattle.text_words.specs.declared.Word.{Word}
-use Rattle.parse_step.specs.declared.Answer.{Answer}
 use Rattle.parse_step.specs.declared.Bearing.{Bearing}
 use Rattle.parse_step.specs.declared.State.{State}
-use Rattle.parse_step.specs.declared.ReadVerdict.TheVariants.{Done, Full}
 use Rattle.parse_step.specs.Course.{Seen, counts5, counts_of}
 use Rattle.parse_step.specs.Gained.{Gained, Written, eased_state}
 use Rattle.parse_step.specs.Pays.{Comes, Pays, Spends}
 use Rattle.parse_step.specs.Taken.{Expected, Keeps, Kept, Passed, Refuses, Took, Went}
-use Rattle.parse_step.proofs.Answers.{done_full, done_refused, refused_full}
 use Rattle.parse_step.proofs.Ceilings.{few-counted}
+use Rattle.std.specs.Prelude.{Err, IsErr, Ok, is_err}
+use Rattle.parse_step.specs.declared.Unread.TheVariants.{Full}
+use Rattle.parse_step.specs.Answers.{Answer}
+use Rattle.parse_step.specs.declared.Reached.{Reached}
+use Rattle.parse_step.proofs.Answers.{at_full, at_ok, not_ok, ok_err, refused_full}
 
 pub pays-refl : (s : State) → Pays 0 0 s s
 pays-refl s = record { facilities = refl; operations = refl; states = refl; actions = refl; known = refl; counted = omega arith; ceiling = λ h. h; nodes = omega arith }
@@ -63,6 +65,13 @@ module _ {text : List ℕ} {w : Word} {s : State} where
 
 -- ---- Answers.
 
+module _ {text : List ℕ} {p : ℕ} {w : Word} {s : State} where
+  pub spends-ok : {x : Reached} → (Seen text w → Comes text p 1 s x.next x.state) → Spends text p w s (Ok x)
+  spends-ok f = record { done = λ d. at_ok (λ x. Seen text w → Comes text p 1 s x.next x.state) d f; full = λ d. ok_err d }
+
+  pub spends-full : {z : State} → Pays p 0 s z → Spends text p w s (Err (Full z))
+  spends-full f = record { done = λ d. ok_err (sym d); full = λ d h. at_full (Pays p 0 s) d f }
+
 module _ {text : List ℕ} {p : ℕ} {w : Word} {s : State} {r : Answer} where
   -- An answer behind what came before it.
   pub spent : {a b c : ℕ} {w₁ : Word} {s₁ : State} → (Seen text w → Comes text a b s w₁ s₁) → Spends text c w₁ s₁ r → a + c ≤ b + p → Spends text p w s r
@@ -75,17 +84,17 @@ module _ {text : List ℕ} {p : ℕ} {w : Word} {s : State} {r : Answer} where
   spent_seen f = record { done = λ d z. (f z).done d z; full = λ d z. (f z).full d z }
 
   -- A refusal.
-  pub unspent : (r.verdict ≡ Done → ⊥) → (r.verdict ≡ Full → ⊥) → Spends text p w s r
-  unspent n m = record { done = λ d. absurd (n d); full = λ d. absurd (m d) }
+  pub unspent : IsErr r → ((z : State) → r ≡ Err (Full z) → ⊥) → Spends text p w s r
+  unspent n m = record { done = λ d. not_ok n d; full = λ d. absurd (m _ d) }
 
   pub refusal-unspent : {n : Refusal} {w₁ : Word} → Refuses w₁ n r → Spends text p w s r
-  refusal-unspent x = unspent (λ d. done_refused (sym d ∙ x.verdict)) (λ d. refused_full (sym x.verdict ∙ d))
+  refusal-unspent x = unspent (ap is_err x.refused) (λ z d. refused_full (sym x.refused ∙ d))
 
-  pub not-took : {c : Counts} {w₁ : Word} {s₁ : State} → Took text w₁ c s₁ r → (r.verdict ≡ Done → ⊥) → Spends text p w s r
-  not-took t n = unspent n t.full
+  pub not-took : {c : Counts} {w₁ : Word} {s₁ : State} → Took text w₁ c s₁ r → IsErr r → Spends text p w s r
+  not-took t n = unspent n (λ z d. t.full d)
 
-  pub unexpected : {k : ℕ} {g : Bearing} {w₁ : Word} {s₁ : State} → Expected text k g w₁ s₁ r → (r.verdict ≡ Done → ⊥) → Spends text p w s r
-  unexpected t n = unspent n t.full
+  pub unexpected : {k : ℕ} {g : Bearing} {w₁ : Word} {s₁ : State} → Expected text k g w₁ s₁ r → IsErr r → Spends text p w s r
+  unexpected t n = unspent n (λ z d. t.full d)
 
 -- ---- Words.
 
@@ -103,36 +112,37 @@ passes {s} {s'} {m} {n} f e k g h =
       nodes = omega (arith, q, k.nodes, h);
     }
 
-module _ {text : List ℕ} {w : Word} {s : State} {r : Answer} {n : ℕ} where
-  -- A word that counts pays for seven records, another for none.
-  pub counted-comes : Took text w (counts5 s (suc s.counted) n) s r → r.verdict ≡ Done → Seen text w → Comes text 0 7 s r.next r.state
-  counted-comes t d z = let x = t.done d in record { pays = passes x.fits x.counts x.kept (omega arith) (omega arith); seen = x.seen }
-
-  passed-comes : Passed text w (counts5 s s.counted n) s r → Comes text 0 0 s r.next r.state
+module _ {text : List ℕ} {w : Word} {s : State} {n : ℕ} where
+  passed-comes : {r : Reached} → Passed text w (counts5 s s.counted n) s r → Comes text 0 0 s r.next r.state
   passed-comes x = record { pays = passes x.fits x.counts x.kept (omega arith) (omega arith); seen = x.seen }
 
-  pub took-comes : Took text w (counts5 s s.counted n) s r → r.verdict ≡ Done → Seen text w → Comes text 0 0 s r.next r.state
+module _ {text : List ℕ} {w : Word} {s : State} {r : Answer} {n : ℕ} where
+  -- A word that counts pays for seven records, another for none.
+  pub counted-comes : Took text w (counts5 s (suc s.counted) n) s r → {r' : Reached} → r ≡ Ok r' → Seen text w → Comes text 0 7 s r'.next r'.state
+  counted-comes t d z = let x = t.done d in record { pays = passes x.fits x.counts x.kept (omega arith) (omega arith); seen = x.seen }
+
+  pub took-comes : Took text w (counts5 s s.counted n) s r → {r' : Reached} → r ≡ Ok r' → Seen text w → Comes text 0 0 s r'.next r'.state
   took-comes t d z = passed-comes (t.done d)
 
-pub went-pays : {w next : Word} {s : State} {r : Answer} {n : ℕ} → Went w next (counts5 s (suc s.counted) n) s r → r.verdict ≡ Done → Pays 0 7 s r.state
+pub went-pays : {w next : Word} {s : State} {r : Answer} {n : ℕ} → Went w next (counts5 s (suc s.counted) n) s r → {r' : Reached} → r ≡ Ok r' → Pays 0 7 s r'.state
 went-pays t d = let x = t.done d in passes x.fits x.counts x.kept (omega arith) (omega arith)
 
 module _ {text : List ℕ} {w : Word} {s : State} {r : Answer} where
-  pub expected-comes : {k : ℕ} {g : Bearing} → Expected text k g w s r → 3 ≤ k → r.verdict ≡ Done → Seen text w → Comes text 0 0 s r.next r.state
+  pub expected-comes : {k : ℕ} {g : Bearing} → Expected text k g w s r → 3 ≤ k → {r' : Reached} → r ≡ Ok r' → Seen text w → Comes text 0 0 s r'.next r'.state
   expected-comes t l d z = passed-comes (t.done d z l).0
 
   pub expected-spends : {k : ℕ} {g : Bearing} → Expected text k g w s r → 3 ≤ k → Spends text 1 w s r
   expected-spends t l = record { done = λ d. comes-as (expected-comes t l d) (omega arith); full = λ d. absurd (t.full d) }
 
-  pub kept-comes : Keeps text w s r → r.verdict ≡ Done → Seen text w → Comes text 0 0 s r.next r.state
+  pub kept-comes : Keeps text w s r → {r' : Reached} → r ≡ Ok r' → Seen text w → Comes text 0 0 s r'.next r'.state
   kept-comes t d z = let x = t.done d z in record { pays = subst (Pays 0 0 s) (sym x.state) (pays-refl s); seen = x.seen }
 
   -- Nothing more was read, or no room is left.
-  pub stays-spends : r ≡ record { verdict = Done; next = w; state = s } → Spends text 1 w s r
-  stays-spends e = rw e (record { done = λ d. comes-as begins (omega arith); full = λ d. done_full d })
+  pub stays-spends : r ≡ Ok (record { next = w; state = s }) → Spends text 1 w s r
+  stays-spends e = rw e (spends-ok (comes-as {p = 1} begins (omega arith)))
 
-  pub full-spends : r ≡ record { verdict = Full; next = w; state = s } → Spends text 0 w s r
-  full-spends e = rw e (record { done = λ d. done_full (sym d); full = λ d z. pays-refl s })
+  pub full-spends : r ≡ Err (Full s) → Spends text 0 w s r
+  full-spends e = rw e (spends-full (pays-refl s))
 
 -- ---- Records.
 
@@ -145,6 +155,6 @@ module _ {text : List ℕ} {next : Word} {s : State} {w w' : List ℕ} {r : Answ
 
   pub written-spends : {ns : List Noted} {size : ℕ} → Written ns size next s w w' r → size ≤ 6 → Spends text 7 next s r
   written-spends g h = record {
-    done = λ d z. record { pays = nodes-paid g.kept (omega (arith, g.most, h)); seen = subst (Seen text) (sym g.word) z };
-    full = λ d z. nodes-paid g.kept (omega (arith, g.most, h));
+    done = λ d z. record { pays = nodes-paid (g.state d) (omega (arith, h)); seen = subst (Seen text) (sym (g.word d)) z };
+    full = λ d z. nodes-paid (g.kept d) (omega (arith, g.most d, h));
   }

@@ -24,17 +24,20 @@ use Rattle.parse_tables.proofs.NamesGrown.{facilities-other}
 use Rattle.parse_tables.specs.Names.{facility_names}
 use Rattle.parse_array.proofs.NodesAdded.{nodes-append}
 use Rattle.parse_array.specs.Held.{Held, held, other_in, with_bytes, with_nodes}
-use Rattle.parse_step.specs.declared.Answer.{Answer}
 use Rattle.parse_step.specs.declared.Bearing.{Bearing}
 use Rattle.parse_step.specs.declared.State.{State}
-use Rattle.parse_step.specs.declared.ReadVerdict.TheVariants.{Done}
+use Rattle.parse_array.specs.Layout.{most_nodes}
 use Rattle.parse_step.specs.Course.{Seen, Stack, ahead, bearing_of, counts_of, runs, runs_on}
 use Rattle.parse_step.specs.Gained.{Behind, Gained}
 use Rattle.parse_step.specs.Says.{Here, Pending, Read, Says, pushed}
 use Rattle.parse_step.specs.Taken.{Expected, Kept, Passed, Refuses, Took}
-use Rattle.parse_step.proofs.Answers.{done_refused, refused_full, same-fault}
 use Rattle.parse_step.proofs.NodeGained.{gained-node}
 use Rattle.parse_step.proofs.TakenWords.{on_taken, took-refused}
+use Rattle.parse_step.specs.declared.Unread.TheVariants.{Full}
+use Rattle.parse_step.specs.Answers.{Answer}
+use Rattle.parse_step.specs.declared.Reached.{Reached}
+use Rattle.parse_step.proofs.Answers.{at_full, at_ok, not_ok, ok_err, refused_full, same-fault}
+use Rattle.std.specs.Prelude.{Err, IsErr, Ok}
 
 -- ---- Steps of the machine that take no word.
 
@@ -50,7 +53,7 @@ eases text K (v ∷ vs) b c = refl
 -- ---- Where parsing stands.
 
 module _ {text : List ℕ} {sc : Scope} where
-  pub here-passed : {w : Word} {c : Counts} {s : State} {r : Answer} {work : List ℕ} → Here text sc w s work → Passed text w c s r → Here text sc r.next r.state work
+  pub here-passed : {w : Word} {c : Counts} {s : State} {r : Reached} {work : List ℕ} → Here text sc w s work → Passed text w c s r → Here text sc r.next r.state work
   here-passed {work = work} h p = record { seen = p.seen; names = h.names ∙ ap (facility_names text work) (sym p.kept.known) }
 
 pub pending-kept : {sc : Scope} {h : Held} {base : ℕ} {t : Expression} {s s' : State} {work : List ℕ} → Pending sc h base t s work → Kept s s' → Pending sc h base t s' work
@@ -60,14 +63,23 @@ other-kept : (n m : ℕ) (w₁ w₂ bs ps : List ℕ) → held m w₂ ≡ with_b
 unfolding held
 other-kept n m w₁ w₂ bs ps e = ap (λ (x : Held). x.other) e
 
+-- ---- Answers that are known.
+
+module _ {text : List ℕ} {sc : Scope} {P Q : Stack} {pre : Built → Built} {h : Held} {base depth : ℕ} {w : Word} {s : State} {work : List ℕ} where
+  pub says-ok : {x : Reached} → Read text sc P Q pre h base depth w s x work → Says text sc P Q pre h base depth w s (Ok x) work
+  says-ok y = record { done = λ d. at_ok (λ x. Read text sc P Q pre h base depth w s x work) d y; refused = λ f d. ok_err d; full = λ d. ok_err d }
+
+  pub says-full : {z : State} → most_nodes ≤ z.nodes → Says text sc P Q pre h base depth w s (Err (Full z)) work
+  says-full m = record { done = λ d. ok_err (sym d); refused = λ f d. refused_full (sym d); full = λ d. at_full (λ z. most_nodes ≤ z.nodes) d m }
+
 -- ---- Answers handed on.
 
 module _ {text : List ℕ} {sc : Scope} {P Q : Stack} {pre : Built → Built} {h : Held} {base depth : ℕ} {w : Word} {s : State} {r : Answer} {work : List ℕ} where
   -- A refusal, or an array that is full, behind a course.
-  pub passed : {P₁ Q₁ : Stack} {pre₁ : Built → Built} {h₁ : Held} {base₁ depth₁ : ℕ} {w₁ : Word} {s₁ : State} → Says text sc P₁ Q₁ pre₁ h₁ base₁ depth₁ w₁ s₁ r work → (r.verdict ≡ Done → ⊥)
+  pub passed : {P₁ Q₁ : Stack} {pre₁ : Built → Built} {h₁ : Held} {base₁ depth₁ : ℕ} {w₁ : Word} {s₁ : State} → Says text sc P₁ Q₁ pre₁ h₁ base₁ depth₁ w₁ s₁ r work → IsErr r
       → (M : Stack → Stack) (mid : Built → Built) → ((K : Stack) (b : Built) → runs text (P ++ K) w (pre b) s ≡ runs text (P₁ ++ M K) w₁ (pre₁ (mid b)) s₁) → Says text sc P Q pre h base depth w s r work
   passed x n M mid g = record {
-    done = λ d. absurd (n d);
+    done = λ d. not_ok n d;
     refused = λ f d K b. g K b ∙ x.refused f d (M K) (mid b);
     full = x.full;
   }
@@ -82,19 +94,19 @@ module _ {text : List ℕ} {sc : Scope} {P Q : Stack} {pre : Built → Built} {h
   }
 
   -- A word that is not taken.
-  pub not_taken : {w₁ : Word} {c : Counts} {s₁ : State} → Took text w₁ c s₁ r → (r.verdict ≡ Done → ⊥) → (M : Stack → Stack) (mid : Built → Built)
+  pub not_taken : {w₁ : Word} {c : Counts} {s₁ : State} → Took text w₁ c s₁ r → IsErr r → (M : Stack → Stack) (mid : Built → Built)
       → ((K : Stack) (b : Built) → runs text (P ++ K) w (pre b) s ≡ on_taken text w₁ (M K) (mid b) c) → Says text sc P Q pre h base depth w s r work
   not_taken t n M mid g = record {
-    done = λ d. absurd (n d);
+    done = λ d. not_ok n d;
     refused = λ f d K b. g K b ∙ took-refused t f d (M K) (mid b);
     full = λ d. absurd (t.full d);
   }
 
   -- A word that does not come.
-  pub not-expected : {kind : ℕ} {a : Bearing} {w₁ : Word} {s₁ : State} → Expected text kind a w₁ s₁ r → (r.verdict ≡ Done → ⊥) → Seen text w₁ → 3 ≤ kind → (M : Stack → Stack) (mid : Built → Built)
+  pub not-expected : {kind : ℕ} {a : Bearing} {w₁ : Word} {s₁ : State} → Expected text kind a w₁ s₁ r → IsErr r → Seen text w₁ → 3 ≤ kind → (M : Stack → Stack) (mid : Built → Built)
       → ((K : Stack) (b : Built) → runs text (P ++ K) w (pre b) s ≡ runs text (word kind (bearing_of a) ∷ M K) w₁ (mid b) s₁) → Says text sc P Q pre h base depth w s r work
   not-expected t n z l M mid g = record {
-    done = λ d. absurd (n d);
+    done = λ d. not_ok n d;
     refused = λ f d K b. g K b ∙ t.refused f d z l (M K) (mid b);
     full = λ d. absurd (t.full d);
   }
@@ -102,9 +114,9 @@ module _ {text : List ℕ} {sc : Scope} {P Q : Stack} {pre : Built → Built} {h
   -- A word refused.
   pub refuses : {w₁ : Word} (n : Refusal) → Refuses w₁ n r → ((K : Stack) (b : Built) → runs text (P ++ K) w (pre b) s ≡ refused (fault (positioned w₁.at) n)) → Says text sc P Q pre h base depth w s r work
   refuses n x g = record {
-    done = λ d. done_refused (sym d ∙ x.verdict);
-    refused = λ f d K b. g K b ∙ ap refused (sym (ap faulted (same-fault (sym d ∙ x.verdict)) ∙ x.is));
-    full = λ d. refused_full (sym x.verdict ∙ d);
+    done = λ d. ok_err (sym d ∙ x.refused);
+    refused = λ f d K b. g K b ∙ ap refused (sym (ap faulted (same-fault (sym d ∙ x.refused)) ∙ x.is));
+    full = λ d. refused_full (sym x.refused ∙ d);
   }
 
   -- ---- A phrase that ends with a record.
@@ -119,7 +131,7 @@ module _ {text : List ℕ} {sc : Scope} {P Q : Stack} {pre : Built → Built} {h
     full = g.full;
   }
     where
-      read : Behind w₁ s₁ bs ps work₁ work r → Read text sc P Q pre h base depth w s r work
+      read : {r' : Reached} → Behind w₁ s₁ bs ps work₁ work r' → Read text sc P Q pre h base depth w s r' work
       read y = record {
         tree = t;
         course = λ K b. c K b ∙ rw (y.word, y.state);
@@ -139,6 +151,6 @@ module _ {text : List ℕ} {sc : Scope} {P Q : Stack} {pre : Built → Built} {h
       (e₁ : nodes_of sc base t ≡ ns ++ x ∷ []) (e₂ : expression_size t ≡ m + 1) (e₃ : held s₁.nodes work₁ ≡ with_nodes h ns) (e₄ : s₁.nodes ≡ base + m)
       (e₅ : bs ≡ node_bytes x.node) (e₆ : ps ≡ node_beside_bytes x.node x.places) (e₇ : s₁.nesting ≡ depth) (e₈ : Here text sc w₁ s₁ work₁)
       (c : (K : Stack) (b : Built) → runs text (P ++ K) w (pre b) s ≡ runs text (Q ++ K) w₁ (pushed t b) s₁)
-      → (y : Says text sc P Q pre h base depth w s r work) × ((d : r.verdict ≡ Done) → (y.done d).tree ≡ t)
+      → (y : Says text sc P Q pre h base depth w s r work) × ((r' : Reached) (d : r ≡ Ok r') → (y.done d).tree ≡ t)
   unfolding made
-  made_as t ns x m g e₁ e₂ e₃ e₄ e₅ e₆ e₇ e₈ c = (made t ns x m g e₁ e₂ e₃ e₄ e₅ e₆ e₇ e₈ c, λ d. refl)
+  made_as t ns x m g e₁ e₂ e₃ e₄ e₅ e₆ e₇ e₈ c = (made t ns x m g e₁ e₂ e₃ e₄ e₅ e₆ e₇ e₈ c, λ r' d. refl)

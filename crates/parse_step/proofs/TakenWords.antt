@@ -18,13 +18,15 @@ use Rattle.text_words.specs.declared.Fault.{Fault}
 use Rattle.text_words.specs.declared.Word.{Word}
 use Rattle.text_words.specs.Meaning.{Next, faulted, positioned}
 use Rattle.parse_step.specs.declared.Bearing as B
-use Rattle.parse_step.specs.declared.Answer.{Answer}
 use Rattle.parse_step.specs.declared.State.{State}
-use Rattle.parse_step.specs.declared.ReadVerdict.TheVariants.{Done, Refused}
 use Rattle.parse_step.specs.Course.{Seen, Stack, ahead, bearing_of, behind, counts5, counts_of, kind_no, runs, runs_on}
-use Rattle.parse_step.specs.Taken.{Expected, Follows, Keeps, Passed, Refuses, Took, Went, WentOn, after_word, colon_first, constant_word, ends_ahead}
-use Rattle.parse_step.proofs.Answers.{done_full, done_refused, refused_full, same-fault}
+use Rattle.parse_step.specs.Taken.{Expected, Follows, Keeps, KeptOn, Passed, Refuses, Took, Went, WentOn, after_word, colon_first, constant_word, ends_ahead}
 use Rattle.parse_step.proofs.Looking.{View, begun, constant-ahead, ended, next-ahead, next-seen, sign-ahead, view}
+use Rattle.parse_step.specs.declared.Unread.TheVariants.{Refused}
+use Rattle.parse_step.specs.Answers.{Answer}
+use Rattle.parse_step.specs.declared.Reached.{Reached}
+use Rattle.parse_step.proofs.Answers.{at_ok, ok_err, refused_full, same-fault}
+use Rattle.std.specs.Prelude.{Err, Ok}
 
 -- The machine has taken the word with these counts, unless they pass a ceiling.
 abbrev pub on_taken : List ℕ → Word → Stack → Built → Counts → Parsed Built
@@ -41,11 +43,11 @@ taken-on text p K vs b c = go (within_ceilings c)
     go true = refl
     go false = refl
 
-module _ {text : List ℕ} {w : Word} {c : Counts} {s : State} {r : Answer} where
-  pub took-done : Passed text w c s r → Seen text w → (K : Stack) (b : Built) → on_taken text w K b c ≡ runs text K r.next b r.state
+module _ {text : List ℕ} {w : Word} {c : Counts} {s : State} where
+  pub took-done : {r : Reached} → Passed text w c s r → Seen text w → (K : Stack) (b : Built) → on_taken text w K b c ≡ runs text K r.next b r.state
   took-done p z K b = rw (p.fits, p.words z, p.counts)
 
-  pub took-refused : Took text w c s r → (f : Fault) → r.verdict ≡ Refused f → (K : Stack) (b : Built) → on_taken text w K b c ≡ refused (faulted f)
+  pub took-refused : {r : Answer} → Took text w c s r → (f : Fault) → r ≡ Err (Refused f) → (K : Stack) (b : Built) → on_taken text w K b c ≡ refused (faulted f)
   took-refused t f e K b = rw ((t.refused f e).0, (t.refused f e).1)
 
 -- ---- A word of a kind that must come.
@@ -71,24 +73,24 @@ pub followed : {text : List ℕ} {w n : Word} (end : ℕ) → (w.at.place + w.si
 followed {w = w} end g x = record { words = λ z. next-ahead w end (g z.next.within) x; seen = next-seen end x }
 
 pub went_on : {w n : Word} {s : State} {c : Counts} (counted nesting : ℕ) → within_ceilings c ≡ true → c ≡ counts5 s counted nesting → nesting ≤ 24
-    → Went w n c s (record { verdict = Done; next = n; state = record { facilities = s.facilities; operations = s.operations; states = s.states; counted = counted; nesting = nesting; nodes = s.nodes; actions = s.actions; known = s.known } })
-went_on counted nesting f e d = record {
-  done = λ q. record { fits = f; counts = sym e; deep = d; kept = record { nodes = refl; actions = refl; known = refl }; word = refl };
-  refused = λ g q. done_refused q;
-  full = λ q. done_full q;
+    → Went w n c s (Ok (record { next = n; state = record { facilities = s.facilities; operations = s.operations; states = s.states; counted = counted; nesting = nesting; nodes = s.nodes; actions = s.actions; known = s.known } }))
+went_on {w} {n} {s} {c} counted nesting f e d = record {
+  done = λ q. at_ok (WentOn w n c s) q (record { fits = f; counts = sym e; deep = d; kept = record { nodes = refl; actions = refl; known = refl }; word = refl });
+  refused = λ g q. ok_err q;
+  full = λ q. ok_err q;
 }
 
 pub went-not : {w n : Word} {c : Counts} {s : State} {r : Answer} → Refuses w CeilingPassed r → within_ceilings c ≡ false → Went w n c s r
 went-not x e = record {
-  done = λ d. done_refused (sym d ∙ x.verdict);
-  refused = λ f d. (e, ap faulted (same-fault (sym d ∙ x.verdict)) ∙ x.is);
-  full = λ d. refused_full (sym x.verdict ∙ d);
+  done = λ d. ok_err (sym d ∙ x.refused);
+  refused = λ f d. (e, ap faulted (same-fault (sym d ∙ x.refused)) ∙ x.is);
+  full = λ d. refused_full (sym x.refused ∙ d);
 }
 
 pub took-next : {text : List ℕ} {w n : Word} {c : Counts} {s : State} {r : Answer} → Went w n c s r → Follows text w n → Took text w c s r
 took-next {text} {w} {n} {c} {s} {r} x y = record { done = λ d. passes (x.done d); refused = x.refused; full = x.full }
   where
-    passes : WentOn w n c s r → Passed text w c s r
+    passes : {r' : Reached} → WentOn w n c s r' → Passed text w c s r'
     passes p = record {
       fits = p.fits;
       counts = p.counts;
@@ -100,6 +102,8 @@ took-next {text} {w} {n} {c} {s} {r} x y = record { done = λ d. passes (x.done 
 
 pub expected-taken : {text : List ℕ} {w : Word} {s : State} {r : Answer} (kind : ℕ) (g : B.Bearing) → kind_no w.kind ≡ kind → Took text w (after_word false g s) s r → Expected text kind g w s r
 expected-taken {text} {w} {s} kind g e t = record {
+  came = λ h. t;
+  missed = λ h. absurd (h e);
   done = λ d z h. (t.done d, λ K x. word-taken text w kind (bearing_of g) e h K x (counts_of s) ∙ took-done (t.done d) z K x);
   refused = λ f d z h K x. word-taken text w kind (bearing_of g) e h K x (counts_of s) ∙ took-refused t f d K x;
   full = t.full;
@@ -107,9 +111,11 @@ expected-taken {text} {w} {s} kind g e t = record {
 
 pub expected-not : {text : List ℕ} {w : Word} {s : State} {r : Answer} (kind : ℕ) (g : B.Bearing) → (kind_no w.kind ≡ kind → ⊥) → Refuses w NoContinuation r → Expected text kind g w s r
 expected-not {text} {w} {s} kind g h x = record {
-  done = λ d z l. done_refused (sym d ∙ x.verdict);
-  refused = λ f d z l K b. word-stuck text w kind (bearing_of g) z h K b (counts_of s) ∙ ap refused (sym (ap faulted (same-fault (sym d ∙ x.verdict)) ∙ x.is));
-  full = λ d. refused_full (sym x.verdict ∙ d);
+  came = λ e. absurd (h e);
+  missed = λ k. x;
+  done = λ d z l. ok_err (sym d ∙ x.refused);
+  refused = λ f d z l K b. word-stuck text w kind (bearing_of g) z h K b (counts_of s) ∙ ap refused (sym (ap faulted (same-fault (sym d ∙ x.refused)) ∙ x.is));
+  full = λ d. refused_full (sym x.refused ∙ d);
 }
 
 pub same-counts : (s : State) {a b m n : ℕ} → a ≡ m → b ≡ n → counts5 s a b ≡ counts5 s m n
@@ -126,12 +132,12 @@ keep-stuck text w z h K b c = go (view text w z)
     go (ended e p q) = rw (e, p)
     go (begun v e q p) = rw (e, q, ne_eqb (kind_no w.kind) a_constant h, p)
 
-pub keeps : {text : List ℕ} {w n : Word} {s : State} → kind_no w.kind ≡ a_constant → Follows text w n → Keeps text w s (record { verdict = Done; next = n; state = s })
+pub keeps : {text : List ℕ} {w n : Word} {s : State} → kind_no w.kind ≡ a_constant → Follows text w n → Keeps text w s (Ok (record { next = n; state = s }))
 unfolding runs_on run feed
 keeps {text} {w} {n} {s} e x = record {
-  done = λ d z. record { course = course z; kind = e; state = refl; seen = x.seen };
-  refused = λ f d. done_refused d;
-  full = λ d. done_full d;
+  done = λ d z. at_ok (KeptOn text w s) d (record { course = course z; kind = e; state = refl; seen = x.seen });
+  refused = λ f d. ok_err d;
+  full = λ d. ok_err d;
 }
   where
     course : Seen text w → (K : Stack) (b : Built) → runs text (keep a_constant ∷ K) w b s ≡ runs text K n (keep_word (constant_word w) b) s
@@ -139,9 +145,9 @@ keeps {text} {w} {n} {s} e x = record {
 
 pub keeps-not : {text : List ℕ} {w : Word} {s : State} {r : Answer} → (kind_no w.kind ≡ a_constant → ⊥) → Refuses w NoContinuation r → Keeps text w s r
 keeps-not {text} {w} {s} {r} h x = record {
-  done = λ d z. done_refused (sym d ∙ x.verdict);
-  refused = λ f d z K b. keep-stuck text w z h K b (counts_of s) ∙ ap refused (sym (ap faulted (same-fault (sym d ∙ x.verdict)) ∙ x.is));
-  full = λ d. refused_full (sym x.verdict ∙ d);
+  done = λ d z. ok_err (sym d ∙ x.refused);
+  refused = λ f d z K b. keep-stuck text w z h K b (counts_of s) ∙ ap refused (sym (ap faulted (same-fault (sym d ∙ x.refused)) ∙ x.is));
+  full = λ d. refused_full (sym x.refused ∙ d);
 }
 
 -- ---- A constant and a colon.

@@ -8,8 +8,9 @@ ghost use Rattle.text_words.specs.Meaning.{positioned};
 ghost use Rattle.parse_array.specs.Held.{fields};
 ghost use Rattle.parse_step.specs.Gained.{Gained, Written, eased_state, with_action_count, with_node_count};
 
-use crate::{Answer, ReadVerdict, State};
+use crate::{Answer, Reached, State, Unread};
 use image_records::nodes::Node;
+use parse_array::layout::MOST_NODES;
 use parse_array::nodes::Beside;
 use parse_array::{Work, constants, nodes};
 use text_words::Word;
@@ -18,57 +19,33 @@ use text_words::Word;
 pub fn last(n: u16) -> u16
     ensures { result ≡ n - 1 }
 {
-    if n == 0 { 0 } else { n - 1 }
+    n.saturating_sub(1)
 }
 
 // The same state with another number of expression records.
 pub fn with_nodes(s: State, nodes: u16) -> State
     ensures { result ≡ with_node_count s nodes }
 {
-    State {
-        facilities: s.facilities,
-        operations: s.operations,
-        states: s.states,
-        counted: s.counted,
-        nesting: s.nesting,
-        nodes,
-        actions: s.actions,
-        known: s.known,
-    }
+    State { nodes, ..s }
 }
 
 // The same state with another number of action records.
 pub fn with_actions(s: State, actions: u16) -> State
     ensures { result ≡ with_action_count s actions }
 {
-    State {
-        facilities: s.facilities,
-        operations: s.operations,
-        states: s.states,
-        counted: s.counted,
-        nesting: s.nesting,
-        nodes: s.nodes,
-        actions,
-        known: s.known,
-    }
+    State { actions, ..s }
 }
 
 // Adds an expression's record; the word after it has been seen.
 pub fn add(work: &mut Work, next: Word, s: State, node: Node, v: u64, beside: Beside) -> Answer
     ensures { Gained next s (node_bytes (meant v node)) (fields beside) work.old work.new result }
 {
-    if nodes::add_node(work, s.nodes, node, v, beside) {
-        let state = with_nodes(s, s.nodes + 1);
-        return Answer {
-            verdict: ReadVerdict::Done,
+    match nodes::add_node(work, s.nodes, node, v, beside) {
+        Some(nodes) => Ok(Reached {
             next,
-            state,
-        };
-    }
-    Answer {
-        verdict: ReadVerdict::Full,
-        next,
-        state: s,
+            state: with_nodes(s, nodes),
+        }),
+        None => Err(Unread::Full(s)),
     }
 }
 
@@ -76,21 +53,12 @@ pub fn add(work: &mut Work, next: Word, s: State, node: Node, v: u64, beside: Be
 pub fn add_constant(work: &mut Work, w: Word, next: Word, s: State) -> Answer
     ensures { Written (constant_nodes (valued w.value) (positioned w.at)) (constant_size (valued w.value)) next s work.old work.new result }
 {
-    let v = w.value;
-    let at = w.at;
-    let room = constants::add_constant(work, s.nodes, v, at);
-    let state = with_nodes(s, room.nodes);
-    if room.enough {
-        return Answer {
-            verdict: ReadVerdict::Done,
+    match constants::add_constant(work, s.nodes, w.value, w.at) {
+        Some(nodes) => Ok(Reached {
             next,
-            state,
-        };
-    }
-    Answer {
-        verdict: ReadVerdict::Full,
-        next,
-        state,
+            state: with_nodes(s, nodes),
+        }),
+        None => Err(Unread::Full(with_nodes(s, s.nodes.max(MOST_NODES)))),
     }
 }
 
@@ -99,13 +67,7 @@ pub fn eased(s: State) -> State
     ensures { result ≡ eased_state s }
 {
     State {
-        facilities: s.facilities,
-        operations: s.operations,
-        states: s.states,
-        counted: s.counted,
         nesting: last(s.nesting),
-        nodes: s.nodes,
-        actions: s.actions,
-        known: s.known,
+        ..s
     }
 }

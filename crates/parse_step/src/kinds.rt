@@ -20,6 +20,5 @@ pub fn number(kind: WordKind) -> u8
 pub fn kind_of(w: Word) -> u8
     ensures { result ≡ kind_no w.kind }
 {
-    let kind = w.kind;
-    number(kind)
+    number(w.kind)
 }

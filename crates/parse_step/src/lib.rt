@@ -1,9 +1,6 @@
 // The course of parsing: what has been counted and written so far, a word taken, a record added; each as the machine of the grammar does it.
 #![tactic(auto)]
 
-ghost use Rattle.std.specs.Prelude.{false, true, ◌≡◌};
-ghost use Rattle.parse_step.specs.declared.ReadVerdict.TheVariants.{Done};
-
 use text_words::{Fault, Word};
 
 pub mod adding;
@@ -23,21 +20,21 @@ pub struct State {
     pub known: u16,
 }
 
-// What became of a part of the text: it was read, it is refused, or the working array is full.
+// How far a part of the text was read: the next word, and the state there.
 #[derive(Clone, Copy)]
-pub enum ReadVerdict {
-    Done,
-    Refused(Fault),
-    Full,
-}
-
-// The verdict, and where it is done the next word and the state there.
-#[derive(Clone, Copy)]
-pub struct Answer {
-    pub verdict: ReadVerdict,
+pub struct Reached {
     pub next: Word,
     pub state: State,
 }
+
+// Why it was not read: it is refused, or the working array is full in this state.
+#[derive(Clone, Copy)]
+pub enum Unread {
+    Refused(Fault),
+    Full(State),
+}
+
+pub type Answer = Result<Reached, Unread>;
 
 // How a word bears on nesting.
 #[derive(Clone, Copy)]
@@ -45,15 +42,4 @@ pub enum Bearing {
     Level,
     Opens,
     Closes,
-}
-
-// Whether a part of the text was not read: then its answer is the whole's.
-pub fn unread(a: Answer) -> bool
-    ensures { (result ≡ false → a.verdict ≡ Done) × (result ≡ true → a.verdict ≡ Done → ⊥) }
-{
-    let verdict = a.verdict;
-    let ReadVerdict::Done = verdict else {
-        return true;
-    };
-    false
 }

@@ -4,22 +4,16 @@ ghost use Rattle.language.specs.Machine as L;
 ghost use Rattle.parse_step.specs.Course.{Seen, ahead, borne, counts5};
 ghost use Rattle.parse_step.specs.Taken.{Expected, Follows, Keeps, Refuses, Took, Went, after_word, ends_ahead, tally_of};
 
-use crate::{Answer, Bearing, ReadVerdict, State, kinds};
+use crate::{Answer, Bearing, Reached, State, Unread, kinds};
 use language::ceilings;
 use language::refusals::Refusal;
 use text_words::{Fault, Word, next, places};
 
 // A refusal of a word.
-pub fn refuse(w: Word, s: State, refusal: Refusal) -> Answer
+pub fn refuse<T>(w: Word, refusal: Refusal) -> Result<T, Unread>
     ensures { Refuses w refusal result }
 {
-    let at = w.at;
-    let f = Fault { at, refusal };
-    Answer {
-        verdict: ReadVerdict::Refused(f),
-        next: w,
-        state: s,
-    }
+    Err(Unread::Refused(Fault { at: w.at, refusal }))
 }
 
 // With one more there may be 65,536 counted or open, so that they are compared in 32 bits.
@@ -31,16 +25,11 @@ const DEEPEST: u32 = ceilings::NESTING as u32;
 fn fits(s: State, counted: u32, nesting: u32) -> bool
     ensures { result ≡ L.within_ceilings (counts5 s counted nesting) }
 {
-    if s.facilities > ceilings::FACILITIES {
-        return false;
-    }
-    if s.operations > ceilings::OPERATIONS {
-        return false;
-    }
-    if s.states > ceilings::STATES {
-        return false;
-    }
-    if counted > MOST_COUNTED {
+    if s.facilities > ceilings::FACILITIES
+        || s.operations > ceilings::OPERATIONS
+        || s.states > ceilings::STATES
+        || counted > MOST_COUNTED
+    {
         return false;
     }
     nesting <= DEEPEST
@@ -50,7 +39,11 @@ fn fits(s: State, counted: u32, nesting: u32) -> bool
 fn tally(n: u16, counts: bool) -> u32
     ensures { result ≡ tally_of n counts }
 {
-    if counts { n as u32 + 1 } else { n as u32 }
+    if counts {
+        u32::from(n) + 1
+    } else {
+        u32::from(n)
+    }
 }
 
 // How many are open after a word.
@@ -58,14 +51,9 @@ fn bear(n: u16, bearing: Bearing) -> u32
     ensures { result ≡ borne bearing n }
 {
     match bearing {
-        Bearing::Level => n as u32,
-        Bearing::Opens => n as u32 + 1,
-        Bearing::Closes => {
-            if n == 0 {
-                return 0;
-            }
-            n as u32 - 1
-        }
+        Bearing::Level => u32::from(n),
+        Bearing::Opens => u32::from(n) + 1,
+        Bearing::Closes => u32::from(n).saturating_sub(1),
     }
 }
 
@@ -73,12 +61,8 @@ fn bear(n: u16, bearing: Bearing) -> u32
 fn end_of(text: &[u8], w: Word) -> usize
     ensures { w.at.place + w.size ≤ length text.now → result ≡ w.at.place + w.size }
 {
-    let at = w.at;
-    let place = places::place(at);
-    if text.len() < place {
-        return text.len();
-    }
-    if text.len() - place < w.size {
+    let place = places::place(w.at);
+    if text.len() < place || text.len() - place < w.size {
         return text.len();
     }
     place + w.size
@@ -99,22 +83,13 @@ pub fn pass(w: Word, next: Word, s: State, counts: bool, bearing: Bearing) -> An
     let nesting = bear(s.nesting, bearing);
     if fits(s, counted, nesting) {
         let state = State {
-            facilities: s.facilities,
-            operations: s.operations,
-            states: s.states,
             counted: counted as u16,
             nesting: nesting as u16,
-            nodes: s.nodes,
-            actions: s.actions,
-            known: s.known,
+            ..s
         };
-        return Answer {
-            verdict: ReadVerdict::Done,
-            next,
-            state,
-        };
+        return Ok(Reached { next, state });
     }
-    refuse(w, s, Refusal::CeilingPassed)
+    refuse(w, Refusal::CeilingPassed)
 }
 
 // Takes a word, unless its counts pass a ceiling.
@@ -128,38 +103,27 @@ pub fn take(text: &[u8], w: Word, s: State, counts: bool, bearing: Bearing) -> A
 pub fn expect(text: &[u8], w: Word, s: State, kind: u8, bearing: Bearing) -> Answer
     ensures { Expected text.now kind bearing w s result }
 {
-    let found = w.kind;
-    if kinds::number(found) == kind {
+    if kinds::kind_of(w) == kind {
         return take(text, w, s, false, bearing);
     }
-    refuse(w, s, Refusal::NoContinuation)
+    refuse(w, Refusal::NoContinuation)
 }
 
 // Keeps a constant that must come; it is not counted.
 pub fn keep_constant(text: &[u8], w: Word, s: State) -> Answer
     ensures { Keeps text.now w s result }
 {
-    let kind = w.kind;
-    if kinds::number(kind) == language::kinds::CONSTANT {
+    if kinds::kind_of(w) == language::kinds::CONSTANT {
         let next = following(text, w);
-        return Answer {
-            verdict: ReadVerdict::Done,
-            next,
-            state: s,
-        };
+        return Ok(Reached { next, state: s });
     }
-    refuse(w, s, Refusal::NoContinuation)
+    refuse(w, Refusal::NoContinuation)
 }
 
 // Whether a constant and a colon come: the ends of a part.
 pub fn ends_ahead(text: &[u8], w: Word) -> bool
     ensures { Seen text.now w → result ≡ ends_ahead (ahead text.now w) }
 {
-    let kind = w.kind;
-    if kinds::number(kind) == language::kinds::CONSTANT {
-        let next = following(text, w);
-        let then = next.kind;
-        return kinds::number(then) == language::kinds::COLON;
-    }
-    false
+    kinds::kind_of(w) == language::kinds::CONSTANT
+        && kinds::kind_of(following(text, w)) == language::kinds::COLON
 }

@@ -7,4 +7,3 @@ pub mod ReachedLaws
 pub mod EndLaws
 pub mod SignLaws
 pub mod StoreLaws
-pub mod KindTests

@@ -6,10 +6,9 @@ use Prim.Native.Nat.{ℕ, ◌+◌, ◌≤◌}
 use native.Mathlib.Omega.{arith}
 use Rattle.parse_step.proofs.Ceilings.{few-counted}
 use Rattle.parse_step.proofs.Paying.{counted-comes, pays-on, pays-refl, took-comes}
-use Rattle.parse_step.specs.declared.Answer.{Answer}
 use Rattle.parse_step.specs.declared.Bearing.TheVariants.{Level}
+use Rattle.parse_step.specs.declared.Reached as W
 use Rattle.parse_step.specs.declared.State.{State}
-use Rattle.parse_step.specs.declared.ReadVerdict.TheVariants.{Done}
 use Rattle.parse_step.specs.Course.{Seen, Stack, counts_of, runs}
 use Rattle.parse_step.specs.Gained.{with_action_count}
 use Rattle.parse_step.specs.Pays.{Comes, Pays}
@@ -41,6 +40,8 @@ use Rattle.parse_stores.proofs.Standings.{few-states, standing-after, within_mor
 use Rattle.parse_stores.specs.Actions.{Paid, Standing, Written, front_of, grown}
 use Rattle.parse_stores.specs.Leaves.{Puts}
 use Rattle.parse_stores.specs.Reached.{Ended, Ends, Reached}
+use Rattle.parse_step.specs.Answers.{Answer}
+use Rattle.std.specs.Prelude.{Ok}
 
 pub nodes-none : (h : Held) → with_nodes h [] ≡ h
 unfolding with_nodes concat
@@ -112,9 +113,9 @@ module _ {text : List ℕ} {sc : Scope} {n : M.KnownNames} {w : Word} {s : State
     pub room-reached : {p : ℕ} {s₂ : State} → pay + p ≤ 15 → Pays p 0 s₁ s₂ → most_nodes ≤ s₂.nodes → ⊥
     room-reached h y m = omega (arith, x.pays.nodes, y.nodes, st.nodes, few-states (counts_of s) st.within, few, y.ceiling few, h, m)
 
-    module _ {a : Answer} (d : a.verdict ≡ Done) where
+    module _ {a : Answer} {a' : W.Reached} (d : a ≡ Ok a') where
       -- A word that is not counted, and one that is: it pays for what was written before it.
-      pub passed-reached : Took text w₁ (after_word false Level s₁) s₁ a → Reached text sc more pay ns size s work a.next a.state work₁
+      pub passed-reached : Took text w₁ (after_word false Level s₁) s₁ a → Reached text sc more pay ns size s work a'.next a'.state work₁
       passed-reached t = let p = t.done d in let c = took-comes t d x.seen in record {
         seen = c.seen;
         pays = pays-on x.pays c.pays (omega arith);
@@ -124,7 +125,7 @@ module _ {text : List ℕ} {sc : Scope} {n : M.KnownNames} {w : Word} {s : State
         nodes = p.kept.nodes ∙ x.nodes;
       }
 
-      pub counted-reached : pay ≤ 7 → Took text w₁ (after_word true Level s₁) s₁ a → Reached text sc 1 0 ns size s work a.next a.state work₁
+      pub counted-reached : pay ≤ 7 → Took text w₁ (after_word true Level s₁) s₁ a → Reached text sc 1 0 ns size s work a'.next a'.state work₁
       counted-reached h t = let p = t.done d in let c = counted-comes t d x.seen in record {
         seen = c.seen;
         pays = pays-on x.pays c.pays (omega (arith, h));
@@ -135,7 +136,7 @@ module _ {text : List ℕ} {sc : Scope} {n : M.KnownNames} {w : Word} {s : State
       }
 
     -- An expression.
-    pub read-reached : {p : ℕ} {P : Stack} {pre : Built → Built} {r : Answer} {work₂ : List ℕ} → (y : Read text sc P [] pre (held s₁.nodes work₁) s₁.nodes s₁.nesting w₁ s₁ r work₂) → Comes text p 1 s₁ r.next r.state
+    pub read-reached : {p : ℕ} {P : Stack} {pre : Built → Built} {r : W.Reached} {work₂ : List ℕ} → (y : Read text sc P [] pre (held s₁.nodes work₁) s₁.nodes s₁.nesting w₁ s₁ r work₂) → Comes text p 1 s₁ r.next r.state
         → Reached text sc more (pay + p) (ns ++ nodes_of sc s₁.nodes y.tree) (size + expression_size y.tree) s work r.next r.state work₂
     read-reached y c = record {
       seen = c.seen;
@@ -160,7 +161,7 @@ module _ {text : List ℕ} {sc : Scope} {n : M.KnownNames} {w : Word} {s : State
     actions = omega (arith, st.actions, x.pays.counted);
   }
 
-  pub standing-read : {P : Stack} {pre : Built → Built} {r : Answer} {work₁ : List ℕ} → Read text sc P [] pre (held s.nodes work) s.nodes s.nesting w s r work₁ → Comes text 0 1 s r.next r.state
+  pub standing-read : {P : Stack} {pre : Built → Built} {r : W.Reached} {work₁ : List ℕ} → Read text sc P [] pre (held s.nodes work) s.nodes s.nesting w s r work₁ → Comes text 0 1 s r.next r.state
       → Standing text sc n r.next r.state acts work₁
   standing-read y c = standing-reached (read-reached start-reached y c)
 
@@ -208,14 +209,14 @@ module _ {text : List ℕ} {sc : Scope} {n : M.KnownNames} {w : Word} {s : State
     full = λ d. omega (arith, y.full d, st.actions, x.pays.actions, few-counted (counts_of s) st.within);
   }
     where
-      ended : r.verdict ≡ Done → Ended text sc n P pre w₂ s₂ s work work₂ r
-      ended d =
-          let v : Written sc t s work r.state work₂ = rw (y.state d) (put_written (y.added d)) in
-          let q : Paid s s.actions r.state = rw (y.state d) put-paid in
+      ended : {r' : W.Reached} → r ≡ Ok r' → Ended text sc n P pre w₂ s₂ s work work₂ r'
+      ended {r' = r'} d =
+          let v : Written sc t s work r'.state work₂ = rw (y.state d) (put_written (y.added d)) in
+          let q : Paid s s.actions r'.state = rw (y.state d) put-paid in
           record {
             tree = t;
-            course = λ K b. c K b ∙ rw (y.word, y.state d);
+            course = λ K b. c K b ∙ rw (y.word d, y.state d);
             written = v;
             paid = q;
-            standing = standing-after st v q (subst (Seen text) (sym y.word) x.seen) y.whole (ap (λ (j : State). within_ceilings (counts_of j)) (y.state d) ∙ within-reached st x);
+            standing = standing-after st v q (subst (Seen text) (sym (y.word d)) x.seen) y.whole (ap (λ (j : State). within_ceilings (counts_of j)) (y.state d) ∙ within-reached st x);
           }

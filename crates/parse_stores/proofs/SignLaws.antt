@@ -8,10 +8,9 @@ use lib.Dec.{eqb}
 use Rattle.parse_step.proofs.Paying.{pays-on, pays-refl, went-pays}
 use Rattle.parse_step.proofs.Saying.{makes-it}
 use Rattle.parse_step.proofs.TakenWords.{on_taken, took-done}
-use Rattle.parse_step.specs.declared.Answer.{Answer}
 use Rattle.parse_step.specs.declared.Bearing.TheVariants.{Level}
+use Rattle.parse_step.specs.declared.Reached as W
 use Rattle.parse_step.specs.declared.State.{State}
-use Rattle.parse_step.specs.declared.ReadVerdict.TheVariants.{Done}
 use Rattle.parse_step.specs.Course.{Seen, Stack, counts_of, kind_no, runs}
 use Rattle.parse_step.specs.Taken.{Took, Went, WentOn, after_word}
 use Rattle.about_grammar.specs.Following.{among}
@@ -41,32 +40,35 @@ use Rattle.parse_stores.proofs.ReachedLaws.{counted-reached, ends_with, known-re
 use Rattle.parse_stores.specs.Actions.{Acts, grown}
 use Rattle.parse_stores.specs.Leaves.{KeepsName, NameMeans, Performs, Puts}
 use Rattle.parse_stores.specs.Reached.{Arrows, Reached, arrow_action, arrow_step}
+use Rattle.parse_step.specs.Answers.{Answer}
+use Rattle.parse_step.proofs.Answers.{not_ok}
+use Rattle.std.specs.Prelude.{IsErr, Ok}
 
 -- ---- An operation performed.
 
 module _ {text : List ℕ} {n : M.KnownNames} {name w : Word} {s : State} {work : List ℕ} {a : Answer} (t : Went name w (after_word true Level s) s a) where
-  pub unperformed : (a.verdict ≡ Done → ⊥) → Performs name text n w s work work a
+  pub unperformed : IsErr a → Performs name text n w s work work a
   unperformed m q g sc st = record {
-    done = λ d. absurd (m d);
+    done = λ d. not_ok m d;
     refused = λ f d K b. let e = t.refused f d in g st.seen K b ∙ rw (e.0, e.1);
     full = λ d. absurd (t.full d);
   }
 
-  pub performs : a.verdict ≡ Done → (m : Meaning) → NameMeans text work n name m → {x : D.Action} → x ≡ of_operation (meant m) D.perform → {work' : List ℕ} {r : Answer} → Puts x name.at w a.state work work' r
+  pub performs : {a' : W.Reached} → a ≡ Ok a' → (m : Meaning) → NameMeans text work n name m → {x : D.Action} → x ≡ of_operation (meant m) D.perform → {work' : List ℕ} {r : Answer} → Puts x name.at w a'.state work work' r
       → Performs name text n w s work work' r
   unfolding expressions_in nodes_in actions_in actions_of
-  performs d m f {x} e y q g sc st =
+  performs {a' = a'} d m f {x} e y q g sc st =
       reads-ended (ends_with st reached y (T.perform (letters_of text name) (positioned name.at) T.done) refl refl refl
       (ap (λ (v : D.Action). act v (positioned name.at) ∷ []) (sym (e ∙ ap (λ (v : N.Meaning). of_operation v D.perform) (f st.short sc st.known))))
       (λ K b. g st.seen K b ∙ rw (p.fits, p.counts)))
     where
-      p : WentOn name w (after_word true Level s) s a
+      p : WentOn name w (after_word true Level s) s a'
       p = t.done d
 
-      reached : Reached text sc 1 0 [] 0 s work w a.state work
+      reached : Reached text sc 1 0 [] 0 s work w a'.state work
       reached = record {
         seen = st.seen;
-        pays = pays-on (went-pays t d) (pays-refl a.state) (omega arith);
+        pays = pays-on (went-pays t d) (pays-refl a'.state) (omega arith);
         counted = omega (arith, ap (λ (v : Counts). v.counted) p.counts);
         nesting = ap (λ (v : Counts). v.nesting) p.counts;
         held = ap (λ (v : ℕ). held v work) p.kept.nodes ∙ sym (nodes-none (held s.nodes work));
@@ -93,19 +95,19 @@ arrow-laws sc false m p = record { size = refl; nodes = λ i. refl; count = refl
 arrow-laws sc true m p = record { size = refl; nodes = λ i. refl; count = refl; records = λ i. refl; step = λ b q. refl }
 
 module _ {text : List ℕ} {n : M.KnownNames} {w₁ : Word} {s₁ : State} {work₁ : List ℕ} {a : Answer} (t : KeepsName text w₁ s₁ a) where
-  pub arrow-unnamed : (call : Bool) → (a.verdict ≡ Done → ⊥) → Arrows call text n w₁ s₁ work₁ work₁ a
+  pub arrow-unnamed : (call : Bool) → IsErr a → Arrows call text n w₁ s₁ work₁ work₁ a
   arrow-unnamed call m sc w s work st x = ends-unnamed t m x.seen (within-reached st x) (λ K. make (arrow_step call) ∷ K) (λ b. b) (λ K b. refl)
 
-  module _ (d : a.verdict ≡ Done) (m : Meaning) (f : NameMeans text work₁ n w₁ m) {x : D.Action} {work₂ : List ℕ} {r : Answer} (y : Puts x w₁.at a.next a.state work₁ work₂ r) where
+  module _ {a' : W.Reached} (d : a ≡ Ok a') (m : Meaning) (f : NameMeans text work₁ n w₁ m) {x : D.Action} {work₂ : List ℕ} {r : Answer} (y : Puts x w₁.at a'.next a'.state work₁ work₂ r) where
     pub arrow-leads : (call : Bool) → x ≡ of_state (meant m) (arrow_action call) → Arrows call text n w₁ s₁ work₁ work₂ r
     arrow-leads call e sc w s work st z =
         let k = t.done d z.seen in
         let g = arrow_tree call (letters_of text w₁) (positioned w₁.at) in
         let v : x ≡ of_state (meaning sc (letters_of text w₁)) (arrow_action call) = e ∙ ap (λ (q : N.Meaning). of_state q (arrow_action call)) (f st.short sc (known-reached st z)) in
         let l = arrow-laws sc call (letters_of text w₁) (positioned w₁.at) in
-        ends_with st (passed-reached st z d k.took) y g l.size (l.nodes s.nodes) l.count
+        ends_with st (passed-reached st z refl k.took) y g l.size (l.nodes s.nodes) l.count
         (l.records s.nodes ∙ ap (λ (q : D.Action). act q (positioned w₁.at) ∷ []) (sym v))
-        (λ K b. k.course (make (arrow_step call) ∷ K) b ∙ makes-it text (arrow_step call) K a.next (after_name w₁ text b) (grown g b) a.state (l.step b))
+        (λ K b. k.course (make (arrow_step call) ∷ K) b ∙ makes-it text (arrow_step call) K a'.next (after_name w₁ text b) (grown g b) a'.state (l.step b))
 
 -- ---- A sign.
 
@@ -119,24 +121,24 @@ module _ (text : List ℕ) (w : Word) (s : State) (e : among (kind_no w.kind) (g
       among-first-or i return_word [] e₂ (λ q. absurd (m q)) (among_none i)
 
   module _ {n : M.KnownNames} {work : List ℕ} {a : Answer} (t : Took text w (after_word true Level s) s a) where
-    pub sign-untaken : (a.verdict ≡ Done → ⊥) → Acts (ask state_action ∷ []) same text n w s work work a
+    pub sign-untaken : IsErr a → Acts (ask state_action ∷ []) same text n w s work work a
     sign-untaken m sc st =
         let i = kind_no w.kind in
         among-first-or i goto_sign (call_sign ∷ return_word ∷ []) e (λ q. reads-ended (ends-untaken t m (λ K. keep a_name ∷ make tree_steps.make_goto ∷ K) (λ b. b) (λ K b. goto-comes text w st.seen b (counts_of s) q K))) λ e₁.
         among-first-or i call_sign (return_word ∷ []) e₁ (λ q. reads-ended (ends-untaken t m (λ K. keep a_name ∷ make tree_steps.make_call ∷ K) (λ b. b) (λ K b. call-comes text w st.seen b (counts_of s) q K))) λ e₂.
         among-first-or i return_word [] e₂ (λ q. reads-ended (ends-untaken t m (λ K. make tree_steps.make_return ∷ K) (λ b. keep_word (L.sign return_word (positioned w.at)) b) (λ K b. return-comes text w st.seen b (counts_of s) q K))) (among_none i)
 
-    module _ (d : a.verdict ≡ Done) {work' : List ℕ} {r : Answer} where
-      pub sign-arrow : (kind_no w.kind ≡ return_word → ⊥) → {call : Bool} → call ≡ eqb (kind_no w.kind) call_sign → Arrows call text n a.next a.state work work' r → Acts (ask state_action ∷ []) same text n w s work work' r
+    module _ {a' : W.Reached} (d : a ≡ Ok a') {work' : List ℕ} {r : Answer} where
+      pub sign-arrow : (kind_no w.kind ≡ return_word → ⊥) → {call : Bool} → call ≡ eqb (kind_no w.kind) call_sign → Arrows call text n a'.next a'.state work work' r → Acts (ask state_action ∷ []) same text n w s work work' r
       sign-arrow m {call} q y sc st =
           reads-ended (ends_through (y sc w s work st (counted-reached st (start-reached st) d (omega arith) t))
           (λ K b. arrow-comes m st.seen K b ∙ took-done (t.done d) st.seen (keep a_name ∷ make (arrow_step (eqb (kind_no w.kind) call_sign)) ∷ K) b ∙ rw q))
 
-      pub sign-returns : kind_no w.kind ≡ return_word → Puts D.return w.at a.next a.state work work' r → Acts (ask state_action ∷ []) same text n w s work work' r
+      pub sign-returns : kind_no w.kind ≡ return_word → Puts D.return w.at a'.next a'.state work work' r → Acts (ask state_action ∷ []) same text n w s work work' r
       unfolding expressions_in nodes_in actions_in actions_of word_no list_no
       sign-returns q y sc st =
           let g = T.return (positioned w.at) T.done in
           let kept : Built → Built = λ b. keep_word (L.sign return_word (positioned w.at)) b in
           reads-ended (ends_with st (counted-reached st (start-reached st) d (omega arith) t) y g refl refl refl refl
           (λ K b. return-comes text w st.seen b (counts_of s) q K ∙ took-done (t.done d) st.seen (make tree_steps.make_return ∷ K) (kept b)
-          ∙ makes-it text tree_steps.make_return K a.next (kept b) (grown g b) a.state (λ p. refl)))
+          ∙ makes-it text tree_steps.make_return K a'.next (kept b) (grown g b) a'.state (λ p. refl)))

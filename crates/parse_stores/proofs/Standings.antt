@@ -8,7 +8,6 @@ use borrow.Author.Tests.{le-leb, leb-true}
 use lib.Dec.{leb}
 use lib.ListN.{length}
 use Rattle.parse_step.proofs.Ceilings.{both_true, by-nesting, few-open}
-use Rattle.parse_step.specs.declared.Answer.{Answer}
 use Rattle.parse_step.specs.declared.Bearing.{Bearing}
 use Rattle.parse_step.specs.declared.State.{State}
 use Rattle.parse_step.specs.Course.{Seen, counts_of}
@@ -25,6 +24,7 @@ use Rattle.parse_array.specs.Layout.{work_size}
 use Rattle.parse_stores.proofs.Keeping.{known_kept}
 use Rattle.parse_stores.specs.Actions.{Paid, Standing, Written}
 use Rattle.language.specs.Tests.{both}
+use Rattle.parse_step.specs.declared.Reached.{Reached}
 
 -- ---- Ceilings.
 
@@ -56,7 +56,7 @@ module _ {text : List ℕ} {sc : Scope} {n : M.KnownNames} {w : Word} {s : State
   pub here_of : Standing text sc n w s acts work → Here text sc w s work
   here_of st = record { seen = st.seen; names = st.known.facilities ∙ ap (facility_names text work) st.facilities }
 
-  pub standing-passed : (counts : Bool) (b : Bearing) {a : Answer} → Standing text sc n w s acts work → Passed text w (after_word counts b s) s a → Standing text sc n a.next a.state acts work
+  pub standing-passed : (counts : Bool) (b : Bearing) {a : Reached} → Standing text sc n w s acts work → Passed text w (after_word counts b s) s a → Standing text sc n a.next a.state acts work
   standing-passed counts b {a} st p =
       let k : s.counted ≤ a.state.counted = omega (arith, more counts, ap (λ (c : Counts). c.counted) p.counts) in
       let t : a.state.states ≡ s.states = ap (λ (c : Counts). c.states) p.counts in
@@ -90,7 +90,7 @@ module _ {text : List ℕ} {sc : Scope} {n : M.KnownNames} {w : Word} {s : State
   }
 
 -- Behind a word, with the action records that are written there.
-pub standing-word : {text : List ℕ} {sc : Scope} {n : M.KnownNames} {w : Word} {s : State} {work : List ℕ} (counts : Bool) (b : Bearing) {a : Answer} → Standing text sc n w s s.actions work
+pub standing-word : {text : List ℕ} {sc : Scope} {n : M.KnownNames} {w : Word} {s : State} {work : List ℕ} (counts : Bool) (b : Bearing) {a : Reached} → Standing text sc n w s s.actions work
     → Passed text w (after_word counts b s) s a → Standing text sc n a.next a.state a.state.actions work
 standing-word {text} {sc} {n} {work = work} counts b {a} st p =
     subst (λ (m : ℕ). Standing text sc n a.next a.state m work) (sym p.kept.actions) (standing-passed counts b st p)

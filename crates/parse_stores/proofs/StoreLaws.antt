@@ -7,10 +7,8 @@ use native.Mathlib.Omega.{arith}
 use Rattle.language.specs.declared.refusals.Refusal.TheVariants.{NoContinuation}
 use Rattle.parse_step.proofs.Saying.{makes-it}
 use Rattle.parse_step.proofs.TakenWords.{took-done}
-use Rattle.parse_step.specs.declared.Answer.{Answer}
 use Rattle.parse_step.specs.declared.Bearing.TheVariants.{Level}
 use Rattle.parse_step.specs.declared.State.{State}
-use Rattle.parse_step.specs.declared.ReadVerdict.TheVariants.{Done}
 use Rattle.parse_step.specs.Course.{Seen, Stack, counts_of, kind_no, runs}
 use Rattle.parse_step.specs.Pays.{Spends}
 use Rattle.parse_step.specs.Says.{Parses, pushed}
@@ -37,6 +35,9 @@ use Rattle.parse_stores.specs.declared.stores.Sides.{Sides}
 use Rattle.parse_stores.specs.declared.stores.Sides.TheVariants.{One, Two}
 use Rattle.parse_stores.specs.Leaves.{KeepsName, Puts}
 use Rattle.parse_stores.specs.Reached.{AfterLeft, Stores, sided, sides_of, with_left}
+use Rattle.parse_step.specs.Answers.{Answer}
+use Rattle.parse_step.specs.declared.Reached.{Reached}
+use Rattle.std.specs.Prelude.{IsErr, Ok}
 
 -- ---- What the machine keeps of a sign, and what then comes.
 
@@ -59,18 +60,18 @@ module _ {text : List ℕ} {w₁ : Word} {s₁ : State} {work₁ : List ℕ} whe
   unset m t sc n w s work u st x = ends-refused NoContinuation t (λ K b. no-set text w₁ x.seen (pushed u b) (counts_of s₁) m K)
 
   module _ (e : kind_no w₁.kind ≡ at_sign) {a : Answer} (t : Took text w₁ (after_word true Level s₁) s₁ a) where
-    pub set-untaken : (a.verdict ≡ Done → ⊥) → AfterLeft set_sign text w₁ s₁ work₁ work₁ a
+    pub set-untaken : IsErr a → AfterLeft set_sign text w₁ s₁ work₁ work₁ a
     set-untaken m sc n w s work u st x = ends-untaken t m (λ K. make tree_steps.make_set ∷ K) (at_kept w₁ u) (λ K b. set-comes text w₁ x.seen (pushed u b) (counts_of s₁) e K)
 
-    pub sets : a.verdict ≡ Done → {l : ℕ} → l ≡ a.state.nodes - 1 → {work' : List ℕ} {r : Answer} → Puts (D.set l) w₁.at a.next a.state work₁ work' r → AfterLeft set_sign text w₁ s₁ work₁ work' r
+    pub sets : {a' : Reached} → a ≡ Ok a' → {l : ℕ} → l ≡ a'.state.nodes - 1 → {work' : List ℕ} {r : Answer} → Puts (D.set l) w₁.at a'.next a'.state work₁ work' r → AfterLeft set_sign text w₁ s₁ work₁ work' r
     unfolding expressions_in nodes_in actions_in actions_of word_no list_no expression_no
-    sets d {l} f y sc n w s work u st x =
+    sets {a' = a'} d {l} f y sc n w s work u st x =
         let g = T.set (positioned w₁.at) u T.done in
         let z = counted-reached st x d (omega arith) t in
         let h : l ≡ last_of s.nodes (expression_size u) = f ∙ ap (λ (i : ℕ). i - 1) z.nodes in
         ends_with st z y g (omega arith) (append-nil (nodes_of sc s.nodes u)) refl (ap (λ (i : ℕ). act (D.set i) (positioned w₁.at) ∷ []) (sym h))
         (λ K b. set-comes text w₁ x.seen (pushed u b) (counts_of s₁) e K ∙ took-done (t.done d) x.seen (make tree_steps.make_set ∷ K) (at_kept w₁ u b)
-        ∙ makes-it text tree_steps.make_set K a.next (at_kept w₁ u b) (grown g b) a.state (λ p. refl))
+        ∙ makes-it text tree_steps.make_set K a'.next (at_kept w₁ u b) (grown g b) a'.state (λ p. refl))
 
 -- ---- A store's sign and its right side.
 
@@ -79,8 +80,8 @@ store-record k base (T.single f) e m h = let g : m - 1 ≡ last_of (base + expre
 store-record k base (T.pair f g) e m h = let i : m - 1 ≡ last_of (base + expression_size f + expression_size g) (expression_size e) = omega (arith, h) in rw i
 
 -- Where the machine then stands.
-to-right : {text : List ℕ} {w₁ : Word} {s₁ : State} {a : Answer} → among (kind_no w₁.kind) (delayed_sign ∷ equal_sign ∷ []) ≡ true → Took text w₁ (after_word true Level s₁) s₁ a → a.verdict ≡ Done → (l : Left) → Seen text w₁ → (K : Stack) (b : Built)
-    → runs text (ask store_sign ∷ K) w₁ (with_left l b) s₁ ≡ runs text (right K) a.next (sign_kept w₁ l b) a.state
+to-right : {text : List ℕ} {w₁ : Word} {s₁ : State} {a : Answer} → among (kind_no w₁.kind) (delayed_sign ∷ equal_sign ∷ []) ≡ true → Took text w₁ (after_word true Level s₁) s₁ a → {a' : Reached} → a ≡ Ok a' → (l : Left) → Seen text w₁ → (K : Stack) (b : Built)
+    → runs text (ask store_sign ∷ K) w₁ (with_left l b) s₁ ≡ runs text (right K) a'.next (sign_kept w₁ l b) a'.state
 to-right {text} {w₁} {s₁} e t d l z K b = store-comes text w₁ z (with_left l b) (counts_of s₁) e K ∙ took-done (t.done d) z (right K) (sign_kept w₁ l b)
 
 module _ {text : List ℕ} {w₁ : Word} {s₁ : State} {work₁ : List ℕ} (left : Sides) where
@@ -88,72 +89,72 @@ module _ {text : List ℕ} {w₁ : Word} {s₁ : State} {work₁ : List ℕ} (le
   unstored e t sc n w s work l st q x = ends-refused NoContinuation t (λ K b. no_store text w₁ x.seen (with_left l b) (counts_of s₁) e K)
 
   module _ (e : among (kind_no w₁.kind) (delayed_sign ∷ equal_sign ∷ []) ≡ true) {a : Answer} (t : Took text w₁ (after_word true Level s₁) s₁ a) where
-    pub sign-untaken : (a.verdict ≡ Done → ⊥) → Stores left text w₁ s₁ work₁ work₁ a
+    pub sign-untaken : IsErr a → Stores left text w₁ s₁ work₁ work₁ a
     sign-untaken m sc n w s work l st q x = ends-untaken t m right (sign_kept w₁ l) (λ K b. store-comes text w₁ x.seen (with_left l b) (counts_of s₁) e K)
 
-    module _ (d : a.verdict ≡ Done) {work₂ : List ℕ} {i : Answer} (f : Parses (ask expression ∷ []) same a.state.nesting text a.next a.state work₁ work₂ i) (p : Spends text 0 a.next a.state i) where
-      pub right-unread : (i.verdict ≡ Done → ⊥) → Stores left text w₁ s₁ work₁ work₂ i
+    module _ {a' : Reached} (d : a ≡ Ok a') {work₂ : List ℕ} {i : Answer} (f : Parses (ask expression ∷ []) same a'.state.nesting text a'.next a'.state work₁ work₂ i) (p : Spends text 0 a'.next a'.state i) where
+      pub right-unread : IsErr i → Stores left text w₁ s₁ work₁ work₂ i
       right-unread m sc n w s work l st q x =
           let z = counted-reached st x d (omega arith) t in
           ends-unread st z (f sc (here-reached st z)) p (omega arith) m (λ K. make tree_steps.make_store ∷ K) (sign_kept w₁ l) (λ K b. to-right e t d l x.seen K b)
 
-      pub stores : i.verdict ≡ Done → {k j : ℕ} → k ≡ kind_no w₁.kind → j ≡ i.state.nodes - 1 → {v : D.Action} → v ≡ sided k left j → {work₃ : List ℕ} {r : Answer} → Puts v w₁.at i.next i.state work₂ work₃ r
+      pub stores : {i' : Reached} → i ≡ Ok i' → {k j : ℕ} → k ≡ kind_no w₁.kind → j ≡ i'.state.nodes - 1 → {v : D.Action} → v ≡ sided k left j → {work₃ : List ℕ} {r : Answer} → Puts v w₁.at i'.next i'.state work₂ work₃ r
           → Stores left text w₁ s₁ work₁ work₃ r
       unfolding expressions_in nodes_in actions_in actions_of word_no list_no expression_no
-      stores d₁ {k} {j} c h {v} g y sc n w s work l st q x =
+      stores {i' = i'} d₁ {k} {j} c h {v} g y sc n w s work l st q x =
           let z = counted-reached st x d (omega arith) t in
           let u = (f sc (here-reached st z)).done d₁ in
           let o = read-reached st z u (p.done d₁ z.seen) in
           let tree = T.store (kind_no w₁.kind) (positioned w₁.at) l u.tree T.done in
           let rec : v ≡ store_of (kind_no w₁.kind) s.nodes l u.tree =
           g ∙ ap (λ (m : ℕ). sided m left j) c ∙ ap (λ (m : Sides). sided (kind_no w₁.kind) m j) q ∙ ap (λ (m : ℕ). sided (kind_no w₁.kind) (sides_of s.nodes l) m) h
-          ∙ (store-record (kind_no w₁.kind) s.nodes l u.tree i.state.nodes o.nodes) in
-          let nodes : nodes_in sc s.nodes tree ≡ left_nodes sc s.nodes l ++ nodes_of sc a.state.nodes u.tree =
+          ∙ (store-record (kind_no w₁.kind) s.nodes l u.tree i'.state.nodes o.nodes) in
+          let nodes : nodes_in sc s.nodes tree ≡ left_nodes sc s.nodes l ++ nodes_of sc a'.state.nodes u.tree =
           ap (λ (m : List Noted). left_nodes sc s.nodes l ++ m) (append-nil (nodes_of sc (s.nodes + left_size l) u.tree) ∙ ap (λ (m : ℕ). nodes_of sc m u.tree) (sym z.nodes)) in
           ends_with st o y tree (omega arith) nodes refl (ap (λ (m : D.Action). act m (positioned w₁.at) ∷ []) (sym rec))
           (λ K b. to-right e t d l x.seen K b ∙ u.course (make tree_steps.make_store ∷ K) (sign_kept w₁ l b)
-          ∙ makes-it text tree_steps.make_store K i.next (pushed u.tree (sign_kept w₁ l b)) (grown tree b) i.state (λ m. refl))
+          ∙ makes-it text tree_steps.make_store K i'.next (pushed u.tree (sign_kept w₁ l b)) (grown tree b) i'.state (λ m. refl))
 
 -- ---- CON and a second reference.
 
-module _ {text : List ℕ} {w₁ : Word} {s₁ : State} (e : kind_no w₁.kind ≡ con_word) {a : Answer} (t : Took text w₁ (after_word false Level s₁) s₁ a) (d : a.verdict ≡ Done) (u : Expression) (z : Seen text w₁) where
-  to-name : (K : Stack) (b : Built) → runs text (ask left_rest ∷ K) w₁ (pushed u b) s₁ ≡ runs text (keep a_name ∷ behind_con K) a.next (pushed u b) a.state
+module _ {text : List ℕ} {w₁ : Word} {s₁ : State} (e : kind_no w₁.kind ≡ con_word) {a : Answer} (t : Took text w₁ (after_word false Level s₁) s₁ a) {a' : Reached} (d : a ≡ Ok a') (u : Expression) (z : Seen text w₁) where
+  to-name : (K : Stack) (b : Built) → runs text (ask left_rest ∷ K) w₁ (pushed u b) s₁ ≡ runs text (keep a_name ∷ behind_con K) a'.next (pushed u b) a'.state
   to-name K b = con-comes text w₁ z (pushed u b) (counts_of s₁) e K ∙ took-done (t.done d) z (keep a_name ∷ behind_con K) (pushed u b)
 
-  to-subscripts : {i : Answer} → KeepsName text a.next a.state i → i.verdict ≡ Done → (K : Stack) (b : Built)
-      → runs text (ask left_rest ∷ K) w₁ (pushed u b) s₁ ≡ runs text (behind_con K) i.next (after_name a.next text (pushed u b)) i.state
+  to-subscripts : {i : Answer} → KeepsName text a'.next a'.state i → {i' : Reached} → i ≡ Ok i' → (K : Stack) (b : Built)
+      → runs text (ask left_rest ∷ K) w₁ (pushed u b) s₁ ≡ runs text (behind_con K) i'.next (after_name a'.next text (pushed u b)) i'.state
   to-subscripts f d₁ K b = to-name K b ∙ (f.done d₁ (t.done d).seen).course (behind_con K) (pushed u b)
 
 module _ {text : List ℕ} {w₁ : Word} {s₁ : State} {work₁ : List ℕ} (e : kind_no w₁.kind ≡ con_word) {a : Answer} (t : Took text w₁ (after_word false Level s₁) s₁ a) where
-  pub con-untaken : (a.verdict ≡ Done → ⊥) → AfterLeft left_rest text w₁ s₁ work₁ work₁ a
+  pub con-untaken : IsErr a → AfterLeft left_rest text w₁ s₁ work₁ work₁ a
   con-untaken m sc n w s work u st x = ends-untaken t m (λ K. keep a_name ∷ behind_con K) (pushed u) (λ K b. con-comes text w₁ x.seen (pushed u b) (counts_of s₁) e K)
 
-  module _ (d : a.verdict ≡ Done) {i : Answer} (f : KeepsName text a.next a.state i) where
-    pub con-unnamed : (i.verdict ≡ Done → ⊥) → AfterLeft left_rest text w₁ s₁ work₁ work₁ i
+  module _ {a' : Reached} (d : a ≡ Ok a') {i : Answer} (f : KeepsName text a'.next a'.state i) where
+    pub con-unnamed : IsErr i → AfterLeft left_rest text w₁ s₁ work₁ work₁ i
     con-unnamed m sc n w s work u st x =
         let z = passed-reached st x d t in
         ends-unnamed f m z.seen (within-reached st z) behind_con (pushed u) (λ K b. to-name e t d u x.seen K b)
 
-    module _ (d₁ : i.verdict ≡ Done) {work₂ : List ℕ} {j : Answer} (g : Parses (ask subscripts ∷ []) (after_name a.next) i.state.nesting text i.next i.state work₁ work₂ j) (p : Spends text 2 i.next i.state j) where
-      pub con-unread : (j.verdict ≡ Done → ⊥) → AfterLeft left_rest text w₁ s₁ work₁ work₂ j
+    module _ {i' : Reached} (d₁ : i ≡ Ok i') {work₂ : List ℕ} {j : Answer} (g : Parses (ask subscripts ∷ []) (after_name a'.next) i'.state.nesting text i'.next i'.state work₁ work₂ j) (p : Spends text 2 i'.next i'.state j) where
+      pub con-unread : IsErr j → AfterLeft left_rest text w₁ s₁ work₁ work₂ j
       con-unread m sc n w s work u st x =
           let y = passed-reached st x d t in
-          let z = passed-reached st y d₁ (f.done d₁ y.seen).took in
+          let z = passed-reached st y refl (f.done d₁ y.seen).took in
           ends-unread st z (g sc (here-reached st z)) p (omega arith) m (λ K. make tree_steps.make_pair ∷ ask store_sign ∷ K) (pushed u) (λ K b. to-subscripts e t d u x.seen f d₁ K b)
 
-      pub con-stores : j.verdict ≡ Done → {k l : ℕ} → k ≡ s₁.nodes - 1 → l ≡ j.state.nodes - 1 → {work₃ : List ℕ} {r : Answer} → Stores (Two k l) text j.next j.state work₂ work₃ r
+      pub con-stores : {j' : Reached} → j ≡ Ok j' → {k l : ℕ} → k ≡ s₁.nodes - 1 → l ≡ j'.state.nodes - 1 → {work₃ : List ℕ} {r : Answer} → Stores (Two k l) text j'.next j'.state work₂ work₃ r
           → AfterLeft left_rest text w₁ s₁ work₁ work₃ r
       unfolding expression_no
-      con-stores d₂ {k} {l} h h₁ v sc n w s work u st x =
+      con-stores {j' = j'} d₂ {k} {l} h h₁ v sc n w s work u st x =
           let y = passed-reached st x d t in
-          let z = passed-reached st y d₁ (f.done d₁ y.seen).took in
+          let z = passed-reached st y refl (f.done d₁ y.seen).took in
           let q = (g sc (here-reached st z)).done d₂ in
           let o = read-reached st z q (p.done d₂ z.seen) in
           let c : k ≡ last_of s.nodes (expression_size u) = h ∙ ap (λ (m : ℕ). m - 1) x.nodes in
           let c₁ : l ≡ last_of (s.nodes + expression_size u) (expression_size q.tree) = h₁ ∙ omega (arith, o.nodes) in
           ends_through (v sc n w s work (T.pair u q.tree) st (rw (c, c₁)) (reached-as o (ap (λ (m : ℕ). nodes_of sc s.nodes u ++ nodes_of sc m q.tree) z.nodes) refl))
           (λ K b. to-subscripts e t d u x.seen f d₁ K b ∙ q.course (make tree_steps.make_pair ∷ ask store_sign ∷ K) (pushed u b)
-          ∙ makes-it text tree_steps.make_pair (ask store_sign ∷ K) j.next (pushed q.tree (pushed u b)) (with_left (T.pair u q.tree) b) j.state (λ m. refl))
+          ∙ makes-it text tree_steps.make_pair (ask store_sign ∷ K) j'.next (pushed q.tree (pushed u b)) (with_left (T.pair u q.tree) b) j'.state (λ m. refl))
 
 -- ---- What follows the first reference.
 
@@ -171,12 +172,12 @@ module _ {text : List ℕ} {w₁ : Word} {s₁ : State} {work₁ work₂ : List 
 module _ {text : List ℕ} (name : Word) {w : Word} {s : State} {work work₁ : List ℕ} {n : M.KnownNames} (a q : Ask)
     (c : Seen text w → (K : Stack) (b : Built) → runs text (ask a ∷ K) w b s ≡ runs text (ask subscripts ∷ ask q ∷ K) w b s)
     {i : Answer} (f : Parses (ask subscripts ∷ []) (after_name name) s.nesting text w s work work₁ i) (p : Spends text 2 w s i) where
-  pub unreferred : (i.verdict ≡ Done → ⊥) → Acts (ask a ∷ []) (after_name name) text n w s work work₁ i
+  pub unreferred : IsErr i → Acts (ask a ∷ []) (after_name name) text n w s work work₁ i
   unreferred m sc st =
       let x = start-reached st in
       reads-ended (ends-unread st x (f sc (here-reached st x)) p (omega arith) m (λ K. ask q ∷ K) (λ b. b) (λ K b. c st.seen K (after_name name text b)))
 
-  pub referred : i.verdict ≡ Done → {work₂ : List ℕ} {r : Answer} → AfterLeft q text i.next i.state work₁ work₂ r → Acts (ask a ∷ []) (after_name name) text n w s work work₂ r
+  pub referred : {i' : Reached} → i ≡ Ok i' → {work₂ : List ℕ} {r : Answer} → AfterLeft q text i'.next i'.state work₁ work₂ r → Acts (ask a ∷ []) (after_name name) text n w s work work₂ r
   referred d y sc st =
       let x = start-reached st in
       let u = (f sc (here-reached st x)).done d in

@@ -1,8 +1,7 @@
 -- What reading actions answers: the list of actions that the machine builds, and its records behind those that stand.
-use Rattle.std.specs.Prelude.{true, List, [], ◌∷◌, ◌++◌, ◌≡◌, ℕ, ◌+◌, ◌*◌, ◌<◌, ◌≤◌, drop, length}
-use Rattle.parse_step.specs.declared.Answer.{Answer}
+use Rattle.std.specs.Prelude.{true, List, [], ◌∷◌, ◌++◌, ◌≡◌, ℕ, ◌+◌, ◌*◌, ◌<◌, ◌≤◌, drop, length, Err, Ok}
 use Rattle.parse_step.specs.declared.State.{State}
-use Rattle.parse_step.specs.declared.ReadVerdict.TheVariants as Vd
+use Rattle.parse_step.specs.declared.Unread.TheVariants as Vd
 use Rattle.parse_step.specs.Course.{Seen, Stack, counts_of, runs}
 use Rattle.language.specs.Building.{Built, joined, list_no, with_lists}
 use Rattle.language.specs.Describe.{NotedAction, actions_in, actions_of, expressions_in, nodes_in}
@@ -21,6 +20,8 @@ use Rattle.text_words.specs.declared.Word.{Word}
 use Rattle.text_words.specs.Meaning.{faulted}
 use Rattle.parse_array.specs.Held.{Held, held, with_nodes}
 use Rattle.parse_array.specs.Layout.{work_size}
+use Rattle.parse_step.specs.Answers.{Answer}
+use Rattle.parse_step.specs.declared.Reached.{Reached}
 
 -- Where reading actions stands: the look-ahead is a word of the text, the names known are those of the scope, and every expression record and `acts` action records are paid for by what was counted: seven expression records and two action records for each counted word, six expression records for each state.
 pub record Standing (text : List ℕ) (sc : Scope) (n : KnownNames) (w : Word) (s : State) (acts : ℕ) (work : List ℕ) : Type 0 where
@@ -72,7 +73,7 @@ pub record Paid (s : State) (acts : ℕ) (s' : State) : Type 0 where
   pub actions : s'.actions + 1 + 2 * s.counted ≤ acts + 2 * s'.counted
 
 -- From the stack P and what `pre` makes of what was built the machine comes to the stack Q with some actions more.
-pub record ActionsRead (text : List ℕ) (sc : Scope) (n : KnownNames) (P Q : Stack) (pre : Built → Built) (w : Word) (s : State) (work work' : List ℕ) (r : Answer) : Type 0 where
+pub record ActionsRead (text : List ℕ) (sc : Scope) (n : KnownNames) (P Q : Stack) (pre : Built → Built) (w : Word) (s : State) (work work' : List ℕ) (r : Reached) : Type 0 where
   pub tree : Actions
   pub course : (K : Stack) (b : Built) → runs text (P ++ K) w (pre b) s ≡ runs text (Q ++ K) r.next (grown tree b) r.state
   pub written : Written sc tree s work r.state work'
@@ -81,9 +82,9 @@ pub record ActionsRead (text : List ℕ) (sc : Scope) (n : KnownNames) (P Q : St
 
 -- What was read, or the machine's refusal; there is room for everything.
 pub record Reads (text : List ℕ) (sc : Scope) (n : KnownNames) (P Q : Stack) (pre : Built → Built) (w : Word) (s : State) (work work' : List ℕ) (r : Answer) : Type 0 where
-  pub done : r.verdict ≡ Vd.Done → ActionsRead text sc n P Q pre w s work work' r
-  pub refused : (f : Fault) → r.verdict ≡ Vd.Refused f → (K : Stack) (b : Built) → runs text (P ++ K) w (pre b) s ≡ refused (faulted f)
-  pub full : r.verdict ≡ Vd.Full → ⊥
+  pub done : {r' : Reached} → r ≡ Ok r' → ActionsRead text sc n P Q pre w s work work' r'
+  pub refused : (f : Fault) → r ≡ Err (Vd.Refused f) → (K : Stack) (b : Built) → runs text (P ++ K) w (pre b) s ≡ refused (faulted f)
+  pub full : {z : State} → r ≡ Err (Vd.Full z) → ⊥
 
 -- Actions by the stack P.
 abbrev pub Acts : Stack → (List ℕ → Built → Built) → List ℕ → KnownNames → Word → State → List ℕ → List ℕ → Answer → Type 0

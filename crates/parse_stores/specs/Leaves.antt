@@ -1,10 +1,8 @@
 -- What a name that must come answers, and an action's record put behind the others.
-use Rattle.std.specs.Prelude.{true, false, cond, List, [], ◌∷◌, ◌≡◌, ℕ, ◌+◌, ◌<◌, ◌≤◌, length}
+use Rattle.std.specs.Prelude.{true, false, cond, List, [], ◌∷◌, ◌≡◌, ℕ, ◌+◌, ◌<◌, ◌≤◌, length, Err, Ok}
 use Rattle.language.specs.declared.refusals.Refusal.TheVariants.{CeilingPassed}
-use Rattle.parse_step.specs.declared.Answer.{Answer}
 use Rattle.parse_step.specs.declared.Bearing.TheVariants.{Level}
 use Rattle.parse_step.specs.declared.State.{State}
-use Rattle.parse_step.specs.declared.ReadVerdict.TheVariants.{Done, Full, Refused}
 use Rattle.parse_step.specs.Course.{Seen, Stack, counts_of, runs, runs_on, ahead}
 use Rattle.parse_step.specs.Gained.{with_action_count}
 use Rattle.parse_step.specs.Taken.{Took, after_word}
@@ -27,28 +25,31 @@ use Rattle.text_words.specs.declared.Word.{Word}
 use Rattle.text_words.specs.Meaning.{faulted, positioned}
 use Rattle.parse_array.specs.Layout.{most_actions, work_size}
 use Rattle.parse_stores.specs.Actions.{Acts, grown}
+use Rattle.parse_step.specs.declared.Unread.TheVariants.{Full, Refused}
+use Rattle.parse_step.specs.Answers.{Answer}
+use Rattle.parse_step.specs.declared.Reached.{Reached}
 
 -- ---- A name that must come is kept; it is not counted.
 
-pub record NameKept (text : List ℕ) (w : Word) (s : State) (r : Answer) : Type 0 where
+pub record NameKept (text : List ℕ) (w : Word) (s : State) (r : Reached) : Type 0 where
   pub course : (K : Stack) (b : Built) → runs text (keep a_name ∷ K) w b s ≡ runs text K r.next (after_name w text b) r.state
-  pub took : Took text w (after_word false Level s) s r
+  pub took : Took text w (after_word false Level s) s (Ok r)
 
 -- The counts before it are within the ceilings.
 pub record KeepsName (text : List ℕ) (w : Word) (s : State) (r : Answer) : Type 0 where
-  pub done : r.verdict ≡ Done → Seen text w → NameKept text w s r
-  pub refused : (f : Fault) → r.verdict ≡ Refused f → Seen text w → within_ceilings (counts_of s) ≡ true → (K : Stack) (b : Built) → runs text (keep a_name ∷ K) w b s ≡ refused (faulted f)
-  pub full : r.verdict ≡ Full → ⊥
+  pub done : {r' : Reached} → r ≡ Ok r' → Seen text w → NameKept text w s r'
+  pub refused : (f : Fault) → r ≡ Err (Refused f) → Seen text w → within_ceilings (counts_of s) ≡ true → (K : Stack) (b : Built) → runs text (keep a_name ∷ K) w b s ≡ refused (faulted f)
+  pub full : {z : State} → r ≡ Err (Full z) → ⊥
 
 -- ---- An action's record behind the others; the word after the action has been seen.
 
 pub record Puts (a : D.Action) (at : Position) (next : Word) (s : State) (work work' : List ℕ) (r : Answer) : Type 0 where
-  pub word : r.next ≡ next
-  pub state : r.verdict ≡ Done → r.state ≡ with_action_count s (s.actions + 1)
+  pub word : {r' : Reached} → r ≡ Ok r' → r'.next ≡ next
+  pub state : {r' : Reached} → r ≡ Ok r' → r'.state ≡ with_action_count s (s.actions + 1)
   pub whole : length work' ≡ work_size
-  pub added : r.verdict ≡ Done → ActionAdded s.actions a at work work' true
-  pub refused : (f : Fault) → r.verdict ≡ Refused f → ⊥
-  pub full : r.verdict ≡ Full → most_actions ≤ s.actions
+  pub added : {r' : Reached} → r ≡ Ok r' → ActionAdded s.actions a at work work' true
+  pub refused : (f : Fault) → r ≡ Err (Refused f) → ⊥
+  pub full : {z : State} → r ≡ Err (Full z) → most_actions ≤ s.actions
 
 -- What a name means, by its word.
 abbrev pub NameMeans : List ℕ → List ℕ → KnownNames → Word → Meaning → Type 0

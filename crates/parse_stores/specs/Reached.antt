@@ -1,8 +1,7 @@
 -- What is reached within an action, and what its end then answers.
-use Rattle.std.specs.Prelude.{Bool, true, false, List, [], ◌∷◌, ◌++◌, ◌≡◌, ℕ, ◌+◌, ◌≤◌}
-use Rattle.parse_step.specs.declared.Answer.{Answer}
+use Rattle.std.specs.Prelude.{Bool, true, false, List, [], ◌∷◌, ◌++◌, ◌≡◌, ℕ, ◌+◌, ◌≤◌, Err, Ok}
+use Rattle.parse_step.specs.declared.Reached as W
 use Rattle.parse_step.specs.declared.State.{State}
-use Rattle.parse_step.specs.declared.ReadVerdict.TheVariants.{Done, Full, Refused}
 use Rattle.parse_step.specs.Course.{Seen, Stack, runs}
 use Rattle.parse_step.specs.Pays.{Pays}
 use Rattle.parse_step.specs.Says.{pushed}
@@ -24,6 +23,8 @@ use Rattle.parse_array.specs.Held.{held, with_nodes}
 use Rattle.parse_stores.specs.Actions.{Paid, Standing, Written, grown}
 use Rattle.parse_stores.specs.declared.stores.Sides.{Sides}
 use Rattle.parse_stores.specs.declared.stores.Sides.TheVariants.{One, Two}
+use Rattle.parse_step.specs.declared.Unread.TheVariants.{Full, Refused}
+use Rattle.parse_step.specs.Answers.{Answer}
 
 -- From the state s reading came to the word w₁ with `more` words counted, expression records of `pay` besides those paid for, and these records behind those of s.
 pub record Reached (text : List ℕ) (sc : Scope) (more pay : ℕ) (ns : List Noted) (size : ℕ) (s : State) (work : List ℕ) (w₁ : Word) (s₁ : State) (work₁ : List ℕ) : Type 0 where
@@ -35,7 +36,7 @@ pub record Reached (text : List ℕ) (sc : Scope) (more pay : ℕ) (ns : List No
   pub nodes : s₁.nodes ≡ s.nodes + size
 
 -- From the stack P at the word w₁ the machine comes to some actions, which begin at the state s.
-pub record Ended (text : List ℕ) (sc : Scope) (n : KnownNames) (P : Stack) (pre : Built → Built) (w₁ : Word) (s₁ s : State) (work work' : List ℕ) (r : Answer) : Type 0 where
+pub record Ended (text : List ℕ) (sc : Scope) (n : KnownNames) (P : Stack) (pre : Built → Built) (w₁ : Word) (s₁ s : State) (work work' : List ℕ) (r : W.Reached) : Type 0 where
   pub tree : Actions
   pub course : (K : Stack) (b : Built) → runs text (P ++ K) w₁ (pre b) s₁ ≡ runs text K r.next (grown tree b) r.state
   pub written : Written sc tree s work r.state work'
@@ -43,9 +44,9 @@ pub record Ended (text : List ℕ) (sc : Scope) (n : KnownNames) (P : Stack) (pr
   pub standing : Standing text sc n r.next r.state r.state.actions work'
 
 pub record Ends (text : List ℕ) (sc : Scope) (n : KnownNames) (P : Stack) (pre : Built → Built) (w₁ : Word) (s₁ s : State) (work work' : List ℕ) (r : Answer) : Type 0 where
-  pub done : r.verdict ≡ Done → Ended text sc n P pre w₁ s₁ s work work' r
-  pub refused : (f : Fault) → r.verdict ≡ Refused f → (K : Stack) (b : Built) → runs text (P ++ K) w₁ (pre b) s₁ ≡ refused (faulted f)
-  pub full : r.verdict ≡ Full → ⊥
+  pub done : {r' : W.Reached} → r ≡ Ok r' → Ended text sc n P pre w₁ s₁ s work work' r'
+  pub refused : (f : Fault) → r ≡ Err (Refused f) → (K : Stack) (b : Built) → runs text (P ++ K) w₁ (pre b) s₁ ≡ refused (faulted f)
+  pub full : {z : State} → r ≡ Err (Full z) → ⊥
 
 -- ---- Behind `->` and `=>`.
 

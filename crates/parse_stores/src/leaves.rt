@@ -10,7 +10,7 @@ ghost use Rattle.parse_stores.specs.Reached.{arrow_action};
 use image_records::actions::Action;
 use language::refusals::Refusal;
 use parse_array::Work;
-use parse_step::{Answer, Bearing, ReadVerdict, State, adding, kinds, taking};
+use parse_step::{Answer, Bearing, Reached, State, Unread, adding, kinds, taking};
 use parse_tables::actions;
 use parse_tables::meaning::{KnownNames, Meaning};
 use text_words::{Position, Word, places};
@@ -19,11 +19,10 @@ use text_words::{Position, Word, places};
 pub fn keep_name(text: &[u8], w: Word, s: State) -> Answer
     ensures { KeepsName text.now w s result }
 {
-    let kind = w.kind;
-    if kinds::number(kind) == language::kinds::NAME {
+    if kinds::kind_of(w) == language::kinds::NAME {
         return taking::take(text, w, s, false, Bearing::Level);
     }
-    taking::refuse(w, s, Refusal::NoContinuation)
+    taking::refuse(w, Refusal::NoContinuation)
 }
 
 // Adds an action's record, whose word is at; the word behind the action has been seen.
@@ -34,17 +33,9 @@ pub fn put(s: State, action: Action, at: Position, next: Word, work: &mut Work) 
     parse_array::whole(work);
     if room {
         let state = adding::with_actions(s, s.actions + 1);
-        return Answer {
-            verdict: ReadVerdict::Done,
-            next,
-            state,
-        };
+        return Ok(Reached { next, state });
     }
-    Answer {
-        verdict: ReadVerdict::Full,
-        next,
-        state: s,
-    }
+    Err(Unread::Full(s))
 }
 
 // The record of a name that performs an operation; broken where it means none.
@@ -52,21 +43,8 @@ pub fn performing(m: Meaning) -> Action
     ensures { meant result ≡ of_operation (K.meant m) D.perform }
 {
     match m {
-        Meaning::Facility(_) => Action::Broken,
         Meaning::Operation(k) => Action::Perform(k as u16),
-        Meaning::State(_) => Action::Broken,
-        Meaning::Unknown => Action::Broken,
-    }
-}
-
-// The record of `=>` or `->` with a state.
-fn leading(call: bool, k: u16) -> Action
-    ensures { meant result ≡ arrow_action call k }
-{
-    if call {
-        Action::Call(k)
-    } else {
-        Action::Goto(k)
+        Meaning::Facility(_) | Meaning::State(_) | Meaning::Unknown => Action::Broken,
     }
 }
 
@@ -75,10 +53,9 @@ pub fn going(call: bool, m: Meaning) -> Action
     ensures { meant result ≡ of_state (K.meant m) (arrow_action call) }
 {
     match m {
-        Meaning::Facility(_) => Action::Broken,
-        Meaning::Operation(_) => Action::Broken,
-        Meaning::State(k) => leading(call, k),
-        Meaning::Unknown => Action::Broken,
+        Meaning::State(k) if call => Action::Call(k),
+        Meaning::State(k) => Action::Goto(k),
+        Meaning::Facility(_) | Meaning::Operation(_) | Meaning::Unknown => Action::Broken,
     }
 }
 
@@ -86,6 +63,5 @@ pub fn going(call: bool, m: Meaning) -> Action
 pub fn meaning(text: &[u8], work: &Work, n: KnownNames, name: Word) -> Meaning
     ensures { NameMeans text.now work.now n name result }
 {
-    let at = name.at;
-    parse_tables::meaning::what(text, work, n, places::place(at), name.size)
+    parse_tables::meaning::what(text, work, n, places::place(name.at), name.size)
 }

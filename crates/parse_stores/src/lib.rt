@@ -25,41 +25,28 @@ mod stores;
 fn perform(s: State, name: Word, text: &[u8], w: Word, work: &mut Work, n: KnownNames) -> Answer
     ensures { Performs name text.now n w s work.old work.new result }
 {
-    let counted = taking::pass(name, w, s, true, Bearing::Level);
-    if parse_step::unread(counted) {
-        return counted;
-    }
+    let counted = taking::pass(name, w, s, true, Bearing::Level)?;
     let m = leaves::meaning(text, work, n, name);
-    let at = name.at;
-    leaves::put(counted.state, leaves::performing(m), at, w, work)
+    leaves::put(counted.state, leaves::performing(m), name.at, w, work)
 }
 
 // A state's name behind `->` or `=>`.
 fn arrow(s: State, call: bool, text: &[u8], w: Word, work: &mut Work, n: KnownNames) -> Answer
     ensures { Arrows call text.now n w s work.old work.new result }
 {
-    let kept = leaves::keep_name(text, w, s);
-    if parse_step::unread(kept) {
-        return kept;
-    }
+    let kept = leaves::keep_name(text, w, s)?;
     let m = leaves::meaning(text, work, n, w);
-    let at = w.at;
-    leaves::put(kept.state, leaves::going(call, m), at, kept.next, work)
+    leaves::put(kept.state, leaves::going(call, m), w.at, kept.next, work)
 }
 
 // What begins with a sign in a state: `->`, `=>` or RETURN.
 pub fn signed(s: State, text: &[u8], w: Word, work: &mut Work, n: KnownNames) -> Answer
     ensures { among (kind_no w.kind) (goto_sign ∷ call_sign ∷ return_word ∷ []) ≡ true → Acts (ask L.state_action ∷ []) same text.now n w s work.old work.new result }
 {
-    let taken = taking::take(text, w, s, true, Bearing::Level);
-    if parse_step::unread(taken) {
-        return taken;
-    }
-    let found = w.kind;
-    let kind = kinds::number(found);
+    let taken = taking::take(text, w, s, true, Bearing::Level)?;
+    let kind = kinds::kind_of(w);
     if kind == language::kinds::RETURN {
-        let at = w.at;
-        return leaves::put(taken.state, Action::Return, at, taken.next, work);
+        return leaves::put(taken.state, Action::Return, w.at, taken.next, work);
     }
     arrow(
         taken.state,
@@ -72,29 +59,26 @@ pub fn signed(s: State, text: &[u8], w: Word, work: &mut Work, n: KnownNames) ->
 }
 
 // Whether a reference goes on behind a name in an operation: `[`, CON, `@`, `<-` or `=` comes.
+#[tactic(auto, using(std::proofs::lemmas::Bool::Decides::nat_tests), unfolding(about_grammar::specs::Following::among))]
 fn refers(kind: u8) -> bool
     ensures { result ≡ among kind (open_bracket ∷ con_word ∷ at_sign ∷ delayed_sign ∷ equal_sign ∷ []) }
 {
-    if kind == language::kinds::OPEN_BRACKET {
-        return true;
-    }
-    if kind == language::kinds::CON {
-        return true;
-    }
-    if kind == language::kinds::AT {
-        return true;
-    }
-    stores::signs(kind)
+    matches!(
+        kind,
+        language::kinds::OPEN_BRACKET
+            | language::kinds::CON
+            | language::kinds::AT
+            | language::kinds::DELAYED
+            | language::kinds::EQUAL
+    )
 }
 
 // The same in a state: `[` or `@` comes.
+#[tactic(auto, using(std::proofs::lemmas::Bool::Decides::nat_tests), unfolding(about_grammar::specs::Following::among))]
 fn sets(kind: u8) -> bool
     ensures { result ≡ among kind (open_bracket ∷ at_sign ∷ []) }
 {
-    if kind == language::kinds::OPEN_BRACKET {
-        return true;
-    }
-    kind == language::kinds::AT
+    matches!(kind, language::kinds::OPEN_BRACKET | language::kinds::AT)
 }
 
 // An action of an operation, behind its first name.
@@ -108,18 +92,14 @@ pub fn named_in_operation(
 ) -> Answer
     ensures { Acts (ask L.operation_name ∷ []) (after_name name) text.now n w s work.old work.new result }
 {
-    let kind = w.kind;
-    if refers(kinds::number(kind)) {
-        let first = parse_expressions::reference(s, name, text, w, work);
-        if parse_step::unread(first) {
-            return first;
-        }
+    if refers(kinds::kind_of(w)) {
+        let first = parse_expressions::reference(s, name, text, w, work)?;
         return stores::rest(first.state, text, first.next, work);
     }
     perform(s, name, text, w, work, n)
 }
 
-// An action of a state, behind its first name.
+// An action of a state, behind its first name. What may follow differs and how it is read too, so that one function with a flag would ask it twice.
 pub fn named_in_state(
     s: State,
     name: Word,
@@ -130,12 +110,8 @@ pub fn named_in_state(
 ) -> Answer
     ensures { Acts (ask L.state_name ∷ []) (after_name name) text.now n w s work.old work.new result }
 {
-    let kind = w.kind;
-    if sets(kinds::number(kind)) {
-        let first = parse_expressions::reference(s, name, text, w, work);
-        if parse_step::unread(first) {
-            return first;
-        }
+    if sets(kinds::kind_of(w)) {
+        let first = parse_expressions::reference(s, name, text, w, work)?;
         return stores::set(first.state, text, first.next, work);
     }
     perform(s, name, text, w, work, n)

@@ -23,13 +23,11 @@ pub enum Sides {
 }
 
 // Whether a kind is a store's sign.
+#[tactic(auto, using(std::proofs::lemmas::Bool::Decides::nat_tests), unfolding(about_grammar::specs::Following::among))]
 pub fn signs(kind: u8) -> bool
     ensures { result ≡ among kind (delayed_sign ∷ equal_sign ∷ []) }
 {
-    if kind == language::kinds::DELAYED {
-        return true;
-    }
-    kind == language::kinds::EQUAL
+    matches!(kind, language::kinds::DELAYED | language::kinds::EQUAL)
 }
 
 // A store's record.
@@ -46,63 +44,41 @@ fn storing(kind: u8, left: Sides, right: u16) -> Action
 pub fn set(s: State, text: &[u8], w: Word, work: &mut Work) -> Answer
     ensures { AfterLeft L.set_sign text.now w s work.old work.new result }
 {
-    let found = w.kind;
-    if kinds::number(found) == language::kinds::AT {
-        let taken = taking::take(text, w, s, true, Bearing::Level);
-        if parse_step::unread(taken) {
-            return taken;
-        }
-        let at = w.at;
+    if kinds::kind_of(w) == language::kinds::AT {
+        let taken = taking::take(text, w, s, true, Bearing::Level)?;
         let action = Action::Set(adding::last(taken.state.nodes));
-        return leaves::put(taken.state, action, at, taken.next, work);
+        return leaves::put(taken.state, action, w.at, taken.next, work);
     }
-    taking::refuse(w, s, Refusal::NoContinuation)
+    taking::refuse(w, Refusal::NoContinuation)
 }
 
 // A store, from its sign on.
 fn store(s: State, left: Sides, text: &[u8], w: Word, work: &mut Work) -> Answer
     ensures { Stores left text.now w s work.old work.new result }
 {
-    let found = w.kind;
-    let kind = kinds::number(found);
+    let kind = kinds::kind_of(w);
     if signs(kind) {
-        let taken = taking::take(text, w, s, true, Bearing::Level);
-        if parse_step::unread(taken) {
-            return taken;
-        }
+        let taken = taking::take(text, w, s, true, Bearing::Level)?;
         let right = parse_expressions::start(
             taken.state,
             Level::Expression,
             text,
             taken.next,
             work,
-        );
-        if parse_step::unread(right) {
-            return right;
-        }
-        let at = w.at;
+        )?;
         let action = storing(kind, left, adding::last(right.state.nodes));
-        return leaves::put(right.state, action, at, right.next, work);
+        return leaves::put(right.state, action, w.at, right.next, work);
     }
-    taking::refuse(w, s, Refusal::NoContinuation)
+    taking::refuse(w, Refusal::NoContinuation)
 }
 
 // CON, a second reference, and the store.
 fn second(s: State, text: &[u8], w: Word, work: &mut Work) -> Answer
     ensures { kind_no w.kind ≡ con_word → AfterLeft L.left_rest text.now w s work.old work.new result }
 {
-    let taken = taking::take(text, w, s, false, Bearing::Level);
-    if parse_step::unread(taken) {
-        return taken;
-    }
-    let kept = leaves::keep_name(text, taken.next, taken.state);
-    if parse_step::unread(kept) {
-        return kept;
-    }
-    let other = parse_expressions::reference(kept.state, taken.next, text, kept.next, work);
-    if parse_step::unread(other) {
-        return other;
-    }
+    let taken = taking::take(text, w, s, false, Bearing::Level)?;
+    let kept = leaves::keep_name(text, taken.next, taken.state)?;
+    let other = parse_expressions::reference(kept.state, taken.next, text, kept.next, work)?;
     let left = Sides::Two(adding::last(s.nodes), adding::last(other.state.nodes));
     store(other.state, left, text, other.next, work)
 }
@@ -111,8 +87,7 @@ fn second(s: State, text: &[u8], w: Word, work: &mut Work) -> Answer
 pub fn rest(s: State, text: &[u8], w: Word, work: &mut Work) -> Answer
     ensures { AfterLeft L.left_rest text.now w s work.old work.new result }
 {
-    let found = w.kind;
-    let kind = kinds::number(found);
+    let kind = kinds::kind_of(w);
     if kind == language::kinds::CON {
         return second(s, text, w, work);
     }

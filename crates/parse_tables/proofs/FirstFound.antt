@@ -2,38 +2,17 @@
 use mathlib.Core.Bool.{Bool, true, false, cond}
 use mathlib.Core.List.{List, map}
 use mathlib.Core.Option.{none, some}
-use mathlib.Core.Path.{◌≡◌, ap, sym, ◌∙◌}
-use Prim.Native.Nat.{ℕ, suc, ◌+◌, ◌-◌, ◌*◌, ◌<◌, ◌≤◌, min}
+use mathlib.Core.Path.{◌≡◌, sym, ◌∙◌}
+use Prim.Native.Nat.{ℕ, suc, ◌+◌, ◌-◌, ◌<◌, ◌≤◌, min}
 use native.Mathlib.Omega.{arith}
 use Rattle.language.specs.Characters.{folded}
 use Rattle.language.specs.Decode.{up_to}
 use Rattle.language.specs.Naming.{number_of}
 use Rattle.language.specs.Scan.{same}
 use Rattle.language.specs.Tree.{Name}
-use Rattle.parse_array.specs.Layout.{name_size, work_size}
-use Rattle.parse_tables.proofs.RowLaws.{ends-within}
 use Rattle.parse_tables.specs.declared.Table.{Table}
-use Rattle.parse_tables.specs.declared.Table.TheVariants as T
 use Rattle.parse_tables.specs.Names.{name_at, names_in, names_of}
-use Rattle.parse_tables.specs.Rows.{from, most, rows, size}
-
--- A table of names has so few that a byte numbers them.
-pub few-rows : (t : Table) → size t ≡ name_size → most t ≤ 256
-few-rows T.Actions e = absurd (omega arith)
-few-rows T.ActionPlaces e = absurd (omega arith)
-few-rows T.Facilities e = omega arith
-few-rows T.FacilityPlaces e = omega arith
-few-rows T.Operations e = omega arith
-few-rows T.OperationPlaces e = omega arith
-few-rows T.States e = omega arith
-few-rows T.StatePlaces e = omega arith
-few-rows T.FacilityNames e = omega arith
-few-rows T.OperationNames e = omega arith
-few-rows T.Labels e = omega arith
-
--- The row of a name stands in the working array.
-pub row-there : (t : Table) {base k : ℕ} → size t ≡ name_size → base ≡ from t → k < most t → base + name_size * k + name_size ≤ work_size
-row-there t {base} {k} e o h = omega (arith, ends-within t, ap (λ (m : ℕ). m * most t) e)
+use Rattle.parse_tables.specs.Rows.{most, rows}
 
 module _ (text : List ℕ) (t : Table) (n : ℕ) (w : List ℕ) (name : Name) where
   abbrev held : ℕ

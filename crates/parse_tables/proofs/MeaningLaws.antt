@@ -1,6 +1,7 @@
 -- A meaning by what is found among facilities and operations.
-use mathlib.Core.Bool.{Bool, true, false}
+use mathlib.Core.Bool.{Bool, true}
 use mathlib.Core.List.{List, map}
+use mathlib.Core.Option.{Option, none, some}
 use mathlib.Core.Path.{◌≡◌, ap}
 use Prim.Native.Nat.{ℕ, ◌%◌, ◌<◌}
 use native.Mathlib.Omega.{arith}
@@ -10,35 +11,33 @@ use Rattle.language.specs.Characters.{folded}
 use Rattle.language.specs.Naming as L
 use Rattle.language.specs.Naming.{meaning, number_of, or_else}
 use Rattle.parse_array.specs.Names.{letters}
-use Rattle.parse_tables.specs.declared.finding.Found.{Found}
-use Rattle.parse_tables.specs.declared.finding.Found.TheVariants.{At, Nothing}
 use Rattle.parse_tables.specs.declared.meaning.KnownNames.{KnownNames}
 use Rattle.parse_tables.specs.declared.meaning.Meaning.{Meaning}
 use Rattle.parse_tables.specs.declared.meaning.Meaning.TheVariants as M
 use Rattle.parse_tables.specs.declared.Table.TheVariants as T
 use Rattle.parse_tables.specs.Known.{Means, meant, waiting}
-use Rattle.parse_tables.specs.Names.{facility_names, found, names_in}
+use Rattle.parse_tables.specs.Names.{facility_names, names_in}
 
 module _ (text work : List ℕ) (n : KnownNames) (place length : ℕ) where
   -- What is found among facilities, and among operations.
-  abbrev Facility : Found → Type 0
-  Facility f = found f ≡ number_of (letters text place length) 0 (facility_names text work n.facilities)
+  abbrev Facility : Option ℕ → Type 0
+  Facility f = f ≡ number_of (letters text place length) 0 (facility_names text work n.facilities)
 
-  abbrev Operation : Found → Type 0
-  Operation o = found o ≡ number_of (letters text place length) 0 (names_in text T.OperationNames work n.operations)
+  abbrev Operation : Option ℕ → Type 0
+  Operation o = o ≡ number_of (letters text place length) 0 (names_in text T.OperationNames work n.operations)
 
-  pub as-facility : (f : Found) {k : ℕ} → Facility f → f ≡ At k → Means text work n place length (M.Facility k)
+  pub as-facility : {k : ℕ} → Facility (some k) → Means text work n place length (M.Facility k)
   unfolding meaning
-  as-facility f e d s sc z = rw (z.facilities, ← e, d)
+  as-facility e s sc z = rw (z.facilities, ← e)
 
-  pub as-operation : (f o : Found) {k : ℕ} → Facility f → f ≡ Nothing → Operation o → o ≡ At k → Means text work n place length (M.Operation k)
+  pub as-operation : {k : ℕ} → Facility none → Operation (some k) → Means text work n place length (M.Operation k)
   unfolding meaning
-  as-operation f o e d g h s sc z = rw (z.facilities, z.operations, ← e, ← g, d, h)
+  as-operation e g s sc z = rw (z.facilities, z.operations, ← e, ← g)
 
-  pub as-other : (f o : Found) (r : Meaning) → Facility f → f ≡ Nothing → Operation o → o ≡ Nothing
+  pub as-other : (r : Meaning) → Facility none → Operation none
       → (N.length text < 65536 → meant r ≡ or_else (waiting n.waiting (letters text place length)) L.state L.unknown) → Means text work n place length r
   unfolding meaning
-  as-other f o r e d g h i s sc z = rw (z.facilities, z.operations, z.states (letters text place length), ← e, ← g, d, h) (i s)
+  as-other r e g i s sc z = rw (z.facilities, z.operations, z.states (letters text place length), ← e, ← g) (i s)
 
 -- ---- A name that waits, by its length.
 
@@ -49,6 +48,3 @@ waits-for text place size {name} e d s =
     let l : N.length name % 65536 ≡ N.length (map folded (take size (drop place text))) =
     omega (arith, ap N.length e, length-take size (drop place text), length-drop place text, length-map (take size (drop place text)) folded) in
     rw (d, l)
-
-pub waits-not : (name : List ℕ) {b : Bool} → b ≡ false → L.unknown ≡ or_else (waiting b name) L.state L.unknown
-waits-not name d = rw d

@@ -1,12 +1,11 @@
 -- Names by the places and sizes of their words.
 use Rattle.std.specs.Prelude.{List, ◌++◌, ℕ, ◌+◌, ◌*◌, min}
 use Rattle.std.proofs.Math.Option.{Option, none, some}
+use Rattle.std.specs.Prelude as R
 use Rattle.language.specs.Decode.{half_at, up_to}
 use Rattle.language.specs.Encode.{two}
 use Rattle.language.specs.Tree.{Name}
 use Rattle.parse_array.specs.Names.{letters}
-use Rattle.parse_tables.specs.declared.finding.Found.{Found}
-use Rattle.parse_tables.specs.declared.finding.Found.TheVariants.{At, Nothing}
 use Rattle.parse_tables.specs.declared.Table.{Table}
 use Rattle.parse_tables.specs.declared.Table.TheVariants as T
 use Rattle.parse_tables.specs.Rows.{most, rows}
@@ -28,6 +27,6 @@ names_in text t w n = names_of text (rows t (min n (most t)) w) (min n (most t))
 abbrev pub facility_names : List ℕ → List ℕ → ℕ → List Name
 facility_names text w n = names_in text T.FacilityNames w n
 
-abbrev pub found : Found → Option ℕ
-found (At k) = some k
-found Nothing = none
+abbrev pub found : R.Option ℕ → Option ℕ
+found (R.Some k) = some k
+found R.None = none

@@ -18,8 +18,7 @@ use text_words::Position;
 pub fn rewrite_action(work: &mut Work, n: u16, action: Action)
     ensures { n < most_actions → Wrote T.Actions n (action_bytes (meant action)) work.old work.new }
 {
-    let written = action_bytes::action_bytes(action);
-    rows::write(work, Table::Actions, n, &written);
+    rows::write(work, Table::Actions, n, &action_bytes::action_bytes(action));
 }
 
 // Adds action n with the place of its word; answers whether there was room.
@@ -30,7 +29,6 @@ pub fn add_action(work: &mut Work, n: u16, action: Action, at: Position) -> bool
         return false;
     }
     rewrite_action(work, n, action);
-    let beside = places::place_row(at);
-    rows::write(work, Table::ActionPlaces, n, &beside);
+    rows::write(work, Table::ActionPlaces, n, &places::place_row(at));
     true
 }

@@ -6,9 +6,9 @@ ghost use Rattle.judge_records.specs.Noted.{facility_beside_bytes};
 ghost use Rattle.parse_array.specs.Layout.{facility_rows};
 ghost use Rattle.parse_tables.specs.Facilities.{FacilityAdded, facility_said, places_said};
 
-use crate::extents::Extent;
+use crate::extents::{Ends, Extent};
 use crate::{Table, names, rows};
-use image_records::{numbers, record_sizes};
+use image_records::record_sizes;
 use image_sections::facilities::{FacilityKind, FacilityRecord, ShortBounds};
 use image_sections::facility_bytes;
 use parse_array::{Work, places};
@@ -25,13 +25,13 @@ pub struct Declared {
     pub equals: Position,
 }
 
-// The low 16 bits of two bounds; the mark of a larger one stands with its place.
-fn low_bounds(first: u32, last: u32) -> ShortBounds
-    ensures { (result.first ≡ first % 65536) × (result.last ≡ last % 65536) }
+// The low 16 bits of the bounds; the mark of a larger one stands with its place.
+fn low_bounds(e: Ends) -> ShortBounds
+    ensures { (result.first ≡ e.first % 65536) × (result.last ≡ e.last % 65536) }
 {
     ShortBounds {
-        first: (first % 65536) as u16,
-        last: (last % 65536) as u16,
+        first: (e.first % 65536) as u16,
+        last: (e.last % 65536) as u16,
     }
 }
 
@@ -39,19 +39,12 @@ fn low_bounds(first: u32, last: u32) -> ShortBounds
 pub fn facility_record(x: Declared, place: u16) -> [u8; record_sizes::FACILITY]
     ensures { (name : Name) (at : ℕ) → length name ≡ x.size → place ≡ at % 65536 → result ≡ facility_record at (facility_said name x) }
 {
-    let extent = x.extent;
-    let w = extent.words;
-    let b = extent.bits;
-    let kind = x.kind;
-    let words = low_bounds(w.first, w.last);
-    let bits = low_bounds(b.first, b.last);
-    let name = (x.size % 256) as u8;
     let f = FacilityRecord {
-        kind,
-        dimensions: extent.dimensions,
-        name,
-        words,
-        bits,
+        kind: x.kind,
+        dimensions: x.extent.dimensions,
+        name: (x.size % 256) as u8,
+        words: low_bounds(x.extent.words),
+        bits: low_bounds(x.extent.bits),
         place: x.expression,
     };
     facility_bytes::facility_bytes(f, place as u32)
@@ -61,23 +54,12 @@ pub fn facility_record(x: Declared, place: u16) -> [u8; record_sizes::FACILITY]
 pub fn facility_beside(x: Declared) -> [u8; 12]
     ensures { (name : Name) → result ≡ facility_beside_bytes (facility_said name x) (places_said x) }
 {
-    let extent = x.extent;
-    let w = extent.words;
-    let b = extent.bits;
+    let w = x.extent.words;
+    let b = x.extent.bits;
     let p = places::ended(x.at, w.first, w.left, w.last, w.right);
     let q = places::ended(x.equals, b.first, b.left, b.last, b.right);
-    let n0 = numbers::low(p.at);
-    let n1 = numbers::high(p.at);
-    let w0 = numbers::low(p.first);
-    let w1 = numbers::high(p.first);
-    let w2 = numbers::low(p.last);
-    let w3 = numbers::high(p.last);
-    let b0 = numbers::low(q.first);
-    let b1 = numbers::high(q.first);
-    let b2 = numbers::low(q.last);
-    let b3 = numbers::high(q.last);
-    let e0 = numbers::low(q.at);
-    let e1 = numbers::high(q.at);
+    let [n0, n1, w0, w1, w2, w3] = p.bytes();
+    let [e0, e1, b0, b1, b2, b3] = q.bytes();
     [n0, n1, w0, w1, w2, w3, b0, b1, b2, b3, e0, e1]
 }
 
@@ -85,9 +67,7 @@ pub fn facility_beside(x: Declared) -> [u8; 12]
 pub fn add_facility(work: &mut Work, n: u16, place: u16, x: Declared)
     ensures { n < facility_rows → FacilityAdded n place x work.old work.new }
 {
-    let written = facility_record(x, place);
-    rows::write(work, Table::Facilities, n, &written);
-    let beside = facility_beside(x);
-    rows::write(work, Table::FacilityPlaces, n, &beside);
+    rows::write(work, Table::Facilities, n, &facility_record(x, place));
+    rows::write(work, Table::FacilityPlaces, n, &facility_beside(x));
     names::add_name(work, Table::FacilityNames, n, x.at, x.size);
 }

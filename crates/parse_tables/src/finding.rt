@@ -13,12 +13,6 @@ use parse_array::Work;
 use parse_array::layout::NAME_SIZE;
 use text_characters::names::matches;
 
-#[derive(Clone, Copy)]
-pub enum Found {
-    At(u8),
-    Nothing,
-}
-
 // The word of the name that stands at a place of the working array, which has all of its bytes: none is tested for.
 fn word_at<'a>(text: &'a [u8], work: &Work, at: usize) -> &'a [u8]
     requires { at + name_size ≤ work_size }
@@ -31,19 +25,23 @@ fn word_at<'a>(text: &'a [u8], work: &Work, at: usize) -> &'a [u8]
 }
 
 // The number of the first of n names in a table that is the word of this place and length.
-pub fn find(text: &[u8], work: &Work, table: Table, n: u16, place: usize, length: usize) -> Found
+pub fn find(
+    text: &[u8],
+    work: &Work,
+    table: Table,
+    n: u16,
+    place: usize,
+    length: usize,
+) -> Option<u8>
     requires { size table ≡ name_size }
     ensures { found result ≡ number_of (letters text.now place length) 0 (names_in text.now table work.now n) }
 {
     let name = bytes::part(text, place, length);
-    let count = rows::held(table, n);
     let base = rows::begin(table);
-    let mut k: u16 = 0;
-    while k < count {
+    for k in 0..rows::held(table, n) {
         if matches(name, word_at(text, work, base + NAME_SIZE * k as usize)) {
-            return Found::At(k as u8);
+            return Some(k as u8);
         }
-        k += 1;
     }
-    Found::Nothing
+    None
 }

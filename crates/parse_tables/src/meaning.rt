@@ -7,7 +7,6 @@ ghost use Rattle.parse_array.specs.Names.{letters};
 ghost use Rattle.parse_tables.specs.Known as K;
 ghost use Rattle.parse_tables.specs.Known.{Means, meant};
 
-use crate::finding::Found;
 use crate::{Table, finding};
 use image_records::bytes;
 use parse_array::Work;
@@ -44,7 +43,7 @@ fn other(text: &[u8], waits: bool, place: usize, length: usize) -> Meaning
 pub fn what(text: &[u8], work: &Work, n: KnownNames, place: usize, length: usize) -> Meaning
     ensures { Means text.now work.now n place length result }
 {
-    let f = finding::find(
+    let facility = finding::find(
         text,
         work,
         Table::FacilityNames,
@@ -52,21 +51,19 @@ pub fn what(text: &[u8], work: &Work, n: KnownNames, place: usize, length: usize
         place,
         length,
     );
-    match f {
-        Found::At(k) => Meaning::Facility(k),
-        Found::Nothing => {
-            let o = finding::find(
-                text,
-                work,
-                Table::OperationNames,
-                n.operations,
-                place,
-                length,
-            );
-            match o {
-                Found::At(k) => Meaning::Operation(k),
-                Found::Nothing => other(text, n.waiting, place, length),
-            }
-        }
+    if let Some(k) = facility {
+        return Meaning::Facility(k);
+    }
+    let operation = finding::find(
+        text,
+        work,
+        Table::OperationNames,
+        n.operations,
+        place,
+        length,
+    );
+    match operation {
+        Some(k) => Meaning::Operation(k),
+        None => other(text, n.waiting, place, length),
     }
 }

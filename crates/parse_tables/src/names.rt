@@ -13,15 +13,11 @@ use parse_array::layout::NAME_SIZE;
 use text_words::{Position, places};
 
 // The bytes of a name: its place, and its size.
-fn name_row(at: Position, length: usize) -> [u8; 4]
+fn name_row(at: Position, length: usize) -> [u8; NAME_SIZE]
     ensures { result ≡ name_row at.place length }
 {
-    let place = (places::place(at) % 65536) as u16;
-    let size = (length % 65536) as u16;
-    let p0 = numbers::low(place);
-    let p1 = numbers::high(place);
-    let s0 = numbers::low(size);
-    let s1 = numbers::high(size);
+    let [p0, p1] = ((places::place(at) % 65536) as u16).to_le_bytes();
+    let [s0, s1] = ((length % 65536) as u16).to_le_bytes();
     [p0, p1, s0, s1]
 }
 
@@ -29,8 +25,7 @@ fn name_row(at: Position, length: usize) -> [u8; 4]
 pub fn add_name(work: &mut Work, table: Table, n: u16, at: Position, length: usize)
     ensures { size table ≡ 4 → n < most table → Wrote table n (name_row at.place length) work.old work.new }
 {
-    let row = name_row(at, length);
-    rows::write(work, table, n, &row);
+    rows::write(work, table, n, &name_row(at, length));
 }
 
 // The word of name k in a table of names.

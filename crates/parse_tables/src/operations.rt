@@ -27,9 +27,7 @@ fn operation_row(size: usize, body: Run) -> [u8; record_sizes::OPERATION]
 pub fn add_operation(work: &mut Work, n: u16, at: Position, size: usize, body: Run)
     ensures { n < operation_rows → OperationAdded n at size body work.old work.new }
 {
-    let written = operation_row(size, body);
-    rows::write(work, Table::Operations, n, &written);
-    let beside = places::place_row(at);
-    rows::write(work, Table::OperationPlaces, n, &beside);
+    rows::write(work, Table::Operations, n, &operation_row(size, body));
+    rows::write(work, Table::OperationPlaces, n, &places::place_row(at));
     names::add_name(work, Table::OperationNames, n, at, size);
 }

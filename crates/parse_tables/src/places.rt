@@ -3,7 +3,6 @@ ghost use Rattle.std.specs.Prelude.{◌≡◌};
 ghost use Rattle.judge_records.specs.Noted.{place_bytes};
 ghost use Rattle.text_words.specs.Meaning.{positioned};
 
-use image_records::numbers;
 use parse_array::places;
 use text_words::Position;
 
@@ -11,8 +10,5 @@ use text_words::Position;
 pub fn place_row(at: Position) -> [u8; 2]
     ensures { result ≡ place_bytes 0 (positioned at) }
 {
-    let p = places::plain(at);
-    let p0 = numbers::low(p.at);
-    let p1 = numbers::high(p.at);
-    [p0, p1]
+    places::plain(at).at.to_le_bytes()
 }

@@ -12,12 +12,12 @@ use crate::{Table, places, rows};
 use image_records::record_sizes;
 use image_sections::runs::Run;
 use image_sections::states;
-use image_sections::states::{StateRecord, StateValue};
+use image_sections::states::StateRecord;
 use parse_array::Work;
 use text_words::Position;
 
 // The bytes of a record.
-fn state_row(size: usize, value: StateValue, actions: Run) -> [u8; record_sizes::STATE]
+fn state_row(size: usize, value: Option<u16>, actions: Run) -> [u8; record_sizes::STATE]
     ensures { (name : Name) → length name ≡ size → result ≡ state_record (record { name = name; value = value_meant value; actions = run_meant actions }) }
 {
     let name = (size % 256) as u8;
@@ -33,9 +33,9 @@ fn state_row(size: usize, value: StateValue, actions: Run) -> [u8; record_sizes:
 fn state_beside(at: Position, value: Position) -> [u8; 4]
     ensures { result ≡ state_beside_bytes (record { at = positioned at; value = positioned value }) }
 {
-    let p = places::place_row(at);
-    let q = places::place_row(value);
-    [p[0], p[1], q[0], q[1]]
+    let [p0, p1] = places::place_row(at);
+    let [q0, q1] = places::place_row(value);
+    [p0, p1, q0, q1]
 }
 
 // Adds state n, whose label has `size` bytes and whose value stands at `spot`.
@@ -44,14 +44,12 @@ pub fn add_state(
     n: u16,
     at: Position,
     size: usize,
-    value: StateValue,
+    value: Option<u16>,
     spot: Position,
     actions: Run,
 )
     ensures { n < state_rows → StateAdded n (positioned at) size (value_meant value) (positioned spot) (run_meant actions) work.old work.new }
 {
-    let written = state_row(size, value, actions);
-    rows::write(work, Table::States, n, &written);
-    let beside = state_beside(at, spot);
-    rows::write(work, Table::StatePlaces, n, &beside);
+    rows::write(work, Table::States, n, &state_row(size, value, actions));
+    rows::write(work, Table::StatePlaces, n, &state_beside(at, spot));
 }

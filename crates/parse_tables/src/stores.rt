@@ -26,17 +26,11 @@ fn bounds_of(e: Ends) -> Bounds
 fn shape_of(x: Declared) -> Shape
     ensures { (name : Name) → Shaped result (facility_said name x) }
 {
-    let kind = x.kind;
-    let extent = x.extent;
-    let words = extent.words;
-    let bits = extent.bits;
-    let w = bounds_of(words);
-    let b = bounds_of(bits);
     Shape {
-        computed: kinds::is_computed(kind),
-        dimensions: extent.dimensions,
-        words: w,
-        bits: b,
+        computed: kinds::is_computed(x.kind),
+        dimensions: x.extent.dimensions,
+        words: bounds_of(x.extent.words),
+        bits: bounds_of(x.extent.bits),
     }
 }
 

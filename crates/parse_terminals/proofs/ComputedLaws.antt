@@ -8,9 +8,13 @@ use borrow.Author.Tests.{le-leb}
 use lib.Dec.{leb}
 use Rattle.parse_step.proofs.Ceilings.{few-counted}
 use Rattle.parse_step.proofs.Saying.{makes-it}
-use Rattle.parse_step.specs.declared.Answer.{Answer}
+use Rattle.parse_step.specs.Answers.{Answer}
+use Rattle.parse_step.specs.declared.Reached.{Reached}
+use Rattle.parse_step.specs.declared.Unread.{Unread}
+use Rattle.parse_step.proofs.Answers.{err_as, ok_err}
+use Rattle.parse_bounds.proofs.Telling.{tells-ok}
+use Rattle.std.specs.Prelude.{Err, Ok}
 use Rattle.parse_step.specs.declared.State.{State}
-use Rattle.parse_step.specs.declared.ReadVerdict.TheVariants.{Done}
 use Rattle.parse_step.specs.Course.{counts_of}
 use Rattle.parse_step.specs.Pays.{Pays, Spends}
 use Rattle.parse_step.specs.Says.{Parses, Read, Says, pushed}
@@ -22,7 +26,7 @@ use Rattle.language.specs.Building.{expression_no, word_no}
 use Rattle.language.specs.Declaring.{make_computed}
 use Rattle.language.specs.Describe.{Noted, expression_size, nodes_of}
 use Rattle.language.specs.DescribeText.{facility_nodes, function_sizes}
-use Rattle.language.specs.Machine.{ask, expression, function_of, make, within_ceilings}
+use Rattle.language.specs.Machine.{ask, expression, make, within_ceilings}
 use Rattle.language.specs.Ceilings.{deepest, most_counted, most_facilities, most_operations, most_states}
 use Rattle.language.specs.Naming.{Scope}
 use Rattle.language.specs.Tree as T
@@ -39,7 +43,7 @@ use Rattle.text_words.specs.Meaning.{positioned}
 use Rattle.parse_array.proofs.NodesAdded.{nodes-append, nodes-other}
 use Rattle.parse_array.specs.Held.{Held, held, other_in, with_nodes}
 use Rattle.parse_array.specs.Layout.{most_nodes}
-use Rattle.parse_terminals.specs.Functions.{Computes, FunctionRead}
+use Rattle.parse_terminals.specs.Functions.{Begun, Computes}
 use Rattle.parse_terminals.specs.Inputs.{at_function, with_one}
 use Rattle.parse_terminals.proofs.FunctionWords.{expression-first}
 use Rattle.language.specs.Tests.{both}
@@ -99,14 +103,38 @@ within-kept {s} {s'} p n e =
 
 -- ---- As the code reads them.
 
-module _ {text : List ℕ} (equal : Word) {w : Word} {s : State} {work work' : List ℕ} {a : Answer} {i : ℕ} (f : Parses (ask expression ∷ []) same s.nesting text w s work work' a) (pay : Spends text 0 w s a) (l : i ≡ a.state.nodes - 1) where
-  pub computed-read : Computes text equal w s work work' (record { answer = a; kind = F.Computed; expression = i; equals = equal.at })
-  unfolding word_no expression_no
-  computed-read n ds place name x g = record {
-    done = read;
-    refused = λ h d K b. expression-first text w K (at_function text name x equal b) s g.seen n ∙ told.refused h d (make make_computed ∷ K) (at_function text name x equal b);
-    full = λ d. let q = pay.full d g.seen in omega (arith, told.full d, q.nodes, q.ceiling (few-counted (counts_of s) g.within), g.paid);
+module _ {text : List ℕ} (equal : Word) {w : Word} {s : State} {work work' : List ℕ} where
+  told : {a : Answer} → Parses (ask expression ∷ []) same s.nesting text w s work work' a → {ds : List Declaration} {place : ℕ} → Begun text ds place w s work
+      → Says text (scope_of (names_of ds)) (ask expression ∷ []) [] (λ b. b) (held s.nodes work) s.nodes s.nesting w s a work'
+  told f {ds} g = f (scope_of (names_of ds)) (record { seen = g.seen; names = sym (ap (facility_names text work) (ap (λ (j : State). j.known) g.state) ∙ g.listed.tabled.names) })
+
+  pub computed-not : {e : Unread} → Parses (ask expression ∷ []) same s.nesting text w s work work' (Err e) → Spends text 0 w s (Err e) → Computes text equal w s work work' (Err e)
+  computed-not f pay n ds place name x g = record {
+    done = λ d. ok_err (sym d);
+    refused = λ h d K b. expression-first text w K (at_function text name x equal b) s g.seen n ∙ (told f g).refused h (err_as d) (make make_computed ∷ K) (at_function text name x equal b);
+    full = λ d. let q = pay.full (err_as d) g.seen in omega (arith, (told f g).full (err_as d), q.nodes, q.ceiling (few-counted (counts_of s) g.within), g.paid);
   }
+
+  pub computed-read : {a : Reached} {i : ℕ} → Parses (ask expression ∷ []) same s.nesting text w s work work' (Ok a) → Spends text 0 w s (Ok a) → i ≡ a.state.nodes - 1
+      → Computes text equal w s work work' (Ok (record { reached = a; kind = F.Computed; expression = i; equals = equal.at }))
+  unfolding word_no expression_no
+  computed-read {a} {i} f pay l n ds place name x g = tells-ok (record {
+    function = T.given (positioned equal.at) y.tree;
+    course = λ K b. expression-first text w K (at_function text name x equal b) s g.seen n ∙ y.course (make make_computed ∷ K) (at_function text name x equal b)
+        ∙ makes-it text make_computed K a.next (pushed y.tree (at_function text name x equal b)) (with_one (computed text name x (positioned equal.at) y.tree) b) a.state (λ q. refl);
+    number = omega (arith, here, y.pending.nodes, l);
+    equals = refl;
+    awaiting = record {
+      counted = omega (arith, p.facilities, p.known, known, ap (λ (j : State). j.facilities) g.state, g.listed.counted);
+      room = omega (arith, p.known, known, g.room, g.listed.counted);
+      tabled = subst (λ (k : ℕ). Tabled text ds place k work') (sym (p.known ∙ known)) (tabled-kept g.listed.tabled (other-kept a.state.nodes s.nodes work work' (nodes_of sc s.nodes y.tree) y.pending.records));
+      expressed = expressed-more text name x (positioned equal.at) y.tree ds (subst (λ (k : ℕ). Expressed ds k work) (sym (ap (λ (j : State). j.nodes) g.state)) g.listed.expressed) y.pending.records y.pending.nodes (omega (arith, paid, few));
+    };
+    seen = y.here.seen;
+    within = within-kept p y.nesting g.within;
+    paid = paid;
+    others = record { operations = p.operations; states = p.states; nesting = y.nesting; actions = p.actions };
+  })
     where
       sc : Scope
       sc = scope_of (names_of ds)
@@ -114,39 +142,17 @@ module _ {text : List ℕ} (equal : Word) {w : Word} {s : State} {work work' : L
       known : s.known ≡ g.before.known
       known = ap (λ (j : State). j.known) g.state
 
-      told : Says text sc (ask expression ∷ []) [] (λ b. b) (held s.nodes work) s.nodes s.nesting w s a work'
-      told = f sc (record { seen = g.seen; names = sym (ap (facility_names text work) known ∙ g.listed.tabled.names) })
+      y : Read text sc (ask expression ∷ []) [] (λ b. b) (held s.nodes work) s.nodes s.nesting w s a work'
+      y = (told f g).done refl
 
-      read : a.verdict ≡ Done → FunctionRead text ds place name x (ask function_of ∷ []) (at_function text name x equal) w s work' (record { answer = a; kind = F.Computed; expression = i; equals = equal.at })
-      read d = record {
-        function = T.given (positioned equal.at) y.tree;
-        course = λ K b. expression-first text w K (at_function text name x equal b) s g.seen n ∙ y.course (make make_computed ∷ K) (at_function text name x equal b)
-            ∙ makes-it text make_computed K a.next (pushed y.tree (at_function text name x equal b)) (with_one (computed text name x (positioned equal.at) y.tree) b) a.state (λ q. refl);
-        number = omega (arith, here, y.pending.nodes, l);
-        equals = refl;
-        awaiting = record {
-          counted = omega (arith, p.facilities, p.known, known, ap (λ (j : State). j.facilities) g.state, g.listed.counted);
-          room = omega (arith, p.known, known, g.room, g.listed.counted);
-          tabled = subst (λ (k : ℕ). Tabled text ds place k work') (sym (p.known ∙ known)) (tabled-kept g.listed.tabled (other-kept a.state.nodes s.nodes work work' (nodes_of sc s.nodes y.tree) y.pending.records));
-          expressed = expressed-more text name x (positioned equal.at) y.tree ds (subst (λ (k : ℕ). Expressed ds k work) (sym (ap (λ (j : State). j.nodes) g.state)) g.listed.expressed) y.pending.records y.pending.nodes (omega (arith, paid, few));
-        };
-        seen = y.here.seen;
-        within = within-kept p y.nesting g.within;
-        paid = paid;
-        others = record { operations = p.operations; states = p.states; nesting = y.nesting; actions = p.actions };
-      }
-        where
-          y : Read text sc (ask expression ∷ []) [] (λ b. b) (held s.nodes work) s.nodes s.nesting w s a work'
-          y = told.done d
+      p : Pays 0 1 s a.state
+      p = (pay.done refl g.seen).pays
 
-          p : Pays 0 1 s a.state
-          p = (pay.done d g.seen).pays
+      here : s.nodes ≡ function_sizes ds
+      here = ap (λ (j : State). j.nodes) g.state ∙ g.listed.expressed.nodes
 
-          here : s.nodes ≡ function_sizes ds
-          here = ap (λ (j : State). j.nodes) g.state ∙ g.listed.expressed.nodes
+      few : a.state.counted ≤ 2048
+      few = p.ceiling (few-counted (counts_of s) g.within)
 
-          few : a.state.counted ≤ 2048
-          few = p.ceiling (few-counted (counts_of s) g.within)
-
-          paid : a.state.nodes ≤ 7 * a.state.counted
-          paid = omega (arith, p.nodes, g.paid)
+      paid : a.state.nodes ≤ 7 * a.state.counted
+      paid = omega (arith, p.nodes, g.paid)

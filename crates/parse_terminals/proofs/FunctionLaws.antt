@@ -3,12 +3,12 @@ use mathlib.Core.List.{List, [], ◌∷◌}
 use mathlib.Core.Path.{◌≡◌, refl, sym, ap, ◌∙◌, subst}
 use Prim.Native.Nat.{ℕ, ◌*◌, ◌≤◌}
 use native.Mathlib.Omega.{arith}
-use Rattle.parse_step.proofs.Answers.{done_full, done_refused}
 use Rattle.parse_step.proofs.Saying.{makes-it}
-use Rattle.parse_step.proofs.TakenWords.{on_taken, took-done}
-use Rattle.parse_step.specs.declared.Answer.{Answer}
+use Rattle.parse_step.proofs.TakenWords.{took-done}
+use Rattle.parse_step.specs.declared.Reached.{Reached}
+use Rattle.parse_step.specs.declared.Unread.{Unread}
+use Rattle.std.specs.Prelude.{Err, Ok, Result}
 use Rattle.parse_step.specs.declared.State.{State}
-use Rattle.parse_step.specs.declared.ReadVerdict.TheVariants.{Done}
 use Rattle.parse_step.specs.Course.{Seen, Stack, counts_of, kind_no, runs}
 use Rattle.parse_step.specs.Taken.{Passed, Took}
 use Rattle.parse_facilities.proofs.StoredLaws.{others_same, others-then}
@@ -16,7 +16,7 @@ use Rattle.parse_facilities.proofs.Unexpressed.{Bare, bare-awaits}
 use Rattle.parse_facilities.specs.Listed.{Awaiting}
 use Rattle.parse_facilities.specs.Specs.{declaration_of}
 use Rattle.parse_step.proofs.States.{state-of}
-use Rattle.parse_bounds.proofs.Telling.{through, word-taken}
+use Rattle.parse_bounds.proofs.Telling.{not-taken, tells-ok, through, untold}
 use Rattle.parse_bounds.specs.Extents.{of_terminal, to_come}
 use Rattle.image_sections.specs.declared.facilities.FacilityKind.{FacilityKind}
 use Rattle.image_sections.specs.declared.facilities.FacilityKind.TheVariants as F
@@ -57,49 +57,49 @@ bare-waits {text} {ds} {place} {work = work} g e k name x f h =
 
 -- ---- None.
 
-pub plain-read : {w : Word} {s : State} {e : P.Position} → positioned e ≡ nowhere → Plains w s (record { answer = record { verdict = Done; next = w; state = s }; kind = F.Plain; expression = 0; equals = e })
+pub plain-read : {w : Word} {s : State} {e : P.Position} → positioned e ≡ nowhere → Plains w s (record { reached = record { next = w; state = s }; kind = F.Plain; expression = 0; equals = e })
 unfolding word_no
-plain-read {w} {s} {e} q text ds place name x P work g clears = record {
-  done = λ d. record {
-    function = T.unspecified;
-    course = λ K b. clears K (at_dimensions text name x b) (with_one (declaration_of text F.Plain name x T.unspecified) b) (λ p. refl);
-    number = refl;
-    equals = sym q;
-    awaiting = bare-waits g refl F.Plain name x T.unspecified tt;
-    seen = g.seen;
-    within = g.within;
-    paid = g.paid;
-    others = others_same refl;
-  };
-  refused = λ f d. done_refused d;
-  full = λ d. done_full d;
-}
+plain-read {w} {s} {e} q text ds place name x P work g clears = tells-ok (record {
+  function = T.unspecified;
+  course = λ K b. clears K (at_dimensions text name x b) (with_one (declaration_of text F.Plain name x T.unspecified) b) (λ p. refl);
+  number = refl;
+  equals = sym q;
+  awaiting = bare-waits g refl F.Plain name x T.unspecified tt;
+  seen = g.seen;
+  within = g.within;
+  paid = g.paid;
+  others = others_same refl;
+})
 
 -- ---- An input.
 
-pub input-defined : (name equal : Word) {text : List ℕ} {w : Word} {s : State} {work : List ℕ} {a : Answer} {e : P.Position} → kind_no w.kind ≡ input_word → Inputs text name w s a → positioned e ≡ nowhere
-    → Follows text name equal w s work work (record { answer = a; kind = F.Input; expression = 0; equals = e })
-input-defined name equal {text} {w} {s} {work} {a} {e} k f q ds place x g = through (f x equal g.seen k) (λ K. K) (λ b. b) (λ K b. refl) read
-  where
-    read : InputRead text name x equal (ask function_of ∷ []) w s s a
-        → FunctionRead text ds place name x (ask function_of ∷ []) (at_function text name x equal) w s work (record { answer = a; kind = F.Input; expression = 0; equals = e })
-    read y =
-        let h : Begun text ds place a.next a.state work = begun-same g y.state y.seen in
-        record {
-          function = T.from_input;
-          course = y.course;
-          number = refl;
-          equals = sym q;
-          awaiting = bare-waits g y.state F.Input name x T.from_input tt;
-          seen = y.seen;
-          within = h.within;
-          paid = h.paid;
-          others = others_same y.state;
-        }
+module _ (name equal : Word) {text : List ℕ} {w : Word} {s : State} {work : List ℕ} (k : kind_no w.kind ≡ input_word) where
+  pub input-undefined : {i : Unread} → Inputs text name w s (Err i) → Follows text name equal w s work work (Err i)
+  input-undefined f ds place x g = untold (f x equal g.seen k) (λ K. K) (λ b. b) (λ K b. refl)
+
+  pub input-defined : {a : Reached} → Inputs text name w s (Ok a) → {e : P.Position} → positioned e ≡ nowhere
+      → Follows text name equal w s work work (Ok (record { reached = a; kind = F.Input; expression = 0; equals = e }))
+  input-defined {a} f {e} q ds place x g = tells-ok (read ((f x equal g.seen k).done refl))
+    where
+      read : InputRead text name x equal (ask function_of ∷ []) w s s a
+          → FunctionRead text ds place name x (ask function_of ∷ []) (at_function text name x equal) w s work (record { reached = a; kind = F.Input; expression = 0; equals = e })
+      read y =
+          let h : Begun text ds place a.next a.state work = begun-same g y.state y.seen in
+          record {
+            function = T.from_input;
+            course = y.course;
+            number = refl;
+            equals = sym q;
+            awaiting = bare-waits g y.state F.Input name x T.from_input tt;
+            seen = y.seen;
+            within = h.within;
+            paid = h.paid;
+            others = others_same y.state;
+          }
 
 -- ---- An expression.
 
-pub computed-defined : (name equal : Word) {text : List ℕ} {w : Word} {s : State} {work work' : List ℕ} {r : Defined} → (kind_no w.kind ≡ input_word → ⊥) → Computes text equal w s work work' r
+pub computed-defined : (name equal : Word) {text : List ℕ} {w : Word} {s : State} {work work' : List ℕ} {r : Result Defined Unread} → (kind_no w.kind ≡ input_word → ⊥) → Computes text equal w s work work' r
     → Follows text name equal w s work work' r
 computed-defined name equal n f ds place x g = f n ds place name x g
 
@@ -117,33 +117,30 @@ may-follow (T.table y z) n = absurd (n refl)
 
 module _ {text : List ℕ} (name : Word) {n : ℕ} {w : Word} {s : State} where
   -- A terminal of two dimensions has no function.
-  pub table-read : {work : List ℕ} {r : Defined} → n ≡ 2 → Plains w s r → Functions text name n w s work work r
+  pub table-read : {work : List ℕ} {r : Defined} → n ≡ 2 → Plains w s r → Functions text name n w s work work (Ok r)
   table-read {work} {r} e f ds place x h g =
-      subst (λ (P : Stack). Defines text ds place name x P (at_dimensions text name x) w s work r) (sym (table-plain x (h ∙ e)))
+      subst (λ (P : Stack). Defines text ds place name x P (at_dimensions text name x) w s work (Ok r)) (sym (table-plain x (h ∙ e)))
       (f text ds place name x (make make_plain ∷ []) work g (λ K b d m. makes-it text make_plain K w b d s m))
 
   module _ (two : n ≡ 2 → ⊥) where
-    as_function : {work work' : List ℕ} {r : Defined}
+    as_function : {work work' : List ℕ} {r : Result Defined Unread}
         → ((ds : List Declaration) (place : ℕ) (x : Extent) → Begun text ds place w s work → Defines text ds place name x (ask terminal_function ∷ []) (at_dimensions text name x) w s work' r)
         → Functions text name n w s work work' r
     as_function {work} {work'} {r} f ds place x h g =
         subst (λ (P : Stack). Defines text ds place name x P (at_dimensions text name x) w s work' r) (sym (may-follow x (λ e. two (sym h ∙ e)))) (f ds place x g)
 
-    pub none_read : {work : List ℕ} {r : Defined} → (kind_no w.kind ≡ equal_sign → ⊥) → Plains w s r → Functions text name n w s work work r
+    pub none_read : {work : List ℕ} {r : Defined} → (kind_no w.kind ≡ equal_sign → ⊥) → Plains w s r → Functions text name n w s work work (Ok r)
     none_read {work} m f = as_function (λ ds place x g. f text ds place name x (ask terminal_function ∷ []) work g (λ K b d l. no-function text w K b s g.seen m d l))
 
-    module _ (equal : kind_no w.kind ≡ equal_sign) {a : Answer} (t : Took text w (counts_of s) s a) where
-      to-equal : (x : Extent) (K : Stack) (b : Built) → runs text (ask terminal_function ∷ K) w (at_dimensions text name x b) s ≡ on_taken text w (ask function_of ∷ K) (at_function text name x w b) (counts_of s)
-      to-equal x K b = equal-taken text w K (at_dimensions text name x b) s equal
+    module _ (equal : kind_no w.kind ≡ equal_sign) where
+      pub equal-not : {work : List ℕ} {e : Unread} → Took text w (counts_of s) s (Err e) → Functions text name n w s work work (Err e)
+      equal-not t = as_function (λ ds place x g. not-taken t (λ K. ask function_of ∷ K) (at_function text name x w) (λ K b. equal-taken text w K (at_dimensions text name x b) s equal))
 
-      pub equal-not : (a.verdict ≡ Done → ⊥) → {work : List ℕ} {k : FacilityKind} {i : ℕ} {e : P.Position} → Functions text name n w s work work (record { answer = a; kind = k; expression = i; equals = e })
-      equal-not m = as_function (λ ds place x g. word-taken t (λ d. absurd (m d)) (λ K. ask function_of ∷ K) (at_function text name x w) (to-equal x))
-
-      pub function-read : a.verdict ≡ Done → {work work' : List ℕ} {r : Defined} → Follows text name w a.next a.state work work' r → Functions text name n w s work work' r
-      function-read done {work} {work'} {r} f = as_function read
+      pub function-read : {a : Reached} → Took text w (counts_of s) s (Ok a) → {work work' : List ℕ} {r : Result Defined Unread} → Follows text name w a.next a.state work work' r → Functions text name n w s work work' r
+      function-read {a} t {work} {work'} {r} f = as_function read
         where
           p : Passed text w (counts_of s) s a
-          p = t.done done
+          p = t.done refl
 
           same : a.state ≡ s
           same = state-of p.counts p.kept
@@ -152,11 +149,11 @@ module _ {text : List ℕ} (name : Word) {n : ℕ} {w : Word} {s : State} where
           read ds place x g = through (f ds place x (begun-same g same p.seen)) (λ K. K) (λ b. b) to_function behind
             where
               to_function : (K : Stack) (b : Built) → runs text (ask terminal_function ∷ K) w (at_dimensions text name x b) s ≡ runs text (ask function_of ∷ K) a.next (at_function text name x w b) a.state
-              to_function K b = to-equal x K b ∙ took-done p g.seen (ask function_of ∷ K) (at_function text name x w b)
+              to_function K b = equal-taken text w K (at_dimensions text name x b) s equal ∙ took-done p g.seen (ask function_of ∷ K) (at_function text name x w b)
 
-              behind : FunctionRead text ds place name x (ask function_of ∷ []) (at_function text name x w) a.next a.state work' r
-                  → FunctionRead text ds place name x (ask terminal_function ∷ []) (at_dimensions text name x) w s work' r
-              behind y = record {
+              behind : (v : Defined) → FunctionRead text ds place name x (ask function_of ∷ []) (at_function text name x w) a.next a.state work' v
+                  → FunctionRead text ds place name x (ask terminal_function ∷ []) (at_dimensions text name x) w s work' v
+              behind v y = record {
                 function = y.function;
                 course = λ K b. to_function K b ∙ y.course K b;
                 number = y.number;

@@ -1,11 +1,12 @@
 -- Terminals, as the code reads them.
 use mathlib.Core.List.{List, [], ◌∷◌, ◌++◌}
-use mathlib.Core.Path.{◌≡◌, sym, ap, ◌∙◌, subst}
+use mathlib.Core.Path.{◌≡◌, refl, sym, ap, ◌∙◌, subst}
 use Prim.Native.Nat.{ℕ, ◌*◌, ◌≤◌}
-use Rattle.parse_step.proofs.Answers.{done_full, done_refused}
-use Rattle.parse_step.specs.declared.Answer.{Answer}
+use Rattle.parse_step.specs.declared.Reached.{Reached}
+use Rattle.parse_step.specs.declared.Unread.{Unread}
+use Rattle.std.specs.Prelude.{Err, Ok, Result}
+use Rattle.parse_bounds.proofs.Telling.{tells-ok, untold}
 use Rattle.parse_step.specs.declared.State.{State}
-use Rattle.parse_step.specs.declared.ReadVerdict.TheVariants.{Done}
 use Rattle.parse_step.specs.Course.{Seen, Stack, counts_of, runs}
 use Rattle.parse_facilities.proofs.StoredLaws.{others-then}
 use Rattle.parse_facilities.proofs.Unexpressed.{said, said_of}
@@ -31,29 +32,27 @@ use Rattle.parse_terminals.specs.Inputs.{at_dimensions, with_one}
 known_on : (text : List ℕ) (K : Stack) (b : Built) {w w' : Word} {s s' : State} → w' ≡ w → s' ≡ known_state s → runs text K w b s ≡ runs text K w' b s'
 known_on text K b p q = rw (p, q)
 
-module _ {text : List ℕ} {w : Word} {s : State} {a : Answer} (x : Names text w s a) where
-  pub terminal-unnamed : {place p : ℕ} {work work' : List ℕ} → (a.verdict ≡ Done → ⊥) → Ones terminals text w s place work work' (record { answer = a; place = p })
-  terminal-unnamed n ds st = let t = x F.Plain tt st.seen st.within in record { done = λ d. absurd (n d); refused = t.refused; full = t.full }
+module _ {text : List ℕ} {w : Word} {s : State} where
+  pub terminal-unnamed : {place : ℕ} {work work' : List ℕ} {e : Unread} → Names text w s (Err e) → Ones terminals text w s place work work' (Err e)
+  terminal-unnamed x ds st = untold (x F.Plain tt st.seen st.within) (λ K. K) (λ b. b) (λ K b. refl)
 
-  module _ (done : a.verdict ≡ Done) {m : Measured} (g : Measures text a.next a.state m) where
-    pub terminal-unmeasured : {place p : ℕ} {work work' : List ℕ} → (m.answer.verdict ≡ Done → ⊥) → Ones terminals text w s place work work' (record { answer = m.answer; place = p })
-    terminal-unmeasured n ds st =
-        let y = (x F.Plain tt st.seen st.within).done done in
-        let t = g of_terminal y.seen in
-        record { done = λ d. absurd (n d); refused = λ i d K b. y.course K b ∙ t.refused i d K (keep_word (named_word text w) b); full = t.full }
+  module _ {a : Reached} (x : Names text w s (Ok a)) where
+    pub terminal-unmeasured : {place : ℕ} {work work' : List ℕ} {e : Unread} → Measures text a.next a.state (Err e) → Ones terminals text w s place work work' (Err e)
+    terminal-unmeasured g ds st =
+        let y = (x F.Plain tt st.seen st.within).done refl in
+        untold (g of_terminal y.seen) (λ K. K) (keep_word (named_word text w)) y.course
 
-    module _ (measured : m.answer.verdict ≡ Done) {r : Defined} {work work₁ : List ℕ} (h : Functions text w m.extent.dimensions m.answer.next m.answer.state work work₁ r)
-        {place : ℕ} (ds : List Declaration) (st : Standing text ds place w s work) where
+    module _ {m : Measured} (g : Measures text a.next a.state (Ok m)) {place : ℕ} {work : List ℕ} (ds : List Declaration) (st : Standing text ds place w s work) where
       y : NameRead text F.Plain w s a
-      y = (x F.Plain tt st.seen st.within).done done
+      y = (x F.Plain tt st.seen st.within).done refl
 
       z : ExtentRead text of_terminal (ask terminal_dimensions ∷ []) same a.next a.state a.state m
-      z = (g of_terminal y.seen).done measured
+      z = (g of_terminal y.seen).done refl
 
-      counted : m.answer.state ≡ more_state s
+      counted : m.reached.state ≡ more_state s
       counted = z.state ∙ y.state
 
-      begun : Begun text ds place m.answer.next m.answer.state work
+      begun : Begun text ds place m.reached.next m.reached.state work
       begun = record {
         before = s;
         listed = st.listed;
@@ -64,26 +63,30 @@ module _ {text : List ℕ} {w : Word} {s : State} {a : Answer} (x : Names text w
         paid = subst (λ (j : State). j.nodes ≤ 7 * j.counted) (sym counted) st.paid;
       }
 
-      told : Defines text ds place w z.tree (to_come of_terminal z.tree) (at_dimensions text w z.tree) m.answer.next m.answer.state work₁ r
-      told = h ds place z.tree z.extent.dimensions begun
-
-      to_function : (K : Stack) (b : Built) → runs text (ask terminal_spec ∷ K) w b s ≡ runs text (to_come of_terminal z.tree ++ K) m.answer.next (at_dimensions text w z.tree b) m.answer.state
+      to_function : (K : Stack) (b : Built) → runs text (ask terminal_spec ∷ K) w b s ≡ runs text (to_come of_terminal z.tree ++ K) m.reached.next (at_dimensions text w z.tree b) m.reached.state
       to_function K b = y.course K b ∙ z.course K (keep_word (named_word text w) b)
 
-      module _ (defined : r.answer.verdict ≡ Done) {q : Progress} {work₂ : List ℕ} (f : Adds r.answer.next r.answer.state place (said_of r.kind w m.extent r.expression r.equals) work₁ work₂ q) where
-        v : FunctionRead text ds place w z.tree (to_come of_terminal z.tree) (at_dimensions text w z.tree) m.answer.next m.answer.state work₁ r
-        v = told.done defined
+      -- What is said of the function.
+      abbrev Said : List ℕ → Result Defined Unread → Type 0
+      Said work₁ r = Functions text w m.extent.dimensions m.reached.next m.reached.state work work₁ r
+
+      told : {work₁ : List ℕ} {r : Result Defined Unread} → Said work₁ r → Defines text ds place w z.tree (to_come of_terminal z.tree) (at_dimensions text w z.tree) m.reached.next m.reached.state work₁ r
+      told h = h ds place z.tree z.extent.dimensions begun
+
+      module _ {r : Defined} {work₁ : List ℕ} (h : Said work₁ (Ok r)) {q : Progress} {work₂ : List ℕ} (f : Adds r.reached.next r.reached.state place (said_of r.kind w m.extent r.expression r.equals) work₁ work₂ q) where
+        v : FunctionRead text ds place w z.tree (to_come of_terminal z.tree) (at_dimensions text w z.tree) m.reached.next m.reached.state work₁ r
+        v = (told h).done refl
 
         abbrev d : Declaration
         d = declaration_of text r.kind w z.tree v.function
 
-        u : Added text (ds ++ d ∷ []) r.answer.next r.answer.state work₂ q
+        u : Added text (ds ++ d ∷ []) r.reached.next r.reached.state work₂ q
         u = f text ds d v.awaiting (said text r.kind w z.tree v.function (function_sizes ds) st.seen st.short z.extent v.number v.equals)
 
-        begins : OthersKept s m.answer.state
+        begins : OthersKept s m.reached.state
         begins = record { operations = ap (λ (j : State). j.operations) counted; states = ap (λ (j : State). j.states) counted; nesting = ap (λ (j : State). j.nesting) counted; actions = ap (λ (j : State). j.actions) counted }
 
-        ends : OthersKept r.answer.state q.answer.state
+        ends : OthersKept r.reached.state q.reached.state
         ends = record { operations = ap (λ (j : State). j.operations) u.state; states = ap (λ (j : State). j.states) u.state; nesting = ap (λ (j : State). j.nesting) u.state; actions = ap (λ (j : State). j.actions) u.state }
 
         read : OneRead text ds (ask terminal_spec ∷ []) F.Plain w s work₂ q
@@ -100,18 +103,10 @@ module _ {text : List ℕ} {w : Word} {s : State} {a : Answer} (x : Names text w
           others = others-then begins (others-then v.others ends);
         }
 
-    module _ (measured : m.answer.verdict ≡ Done) {r : Defined} {work work₁ : List ℕ} (h : Functions text w m.extent.dimensions m.answer.next m.answer.state work work₁ r) {place : ℕ} where
-      pub terminal-undefined : {p : ℕ} → (r.answer.verdict ≡ Done → ⊥) → Ones terminals text w s place work work₁ (record { answer = r.answer; place = p })
-      terminal-undefined n ds st = record {
-        done = λ d. absurd (n d);
-        refused = λ i d K b. to_function measured h ds st K b ∙ (told measured h ds st).refused i d K b;
-        full = (told measured h ds st).full;
-      }
+    module _ {m : Measured} (g : Measures text a.next a.state (Ok m)) {place : ℕ} {work work₁ : List ℕ} where
+      pub terminal-undefined : {e : Unread} → Functions text w m.extent.dimensions m.reached.next m.reached.state work work₁ (Err e) → Ones terminals text w s place work work₁ (Err e)
+      terminal-undefined h ds st = untold (told g ds st h) (λ K. K) (λ b. b) (to_function g ds st)
 
-      pub terminal-read : r.answer.verdict ≡ Done → {q : Progress} {work₂ : List ℕ} → Adds r.answer.next r.answer.state place (said_of r.kind w m.extent r.expression r.equals) work₁ work₂ q
-          → Ones terminals text w s place work work₂ q
-      terminal-read defined f ds st = record {
-        done = λ d. read measured h ds st defined f;
-        refused = λ i d. done_refused (sym (u measured h ds st defined f).verdict ∙ d);
-        full = λ d. done_full (sym (u measured h ds st defined f).verdict ∙ d);
-      }
+      pub terminal-read : {r : Defined} → Functions text w m.extent.dimensions m.reached.next m.reached.state work work₁ (Ok r)
+          → {q : Progress} {work₂ : List ℕ} → Adds r.reached.next r.reached.state place (said_of r.kind w m.extent r.expression r.equals) work₁ work₂ q → Ones terminals text w s place work work₂ (Ok q)
+      terminal-read h f ds st = tells-ok (read g ds st h f)

@@ -5,49 +5,38 @@ use crate::functions;
 use parse_array::Work;
 use parse_bounds::extents;
 use parse_facilities::{Progress, adding, naming};
-use parse_step::State;
+use parse_step::{State, Unread};
 use parse_tables::facilities::Declared;
 use text_words::Word;
 
 // Reads a terminal and adds it to the facilities.
-pub fn terminal(text: &[u8], w: Word, work: &mut Work, s: State, place: u16) -> Progress
+pub fn terminal(
+    text: &[u8],
+    w: Word,
+    work: &mut Work,
+    s: State,
+    place: u16,
+) -> Result<Progress, Unread>
     ensures { Ones terminals text.now w s place work.old work.new result }
 {
-    let named = naming::facility_name(text, w, s);
-    if parse_step::unread(named) {
-        return Progress {
-            answer: named,
-            place,
-        };
-    }
-    let measured = extents::dimensions(text, named.next, named.state);
-    if parse_step::unread(measured.answer) {
-        let answer = measured.answer;
-        return Progress { answer, place };
-    }
-    let extent = measured.extent;
+    let named = naming::facility_name(text, w, s)?;
+    let measured = extents::dimensions(text, named.next, named.state)?;
     let defined = functions::function(
         text,
         w,
-        extent.dimensions,
-        measured.answer.next,
+        measured.extent.dimensions,
+        measured.reached.next,
         work,
-        measured.answer.state,
-    );
-    if parse_step::unread(defined.answer) {
-        let answer = defined.answer;
-        return Progress { answer, place };
-    }
-    let kind = defined.kind;
-    let at = w.at;
-    let equals = defined.equals;
+        measured.reached.state,
+    )?;
     let x = Declared {
-        kind,
-        at,
+        kind: defined.kind,
+        at: w.at,
         size: w.size,
-        extent,
+        extent: measured.extent,
         expression: defined.expression,
-        equals,
+        equals: defined.equals,
     };
-    adding::declare(work, defined.answer.next, defined.answer.state, place, x)
+    let reached = defined.reached;
+    Ok(adding::declare(work, reached.next, reached.state, place, x))
 }

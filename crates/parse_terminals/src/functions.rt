@@ -5,59 +5,55 @@ use crate::{Defined, inputs};
 use image_sections::facilities::FacilityKind;
 use parse_array::Work;
 use parse_levels::Level;
-use parse_step::{Answer, Bearing, ReadVerdict, State, adding, kinds, taking};
+use parse_step::{Bearing, Reached, State, Unread, adding, kinds, taking};
 use text_words::{Word, places};
 
 // A terminal without a function.
 fn plain(w: Word, s: State) -> Defined
     ensures { Plains w s result }
 {
-    let equals = places::position(0);
-    let answer = Answer {
-        verdict: ReadVerdict::Done,
-        next: w,
-        state: s,
-    };
     Defined {
-        answer,
+        reached: Reached { next: w, state: s },
         kind: FacilityKind::Plain,
         expression: 0,
-        equals,
+        equals: places::position(0),
     }
 }
 
 // An expression behind the `=`, written behind those of the terminals before.
-fn computed(text: &[u8], equal: Word, w: Word, work: &mut Work, s: State) -> Defined
+fn computed(text: &[u8], equal: Word, w: Word, work: &mut Work, s: State) -> Result<Defined, Unread>
     ensures { Computes text.now equal w s work.old work.new result }
 {
-    let answer = parse_expressions::start(s, Level::Expression, text, w, work);
-    let state = answer.state;
-    let expression = adding::last(state.nodes);
-    let equals = equal.at;
-    Defined {
-        answer,
+    let reached = parse_expressions::start(s, Level::Expression, text, w, work)?;
+    Ok(Defined {
+        reached,
         kind: FacilityKind::Computed,
-        expression,
-        equals,
-    }
+        expression: adding::last(reached.state.nodes),
+        equals: equal.at,
+    })
 }
 
 // What stands behind the `=`.
-fn behind_equal(text: &[u8], name: Word, equal: Word, w: Word, work: &mut Work, s: State) -> Defined
+fn behind_equal(
+    text: &[u8],
+    name: Word,
+    equal: Word,
+    w: Word,
+    work: &mut Work,
+    s: State,
+) -> Result<Defined, Unread>
     ensures { Follows text.now name equal w s work.old work.new result }
 {
-    let kind = w.kind;
-    if kinds::number(kind) != language::kinds::INPUT {
+    if kinds::kind_of(w) != language::kinds::INPUT {
         return computed(text, equal, w, work, s);
     }
-    let equals = places::position(0);
-    let answer = inputs::input(text, name, w, s);
-    Defined {
-        answer,
+    let reached = inputs::input(text, name, w, s)?;
+    Ok(Defined {
+        reached,
         kind: FacilityKind::Input,
         expression: 0,
-        equals,
-    }
+        equals: places::position(0),
+    })
 }
 
 // The function behind a terminal's dimensions; where there are two it has none.
@@ -68,25 +64,15 @@ pub fn function(
     w: Word,
     work: &mut Work,
     s: State,
-) -> Defined
+) -> Result<Defined, Unread>
     ensures { Functions text.now name dimensions w s work.old work.new result }
 {
     if dimensions == 2 {
-        return plain(w, s);
+        return Ok(plain(w, s));
     }
-    let kind = w.kind;
-    if kinds::number(kind) != language::kinds::EQUAL {
-        return plain(w, s);
+    if kinds::kind_of(w) != language::kinds::EQUAL {
+        return Ok(plain(w, s));
     }
-    let equal = taking::take(text, w, s, false, Bearing::Level);
-    if parse_step::unread(equal) {
-        let equals = places::position(0);
-        return Defined {
-            answer: equal,
-            kind: FacilityKind::Plain,
-            expression: 0,
-            equals,
-        };
-    }
+    let equal = taking::take(text, w, s, false, Bearing::Level)?;
     behind_equal(text, name, w, equal.next, work, equal.state)
 }

@@ -2,7 +2,7 @@
 #![tactic(auto)]
 
 use image_sections::facilities::FacilityKind;
-use parse_step::Answer;
+use parse_step::Reached;
 use text_words::Position;
 
 pub mod declaring;
@@ -10,10 +10,10 @@ pub mod functions;
 pub mod inputs;
 pub mod lists;
 
-// What became of a terminal's function, and where it is done what it makes of the terminal: its kind, the number of its expression and the place of its `=`.
+// How far a terminal's function was read, and what it makes of the terminal: its kind, the number of its expression and the place of its `=`.
 #[derive(Clone, Copy)]
 pub struct Defined {
-    pub answer: Answer,
+    pub reached: Reached,
     pub kind: FacilityKind,
     pub expression: u16,
     pub equals: Position,

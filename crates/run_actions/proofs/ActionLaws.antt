@@ -13,39 +13,7 @@ use Rattle.image_records.specs.contracts.actions.Action.{the_type}
 use Rattle.image_records.specs.Actions.{meant}
 use Rattle.image_records.specs.declared.actions.Action.{Action}
 use Rattle.image_records.specs.declared.actions.Action.TheVariants as A
-use Rattle.run_actions.specs.Acts.{passed_of, run_of, simple_done}
-
-abbrev no-arms : List ℕ
-no-arms = 0 ∷ 1 ∷ 2 ∷ 3 ∷ 4 ∷ 5 ∷ 6 ∷ 7 ∷ 8 ∷ 10 ∷ []
-
-pub not-arm : (r : Action) → OneOf no-arms (tag_of the_type r) → T.arm_size (meant r) ≡ none
-not-arm (A.Store k l r) o = refl
-not-arm (A.StorePair k l m r) o = refl
-not-arm (A.Set l) o = refl
-not-arm (A.Perform n) o = refl
-not-arm (A.Goto s) o = refl
-not-arm (A.Call s) o = refl
-not-arm A.Return o = refl
-not-arm (A.When e x) o = refl
-not-arm (A.Choose e n x) o = refl
-not-arm (A.Arm x) o = absurd (miss no-arms 9 tt o)
-not-arm A.Broken o = refl
-
-abbrev no-conditionals : List ℕ
-no-conditionals = 0 ∷ 1 ∷ 2 ∷ 3 ∷ 4 ∷ 5 ∷ 6 ∷ 9 ∷ 10 ∷ []
-
-pub not-conditional : (r : Action) → OneOf no-conditionals (tag_of the_type r) → 0 ≡ passed_of r
-not-conditional (A.Store k l r) o = refl
-not-conditional (A.StorePair k l m r) o = refl
-not-conditional (A.Set l) o = refl
-not-conditional (A.Perform n) o = refl
-not-conditional (A.Goto s) o = refl
-not-conditional (A.Call s) o = refl
-not-conditional A.Return o = refl
-not-conditional (A.When e x) o = absurd (miss no-conditionals 7 tt o)
-not-conditional (A.Choose e n x) o = absurd (miss no-conditionals 8 tt o)
-not-conditional (A.Arm x) o = refl
-not-conditional A.Broken o = refl
+use Rattle.run_actions.specs.Acts.{run_of, simple_done}
 
 abbrev not-simples : List ℕ
 not-simples = 3 ∷ 7 ∷ 8 ∷ 9 ∷ 10 ∷ []

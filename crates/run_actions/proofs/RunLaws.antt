@@ -22,12 +22,12 @@ use Rattle.image_records.specs.declared.actions.Action.{Action}
 use Rattle.image_records.specs.declared.actions.Action.TheVariants as A
 use Rattle.store_layout.specs.InBytes.{InBytes, bytes}
 use Rattle.run_references.specs.Worth.{stuck_meant}
-use Rattle.run_stores.specs.contracts.doing.Did.{the_type as did-type}
-use Rattle.run_stores.specs.Seen.{Ran, View, did, ran_seen, seen, stopped, stuck, went}
-use Rattle.run_stores.specs.declared.doing.Did.{Did}
-use Rattle.run_stores.specs.declared.doing.Did.TheVariants as G
-use Rattle.run_actions.specs.Acts.{Stands, arm_done, choose_done, chosen_done, one_done, over_done, passed_of, run_below, run_of, simple_done, when_done}
+use Rattle.run_references.specs.declared.worth.Halted.{Halted}
+use Rattle.run_references.specs.declared.worth.Halted.TheVariants as U
+use Rattle.run_stores.specs.Seen.{Ran, View, halted, ran_seen, seen, stopped, stuck, went}
+use Rattle.run_actions.specs.Acts.{Stands, arm_done, choose_done, chosen_done, nested_done, one_done, over_done, passed_of, run_below, run_of, simple_done, when_done}
 use Rattle.run_actions.specs.declared.reach.Held.{Held}
+use Rattle.run_actions.specs.declared.ways.Nested.{Nested}
 
 -- ---- Lists.
 
@@ -170,12 +170,10 @@ stays-stuck (T.went c) on s e = absurd (let z : ◌≡◌ {A = ℕ} 0 1 = cc in 
 stays-stuck (T.stopped m) on s e = e
 stays-stuck (T.stuck t) on s e = e
 
--- What stops or is stuck stays so, whatever was to follow.
-stays : (r : Did) (B P M : List ℕ) (x : T.Ran InBytes) (on : T.Doing InBytes → T.Ran InBytes) → OneOf (1 ∷ 2 ∷ []) (tag_of did-type r) → did r B P M ≡ ran_seen x
-    → did r B P M ≡ ran_seen (T.onward x on)
-stays (G.Went g) B P M x on o f = absurd (miss (1 ∷ 2 ∷ []) 0 tt o)
-stays (G.Stopped n) B P M x on o f = stays-stopped x on n f
-stays (G.Stuck s) B P M x on o f = stays-stuck x on (stuck_meant s) f
+-- A halt stays so, whatever was to follow.
+stays : (h : Halted) (x : T.Ran InBytes) (on : T.Doing InBytes → T.Ran InBytes) → halted h ≡ ran_seen x → halted h ≡ ran_seen (T.onward x on)
+stays (U.Stopped n) x on f = stays-stopped x on n f
+stays (U.Stuck s) x on f = stays-stuck x on (stuck_meant s) f
 
 -- ---- A list's records one after another: what is left gives the same as the whole.
 
@@ -210,13 +208,13 @@ module _ (d : Description) (limit : ℕ) (w : Ran) (v : View) (i m left : ℕ) (
         ∙ (ap (λ (y : D.Action). T.list_act (bytes d) d (performs d limit) ahead m i y k.doing) q ∙ act-passes (bytes d) d (performs d limit) ahead m i a k.doing))
 
     -- An action that stops or is stuck ends the list.
-    pub ends : (r : Did) (B P M : List ℕ) → OneOf (1 ∷ 2 ∷ []) (tag_of did-type r) → did r B P M ≡ ran_seen (acted (meant a)) → did r B P M ≡ w
-    ends r B P M o f = stays r B P M (acted (meant a)) (T.passing (bytes d) d (performs d limit) ahead m i (passed_of a)) o f ∙ (ap ran_seen (sym onwards) ∙ k.rest)
+    pub ends : (h : Halted) → halted h ≡ ran_seen (acted (meant a)) → halted h ≡ w
+    ends h f = stays h (acted (meant a)) (T.passing (bytes d) d (performs d limit) ahead m i (passed_of a)) f ∙ (ap ran_seen (sym onwards) ∙ k.rest)
 
     -- A list that the action comes to is executed first, and then what follows the action.
-    pub goes-inside : (below first count over : ℕ) → over ≡ passed_of a → run_below d below (run_of first count) k.doing ≡ acted (meant a)
-        → ran_seen (T.onward (run_below d below (run_of first count) k.doing) (over_done d limit (i + 1) m over)) ≡ w
-    goes-inside below first count over o f =
+    pub goes-inside : (l : Nested) (over : ℕ) → over ≡ passed_of a → nested_done d l k.doing ≡ acted (meant a)
+        → ran_seen (T.onward (nested_done d l k.doing) (over_done d limit (i + 1) m over)) ≡ w
+    goes-inside l over o f =
         ap (λ (r : T.Ran InBytes). ran_seen (T.onward r (over_done d limit (i + 1) m over))) f
         ∙ (ap (λ (x : ℕ). ran_seen (T.onward (acted (meant a)) (over_done d limit (i + 1) m x))) o
         ∙ (ap ran_seen (on_same (bytes d) d (performs d limit) ahead m i (acted (meant a)) (over_done d limit (i + 1) m (passed_of a)) (T.passing (bytes d) d (performs d limit) ahead m i (passed_of a)) over-passes)
@@ -259,20 +257,20 @@ over_none d limit first count c =
 
 -- ---- After the list that an action holds.
 
--- From a doing that is seen as v, the records after the action come to w.
-pub record HeldDone (d : Description) (limit : ℕ) (s : Held) (v : View) (w : Ran) : Type 0 where
+-- From a doing that is seen as v, so many records from `at` on, of which so many are passed over, come to w.
+pub record Onwards (d : Description) (limit at left over : ℕ) (v : View) (w : Ran) : Type 0 where
   pub doing : T.Doing InBytes
   pub seen : v ≡ seen doing
-  pub rest : ran_seen (over_done d limit s.at s.left s.over doing) ≡ w
+  pub rest : ran_seen (over_done d limit at left over doing) ≡ w
 
 module _ (d : Description) (limit : ℕ) (s : Held) (v : View) (w : Ran) (k : Stands d limit s v w) where
   abbrev within : T.Ran InBytes
-  within = run_below d s.below (run_of s.first s.count) k.doing
+  within = nested_done d s.list k.doing
 
-  pub held-ends : (r : Did) (B P M : List ℕ) → OneOf (1 ∷ 2 ∷ []) (tag_of did-type r) → did r B P M ≡ ran_seen within → did r B P M ≡ w
-  held-ends r B P M o f = stays r B P M within (over_done d limit s.at s.left s.over) o f ∙ k.rest
+  pub held-ends : (h : Halted) → halted h ≡ ran_seen within → halted h ≡ w
+  held-ends h f = stays h within (over_done d limit s.at s.left s.over) f ∙ k.rest
 
-  pub held-goes-on : (u : View) → went u ≡ ran_seen within → HeldDone d limit s u w
+  pub held-goes-on : (u : View) → went u ≡ ran_seen within → Onwards d limit s.at s.left s.over u w
   held-goes-on u f =
       let g = gone within u f in
       record {

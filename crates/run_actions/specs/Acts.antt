@@ -1,5 +1,6 @@
 -- Actions by their sections, and one action apart from those that follow it.
-use Rattle.std.specs.Prelude.{cond, List, ◌≡◌, ℕ, suc, ◌+◌, ◌-◌, ◌*◌, ◌/◌, ◌^◌, ◌≤◌, ◌<◌, eqb, leb, length}
+use Rattle.std.specs.Prelude.{cond, Err, List, None, Ok, Result, Some, ◌≡◌, ℕ, suc, ◌+◌, ◌-◌, ◌*◌, ◌/◌, ◌^◌, ◌≤◌, ◌<◌, eqb, leb, length}
+use Rattle.std.specs.Prelude as Std
 use Rattle.std.proofs.Math.Option.{Option, none, some}
 use Rattle.language.specs.Acting as T
 use Rattle.language.specs.Decode.{action_of}
@@ -11,23 +12,21 @@ use Rattle.language.specs.Value.{Value}
 use Rattle.image_records.specs.declared.actions.Action.{Action}
 use Rattle.image_records.specs.declared.actions.Action.TheVariants as A
 use Rattle.image_sections.specs.Declarations.{operation_in}
-use Rattle.language.specs.Encode.{action_size}
+use Rattle.language.specs.Encode.{action_size, state_size}
+use Rattle.image_sections.specs.declared.sections.Sections.{Sections}
 use Rattle.run_references.specs.Described.{Describes}
-use Rattle.run_references.specs.declared.arms.Found.{Found}
-use Rattle.run_references.specs.declared.arms.Found.TheVariants as F
+use Rattle.run_references.specs.declared.worth.Halted.{Halted}
+use Rattle.run_references.specs.declared.worth.Halted.TheVariants as U
 use Rattle.run_references.specs.Worth.{stuck_meant}
 use Rattle.store_layout.specs.InBytes.{InBytes, bytes}
-use Rattle.run_stores.specs.Seen.{Ran, View, did, ran_seen, seen, viewed}
+use Rattle.run_stores.specs.Seen.{ForDoing, Ran, View, ran_seen, seen, viewed, went}
 use Rattle.run_stores.specs.declared.doing.Doing.{Doing}
-use Rattle.run_actions.specs.declared.arms.Arm.{Arm}
-use Rattle.run_actions.specs.declared.arms.Arm.TheVariants as R
 use Rattle.run_actions.specs.declared.reach.Came.{Came}
 use Rattle.run_actions.specs.declared.reach.Came.TheVariants as C
 use Rattle.run_actions.specs.declared.reach.Held.{Held}
 use Rattle.run_actions.specs.declared.reach.Reached.{Reached}
 use Rattle.run_actions.specs.declared.reach.Reached.TheVariants as H
-use Rattle.run_actions.specs.declared.ways.Way.{Way}
-use Rattle.run_actions.specs.declared.ways.Way.TheVariants as W
+use Rattle.run_actions.specs.declared.ways.Nested.{Nested}
 
 -- ---- Sections.
 
@@ -47,23 +46,31 @@ pub record Acts (d : Description) (F O E S : List ℕ) (states : ℕ) : Type 0 w
   pub operations : (n : ℕ) → OperationOf d O n
   pub state_count : length d.states ≡ states
 
--- A claim about each such description, and each doing that is seen as this view.
-abbrev pub ForActs : List ℕ → List ℕ → List ℕ → List ℕ → ℕ → View → (Description → T.Doing InBytes → Type 0) → Type 0
-ForActs F O E S states v claim = (d : Description) (c : T.Doing InBytes) → Acts d F O E S states → v ≡ seen c → claim d c
+-- The sections of an image describe d.
+abbrev pub ActsIn : Description → Sections → Type 0
+ActsIn d x = Acts d x.facilities.now x.operations.now x.expressions.now x.actions.now (length x.states.now / state_size)
+
+-- A claim about each description by the sections of an image, and each doing that is seen as this view.
+abbrev pub ForActs : Sections → View → (Description → T.Doing InBytes → Type 0) → Type 0
+ForActs x v claim = (d : Description) (c : T.Doing InBytes) → ActsIn d x → v ≡ seen c → claim d c
+
+-- The same, where no more than the sections of facilities and expressions has to be known.
+abbrev pub ForStores : Sections → View → (Description → T.Doing InBytes → Type 0) → Type 0
+ForStores x v claim = ForDoing x.facilities.now x.expressions.now v claim
 
 -- ---- Arms.
 
 -- An arm that is found is a record of the section, of n bytes.
-abbrev pub Within : ℕ → ℕ → Found → Type 0
-Within i n (F.At x) = i < n / action_size
-Within i n F.Nowhere = Unit {0}
+abbrev pub Within : ℕ → ℕ → Std.Option ℕ → Type 0
+Within i n (Some x) = i < n / action_size
+Within i n None = Unit {0}
 
 abbrev pub run_of : ℕ → ℕ → D.Run
 run_of i k = record { first = i; count = k }
 
-abbrev pub arm_meant : Arm → Option D.Run
-arm_meant (R.At i k) = some (run_of i k)
-arm_meant R.Nowhere = none
+abbrev pub arm_meant : Std.Option (ℕ × ℕ) → Option D.Run
+arm_meant (Some a) = some (run_of a.0 a.1)
+arm_meant None = none
 
 -- ---- One action, and then those after the records that it passes over.
 
@@ -134,20 +141,30 @@ run_below d limit r c = T.run_list (bytes d) d (T.operation_below (bytes d) d li
 abbrev pub over_done : Description → ℕ → ℕ → ℕ → ℕ → T.Doing InBytes → T.Ran InBytes
 over_done d limit first count over c = cond (leb over count) (run_below d limit (run_of (first + over) (count - over)) c) (T.stuck M.runs_over)
 
-abbrev pub way_done : Description → Way → T.Doing InBytes → T.Ran InBytes
-way_done d (W.Into below i k) c = run_below d below (run_of i k) c
-way_done d W.Past c = T.went c
-way_done d (W.Stopped n) c = T.stopped n
-way_done d (W.Stuck s) c = T.stuck (stuck_meant s)
+abbrev pub nested_done : Description → Nested → T.Doing InBytes → T.Ran InBytes
+nested_done d l c = run_below d l.below (run_of l.first l.count) c
+
+-- The list that an action goes on with, if it takes one.
+abbrev pub taken_done : Description → Std.Option Nested → T.Doing InBytes → T.Ran InBytes
+taken_done d (Some l) c = nested_done d l c
+taken_done d None c = T.went c
+
+abbrev pub halted_done : Halted → T.Ran InBytes
+halted_done (U.Stopped n) = T.stopped n
+halted_done (U.Stuck s) = T.stuck (stuck_meant s)
+
+abbrev pub way_done : Description → Result (Std.Option Nested) Halted → T.Doing InBytes → T.Ran InBytes
+way_done d (Ok w) c = taken_done d w c
+way_done d (Err h) c = halted_done h
 
 -- An action comes to this: it is done, or it comes to it by a list that is still to be executed from where the action stood.
 abbrev pub Comes : Description → Doing → T.Doing InBytes → Came → List ℕ → List ℕ → List ℕ → T.Ran InBytes → Type 0
-Comes d g c (C.Into below i k) B P M r = (viewed g B P M ≡ seen c) × (run_below d below (run_of i k) c ≡ r)
-Comes d g c (C.Done did-it) B P M r = did did-it B P M ≡ ran_seen r
+Comes d g c (C.Into l) B P M r = (viewed g B P M ≡ seen c) × (nested_done d l c ≡ r)
+Comes d g c (C.Done h) B P M r = went (viewed h B P M) ≡ ran_seen r
 
 -- The list held, and then the records after the action.
 abbrev pub rest_of : Description → ℕ → Held → T.Doing InBytes → T.Ran InBytes
-rest_of d limit s c = T.onward (run_below d s.below (run_of s.first s.count) c) (over_done d limit s.at s.left s.over)
+rest_of d limit s c = T.onward (nested_done d s.list c) (over_done d limit s.at s.left s.over)
 
 -- From a doing that is seen as v, what is left comes to w.
 pub record Stands (d : Description) (limit : ℕ) (s : Held) (v : View) (w : Ran) : Type 0 where
@@ -157,26 +174,24 @@ pub record Stands (d : Description) (limit : ℕ) (s : Held) (v : View) (w : Ran
 
 abbrev pub Reaches : Description → ℕ → Reached → List ℕ → List ℕ → List ℕ → Ran → Type 0
 Reaches d limit (H.Inside s) B P M w = Stands d limit s (viewed s.doing B P M) w
-Reaches d limit (H.Ended r) B P M w = did r B P M ≡ w
+Reaches d limit (H.Ended g) B P M w = went (viewed g B P M) ≡ w
 
 -- ---- How many operations may still be named, and then how many records are left: this number falls.
 
 abbrev pub rank : ℕ → ℕ → ℕ
 rank limit left = 65536 * limit + left
 
-abbrev pub WayFalls : ℕ → ℕ → Way → Type 0
-WayFalls limit m (W.Into below i k) = rank below k ≤ rank limit m
-WayFalls limit m W.Past = Unit {0}
-WayFalls limit m (W.Stopped n) = Unit {0}
-WayFalls limit m (W.Stuck s) = Unit {0}
+abbrev pub TakenFalls : ℕ → ℕ → Std.Option Nested → Type 0
+TakenFalls limit m (Some l) = rank l.below l.count ≤ rank limit m
+TakenFalls limit m None = Unit {0}
 
 abbrev pub CameFalls : ℕ → ℕ → Came → Type 0
-CameFalls limit m (C.Into below i k) = rank below k ≤ rank limit m
-CameFalls limit m (C.Done r) = Unit {0}
+CameFalls limit m (C.Into l) = rank l.below l.count ≤ rank limit m
+CameFalls limit m (C.Done g) = Unit {0}
 
 -- The number of the record after those passed over is one of 64 bits.
 abbrev pub HeldFalls : ℕ → Reached → Type 0
-HeldFalls limit (H.Inside s) = (rank s.below s.count ≤ rank limit s.left) × (s.at + s.over < 2 ^ 64)
+HeldFalls limit (H.Inside s) = (rank s.list.below s.list.count ≤ rank limit s.left) × (s.at + s.over < 2 ^ 64)
 HeldFalls limit (H.Ended r) = Unit {0}
 
 abbrev pub left_of : Reached → ℕ

@@ -1,5 +1,5 @@
 // The arms of a conditional action, which stand one after another behind it.
-ghost use Rattle.std.specs.Prelude.{◌≡◌, ◌-◌, length};
+ghost use Rattle.std.specs.Prelude.{◌≡◌, length};
 ghost use Rattle.language.specs.Acting as T;
 ghost use Rattle.language.specs.Description.{Description, action_at};
 ghost use Rattle.run_references.specs.Places.{found_meant};
@@ -7,26 +7,21 @@ ghost use Rattle.run_actions.specs.Acts.{Actions, Within, arm_meant, passed_of};
 
 use image_records::actions::Action;
 use image_records::{actions, record_sizes};
-use run_references::arms::Found;
 
-// The first action of an arm, and how many it has.
-#[derive(Clone, Copy)]
-pub enum Arm {
-    At(usize, u16),
-    Nowhere,
-}
+// The first action of an arm, and how many it has, where there is such an arm.
+pub type Arm = Option<(usize, u16)>;
 
 // How many actions the arm at record i has.
-fn arm_size(section: &[u8], i: usize) -> Found
+fn arm_size(section: &[u8], i: usize) -> Option<u16>
     ensures { Within i (length section.now) result × ((d : Description) → Actions d section.now → found_meant result ≡ T.arm_size (action_at d i)) }
 {
     if section.len() / record_sizes::ACTION <= i {
-        return Found::Nowhere;
+        return None;
     }
     let Action::Arm(x) = actions::action_at(section, i) else {
-        return Found::Nowhere;
+        return None;
     };
-    Found::At(x)
+    Some(x)
 }
 
 // The arm `back` arms after the one at record `first`, where so many records are left.
@@ -35,32 +30,19 @@ pub fn arm_at(section: &[u8], back: u16, first: usize, within: u16) -> Arm
 {
     let mut i = first;
     let mut left = within;
-    let mut k = back;
-    while 0 < k {
-        let Found::At(x) = arm_size(section, i) else {
-            return Arm::Nowhere;
-        };
+    for _ in 0..back {
+        let x = arm_size(section, i)?;
         if left <= x {
-            return Arm::Nowhere;
+            return None;
         }
         i = i + 1 + x as usize;
         left -= x + 1;
-        k -= 1;
     }
-    let Found::At(x) = arm_size(section, i) else {
-        return Arm::Nowhere;
-    };
+    let x = arm_size(section, i)?;
     if left <= x {
-        return Arm::Nowhere;
+        return None;
     }
-    Arm::At(i + 1, x)
-}
-
-// k - 1, or 0 where k is 0.
-pub fn before(k: u16) -> u16
-    ensures { result ≡ k - 1 }
-{
-    if k == 0 { 0 } else { k - 1 }
+    Some((i + 1, x))
 }
 
 // How many records after its own an action passes over.
@@ -68,8 +50,7 @@ pub fn passed(a: Action) -> u16
     ensures { result ≡ passed_of a }
 {
     match a {
-        Action::When(_, x) => x,
-        Action::Choose(_, _, x) => x,
+        Action::When(_, x) | Action::Choose(_, _, x) => x,
         _ => 0,
     }
 }

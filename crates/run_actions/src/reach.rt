@@ -1,34 +1,33 @@
-// A list of actions as far as it goes without executing another. Two functions call this, so that it is compiled by itself, and its frame is gone before a list within is executed.
-ghost use Rattle.std.specs.Prelude.{List, ◌≡◌, ℕ, suc, ◌+◌, ◌/◌, ◌^◌, ◌≤◌, ◌<◌, length};
+// A list of actions as far as it goes without executing another.
+ghost use Rattle.std.specs.Prelude.{IfOk, List, MatchResult, ◌≡◌, ℕ, suc, ◌+◌, ◌/◌, ◌^◌, ◌≤◌, ◌<◌, length};
 ghost use Rattle.language.specs.Acting as T;
 ghost use Rattle.language.specs.Description.{Description};
 ghost use Rattle.language.specs.Encode.{action_size};
 ghost use Rattle.image_records.specs.Actions.{meant};
 ghost use Rattle.store_layout.specs.InBytes.{InBytes, bytes};
-ghost use Rattle.run_stores.specs.Seen.{ran_seen, seen, viewed};
-ghost use Rattle.run_actions.specs.Acts.{CameFalls, Comes, ForActs, HeldFalls, Reaches, WayFalls, left_of, one_done, over_done, way_done};
+ghost use Rattle.run_stores.specs.Seen.{halted, ran_seen, seen, viewed};
+ghost use Rattle.run_actions.specs.Acts.{CameFalls, Comes, ForActs, HeldFalls, Reaches, TakenFalls, left_of, one_done, over_done, taken_done};
 
-use crate::ways::Way;
+use crate::ways::Nested;
 use crate::{arms, simple, ways};
 use image_records::actions::Action;
 use image_records::record_sizes;
-use run_references::worth::Stuck;
-use run_stores::doing::{Did, Doing};
+use image_sections::sections::Sections;
+use run_references::worth::{Halted, Stuck};
+use run_stores::doing::Doing;
 
-// What an action comes to: a list that is still to be executed, as in `Way`, or what it did.
+// What an action comes to: a list that is still to be executed, or what the cycle has done then.
 #[derive(Clone, Copy)]
 pub enum Came {
-    Into(usize, usize, u16),
-    Done(Did),
+    Into(Nested),
+    Done(Doing),
 }
 
-// A list that an action holds, as in `Way`; and the records from `at` on that follow the action: so many, of which it passes over so many.
+// A list that an action holds; and the records from `at` on that follow the action: so many, of which it passes over so many.
 #[derive(Clone, Copy)]
 pub struct Held {
-    pub below: usize,
-    pub first: usize,
+    pub list: Nested,
     pub at: usize,
-    pub count: u16,
     pub left: u16,
     pub over: u16,
     pub doing: Doing,
@@ -37,140 +36,86 @@ pub struct Held {
 #[derive(Clone, Copy)]
 pub enum Reached {
     Inside(Held),
-    Ended(Did),
+    Ended(Doing),
 }
 
 // Where a way leads that was taken after g.
-fn along(w: Way, g: Doing) -> Came
-    ensures { ((limit m : ℕ) → WayFalls limit m w → CameFalls limit m result) × ((d : Description) (c : T.Doing InBytes) (B P M : List ℕ) → viewed g B P M ≡ seen c → Comes d g c result B P M (way_done d w c)) }
+fn along(w: Option<Nested>, g: Doing) -> Came
+    ensures { ((limit m : ℕ) → TakenFalls limit m w → CameFalls limit m result) × ((d : Description) (c : T.Doing InBytes) (B P M : List ℕ) → viewed g B P M ≡ seen c → Comes d g c result B P M (taken_done d w c)) }
 {
     match w {
-        Way::Into(below, first, count) => Came::Into(below, first, count),
-        Way::Past => Came::Done(Did::Went(g)),
-        Way::Stopped(n) => Came::Done(Did::Stopped(n)),
-        Way::Stuck(s) => Came::Done(Did::Stuck(s)),
+        Some(list) => Came::Into(list),
+        None => Came::Done(g),
     }
 }
 
 // The action at record i; m records stand after it.
 fn one(
-    facilities: &[u8],
-    operations: &[u8],
-    expressions: &[u8],
-    actions: &[u8],
+    image: &Sections,
     store: &mut [u8],
     pending: &mut [u8],
     mask: &mut [u8],
     limit: usize,
-    states: usize,
     i: usize,
     m: u16,
     a: Action,
     g: Doing,
-) -> Came
-    requires { i < length actions.now / action_size }
-    ensures { CameFalls limit m result × ForActs facilities.now operations.now expressions.now actions.now states (viewed g store.old pending.old mask.old) (λ d c. Comes d g c result store.new pending.new mask.new (one_done (bytes d) d (T.operation_below (bytes d) d limit) (T.list_below (bytes d) d (T.operation_below (bytes d) d limit) (suc m)) i (meant a) c)) }
+) -> Result<Came, Halted>
+    requires { i < length image.now.actions.now / action_size }
+    ensures { IfOk result (CameFalls limit m) × ForActs image.now (viewed g store.old pending.old mask.old) (λ d c. MatchResult result (λ k. Comes d g c k store.new pending.new mask.new (one_done (bytes d) d (T.operation_below (bytes d) d limit) (T.list_below (bytes d) d (T.operation_below (bytes d) d limit) (suc m)) i (meant a) c)) (λ h. halted h ≡ ran_seen (one_done (bytes d) d (T.operation_below (bytes d) d limit) (T.list_below (bytes d) d (T.operation_below (bytes d) d limit) (suc m)) i (meant a) c))) }
 {
     match a {
-        Action::Perform(o) => along(ways::perform(operations, limit, m, o), g),
-        Action::When(e, x) => along(
-            ways::when(facilities, expressions, actions, store, limit, i, m, e, x),
-            g,
-        ),
-        Action::Choose(e, n, x) => along(
-            ways::choose(
-                facilities,
-                expressions,
-                actions,
-                store,
-                limit,
-                i,
-                m,
-                e,
-                n,
-                x,
-            ),
-            g,
-        ),
-        _ => Came::Done(simple::simple(
-            facilities,
-            expressions,
-            store,
-            pending,
-            mask,
-            states,
-            a,
-            g,
-        )),
+        Action::Perform(o) => Ok(along(ways::perform(image.operations, limit, m, o)?, g)),
+        Action::When(e, x) => Ok(along(ways::when(image, store, limit, i, m, e, x)?, g)),
+        Action::Choose(e, n, x) => Ok(along(ways::choose(image, store, limit, i, m, e, n, x)?, g)),
+        _ => Ok(Came::Done(simple::simple(image, store, pending, mask, a, g)?)),
     }
 }
 
-// So many records from the first on, of which so many are passed over, up to the first action with a list to execute.
+// So many records from the first on, of which so many are passed over, up to the first action with a list to execute. It is compiled by itself, so that its frame is gone before a list within is executed.
+#[inline(never)]
 pub fn reach(
-    facilities: &[u8],
-    operations: &[u8],
-    expressions: &[u8],
-    actions: &[u8],
+    image: &Sections,
     store: &mut [u8],
     pending: &mut [u8],
     mask: &mut [u8],
     limit: usize,
-    states: usize,
     first: usize,
     count: u16,
     over: u16,
     g: Doing,
-) -> Reached
+) -> Result<Reached, Halted>
     requires { first + over < 2 ^ 64 }
-    ensures { (left_of result ≤ count) × HeldFalls limit result × ForActs facilities.now operations.now expressions.now actions.now states (viewed g store.old pending.old mask.old) (λ d c. Reaches d limit result store.new pending.new mask.new (ran_seen (over_done d limit first count over c))) }
+    ensures { IfOk result (λ r. (left_of r ≤ count) × HeldFalls limit r) × ForActs image.now (viewed g store.old pending.old mask.old) (λ d c. MatchResult result (λ r. Reaches d limit r store.new pending.new mask.new (ran_seen (over_done d limit first count over c))) (λ h. halted h ≡ ran_seen (over_done d limit first count over c))) }
 {
     if count < over {
-        return Reached::Ended(Did::Stuck(Stuck::RunsOver));
+        return Err(Halted::Stuck(Stuck::RunsOver));
     }
-    let all = actions.len() / record_sizes::ACTION;
+    let all = image.actions.len() / record_sizes::ACTION;
     let mut i = first + over as usize;
     let mut left = count - over;
     let mut h = g;
     while 0 < left {
         if all <= i {
-            return Reached::Ended(Did::Stuck(Stuck::WrongRecord));
+            return Err(Halted::Stuck(Stuck::WrongRecord));
         }
-        let a = image_records::actions::action_at(actions, i);
+        let a = image_records::actions::action_at(image.actions, i);
         left -= 1;
         let x = arms::passed(a);
-        let came = one(
-            facilities,
-            operations,
-            expressions,
-            actions,
-            store,
-            pending,
-            mask,
-            limit,
-            states,
-            i,
-            left,
-            a,
-            h,
-        );
+        let came = one(image, store, pending, mask, limit, i, left, a, h)?;
         match came {
-            Came::Into(below, f, n) => {
-                return Reached::Inside(Held {
-                    below,
-                    first: f,
+            Came::Into(list) => {
+                return Ok(Reached::Inside(Held {
+                    list,
                     at: i + 1,
-                    count: n,
                     left,
                     over: x,
                     doing: h,
-                });
+                }));
             }
-            Came::Done(r) => {
-                let Did::Went(next) = r else {
-                    return Reached::Ended(r);
-                };
+            Came::Done(next) => {
                 if left < x {
-                    return Reached::Ended(Did::Stuck(Stuck::RunsOver));
+                    return Err(Halted::Stuck(Stuck::RunsOver));
                 }
                 h = next;
                 i = i + 1 + x as usize;
@@ -178,5 +123,5 @@ pub fn reach(
             }
         }
     }
-    Reached::Ended(Did::Went(h))
+    Ok(Reached::Ended(h))
 }

@@ -1,67 +1,48 @@
 // Actions that hold no others.
-ghost use Rattle.std.specs.Prelude.{◌≡◌, length};
+ghost use Rattle.std.specs.Prelude.{◌≡◌, ◌/◌, length};
+ghost use Rattle.language.specs.Encode.{state_size};
 ghost use Rattle.image_records.specs.Actions.{meant};
 ghost use Rattle.store_layout.specs.InBytes.{bytes};
-ghost use Rattle.run_stores.specs.Seen.{ForDoing, did, ran_seen, viewed};
-ghost use Rattle.run_actions.specs.Acts.{simple_done};
+ghost use Rattle.run_stores.specs.Seen.{did, ran_seen, viewed};
+ghost use Rattle.run_actions.specs.Acts.{ForStores, simple_done};
 
 use crate::sides;
 use image_records::actions::Action;
-use run_references::worth::Stuck;
-use run_stores::doing;
+use image_records::record_sizes;
+use image_sections::sections::Sections;
+use run_references::worth::{Halted, Stuck};
 use run_stores::doing::{Did, Doing};
 
-// What such an action does; states are named by numbers below `states`.
+// What such an action does.
 pub fn simple(
-    section: &[u8],
-    expressions: &[u8],
+    image: &Sections,
     store: &mut [u8],
     pending: &mut [u8],
     mask: &mut [u8],
-    states: usize,
     a: Action,
     g: Doing,
 ) -> Did
-    ensures { ForDoing section.now expressions.now (viewed g store.old pending.old mask.old) (λ d c. (length d.states ≡ states → did result store.new pending.new mask.new ≡ ran_seen (simple_done (bytes d) d (meant a) c))) }
+    ensures { ForStores image.now (viewed g store.old pending.old mask.old) (λ d c. (length d.states ≡ length image.now.states.now / state_size → did result store.new pending.new mask.new ≡ ran_seen (simple_done (bytes d) d (meant a) c))) }
 {
     match a {
-        Action::Store(k, l, r) => sides::store_to(
-            section,
-            expressions,
-            store,
-            pending,
-            mask,
-            k,
-            l,
-            r,
-            g,
-        ),
+        Action::Store(k, l, r) => sides::store_to(image, store, pending, mask, k, l, r, g),
         Action::StorePair(k, l, m, r) => sides::store_to_pair(
-            section,
-            expressions,
-            store,
-            pending,
-            mask,
-            k,
-            l,
-            m,
-            r,
-            g,
+            image, store, pending, mask, k, l, m, r, g,
         ),
-        Action::Set(l) => sides::set_at(section, expressions, store, l, g),
+        Action::Set(l) => sides::set_at(image, store, l, g),
         Action::Goto(s) => {
-            if states <= s as usize {
-                return Did::Stuck(Stuck::NoState);
+            if image.states.len() / record_sizes::STATE <= s as usize {
+                return Err(Halted::Stuck(Stuck::NoState));
             }
-            Did::Went(doing::going_to(g, s))
+            Ok(g.going_to(s))
         }
         Action::Call(s) => {
-            if states <= s as usize {
-                return Did::Stuck(Stuck::NoState);
+            if image.states.len() / record_sizes::STATE <= s as usize {
+                return Err(Halted::Stuck(Stuck::NoState));
             }
-            Did::Went(doing::calling(g, s))
+            Ok(g.calling(s))
         }
-        Action::Return => Did::Went(doing::returning(g)),
-        _ => Did::Stuck(Stuck::WrongRecord),
+        Action::Return => Ok(g.returning()),
+        _ => Err(Halted::Stuck(Stuck::WrongRecord)),
     }
 }

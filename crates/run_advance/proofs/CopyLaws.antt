@@ -12,15 +12,17 @@ use Rattle.language.specs.Layout.{store_size_of}
 use Rattle.language.specs.Decode.{decode}
 use Rattle.language.specs.RecordBytes.{record_from}
 use Rattle.language.specs.Step as S
-use Rattle.language.specs.Store.{StoreWords, from_bytes, inputs_of, to_bytes}
+use Rattle.language.specs.Store.{from_bytes, inputs_of, to_bytes}
 use Rattle.about_bytes.specs.StaysSound.{completed-back}
 use Rattle.store_layout.proofs.Inverse.{bytes-again}
 use Rattle.store_layout.specs.Layout.{Bytes}
 use Rattle.store_layout.specs.Slices.{copied}
-use Rattle.run_end.specs.Stepped.{ended}
-use Rattle.run_end.specs.declared.outcome.CycleEnd.{CycleEnd}
-use Rattle.run_end.specs.declared.outcome.CycleEnd.TheVariants as Ends
-use Rattle.run_left.specs.Kept.{called_with, kept_store}
+use Rattle.std.specs.Prelude.{Err, Ok, Result}
+use Rattle.run_references.specs.declared.worth.Halted.{Halted}
+use Rattle.run_references.specs.declared.worth.Halted.TheVariants as H
+use Rattle.run_end.specs.Stepped.{stepped}
+use Rattle.run_end.specs.declared.outcome.Stepped.{Stepped}
+use Rattle.run_left.specs.Kept.{called, kept_store}
 use Rattle.run_advance.specs.Carried.{completed_back}
 
 pub copied-over : (B X : List ℕ) → length X ≤ length B → copied B X ≡ over X B
@@ -44,17 +46,15 @@ copy-kept fs B X are e h =
     copied-over B X (omega (arith, e, h)) ∙ ap (λ (l : List ℕ). over l B) (sym t)
 
 -- What is kept of a cycle is what its call owes.
-pub kept-so : (d : Description) (v : CycleEnd) (r : S.Record) (c : ℕ) (B K W : List ℕ) (n : ℕ) → Bytes W → length W ≡ store_size_of d.facilities → store_size_of d.facilities ≤ length B
-    → called_with v r c (kept_store v W B) K n ≡ after_step d B K n (ended v (from_bytes d.facilities W) r c)
-kept-so d Ends.Completed r c B K W n are e h =
-    ap (λ (s : List ℕ). called_with Ends.Completed r c s K n) (copy-kept d.facilities B W are e h)
-kept-so d (Ends.Stopped k) r c B K W n are e h = refl
-kept-so d (Ends.Stuck x) r c B K W n are e h = refl
+pub kept-so : (d : Description) (a : Result Stepped Halted) (B K W : List ℕ) (n : ℕ) → Bytes W → length W ≡ store_size_of d.facilities → store_size_of d.facilities ≤ length B
+    → called a (kept_store a W B) K n ≡ after_step d B K n (stepped d.facilities a W)
+kept-so d (Ok a) B K W n are e h = ap (λ (s : List ℕ). called (Ok a) s K n) (copy-kept d.facilities B W are e h)
+kept-so d (Err (H.Stopped k)) B K W n are e h = refl
+kept-so d (Err (H.Stuck x)) B K W n are e h = refl
 
 -- The record of a completed cycle is read back.
-pub back-so : (image B K t : List ℕ) (n : ℕ) → cycle_refusal image B K t n ≡ none → (v : CycleEnd) (w : StoreWords) (r : S.Record) (c : ℕ)
-    → ended v w r c ≡ S.step (decode image) (from_bytes (decode image).facilities B) (record_from K) (from_bytes (inputs_of (decode image).facilities) t) → completed_back v r
-back-so image B K t n free Ends.Completed w r c e =
+pub back-so : (image B K t W : List ℕ) (n : ℕ) → cycle_refusal image B K t n ≡ none → (a : Result Stepped Halted)
+    → stepped (decode image).facilities a W ≡ S.step (decode image) (from_bytes (decode image).facilities B) (record_from K) (from_bytes (inputs_of (decode image).facilities) t) → completed_back a
+back-so image B K t W n free (Ok a) e =
     record { back = λ rest. (completed-back image B K t n free rest (sym e)).0; whole = (completed-back image B K t n free K (sym e)).1 }
-back-so image B K t n free (Ends.Stopped k) w r c e = tt
-back-so image B K t n free (Ends.Stuck x) w r c e = tt
+back-so image B K t W n free (Err h) e = tt

@@ -11,42 +11,27 @@ ghost use Rattle.run_advance.specs.Carried.{Sliced, completed_back};
 ghost use Rattle.language.specs.Encode.{facility_size, state_size};
 
 use crate::advance;
-use run_end::outcome::Stepped;
+use image_sections::sections::Sections;
+use run_end::outcome::Ended;
 use run_next::record::Record;
 use store_words::slices;
 
 // The cycle on a working copy, with as many bytes as the store has for the copy, for delayed stores that wait, and for their mask.
 pub fn carried(
-    facilities: &[u8],
-    operations: &[u8],
-    expressions: &[u8],
-    actions: &[u8],
-    states: &[u8],
+    image: &Sections,
     r: Record,
     store: &mut [u8],
     stimulus: &[u8],
     work: &mut [u8],
     pending: &mut [u8],
     mask: &mut [u8],
-) -> Stepped
-    requires { (length facilities.now / facility_size ≤ 65536) × (length states.now / state_size ≤ 65536) × (r.held ≤ 16) }
-    ensures { (i K : List ℕ) (n : ℕ) → Sliced i facilities.now operations.now expressions.now actions.now states.now → record_from K ≡ record_meant r → length work.old ≡ store_size (decode i) → length pending.old ≡ store_size (decode i) → length mask.old ≡ store_size (decode i) → cycle_refusal i store.old K stimulus.now n ≡ none → (called result store.new K n ≡ cycle i store.old K stimulus.now n) × completed_back result.verdict (record_meant result.«record») }
+) -> Ended
+    requires { (length image.now.facilities.now / facility_size ≤ 65536) × (length image.now.states.now / state_size ≤ 65536) × (r.held ≤ 16) }
+    ensures { (i K : List ℕ) (n : ℕ) → Sliced i image.now → record_from K ≡ record_meant r → length work.old ≡ store_size (decode i) → length pending.old ≡ store_size (decode i) → length mask.old ≡ store_size (decode i) → cycle_refusal i store.old K stimulus.now n ≡ none → (called result store.new K n ≡ cycle i store.old K stimulus.now n) × completed_back result }
 {
     slices::copy(work, store);
     slices::zero(mask);
-    let a = advance::lent(
-        facilities,
-        operations,
-        expressions,
-        actions,
-        states,
-        r,
-        stimulus,
-        work,
-        pending,
-        mask,
-    );
-    let verdict = a.verdict;
-    run_left::keep_store(verdict, work, store);
-    a
+    let ended = advance::lent(image, r, stimulus, work, pending, mask);
+    run_left::keep_store(&ended, work, store);
+    ended
 }

@@ -24,18 +24,6 @@ module _ (f : Facility) (place : ℕ) (B S : List ℕ) (at : ℕ) where
   unfolding begun_at
   by_kind k e = ap (λ (j : Kind). changed j (facility_bytes f) place B S at) e
 
-  pub begun-register : f.kind ≡ register → B ≡ begun_at f place B S at
-  begun-register e = sym (by_kind register e)
-
-  pub begun-sequencing : f.kind ≡ sequencing → B ≡ begun_at f place B S at
-  begun-sequencing e = sym (by_kind sequencing e)
-
-  pub begun-memory : f.kind ≡ memory → B ≡ begun_at f place B S at
-  begun-memory e = sym (by_kind memory e)
-
-  pub begun-computed : f.kind ≡ computed → B ≡ begun_at f place B S at
-  begun-computed e = sym (by_kind computed e)
-
   pub begun-plain : (n : ℕ) → n ≡ word_count f * word_bytes (word_length f) → f.kind ≡ plain → placed B place (replicate n 0) ≡ begun_at f place B S at
   begun-plain n h e = ap (λ (m : ℕ). placed B place (replicate m 0)) (h ∙ sym (stored_bytes f (ap is_computed e))) ∙ sym (by_kind plain e)
 

@@ -18,6 +18,9 @@ use Rattle.store_layout.specs.Spare.{narrow_at}
 use Rattle.run_begin.proofs.SizeLaws.{fits-input, fits-other, input-not, input-stored, input-whole, stored_bytes}
 use Rattle.run_begin.specs.InBytes.{fits_at, input_bytes}
 use Rattle.language.specs.Tests.{both}
+use Rattle.std.proofs.lemmas.Option.{none-some, same_Some}
+use Rattle.std.specs.Bool.{then_some}
+use Rattle.std.proofs.Common.{None, Some}
 
 -- What is left of the stimulus from `at` on is what these facilities take of it.
 unfoldable pub well_from : List Facility → List ℕ → ℕ → Bool
@@ -34,6 +37,19 @@ well-none S at = let e : at + 0 ≡ at = omega arith in rw e (whole (eqb (length
     whole : (b : Bool) → both b true ≡ b
     whole true = refl
     whole false = refl
+
+-- What a facility takes, if it fits.
+pub fits-some : (b : Bool) (n m : ℕ) → Some m ≡ then_some b n → b ≡ true
+fits-some true n m e = refl
+fits-some false n m e = absurd (none-some m (sym e))
+
+pub bytes-some : (b : Bool) (n m : ℕ) → Some m ≡ then_some b n → m ≡ n
+bytes-some true n m e = same_Some m n e
+bytes-some false n m e = absurd (none-some m (sym e))
+
+pub fits-none : (b : Bool) (n : ℕ) → None ≡ then_some b n → b ≡ false
+fits-none true n e = absurd (none-some n e)
+fits-none false n e = refl
 
 -- Facility n, and those after it.
 pub facility-here : (d : Description) (n : ℕ) (f : Facility) → n < length d.facilities → facility_at d n ≡ f → drop n d.facilities ≡ f ∷ drop (suc n) d.facilities

@@ -11,10 +11,7 @@ use image_records::bytes;
 pub fn share(n: usize, cycles: u32) -> usize
     ensures { (m : ℕ) → 0 < cycles → n ≡ cycles * m → result ≡ m }
 {
-    if cycles == 0 {
-        return 0;
-    }
-    n / cycles as usize
+    n.checked_div(cycles as usize).unwrap_or(0)
 }
 
 // Whether there is a stimulus of the right form for each cycle, and nothing more.
@@ -22,17 +19,14 @@ pub fn all_well_formed(section: &[u8], stimuli: &[u8], cycles: u32) -> bool
     ensures { (d : Description) (E : List ℕ) → Describes d section.now E → result ≡ all_well_formed d cycles stimuli.now }
 {
     let each = share(stimuli.len(), cycles);
-    let mut n: u32 = 0;
     let mut at: usize = 0;
-    while n < cycles {
-        if stimuli.len() - at < each {
-            return false;
-        }
-        if !stimulus::well_formed(section, bytes::part(stimuli, at, each)) {
+    for _ in 0..cycles {
+        if stimuli.len() - at < each
+            || !stimulus::well_formed(section, bytes::part(stimuli, at, each))
+        {
             return false;
         }
         at += each;
-        n += 1;
     }
     stimuli.len() == at
 }

@@ -8,10 +8,7 @@ use store_words::slices;
 pub fn clear(s: &mut [u8], at: usize, n: usize)
     ensures { s.new ≡ placed s.old at (replicate n 0) }
 {
-    if s.len() < at {
-        return;
-    }
-    if s.len() - at < n {
+    if s.len() < at || s.len() - at < n {
         return;
     }
     let end = at + n;

@@ -20,9 +20,9 @@ pub fn words_bytes(f: FacilityRecord) -> usize
 pub fn input_bytes(f: FacilityRecord) -> usize
     ensures { (result ≤ 536870912) × ((name : Name) → result ≡ input_bytes (facility_meant name f)) }
 {
-    let kind = f.kind;
-    if kinds::is_input(kind) {
-        return words_bytes(f);
+    if kinds::is_input(f.kind) {
+        words_bytes(f)
+    } else {
+        0
     }
-    0
 }

@@ -19,19 +19,18 @@ use image_sections::facilities::{FacilityKind, FacilityRecord};
 fn begin_one(store: &mut [u8], f: FacilityRecord, stimulus: &[u8], at: usize)
     ensures { (name : Name) → store.new ≡ begun_at (facility_meant name f) f.place store.old stimulus.now at }
 {
-    let kind = f.kind;
     let place = f.place as usize;
-    match kind {
-        FacilityKind::Register => {}
-        FacilityKind::Sequencing => {}
-        FacilityKind::Memory => {}
+    match f.kind {
         FacilityKind::Plain => ranges::clear(store, place, sizes::words_bytes(f)),
         FacilityKind::Input => bytes::put(
             store,
             place,
             bytes::part(stimulus, at, sizes::words_bytes(f)),
         ),
-        FacilityKind::Computed => {}
+        FacilityKind::Register
+        | FacilityKind::Sequencing
+        | FacilityKind::Memory
+        | FacilityKind::Computed => {}
     }
 }
 
@@ -39,22 +38,14 @@ fn begin_one(store: &mut [u8], f: FacilityRecord, stimulus: &[u8], at: usize)
 fn changes(kind: FacilityKind) -> bool
     ensures { result ≡ begins (kind_meant kind) }
 {
-    match kind {
-        FacilityKind::Register => false,
-        FacilityKind::Sequencing => false,
-        FacilityKind::Memory => false,
-        FacilityKind::Plain => true,
-        FacilityKind::Input => true,
-        FacilityKind::Computed => false,
-    }
+    matches!(kind, FacilityKind::Plain | FacilityKind::Input)
 }
 
 // Facility n, whose record is read whole only where its words change. Answers how many bytes of the stimulus it took.
 fn begin_at(section: &[u8], n: usize, store: &mut [u8], stimulus: &[u8], at: usize) -> usize
     ensures { (result ≤ 536870912) × ((name : Name) → (result ≡ input_bytes (facility_in section.now n name)) × (store.new ≡ begun_at (facility_in section.now n name) (place_field_in section.now n) store.old stimulus.now at)) }
 {
-    let kind = facilities::kind_at(section, n);
-    if !changes(kind) {
+    if !changes(facilities::kind_at(section, n)) {
         return 0;
     }
     let f = facilities::facility_at(section, n);
@@ -67,11 +58,8 @@ pub fn begin(section: &[u8], store: &mut [u8], stimulus: &[u8])
     requires { length section.now / facility_size ≤ 65536 }
     ensures { (d : Description) (E : List ℕ) → Describes d section.now E → store_size_of d.facilities ≤ length store.old → stimulus_size d ≤ length stimulus.now → store.new ≡ over (L.to_bytes d.facilities (L.begin d.facilities (L.from_bytes d.facilities store.old) (L.from_bytes (L.inputs_of d.facilities) stimulus.now))) store.old }
 {
-    let count = section.len() / record_sizes::FACILITY;
-    let mut n: usize = 0;
     let mut at: usize = 0;
-    while n < count {
+    for n in 0..section.len() / record_sizes::FACILITY {
         at += begin_at(section, n, store, stimulus, at);
-        n += 1;
     }
 }

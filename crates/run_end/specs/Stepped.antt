@@ -1,16 +1,16 @@
 -- What a cycle works on and what its answer means.
-use Rattle.std.specs.Prelude.{false, List, [], ◌≡◌, ℕ, min, length, replicate}
+use Rattle.std.specs.Prelude.{false, Err, Ok, Result, List, [], ◌≡◌, ℕ, min, length, replicate}
 use Rattle.language.specs.Acting as T
 use Rattle.language.specs.Description.{Description, Facility}
 use Rattle.language.specs.Step as S
-use Rattle.language.specs.Store.{Held, StoreWords, conflicts, from_bytes, land_all}
+use Rattle.language.specs.Store.{Held, conflicts, from_bytes, land_all}
 use Rattle.store_layout.specs.InBytes.{InBytes, waiting}
 use Rattle.run_references.specs.Worth.{stuck_meant}
+use Rattle.run_references.specs.declared.worth.Halted.{Halted}
+use Rattle.run_references.specs.declared.worth.Halted.TheVariants as H
 use Rattle.run_stores.specs.declared.doing.Doing.{Doing}
 use Rattle.run_next.specs.Seen.{Sees, record_meant}
 use Rattle.run_end.specs.declared.outcome.Stepped.{Stepped}
-use Rattle.run_end.specs.declared.outcome.CycleEnd.{CycleEnd}
-use Rattle.run_end.specs.declared.outcome.CycleEnd.TheVariants as Ends
 
 -- Pending bytes P and a mask M as long as the store B, the mask clear.
 pub record Clear (B P M : List ℕ) : Type 0 where
@@ -39,14 +39,15 @@ nothing_in B P M = record { store = record { bytes = B; waiting = waiting P M };
 
 -- ---- Answers.
 
-abbrev pub ended : CycleEnd → StoreWords → S.Record → ℕ → S.Outcome
-ended Ends.Completed s r n = S.completed s r n
-ended (Ends.Stopped k) s r n = S.stopped k
-ended (Ends.Stuck x) s r n = S.stuck (stuck_meant x)
+-- A halt in place of what a cycle leaves.
+abbrev pub unfinished : Halted → S.Outcome
+unfinished (H.Stopped k) = S.stopped k
+unfinished (H.Stuck x) = S.stuck (stuck_meant x)
 
 -- The outcome that an answer means, with the bytes B left.
-abbrev pub stepped : List Facility → Stepped → List ℕ → S.Outcome
-stepped fs a B = ended a.verdict (from_bytes fs B) (record_meant a.record) a.conflicts
+abbrev pub stepped : List Facility → Result Stepped Halted → List ℕ → S.Outcome
+stepped fs (Ok a) B = S.completed (from_bytes fs B) (record_meant a.record) a.conflicts
+stepped fs (Err h) B = unfinished h
 
 -- Conflicts are counted as far as 32 bits count.
 abbrev pub counted : S.Outcome → S.Outcome

@@ -13,16 +13,16 @@ ghost use Rattle.run_references.specs.Described.{Describes};
 ghost use Rattle.run_end.specs.Register.{Enters, Holds, entered};
 
 use image_sections::facilities::FacilityRecord;
-use image_sections::states::StateValue;
+use image_sections::sections::Sections;
 use image_sections::{facilities, states};
 use run_next::register;
-use run_references::arms::Found;
 use run_references::{bounds, constants};
 use store_geometry::shapes;
 use store_words::parts;
 use value_operators::Value;
 
 // All bytes of a facility's first word of at most 256 bits take the number of x, spare bits included.
+#[tactic(auto, unfolding(language::specs::Layout::word_bytes))]
 fn put_first_word(store: &mut [u8], f: FacilityRecord, x: Value)
     ensures { (name : Name) → word_length (facility_meant name f) ≤ 256 → store.new ≡ saved store.old f.place (8 * word_bytes (word_length (facility_meant name f))) 0 (8 * word_bytes (word_length (facility_meant name f))) (number x.limbs) }
 {
@@ -35,27 +35,21 @@ fn put_first_word(store: &mut [u8], f: FacilityRecord, x: Value)
 }
 
 // The register, if there is one, takes the value of state s. Answers whether that state has one.
-pub fn set_register(
-    facilities: &[u8],
-    expressions: &[u8],
-    states: &[u8],
-    store: &mut [u8],
-    s: u32,
-) -> bool
-    requires { length facilities.now / facility_size ≤ 65536 }
-    ensures { (d : Description) → Enters d facilities.now expressions.now states.now → store_size_of d.facilities ≤ length store.old → entered result (from_bytes d.facilities store.new) ≡ set_register d (sequencing_of d) (state_at d s).value (from_bytes d.facilities store.old) }
+pub fn set_register(image: &Sections, store: &mut [u8], s: u32) -> bool
+    requires { length image.now.facilities.now / facility_size ≤ 65536 }
+    ensures { (d : Description) → Enters d image.now.facilities.now image.now.expressions.now image.now.states.now → store_size_of d.facilities ≤ length store.old → entered result (from_bytes d.facilities store.new) ≡ set_register d (sequencing_of d) (state_at d s).value (from_bytes d.facilities store.old) }
 {
-    let Found::At(f) = register::sequencing(facilities) else {
+    let Some(f) = register::sequencing(image.facilities) else {
         return true;
     };
-    let state = states::state_at(states, s as usize);
-    let value = state.value;
-    let StateValue::At(n) = value else {
+    let Some(n) = states::state_at(image.states, s as usize).value else {
         return false;
     };
-    let x = constants::constant_at(expressions, n as usize);
-    let facility = facilities::facility_at(facilities, f as usize);
-    put_first_word(store, facility, x);
+    put_first_word(
+        store,
+        facilities::facility_at(image.facilities, f as usize),
+        constants::constant_at(image.expressions, n as usize),
+    );
     true
 }
 
@@ -64,12 +58,11 @@ pub fn register_value(facilities: &[u8], store: &[u8]) -> Value
     requires { length facilities.now / facility_size ≤ 65536 }
     ensures { (d : Description) (E : List ℕ) → Describes d facilities.now E → Holds d → store_size_of d.facilities ≤ length store.now → number result.limbs ≡ register_value d (sequencing_of d) (from_bytes d.facilities store.now) }
 {
-    let Found::At(f) = register::sequencing(facilities) else {
+    let Some(f) = register::sequencing(facilities) else {
         return Value {
             limbs: [0u64; 4],
             length: 0,
         };
     };
-    let facility = facilities::facility_at(facilities, f as usize);
-    register::first_word(store, facility)
+    register::first_word(store, facilities::facility_at(facilities, f as usize))
 }

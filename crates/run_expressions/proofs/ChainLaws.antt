@@ -20,6 +20,9 @@ use Rattle.image_records.specs.declared.nodes.Node.{Node}
 use Rattle.image_records.specs.declared.nodes.Node.TheVariants as N
 use Rattle.run_references.specs.Described.{Nodes}
 use Rattle.run_references.proofs.EvalLaws.{eval-before, eval-node}
+use Rattle.run_references.specs.Worth.{unanswered}
+use Rattle.run_references.specs.declared.worth.Halted.{Halted}
+use Rattle.run_references.specs.declared.worth.Halted.TheVariants as H
 use Rattle.run_expressions.specs.Chains.{Chain, Follow, operand_of, operated_on}
 
 none-some : {A : Type 0} {b : ℕ} → none ≡ some b → A
@@ -105,14 +108,19 @@ module _ {X : Type 0} (S : Stores X) (d : Description) (x : X) where
       eval-node S d x (i + 1) (node_of E (i + 1)) (h (i + 1))
       ∙ (operator-worth (eval_below S d x (i + 1)) (node_of E (i + 1)) i (c i g k) ∙ ap (λ (a : Answer). after a (operated_on (node_of E (i + 1)))) (eval-before S d x (i + 1) i (omega arith)))
 
+-- A halt stays so, whatever was to follow.
+pub halt-stays : (h : Halted) (f : Value → Answer) → after (unanswered h) f ≡ unanswered h
+halt-stays (H.Stopped n) f = refl
+halt-stays (H.Stuck s) f = refl
+
 -- A worth that is no value is that of every record above it in the chain.
-module _ (E : List ℕ) (worth : ℕ → Answer) (b n i : ℕ) (follow : Follow E worth b n) (g : b ≤ i) (a : Answer) (keeps : (f : Value → Answer) → after a f ≡ a) (w : worth i ≡ a) where
-  above : (k m : ℕ) → m ≡ i + k → m ≤ n → worth m ≡ a
-  above zero m e h = let p : m ≡ i = omega arith in ap worth p ∙ w
-  above (suc k) m e h =
+module _ (E : List ℕ) (worth : ℕ → Answer) (b n i : ℕ) (follow : Follow E worth b n) (g : b ≤ i) (h : Halted) (w : unanswered h ≡ worth i) where
+  above : (k m : ℕ) → m ≡ i + k → m ≤ n → worth m ≡ unanswered h
+  above zero m e l = let p : m ≡ i = omega arith in ap worth p ∙ sym w
+  above (suc k) m e l =
       let p : m ≡ i + k + 1 = omega arith in
       ap worth p
-      ∙ (follow (i + k) (omega arith) (omega arith) ∙ (ap (λ (v : Answer). after v (operated_on (node_of E (i + k + 1)))) (above k (i + k) refl (omega arith)) ∙ keeps _))
+      ∙ (follow (i + k) (omega arith) (omega arith) ∙ (ap (λ (v : Answer). after v (operated_on (node_of E (i + k + 1)))) (above k (i + k) refl (omega arith)) ∙ halt-stays h _))
 
-  pub stays : i ≤ n → worth n ≡ a
-  stays h = above (n - i) n (omega arith) (omega arith)
+  pub stays : i ≤ n → unanswered h ≡ worth n
+  stays l = sym (above (n - i) n (omega arith) (omega arith))

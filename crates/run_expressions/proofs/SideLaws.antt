@@ -11,9 +11,8 @@ use Rattle.language.specs.Meaning.{eval_below, place_of}
 use Rattle.language.specs.References.{Reference, reference_of}
 use Rattle.store_layout.specs.InBytes.{InBytes, bytes}
 use Rattle.run_references.specs.Places.{place_meant}
-use Rattle.run_expressions.specs.Sides.{SideRead, SideThere, side_meant}
-use Rattle.run_expressions.specs.declared.eval.Side.{Side}
-use Rattle.run_expressions.specs.declared.eval.Side.TheVariants as S
+use Rattle.run_expressions.specs.Sides.{Side, SideRead, SideThere, side_meant}
+use Rattle.std.specs.Prelude.{Err, Ok}
 use Rattle.run_references.proofs.PlaceLaws.{place-of-facility, place-there}
 
 module _ (d : Description) (x : InBytes) (n : ℕ) (nd : D.Node) (m : node_at d n ≡ nd) where
@@ -27,9 +26,8 @@ module _ (d : Description) (x : InBytes) (n : ℕ) (nd : D.Node) (m : node_at d 
 
 -- The facility read for a reference is the place's own.
 pub left_there : (d : Description) (F : List ℕ) (ev : ℕ → M.Answer) (r : Reference) (s : Side) → SideRead F r.facility s → side_meant s ≡ place_of d ev r → SideThere d F s
-left_there d F ev r (S.At f p) g e =
-    let q : place_of d ev r ≡ M.Located.at (place_meant p) = sym e in
-    let k = sym (place-of-facility d ev r (place_meant p) q) in
-    record { read = rw k at g; listed = rw k at (place-there d ev r (place_meant p) q) }
-left_there d F ev r (S.Stops k) g e = tt
-left_there d F ev r (S.Stuck k) g e = tt
+left_there d F ev r (Ok s) g e =
+    let q : place_of d ev r ≡ M.Located.at (place_meant s.1) = sym e in
+    let k = sym (place-of-facility d ev r (place_meant s.1) q) in
+    record { read = rw k at g; listed = rw k at (place-there d ev r (place_meant s.1) q) }
+left_there d F ev r (Err h) g e = tt

@@ -1,2 +1,3 @@
 pub mod Chains
+pub mod Images
 pub mod Sides

@@ -2,7 +2,6 @@
 ghost use Rattle.std.specs.Prelude.{true, ◌≡◌, ℕ, ◌+◌, ◌-◌, ◌<◌, ◌≤◌};
 ghost use Rattle.std.proofs.Math.Option.{some};
 ghost use Rattle.language.specs.Decode.{node_of};
-ghost use Rattle.language.specs.Meaning as M;
 ghost use Rattle.image_records.specs.Nodes.{meant};
 ghost use Rattle.value_operators.specs.Meaning.{valued};
 ghost use Rattle.run_references.specs.Worth.{answered};
@@ -11,7 +10,7 @@ ghost use Rattle.run_expressions.specs.Chains.{Chain, Climbed, operand_of, opera
 use image_records::nodes;
 use image_records::nodes::Node;
 use run_references::worth;
-use run_references::worth::{Outcome, Worth};
+use run_references::worth::Worth;
 use value_operators::Value;
 
 // Whether record n is an operator whose one operand is the record right before it.
@@ -19,8 +18,7 @@ fn linked(expressions: &[u8], n: usize) -> bool
     ensures { result ≡ true → (0 < n) × (operand_of (node_of expressions.now n) ≡ some (n - 1)) }
 {
     match nodes::node_at(expressions, n) {
-        Node::Prefix(_, a) => a as usize + 1 == n,
-        Node::Cut(_, a, _) => a as usize + 1 == n,
+        Node::Prefix(_, a) | Node::Cut(_, a, _) => a as usize + 1 == n,
         _ => false,
     }
 }
@@ -41,48 +39,9 @@ fn operated(node: Node, v: Value) -> Worth
     ensures { (c : ℕ) → answered result ≡ operated_on (meant c node) (valued v) }
 {
     match node {
-        Node::Prefix(k, _) => worth::prefix(k, worth::is(v)),
-        Node::Cut(k, _, c) => worth::cut(k, worth::is(v), c),
-        _ => worth::is(v),
-    }
-}
-
-// The same value, made anew from its numbers: handed on whole it takes along the gap at its end, and room for that on the stack.
-fn anew(v: Value) -> Value
-    ensures { valued result ≡ valued v }
-{
-    let limbs = v.limbs;
-    Value {
-        limbs,
-        length: v.length,
-    }
-}
-
-// The worth of record n, which ends a chain from record b, from the value of b's operand.
-fn climbed(expressions: &[u8], b: usize, n: usize, value: Value) -> Worth
-    ensures { Climbed expressions.now b n (M.Answer.is (valued value)) (answered result) }
-{
-    let mut i = b;
-    let mut v = value;
-    loop {
-        let w = operated(nodes::node_at(expressions, i), v);
-        if n <= i {
-            return w;
-        }
-        let outcome = w.outcome;
-        match outcome {
-            Outcome::Is => {
-                let made = w.value;
-                v = anew(made);
-            }
-            Outcome::Stops(_) => {
-                return w;
-            }
-            Outcome::Stuck(_) => {
-                return w;
-            }
-        }
-        i += 1;
+        Node::Prefix(k, _) => worth::prefix(k, Ok(v)),
+        Node::Cut(k, _, c) => worth::cut(k, Ok(v), c),
+        _ => Ok(v),
     }
 }
 
@@ -90,13 +49,9 @@ fn climbed(expressions: &[u8], b: usize, n: usize, value: Value) -> Worth
 pub fn ended(expressions: &[u8], b: usize, n: usize, w: Worth) -> Worth
     ensures { Climbed expressions.now b n (answered w) (answered result) }
 {
-    let outcome = w.outcome;
-    match outcome {
-        Outcome::Is => {
-            let v = w.value;
-            climbed(expressions, b, n, anew(v))
-        }
-        Outcome::Stops(k) => worth::stops(k),
-        Outcome::Stuck(k) => worth::sticks(k),
+    let mut v = w?;
+    for i in b..=n {
+        v = operated(nodes::node_at(expressions, i), v)?;
     }
+    Ok(v)
 }

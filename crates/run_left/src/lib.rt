@@ -5,37 +5,28 @@ ghost use Rattle.std.specs.Prelude.{◌≡◌, ◌≤◌, length};
 ghost use Rattle.run_next.specs.Seen.{record_meant};
 ghost use Rattle.run_left.specs.Kept.{kept, kept_record, kept_store};
 
-use run_end::outcome::{CycleEnd, Stepped};
+use run_end::outcome::Ended;
 use run_next::record::Record;
 use run_soundness::record;
 use store_words::slices;
 
 // A completed cycle's working copy, kept; of any other cycle nothing is.
-pub fn keep_store(verdict: CycleEnd, work: &[u8], store: &mut [u8])
-    ensures { store.new ≡ kept_store verdict work.now store.old }
+pub fn keep_store(ended: &Ended, work: &[u8], store: &mut [u8])
+    ensures { store.new ≡ kept_store ended.now work.now store.old }
 {
-    match verdict {
-        CycleEnd::Completed => slices::copy(store, work),
-        CycleEnd::Stopped(_) => {}
-        CycleEnd::Stuck(_) => {}
+    match ended {
+        Ok(_) => slices::copy(store, work),
+        Err(_) => {}
     }
 }
 
-// The answer s of a cycle from the record r, with the record that the cycle leaves.
-pub fn keep_record(r: Record, s: Stepped) -> Stepped
-    ensures { (result.verdict ≡ s.verdict) × (result.record ≡ kept s.verdict r s.record) × (result.conflicts ≡ s.conflicts) }
+// The record after a cycle from r that ended so.
+pub fn keep_record(r: Record, ended: &Ended) -> Record
+    ensures { result ≡ kept ended.now r }
 {
-    let verdict = s.verdict;
-    let record = s.record;
-    let left = match verdict {
-        CycleEnd::Completed => record,
-        CycleEnd::Stopped(_) => r,
-        CycleEnd::Stuck(_) => r,
-    };
-    Stepped {
-        verdict,
-        record: left,
-        conflicts: s.conflicts,
+    match ended {
+        Ok(s) => s.record,
+        Err(_) => r,
     }
 }
 

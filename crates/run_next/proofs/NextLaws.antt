@@ -1,13 +1,12 @@
 -- Laws of the next state: what the code keeps of a cycle decides it as all that the cycle did would.
 use mathlib.Core.Bool.{Bool, true, false, cond}
-use mathlib.Core.List.{List, [], ◌∷◌}
 use mathlib.Core.Option.{Option, none, some}
 use mathlib.Core.Path.{◌≡◌, refl, sym, ap, ◌∙◌}
-use Prim.Native.Nat.{ℕ, zero, suc, ◌+◌, ◌-◌, ◌≤◌, ◌<◌, min}
+use Prim.Native.Nat.{ℕ, suc, ◌+◌, ◌-◌, ◌≤◌, ◌<◌, min}
 use native.Mathlib.Omega.{arith}
 use borrow.Author.Tests.{eq-eqb, eqb-false, eqb-true, le-leb, le-ltb, leb-false, leb-true, lt-leb, lt-ltb, ltb-false, ltb-true, ne_eqb}
 use lib.Dec.{eqb, leb, ltb}
-use lib.ListN.{get_or, length, set}
+use lib.ListN.{get_or, length}
 use Rattle.language.specs.Acting as T
 use Rattle.language.specs.Description.{Description}
 use Rattle.language.specs.Step as S
@@ -16,27 +15,8 @@ use Rattle.language.specs.Store.{Held}
 use Rattle.language.specs.Value.{bit}
 use Rattle.run_stores.specs.Seen.{States}
 use Rattle.run_stores.specs.declared.doing.Doing.{Doing}
-use Rattle.run_next.specs.Seen.{Sees, is_none, left_seen, next_seen, or_zero, record_seen, stop_seen}
+use Rattle.run_next.specs.Seen.{Sees, is_none, next_seen, or_zero, record_seen, stop_seen}
 use Rattle.language.specs.Tests.{both}
-
--- ---- Past the end of a list.
-
-pub none-past : (l : List ℕ) (i : ℕ) → length l ≤ i → 0 ≡ get_or l i 0
-none-past [] i h = refl
-none-past (x ∷ xs) zero h = absurd (omega arith)
-none-past (x ∷ xs) (suc i) h = none-past xs i (omega arith)
-
-pub same-past : (l : List ℕ) (i x : ℕ) → length l ≤ i → l ≡ set l i x
-same-past [] i x h = refl
-same-past (y ∷ ys) zero x h = absurd (omega arith)
-same-past (y ∷ ys) (suc i) x h = ap (λ (zs : List ℕ). y ∷ zs) (same-past ys i x (omega arith))
-
-pub left-most : (held n : ℕ) → left_seen held n ≤ held
-left-most held n = by-test (ltb 0 n)
-  where
-    by-test : (b : Bool) → cond b (held - 1) held ≤ held
-    by-test true = omega arith
-    by-test false = omega arith
 
 -- ---- The first state that bears a value.
 

@@ -10,38 +10,28 @@ ghost use Rattle.run_next.specs.Values.{Valued};
 
 use image_records::record_sizes;
 use image_sections::states;
-use image_sections::states::StateValue;
-use run_references::arms::Found;
 use run_references::constants;
 use value_operators::{Value, numbers};
 
 // Whether a state, by its value, bears x.
-fn bears(expressions: &[u8], value: StateValue, x: Value) -> bool
+fn bears(expressions: &[u8], value: Option<u16>, x: Value) -> bool
     ensures { (d : Description) (T : List ℕ) (s : ℕ) → Valued d expressions.now T → (state_at d s).value ≡ value_meant value → result ≡ S.bears d (S.state_number d s) (number x.limbs) }
 {
     match value {
-        StateValue::At(n) => {
-            let y = constants::constant_at(expressions, n as usize);
-            numbers::same(x, y)
-        }
-        StateValue::None => false,
+        Some(n) => numbers::same(x, constants::constant_at(expressions, n as usize)),
+        None => false,
     }
 }
 
 // The first state that bears x.
-pub fn bearer(expressions: &[u8], section: &[u8], x: Value) -> Found
+pub fn bearer(expressions: &[u8], section: &[u8], x: Value) -> Option<u16>
     requires { length section.now / state_size ≤ 65536 }
     ensures { (d : Description) → Valued d expressions.now section.now → found_meant result ≡ S.bearer d (length section.now / state_size) 0 (number x.limbs) }
 {
-    let count = section.len() / record_sizes::STATE;
-    let mut n: usize = 0;
-    while n < count {
-        let s = states::state_at(section, n);
-        let v = s.value;
-        if bears(expressions, v, x) {
-            return Found::At(n as u16);
+    for n in 0..section.len() / record_sizes::STATE {
+        if bears(expressions, states::state_at(section, n).value, x) {
+            return Some(n as u16);
         }
-        n += 1;
     }
-    Found::Nowhere
+    None
 }

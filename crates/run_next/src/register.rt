@@ -13,30 +13,26 @@ ghost use Rattle.run_references.specs.Places.{found_meant};
 use image_records::record_sizes;
 use image_sections::facilities::FacilityRecord;
 use image_sections::{facilities, kinds};
-use run_references::arms::Found;
 use run_references::bounds;
 use store_geometry::shapes;
 use store_words::parts;
 use value_operators::Value;
 
 // The first sequencing register, if any.
-pub fn sequencing(section: &[u8]) -> Found
+pub fn sequencing(section: &[u8]) -> Option<u16>
     requires { length section.now / facility_size ≤ 65536 }
     ensures { (d : Description) (E : List ℕ) → Describes d section.now E → found_meant result ≡ sequencing_of d }
 {
-    let count = section.len() / record_sizes::FACILITY;
-    let mut n: usize = 0;
-    while n < count {
-        let kind = facilities::kind_at(section, n);
-        if kinds::is_sequencing(kind) {
-            return Found::At(n as u16);
+    for n in 0..section.len() / record_sizes::FACILITY {
+        if kinds::is_sequencing(facilities::kind_at(section, n)) {
+            return Some(n as u16);
         }
-        n += 1;
     }
-    Found::Nowhere
+    None
 }
 
 // All bytes of a facility's first word of at most 256 bits, spare bits included.
+#[tactic(auto, unfolding(language::specs::Layout::word_bytes))]
 pub fn first_word(store: &[u8], f: FacilityRecord) -> Value
     ensures { (name : Name) → word_length (facility_meant name f) ≤ 256 → valued result ≡ loaded store.now f.place (8 * word_bytes (word_length (facility_meant name f))) 0 (8 * word_bytes (word_length (facility_meant name f))) }
 {

@@ -13,26 +13,6 @@ use Rattle.image_records.specs.declared.nodes.Node.{Node}
 use Rattle.image_records.specs.declared.nodes.Node.TheVariants as N
 use Rattle.run_references.specs.Places.{arm_expression}
 
-abbrev others : List ℕ
-others = 0 ∷ 1 ∷ 2 ∷ 3 ∷ 4 ∷ 5 ∷ 6 ∷ 7 ∷ 8 ∷ 9 ∷ 12 ∷ 13 ∷ []
-
--- What is no arm has no expression.
-pub no-expression : (r : Node) → OneOf others (tag_of the_type r) → none ≡ arm_expression r
-no-expression (N.Constant l) k = refl
-no-expression (N.More d) k = refl
-no-expression (N.Whole f) k = refl
-no-expression (N.One f e) k = refl
-no-expression (N.Part f a b) k = refl
-no-expression (N.Two f e g) k = refl
-no-expression (N.WordPart f e a b) k = refl
-no-expression (N.Binary o a b) k = refl
-no-expression (N.Prefix o a) k = refl
-no-expression (N.Cut o a c) k = refl
-no-expression (N.FirstArm e) k = absurd (miss others 10 tt k)
-no-expression (N.NextArm a e) k = absurd (miss others 11 tt k)
-no-expression (N.Choice e a n) k = refl
-no-expression N.Broken k = refl
-
 abbrev not-next : List ℕ
 not-next = 0 ∷ 1 ∷ 2 ∷ 3 ∷ 4 ∷ 5 ∷ 6 ∷ 7 ∷ 8 ∷ 9 ∷ 10 ∷ 12 ∷ 13 ∷ []
 

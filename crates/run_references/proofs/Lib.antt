@@ -4,4 +4,3 @@ pub mod ConstantLaws
 pub mod EvalLaws
 pub mod PlaceLaws
 pub mod SectionLaws
-pub mod WorthLaws

@@ -19,7 +19,7 @@ use Rattle.language.specs.declared.stops.Stop.TheVariants.{OutsideBounds}
 use Rattle.language.specs.Tree.{Name}
 use Rattle.language.specs.Value as L
 use Rattle.language.specs.Ceilings.{longest}
-use Rattle.image_sections.specs.Declarations.{FacilityRead, facility_meant, short_meant}
+use Rattle.image_sections.specs.Declarations.{FacilityRead, facility_meant}
 use Rattle.image_sections.specs.declared.facilities.FacilityRecord.{FacilityRecord}
 use Rattle.store_layout.specs.InBytes.{InBytes, bytes, load_bytes, place_of_word}
 use Rattle.store_layout.specs.Parts.{loaded}
@@ -27,9 +27,9 @@ use Rattle.store_geometry.specs.Subscripts.{subscripts_meant}
 use Rattle.store_geometry.specs.declared.subscripts.Subscripts.{Subscripts}
 use Rattle.store_geometry.specs.declared.subscripts.Subscripts.TheVariants as S
 use Rattle.run_references.specs.Described.{Describes}
-use Rattle.run_references.specs.Places.{Worked, bit_of, first_of, on_distance, refers_to}
-use Rattle.run_references.specs.declared.places.Distance.{Distance}
-use Rattle.run_references.specs.declared.places.Distance.TheVariants as DV
+use Rattle.run_references.specs.Places.{bit_of, first_of, refers_to}
+use Rattle.run_references.specs.declared.worth.Halted.{Halted}
+use Rattle.std.specs.Prelude.{Err, Ok, Result}
 use Rattle.language.specs.Tests.{both}
 
 -- ---- When a reference has a place.
@@ -47,15 +47,6 @@ module _ (d : Description) (ev : ℕ → Answer) (r : Reference) where
     pub right-subscripts : right_count f.dimensions r.subscripts ≡ true → place_of d ev r ≡ located ev r.facility f r.subscripts
     unfolding place_of
     right-subscripts q = rw (lt-ltb r.facility (length d.facilities) l, e, q)
-
--- ---- One subscript after another.
-
--- A bit's subscript may be worked out beforehand, where there is a word.
-pub bit-after-word : (ev : ℕ → Answer) (f : FacilityRecord) (g : ℕ) (d e : Distance) → Worked ev (bit_of f g d) e → (on : ℕ → ℕ → Located)
-    → on_distance d (λ w. on_distance e (on w)) ≡ on_distance d (λ w. M.subscript (ev g) (short_meant f.bits) (on w))
-bit-after-word ev f g (DV.At w) e h on = h (on w)
-bit-after-word ev f g (DV.Stops n) e h on = refl
-bit-after-word ev f g (DV.Stuck s) e h on = refl
 
 -- ---- Whose place it is.
 
@@ -183,10 +174,9 @@ module _ {F : List ℕ} {n : ℕ} (f g : FacilityRecord) (p : FacilityRead F n f
   first-once (S.Two e k) = rw same-words
   first-once (S.WordPart e b) = rw same-words
 
-  pub bit-once : (k : ℕ) (d : Distance) → bit_of f k d ≡ bit_of g k d
-  bit-once k (DV.At w) = rw same_bits
-  bit-once k (DV.Stops m) = refl
-  bit-once k (DV.Stuck m) = refl
+  pub bit-once : (k : ℕ) (d : Result ℕ Halted) → bit_of f k d ≡ bit_of g k d
+  bit-once k (Ok w) = rw same_bits
+  bit-once k (Err h) = refl
 
 -- ---- What is read there.
 

@@ -1,12 +1,12 @@
 -- What the code's answers mean in the language.
+use Rattle.std.specs.Prelude.{Err, Ok, Result}
 use Rattle.language.specs.Meaning as M
-use Rattle.language.specs.Value as L
 use Rattle.value_operators.specs.Meaning.{valued}
-use Rattle.run_references.specs.declared.worth.Outcome.{Outcome}
-use Rattle.run_references.specs.declared.worth.Outcome.TheVariants as O
+use Rattle.value_operators.specs.declared.Value.{Value}
+use Rattle.run_references.specs.declared.worth.Halted.{Halted}
+use Rattle.run_references.specs.declared.worth.Halted.TheVariants as H
 use Rattle.run_references.specs.declared.worth.Stuck.{Stuck}
 use Rattle.run_references.specs.declared.worth.Stuck.TheVariants as S
-use Rattle.run_references.specs.declared.worth.Worth.{Worth}
 
 abbrev pub stuck_meant : Stuck → M.Stuck
 stuck_meant S.NotBefore = M.not_before
@@ -28,10 +28,11 @@ stuck_meant S.NotStorable = M.not_storable
 stuck_meant S.RunsOver = M.runs_over
 stuck_meant S.NoStateValue = M.no_state_value
 
-abbrev pub ended : Outcome → L.Value → M.Answer
-ended O.Is v = M.Answer.is v
-ended (O.Stops n) v = M.Answer.stops n
-ended (O.Stuck s) v = M.Answer.stuck (stuck_meant s)
+-- A halt in place of a value.
+abbrev pub unanswered : Halted → M.Answer
+unanswered (H.Stopped n) = M.Answer.stops n
+unanswered (H.Stuck s) = M.Answer.stuck (stuck_meant s)
 
-abbrev pub answered : Worth → M.Answer
-answered w = ended w.outcome (valued w.value)
+abbrev pub answered : Result Value Halted → M.Answer
+answered (Ok v) = M.Answer.is (valued v)
+answered (Err h) = unanswered h

@@ -13,56 +13,47 @@ use image_records::nodes;
 use image_records::nodes::Node;
 use value_operators::Value;
 
-#[derive(Clone, Copy)]
-pub enum Found {
-    At(u16),
-    Nowhere,
-}
-
 // Whether a condition's value may choose between n arms: of two, only one bit may.
 pub fn decides(n: u16, v: Value) -> bool
     ensures { result ≡ M.decides n (valued v) }
 {
-    if n == 2 { v.length == 1 } else { true }
+    n != 2 || v.length == 1
 }
 
 // The number of the arm that a value takes, of n arms.
-pub fn arm_number(n: u16, v: Value) -> Found
+pub fn arm_number(n: u16, v: Value) -> Option<u16>
     ensures { found_meant result ≡ arm_number n (number v.limbs) }
 {
     let k = bounds::small(v);
     if k == 0 {
-        return Found::At(n);
+        return Some(n);
     }
     if k < n as u32 {
-        return Found::At(k as u16);
+        return Some(k as u16);
     }
-    Found::Nowhere
+    None
 }
 
 // The expression of an arm.
-fn expression_of(node: Node) -> Found
+fn expression_of(node: Node) -> Option<u16>
     ensures { found_meant result ≡ arm_expression node }
 {
     match node {
-        Node::FirstArm(e) => Found::At(e),
-        Node::NextArm(_, e) => Found::At(e),
-        _ => Found::Nowhere,
+        Node::FirstArm(e) | Node::NextArm(_, e) => Some(e),
+        _ => None,
     }
 }
 
 // The expression of the arm that is `back` arms before the one at record a.
-pub fn arm_back(expressions: &[u8], a: u16, back: u32) -> Found
+pub fn arm_back(expressions: &[u8], a: u16, back: u32) -> Option<u16>
     ensures { (d : Description) → Nodes d expressions.now → found_meant result ≡ arm_back d back a }
 {
     let mut at = a;
-    let mut left = back;
-    while 0 < left {
-        let Node::NextArm(b, _) = nodes::node_at(expressions, at as usize) else {
-            return Found::Nowhere;
+    for _ in 0..back {
+        let Node::NextArm(before, _) = nodes::node_at(expressions, at as usize) else {
+            return None;
         };
-        at = b;
-        left -= 1;
+        at = before;
     }
     expression_of(nodes::node_at(expressions, at as usize))
 }

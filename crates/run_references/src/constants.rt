@@ -11,26 +11,17 @@ use image_records::nodes::Node;
 use image_records::{nodes, numbers, record_sizes};
 use value_operators::Value;
 
-// The record k before record n, or the first.
-fn before(n: usize, k: u8) -> usize
-    ensures { result ≡ n - k }
-{
-    let back = k as usize;
-    if back < n { n - back } else { 0 }
-}
-
 // The number of record n and of the k records before it, as far as there are any, modulo 2 to the 256, one record after the other.
 fn joined_at(exprs: &[u8], n: usize, k: u8) -> [u64; 4]
     requires { node_size * n + node_size ≤ length exprs.now }
     ensures { number result ≡ digits (suc k) (suc n) exprs.now % 2 ^ 256 }
 {
     let mut x = [0u64; 4];
-    let mut i = before(n, k);
-    while i <= n {
+    for i in n.saturating_sub(k as usize)..=n {
         let digit = numbers::six_there(exprs, record_sizes::NODE * i + 2);
+        // By a name of its own: the check covers no call's result laid straight over an array.
         let longer = value_limbs::shifts::joined(x, 48, value_limbs::small(digit));
         x = longer;
-        i += 1;
     }
     x
 }

@@ -6,10 +6,10 @@ ghost use Rattle.image_records.specs.References.{reference_meant};
 
 use image_records::nodes::Node;
 use image_records::references;
-use image_records::references::Reference;
+use store_geometry::subscripts::Subscripts;
 
 // The reference that a record is, if it is one.
-pub fn reference_of(node: Node) -> Reference
+pub fn reference_of(node: Node) -> Option<(u8, Subscripts)>
     ensures { (v : ℕ) → reference_meant result ≡ reference_of (meant v node) }
 {
     references::reference_of(node, 0, 0)

@@ -1,47 +1,31 @@
 // The numbers of a record: its state and the returns held are states, unused returns zero.
-ghost use Rattle.std.specs.Prelude.{cond, ◌≡◌, eqb, ltb};
-ghost use Rattle.language.specs.RecordBytes.{returns_sound};
+ghost use Rattle.std.specs.Prelude.{◌≡◌, eqb, ltb};
+ghost use Rattle.std.specs.List.{list_all};
 ghost use Rattle.run_next.specs.Seen.{record_meant};
 ghost use Rattle.run_soundness.specs.Tested.{record_sound};
 
-use language::ceilings;
-use run_next::record::{MOST_RETURNS, Record};
+use run_next::record::Record;
 
-// Return state i, where there are so many states and so many returns held.
-fn return_sound(states: usize, held: u32, i: usize, x: u32) -> bool
-    ensures { result ≡ cond (ltb i held) (ltb x states) (eqb x 0) }
+// Whether these are numbers of states.
+fn all_states(states: usize, held: &[u32]) -> bool
+    ensures { result ≡ list_all (λ x. ltb x states) held.now }
 {
-    if i < held as usize {
-        (x as usize) < states
-    } else {
-        x == 0
-    }
+    held.iter().all(|x| (*x as usize) < states)
 }
 
-// All sixteen.
-fn returns_sound(states: usize, held: u32, returns: [u32; ceilings::RETURNS]) -> bool
-    ensures { result ≡ returns_sound states held returns }
+fn all_zero(unused: &[u32]) -> bool
+    ensures { result ≡ list_all (λ x. eqb x 0) unused.now }
 {
-    let mut i: usize = 0;
-    while i < ceilings::RETURNS {
-        if !return_sound(states, held, i, returns[i]) {
-            return false;
-        }
-        i += 1;
-    }
-    true
+    unused.iter().all(|x| *x == 0)
 }
 
-// State, count of returns, and returns.
+// The state and the returns held are states, 16 of these at most, and the others are zero.
+#[tactic(auto, using(crate::proofs::ReturnLaws::returns_apart), unfolding(crate::specs::Tested::record_sound, language::specs::Ceilings::most_returns))]
 pub fn record_sound(states: usize, r: Record) -> bool
     ensures { result ≡ record_sound states (record_meant r) }
 {
-    if states <= r.state as usize {
+    let Some((held, unused)) = r.returns.split_at_checked(r.held as usize) else {
         return false;
-    }
-    if MOST_RETURNS < r.held {
-        return false;
-    }
-    let returns = r.returns;
-    returns_sound(states, r.held, returns)
+    };
+    (r.state as usize) < states && all_states(states, held) && all_zero(unused)
 }

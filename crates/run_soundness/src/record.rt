@@ -14,6 +14,7 @@ use run_next::record::Record;
 const OPEN_MARK: u32 = 0x504c4444;
 
 // Whether the bytes begin with them.
+#[tactic(auto, unfolding(language::specs::RecordBytes::marked, language::specs::RecordBytes::open_mark))]
 pub fn marked(bytes: &[u8]) -> bool
     ensures { result ≡ L.marked bytes.now }
 {
@@ -25,27 +26,22 @@ fn returns_at(bytes: &[u8]) -> [u32; ceilings::RETURNS]
     ensures { result ≡ returns_from 16 16 bytes.now }
 {
     let mut returns = [0u32; ceilings::RETURNS];
-    let mut i: usize = 0;
-    while i < ceilings::RETURNS {
-        returns[i] = numbers::four(bytes, 16 + 4 * i);
-        i += 1;
+    for (i, x) in returns.iter_mut().enumerate() {
+        *x = numbers::four(bytes, 16 + 4 * i);
     }
     returns
 }
 
 // The record that its bytes hold; bytes that are not there count 0.
+#[tactic(auto, unfolding(language::specs::RecordBytes::record_from, language::specs::Ceilings::most_returns))]
 pub fn record_at(bytes: &[u8]) -> Record
     ensures { record_meant result ≡ record_from bytes.now }
 {
-    let state = numbers::four(bytes, 4);
-    let cycle = numbers::four(bytes, 8);
-    let held = numbers::four(bytes, 12);
-    let returns = returns_at(bytes);
     Record {
-        state,
-        cycle,
-        held,
-        returns,
+        state: numbers::four(bytes, 4),
+        cycle: numbers::four(bytes, 8),
+        held: numbers::four(bytes, 12),
+        returns: returns_at(bytes),
     }
 }
 
@@ -53,10 +49,8 @@ pub fn record_at(bytes: &[u8]) -> Record
 fn write_returns(bytes: &mut [u8], returns: [u32; ceilings::RETURNS])
     ensures { 80 ≤ length bytes.old → bytes.new ≡ placed bytes.old 16 (fours returns) }
 {
-    let mut i: usize = 0;
-    while i < ceilings::RETURNS {
-        numbers::write_four(bytes, 16 + 4 * i, returns[i]);
-        i += 1;
+    for (i, x) in returns.iter().enumerate() {
+        numbers::write_four(bytes, 16 + 4 * i, *x);
     }
 }
 
@@ -68,6 +62,5 @@ pub fn write_record(bytes: &mut [u8], r: Record)
     numbers::write_four(bytes, 4, r.state);
     numbers::write_four(bytes, 8, r.cycle);
     numbers::write_four(bytes, 12, r.held);
-    let returns = r.returns;
-    write_returns(bytes, returns);
+    write_returns(bytes, r.returns);
 }

@@ -10,24 +10,28 @@ ghost use Rattle.image_sections.specs.Declarations.{value_meant};
 ghost use Rattle.language.specs.Encode.{facility_size};
 ghost use Rattle.run_soundness.specs.Tested.{Testable};
 
-use image_sections::states::StateValue;
 use image_sections::{facilities, states};
 use run_next::register;
-use run_references::arms::Found;
 use run_references::constants;
 use value_operators::numbers;
 
 // Whether facility n, the sequencing register, has the value of a state.
-fn has_value(facilities: &[u8], expressions: &[u8], store: &[u8], n: u16, value: StateValue) -> bool
+fn has_value(
+    facilities: &[u8],
+    expressions: &[u8],
+    store: &[u8],
+    n: u16,
+    value: Option<u16>,
+) -> bool
     ensures { (d : Description) (T : List ℕ) (s : ℕ) → Testable d facilities.now expressions.now T → sequencing_of d ≡ some n → (state_at d s).value ≡ value_meant value → store_size_of d.facilities ≤ length store.now → result ≡ L.agrees (some n) (S.state_number d s) (word_of (from_bytes d.facilities store.now) n 0) }
 {
     match value {
-        StateValue::At(k) => {
+        Some(k) => {
             let f = facilities::facility_at(facilities, n as usize);
             let x = register::first_word(store, f);
             numbers::same(x, constants::constant_at(expressions, k as usize))
         }
-        StateValue::None => false,
+        None => false,
     }
 }
 
@@ -43,11 +47,10 @@ pub fn agrees(
     ensures { (d : Description) → Testable d facilities.now expressions.now states.now → store_size_of d.facilities ≤ length store.now → result ≡ L.agrees (sequencing_of d) (S.state_number d state) (S.register_value d (sequencing_of d) (from_bytes d.facilities store.now)) }
 {
     match register::sequencing(facilities) {
-        Found::At(n) => {
+        Some(n) => {
             let s = states::state_at(states, state as usize);
-            let v = s.value;
-            has_value(facilities, expressions, store, n, v)
+            has_value(facilities, expressions, store, n, s.value)
         }
-        Found::Nowhere => true,
+        None => true,
     }
 }

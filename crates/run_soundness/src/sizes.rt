@@ -12,13 +12,10 @@ use store_geometry::places;
 pub fn store_size(section: &[u8]) -> usize
     ensures { (d : Description) (E : List ℕ) → Describes d section.now E → store_size_of d.facilities ≤ 16384 → result ≡ store_size_of d.facilities }
 {
-    let count = section.len() / record_sizes::FACILITY;
-    let mut n: usize = 0;
     let mut size: u32 = 0;
-    while n < count {
+    for n in 0..section.len() / record_sizes::FACILITY {
         let shape = shapes::shape_of(facilities::facility_at(section, n));
         size = places::cap(places::place_after(size, shape));
-        n += 1;
     }
     size as usize
 }

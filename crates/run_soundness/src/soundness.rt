@@ -20,15 +20,9 @@ pub fn sound(
     requires { length facilities.now / facility_size ≤ 65536 }
     ensures { (d : Description) → Testable d facilities.now expressions.now states.now → store_size_of d.facilities ≤ length store.now → result ≡ sound_bytes d store.now «record».now }
 {
-    if !record::marked(record) {
-        return false;
-    }
     let r = record::record_at(record);
-    if !numbers::record_sound(states.len() / record_sizes::STATE, r) {
-        return false;
-    }
-    if !words::narrow(facilities, store) {
-        return false;
-    }
-    register::agrees(facilities, expressions, states, store, r.state)
+    record::marked(record)
+        && numbers::record_sound(states.len() / record_sizes::STATE, r)
+        && words::narrow(facilities, store)
+        && register::agrees(facilities, expressions, states, store, r.state)
 }

@@ -18,26 +18,23 @@ use store_words::spare;
 fn narrow_in(store: &[u8], f: FacilityRecord) -> bool
     ensures { (name : Name) → result ≡ narrow_in store.now f.place (facility_meant name f) }
 {
-    let kind = f.kind;
-    if kinds::is_computed(kind) {
-        return true;
-    }
-    let at = f.place as usize;
-    spare::no_spare_bits(store, at, bounds::word_count(f), bounds::word_length(f))
+    kinds::is_computed(f.kind)
+        || spare::no_spare_bits(
+            store,
+            f.place as usize,
+            bounds::word_count(f),
+            bounds::word_length(f),
+        )
 }
 
 // Those of all facilities of a section.
 pub fn narrow(section: &[u8], store: &[u8]) -> bool
     ensures { (d : Description) (E : List ℕ) → Describes d section.now E → store_size_of d.facilities ≤ length store.now → result ≡ L.narrow d.facilities (L.from_bytes d.facilities store.now) }
 {
-    let count = section.len() / record_sizes::FACILITY;
-    let mut n: usize = 0;
-    while n < count {
-        let f = facilities::facility_at(section, n);
-        if !narrow_in(store, f) {
+    for n in 0..section.len() / record_sizes::FACILITY {
+        if !narrow_in(store, facilities::facility_at(section, n)) {
             return false;
         }
-        n += 1;
     }
     true
 }

@@ -15,10 +15,11 @@ use Rattle.store_layout.proofs.Zeros.{Zeros}
 use Rattle.store_layout.specs.InBytes.{InBytes, bytes}
 use Rattle.store_layout.specs.Layout.{Bytes}
 use Rattle.store_layout.specs.Slices.{landed}
+use Rattle.std.specs.Prelude.{Err, Ok, Result}
 use Rattle.run_references.specs.Worth.{stuck_meant}
+use Rattle.run_references.specs.declared.worth.Halted.{Halted}
+use Rattle.run_references.specs.declared.worth.Halted.TheVariants as H
 use Rattle.run_stores.specs.Seen.{View, did, ran_seen, seen, states_seen, viewed}
-use Rattle.run_stores.specs.declared.doing.Did.{Did}
-use Rattle.run_stores.specs.declared.doing.Did.TheVariants as G
 use Rattle.run_stores.specs.declared.doing.Doing.{Doing}
 use Rattle.run_next.specs.Seen.{Sees}
 use Rattle.run_step.proofs.Joined.{joined}
@@ -36,10 +37,13 @@ module _ (d : Description) (P M : List ℕ) (room : store_size_of d.facilities �
     pub finished : Finished g B' P' M' doing
 
   -- How the run over numbers went.
-  abbrev pub Ended : Did → List ℕ → List ℕ → List ℕ → T.Ran Held → Type 0
-  Ended (G.Went g) B' P' M' r = Went g B' P' M' r
-  Ended (G.Stopped n) B' P' M' r = r ≡ T.stopped n
-  Ended (G.Stuck s) B' P' M' r = r ≡ T.stuck (stuck_meant s)
+  abbrev pub Halts : Halted → T.Ran Held → Type 0
+  Halts (H.Stopped n) r = r ≡ T.stopped n
+  Halts (H.Stuck s) r = r ≡ T.stuck (stuck_meant s)
+
+  abbrev pub Ended : Result Doing Halted → List ℕ → List ℕ → List ℕ → T.Ran Held → Type 0
+  Ended (Ok g) B' P' M' r = Went g B' P' M' r
+  Ended (Err h) B' P' M' r = Halts h r
 
   finishes : (c : T.Doing Held) (y : T.Doing InBytes) (g : Doing) (B' P' M' : List ℕ)
       → Actions.Same (numbers d) (bytes d) d (Means d P M room) (joined d P M room) c y → viewed g B' P' M' ≡ seen y → Finished g B' P' M' c
@@ -59,13 +63,13 @@ module _ (d : Description) (P M : List ℕ) (room : store_size_of d.facilities �
       }
 
   pub run-ended : {a : T.Ran Held} {b : T.Ran InBytes} → Alike (numbers d) (bytes d) d (Means d P M room) (joined d P M room) a b
-      → (r : Did) (B' P' M' : List ℕ) → did r B' P' M' ≡ ran_seen b → Ended r B' P' M' a
-  run-ended (Actions.go_on {c} {e} s) (G.Went g) B' P' M' q = record { doing = c; is = refl; finished = finishes c e g B' P' M' s (let z : viewed g B' P' M' ≡ seen e = cc in z) }
-  run-ended (Actions.go_on s) (G.Stopped n) B' P' M' q = absurd (let z : ◌≡◌ {A = ℕ} 0 1 = cc in omega arith)
-  run-ended (Actions.go_on s) (G.Stuck t) B' P' M' q = absurd (let z : ◌≡◌ {A = ℕ} 0 1 = cc in omega arith)
-  run-ended (Actions.stop {n}) (G.Went g) B' P' M' e = absurd (let z : ◌≡◌ {A = ℕ} 0 1 = cc in omega arith)
-  run-ended (Actions.stop {n}) (G.Stopped m) B' P' M' e = let z : n ≡ m = cc in ap T.stopped z
-  run-ended (Actions.stop {n}) (G.Stuck t) B' P' M' e = absurd (let z : ◌≡◌ {A = ℕ} 0 1 = cc in omega arith)
-  run-ended (Actions.stick {s}) (G.Went g) B' P' M' e = absurd (let z : ◌≡◌ {A = ℕ} 0 1 = cc in omega arith)
-  run-ended (Actions.stick {s}) (G.Stopped n) B' P' M' e = absurd (let z : ◌≡◌ {A = ℕ} 0 1 = cc in omega arith)
-  run-ended (Actions.stick {s}) (G.Stuck t) B' P' M' e = let z : s ≡ stuck_meant t = cc in ap T.stuck z
+      → (r : Result Doing Halted) (B' P' M' : List ℕ) → did r B' P' M' ≡ ran_seen b → Ended r B' P' M' a
+  run-ended (Actions.go_on {c} {e} s) (Ok g) B' P' M' q = record { doing = c; is = refl; finished = finishes c e g B' P' M' s (let z : viewed g B' P' M' ≡ seen e = cc in z) }
+  run-ended (Actions.go_on s) (Err (H.Stopped n)) B' P' M' q = absurd (let z : ◌≡◌ {A = ℕ} 0 1 = cc in omega arith)
+  run-ended (Actions.go_on s) (Err (H.Stuck t)) B' P' M' q = absurd (let z : ◌≡◌ {A = ℕ} 0 1 = cc in omega arith)
+  run-ended (Actions.stop {n}) (Ok g) B' P' M' e = absurd (let z : ◌≡◌ {A = ℕ} 0 1 = cc in omega arith)
+  run-ended (Actions.stop {n}) (Err (H.Stopped m)) B' P' M' e = let z : n ≡ m = cc in ap T.stopped z
+  run-ended (Actions.stop {n}) (Err (H.Stuck t)) B' P' M' e = absurd (let z : ◌≡◌ {A = ℕ} 0 1 = cc in omega arith)
+  run-ended (Actions.stick {s}) (Ok g) B' P' M' e = absurd (let z : ◌≡◌ {A = ℕ} 0 1 = cc in omega arith)
+  run-ended (Actions.stick {s}) (Err (H.Stopped n)) B' P' M' e = absurd (let z : ◌≡◌ {A = ℕ} 0 1 = cc in omega arith)
+  run-ended (Actions.stick {s}) (Err (H.Stuck t)) B' P' M' e = let z : s ≡ stuck_meant t = cc in ap T.stuck z

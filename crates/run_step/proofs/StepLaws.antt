@@ -1,6 +1,6 @@
 -- A whole cycle: how it ends at once, and what the run of its actions over bytes tells of it. Assumes nothing.
 use mathlib.Core.List.{List}
-use mathlib.Core.Path.{◌≡◌, sym, ap, ◌∙◌, subst}
+use mathlib.Core.Path.{◌≡◌, refl, sym, ap, ◌∙◌, subst}
 use Prim.Native.Nat.{ℕ, ◌≤◌, ◌<◌}
 use native.Mathlib.Omega.{arith}
 use borrow.Author.Tests.{le-leb, le-ltb, lt-leb, lt-ltb}
@@ -13,22 +13,20 @@ use Rattle.language.specs.Meaning.{no_state}
 use Rattle.language.specs.Step as S
 use Rattle.language.specs.Step.{nothing_done}
 use Rattle.language.specs.Ceilings.{last_cycle}
-use Rattle.language.specs.declared.stops.Stop.{Stop}
 use Rattle.language.specs.declared.stops.Stop.TheVariants.{LastCycleReached}
 use Rattle.language.specs.Store.{Held, StoreWords, begin, from_bytes, inputs_of, numbers, to_bytes}
 use Rattle.store_layout.proofs.Zeros.{Zeros}
 use Rattle.store_layout.specs.InBytes.{bytes}
 use Rattle.store_layout.specs.Layout.{Bytes}
 use Rattle.store_layout.specs.Slices.{landed}
-use Rattle.run_references.specs.Worth.{stuck_meant}
-use Rattle.run_references.specs.declared.worth.Stuck.{Stuck}
+use Rattle.std.specs.Prelude.{Err, Ok, Result}
+use Rattle.run_references.specs.declared.worth.Halted.{Halted}
+use Rattle.run_references.specs.declared.worth.Halted.TheVariants as H
 use Rattle.run_stores.specs.Seen.{did, ran_seen}
-use Rattle.run_stores.specs.declared.doing.Did.{Did}
-use Rattle.run_stores.specs.declared.doing.Did.TheVariants as G
 use Rattle.run_stores.specs.declared.doing.Doing.{Doing}
 use Rattle.run_begin.proofs.BeginLaws.{zeros}
 use Rattle.run_begin.proofs.BegunWords.{Rooms, begun-are-bytes, begun-as-long, begun-means}
-use Rattle.run_end.specs.Stepped.{Clear, Landed, counted, nothing_in}
+use Rattle.run_end.specs.Stepped.{Clear, Landed, counted, nothing_in, unfinished}
 use Rattle.run_step.proofs.Finished.{Ended, run-ended}
 use Rattle.run_step.proofs.Joined.{actions-joined}
 
@@ -74,10 +72,10 @@ module _ (d : Description) (B P M I : List ℕ) (bytes-B : Bytes B) (bytes-P : B
     abbrev ran : T.Ran Held
     ran = T.run_actions (numbers d) d (state_at d r.state).actions (nothing_done d begun)
 
-    abbrev Sees : Did → Type 0
+    abbrev Sees : Result Doing Halted → Type 0
     Sees a = did a B' P' M' ≡ ran_seen (T.run_actions (bytes d) d (state_at d r.state).actions (nothing_in bytes_begun P M))
 
-    ended : (a : Did) → Sees a → Ended d P M room-P bytes-P bytes-M size-M zero-M a B' P' M' ran
+    ended : (a : Result Doing Halted) → Sees a → Ended d P M room-P bytes-P bytes-M size-M zero-M a B' P' M' ran
     ended a e =
         let means = begun-means d.facilities B I bytes-B bytes-I rooms in
         let are = begun-are-bytes d.facilities B I bytes-B bytes-I rooms in
@@ -97,16 +95,14 @@ module _ (d : Description) (B P M I : List ℕ) (bytes-B : Bytes B) (bytes-P : B
       pub landing : Landed d g (landed B' P' M') doing
       pub is : outcome ≡ S.finished d r doing
 
-    pub went-so : (g : Doing) → Sees (G.Went g) → Went g
+    pub went-so : (g : Doing) → Sees (Ok g) → Went g
     went-so g e =
-        let w = ended (G.Went g) e in record {
+        let w = ended (Ok g) e in record {
           doing = w.doing;
           landing = record { sees = w.finished.sees; lands = w.finished.lands; counts = w.finished.counts };
           is = after w.is;
         }
 
-    pub stopped-so : (n : Stop) → Sees (G.Stopped n) → outcome ≡ S.stopped n
-    stopped-so n e = after (ended (G.Stopped n) e)
-
-    pub stuck-so : (x : Stuck) → Sees (G.Stuck x) → outcome ≡ S.stuck (stuck_meant x)
-    stuck-so x e = after (ended (G.Stuck x) e)
+    pub halted-so : (h : Halted) → Sees (Err h) → unfinished h ≡ counted outcome
+    halted-so (H.Stopped n) e = rw (after (ended (Err (H.Stopped n)) e)) refl
+    halted-so (H.Stuck x) e = rw (after (ended (Err (H.Stuck x)) e)) refl

@@ -8,11 +8,11 @@ ghost use Rattle.language.specs.Layout.{store_size_of};
 ghost use Rattle.language.specs.Store as L;
 ghost use Rattle.store_layout.specs.InBytes.{bytes};
 ghost use Rattle.run_stores.specs.Seen.{did, ran_seen};
-ghost use Rattle.run_actions.specs.Acts.{Acts};
+ghost use Rattle.run_actions.specs.Acts.{ActsIn};
 ghost use Rattle.run_next.specs.Values.{Valued};
 ghost use Rattle.run_end.specs.Stepped.{nothing_in, nothing_seen};
 
-use image_records::record_sizes;
+use image_sections::sections::Sections;
 use image_sections::states;
 use run_actions::run;
 use run_begin::start;
@@ -34,36 +34,25 @@ fn nothing() -> Doing
 
 // What the actions of state `number` do from a store that begins a cycle.
 pub fn acted(
-    facilities: &[u8],
-    operations: &[u8],
-    expressions: &[u8],
-    actions: &[u8],
-    states: &[u8],
+    image: &Sections,
     number: usize,
     stimulus: &[u8],
     store: &mut [u8],
     pending: &mut [u8],
     mask: &mut [u8],
 ) -> Did
-    requires { length facilities.now / facility_size ≤ 65536 }
-    ensures { (d : Description) → Acts d facilities.now operations.now expressions.now actions.now (length states.now / state_size) → length d.operations ≡ length operations.now / operation_size → Valued d expressions.now states.now → store_size_of d.facilities ≤ length store.old → stimulus_size d ≤ length stimulus.now → did result store.new pending.new mask.new ≡ ran_seen (T.run_actions (bytes d) d (state_at d number).actions (nothing_in (over (L.to_bytes d.facilities (L.begin d.facilities (L.from_bytes d.facilities store.old) (L.from_bytes (L.inputs_of d.facilities) stimulus.now))) store.old) pending.old mask.old)) }
+    requires { length image.now.facilities.now / facility_size ≤ 65536 }
+    ensures { (d : Description) → ActsIn d image.now → length d.operations ≡ length image.now.operations.now / operation_size → Valued d image.now.expressions.now image.now.states.now → store_size_of d.facilities ≤ length store.old → stimulus_size d ≤ length stimulus.now → did result store.new pending.new mask.new ≡ ran_seen (T.run_actions (bytes d) d (state_at d number).actions (nothing_in (over (L.to_bytes d.facilities (L.begin d.facilities (L.from_bytes d.facilities store.old) (L.from_bytes (L.inputs_of d.facilities) stimulus.now))) store.old) pending.old mask.old)) }
 {
-    start::begin(facilities, store, stimulus);
-    let state = states::state_at(states, number);
-    let list = state.actions;
-    let count = states.len() / record_sizes::STATE;
-    let g = nothing();
+    start::begin(image.facilities, store, stimulus);
+    let list = states::state_at(image.states, number).actions;
     run::run_actions(
-        facilities,
-        operations,
-        expressions,
-        actions,
+        image,
         store,
         pending,
         mask,
-        count,
         list.first,
         list.count,
-        g,
+        nothing(),
     )
 }

@@ -1,14 +1,14 @@
 -- How much the code keeps of what a cycle has done: of the states gone to and of those called the first, and whether there is none, one or more; returns up to two; conflicts as far as 32 bits count.
-use Rattle.std.specs.Prelude.{Bool, cond, false, ◌||◌, List, [], ◌∷◌, ◌≡◌, ℕ, ◌+◌, ◌/◌, ◌%◌, ◌^◌, min, get_or, length}
+use Rattle.std.specs.Prelude.{Bool, Err, Ok, Result, List, ◌≡◌, ℕ, min, get_or, length}
 use Rattle.language.specs.Acting as T
 use Rattle.language.specs.Description.{Description}
 use Rattle.language.specs.Meaning as M
 use Rattle.language.specs.declared.stops.Stop.{Stop}
 use Rattle.run_references.specs.Worth.{stuck_meant}
 use Rattle.run_references.specs.Described.{Describes}
+use Rattle.run_references.specs.declared.worth.Halted.{Halted}
+use Rattle.run_references.specs.declared.worth.Halted.TheVariants as H
 use Rattle.store_layout.specs.InBytes.{InBytes}
-use Rattle.run_stores.specs.declared.doing.Did.{Did}
-use Rattle.run_stores.specs.declared.doing.Did.TheVariants as D
 use Rattle.run_stores.specs.declared.doing.Doing.{Doing}
 use Rattle.run_stores.specs.declared.doing.Named.{Named}
 
@@ -68,10 +68,13 @@ viewed g B P M = record {
   sequenced = g.sequenced;
 }
 
-abbrev pub did : Did → List ℕ → List ℕ → List ℕ → Ran
-did (D.Went g) B P M = went (viewed g B P M)
-did (D.Stopped n) B P M = stopped n
-did (D.Stuck s) B P M = stuck (stuck_meant s)
+abbrev pub halted : Halted → Ran
+halted (H.Stopped n) = stopped n
+halted (H.Stuck s) = stuck (stuck_meant s)
+
+abbrev pub did : Result Doing Halted → List ℕ → List ℕ → List ℕ → Ran
+did (Ok g) B P M = went (viewed g B P M)
+did (Err h) B P M = halted h
 
 -- ---- Claims about each doing that the code sees so.
 
@@ -82,11 +85,3 @@ Follows g r f = (d : Description) (c : T.Doing InBytes) (B P M : List ℕ) → v
 -- A claim about each description by the sections F and E, and each doing that is seen as this view.
 abbrev pub ForDoing : List ℕ → List ℕ → View → (Description → T.Doing InBytes → Type 0) → Type 0
 ForDoing F E v claim = (d : Description) (c : T.Doing InBytes) → Describes d F E → v ≡ seen c → claim d c
-
--- ---- A store to two references, once the left one's place is known.
-
-abbrev pub besides : {X : Type 0} → M.Stores X → Description → ℕ → M.Place → ℕ → ℕ → T.Doing X → T.Ran X
-besides S d k p m r c =
-    T.on_place (T.side S d c.store m) (λ q. T.on_value (M.eval_at S d c.store r) (λ v.
-    T.storing S d k (p.count + q.count) (cond (T.storable S d k p) (T.storable S d k q) false) (T.on_sequencing S d p || T.on_sequencing S d q) v
-    (T.write S d p (v.number / 2 ^ q.count) ∷ T.write S d q (v.number % 2 ^ q.count) ∷ []) c))

@@ -5,8 +5,7 @@ ghost use Rattle.language.specs.Value.{bit};
 ghost use Rattle.store_layout.specs.InBytes.{bytes};
 ghost use Rattle.run_stores.specs.Seen.{Follows, named, states_seen};
 
-use language::stops::Stop;
-use run_references::worth::Stuck;
+use run_references::worth::Halted;
 
 // Of the states named so far the first, and whether there is none, one or more.
 #[derive(Clone, Copy)]
@@ -25,103 +24,74 @@ pub struct Doing {
     pub conflicts: u32,
 }
 
-#[derive(Clone, Copy)]
-pub enum Did {
-    Went(Doing),
-    Stopped(Stop),
-    Stuck(Stuck),
-}
+// What an action has come to: what the cycle has done then, or why it goes no further.
+pub type Did = Result<Doing, Halted>;
 
 // One more, up to two.
 fn counted(n: u8) -> u8
     ensures { result ≡ min (suc n) 2 }
 {
-    if n < 2 { n + 1 } else { 2 }
-}
-
-// One state more.
-fn and_state(l: Named, s: u16) -> Named
-    ensures { (ss : List ℕ) → named l ≡ states_seen ss → named result ≡ states_seen (ss ++ s ∷ []) }
-{
-    if l.count == 0 {
-        return Named { first: s, count: 1 };
-    }
-    Named {
-        first: l.first,
-        count: 2,
-    }
-}
-
-// -> s.
-pub fn going_to(g: Doing, s: u16) -> Doing
-    ensures { Follows g result (λ d c. T.going_to (bytes d) d s c) }
-{
-    let before = g.gotos;
-    let calls = g.calls;
-    let gotos = and_state(before, s);
-    Doing {
-        gotos,
-        returns: g.returns,
-        calls,
-        sequenced: g.sequenced,
-        conflicts: g.conflicts,
-    }
-}
-
-// => s.
-pub fn calling(g: Doing, s: u16) -> Doing
-    ensures { Follows g result (λ d c. T.calling (bytes d) d s c) }
-{
-    let before = g.calls;
-    let gotos = g.gotos;
-    let calls = and_state(before, s);
-    Doing {
-        gotos,
-        returns: g.returns,
-        calls,
-        sequenced: g.sequenced,
-        conflicts: g.conflicts,
-    }
-}
-
-// RETURN.
-pub fn returning(g: Doing) -> Doing
-    ensures { Follows g result (λ d c. T.returning (bytes d) d c) }
-{
-    let gotos = g.gotos;
-    let calls = g.calls;
-    let returns = counted(g.returns);
-    Doing {
-        gotos,
-        returns,
-        calls,
-        sequenced: g.sequenced,
-        conflicts: g.conflicts,
-    }
+    n.saturating_add(1).min(2)
 }
 
 // One conflict more, where there is one.
 fn conflicting(n: u32, hit: bool) -> u32
     ensures { result ≡ min (n + bit hit) 4294967295 }
 {
-    if !hit {
-        return n;
-    }
-    if n < 4294967295 { n + 1 } else { n }
+    n.saturating_add(u32::from(hit))
 }
 
-// After a delayed store: whether it conflicts, and whether it went to the sequencing register.
-pub fn delaying(g: Doing, hit: bool, sequenced: bool) -> Doing
-    ensures { result ≡ record { gotos = g.gotos; returns = g.returns; calls = g.calls; sequenced = g.sequenced || sequenced; conflicts = min (g.conflicts + bit hit) 4294967295 } }
-{
-    let gotos = g.gotos;
-    let calls = g.calls;
-    let conflicts = conflicting(g.conflicts, hit);
-    Doing {
-        gotos,
-        returns: g.returns,
-        calls,
-        sequenced: g.sequenced || sequenced,
-        conflicts,
+impl Named {
+    // One state more.
+    fn and(self, s: u16) -> Named
+        ensures { (ss : List ℕ) → named self ≡ states_seen ss → named result ≡ states_seen (ss ++ s ∷ []) }
+    {
+        if self.count == 0 {
+            return Named { first: s, count: 1 };
+        }
+        Named { count: 2, ..self }
+    }
+}
+
+impl Doing {
+    // -> s.
+    pub fn going_to(self, s: u16) -> Doing
+        ensures { Follows self result (λ d c. T.going_to (bytes d) d s c) }
+    {
+        Doing {
+            gotos: self.gotos.and(s),
+            ..self
+        }
+    }
+
+    // => s.
+    pub fn calling(self, s: u16) -> Doing
+        ensures { Follows self result (λ d c. T.calling (bytes d) d s c) }
+    {
+        Doing {
+            calls: self.calls.and(s),
+            ..self
+        }
+    }
+
+    // RETURN.
+    pub fn returning(self) -> Doing
+        ensures { Follows self result (λ d c. T.returning (bytes d) d c) }
+    {
+        Doing {
+            returns: counted(self.returns),
+            ..self
+        }
+    }
+
+    // After a delayed store: whether it conflicts, and whether it went to the sequencing register.
+    pub fn delaying(self, hit: bool, sequenced: bool) -> Doing
+        ensures { result ≡ record { gotos = self.gotos; returns = self.returns; calls = self.calls; sequenced = self.sequenced || sequenced; conflicts = min (self.conflicts + bit hit) 4294967295 } }
+    {
+        Doing {
+            sequenced: self.sequenced || sequenced,
+            conflicts: conflicting(self.conflicts, hit),
+            ..self
+        }
     }
 }

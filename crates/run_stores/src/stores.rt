@@ -9,11 +9,12 @@ ghost use Rattle.run_references.specs.Described.{There};
 ghost use Rattle.run_stores.specs.Seen.{ForDoing, did, ran_seen, viewed};
 
 use crate::doing::{Did, Doing};
-use crate::{doing, spots};
+use crate::spots;
 use image_sections::facilities::FacilityRecord;
 use image_sections::kinds;
 use run_references::places::Place;
-use run_references::worth::Stuck;
+use run_references::worth::{Halted, Stuck};
+use value_limbs::shifts;
 use value_operators::Value;
 
 // A store of v to one place.
@@ -30,30 +31,28 @@ pub fn store_one(
     ensures { (F E : List ℕ) → ForDoing F E (viewed g store.old pending.old mask.old) (λ d c. (There d F p.facility f → did result store.new pending.new mask.new ≡ ran_seen (T.storing (bytes d) d sign p.count (T.storable (bytes d) d sign (place_meant p)) (T.on_sequencing (bytes d) d (place_meant p)) (valued v) (T.write (bytes d) d (place_meant p) (number v.limbs) ∷ []) c))) }
 {
     if v.length != p.count {
-        return Did::Stuck(Stuck::SidesDiffer);
+        return Err(Halted::Stuck(Stuck::SidesDiffer));
     }
-    let kind = f.kind;
-    if !kinds::may_store(sign, kind) {
-        return Did::Stuck(Stuck::NotStorable);
+    if !kinds::may_store(sign, f.kind) {
+        return Err(Halted::Stuck(Stuck::NotStorable));
     }
     let s = spots::spot_of(f, p);
     if sign == language::kinds::DELAYED {
         let hit = spots::marked(mask, s);
         spots::delay(pending, mask, s, v);
-        return Did::Went(doing::delaying(g, hit, kinds::is_sequencing(kind)));
+        return Ok(g.delaying(hit, kinds::is_sequencing(f.kind)));
     }
     spots::put(store, s, v);
-    Did::Went(g)
+    Ok(g)
 }
 
 // The bits of v above its lowest n.
 fn high(v: Value, n: u16) -> Value
     ensures { number result.limbs ≡ number v.limbs / 2 ^ n }
 {
-    let a = v.limbs;
-    let above = value_limbs::shifts::right(a, n as u32);
+    let limbs = shifts::right(v.limbs, n as u32);
     Value {
-        limbs: above,
+        limbs,
         length: v.length,
     }
 }
@@ -62,12 +61,8 @@ fn high(v: Value, n: u16) -> Value
 fn low(v: Value, n: u16) -> Value
     ensures { number result.limbs ≡ number v.limbs % 2 ^ n }
 {
-    let a = v.limbs;
-    let below = value_limbs::shifts::low(a, n as u32);
-    Value {
-        limbs: below,
-        length: n,
-    }
+    let limbs = shifts::low(v.limbs, n as u32);
+    Value { limbs, length: n }
 }
 
 // A store of v to two places: the right one takes the low bits and lands later.
@@ -86,12 +81,10 @@ pub fn store_pair(
     ensures { (F E : List ℕ) → ForDoing F E (viewed g store.old pending.old mask.old) (λ d c. (There d F p.facility f → There d F q.facility h → did result store.new pending.new mask.new ≡ ran_seen (T.storing (bytes d) d sign (p.count + q.count) (cond (T.storable (bytes d) d sign (place_meant p)) (T.storable (bytes d) d sign (place_meant q)) false) (T.on_sequencing (bytes d) d (place_meant p) || T.on_sequencing (bytes d) d (place_meant q)) (valued v) (T.write (bytes d) d (place_meant p) (number v.limbs / 2 ^ q.count) ∷ T.write (bytes d) d (place_meant q) (number v.limbs % 2 ^ q.count) ∷ []) c))) }
 {
     if v.length as u32 != p.count as u32 + q.count as u32 {
-        return Did::Stuck(Stuck::SidesDiffer);
+        return Err(Halted::Stuck(Stuck::SidesDiffer));
     }
-    let k = f.kind;
-    let l = h.kind;
-    if !kinds::may_both(sign, k, l) {
-        return Did::Stuck(Stuck::NotStorable);
+    if !kinds::may_both(sign, f.kind, h.kind) {
+        return Err(Halted::Stuck(Stuck::NotStorable));
     }
     let s = spots::spot_of(f, p);
     let t = spots::spot_of(h, q);
@@ -99,30 +92,25 @@ pub fn store_pair(
         let hit = spots::marked(mask, s) | spots::marked(mask, t);
         spots::delay(pending, mask, s, high(v, q.count));
         spots::delay(pending, mask, t, low(v, q.count));
-        let sequenced = kinds::is_sequencing(k) | kinds::is_sequencing(l);
-        return Did::Went(doing::delaying(g, hit, sequenced));
+        let sequenced = kinds::is_sequencing(f.kind) | kinds::is_sequencing(h.kind);
+        return Ok(g.delaying(hit, sequenced));
     }
     spots::put(store, s, high(v, q.count));
     spots::put(store, t, low(v, q.count));
-    Did::Went(g)
+    Ok(g)
 }
 
 // @ sets one bit of a plain terminal.
 pub fn set_bit(f: FacilityRecord, p: Place, store: &mut [u8], g: Doing) -> Did
     ensures { (F E P M : List ℕ) → ForDoing F E (viewed g store.old P M) (λ d c. (There d F p.facility f → did result store.new P M ≡ ran_seen (T.setting (bytes d) d (place_meant p) c))) }
 {
-    let kind = f.kind;
-    if !kinds::is_plain(kind) {
-        return Did::Stuck(Stuck::NotStorable);
+    if !kinds::is_plain(f.kind) {
+        return Err(Halted::Stuck(Stuck::NotStorable));
     }
     if p.count != 1 {
-        return Did::Stuck(Stuck::SidesDiffer);
+        return Err(Halted::Stuck(Stuck::SidesDiffer));
     }
-    let one = value_limbs::small(1);
-    let v = Value {
-        limbs: one,
-        length: 1,
-    };
-    spots::put(store, spots::spot_of(f, p), v);
-    Did::Went(g)
+    let limbs = value_limbs::small(1);
+    spots::put(store, spots::spot_of(f, p), Value { limbs, length: 1 });
+    Ok(g)
 }

@@ -20,16 +20,15 @@ pub fn place_after(place: u32, s: Shape) -> usize
 }
 
 // A place or size up to that of the largest store.
+#[tactic(auto, unfolding(crate::specs::Places::capped, language::specs::Ceilings::largest_store))]
 pub fn cap(place: usize) -> u32
     ensures { result ≡ capped place }
 {
-    if place <= LARGEST {
-        return place as u32;
-    }
-    LARGEST as u32 + 1
+    place.min(LARGEST + 1) as u32
 }
 
 // The first byte of a word of a facility whose first byte is at `place`.
+#[tactic(auto, using(crate::proofs::ShapeLaws::few_bytes))]
 pub fn word_place(place: u32, word: u32, length: u32) -> usize
     ensures { result ≡ place + word * word_bytes length }
 {

@@ -17,43 +17,45 @@ pub struct Shape {
 }
 
 // Bits of a word.
+#[tactic(auto, unfolding(language::specs::Description::word_length))]
 pub fn word_length(s: Shape) -> u64
     ensures { (result ≤ 2 ^ 32) × ((f : Facility) → Shaped s f → result ≡ word_length f) }
 {
     if s.dimensions == 0 {
         return 1;
     }
-    let b = s.bits;
-    bounds::span(b)
+    bounds::span(s.bits)
 }
 
 // How many words there are.
+#[tactic(auto, unfolding(language::specs::Description::word_count))]
 pub fn word_count(s: Shape) -> u64
     ensures { (result ≤ 2 ^ 32) × ((f : Facility) → Shaped s f → result ≡ word_count f) }
 {
     if s.dimensions != 2 {
         return 1;
     }
-    let w = s.words;
-    bounds::span(w)
+    bounds::span(s.words)
 }
 
-// Bytes of a word; written so that nothing wraps.
+// Bytes of a word.
+#[tactic(auto, unfolding(language::specs::Layout::word_bytes))]
 pub fn word_bytes(length: u64) -> usize
     ensures { result ≡ word_bytes length }
 {
-    (length / 8 + (length % 8 + 7) / 8) as usize
+    length.div_ceil(8) as usize
 }
 
 // Bytes of all words.
+#[tactic(auto, using(crate::proofs::ShapeLaws::few_bytes))]
 pub fn words_bytes(s: Shape) -> usize
     ensures { (result ≤ 2 ^ 62) × ((f : Facility) → Shaped s f → result ≡ word_count f * word_bytes (word_length f)) }
 {
-    let n = word_count(s) as usize;
-    n * word_bytes(word_length(s))
+    word_count(s) as usize * word_bytes(word_length(s))
 }
 
 // Bytes of a facility: a computed terminal has none.
+#[tactic(auto, unfolding(language::specs::Layout::facility_bytes))]
 pub fn facility_bytes(s: Shape) -> usize
     ensures { (result ≤ 2 ^ 62) × ((f : Facility) → Shaped s f → result ≡ facility_bytes f) }
 {

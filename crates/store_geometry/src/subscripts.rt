@@ -20,37 +20,28 @@ pub enum Subscripts {
 }
 
 // Whether the number of subscripts is right for the dimensions.
+#[tactic(auto, unfolding(language::specs::References::right_count))]
 pub fn right_count(dimensions: u8, s: Subscripts) -> bool
     ensures { result ≡ right_count dimensions (subscripts_meant s) }
 {
     match s {
         Subscripts::Whole => dimensions <= 1,
-        Subscripts::One(_) => {
-            if dimensions < 1 {
-                return false;
-            }
-            dimensions <= 2
-        }
+        Subscripts::One(_) => 1 <= dimensions && dimensions <= 2,
         Subscripts::Part(_) => dimensions == 1,
-        Subscripts::Two(_, _) => dimensions == 2,
-        Subscripts::WordPart(_, _) => dimensions == 2,
+        Subscripts::Two(_, _) | Subscripts::WordPart(_, _) => dimensions == 2,
     }
 }
 
 // How many bits a reference takes.
+#[tactic(auto, unfolding(language::specs::References::taken_length))]
 pub fn taken_length(f: Shape, s: Subscripts) -> u64
     ensures { (x : Facility) → Shaped f x → result ≡ taken_length x (subscripts_meant s) }
 {
     match s {
         Subscripts::Whole => shapes::word_length(f),
-        Subscripts::One(_) => {
-            if f.dimensions == 1 {
-                return 1;
-            }
-            shapes::word_length(f)
-        }
-        Subscripts::Part(b) => bounds::span(b),
+        Subscripts::One(_) if f.dimensions == 1 => 1,
+        Subscripts::One(_) => shapes::word_length(f),
+        Subscripts::Part(b) | Subscripts::WordPart(_, b) => bounds::span(b),
         Subscripts::Two(_, _) => 1,
-        Subscripts::WordPart(_, b) => bounds::span(b),
     }
 }

@@ -13,8 +13,7 @@ use lib.Pow.{mod-pow-add, pow_pos, shr-shr, split}
 use Rattle.language.specs.Layout.{word_bytes}
 use Rattle.language.specs.Value.{replaced, value}
 use Rattle.language.specs.Ceilings.{longest}
-use Rattle.value_limbs.specs.Limbs.{cat, four}
-use Rattle.value_limbs.specs.declared.Four.{Four}
+use Rattle.value_limbs.specs.Limbs.{cat, number}
 use Rattle.value_limbs.proofs.Laws.{Below}
 use Rattle.store_layout.specs.Layout.{Bytes, position, with_word, word_in}
 use Rattle.store_layout.specs.Parts.{inside, loaded, low_of, part_in, saved, with_part}
@@ -190,37 +189,37 @@ module _ (B : List ℕ) (at l low n : ℕ) (r : Runs) (runs : InRuns low n r) wh
       ap₂ cat (ap₂ cat (ap₂ cat (q₃ ∙ ap₂ at-run runs.p3 runs.c3) (q₂ ∙ ap (λ (p : ℕ). at-run p r.c2) runs.p2) ∙ sym (load-limb B at l (low + r.c0 + r.c1) (n - r.c0 - r.c1) runs.c2))
       (q₁ ∙ ap (λ (p : ℕ). at-run p r.c1) runs.p1) ∙ sym (load-limb B at l (low + r.c0) (n - r.c0) runs.c1)) q₀ ∙ sym (load-limb B at l low n runs.c0)
 
-  pub save-four : (x : Four) {B₁ B₂ B₃ B₄ : List ℕ} → at + word_bytes l ≤ length B → Bytes B → low + n ≤ 8 * word_bytes l → Below x
-      → B₁ ≡ with_part B at l low r.c0 x.l0 → B₂ ≡ with_part B₁ at l r.p1 r.c1 x.l1 → B₃ ≡ with_part B₂ at l r.p2 r.c2 x.l2 → B₄ ≡ with_part B₃ at l r.p3 r.c3 x.l3
-      → B₄ ≡ with_part B at l low n (four x)
-  unfolding four
+  pub save-four : (x : List ℕ) {B₁ B₂ B₃ B₄ : List ℕ} → at + word_bytes l ≤ length B → Bytes B → low + n ≤ 8 * word_bytes l → Below x
+      → B₁ ≡ with_part B at l low r.c0 (get_or x 0 0) → B₂ ≡ with_part B₁ at l r.p1 r.c1 (get_or x 1 0) → B₃ ≡ with_part B₂ at l r.p2 r.c2 (get_or x 2 0) → B₄ ≡ with_part B₃ at l r.p3 r.c3 (get_or x 3 0)
+      → B₄ ≡ with_part B at l low n (number x)
+  unfolding number
   save-four x {B₁} {B₂} {B₃} fits bytes h b q₁ q₂ q₃ q₄ =
-      let f₁ : at + word_bytes l ≤ length B₁ = omega (arith, ap length q₁ ∙ length-saved B at l fits bytes low r.c0 x.l0) in
-      let b₁ : Bytes B₁ = subst Bytes (sym q₁) (bytes-saved B at l fits bytes low r.c0 x.l0) in
-      let f₂ : at + word_bytes l ≤ length B₂ = omega (arith, ap length q₂ ∙ length-saved B₁ at l f₁ b₁ r.p1 r.c1 x.l1) in
-      let b₂ : Bytes B₂ = subst Bytes (sym q₂) (bytes-saved B₁ at l f₁ b₁ r.p1 r.c1 x.l1) in
+      let f₁ : at + word_bytes l ≤ length B₁ = omega (arith, ap length q₁ ∙ length-saved B at l fits bytes low r.c0 (get_or x 0 0)) in
+      let b₁ : Bytes B₁ = subst Bytes (sym q₁) (bytes-saved B at l fits bytes low r.c0 (get_or x 0 0)) in
+      let f₂ : at + word_bytes l ≤ length B₂ = omega (arith, ap length q₂ ∙ length-saved B₁ at l f₁ b₁ r.p1 r.c1 (get_or x 1 0)) in
+      let b₂ : Bytes B₂ = subst Bytes (sym q₂) (bytes-saved B₁ at l f₁ b₁ r.p1 r.c1 (get_or x 1 0)) in
       let e₀ = runs.c0 in
       let e₁ = runs.c1 in
-      q₄ ∙ ap (λ (A : List ℕ). with_part A at l r.p3 r.c3 x.l3) q₃
-      ∙ ap₂ (λ (p c : ℕ). with_part (with_part B₂ at l r.p2 r.c2 x.l2) at l p c x.l3) runs.p3 runs.c3
-      ∙ ap (λ (p : ℕ). with_part (with_part B₂ at l p r.c2 x.l2) at l (low + r.c0 + r.c1 + r.c2) (n - r.c0 - r.c1 - r.c2) x.l3) runs.p2
-      ∙ sym (save-limb B at l fits bytes low n (cat (cat x.l3 x.l2) x.l1) runs.c0 b.b0 h
-      ∙ ap (λ (A : List ℕ). with_part A at l (low + r.c0) (n - r.c0) (cat (cat x.l3 x.l2) x.l1)) (sym q₁)
-      ∙ save-limb B₁ at l f₁ b₁ (low + r.c0) (n - r.c0) (cat x.l3 x.l2) runs.c1 b.b1 (omega arith)
-      ∙ ap (λ (A : List ℕ). with_part A at l (low + r.c0 + r.c1) (n - r.c0 - r.c1) (cat x.l3 x.l2)) (sym (q₂ ∙ ap (λ (p : ℕ). with_part B₁ at l p r.c1 x.l1) runs.p1))
-      ∙ save-limb B₂ at l f₂ b₂ (low + r.c0 + r.c1) (n - r.c0 - r.c1) x.l3 runs.c2 b.b2 (omega arith))
+      q₄ ∙ ap (λ (A : List ℕ). with_part A at l r.p3 r.c3 (get_or x 3 0)) q₃
+      ∙ ap₂ (λ (p c : ℕ). with_part (with_part B₂ at l r.p2 r.c2 (get_or x 2 0)) at l p c (get_or x 3 0)) runs.p3 runs.c3
+      ∙ ap (λ (p : ℕ). with_part (with_part B₂ at l p r.c2 (get_or x 2 0)) at l (low + r.c0 + r.c1 + r.c2) (n - r.c0 - r.c1 - r.c2) (get_or x 3 0)) runs.p2
+      ∙ sym (save-limb B at l fits bytes low n (cat (cat (get_or x 3 0) (get_or x 2 0)) (get_or x 1 0)) runs.c0 b.b0 h
+      ∙ ap (λ (A : List ℕ). with_part A at l (low + r.c0) (n - r.c0) (cat (cat (get_or x 3 0) (get_or x 2 0)) (get_or x 1 0))) (sym q₁)
+      ∙ save-limb B₁ at l f₁ b₁ (low + r.c0) (n - r.c0) (cat (get_or x 3 0) (get_or x 2 0)) runs.c1 b.b1 (omega arith)
+      ∙ ap (λ (A : List ℕ). with_part A at l (low + r.c0 + r.c1) (n - r.c0 - r.c1) (cat (get_or x 3 0) (get_or x 2 0))) (sym (q₂ ∙ ap (λ (p : ℕ). with_part B₁ at l p r.c1 (get_or x 1 0)) runs.p1))
+      ∙ save-limb B₂ at l f₂ b₂ (low + r.c0 + r.c1) (n - r.c0 - r.c1) (get_or x 3 0) runs.c2 b.b2 (omega arith))
 
 -- Where no more than a limb is put, the limbs above it count for nothing.
-pub save-lowest : (B : List ℕ) (at l low n : ℕ) (x : Four) → at + word_bytes l ≤ length B → Bytes B → low + n ≤ 8 * word_bytes l → n ≤ 64 → Below x
-    → with_part B at l low n (four x) ≡ with_part B at l low n x.l0
-unfolding four
+pub save-lowest : (B : List ℕ) (at l low n : ℕ) (x : List ℕ) → at + word_bytes l ≤ length B → Bytes B → low + n ≤ 8 * word_bytes l → n ≤ 64 → Below x
+    → with_part B at l low n (number x) ≡ with_part B at l low n (get_or x 0 0)
+unfolding number
 save-lowest B at l low n x fits bytes g h b =
     let e : n ≡ min n 64 = omega arith in
     let z : n - n ≡ 0 = omega arith in
-    let Y : ℕ = cat (cat x.l3 x.l2) x.l1 in
-    let B₁ : List ℕ = with_part B at l low n x.l0 in
+    let Y : ℕ = cat (cat (get_or x 3 0) (get_or x 2 0)) (get_or x 1 0) in
+    let B₁ : List ℕ = with_part B at l low n (get_or x 0 0) in
     save-limb B at l fits bytes low n Y e b.b0 g ∙ ap (λ (m : ℕ). with_part B₁ at l (low + n) m Y) z
-    ∙ saved-none B₁ at l (omega (arith, length-saved B at l fits bytes low n x.l0)) (bytes-saved B at l fits bytes low n x.l0) (low + n) Y
+    ∙ saved-none B₁ at l (omega (arith, length-saved B at l fits bytes low n (get_or x 0 0))) (bytes-saved B at l fits bytes low n (get_or x 0 0)) (low + n) Y
 
 -- ---- Parts by their first bit.
 

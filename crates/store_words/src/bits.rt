@@ -24,7 +24,7 @@ fn uppermost(low: usize, left: usize) -> Cut
     let end = low + left;
     let byte = (end - 1) / 8;
     let room = end - 8 * byte;
-    let bits = bytes::least(room, left);
+    let bits = room.min(left);
     Cut {
         byte,
         shift: room - bits,
@@ -33,6 +33,7 @@ fn uppermost(low: usize, left: usize) -> Cut
 }
 
 // The index of a word's byte j, counted from the least significant one.
+#[tactic(auto, unfolding(store_layout::specs::Layout::position))]
 fn position_of(length: u32, j: usize) -> usize
     requires { j < word_bytes length }
     ensures { result ≡ position length j }
@@ -45,17 +46,7 @@ fn in_one_byte(low: usize, count: usize) -> bool
     requires { count ≤ 64 }
     ensures { result ≡ true → Cuts low count (low / 8) (low % 8) count }
 {
-    if count == 0 {
-        return false;
-    }
-    low % 8 + count <= 8
-}
-
-// A byte as a wider number.
-fn wide(b: u8) -> u64
-    ensures { result ≡ b }
-{
-    b as u64
+    0 < count && low % 8 + count <= 8
 }
 
 // A word of up to eight bytes as one number.
@@ -63,34 +54,30 @@ fn word(s: &[u8], at: usize, length: u32) -> u64
     requires { (at + word_bytes length ≤ size s.now) × (word_bytes length ≤ 8) }
     ensures { result ≡ word_in s.now at length }
 {
-    let mut acc: u64 = 0;
-    let mut j = shapes::word_bytes(length as u64);
-    while 0 < j {
-        j -= 1;
-        let i = at + position_of(length, j);
-        acc = bytes::join(acc, 8, wide(s[i]));
+    let mut acc = 0;
+    for b in &s[at..at + shapes::word_bytes(length as u64)] {
+        acc = bytes::join(acc, 8, *b as u64);
     }
     acc
 }
 
-// `count` bits of a word above its lowest `low` ones, byte by byte.
+// `count` bits of a word above its lowest `low` ones, byte by byte. A turn takes what lies in one byte, so that no range counts the turns.
 fn bits_by_bytes(s: &[u8], at: usize, length: u32, low: usize, count: usize) -> u64
     requires { (at + word_bytes length ≤ size s.now) × (low + count ≤ 8 * word_bytes length) × (count ≤ 64) }
     ensures { result ≡ part_in s.now at length low count }
 {
-    let mut acc: u64 = 0;
+    let mut acc = 0;
     let mut left = count;
     while 0 < left {
         let c = uppermost(low, left);
-        let i = at + position_of(length, c.byte);
-        let b = s[i];
+        let b = s[at + position_of(length, c.byte)];
         acc = bytes::join(acc, c.bits, bytes::field(b, c.shift, c.bits));
         left -= c.bits;
     }
     acc
 }
 
-// These bits replaced by the low ones of v, byte by byte.
+// These bits replaced by the low ones of v, byte by byte, in the same turns.
 fn put_by_bytes(s: &mut [u8], at: usize, length: u32, low: usize, count: usize, v: u64)
     requires { (at + word_bytes length ≤ size s.old) × (low + count ≤ 8 * word_bytes length) × (count ≤ 64) }
     ensures { s.new ≡ with_part s.old at length low count v }
@@ -99,9 +86,8 @@ fn put_by_bytes(s: &mut [u8], at: usize, length: u32, low: usize, count: usize, 
     while 0 < left {
         let c = uppermost(low, left);
         let i = at + position_of(length, c.byte);
-        let old = s[i];
         left -= c.bits;
-        s[i] = bytes::insert(old, c.shift, c.bits, v >> left);
+        s[i] = bytes::insert(s[i], c.shift, c.bits, v >> left);
     }
 }
 
@@ -111,8 +97,7 @@ pub fn bits(s: &[u8], at: usize, length: u32, low: usize, count: usize) -> u64
     ensures { result ≡ part_in s.now at length low count }
 {
     if in_one_byte(low, count) {
-        let i = at + position_of(length, low / 8);
-        let b = s[i];
+        let b = s[at + position_of(length, low / 8)];
         return bytes::field(b, low % 8, count);
     }
     if shapes::word_bytes(length as u64) < 8 {
@@ -128,8 +113,7 @@ pub fn put(s: &mut [u8], at: usize, length: u32, low: usize, count: usize, v: u6
 {
     if in_one_byte(low, count) {
         let i = at + position_of(length, low / 8);
-        let old = s[i];
-        s[i] = bytes::insert(old, low % 8, count, v);
+        s[i] = bytes::insert(s[i], low % 8, count, v);
     } else {
         put_by_bytes(s, at, length, low, count, v);
     }

@@ -6,28 +6,21 @@ ghost use Rattle.value_operators.specs.Meaning.{valued};
 ghost use Rattle.store_words.specs.Runs.{InRuns};
 ghost use Rattle.store_layout.specs.Parts.{inside as Inside, loaded, part_in, saved, with_part};
 
-use crate::{bits, bytes};
+use crate::bits;
 use store_geometry::shapes;
 use value_operators::Value;
 
 // Whether a part lies in its word, its word among `bytes` bytes, and a value can hold it.
+#[tactic(auto, using(std::proofs::lemmas::Bool::Decides::nat_tests), unfolding(store_layout::specs::Parts::inside, language::specs::Ceilings::longest))]
 fn inside(bytes: usize, at: usize, length: u32, from: u32, count: u32) -> bool
     ensures { result ≡ Inside bytes at length from count }
 {
     let n = shapes::word_bytes(length as u64);
-    if bytes < n {
-        return false;
-    }
-    if bytes - n < at {
-        return false;
-    }
-    if length < count {
-        return false;
-    }
-    if length - count < from {
-        return false;
-    }
-    count <= value_operators::lengths::LONGEST
+    n <= bytes
+        && at <= bytes - n
+        && count <= length
+        && from <= length - count
+        && count <= value_operators::lengths::LONGEST
 }
 
 // A part in four runs of up to 64 bits, the lowest first: where each but the first begins, and how many bits each has.
@@ -47,9 +40,9 @@ fn in_runs(low: usize, count: usize) -> Runs
     requires { low + count < 2 ^ 64 }
     ensures { InRuns low count result }
 {
-    let c0 = bytes::least(count, 64);
-    let c1 = bytes::least(count - c0, 64);
-    let c2 = bytes::least(count - c0 - c1, 64);
+    let c0 = count.min(64);
+    let c1 = (count - c0).min(64);
+    let c2 = (count - c0 - c1).min(64);
     let p1 = low + c0;
     let p2 = p1 + c1;
     Runs {
@@ -85,11 +78,10 @@ fn save_runs(s: &mut [u8], at: usize, length: u32, low: usize, count: usize, v: 
     ensures { s.new ≡ with_part s.old at length low count (number v) }
 {
     let r = in_runs(low, count);
-    let x = value_limbs::taken(v);
-    bits::put(s, at, length, low, r.c0, x.l0);
-    bits::put(s, at, length, r.p1, r.c1, x.l1);
-    bits::put(s, at, length, r.p2, r.c2, x.l2);
-    bits::put(s, at, length, r.p3, r.c3, x.l3);
+    bits::put(s, at, length, low, r.c0, v[0]);
+    bits::put(s, at, length, r.p1, r.c1, v[1]);
+    bits::put(s, at, length, r.p2, r.c2, v[2]);
+    bits::put(s, at, length, r.p3, r.c3, v[3]);
 }
 
 // These bits replaced by the low ones of four limbs, of which the first is enough for up to 64 bits.
@@ -98,8 +90,7 @@ fn save_limbs(s: &mut [u8], at: usize, length: u32, low: usize, count: usize, v:
     ensures { s.new ≡ with_part s.old at length low count (number v) }
 {
     if count <= 64 {
-        let x = value_limbs::taken(v);
-        bits::put(s, at, length, low, count, x.l0);
+        bits::put(s, at, length, low, count, v[0]);
     } else {
         save_runs(s, at, length, low, count, v);
     }
@@ -111,14 +102,13 @@ pub fn load(s: &[u8], at: usize, length: u32, from: u32, count: u32) -> Value
 {
     if inside(s.len(), at, length, from, count) {
         let low = (length - count - from) as usize;
-        let part = load_limbs(s, at, length, low, count as usize);
         Value {
-            limbs: part,
+            limbs: load_limbs(s, at, length, low, count as usize),
             length: count as u16,
         }
     } else {
         Value {
-            limbs: [0u64; 4],
+            limbs: [0; 4],
             length: 0,
         }
     }
@@ -130,7 +120,6 @@ pub fn save(s: &mut [u8], at: usize, length: u32, from: u32, count: u32, v: Valu
 {
     if inside(s.len(), at, length, from, count) {
         let low = (length - count - from) as usize;
-        let part = v.limbs;
-        save_limbs(s, at, length, low, count as usize, part);
+        save_limbs(s, at, length, low, count as usize, v.limbs);
     }
 }

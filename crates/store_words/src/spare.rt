@@ -28,24 +28,17 @@ pub fn no_spare_bits(s: &[u8], at: usize, words: u32, length: u32) -> bool
 {
     let n = shapes::word_bytes(length as u64);
     let all = words as usize * n;
-    if s.len() < all {
-        return false;
-    }
-    if s.len() - all < at {
+    if s.len() < all || s.len() - all < at {
         return false;
     }
     // Words that fill their bytes have no spare bits.
     if 8 * n == length as usize {
         return true;
     }
-    let mut left = words;
-    let mut place = at;
-    while 0 < left {
-        if spare_bits(s, place, length) != 0 {
+    for i in 0..words as usize {
+        if spare_bits(s, at + n * i, length) != 0 {
             return false;
         }
-        place += n;
-        left -= 1;
     }
     true
 }

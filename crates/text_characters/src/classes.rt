@@ -30,8 +30,7 @@ pub fn class_of(b: u8) -> u8
     ensures { result ≡ class_of b }
 {
     if b < 128 {
-        let code = b as usize;
-        CLASSES[code]
+        CLASSES[b as usize]
     } else {
         REFUSED
     }

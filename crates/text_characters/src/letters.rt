@@ -6,55 +6,36 @@ ghost use Rattle.language.specs.Characters.{folded, digit_worth, within};
 pub fn is_within(lo: u8, b: u8, hi: u8) -> bool
     ensures { result ≡ within lo b hi }
 {
-    if b <= hi { lo <= b } else { false }
+    lo <= b && b <= hi
 }
 
 // The capital of a letter, and any other byte as it is.
+#[tactic(auto, using(std::proofs::lemmas::Bool::Decides::nat_tests), unfolding(language::specs::Characters::folded))]
 pub fn fold(b: u8) -> u8
     ensures { result ≡ folded b }
 {
-    if b <= b'z' {
-        if b'a' <= b {
-            return b - 32;
-        }
+    match b {
+        b'a'..=b'z' => b - 32,
+        _ => b,
     }
-    b
 }
 
 // Whether two bytes are the same but for the case of a letter, which keeps its low bits: by these most that differ are told apart.
 pub fn alike(x: u8, y: u8) -> bool
     ensures { result ≡ eqb (folded x) (folded y) }
 {
-    if x == y {
-        return true;
-    }
-    if x % 32 != y % 32 {
-        return false;
-    }
-    fold(x) == fold(y)
+    x == y || x % 32 == y % 32 && fold(x) == fold(y)
 }
 
 // What a digit is worth in a base of up to 16, and 16 where it is none.
+#[tactic(auto, using(std::proofs::lemmas::Bool::Decides::nat_tests), unfolding(language::specs::Characters::digit_worth))]
 pub fn digit_worth(b: u8) -> u8
     ensures { result ≡ digit_worth b }
 {
-    if b <= b'9' {
-        if b'0' <= b {
-            return b - 48;
-        }
-        return 16;
+    match b {
+        b'0'..=b'9' => b - b'0',
+        b'A'..=b'F' => b - b'A' + 10,
+        b'a'..=b'f' => b - b'a' + 10,
+        _ => 16,
     }
-    if b <= b'F' {
-        if b'A' <= b {
-            return b - 55;
-        }
-        return 16;
-    }
-    if b <= b'f' {
-        if b'a' <= b {
-            return b - 87;
-        }
-        return 16;
-    }
-    16
 }

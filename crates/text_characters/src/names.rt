@@ -12,9 +12,7 @@ pub fn matches(a: &[u8], b: &[u8]) -> bool
     if a.len() != b.len() {
         return false;
     }
-    let mut i = a.len();
-    while 0 < i {
-        i -= 1;
+    for i in (0..a.len()).rev() {
         if !letters::alike(a[i], b[i]) {
             return false;
         }

@@ -5,23 +5,19 @@ ghost use Rattle.std.specs.Prelude.{◌≡◌, take, drop, get_or};
 pub fn byte(text: &[u8], at: usize) -> u8
     ensures { result ≡ get_or text.now at 0 }
 {
-    if at < text.len() { text[at] } else { 0 }
+    text.get(at).copied().unwrap_or(0)
 }
 
 // The first n bytes.
 pub fn first(text: &[u8], n: usize) -> &[u8]
     ensures { result.now ≡ take n text.now }
 {
-    if n <= text.len() { &text[0..n] } else { text }
+    &text[..n.min(text.len())]
 }
 
 // What follows the first n bytes.
 pub fn rest(text: &[u8], n: usize) -> &[u8]
     ensures { result.now ≡ drop n text.now }
 {
-    if n <= text.len() {
-        return &text[n..];
-    }
-    let end = text.len();
-    &text[end..]
+    &text[n.min(text.len())..]
 }

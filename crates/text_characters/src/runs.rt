@@ -20,23 +20,16 @@ pub enum Stretch {
 fn is_name_part(b: u8) -> bool
     ensures { result ≡ belonging Stretch.Name b }
 {
-    if letters::is_within(b'A', b, b'Z') {
-        return true;
-    }
-    if letters::is_within(b'a', b, b'z') {
-        return true;
-    }
-    letters::is_within(b'0', b, b'9')
+    letters::is_within(b'A', b, b'Z')
+        || letters::is_within(b'a', b, b'z')
+        || letters::is_within(b'0', b, b'9')
 }
 
 // Whether a byte leaves a comment open.
 fn in_comment(b: u8) -> bool
     ensures { result ≡ belonging Stretch.Comment b }
 {
-    if b == b'"' {
-        return false;
-    }
-    b != b'\n'
+    b != b'"' && b != b'\n'
 }
 
 // Whether a byte belongs to a run.
@@ -54,13 +47,10 @@ fn belongs(run: Stretch, b: u8) -> bool
 pub fn length_of(run: Stretch, text: &[u8]) -> usize
     ensures { result ≡ span (belonging run) text.now }
 {
-    let mut n = 0;
-    while n < text.len() {
-        if belongs(run, text[n]) {
-            n += 1;
-        } else {
+    for (n, b) in text.iter().enumerate() {
+        if !belongs(run, *b) {
             return n;
         }
     }
-    n
+    text.len()
 }

@@ -24,32 +24,25 @@ use Rattle.language.specs.Words.{Constant}
 use Rattle.value_constants.specs.Digits.{Held, Written, bare, counting, decimal_more, holding, on_left, on_right}
 use Rattle.value_constants.proofs.Digits.{bare-made, bare-refused, counted-number, decimal-made, left-made, right-made, start_left}
 use Rattle.value_operators.proofs.Fits.{fit_refused}
-use Rattle.value_operators.specs.declared.Made.{Made}
+use Rattle.std.specs.Prelude.{Option, None, Some}
+use Rattle.value_operators.specs.declared.Value as V
 use Rattle.value_operators.specs.Meaning as Meaning
 use Rattle.value_operators.specs.Meaning.{allowed}
 use Rattle.text_items.specs.declared.ItemKind.TheVariants as K
 use Rattle.text_items.specs.Digits.{binary_from, binary_more, each_digit, length_of}
-use Rattle.text_items.specs.Meaning.{item_of, made_item, meant, plain_item}
+use Rattle.text_items.specs.Meaning.{made_item, meant, plain_item}
 use Rattle.text_items.proofs.OneByOne.{decimal-all, digits-below-base, left-all, right-all}
 
 -- ---- An item of a value that was made, or was not.
 
-module _ (m : Made) (b : Bool) (n : ℕ) (s : List ℕ) where
-  pub made-means : (v : Value) → Meaning.meant m ≡ made v → meant s (made_item m b n) ≡ found (L.constant (written b v)) n
-  made-means v e = go m.fits (Meaning.valued m.value) e
-    where
-      go : (t : Bool) (x : Value) → cond t (made x) none ≡ made v
-          → found (item_of (map folded (take n s)) (written b x) (cond t K.Constant (K.Wrong BadConstant))) n ≡ found (L.constant (written b v)) n
-      go true x e = cc
-      go false x e = let z : ◌≡◌ {A = ℕ} 0 1 = cc in absurd (omega arith)
+module _ (b : Bool) (n : ℕ) (s : List ℕ) where
+  pub made-means : (m : Option V.Value) (v : Value) → Meaning.meant m ≡ made v → meant s (made_item m b n) ≡ found (L.constant (written b v)) n
+  made-means (Some x) v e = cc
+  made-means None v e = let z : ◌≡◌ {A = ℕ} 0 1 = cc in absurd (omega arith)
 
-  pub none-means : Meaning.meant m ≡ none → meant s (made_item m b n) ≡ found (wrong BadConstant) n
-  none-means e = go m.fits (Meaning.valued m.value) e
-    where
-      go : (t : Bool) (x : Value) → cond t (made x) none ≡ none
-          → found (item_of (map folded (take n s)) (written b x) (cond t K.Constant (K.Wrong BadConstant))) n ≡ found (wrong BadConstant) n
-      go true x e = let z : ◌≡◌ {A = ℕ} 0 1 = cc in absurd (omega arith)
-      go false x e = refl
+  pub none-means : (m : Option V.Value) → Meaning.meant m ≡ none → meant s (made_item m b n) ≡ found (wrong BadConstant) n
+  none-means (Some x) e = let z : ◌≡◌ {A = ℕ} 0 1 = cc in absurd (omega arith)
+  none-means None e = refl
 
 -- ---- A based constant, with a length of l.
 
@@ -57,7 +50,7 @@ module _ (l start : ℕ) (ds : List ℕ) (s : List ℕ) where
   pub no_digit : (c : Constant) → length ds ≡ 0 → meant s (plain_item (K.Wrong BadConstant) (start + length ds)) ≡ based l ds c start
   no_digit c e = simp e
 
-  pub based-fit : (m : Made) (v : Value) (n : ℕ) → 0 < length ds → Meaning.meant m ≡ fit l n → (allowed l ≡ true → fit l n ≡ made v)
+  pub based-fit : (m : Option V.Value) (v : Value) (n : ℕ) → 0 < length ds → Meaning.meant m ≡ fit l n → (allowed l ≡ true → fit l n ≡ made v)
       → meant s (made_item m false (start + length ds)) ≡ based l ds (written false v) start
   unfolding allowed
   based-fit m v n h e f = go (allowed l) refl
@@ -70,8 +63,8 @@ module _ (l start : ℕ) (ds : List ℕ) (s : List ℕ) where
       item = simp (lt-ltb 0 (length ds) h) (both (ltb 0 l) (leb l longest))
 
       go : (a : Bool) → allowed l ≡ a → meant s (made_item m false (start + length ds)) ≡ based l ds (written false v) start
-      go true a = made-means m false (start + length ds) s v (e ∙ f a) ∙ sym (ap (λ i. found i (start + length ds)) (item ∙ rw a))
-      go false a = none-means m false (start + length ds) s (e ∙ fit_refused l n a) ∙ sym (ap (λ i. found i (start + length ds)) (item ∙ rw a))
+      go true a = made-means false (start + length ds) s m v (e ∙ f a) ∙ sym (ap (λ i. found i (start + length ds)) (item ∙ rw a))
+      go false a = none-means false (start + length ds) s m (e ∙ fit_refused l n a) ∙ sym (ap (λ i. found i (start + length ds)) (item ∙ rw a))
 
 -- ---- The digits d of a base, which t begins with.
 
@@ -110,7 +103,7 @@ module _ (l start k : ℕ) (t s d : List ℕ) (taken : Taken (2 ^ k) t d) where
       ap (λ (n : ℕ). meant s (plain_item (K.Wrong BadConstant) (start + n))) (count (2 ^ k) t taken)
       ∙ no_digit l start ds s (written false (binary_constant k left l ds)) (sym (count (2 ^ k) t taken) ∙ h)
 
-  left-made-here : (m : Made) (w : Written) → w ≡ each_digit (binary_more k true) (on_right 0 0) (map digit_worth d) → (length d ≡ 0 → ⊥)
+  left-made-here : (m : Option V.Value) (w : Written) → w ≡ each_digit (binary_more k true) (on_right 0 0) (map digit_worth d) → (length d ≡ 0 → ⊥)
       → Meaning.meant m ≡ fit l (w.low / 2 ^ (256 - l)) → meant s (made_item m false (start + length d)) ≡ binary_from k true l start t
   unfolding binary_from
   left-made-here m w e h f =
@@ -123,7 +116,7 @@ module _ (l start k : ℕ) (t s d : List ℕ) (taken : Taken (2 ^ k) t d) where
           e ∙ ap₂ (each_digit (binary_more k true)) start_left (worth (2 ^ k) t taken) ∙ left-all k 0 0 ds (omega arith) (digits-below-base (2 ^ k) t)
           ∙ ap (λ (n : ℕ). on_left n (digits_number (2 ^ k) ds)) (zero-add (k * length ds))
 
-  right-made-here : (m : Made) (w : Written) → w ≡ each_digit (binary_more k false) (on_right 0 0) (map digit_worth d) → (length d ≡ 0 → ⊥)
+  right-made-here : (m : Option V.Value) (w : Written) → w ≡ each_digit (binary_more k false) (on_right 0 0) (map digit_worth d) → (length d ≡ 0 → ⊥)
       → Meaning.meant m ≡ fit l w.low → meant s (made_item m false (start + length d)) ≡ binary_from k false l start t
   unfolding binary_from
   right-made-here m w e h f =
@@ -136,7 +129,7 @@ module _ (l start k : ℕ) (t s d : List ℕ) (taken : Taken (2 ^ k) t d) where
           e ∙ ap (each_digit (binary_more k false) (on_right 0 0)) (worth (2 ^ k) t taken) ∙ right-all k 0 0 ds
           ∙ ap (λ (n : ℕ). on_right n (digits_number (2 ^ k) ds)) (zero-add (k * length ds))
 
-  module _ (left : Bool) (m : Made) (w : Written) (e : w ≡ each_digit (binary_more k left) (on_right 0 0) (map digit_worth d)) (h : length d ≡ 0 → ⊥) where
+  module _ (left : Bool) (m : Option V.Value) (w : Written) (e : w ≡ each_digit (binary_more k left) (on_right 0 0) (map digit_worth d)) (h : length d ≡ 0 → ⊥) where
     pub left_here : left ≡ true → Meaning.meant m ≡ fit l (w.low / 2 ^ (256 - l)) → meant s (made_item m false (start + length d)) ≡ binary_from k left l start t
     left_here q f =
         left-made-here m w (e ∙ ap (λ (left : Bool). each_digit (binary_more k left) (on_right 0 0) (map digit_worth d)) q) h f
@@ -158,7 +151,7 @@ module _ (l n : ℕ) (t s d : List ℕ) (taken : Taken 10 t d) where
       ap (λ (i : ℕ). meant s (plain_item (K.Wrong BadConstant) (n + 1 + i))) (count 10 t taken)
       ∙ no_digit l (n + 1) (digits_of 10 t) s (written false (decimal_constant l (digits_of 10 t))) (sym (count 10 t taken) ∙ h)
 
-  pub decimal-here : (m : Made) (w : Held) → w ≡ each_digit decimal_more (holding 0) (map digit_worth d) → (length d ≡ 0 → ⊥)
+  pub decimal-here : (m : Option V.Value) (w : Held) → w ≡ each_digit decimal_more (holding 0) (map digit_worth d) → (length d ≡ 0 → ⊥)
       → Meaning.meant m ≡ fit l w.low → meant s (made_item m false (n + 1 + length d)) ≡ decimal_at l n t
   unfolding decimal_at
   decimal-here m w e h f =
@@ -283,14 +276,14 @@ module _ (s d : List ℕ) (taken : Taken 10 s d) (w : Held) (ew : w ≡ each_dig
           ap (λ (l : ℕ). decimal_at l (length d) (drop (suc (length d)) s)) (given l el) ∙ decimal-length number (length d) (drop (suc (length d)) s)
           ∙ sym (simp (← count 10 s taken, ← eb, no_bits, ← ef, h))
 
-      pub bare-here : (m : Made) → (f ≡ 68 → ⊥) → Meaning.meant m ≡ bare w → meant s (made_item m true (length d)) ≡ constant_at s
+      pub bare-here : (m : Option V.Value) → (f ≡ 68 → ⊥) → Meaning.meant m ≡ bare w → meant s (made_item m true (length d)) ≡ constant_at s
       unfolding constant_at bare_at
       bare-here m h e =
           ⊎_elim (λ z. small (omega arith)) (λ p. large (omega arith)) (eq-zero-or-pos (number - bare_largest))
           ∙ sym (simp (← count 10 s taken, ← eb, no_bits, ← ef, ne_eqb _ _ h))
         where
           small : number ≤ bare_largest → meant s (made_item m true (length d)) ≡ found bare_item (length d)
-          small l = made-means m true (length d) s (bare_constant (digits_of 10 s)) (e ∙ ap bare held ∙ bare-made (digits_of 10 s) l) ∙ sym (simp (le-leb _ _ l))
+          small l = made-means true (length d) s m (bare_constant (digits_of 10 s)) (e ∙ ap bare held ∙ bare-made (digits_of 10 s) l) ∙ sym (simp (le-leb _ _ l))
 
           large : bare_largest < number → meant s (made_item m true (length d)) ≡ found bare_item (length d)
-          large l = none-means m true (length d) s (e ∙ ap bare held ∙ bare-refused (digits_of 10 s) l) ∙ sym (simp (lt-leb _ _ l))
+          large l = none-means true (length d) s m (e ∙ ap bare held ∙ bare-refused (digits_of 10 s) l) ∙ sym (simp (lt-leb _ _ l))

@@ -10,7 +10,10 @@ use Rattle.language.specs.Characters.{folded}
 use Rattle.language.specs.declared.refusals.Refusal.TheVariants.{BadCharacter}
 use Rattle.language.specs.Scan.{Reserved, Spelled, bytes, found, reserved_among, reserved_kind, reserved_words, same, sign, spelled_symbols, symbol_among, symbol_at, wrong}
 use Rattle.text_characters.proofs.Table.{first, second}
-use Rattle.text_items.specs.Tables.{beginning, kind_with, of_one, of_three, of_two, only_if, symbol_kind}
+use Rattle.std.specs.Prelude.{Option, None, Some}
+use Rattle.std.specs.Option.{is_some}
+use Rattle.std.proofs.lemmas.Option.{none-some, same_Some}
+use Rattle.text_items.specs.Tables.{beginning, unless_zero, kind_with, of_one, of_three, of_two, only_if, symbol_kind}
 
 -- ---- A name that begins otherwise than a reserved word is not that word.
 
@@ -32,17 +35,45 @@ only-beginning (r ∷ rs) s = go (eqb (get_or s 0 0) (get_or r.letters 0 0)) ref
     go false e others more = more ∙ sym (rw (begins-otherwise s r.letters e))
 
 module _ (r : Reserved) (rs : List Reserved) (s : List ℕ) where
-  pub among-here : same s r.letters ≡ true → r.kind ≡ reserved_among (r ∷ rs) s
+  pub among-here : same s r.letters ≡ true → unless_zero r.kind ≡ unless_zero (reserved_among (r ∷ rs) s)
   unfolding reserved_among
   among-here e = sym (rw e)
 
-  pub among_next : (k : ℕ) → same s r.letters ≡ false → k ≡ reserved_among rs s → k ≡ reserved_among (r ∷ rs) s
+  pub among_next : (k : Option ℕ) → same s r.letters ≡ false → k ≡ unless_zero (reserved_among rs s) → k ≡ unless_zero (reserved_among (r ∷ rs) s)
   unfolding reserved_among
   among_next k e more = more ∙ sym (rw e)
 
-pub among-last : (r : Reserved) (s : List ℕ) (k : ℕ) → k ≡ cond (same s r.letters) r.kind 0 → k ≡ reserved_among (r ∷ []) s
+pub among-last : (r : Reserved) (s : List ℕ) (k : Option ℕ) → eqb r.kind 0 ≡ false → k ≡ cond (same s r.letters) (Some r.kind) None → k ≡ unless_zero (reserved_among (r ∷ []) s)
 unfolding reserved_among
-among-last r s k e = e
+among-last r s k h e = e ∙ go (same s r.letters)
+  where
+    go : (q : Bool) → cond q (Some r.kind) None ≡ unless_zero (cond q r.kind 0)
+    go true = sym (rw h)
+    go false = refl
+
+-- What is told of a number by whether there is one.
+pub some-unless : (k : ℕ) {n : ℕ} → Some k ≡ unless_zero n → (k ≡ n) × (k ≡ 0 → ⊥)
+some-unless k {n} e = go (eqb n 0) refl e
+  where
+    go : (q : Bool) → eqb n 0 ≡ q → Some k ≡ cond q None (Some n) → (k ≡ n) × (k ≡ 0 → ⊥)
+    go true z f = absurd (none-some k (sym f))
+    go false z f = let same : k ≡ n = same_Some k n f in (same, λ h. false≢true (sym z ∙ eq-eqb n 0 (sym same ∙ h)))
+
+pub zero-is-none : (r : Bool) (n : ℕ) {o : Option ℕ} → o ≡ unless_zero n → is_some o ≡ not r → r ≡ eqb n 0
+zero-is-none r n e h = go r (eqb n 0) (sym (ap is_some e) ∙ h)
+  where
+    go : (r q : Bool) → is_some (cond q None (Some n)) ≡ not r → r ≡ q
+    go true true f = refl
+    go true false f = absurd (false≢true (sym f))
+    go false true f = absurd (false≢true f)
+    go false false f = refl
+
+pub none-unless : {n : ℕ} → None ≡ unless_zero n → 0 ≡ n
+none-unless {n} e = go (eqb n 0) refl e
+  where
+    go : (q : Bool) → eqb n 0 ≡ q → None ≡ cond q None (Some n) → 0 ≡ n
+    go true z f = sym (eqb-true n 0 z)
+    go false z f = absurd (none-some n f)
 
 first-folded : (s : List ℕ) → get_or (map folded s) 0 0 ≡ folded (get_or s 0 0)
 unfolding folded

@@ -1,12 +1,12 @@
 -- What an item of the code means in the language: a name's letters are the capitals of its part of the text.
-use Rattle.std.specs.Prelude.{Bool, false, cond, List, [], ◌∷◌, map, ℕ, take}
+use Rattle.std.specs.Prelude.{Bool, false, List, [], ◌∷◌, Option, None, Some, map, ℕ, take}
 use Rattle.language.specs.Characters.{folded}
 use Rattle.language.specs.declared.refusals.Refusal.TheVariants.{BadConstant}
 use Rattle.language.specs.Scan as L
 use Rattle.language.specs.Scan.{Found, found, gap, item_at, written}
 use Rattle.language.specs.Words.{Constant}
-use Rattle.value_operators.specs.declared.Made.{Made}
-use Rattle.value_operators.specs.Meaning.{blank, valued}
+use Rattle.value_operators.specs.declared.Value.{Value}
+use Rattle.value_operators.specs.Meaning.{valued}
 use Rattle.text_items.specs.declared.Item.{Item}
 use Rattle.text_items.specs.declared.ItemKind.{ItemKind}
 use Rattle.text_items.specs.declared.ItemKind.TheVariants as K
@@ -23,13 +23,18 @@ item_of n v (K.Wrong w) = L.wrong w
 abbrev pub meant : List ℕ → Item → Found
 meant s r = found (item_of (map folded (take r.size s)) (written r.bare (valued r.value)) r.kind) r.size
 
+-- What stands as the value where there is none.
+abbrev pub blank : Value
+blank = record { limbs = 0 ∷ 0 ∷ 0 ∷ 0 ∷ []; length = 0 }
+
 -- An item without a value.
 abbrev pub plain_item : ItemKind → ℕ → Item
 plain_item k n = record { kind = k; size = n; bare = false; value = blank }
 
 -- A constant, or what is wrong where no value was made.
-abbrev pub made_item : Made → Bool → ℕ → Item
-made_item m b n = record { kind = cond m.fits K.Constant (K.Wrong BadConstant); size = n; bare = b; value = m.value }
+abbrev pub made_item : Option Value → Bool → ℕ → Item
+made_item (Some v) b n = record { kind = K.Constant; size = n; bare = b; value = v }
+made_item None b n = record { kind = K.Wrong BadConstant; size = n; bare = b; value = blank }
 
 -- The item at the start of a text, and an empty gap where it ends.
 unfoldable pub item_start : List ℕ → Found

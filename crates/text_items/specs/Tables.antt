@@ -1,6 +1,10 @@
 -- Symbols by their sizes, and reserved words by their first letters.
-use Rattle.std.specs.Prelude.{Bool, true, false, cond, List, [], ◌∷◌, ℕ, eqb, drop, get_or, take}
+use Rattle.std.specs.Prelude.{Bool, true, false, cond, List, [], ◌∷◌, Option, None, Some, ℕ, eqb, drop, get_or, take}
 use Rattle.language.specs.Scan.{Reserved, Spelled, reserved_among, reserved_words, same, spelled_symbols}
+
+-- What a definition says in a number, where 0 stands for none.
+abbrev pub unless_zero : ℕ → Option ℕ
+unless_zero k = cond (eqb k 0) None (Some k)
 
 -- ---- Symbols by their sizes: four of three bytes, five of two, and the single ones.
 

@@ -4,6 +4,7 @@ ghost use Rattle.language.specs.Scan.{binary_at, constant_at, decimal_at, digit_
 ghost use Rattle.value_constants.specs.Digits.{counting, held};
 ghost use Rattle.text_items.specs.Meaning.{meant};
 ghost use Rattle.text_items.specs.Digits.{binary_from, length_of};
+ghost use Rattle.text_items.specs.Tables.{unless_zero};
 
 use crate::{Item, ItemKind, digits, made, plain};
 use language::ceilings;
@@ -13,27 +14,21 @@ use value_constants::Decimal;
 
 const LONGEST: u32 = ceilings::VALUE as u32;
 
-// Bits of a digit after the letter of a base, B Q @ H; 0 where it is none.
-fn digit_bits(b: u8) -> u16
-    ensures { result ≡ digit_bits b }
+// Bits of a digit after the letter of a base, B Q @ H.
+#[tactic(auto, using(std::proofs::lemmas::Bool::Decides::nat_tests), unfolding(language::specs::Characters::folded, language::specs::Scan::digit_bits))]
+fn digit_bits(b: u8) -> Option<u16>
+    ensures { result ≡ unless_zero (digit_bits b) }
 {
-    let letter = letters::fold(b);
-    if letter == b'B' {
-        return 1;
+    match letters::fold(b) {
+        b'B' => Some(1),
+        b'Q' => Some(2),
+        b'@' => Some(3),
+        b'H' => Some(4),
+        _ => None,
     }
-    if letter == b'Q' {
-        return 2;
-    }
-    if b == b'@' {
-        return 3;
-    }
-    if letter == b'H' {
-        return 4;
-    }
-    0
 }
 
-// The length that decimal digits give, and 0 where no value is so long.
+// The length that decimal digits give, and 0 where no value is so long: its digits are read all the same, and make no value.
 fn length_given(x: Decimal) -> u16
     ensures { result ≡ length_of (counting (held x)) }
 {
@@ -97,8 +92,7 @@ pub fn constant_at(text: &[u8]) -> Item
     let n = ds.len();
     let x = digits::decimal(ds);
     let b = parts::byte(text, n);
-    let k = digit_bits(b);
-    if 0 < k {
+    if let Some(k) = digit_bits(b) {
         return binary_at(text, n, k, length_given(x));
     }
     if letters::fold(b) == b'D' {

@@ -21,10 +21,8 @@ pub fn decimal(digits: &[u8]) -> Decimal
     ensures { held result ≡ each_digit decimal_more (holding 0) (map digit_worth digits.now) }
 {
     let mut x = value_constants::no_decimal();
-    let mut i = 0;
-    while i < digits.len() {
-        x = value_constants::decimal_digit(x, letters::digit_worth(digits[i]));
-        i += 1;
+    for d in digits {
+        x = value_constants::decimal_digit(x, letters::digit_worth(*d));
     }
     x
 }
@@ -45,10 +43,8 @@ pub fn binary(digits: &[u8], k: u16, left: bool) -> Binary
     ensures { written result ≡ each_digit (binary_more k left) (on_right 0 0) (map digit_worth digits.now) }
 {
     let mut x = value_constants::no_digit();
-    let mut i = 0;
-    while i < digits.len() {
-        x = one_more(x, k, left, letters::digit_worth(digits[i]));
-        i += 1;
+    for d in digits {
+        x = one_more(x, k, left, letters::digit_worth(*d));
     }
     x
 }

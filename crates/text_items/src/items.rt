@@ -14,8 +14,7 @@ fn name(text: &[u8]) -> Item
     ensures { meant text.now result ≡ name_at text.now }
 {
     let size = runs::length_of(Stretch::Name, text);
-    let kind = reserved::kind_of(parts::first(text, size));
-    if kind != 0 {
+    if let Some(kind) = reserved::kind_of(parts::first(text, size)) {
         return plain(ItemKind::Sign(kind), size);
     }
     if size <= ceilings::NAME {

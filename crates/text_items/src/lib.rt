@@ -5,7 +5,7 @@ ghost use Rattle.std.specs.Prelude.{◌≡◌};
 ghost use Rattle.text_items.specs.Meaning.{made_item, plain_item};
 
 use language::refusals::Refusal;
-use value_operators::{Made, Value, fitting};
+use value_operators::Value;
 
 pub mod constant;
 pub mod digits;
@@ -32,35 +32,34 @@ pub struct Item {
     pub value: Value,
 }
 
+// What stands as the value where there is none.
+const BLANK: Value = Value {
+    limbs: [0; 4],
+    length: 0,
+};
+
 // An item without a value.
 pub fn plain(kind: ItemKind, size: usize) -> Item
     ensures { result ≡ plain_item kind size }
 {
-    let none = fitting::none();
-    let value = none.value;
     Item {
         kind,
         size,
         bare: false,
-        value,
+        value: BLANK,
     }
 }
 
 // A constant, and where no value was made, what is wrong with it.
-pub fn made(m: Made, bare: bool, size: usize) -> Item
+pub fn made(m: Option<Value>, bare: bool, size: usize) -> Item
     ensures { result ≡ made_item m bare size }
 {
-    let value = m.value;
-    if m.fits {
-        return Item {
-            kind: ItemKind::Constant,
-            size,
-            bare,
-            value,
-        };
-    }
+    let (kind, value) = match m {
+        Some(value) => (ItemKind::Constant, value),
+        None => (ItemKind::Wrong(Refusal::BadConstant), BLANK),
+    };
     Item {
-        kind: ItemKind::Wrong(Refusal::BadConstant),
+        kind,
         size,
         bare,
         value,

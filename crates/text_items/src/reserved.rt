@@ -1,8 +1,8 @@
 // Reserved words (the manual, 2.1), told apart by the letter with which they begin.
-ghost use Rattle.std.specs.Prelude.{cond, map, ◌≡◌};
+ghost use Rattle.std.specs.Prelude.{None, Some, cond, map, ◌≡◌};
 ghost use Rattle.language.specs.Characters.{folded};
 ghost use Rattle.language.specs.Scan.{reserved_kind, same};
-ghost use Rattle.text_items.specs.Tables.{kind_with};
+ghost use Rattle.text_items.specs.Tables.{unless_zero, kind_with};
 
 use language::kinds;
 use text_characters::{letters, names, parts};
@@ -14,97 +14,97 @@ const OUTPUT: u8 = 45;
 
 const LEVEL: u8 = 46;
 
-// The kind of a reserved word where a name is that word, and 0 where it is not.
-fn only(name: &[u8], word: &[u8], kind: u8) -> u8
-    ensures { result ≡ cond (same (map folded name.now) (map folded word.now)) kind 0 }
+// The kind of a reserved word where a name is that word.
+fn only(name: &[u8], word: &[u8], kind: u8) -> Option<u8>
+    ensures { result ≡ cond (same (map folded name.now) (map folded word.now)) (Some kind) None }
 {
-    if names::matches(name, word) { kind } else { 0 }
+    names::matches(name, word).then_some(kind)
 }
 
-// The kind of the reserved word with C that a name is, and 0 where it is none.
-fn with_c(name: &[u8]) -> u8
-    ensures { result ≡ kind_with 67 (map folded name.now) }
+// The kind of the reserved word with C that a name is
+fn with_c(name: &[u8]) -> Option<u8>
+    ensures { result ≡ unless_zero (kind_with 67 (map folded name.now)) }
 {
     if names::matches(name, b"CASE") {
-        return kinds::CASE;
+        return Some(kinds::CASE);
     }
     if names::matches(name, b"CON") {
-        return kinds::CON;
+        return Some(kinds::CON);
     }
     only(name, b"CONTROL", kinds::CONTROL)
 }
 
-// The kind of the reserved word with E that a name is, and 0 where it is none.
-fn with_e(name: &[u8]) -> u8
-    ensures { result ≡ kind_with 69 (map folded name.now) }
+// The kind of the reserved word with E that a name is
+fn with_e(name: &[u8]) -> Option<u8>
+    ensures { result ≡ unless_zero (kind_with 69 (map folded name.now)) }
 {
     if names::matches(name, b"ENDCASE") {
-        return kinds::END_CASE;
+        return Some(kinds::END_CASE);
     }
     if names::matches(name, b"ELSE") {
-        return kinds::ELSE;
+        return Some(kinds::ELSE);
     }
     if names::matches(name, b"ENDIF") {
-        return kinds::END_IF;
+        return Some(kinds::END_IF);
     }
     if names::matches(name, b"END") {
-        return kinds::END;
+        return Some(kinds::END);
     }
     only(name, b"EXT", kinds::EXT)
 }
 
-// The kind of the reserved word with I that a name is, and 0 where it is none.
-fn with_i(name: &[u8]) -> u8
-    ensures { result ≡ kind_with 73 (map folded name.now) }
+// The kind of the reserved word with I that a name is
+fn with_i(name: &[u8]) -> Option<u8>
+    ensures { result ≡ unless_zero (kind_with 73 (map folded name.now)) }
 {
     if names::matches(name, b"IF") {
-        return kinds::IF;
+        return Some(kinds::IF);
     }
     only(name, b"INPUT", kinds::INPUT)
 }
 
-// The kind of the reserved word with O that a name is, and 0 where it is none.
-fn with_o(name: &[u8]) -> u8
-    ensures { result ≡ kind_with 79 (map folded name.now) }
+// The kind of the reserved word with O that a name is
+fn with_o(name: &[u8]) -> Option<u8>
+    ensures { result ≡ unless_zero (kind_with 79 (map folded name.now)) }
 {
     if names::matches(name, b"OUTPUT") {
-        return OUTPUT;
+        return Some(OUTPUT);
     }
     only(name, b"OPERATION", kinds::OPERATION)
 }
 
-// The kind of the reserved word with R that a name is, and 0 where it is none.
-fn with_r(name: &[u8]) -> u8
-    ensures { result ≡ kind_with 82 (map folded name.now) }
+// The kind of the reserved word with R that a name is
+fn with_r(name: &[u8]) -> Option<u8>
+    ensures { result ≡ unless_zero (kind_with 82 (map folded name.now)) }
 {
     if names::matches(name, b"RED") {
-        return kinds::RED;
+        return Some(kinds::RED);
     }
     if names::matches(name, b"RETURN") {
-        return kinds::RETURN;
+        return Some(kinds::RETURN);
     }
     only(name, b"REGISTER", kinds::REGISTER)
 }
 
-// The kind of the reserved word with T that a name is, and 0 where it is none.
-fn with_t(name: &[u8]) -> u8
-    ensures { result ≡ kind_with 84 (map folded name.now) }
+// The kind of the reserved word with T that a name is
+fn with_t(name: &[u8]) -> Option<u8>
+    ensures { result ≡ unless_zero (kind_with 84 (map folded name.now)) }
 {
     if names::matches(name, b"THEN") {
-        return kinds::THEN;
+        return Some(kinds::THEN);
     }
     if names::matches(name, b"TAIL") {
-        return kinds::TAIL;
+        return Some(kinds::TAIL);
     }
     if names::matches(name, b"TIME") {
-        return TIME;
+        return Some(TIME);
     }
     only(name, b"TERMINAL", kinds::TERMINAL)
 }
 
-// The kind of the reserved word that a name is, and 0 where it is none.
-pub fn kind_of(name: &[u8]) -> u8
-    ensures { result ≡ reserved_kind (map folded name.now) }
+// The kind of the reserved word that a name is
+pub fn kind_of(name: &[u8]) -> Option<u8>
+    ensures { result ≡ unless_zero (reserved_kind (map folded name.now)) }
 {
     match letters::fold(parts::byte(name, 0)) {
         b'C' => with_c(name),
@@ -117,6 +117,6 @@ pub fn kind_of(name: &[u8]) -> u8
         b'O' => with_o(name),
         b'R' => with_r(name),
         b'T' => with_t(name),
-        _ => 0,
+        _ => None,
     }
 }

@@ -2,82 +2,68 @@
 ghost use Rattle.std.specs.Prelude.{[], ◌∷◌, ◌≡◌};
 ghost use Rattle.language.specs.Scan.{symbol_at};
 ghost use Rattle.text_items.specs.Meaning.{meant};
-ghost use Rattle.text_items.specs.Tables.{of_one, of_three, of_two, symbol_kind};
+ghost use Rattle.text_items.specs.Tables.{unless_zero, of_one, of_three, of_two, symbol_kind};
 
 use crate::{Item, ItemKind, plain};
 use language::kinds;
 use language::refusals::Refusal;
 use text_characters::parts;
 
-// The kind of the symbol that three bytes are, and 0 where they are none.
-fn of_three(a: u8, b: u8, c: u8) -> u8
-    ensures { result ≡ symbol_kind of_three (a ∷ b ∷ c ∷ []) }
+// The kind of the symbol that three bytes are.
+#[tactic(auto, using(std::proofs::lemmas::Bool::Decides::nat_tests), unfolding(crate::specs::Tables::of_three, crate::specs::Tables::symbol_kind, language::specs::Scan::spelled_symbols, language::specs::Scan::bytes, language::specs::Scan::same))]
+fn of_three(a: u8, b: u8, c: u8) -> Option<u8>
+    ensures { result ≡ unless_zero (symbol_kind of_three (a ∷ b ∷ c ∷ [])) }
 {
-    if a == b'(' {
-        if c != b')' {
-            return 0;
-        }
-        return match b {
-            b'+' => kinds::SUM,
-            b'-' => kinds::DIFFERENCE,
-            b'=' => kinds::SAME,
-            _ => 0,
-        };
-    }
-    if a != b'[' {
-        return 0;
-    }
-    if b != b'+' {
-        return 0;
-    }
-    if c == b']' { kinds::EXCLUSIVE } else { 0 }
-}
-
-// The kind of the symbol that two bytes are, and 0 where they are none.
-fn of_two(a: u8, b: u8) -> u8
-    ensures { result ≡ symbol_kind of_two (a ∷ b ∷ []) }
-{
-    match b {
-        b'=' => match a {
-            b'>' => kinds::AT_LEAST,
-            b'<' => kinds::AT_MOST,
-            _ => 0,
-        },
-        b'>' => match a {
-            b'-' => kinds::GOTO,
-            b'=' => kinds::CALL,
-            _ => 0,
-        },
-        b'-' => if a == b'<' { kinds::DELAYED } else { 0 },
-        _ => 0,
+    match (a, b, c) {
+        (b'(', b'+', b')') => Some(kinds::SUM),
+        (b'(', b'-', b')') => Some(kinds::DIFFERENCE),
+        (b'(', b'=', b')') => Some(kinds::SAME),
+        (b'[', b'+', b']') => Some(kinds::EXCLUSIVE),
+        _ => None,
     }
 }
 
-// The kind of the symbol that one byte is, and 0 where it is none.
-fn of_one(a: u8) -> u8
-    ensures { result ≡ symbol_kind of_one (a ∷ []) }
+// The kind of the symbol that two bytes are.
+#[tactic(auto, using(std::proofs::lemmas::Bool::Decides::nat_tests), unfolding(crate::specs::Tables::of_two, crate::specs::Tables::symbol_kind, language::specs::Scan::spelled_symbols, language::specs::Scan::bytes, language::specs::Scan::same))]
+fn of_two(a: u8, b: u8) -> Option<u8>
+    ensures { result ≡ unless_zero (symbol_kind of_two (a ∷ b ∷ [])) }
+{
+    match (a, b) {
+        (b'>', b'=') => Some(kinds::AT_LEAST),
+        (b'<', b'=') => Some(kinds::AT_MOST),
+        (b'-', b'>') => Some(kinds::GOTO),
+        (b'=', b'>') => Some(kinds::CALL),
+        (b'<', b'-') => Some(kinds::DELAYED),
+        _ => None,
+    }
+}
+
+// The kind of the symbol that one byte is.
+#[tactic(auto, using(std::proofs::lemmas::Bool::Decides::nat_tests), unfolding(crate::specs::Tables::of_one, crate::specs::Tables::symbol_kind, language::specs::Scan::spelled_symbols, language::specs::Scan::bytes, language::specs::Scan::same))]
+fn of_one(a: u8) -> Option<u8>
+    ensures { result ≡ unless_zero (symbol_kind of_one (a ∷ [])) }
 {
     match a {
-        b'_' => kinds::DELAYED,
-        b'#' => kinds::HASH,
-        b'$' => kinds::DOLLAR,
-        b'(' => kinds::OPEN_PAREN,
-        b')' => kinds::CLOSE_PAREN,
-        b'*' => kinds::STAR,
-        b'+' => kinds::PLUS,
-        b',' => kinds::COMMA,
-        b'-' => kinds::MINUS,
-        b'.' => kinds::PERIOD,
-        b'/' => kinds::SLASH,
-        b':' => kinds::COLON,
-        b';' => kinds::SEMICOLON,
-        b'<' => kinds::LESS,
-        b'=' => kinds::EQUAL,
-        b'>' => kinds::GREATER,
-        b'@' => kinds::AT,
-        b'[' => kinds::OPEN_BRACKET,
-        b']' => kinds::CLOSE_BRACKET,
-        _ => 0,
+        b'_' => Some(kinds::DELAYED),
+        b'#' => Some(kinds::HASH),
+        b'$' => Some(kinds::DOLLAR),
+        b'(' => Some(kinds::OPEN_PAREN),
+        b')' => Some(kinds::CLOSE_PAREN),
+        b'*' => Some(kinds::STAR),
+        b'+' => Some(kinds::PLUS),
+        b',' => Some(kinds::COMMA),
+        b'-' => Some(kinds::MINUS),
+        b'.' => Some(kinds::PERIOD),
+        b'/' => Some(kinds::SLASH),
+        b':' => Some(kinds::COLON),
+        b';' => Some(kinds::SEMICOLON),
+        b'<' => Some(kinds::LESS),
+        b'=' => Some(kinds::EQUAL),
+        b'>' => Some(kinds::GREATER),
+        b'@' => Some(kinds::AT),
+        b'[' => Some(kinds::OPEN_BRACKET),
+        b']' => Some(kinds::CLOSE_BRACKET),
+        _ => None,
     }
 }
 
@@ -87,16 +73,13 @@ pub fn symbol(text: &[u8]) -> Item
 {
     let a = parts::byte(text, 0);
     let b = parts::byte(text, 1);
-    let three = of_three(a, b, parts::byte(text, 2));
-    if three != 0 {
+    if let Some(three) = of_three(a, b, parts::byte(text, 2)) {
         return plain(ItemKind::Sign(three), 3);
     }
-    let two = of_two(a, b);
-    if two != 0 {
+    if let Some(two) = of_two(a, b) {
         return plain(ItemKind::Sign(two), 2);
     }
-    let one = of_one(a);
-    if one != 0 {
+    if let Some(one) = of_one(a) {
         return plain(ItemKind::Sign(one), 1);
     }
     plain(ItemKind::Wrong(Refusal::BadCharacter), 1)

@@ -1,5 +1,5 @@
 -- What the code's words, faults and judgements mean in the language.
-use Rattle.std.specs.Prelude.{Bool, true, false, cond, List, [], ◌∷◌, map, ◌≡◌, ℕ, ◌+◌, ◌<◌, ◌≤◌, ltb, drop, length, take}
+use Rattle.std.specs.Prelude.{Bool, true, false, cond, List, [], ◌∷◌, map, ◌≡◌, ℕ, ◌+◌, ◌<◌, ◌≤◌, ltb, drop, length, take, Result, Ok, Err}
 use Rattle.std.proofs.Math.Option.{Option, none, some}
 use Rattle.language.specs.Characters.{folded}
 use Rattle.language.specs.Ceilings.{longest_text}
@@ -15,8 +15,6 @@ use Rattle.text_items.specs.declared.ItemKind.TheVariants as I
 use Rattle.text_items.specs.Meaning.{item_start}
 use Rattle.value_operators.specs.Meaning.{valued}
 use Rattle.text_words.specs.declared.Fault.{Fault}
-use Rattle.text_words.specs.declared.Judged.{Judged}
-use Rattle.text_words.specs.declared.Judged.TheVariants.{Passed, Refused}
 use Rattle.text_words.specs.declared.WordKind.{WordKind}
 use Rattle.text_words.specs.declared.WordKind.TheVariants as K
 use Rattle.text_words.specs.declared.Position.{Position}
@@ -72,9 +70,9 @@ pub record Next (text : List ℕ) (from : ℕ) (w : Word) : Type 0 where
 abbrev pub faulted : Fault → L.Fault
 faulted f = fault (positioned f.at) f.refusal
 
-abbrev pub judged : Judged → Option L.Fault
-judged Passed = none
-judged (Refused f) = some (faulted f)
+abbrev pub judged : Result (Unit {0}) Fault → Option L.Fault
+judged (Ok u) = none
+judged (Err f) = some (faulted f)
 
 abbrev pub refused_at : ℕ → Refusal → Option L.Fault
 refused_at p r = some (fault (position p) r)

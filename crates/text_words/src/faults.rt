@@ -4,7 +4,6 @@ ghost use Rattle.language.specs.WordStage as L;
 ghost use Rattle.text_words.specs.Meaning.{faulted, judged, lesser, refused_at};
 
 use crate::{Fault, Judged, places};
-use language::refusals;
 use language::refusals::Refusal;
 
 // A refusal at a place.
@@ -12,7 +11,7 @@ pub fn refused(place: usize, refusal: Refusal) -> Judged
     ensures { judged result ≡ refused_at place refusal }
 {
     let at = places::position(place);
-    Judged::Refused(Fault { at, refusal })
+    Err(Fault { at, refusal })
 }
 
 // Whether one fault answers before another.
@@ -21,26 +20,17 @@ pub fn before(a: Fault, b: Fault) -> bool
 {
     let p = places::place(a.at);
     let q = places::place(b.at);
-    if p < q {
-        return true;
-    }
-    if p == q {
-        let one = a.refusal;
-        let other = b.refusal;
-        return refusals::refusal_number(one) < refusals::refusal_number(other);
-    }
-    false
+    let one = u8::from(a.refusal);
+    let other = u8::from(b.refusal);
+    p < q || p == q && one < other
 }
 
 // Which of two judgements answers.
 pub fn earlier(a: Judged, b: Judged) -> Judged
     ensures { judged result ≡ lesser (judged a) (judged b) }
 {
-    match a {
-        Judged::Passed => b,
-        Judged::Refused(f) => match b {
-            Judged::Passed => a,
-            Judged::Refused(g) => if before(g, f) { b } else { a },
-        },
+    match (a, b) {
+        (Err(f), Err(g)) => if before(g, f) { b } else { a },
+        _ => a.and(b),
     }
 }

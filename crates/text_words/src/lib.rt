@@ -43,8 +43,4 @@ pub struct Fault {
 }
 
 // What comes of judging.
-#[derive(Clone, Copy)]
-pub enum Judged {
-    Passed,
-    Refused(Fault),
-}
+pub type Judged = Result<(), Fault>;

@@ -14,16 +14,12 @@ fn width_after(width: usize, b: u8, next: u8) -> usize
     requires { width ≤ 132 }
     ensures { result ≡ width_after width b (next ∷ []) }
 {
-    if b == b'\n' {
-        return 0;
+    match b {
+        b'\n' => 0,
+        b'\t' => (width / 8 + 1) * 8,
+        b'\r' if next == b'\n' => width,
+        _ => width + 1,
     }
-    if b == b'\t' {
-        return (width / 8 + 1) * 8;
-    }
-    if b != b'\r' {
-        return width + 1;
-    }
-    if next == b'\n' { width } else { width + 1 }
 }
 
 // The first line that is too long, at the byte that passes the last column.
@@ -31,13 +27,11 @@ pub fn first_long(text: &[u8]) -> Judged
     ensures { judged result ≡ least (long_lines 0 0 text.now) }
 {
     let mut width = 0;
-    let mut at = 0;
-    while at < text.len() {
-        width = width_after(width, text[at], parts::byte(text, at + 1));
+    for (at, b) in text.iter().enumerate() {
+        width = width_after(width, *b, parts::byte(text, at + 1));
         if ceilings::LINE < width {
             return faults::refused(at, Refusal::BadCharacter);
         }
-        at += 1;
     }
-    Judged::Passed
+    Ok(())
 }

@@ -3,18 +3,19 @@ ghost use Rattle.std.specs.Prelude.{◌≡◌};
 ghost use Rattle.text_words.specs.Meaning.{Next, is_end, word_item, word_kind};
 
 use crate::{Word, WordKind, places};
-use text_items::{Item, items};
+use text_items::{Item, ItemKind, items};
 
 // The kind of word that an item is, and the end where it is none.
-fn kind_of(kind: text_items::ItemKind) -> WordKind
-    ensures { result ≡ word_kind kind }
-{
-    match kind {
-        text_items::ItemKind::Gap => WordKind::End,
-        text_items::ItemKind::Name => WordKind::Name,
-        text_items::ItemKind::Constant => WordKind::Constant,
-        text_items::ItemKind::Sign(k) => WordKind::Sign(k),
-        text_items::ItemKind::Wrong(_) => WordKind::End,
+impl From<ItemKind> for WordKind {
+    ghost from_gives = { λ kind word. word ≡ word_kind kind };
+
+    fn from(kind: ItemKind) -> WordKind {
+        match kind {
+            ItemKind::Name => WordKind::Name,
+            ItemKind::Constant => WordKind::Constant,
+            ItemKind::Sign(k) => WordKind::Sign(k),
+            ItemKind::Gap | ItemKind::Wrong(_) => WordKind::End,
+        }
     }
 }
 
@@ -22,16 +23,12 @@ fn kind_of(kind: text_items::ItemKind) -> WordKind
 fn word_of(item: Item, place: usize) -> Word
     ensures { result ≡ word_item item place }
 {
-    let found = item.kind;
-    let kind = kind_of(found);
-    let value = item.value;
-    let at = places::position(place);
     Word {
-        kind,
-        at,
+        kind: WordKind::from(item.kind),
+        at: places::position(place),
         size: item.size,
         bare: item.bare,
-        value,
+        value: item.value,
     }
 }
 
@@ -39,12 +36,7 @@ fn word_of(item: Item, place: usize) -> Word
 pub fn is_end(kind: WordKind) -> bool
     ensures { result ≡ is_end kind }
 {
-    match kind {
-        WordKind::End => true,
-        WordKind::Name => false,
-        WordKind::Constant => false,
-        WordKind::Sign(_) => false,
-    }
+    matches!(kind, WordKind::End)
 }
 
 // The next word from a place on, and the end where there is none. What is wrong is passed over: the stage of words refuses it.
@@ -55,12 +47,10 @@ pub fn next_word(text: &[u8], from: usize) -> Word
     while at < text.len() {
         let item = items::item_at(&text[at..]);
         let word = word_of(item, at);
-        let kind = word.kind;
-        if is_end(kind) {
-            at += item.size;
-        } else {
+        if !is_end(word.kind) {
             return word;
         }
+        at += item.size;
     }
-    word_of(text_items::plain(text_items::ItemKind::Gap, 0), text.len())
+    word_of(text_items::plain(ItemKind::Gap, 0), text.len())
 }

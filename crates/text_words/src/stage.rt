@@ -21,11 +21,8 @@ fn fault_of(kind: ItemKind, place: usize) -> Judged
     ensures { judged result ≡ kind_fault kind place }
 {
     match kind {
-        ItemKind::Gap => Judged::Passed,
-        ItemKind::Name => Judged::Passed,
-        ItemKind::Constant => Judged::Passed,
-        ItemKind::Sign(_) => Judged::Passed,
         ItemKind::Wrong(refusal) => faults::refused(place, refusal),
+        _ => Ok(()),
     }
 }
 
@@ -36,14 +33,10 @@ fn first_wrong(text: &[u8]) -> Judged
     let mut at = 0;
     while at < text.len() {
         let item = items::item_at(&text[at..]);
-        let kind = item.kind;
-        let fault = fault_of(kind, at);
-        match fault {
-            Judged::Passed => at += item.size,
-            Judged::Refused(_) => return fault,
-        }
+        fault_of(item.kind, at)?;
+        at += item.size;
     }
-    Judged::Passed
+    Ok(())
 }
 
 // The fault of the stage of words, if there is one.

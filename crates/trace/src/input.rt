@@ -1,4 +1,5 @@
 // Standard input byte by byte: what each prints, until the run or the input ends.
+ghost use Rattle.std.specs.ControlFlow.{MatchControlFlow};
 ghost use Rattle.std.specs.Prelude.{◌≡◌, ◌≤◌, length, IfOk, OnErr};
 ghost use Rattle.trace_input.specs.Lines.{held_room};
 ghost use Rattle.trace_line.specs.Turns.{Ready, printed_room};
@@ -6,6 +7,7 @@ ghost use Rattle.trace_line.specs.Turns.{Ready, printed_room};
 use image_records::bytes;
 use std::io;
 use std::io::{ErrorKind, Read};
+use std::ops::ControlFlow;
 use trace_input::lines;
 use trace_line::told;
 use trace_whole::input::State;
@@ -64,13 +66,7 @@ fn finish(
     Ok(())
 }
 
-// The next part of the input; none at its end, or where the run has ended.
-#[derive(Clone, Copy)]
-struct Part {
-    state: State,
-    more: bool,
-}
-
+// The next part of the input: a break at its end, or where the run has ended.
 fn next(
     rt: &impl Print,
     input: &mut impl Read,
@@ -80,32 +76,27 @@ fn next(
     line: &mut [u8],
     out: &mut [u8],
     s: State,
-) -> io::Result<Part>
+) -> io::Result<ControlFlow<State, State>>
     requires { (Ready image.now store.old) × (s.held ≤ length line.old) × (held_room ≤ length line.old) × (printed_room ≤ length out.old) }
-    ensures ok { IfOk result (λ p. p.state.held ≤ length line.new) }
+    ensures ok { IfOk result (λ p. MatchControlFlow p (λ s. s.held ≤ length line.new) (λ s. s.held ≤ length line.new)) }
     ensures err { OnErr result (length line.new ≡ length line.old) }
 {
     let mut chunk = [0u8; 65536];
     let n = match input.read(&mut chunk) {
         Ok(n) => n,
         Err(e) if e.kind() == ErrorKind::Interrupted => {
-            return Ok(Part {
-                state: s,
-                more: true,
-            });
+            return Ok(ControlFlow::Continue(s));
         }
         Err(e) => return Err(e),
     };
     if n == 0 {
-        return Ok(Part {
-            state: s,
-            more: false,
-        });
+        return Ok(ControlFlow::Break(s));
     }
     let after = feed(rt, image, store, record, line, out, s, &chunk[..n])?;
-    Ok(Part {
-        state: after,
-        more: after.on,
+    Ok(if after.on {
+        ControlFlow::Continue(after)
+    } else {
+        ControlFlow::Break(after)
     })
 }
 
@@ -128,10 +119,11 @@ fn all(
         end: 0,
     };
     for _ in 0..u64::MAX {
-        let p = next(rt, &mut input, image, store, record, line, out, s)?;
-        s = p.state;
-        if !p.more {
-            return finish(rt, image, store, record, line, out, s);
+        match next(rt, &mut input, image, store, record, line, out, s)? {
+            ControlFlow::Continue(after) => s = after,
+            ControlFlow::Break(last) => {
+                return finish(rt, image, store, record, line, out, last);
+            }
         }
     }
     Ok(())

@@ -8,7 +8,6 @@ use language::ceilings;
 use std::alloc::Global;
 use std::io::Read;
 use std::{fs, io};
-use trace_whole::begun::Begun;
 use trace_whole::{begun, roomy};
 
 // Runs the text or says why it is refused.
@@ -18,10 +17,13 @@ fn run(rt: &(impl Input + Print), text: &[u8]) -> io::Result<()> {
     let mut record = [0u8; ceilings::RECORD];
     let mut out = [0u8; begun::REFUSED];
     match roomy::begin_run(text, &mut image, &mut store, &mut record, &mut out) {
-        Begun::Refused(end) => rt.write_all(bytes::part(&out, 0, end)),
-        Begun::Runs(n, size) => {
-            input::cycles(rt, &image[0..n], &mut store[0..size], &mut record)
-        }
+        Err(end) => rt.write_all(bytes::part(&out, 0, end)),
+        Ok(begun) => input::cycles(
+            rt,
+            &image[0..begun.image],
+            &mut store[0..begun.store],
+            &mut record,
+        ),
     }
 }
 

@@ -9,7 +9,7 @@ use native.Mathlib.Omega.{arith}
 use borrow.Author.Tests.{eq-eqb, eqb-false, eqb-true, ne_eqb}
 use lib.Dec.{eqb}
 use lib.ListN.{drop, drop_of_length-le, get_or, length}
-use lib.Pow.{pow-add, pow_mono}
+use lib.Pow.{pow-add}
 use lib.Seq.{drop-cons}
 use Rattle.language.specs.Trace.{bits_number}
 
@@ -59,10 +59,6 @@ module _ (line : List ℕ) (at k x : ℕ) (some_left : 0 < k) where
           where
             by-test : (c : ℕ) → 48 ≤ c → c ≤ 49 → eqb c 48 ≡ false → c ≡ 49
             by-test c l m f = let n : c ≡ 48 → ⊥ = eqb-false c 48 f in omega arith
-
--- A number of fewer than eight bits has room for one more in a byte.
-pub few_bits : {k x : ℕ} → k < 8 → x < 2 ^ k → x * 2 + 1 < 256
-few_bits {k} {x} l h = let m : 2 ^ k ≤ 2 ^ 7 = pow_mono {i = k} {j = 7} (omega arith) in omega (arith, h, m)
 
 pub more-bits : (k : ℕ) {x b : ℕ} → x < 2 ^ k → b ≤ 1 → x * 2 + b < 2 ^ (k + 1)
 more-bits k {x} {b} h l = rw (pow-add 2 k 1) (omega arith)

@@ -20,7 +20,7 @@ use Rattle.store_layout.specs.Layout.{with_word}
 use Rattle.run_begin.proofs.SizeLaws.{input-stored, stored_bytes}
 use Rattle.run_begin.proofs.StimulusLaws.{facility-here}
 use Rattle.trace_input.specs.Stimulus.{Words', Worded, bytes_for, input_bits, line_bytes, took, took_meant}
-use Rattle.trace_input.specs.declared.stimulus.Taken.TheVariants as T
+use Rattle.std.specs.Prelude.{None, Some}
 
 -- ---- Bytes in front of those that a line gives.
 
@@ -210,7 +210,7 @@ module _ {d : Description} {line B C : List ℕ} {at place n : ℕ} (p : Laid d 
     last = p.same ∙ ap (λ (gs : List Facility). before p.front (line_bytes (inputs_of gs) (drop at line))) (drop_of_length-le d.facilities h)
 
     -- The line ends where its last word does.
-    pub laid-all : at ≡ length line → took_meant (T.Bytes place) C ≡ took (line_bytes (inputs_of d.facilities) line) B
+    pub laid-all : at ≡ length line → took_meant (Some place) C ≡ took (line_bytes (inputs_of d.facilities) line) B
     unfolding line_bytes line_words to_bytes
     laid-all q =
         let z : drop at line ≡ [] = drop_of_length-le line {i = at} (omega arith) in
@@ -222,5 +222,5 @@ module _ {d : Description} {line B C : List ℕ} {at place n : ℕ} (p : Laid d 
     unfolding line_bytes line_words
     laid-over q = last ∙ ap (λ (bs : List ℕ). before p.front (line_bytes [] bs)) (drop-cons line at 0 q)
 
-pub took-none : (B : List ℕ) (n : ℕ) {o : Option (List ℕ)} → n ≡ length B → o ≡ none → took_meant T.None (replicate n 0) ≡ took o B
-took-none B n e h = sym (ap (λ (o : Option (List ℕ)). took o B) h ∙ ap (λ (m : ℕ). took_meant T.None (zeroes m)) (sym e))
+pub took-none : (B : List ℕ) (n : ℕ) {o : Option (List ℕ)} → n ≡ length B → o ≡ none → took_meant None (replicate n 0) ≡ took o B
+took-none B n e h = sym (ap (λ (o : Option (List ℕ)). took o B) h ∙ ap (λ (m : ℕ). took_meant None (zeroes m)) (sym e))

@@ -1,5 +1,6 @@
 -- A line of input bits as the bytes of a stimulus.
-use Rattle.std.specs.Prelude.{Bool, true, false, cond, List, ◌≡◌, ℕ, ◌+◌, ◌≤◌, drop, length}
+use Rattle.std.specs.Prelude as Code
+use Rattle.std.specs.Prelude.{Bool, true, false, cond, List, None, Some, ◌≡◌, ℕ, ◌+◌, ◌≤◌, drop, length}
 use Rattle.std.proofs.Math.Option.{Option, none, some}
 use Rattle.language.specs.Calls.{over}
 use Rattle.language.specs.Description.{Facility, word_length}
@@ -8,14 +9,10 @@ use Rattle.language.specs.Reading.{zeroes}
 use Rattle.language.specs.Store.{StoreWords, is_input, to_bytes}
 use Rattle.language.specs.Trace.{bits_number, line_words}
 use Rattle.store_layout.specs.Layout.{with_word}
-use Rattle.trace_input.specs.declared.stimulus.Octet.{Octet}
-use Rattle.trace_input.specs.declared.stimulus.Octet.TheVariants as O
-use Rattle.trace_input.specs.declared.stimulus.Taken.{Taken}
-use Rattle.trace_input.specs.declared.stimulus.Taken.TheVariants as T
 
-abbrev pub octet_meant : Octet → Option ℕ
-octet_meant (O.Bits b) = some b
-octet_meant O.None = none
+abbrev pub octet_meant : Code.Option ℕ → Option ℕ
+octet_meant (Some b) = some b
+octet_meant None = none
 
 -- How many bits a line has for a facility.
 unfoldable pub input_bits : Facility → ℕ
@@ -52,6 +49,6 @@ abbrev pub took : Option (List ℕ) → List ℕ → Took
 took none B = record { count = none; bytes = zeroes (length B) }
 took (some t) B = record { count = some (length t); bytes = over t B }
 
-abbrev pub took_meant : Taken → List ℕ → Took
-took_meant (T.Bytes n) C = record { count = some n; bytes = C }
-took_meant T.None C = record { count = none; bytes = C }
+abbrev pub took_meant : Code.Option ℕ → List ℕ → Took
+took_meant (Some n) C = record { count = some n; bytes = C }
+took_meant None C = record { count = none; bytes = C }

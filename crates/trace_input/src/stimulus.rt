@@ -16,43 +16,20 @@ use run_references::bounds;
 use store_geometry::shapes;
 use store_words::slices;
 
-#[derive(Clone, Copy)]
-enum Octet {
-    Bits(u8),
-    None,
-}
-
-#[derive(Clone, Copy)]
-pub enum Taken {
-    // How many bytes the stimulus has.
-    Bytes(usize),
-    None,
-}
-
 // Up to eight bits of a line, the first one the most significant.
-fn octet_at(line: &[u8], at: usize, count: usize) -> Octet
+fn octet_at(line: &[u8], at: usize, count: usize) -> Option<u8>
     requires { (at ≤ size line.now) × (count ≤ 8) }
     ensures { octet_meant result ≡ bits_number count 0 (drop at line.now) }
 {
     let mut number: u8 = 0;
-    let mut place = at;
-    let mut left = count;
-    while 0 < left {
-        if line.len() <= place {
-            return Octet::None;
-        }
-        let b = line[place];
-        if b < b'0' {
-            return Octet::None;
-        }
-        if b'1' < b {
-            return Octet::None;
+    for place in at..at + count {
+        let b = *line.get(place)?;
+        if b < b'0' || b'1' < b {
+            return None;
         }
         number = number * 2 + (b - b'0');
-        place += 1;
-        left -= 1;
     }
-    Octet::Bits(number)
+    Some(number)
 }
 
 // A word from the bits of a line, put into the stimulus byte by byte; the first byte may have fewer bits.
@@ -60,17 +37,16 @@ fn word(line: &[u8], at: usize, length: u32, stimulus: &mut [u8], place: usize) 
     requires { (at ≤ size line.now) × (place ≤ size stimulus.old) }
     ensures { Worded length line.now at stimulus.old place result stimulus.new }
 {
-    let mut rest = shapes::word_bytes(length as u64);
-    if stimulus.len() - place < rest {
+    let bytes = shapes::word_bytes(length as u64);
+    if stimulus.len() - place < bytes {
         return false;
     }
     let mut left = length as usize;
     let mut from = at;
     let mut to = place;
-    while 0 < rest {
-        rest -= 1;
+    for rest in (0..bytes).rev() {
         let count = left - 8 * rest;
-        let Octet::Bits(b) = octet_at(line, from, count) else {
+        let Some(b) = octet_at(line, from, count) else {
             return false;
         };
         stimulus[to] = b;
@@ -85,34 +61,32 @@ fn word(line: &[u8], at: usize, length: u32, stimulus: &mut [u8], place: usize) 
 fn input_bits(f: FacilityRecord) -> u32
     ensures { (name : Name) → result ≡ input_bits (facility_meant name f) }
 {
-    let kind = f.kind;
-    if kinds::is_input(kind) {
-        return bounds::word_length(f);
+    if kinds::is_input(f.kind) {
+        bounds::word_length(f)
+    } else {
+        0
     }
-    0
 }
 
-// The bits of all input terminals in order of declaration, and nothing after them.
-pub fn stimulus_of(section: &[u8], line: &[u8], stimulus: &mut [u8]) -> Taken
+// The bits of all input terminals in order of declaration, and nothing after them: how many bytes the stimulus has.
+pub fn stimulus_of(section: &[u8], line: &[u8], stimulus: &mut [u8]) -> Option<usize>
     ensures { (d : Description) (E : List ℕ) → Describes d section.now E → stimulus_size d ≤ size stimulus.old → took_meant result stimulus.new ≡ took (line_bytes (inputs_of d.facilities) line.now) stimulus.old }
 {
     let count = section.len() / record_sizes::FACILITY;
-    let mut n: usize = 0;
     let mut at: usize = 0;
     let mut place: usize = 0;
-    while n < count {
+    for n in 0..count {
         let length = input_bits(facilities::facility_at(section, n));
         if !word(line, at, length, stimulus, place) {
             slices::zero(stimulus);
-            return Taken::None;
+            return None;
         }
         at += length as usize;
         place += shapes::word_bytes(length as u64);
-        n += 1;
     }
     if at == line.len() {
-        return Taken::Bytes(place);
+        return Some(place);
     }
     slices::zero(stimulus);
-    Taken::None
+    None
 }

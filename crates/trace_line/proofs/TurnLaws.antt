@@ -1,4 +1,5 @@
 -- A cycle's text by its answer. Assumes nothing.
+use Rattle.std.specs.Prelude.{Err, Ok, Result}
 use mathlib.Core.Bool.{true, false}
 use mathlib.Core.List.{List, ◌++◌, append-nil}
 use mathlib.Core.Path.{◌≡◌, sym, ap, ◌∙◌}
@@ -14,8 +15,8 @@ use Rattle.language.specs.Scan.{bytes}
 use Rattle.language.specs.Stops.{stop_number}
 use Rattle.language.specs.Trace.{after_call, cycle_line, decimal, line_end, refused_line, stop_line}
 use Rattle.call_answers.specs.Cycle.{call}
-use Rattle.call_answers.specs.declared.cycled.CycleReply.{CycleReply}
-use Rattle.call_answers.specs.declared.cycled.CycleReply.TheVariants as A
+use Rattle.call_answers.specs.declared.cycled.Halt.{Halt}
+use Rattle.call_answers.specs.declared.cycled.Halt.TheVariants as A
 use Rattle.language.specs.declared.refusals.Refusal.{Refusal}
 use Rattle.language.specs.declared.stops.Stop.{Stop}
 use Rattle.trace_output.proofs.AddsLaws.{adds-as}
@@ -46,28 +47,28 @@ module _ (d : Description) (state : ℕ) where
 abbrev after : List ℕ → ℕ → List ℕ → (List ℕ → List ℕ → List ℕ) → CycleCall → List ℕ
 after image number R rest c = after_call image (decode image) number (record_from R).state rest c
 
-module _ {image : List ℕ} {number : ℕ} {R : List ℕ} {c : CycleCall} {S' R' B : List ℕ} {at : ℕ} {C : List ℕ} {end : ℕ} (a : CycleReply) (scratch : List ℕ) (is : call a S' R' scratch ≡ c) where
-  pub carried_on : number < 2 ^ 64 → (n : ℕ) → a ≡ A.Cycled n → (state : ℕ) → state ≡ number_at 4 4 R → Adds (cycle_line (decode image) number state S') B at C end → Carried image number R c true S' R' B at C end
+module _ {image : List ℕ} {number : ℕ} {R : List ℕ} {c : CycleCall} {S' R' B : List ℕ} {at : ℕ} {C : List ℕ} {end : ℕ} (a : Result ℕ Halt) (scratch : List ℕ) (is : call a S' R' scratch ≡ c) where
+  pub carried_on : number < 2 ^ 64 → (n : ℕ) → a ≡ Ok n → (state : ℕ) → state ≡ number_at 4 4 R → Adds (cycle_line (decode image) number state S') B at C end → Carried image number R c true S' R' B at C end
   unfolding record_from
   carried_on h n e state q x = record {
     text = cycle_line (decode image) number (record_from R).state S';
     adds = adds-as x (ap (λ (s : ℕ). cycle_line (decode image) number s S') q);
     short = short-cycle (decode image) (record_from R).state number S' h;
-    same = λ rest. ap (after image number R rest) (sym is ∙ ap (λ (b : CycleReply). call b S' R' scratch) e);
+    same = λ rest. ap (after image number R rest) (sym is ∙ ap (λ (b : Result ℕ Halt). call b S' R' scratch) e);
   }
 
-  pub carried-stop : (n : Stop) → stop_number n < 2 ^ 64 → a ≡ A.Stopped n → Adds (stop_line n) B at C end → Carried image number R c false S' R' B at C end
+  pub carried-stop : (n : Stop) → stop_number n < 2 ^ 64 → a ≡ Err (A.Stopped n) → Adds (stop_line n) B at C end → Carried image number R c false S' R' B at C end
   carried-stop n h e x = record {
     text = stop_line n;
     adds = x;
     short = short-stop (decode image) (record_from R).state n h;
-    same = λ rest. ap (after image number R rest) (sym is ∙ ap (λ (b : CycleReply). call b S' R' scratch) e) ∙ sym (append-nil (stop_line n));
+    same = λ rest. ap (after image number R rest) (sym is ∙ ap (λ (b : Result ℕ Halt). call b S' R' scratch) e) ∙ sym (append-nil (stop_line n));
   }
 
-  pub carried-refused : (n : Refusal) → refusal_number n < 2 ^ 64 → a ≡ A.Refused n → Adds (refused_line n) B at C end → Carried image number R c false S' R' B at C end
+  pub carried-refused : (n : Refusal) → refusal_number n < 2 ^ 64 → a ≡ Err (A.Refused n) → Adds (refused_line n) B at C end → Carried image number R c false S' R' B at C end
   carried-refused n h e x = record {
     text = refused_line n;
     adds = x;
     short = short-refused (decode image) (record_from R).state n h;
-    same = λ rest. ap (after image number R rest) (sym is ∙ ap (λ (b : CycleReply). call b S' R' scratch) e) ∙ sym (append-nil (refused_line n));
+    same = λ rest. ap (after image number R rest) (sym is ∙ ap (λ (b : Result ℕ Halt). call b S' R' scratch) e) ∙ sym (append-nil (refused_line n));
   }

@@ -10,17 +10,16 @@ ghost use Rattle.call_answers.specs.Cycle.{call};
 ghost use Rattle.trace_output.specs.Adds.{Adds};
 ghost use Rattle.trace_line.specs.Turns.{Carried};
 
-use call_answers::cycled::CycleReply;
+use call_answers::cycled::Halt;
 use image_lookups::named;
 use image_sections::sections;
-use language::refusals::{Refusal, refusal_number};
-use language::stops::stop_number;
+use language::refusals::Refusal;
 use trace_output::line;
 
 // Room for all that is printed of a line of input, and for the line that ends a run after it, whatever image passes.
 pub const PRINTED: usize = 200000;
 
-// Whether the run goes on, and where the output ends.
+// Whether the run goes on, and where the output ends, which it does either way: so the flag stands beside it.
 #[derive(Clone, Copy)]
 pub struct Turn {
     pub on: bool,
@@ -41,7 +40,7 @@ fn shown(image: &[u8], state: u32, number: u64, store: &[u8], out: &mut [u8], at
 // A cycle from a record R in this state, which came to this answer and left this store.
 pub fn told(
     image: &[u8],
-    answer: CycleReply,
+    answer: Result<u32, Halt>,
     state: u32,
     number: u64,
     store: &[u8],
@@ -52,17 +51,17 @@ pub fn told(
     ensures { (R R' scratch : List ℕ) (c : CycleCall) → state ≡ number_at 4 4 R → call answer store.now R' scratch ≡ c → Carried image.now number R c result.on store.now R' out.old at out.new result.end }
 {
     match answer {
-        CycleReply::Cycled(_) => Turn {
+        Ok(_) => Turn {
             on: true,
             end: shown(image, state, number, store, out, at),
         },
-        CycleReply::Stopped(n) => Turn {
+        Err(Halt::Stopped(n)) => Turn {
             on: false,
-            end: line::numbered(out, at, b"stop ", stop_number(n) as u64),
+            end: line::numbered(out, at, b"stop ", u8::from(n) as u64),
         },
-        CycleReply::Refused(n) => Turn {
+        Err(Halt::Refused(n)) => Turn {
             on: false,
-            end: line::numbered(out, at, b"refused ", refusal_number(n) as u64),
+            end: line::numbered(out, at, b"refused ", u8::from(n) as u64),
         },
     }
 }
@@ -73,11 +72,6 @@ pub fn not_taken(out: &mut [u8], at: usize) -> Turn
 {
     Turn {
         on: false,
-        end: line::numbered(
-            out,
-            at,
-            b"refused ",
-            refusal_number(Refusal::BadStimulus) as u64,
-        ),
+        end: line::numbered(out, at, b"refused ", u8::from(Refusal::BadStimulus) as u64),
     }
 }

@@ -20,31 +20,26 @@ pub fn push(out: &mut [u8], at: usize, b: u8) -> usize
 pub fn append(out: &mut [u8], at: usize, bytes: &[u8]) -> usize
     ensures { Adds bytes.now out.old at out.new result }
 {
-    let mut place = at;
-    let mut i: usize = 0;
-    while i < bytes.len() {
-        place = push(out, place, bytes[i]);
-        i += 1;
+    let mut end = at;
+    for b in bytes {
+        end = push(out, end, *b);
     }
-    place
+    end
 }
 
 // The digits of a number, at the end of the buffer: where they begin.
 fn digits(last: &mut [u8; 20], n: u64) -> usize
     ensures { (result ≤ 20) × (length last.new ≡ 20) × (drop result last.new ≡ in_decimal n) }
 {
-    let s: &mut [u8] = last;
-    let mut at: usize = 20;
     let mut left = n;
-    while 0 < at {
-        at -= 1;
-        s[at] = (left % 10) as u8 + 48;
-        left = left / 10;
+    for at in (0..20).rev() {
+        last[at] = (left % 10) as u8 + b'0';
+        left /= 10;
         if left == 0 {
             return at;
         }
     }
-    at
+    0
 }
 
 // A number in decimal.

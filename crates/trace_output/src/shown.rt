@@ -28,7 +28,7 @@ fn bit(store: &[u8], place: usize, length: u32, k: u32) -> u8
 {
     let v = parts::load(store, place, length, k, 1);
     let b = numbers::low64(v) as u8;
-    b + 48
+    b + b'0'
 }
 
 // The bits of a word, the most significant first.
@@ -37,10 +37,8 @@ pub fn bits(out: &mut [u8], at: usize, store: &[u8], place: usize, length: u32) 
     ensures { Adds (T.bits length (word_in store.now place length)) out.old at out.new result }
 {
     let mut end = at;
-    let mut k: u32 = 0;
-    while k < length {
+    for k in 0..length {
         end = out::push(out, end, bit(store, place, length, k));
-        k += 1;
     }
     end
 }
@@ -60,11 +58,7 @@ fn word(out: &mut [u8], at: usize, f: FacilityRecord, store: &[u8]) -> usize
 fn facility(out: &mut [u8], at: usize, f: FacilityRecord, name: &[u8], store: &[u8]) -> usize
     ensures { (size out.new ≡ size out.old) × ((T.shown (facility_meant name.now f) ≡ true → HasWord (facility_meant name.now f) f.place store.now) → Adds (facility_text (facility_meant name.now f) f.place store.now) out.old at out.new result) }
 {
-    let kind = f.kind;
-    if kinds::is_computed(kind) {
-        return at;
-    }
-    if 1 < f.dimensions {
+    if kinds::is_computed(f.kind) || 1 < f.dimensions {
         return at;
     }
     let mut end = out::push(out, at, b' ');
@@ -87,13 +81,11 @@ pub fn facilities_line(
     let count = section.len() / record_sizes::FACILITY;
     let mut end = at;
     let mut offset: usize = 0;
-    let mut n: usize = 0;
-    while n < count {
+    for n in 0..count {
         let f = facilities::facility_at(section, n);
         let length = f.name as usize;
         end = facility(out, end, f, bytes::part(names, offset, length), store);
         offset += length;
-        n += 1;
     }
     end
 }

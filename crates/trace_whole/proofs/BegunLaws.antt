@@ -1,4 +1,5 @@
 -- A text that is read: legal and opened, or refused. Assumes nothing.
+use Rattle.std.specs.Prelude.{Err, Ok, Result}
 use Rattle.std.proofs.Common.{◌≡◌, ℕ, ◌-◌, ◌^◌, ◌<◌, ◌≤◌, Bool, true, false, cond, leb, List, [], ◌++◌, length, take, drop, sym, refl, ap, ◌∙◌, ap₂, append-nil, arith, length-append, length-take-le, take_at, le-leb}
 use lib.Seq.{take-append_seam}
 use Rattle.language.specs.Calls.{OpenCall, open'}
@@ -18,10 +19,8 @@ use Rattle.language.specs.Scan.{bytes}
 use Rattle.language.specs.Trace.{after_read, decimal, line_end, printed, run_lines, trace, trace_image}
 use Rattle.about_calls.specs.PassesExactly.{reads-pass}
 use Rattle.call_answers.specs.Reading.{called}
-use Rattle.call_answers.specs.declared.read.ReadReply.{ReadReply}
-use Rattle.call_answers.specs.declared.read.ReadReply.TheVariants as A
+use Rattle.call_answers.specs.declared.read.Refused.{Refused}
 use Rattle.call_answers.specs.Opening as Opening
-use Rattle.call_answers.specs.declared.opened.OpenReply as O
 use Rattle.run_soundness.proofs.PassedLaws.{passed-size}
 use Rattle.trace_line.specs.Turns.{Ready}
 use Rattle.trace_output.proofs.AddsLaws.{adds-as}
@@ -39,12 +38,12 @@ pub record Found (text : List ℕ) (n : ℕ) (I : List ℕ) : Type 0 where
   pub image : take n I ≡ encode description
   pub inside : n ≤ length I
 
-pub found : (text I : List ℕ) (a : ReadReply) (n room : ℕ) → a ≡ A.Accepted n → called a I ≡ R.read text room → Found text n I
+pub found : (text I : List ℕ) (a : Result ℕ Refused) (n room : ℕ) → a ≡ Ok n → called a I ≡ R.read text room → Found text n I
 unfolding R.read filled
-found text I a n room q e = go (read_text text) refl (ap (λ (b : ReadReply). called b I) (sym q) ∙ e)
+found text I a n room q e = go (read_text text) refl (ap (λ (b : Result ℕ Refused). called b I) (sym q) ∙ e)
   where
     fill : (d : Description) → read_text text ≡ legal d → (b : Bool) → leb (length (encode d)) room ≡ b
-        → called (A.Accepted n) I ≡ cond b (record { answer = R.accepted (length (encode d)); image = encode d ++ zeroes (room - length (encode d)) }) (read_refused room BufferTooShort 0) → Found text n I
+        → called (Ok n) I ≡ cond b (record { answer = R.accepted (length (encode d)); image = encode d ++ zeroes (room - length (encode d)) }) (read_refused room BufferTooShort 0) → Found text n I
     fill d t true l f =
         let a : R.accepted n ≡ R.accepted (length (encode d)) = ap (λ (c : ReadCall). c.answer) f in
         let k : n ≡ length (encode d) = cc in
@@ -57,7 +56,7 @@ found text I a n room q e = go (read_text text) refl (ap (λ (b : ReadReply). ca
         }
     fill d t false l f = let a : R.accepted n ≡ R.refused_for BufferTooShort 0 = ap (λ (c : ReadCall). c.answer) f in absurd (let z : ◌≡◌ {A = ℕ} 0 1 = cc in omega arith)
 
-    go : (x : Read) → read_text text ≡ x → called (A.Accepted n) I ≡ read_call room x → Found text n I
+    go : (x : Read) → read_text text ≡ x → called (Ok n) I ≡ read_call room x → Found text n I
     go (legal d) t f = fill d t (leb (length (encode d)) room) refl f
     go (refused_at g) t f = let a : R.accepted n ≡ R.refused_for g.refusal g.at.place = ap (λ (c : ReadCall). c.answer) f in absurd (let z : ◌≡◌ {A = ℕ} 0 1 = cc in omega arith)
 
@@ -104,7 +103,7 @@ module _ {text : List ℕ} {n size space : ℕ} {I S R : List ℕ} (r : Runs tex
       record { long = b.long ∙ h; roomy = λ k. let d = b.roomy (omega (arith, k, h)) in record { place = d.place; text = d.text } }
 
 -- The first bytes of a buffer B, which opening left as X.
-module _ (image : List ℕ) (passed : passes image ≡ true) (B X : List ℕ) (a : O.OpenReply) {size kept : ℕ} {K : List ℕ} where
+module _ (image : List ℕ) (passed : passes image ≡ true) (B X : List ℕ) (a : Result (Unit {0}) Refusal) {size kept : ℕ} {K : List ℕ} where
   pub opened-is : 16384 ≤ length B → size ≡ store_size (decode image) → length X ≡ length (take (size - 0) B) → Opening.called a X K ≡ open' image (length (take (size - 0) B)) kept
       → Opened image kept size (length B) (X ++ drop (size - 0) B) K
   unfolding store_size
@@ -125,19 +124,19 @@ unfolding bytes
 refused-short n place h k =
     omega (arith, length-append (bytes "refused ") (decimal n ++ (bytes " " ++ (decimal place ++ line_end))), length-append (decimal n) (bytes " " ++ (decimal place ++ line_end)), length-append (bytes " ") (decimal place ++ line_end), length-append (decimal place) line_end, decimal-short n h, decimal-short place k)
 
-pub refuses : (text I : List ℕ) (a : ReadReply) (n : Refusal) (place room : ℕ) {B C : List ℕ} {end : ℕ} → refusal_number n < 2 ^ 64 → place < 2 ^ 64 → a ≡ A.Refused n place → called a I ≡ R.read text room → Adds (refused_text (refusal_number n) place) B 0 C end
+pub refuses : (text I : List ℕ) (a : Result ℕ Refused) (n : Refusal) (place room : ℕ) {B C : List ℕ} {end : ℕ} → refusal_number n < 2 ^ 64 → place < 2 ^ 64 → a ≡ Err (record { refusal = n; place = place }) → called a I ≡ R.read text room → Adds (refused_text (refusal_number n) place) B 0 C end
     → ((d : Description) → read_text text ≡ legal d → length (encode d) ≤ room) → Refuses text B C end
 unfolding R.read filled trace
 refuses text I a n place room {B} {C} {end} v w q e x h =
-    record { out = refused_text (refusal_number n) place; adds = x; short = refused-short (refusal_number n) place v w; same = λ lines. go lines (read_text text) refl (ap (λ (b : ReadReply). called b I) (sym q) ∙ e) }
+    record { out = refused_text (refusal_number n) place; adds = x; short = refused-short (refusal_number n) place v w; same = λ lines. go lines (read_text text) refl (ap (λ (b : Result ℕ Refused). called b I) (sym q) ∙ e) }
   where
-    no_room : (d : Description) → read_text text ≡ legal d → called (A.Refused n place) I ≡ with_room room (encode d) → ⊥
+    no_room : (d : Description) → read_text text ≡ legal d → called (Err (record { refusal = n; place = place })) I ≡ with_room room (encode d) → ⊥
     no_room d t f =
-        let g : called (A.Refused n place) I ≡ record { answer = R.accepted (length (encode d)); image = encode d ++ zeroes (room - length (encode d)) } = rw (le-leb (length (encode d)) room (h d t)) at f in
+        let g : called (Err (record { refusal = n; place = place })) I ≡ record { answer = R.accepted (length (encode d)); image = encode d ++ zeroes (room - length (encode d)) } = rw (le-leb (length (encode d)) room (h d t)) at f in
         let a : R.refused_for n place ≡ R.accepted (length (encode d)) = ap (λ (c : ReadCall). c.answer) g in
         let z : ◌≡◌ {A = ℕ} 0 1 = cc in omega arith
 
-    go : (lines : List (List ℕ)) (y : Read) → read_text text ≡ y → called (A.Refused n place) I ≡ read_call room y → after_read lines y ≡ refused_text (refusal_number n) place
+    go : (lines : List (List ℕ)) (y : Read) → read_text text ≡ y → called (Err (record { refusal = n; place = place })) I ≡ read_call room y → after_read lines y ≡ refused_text (refusal_number n) place
     go lines (legal d) t f = absurd (no_room d t f)
     go lines (refused_at g) t f =
         let a : R.refused_for n place ≡ R.refused_for g.refusal g.at.place = ap (λ (c : ReadCall). c.answer) f in

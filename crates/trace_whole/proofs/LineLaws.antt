@@ -1,4 +1,6 @@
 -- A line's text by what it is taken for. Assumes nothing.
+use Rattle.std.specs.Prelude as Code
+use Rattle.std.specs.Prelude.{None, Some}
 use Rattle.std.proofs.Common.{◌≡◌, ℕ, ◌+◌, ◌-◌, ◌*◌, ◌≤◌, Bool, true, false, cond, List, [], ◌∷◌, length, take, drop, replicate, sym, refl, ap, ◌∙◌, ap₂, append-nil, arith, length-take-le, take_at}
 use mathlib.Core.Option.{Option, none, some}
 use lib.ListN.{length-replicate}
@@ -15,8 +17,6 @@ use Rattle.language.specs.Trace.{after_call, line_words, refused_line, run_lines
 use Rattle.run_soundness.proofs.PassedLaws.{passed-size}
 use Rattle.trace_output.specs.Adds.{Adds}
 use Rattle.trace_input.specs.Stimulus.{Took, bytes_for, line_bytes, took, took_meant}
-use Rattle.trace_input.specs.declared.stimulus.Taken.{Taken}
-use Rattle.trace_input.specs.declared.stimulus.Taken.TheVariants as T
 use Rattle.trace_line.specs.Turns.{Carried, Turned}
 use Rattle.trace_line.proofs.TurnLaws.{short-refused}
 
@@ -40,7 +40,7 @@ module _ (image : List ℕ) (d : Description) (fs : List Facility) (line : List 
       go (some s) f = let z : to_bytes fs s ≡ t = cc in ap on (ap (λ (gs : List Facility). to_bytes gs s) (sym q) ∙ z)
 
 -- A buffer that holds a stimulus in front.
-front_of : (o : Option (List ℕ)) (B C : List ℕ) (n : ℕ) → took_meant (T.Bytes n) C ≡ took o B → o ≡ some (take n C)
+front_of : (o : Option (List ℕ)) (B C : List ℕ) (n : ℕ) → took_meant (Some n) C ≡ took o B → o ≡ some (take n C)
 front_of none B C n e = let f : some n ≡ none = ap (λ (t : Took). t.count) e in absurd (let z : ◌≡◌ {A = ℕ} 0 1 = cc in omega arith)
 front_of (some t) B C n e =
     let c : C ≡ over t B = ap (λ (u : Took). u.bytes) e in
@@ -48,7 +48,7 @@ front_of (some t) B C n e =
     let k : n ≡ length t = cc in
     ap some (sym (ap (take n) c ∙ take_at t (drop (length t) B) n (sym k)))
 
-took-nothing : (o : Option (List ℕ)) (B C : List ℕ) → took_meant T.None C ≡ took o B → o ≡ none
+took-nothing : (o : Option (List ℕ)) (B C : List ℕ) → took_meant None C ≡ took o B → o ≡ none
 took-nothing none B C e = refl
 took-nothing (some t) B C e = let f : none ≡ some (length t) = ap (λ (u : Took). u.count) e in absurd (let z : ◌≡◌ {A = ℕ} 0 1 = cc in omega arith)
 
@@ -56,16 +56,16 @@ abbrev inputs : List ℕ → List Facility
 inputs image = inputs_of (decode image).facilities
 
 module _ {image line : List ℕ} {number : ℕ} {S R S' R' B : List ℕ} {at : ℕ} {C : List ℕ} {end : ℕ} (P P' : List ℕ) where
-  pub turned_none : {on : Bool} (t : Taken) → t ≡ T.None → took_meant t P' ≡ took (line_bytes (inputs image) line) P → on ≡ false → Adds (refused_line BadStimulus) B at C end → Turned image line number S R on S' R' B at C end
+  pub turned_none : {on : Bool} (t : Code.Option ℕ) → t ≡ None → took_meant t P' ≡ took (line_bytes (inputs image) line) P → on ≡ false → Adds (refused_line BadStimulus) B at C end → Turned image line number S R on S' R' B at C end
   unfolding run_lines
   turned_none t q e off x = record {
     text = refused_line BadStimulus;
     adds = x;
     short = short-refused (decode image) (record_from R).state BadStimulus (omega arith);
-    same = λ done ls h. rw (off) (taken_none image (decode image) (inputs image) line _ (took-nothing (line_bytes (inputs image) line) P P' (ap (λ (u : Taken). took_meant u P') (sym q) ∙ e)) refl ∙ sym (append-nil (refused_line BadStimulus)));
+    same = λ done ls h. rw (off) (taken_none image (decode image) (inputs image) line _ (took-nothing (line_bytes (inputs image) line) P P' (ap (λ (u : Code.Option ℕ). took_meant u P') (sym q) ∙ e)) refl ∙ sym (append-nil (refused_line BadStimulus)));
   }
 
-  pub turned_taken : {on : Bool} (t : Taken) (n : ℕ) → t ≡ T.Bytes n → took_meant t P' ≡ took (line_bytes (inputs image) line) P → (scratch : ℕ) → scratch ≡ 4 * store_size (decode image) → (X : List ℕ) → X ≡ take n P'
+  pub turned_taken : {on : Bool} (t : Code.Option ℕ) (n : ℕ) → t ≡ Some n → took_meant t P' ≡ took (line_bytes (inputs image) line) P → (scratch : ℕ) → scratch ≡ 4 * store_size (decode image) → (X : List ℕ) → X ≡ take n P'
       → Carried image number R (L.cycle image S R X scratch) on S' R' B at C end → Turned image line number S R on S' R' B at C end
   unfolding run_lines
   turned_taken {on} t n q e scratch w X y x = record {
@@ -73,7 +73,7 @@ module _ {image line : List ℕ} {number : ℕ} {S R S' R' B : List ℕ} {at : �
     adds = x.adds;
     short = x.short;
     same = λ done ls h.
-        taken-some image (decode image) (inputs image) line _ (take n P') (front_of (line_bytes (inputs image) line) P P' n (ap (λ (u : Taken). took_meant u P') (sym q) ∙ e)) refl
+        taken-some image (decode image) (inputs image) line _ (take n P') (front_of (line_bytes (inputs image) line) P P' n (ap (λ (u : Code.Option ℕ). took_meant u P') (sym q) ∙ e)) refl
         ∙ (ap (λ (m : ℕ). after_call image (decode image) m (record_from R).state (run_lines image (decode image) ls m) (L.cycle image S R (take n P') (4 * store_size (decode image)))) (sym h)
         ∙ (ap₂ (λ (Y : List ℕ) (m : ℕ). after_call image (decode image) number (record_from R).state (run_lines image (decode image) ls number) (L.cycle image S R Y m)) (sym y) (sym w)
         ∙ x.same (run_lines image (decode image) ls number)));

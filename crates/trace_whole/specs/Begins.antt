@@ -1,5 +1,5 @@
 -- What a run begins with: the output of a refusal, or an image, a store and a record that its lines of input go on from (language, Trace).
-use Rattle.std.specs.Prelude.{◌≡◌, ℕ, ◌≤◌, true, List, length, take}
+use Rattle.std.specs.Prelude.{Err, Ok, Result, ◌≡◌, ℕ, ◌≤◌, true, List, length, take}
 use Rattle.language.specs.Calls.{open'}
 use Rattle.language.specs.Decode.{decode}
 use Rattle.language.specs.Image.{passes}
@@ -7,7 +7,6 @@ use Rattle.language.specs.Layout.{store_size}
 use Rattle.language.specs.Trace.{run_lines, trace}
 use Rattle.trace_output.specs.Adds.{Adds}
 use Rattle.trace_whole.specs.declared.begun.Begun.{Begun}
-use Rattle.trace_whole.specs.declared.begun.Begun.TheVariants as B
 
 -- An image that passes is opened in the first bytes of a store of `room` bytes.
 pub record Opened (image : List ℕ) (kept size room : ℕ) (S' R' : List ℕ) : Type 0 where
@@ -39,6 +38,6 @@ pub record Refuses (text B C : List ℕ) (end : ℕ) : Type 0 where
   pub short : length out ≤ refused_room
   pub same : (lines : List (List ℕ)) → trace text lines ≡ out
 
-abbrev pub Begins : List ℕ → ℕ → Begun → List ℕ → List ℕ → List ℕ → List ℕ → List ℕ → Type 0
-Begins text space (B.Runs n size) I S R B C = Runs text n size space I S R
-Begins text space (B.Refused end) I S R B C = Refuses text B C end
+abbrev pub Begins : List ℕ → ℕ → Result Begun ℕ → List ℕ → List ℕ → List ℕ → List ℕ → List ℕ → Type 0
+Begins text space (Ok b) I S R B C = Runs text b.image b.store space I S R
+Begins text space (Err end) I S R B C = Refuses text B C end

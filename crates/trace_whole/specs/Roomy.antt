@@ -1,5 +1,5 @@
 -- What is printed into a buffer that has room for all of it: the bytes before its end.
-use Rattle.std.specs.Prelude.{◌≡◌, ℕ, suc, ◌^◌, ◌<◌, List, ◌∷◌, ◌++◌, take}
+use Rattle.std.specs.Prelude.{Err, Ok, Result, ◌≡◌, ℕ, suc, ◌^◌, ◌<◌, List, ◌∷◌, ◌++◌, take}
 use Rattle.language.specs.Decode.{decode}
 use Rattle.language.specs.InputLines.{lines_of}
 use Rattle.language.specs.Trace.{run_lines, trace}
@@ -7,13 +7,12 @@ use Rattle.trace_input.specs.Lines.{Held}
 use Rattle.trace_line.specs.Turns.{goes_on}
 use Rattle.trace_whole.specs.Begins.{Runs}
 use Rattle.trace_whole.specs.declared.begun.Begun.{Begun}
-use Rattle.trace_whole.specs.declared.begun.Begun.TheVariants as B
 use Rattle.trace_whole.specs.declared.input.State.{State}
 
 -- A text: it runs, or its refusal is all that is printed.
-abbrev pub Prints : List ℕ → ℕ → Begun → List ℕ → List ℕ → List ℕ → List ℕ → Type 0
-Prints text space (B.Runs n size) I S R C = Runs text n size space I S R
-Prints text space (B.Refused end) I S R C = (lines : List (List ℕ)) → trace text lines ≡ take end C
+abbrev pub Prints : List ℕ → ℕ → Result Begun ℕ → List ℕ → List ℕ → List ℕ → List ℕ → Type 0
+Prints text space (Ok b) I S R C = Runs text b.image b.store space I S R
+Prints text space (Err end) I S R C = (lines : List (List ℕ)) → trace text lines ≡ take end C
 
 -- The byte b after the line l so far, after `done` cycles, with the store S and the record R.
 pub record Told (image l : List ℕ) (b done : ℕ) (S R : List ℕ) (r : State) (S' R' L C : List ℕ) : Type 0 where

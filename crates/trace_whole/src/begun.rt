@@ -4,9 +4,7 @@ ghost use Rattle.language.specs.Image.{passes};
 ghost use Rattle.language.specs.RecordBytes.{record_size};
 ghost use Rattle.trace_whole.specs.Begins.{Begins, Opened, image_room};
 
-use call_answers::read::ReadReply;
 use image_sections::sections;
-use language::refusals::refusal_number;
 use run_soundness::sizes;
 use trace_output::line;
 
@@ -15,12 +13,11 @@ pub const IMAGE: usize = 165556;
 
 pub const REFUSED: usize = 50;
 
+// How many bytes the image of a legal text and its store have.
 #[derive(Clone, Copy)]
-pub enum Begun {
-    // The bytes of the image and of the store.
-    Runs(usize, usize),
-    // Where the output ends.
-    Refused(usize),
+pub struct Begun {
+    pub image: usize,
+    pub store: usize,
 }
 
 // The store that an image has, and store and record at its first state.
@@ -29,31 +26,30 @@ fn opened(image: &[u8], store: &mut [u8], record: &mut [u8]) -> usize
     ensures { Opened image.now (length «record».old) result (length store.old) store.new «record».new }
 {
     let size = sizes::store_size(sections::section(image, sections::FACILITIES));
-    call_open::open::open(image, true, &mut store[0..size], record);
+    // The image passes, and its store has room.
+    let _ = call_open::open::open(image, true, &mut store[0..size], record);
     size
 }
 
-// A text that is legal is opened; of any other the refusal is added to an empty output.
+// A text that is legal is opened; of any other the refusal is added to an empty output, which ends where the error says.
 pub fn begin_run(
     text: &[u8],
     image: &mut [u8],
     store: &mut [u8],
     record: &mut [u8],
     out: &mut [u8],
-) -> Begun
+) -> Result<Begun, usize>
     requires { (image_room ≤ length image.old) × (16384 ≤ length store.old) × (length «record».old ≡ record_size) }
     ensures { Begins text.now (length store.old) result image.new store.new «record».new out.old out.new }
 {
     match call_read::read(text, image) {
-        ReadReply::Refused(n, place) => Begun::Refused(line::refusal(
-            out,
-            0,
-            refusal_number(n) as u64,
-            place as u64,
-        )),
-        ReadReply::Accepted(n) => {
+        Err(e) => Err(line::refusal(out, 0, u8::from(e.refusal) as u64, e.place as u64)),
+        Ok(n) => {
             let size = opened(&image[0..n], store, record);
-            Begun::Runs(n, size)
+            Ok(Begun {
+                image: n,
+                store: size,
+            })
         }
     }
 }

@@ -8,7 +8,7 @@ use crate::line;
 use trace_input::lines;
 use trace_output::line as printing;
 
-// The bytes held of the line so far, the cycles before it, whether the run goes on, and where the output ends.
+// The bytes held of the line so far, the cycles before it, whether the run goes on, and where the output ends, as of a turn.
 #[derive(Clone, Copy)]
 pub struct State {
     pub held: usize,
@@ -29,7 +29,7 @@ fn cycle(
     requires { Ready image.now store.old }
     ensures { (result.held ≡ 0) × (result.done ≡ (s.done + 1) % 2 ^ 64) × Turned image.now line.now result.done store.old «record».old result.on store.new «record».new out.old s.end out.new result.end }
 {
-    let number = std::num::wrapping_add_u64(s.done, 1);
+    let number = s.done.wrapping_add(1);
     let t = line::turned(image, store, record, line, number, out, s.end);
     State {
         held: 0,
@@ -52,16 +52,14 @@ pub fn byte(
     requires { (Ready image.now store.old) × (s.held ≤ length line.old) × (held_room ≤ length line.old) }
     ensures { (result.held ≤ length line.new) × ((l : List ℕ) → Held l line.old s.held → Fed image.now l b s store.old «record».old out.old result store.new «record».new line.new out.new) }
 {
-    let held = s.held;
     if b == b'\n' {
-        let whole = lines::without_return(&line[0..held]);
+        let whole = lines::without_return(&line[0..s.held]);
         return cycle(image, store, record, whole, s, out);
     }
     State {
-        held: lines::put(line, held, b),
-        done: s.done,
+        held: lines::put(line, s.held, b),
         on: true,
-        end: s.end,
+        ..s
     }
 }
 
@@ -77,11 +75,10 @@ pub fn finish(
     requires { (Ready image.now store.old) × (s.held ≤ length line.now) × (held_room ≤ length line.now) }
     ensures { (l : List ℕ) → Held l line.now s.held → Ended image.now l s store.old «record».old out.old out.new result }
 {
-    let held = s.held;
-    if held == 0 {
+    if s.held == 0 {
         return printing::numbered(out, s.end, b"end ", s.done);
     }
-    let last = cycle(image, store, record, &line[0..held], s, out);
+    let last = cycle(image, store, record, &line[0..s.held], s, out);
     if last.on {
         return printing::numbered(out, last.end, b"end ", last.done);
     }

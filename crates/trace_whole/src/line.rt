@@ -11,7 +11,6 @@ use image_records::{bytes, numbers};
 use image_sections::sections;
 use language::ceilings;
 use trace_input::stimulus;
-use trace_input::stimulus::Taken;
 use trace_line::told;
 use trace_line::told::Turn;
 
@@ -51,8 +50,8 @@ pub fn line_done(
 {
     let facilities = sections::section(image, sections::FACILITIES);
     match stimulus::stimulus_of(facilities, line, stimulus) {
-        Taken::None => told::not_taken(out, at),
-        Taken::Bytes(n) => {
+        None => told::not_taken(out, at),
+        Some(n) => {
             let taken = bytes::part(stimulus, 0, n);
             carried(image, store, record, scratch, taken, number, out, at)
         }

@@ -7,7 +7,6 @@ ghost use Rattle.trace_input.specs.Lines.{held_room};
 ghost use Rattle.trace_line.specs.Turns.{Ready};
 ghost use Rattle.trace_output.specs.Adds.{Adds};
 
-use crate::begun::Begun;
 use crate::input::State;
 use crate::{begun, input};
 use language::ceilings;
@@ -31,13 +30,11 @@ fn cycles(
         on: true,
         end: 0,
     };
-    let mut i: usize = 0;
-    while i < input.len() {
-        s = input::byte(image, store, record, line, s, input[i], out);
+    for b in input {
+        s = input::byte(image, store, record, line, s, *b, out);
         if !s.on {
             return s.end;
         }
-        i += 1;
     }
     input::finish(image, store, record, line, s, out)
 }
@@ -51,10 +48,10 @@ pub fn printed(text: &[u8], input: &[u8], out: &mut [u8]) -> usize
     let mut record = [0u8; ceilings::RECORD];
     let mut line = [0u8; lines::LINE];
     match begun::begin_run(text, &mut image, &mut store, &mut record, out) {
-        Begun::Refused(end) => end,
-        Begun::Runs(n, size) => cycles(
-            &image[0..n],
-            &mut store[0..size],
+        Err(end) => end,
+        Ok(begun) => cycles(
+            &image[0..begun.image],
+            &mut store[0..begun.store],
             &mut record,
             &mut line,
             input,

@@ -20,7 +20,7 @@ pub fn begin_run(
     store: &mut [u8],
     record: &mut [u8],
     out: &mut [u8],
-) -> Begun
+) -> Result<Begun, usize>
     requires { (image_room ≤ length image.old) × (16384 ≤ length store.old) × (length «record».old ≡ record_size) × (refused_room ≤ length out.old) }
     ensures { Prints text.now (length store.old) result image.new store.new «record».new out.new }
 {
@@ -40,12 +40,7 @@ pub fn byte(
     requires { (Ready image.now store.old) × (s.held ≤ length line.old) × (held_room ≤ length line.old) × (printed_room ≤ length out.old) }
     ensures { (result.held ≤ length line.new) × ((l : List ℕ) → Held l line.old s.held → Told image.now l b s.done store.old «record».old result store.new «record».new line.new out.new) }
 {
-    let first = State {
-        held: s.held,
-        done: s.done,
-        on: s.on,
-        end: 0,
-    };
+    let first = State { end: 0, ..s };
     input::byte(image, store, record, line, first, b, out)
 }
 
@@ -61,11 +56,6 @@ pub fn finish(
     requires { (Ready image.now store.old) × (s.held ≤ length line.now) × (held_room ≤ length line.now) × (printed_room ≤ length out.old) }
     ensures { (l : List ℕ) → Held l line.now s.held → s.done + length l < 2 ^ 64 → run_lines image.now (decode image.now) (lines_of l) s.done store.old «record».old ≡ take result out.new }
 {
-    let first = State {
-        held: s.held,
-        done: s.done,
-        on: s.on,
-        end: 0,
-    };
+    let first = State { end: 0, ..s };
     input::finish(image, store, record, line, first, out)
 }

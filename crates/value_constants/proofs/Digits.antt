@@ -4,13 +4,13 @@ use mathlib.Core.List.{List, [], ◌∷◌}
 use mathlib.Core.Path.{◌≡◌, refl, sym, ap, ap₂, ◌∙◌, subst}
 use mathlib.Core.Logic.{⊎_elim}
 use Prim.Native.Nat.{ℕ, zero, suc, ◌+◌, ◌-◌, ◌*◌, ◌/◌, ◌%◌, ◌^◌, ◌≤◌, ◌<◌, min}
-use native.Mathlib.Nat.{eq-zero-or-pos, div-eq_of_lt, le-div_iff_mul-le, one-mul, min-eq_left, min-eq_right, mod-eq_of_lt, le_of_lt, lt_of_lt_of_le, add-sub_of_le, add-mul, mul_assoc, mul-add-div_right, mul-div-mul_right, sub_self, sub-zero, add-zero, zero-add, add_assoc, add_comm, mul-zero, mul-suc}
+use native.Mathlib.Nat.{eq-zero-or-pos, div-eq_of_lt, min-eq_left, min-eq_right, mod-eq_of_lt, le_of_lt, lt_of_lt_of_le, add-sub_of_le, add-mul, mul_assoc, mul-add-div_right, mul-div-mul_right, sub_self, sub-zero, add-zero, zero-add, add_assoc, add_comm, mul-zero, mul-suc}
 use native.Mathlib.Omega.{arith}
 use lib.Arith.{digits_lt, lt-one}
-use lib.Dec.{leb, ltb}
+use lib.Dec.{leb}
 use lib.ListN.{length, get_or}
 use lib.Pow.{pow_mono, pow_pos, pow-add, shl_lt, shr_lt, shr-shr, shl-shr, high}
-use borrow.Author.Tests.{lt-ltb, lt-leb, le-leb}
+use borrow.Author.Tests.{lt-leb, le-leb}
 use Rattle.language.specs.Value.{fit, made, none, value}
 use Rattle.language.specs.Ceilings.{bare_largest, longest}
 use Rattle.language.specs.Constants.{digits_after, digits_number, left_justified, right_justified, binary_constant, decimal_constant, bare_constant, bare_length}
@@ -23,16 +23,6 @@ held_of e f = ap₂ (λ (n : ℕ) (b : Bool). record { low = n; passed = b }) e 
 
 pub written_of : {a b j k : ℕ} → a ≡ b → j ≡ k → ◌≡◌ {A = Written} (record { low = a; bits = j }) (record { low = b; bits = k })
 written_of e f = ap₂ (λ (n i : ℕ). record { low = n; bits = i }) e f
-
--- Something is carried out of M exactly where M is reached.
-pub carried : (M T : ℕ) → zero < M → ltb 0 (T / M) ≡ leb M T
-carried M T h = ⊎_elim (λ e. reached (omega arith)) (λ e. below (omega arith)) (eq-zero-or-pos (M - T))
-  where
-    reached : M ≤ T → ltb 0 (T / M) ≡ leb M T
-    reached l = lt-ltb 0 (T / M) ((le-div_iff_mul-le h).1 (rw (one-mul M) l)) ∙ sym (le-leb M T l)
-
-    below : T < M → ltb 0 (T / M) ≡ leb M T
-    below l = ap (ltb 0) (div-eq_of_lt l) ∙ sym (lt-leb M T l)
 
 pub byte-lt : {d : ℕ} → d < 2 ^ 8 → d < 2 ^ 256
 byte-lt h = lt_of_lt_of_le h (pow_mono {i = 8} {j = 256} (omega arith))

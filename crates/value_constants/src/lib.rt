@@ -10,9 +10,10 @@ ghost use Rattle.value_constants.specs.Digits.{held, holding, decimal_more, coun
 ghost use Rattle.value_constants.specs.Doubling.{adding};
 
 use language::ceilings;
-use value_operators::{Made, fitting, lengths};
+use value_operators::{Value, fitting, lengths};
 
-// Decimal digits: their number modulo 2 to the 256, and whether it passed that.
+// Decimal digits: their number modulo 2 to the 256, and whether it passed that. Each tells something by itself: a constant
+// of a given length is its low bits, also of a number that passed, so that no `Option` stands for both.
 #[derive(Clone, Copy)]
 pub struct Decimal {
     pub limbs: [u64; 4],
@@ -36,7 +37,7 @@ pub fn no_decimal() -> Decimal
     ensures { held result ≡ holding 0 }
 {
     Decimal {
-        limbs: [0u64; 4],
+        limbs: [0; 4],
         passed: false,
     }
 }
@@ -45,11 +46,10 @@ pub fn no_decimal() -> Decimal
 fn added(x: [u64; 4], y: [u64; 4], passed: bool) -> Decimal
     ensures { held result ≡ adding (number x) (number y) passed }
 {
-    let s = value_limbs::sums::sum(x, y);
-    let limbs = s.limbs;
+    let (limbs, carry) = value_limbs::sums::sum(x, y);
     Decimal {
         limbs,
-        passed: passed || 0 < s.carry,
+        passed: passed || carry,
     }
 }
 
@@ -57,16 +57,11 @@ fn added(x: [u64; 4], y: [u64; 4], passed: bool) -> Decimal
 pub fn decimal_digit(x: Decimal, d: u8) -> Decimal
     ensures { held result ≡ decimal_more (held x) d }
 {
-    let once = x.limbs;
-    let a = added(once, once, x.passed);
-    let twice = a.limbs;
-    let b = added(twice, twice, a.passed);
-    let four = b.limbs;
-    let c = added(four, once, b.passed);
-    let five = c.limbs;
-    let e = added(five, five, c.passed);
-    let ten = e.limbs;
-    added(ten, value_limbs::small(d as u64), e.passed)
+    let twice = added(x.limbs, x.limbs, x.passed);
+    let four = added(twice.limbs, twice.limbs, twice.passed);
+    let five = added(four.limbs, x.limbs, four.passed);
+    let ten = added(five.limbs, five.limbs, five.passed);
+    added(ten.limbs, value_limbs::small(d as u64), ten.passed)
 }
 
 // The number of a length or a bare constant, where anything larger is 65,536.
@@ -76,33 +71,29 @@ pub fn counted(x: Decimal) -> u32
     if x.passed {
         return BARE_PAST;
     }
-    let a = x.limbs;
-    if value_limbs::sums::less(a, value_limbs::small(BARE_PAST as u64)) {
-        let l = value_limbs::taken(a);
-        l.l0 as u32
+    if value_limbs::sums::less(x.limbs, value_limbs::small(BARE_PAST as u64)) {
+        x.limbs[0] as u32
     } else {
         BARE_PAST
     }
 }
 
 // The decimal constant of that length.
-pub fn decimal_constant(x: Decimal, length: u16) -> Made
+pub fn decimal_constant(x: Decimal, length: u16) -> Option<Value>
     ensures { Means result (L.fit length (number x.limbs)) }
 {
-    let a = x.limbs;
-    fitting::fit(length as u32, a)
+    fitting::fit(length as u32, x.limbs)
 }
 
 // The bare constant, where it is not too large.
-pub fn bare_constant(x: Decimal) -> Made
+pub fn bare_constant(x: Decimal) -> Option<Value>
     ensures { Means result (bare (held x)) }
 {
     let n = counted(x);
-    if n <= BARE_LARGEST {
-        fitting::fit(lengths::bare_length(), value_limbs::small(n as u64))
-    } else {
-        fitting::none()
+    if BARE_LARGEST < n {
+        return None;
     }
+    fitting::fit(lengths::bare_length(), value_limbs::small(n as u64))
 }
 
 // No digit of a binary base yet.
@@ -110,7 +101,7 @@ pub fn no_digit() -> Binary
     ensures { written result ≡ on_right 0 0 }
 {
     Binary {
-        limbs: [0u64; 4],
+        limbs: [0; 4],
         bits: 0,
     }
 }
@@ -119,18 +110,15 @@ pub fn no_digit() -> Binary
 fn more_bits(bits: u16, k: u16) -> u16
     ensures { result ≡ min (bits + k) 256 }
 {
-    let n = bits as u32 + k as u32;
-    if n < lengths::LONGEST { n as u16 } else { 256 }
+    (bits as u32 + k as u32).min(256) as u16
 }
 
 // One digit of k bits more, right-justified.
 pub fn right_digit(x: Binary, k: u16, d: u8) -> Binary
     ensures { written result ≡ right_more (written x) k d }
 {
-    let a = x.limbs;
-    let limbs = value_limbs::shifts::joined(a, k as u32, value_limbs::small(d as u64));
     Binary {
-        limbs,
+        limbs: value_limbs::shifts::joined(x.limbs, k as u32, value_limbs::small(d as u64)),
         bits: more_bits(x.bits, k),
     }
 }
@@ -139,11 +127,11 @@ pub fn right_digit(x: Binary, k: u16, d: u8) -> Binary
 fn placed(room: u32, k: u32, d: u8) -> [u64; 4]
     ensures { number result ≡ (left_justified room k d).number % 2 ^ 256 }
 {
-    let a = value_limbs::small(d as u64);
+    let digit = value_limbs::small(d as u64);
     if k <= room {
-        value_limbs::shifts::left(a, room - k)
+        value_limbs::shifts::left(digit, room - k)
     } else {
-        value_limbs::shifts::right(a, k - room)
+        value_limbs::shifts::right(digit, k - room)
     }
 }
 
@@ -151,10 +139,8 @@ fn placed(room: u32, k: u32, d: u8) -> [u64; 4]
 pub fn left_digit(x: Binary, k: u16, d: u8) -> Binary
     ensures { written result ≡ left_more (written x) k d }
 {
-    let a = x.limbs;
-    let room = lengths::minus(lengths::LONGEST, x.bits as u32);
-    let s = value_limbs::sums::sum(a, placed(room, k as u32, d));
-    let limbs = s.limbs;
+    let room = lengths::LONGEST.saturating_sub(x.bits as u32);
+    let (limbs, _) = value_limbs::sums::sum(x.limbs, placed(room, k as u32, d));
     Binary {
         limbs,
         bits: more_bits(x.bits, k),
@@ -162,18 +148,16 @@ pub fn left_digit(x: Binary, k: u16, d: u8) -> Binary
 }
 
 // The right-justified constant of that length.
-pub fn right_constant(x: Binary, length: u16) -> Made
+pub fn right_constant(x: Binary, length: u16) -> Option<Value>
     ensures { Means result (L.fit length (number x.limbs)) }
 {
-    let a = x.limbs;
-    fitting::fit(length as u32, a)
+    fitting::fit(length as u32, x.limbs)
 }
 
 // The left-justified constant of that length.
-pub fn left_constant(x: Binary, length: u16) -> Made
+pub fn left_constant(x: Binary, length: u16) -> Option<Value>
     ensures { Means result (L.fit length (number x.limbs / 2 ^ (256 - length))) }
 {
-    let a = x.limbs;
-    let below = lengths::minus(lengths::LONGEST, length as u32);
-    fitting::fit(length as u32, value_limbs::shifts::right(a, below))
+    let below = lengths::LONGEST.saturating_sub(length as u32);
+    fitting::fit(length as u32, value_limbs::shifts::right(x.limbs, below))
 }

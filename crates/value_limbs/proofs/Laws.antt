@@ -1,6 +1,7 @@
 -- Laws of numbers in two parts, `X * B + x`: each is stated once, over any base, and cited once for each joint between limbs.
 use mathlib.Core.Path.{◌≡◌, refl, sym, ap, ap₂, ◌∙◌}
 use mathlib.Core.Bool.{Bool, true, false}
+use mathlib.Core.List.{List}
 use mathlib.Core.Logic.{⊎_elim}
 use Prim.Native.Nat.{ℕ, zero, suc, ◌+◌, ◌-◌, ◌*◌, ◌/◌, ◌%◌, ◌^◌, ◌≤◌, ◌<◌}
 use native.Mathlib.Nat.{add-mul, mul_assoc, eq-zero-or-pos, add-zero, mul-mod_left, mul-div-mul_right, mul-add-mod_self_right, mul-lt-mul_of_pos_right, div-add-mod', sub-add_cancel, mod-eq_of_lt, lt_of_lt_of_le, mod-one, zero-mul, zero-add, one-mul, suc-mul, mul_right_comm, add-sub_of_le}
@@ -9,13 +10,11 @@ use lib.Arith.{digits_lt, digits_mod, digits_div}
 use lib.Pow.{pow_mono, pow_pos, pow-add, mod-pow-add, high, low, split, shl-shr, shl_exact}
 use lib.Bits.{bit_and, bit_or, and_mask, or_shifted}
 use lib.Count.{ones, ones_cat}
-use lib.Dec.{ltb, eqb}
-use mir.Syntax.{w64}
-use mir.Val.{Fits}
-use borrow.Author.Tests.{lt-ltb, le-ltb, eq-eqb, ne_eqb}
-use Rattle.language.specs.Value.{bit}
-use Rattle.value_limbs.specs.Limbs.{Carry, cat, four}
-use Rattle.value_limbs.specs.declared.Four.{Four}
+use lib.Dec.{eqb, leb, ltb}
+use lib.ListN.{get_or}
+use borrow.Author.Tests.{eq-eqb, ne_eqb, lt-ltb, le-ltb, lt-leb, le-leb}
+use Rattle.std.specs.Int.{from_bool}
+use Rattle.value_limbs.specs.Limbs.{Carry, cat, number}
 
 -- ---- Carries: sums, differences and shifts to the left.
 
@@ -40,61 +39,79 @@ carry-parts {B} {t} {low} {out} e h =
     let s : out * B + low ≡ t = e.sum ∙ add-zero t in
     (sym (digits_mod out h) ∙ ap (λ (n : ℕ). n % B) s, sym (digits_div out h) ∙ ap (λ (n : ℕ). n / B) s)
 
+-- Where one is carried, the sum passed the base.
+pub carry-passes : (out : Bool) {B t low : ℕ} → Carry B t 0 low (from_bool out) → low < B → out ≡ leb B t
+carry-passes false {B} {t} e h =
+    let s = rw (zero-mul B) at e.sum in
+    sym (lt-leb B t (omega arith))
+carry-passes true {B} {t} e h =
+    let s = rw (one-mul B) at e.sum in
+    sym (le-leb B t (omega arith))
+
 sum-cat : (B X x Y y : ℕ) → (X + Y) * B + (x + y) ≡ (X * B + x) + (Y * B + y)
 sum-cat B X x Y y = simp add-mul (omega arith)
 
 -- Limb by limb, the sums are the sum.
-pub sum-four : (x y : Four) → cat (cat (cat (x.l3 + y.l3) (x.l2 + y.l2)) (x.l1 + y.l1)) (x.l0 + y.l0) ≡ four x + four y
-unfolding four
+pub sum-four : (x y : List ℕ) → cat (cat (cat (get_or x 3 0 + get_or y 3 0) (get_or x 2 0 + get_or y 2 0)) (get_or x 1 0 + get_or y 1 0)) (get_or x 0 0 + get_or y 0 0) ≡ number x + number y
+unfolding number
 sum-four x y = simp sum-cat
+
+-- As `carrying_add` says it of each limb.
+pub add-four : (x y r : List ℕ) (c₀ c₁ c₂ c₃ : Bool)
+    → get_or r 0 0 + from_bool c₀ * 2 ^ 64 ≡ get_or x 0 0 + get_or y 0 0 + 0
+    → get_or r 1 0 + from_bool c₁ * 2 ^ 64 ≡ get_or x 1 0 + get_or y 1 0 + from_bool c₀
+    → get_or r 2 0 + from_bool c₂ * 2 ^ 64 ≡ get_or x 2 0 + get_or y 2 0 + from_bool c₁
+    → get_or r 3 0 + from_bool c₃ * 2 ^ 64 ≡ get_or x 3 0 + get_or y 3 0 + from_bool c₂
+    → Carry (2 ^ 256) (number x + number y) 0 (number r) (from_bool c₃)
+unfolding number
+add-four x y r c₀ c₁ c₂ c₃ e₀ e₁ e₂ e₃ =
+    carry-of (sum-four x y)
+    (carry-four {c₁ = from_bool c₀} {c₂ = from_bool c₁} {c₃ = from_bool c₂} (record { sum = omega arith }) (record { sum = omega arith }) (record { sum = omega arith }) (record { sum = omega arith }))
 
 times-cat : (B P X x : ℕ) → X * P * B + x * P ≡ (X * B + x) * P
 times-cat B P X x = sym (add-mul (X * B) x P ∙ ap (λ (n : ℕ). n + x * P) (mul_right_comm X B P))
 
 -- Limb by limb, the multiples are the multiple.
-pub times-four : (x : Four) (P : ℕ) → cat (cat (cat (x.l3 * P) (x.l2 * P)) (x.l1 * P)) (x.l0 * P) ≡ four x * P
-unfolding four
+pub times-four : (x : List ℕ) (P : ℕ) → cat (cat (cat (get_or x 3 0 * P) (get_or x 2 0 * P)) (get_or x 1 0 * P)) (get_or x 0 0 * P) ≡ number x * P
+unfolding number
 times-four x P = simp times-cat
-
-pub small-sum : {a b : ℕ} → a ≤ 1 → b ≤ 1 → Fits w64 (a + b)
-small-sum h k = omega arith
 
 -- ---- The limbs' ranges.
 
-pub record Below (x : Four) : Type 0 where
-  pub b0 : x.l0 < 2 ^ 64
-  pub b1 : x.l1 < 2 ^ 64
-  pub b2 : x.l2 < 2 ^ 64
-  pub b3 : x.l3 < 2 ^ 64
+pub record Below (x : List ℕ) : Type 0 where
+  pub b0 : get_or x 0 0 < 2 ^ 64
+  pub b1 : get_or x 1 0 < 2 ^ 64
+  pub b2 : get_or x 2 0 < 2 ^ 64
+  pub b3 : get_or x 3 0 < 2 ^ 64
 
 pub cat-lt : {a b c d : ℕ} → a < 2 ^ 64 → b < 2 ^ 64 → c < 2 ^ 64 → d < 2 ^ 64 → cat (cat (cat d c) b) a < 2 ^ 256
 cat-lt ha hb hc hd = digits_lt {m = 2 ^ 192} {c = 2 ^ 64} (digits_lt {m = 2 ^ 128} {c = 2 ^ 64} (digits_lt {m = 2 ^ 64} {c = 2 ^ 64} hd hc) hb) ha
 
-pub four-lt : {x : Four} → Below x → four x < 2 ^ 256
-unfolding four
+pub four-lt : {x : List ℕ} → Below x → number x < 2 ^ 256
+unfolding number
 four-lt h = cat-lt h.b0 h.b1 h.b2 h.b3
 
 -- A number below 2 to the 64 is the lowest limb.
-pub four-small : (x : Four) → Below x → four x < 2 ^ 64 → x.l0 ≡ four x
-unfolding four
-four-small x h l = sym (low (cat (cat x.l3 x.l2) x.l1) 64 h.b0) ∙ mod-eq_of_lt l
+pub four-small : (x : List ℕ) → Below x → number x < 2 ^ 64 → get_or x 0 0 ≡ number x
+unfolding number
+four-small x h l = sym (low (cat (cat (get_or x 3 0) (get_or x 2 0)) (get_or x 1 0)) 64 h.b0) ∙ mod-eq_of_lt l
 
 -- ---- Operations that work on each run of digits apart.
 
 module _ (op : ℕ → ℕ → ℕ) (block : (k a b r s : ℕ) → r < 2 ^ k → s < 2 ^ k → op (a * 2 ^ k + r) (b * 2 ^ k + s) ≡ op a b * 2 ^ k + op r s) where
-  pub op-four : {x y : Four} → Below x → Below y → cat (cat (cat (op x.l3 y.l3) (op x.l2 y.l2)) (op x.l1 y.l1)) (op x.l0 y.l0) ≡ op (four x) (four y)
-  unfolding four
+  pub op-four : {x y : List ℕ} → Below x → Below y → cat (cat (cat (op (get_or x 3 0) (get_or y 3 0)) (op (get_or x 2 0) (get_or y 2 0))) (op (get_or x 1 0) (get_or y 1 0))) (op (get_or x 0 0) (get_or y 0 0)) ≡ op (number x) (number y)
+  unfolding number
   op-four {x} {y} h k =
-      sym (block 64 (cat (cat x.l3 x.l2) x.l1) (cat (cat y.l3 y.l2) y.l1) x.l0 y.l0 h.b0 k.b0
-      ∙ ap (λ (n : ℕ). cat n (op x.l0 y.l0)) (block 64 (cat x.l3 x.l2) (cat y.l3 y.l2) x.l1 y.l1 h.b1 k.b1
-      ∙ ap (λ (n : ℕ). cat n (op x.l1 y.l1)) (block 64 x.l3 y.l3 x.l2 y.l2 h.b2 k.b2)))
+      sym (block 64 (cat (cat (get_or x 3 0) (get_or x 2 0)) (get_or x 1 0)) (cat (cat (get_or y 3 0) (get_or y 2 0)) (get_or y 1 0)) (get_or x 0 0) (get_or y 0 0) h.b0 k.b0
+      ∙ ap (λ (n : ℕ). cat n (op (get_or x 0 0) (get_or y 0 0))) (block 64 (cat (get_or x 3 0) (get_or x 2 0)) (cat (get_or y 3 0) (get_or y 2 0)) (get_or x 1 0) (get_or y 1 0) h.b1 k.b1
+      ∙ ap (λ (n : ℕ). cat n (op (get_or x 1 0) (get_or y 1 0))) (block 64 (get_or x 3 0) (get_or y 3 0) (get_or x 2 0) (get_or y 2 0) h.b2 k.b2)))
 
-pub ones-four : {x : Four} → Below x → ones x.l3 + ones x.l2 + ones x.l1 + ones x.l0 ≡ ones (four x)
-unfolding four
+pub ones-four : {x : List ℕ} → Below x → ones (get_or x 3 0) + ones (get_or x 2 0) + ones (get_or x 1 0) + ones (get_or x 0 0) ≡ ones (number x)
+unfolding number
 ones-four {x} h =
-    sym (ones_cat 64 (cat (cat x.l3 x.l2) x.l1) x.l0 h.b0
-    ∙ ap (λ (n : ℕ). n + ones x.l0) (ones_cat 64 (cat x.l3 x.l2) x.l1 h.b1
-    ∙ ap (λ (n : ℕ). n + ones x.l1) (ones_cat 64 x.l3 x.l2 h.b2)))
+    sym (ones_cat 64 (cat (cat (get_or x 3 0) (get_or x 2 0)) (get_or x 1 0)) (get_or x 0 0) h.b0
+    ∙ ap (λ (n : ℕ). n + ones (get_or x 0 0)) (ones_cat 64 (cat (get_or x 3 0) (get_or x 2 0)) (get_or x 1 0) h.b1
+    ∙ ap (λ (n : ℕ). n + ones (get_or x 1 0)) (ones_cat 64 (get_or x 3 0) (get_or x 2 0) h.b2)))
 
 -- ---- The low digits.
 
@@ -116,13 +133,13 @@ low-cat j k X {x} h = ⊎_elim (λ e. short (omega arith)) (λ l. long (omega ar
         ap (λ (n : ℕ). (X * 2 ^ j + x) % 2 ^ n) (sym (sub-add_cancel l)) ∙ mod-pow-add (X * 2 ^ j + x) (k - j) j
         ∙ ap₂ (λ (a b : ℕ). (a % 2 ^ (k - j)) * 2 ^ j + b) (high X j h) (low X j h ∙ sym (mod-eq_of_lt (lt_of_lt_of_le h (pow_mono l))))
 
-pub low-four : {x : Four} (k : ℕ) → Below x
-    → cat (cat (cat (x.l3 % 2 ^ (k - 64 - 64 - 64)) (x.l2 % 2 ^ (k - 64 - 64))) (x.l1 % 2 ^ (k - 64))) (x.l0 % 2 ^ k) ≡ four x % 2 ^ k
-unfolding four
+pub low-four : {x : List ℕ} (k : ℕ) → Below x
+    → cat (cat (cat (get_or x 3 0 % 2 ^ (k - 64 - 64 - 64)) (get_or x 2 0 % 2 ^ (k - 64 - 64))) (get_or x 1 0 % 2 ^ (k - 64))) (get_or x 0 0 % 2 ^ k) ≡ number x % 2 ^ k
+unfolding number
 low-four {x} k h =
-    sym (low-cat 64 k (cat (cat x.l3 x.l2) x.l1) h.b0
-    ∙ ap (λ (n : ℕ). cat n (x.l0 % 2 ^ k)) (low-cat 64 (k - 64) (cat x.l3 x.l2) h.b1
-    ∙ ap (λ (n : ℕ). cat n (x.l1 % 2 ^ (k - 64))) (low-cat 64 (k - 64 - 64) x.l3 h.b2)))
+    sym (low-cat 64 k (cat (cat (get_or x 3 0) (get_or x 2 0)) (get_or x 1 0)) h.b0
+    ∙ ap (λ (n : ℕ). cat n (get_or x 0 0 % 2 ^ k)) (low-cat 64 (k - 64) (cat (get_or x 3 0) (get_or x 2 0)) h.b1
+    ∙ ap (λ (n : ℕ). cat n (get_or x 1 0 % 2 ^ (k - 64))) (low-cat 64 (k - 64 - 64) (get_or x 3 0) h.b2)))
 
 -- `a & ((1 << k) - 1)`.
 pub one_left : (w k : ℕ) → k < w → 1 * 2 ^ k % 2 ^ w ≡ 2 ^ k
@@ -156,23 +173,23 @@ left-carry w s a {c} l h =
 cat-top : (B a b c d : ℕ) → ((a * B + b) * B + c) * B + d ≡ a * (B * (B * B)) + ((b * B + c) * B + d)
 cat-top B a b c d = simp (add-mul, mul_assoc) (omega arith)
 
-cat-top-five : (B a b c d e : ℕ) → (((a * B + b) * B + c) * B + d) * B + e ≡ a * (B * (B * (B * B))) + (((b * B + c) * B + d) * B + e)
+pub cat-top-five : (B a b c d e : ℕ) → (((a * B + b) * B + c) * B + d) * B + e ≡ a * (B * (B * (B * B))) + (((b * B + c) * B + d) * B + e)
 cat-top-five B a b c d e = simp (add-mul, mul_assoc) (omega arith)
 
-pub up-four : {x : Four} → Below x → cat (cat (cat x.l2 x.l1) x.l0) 0 ≡ four x * 2 ^ 64 % 2 ^ 256
-unfolding four
+pub up-four : {x : List ℕ} → Below x → cat (cat (cat (get_or x 2 0) (get_or x 1 0)) (get_or x 0 0)) 0 ≡ number x * 2 ^ 64 % 2 ^ 256
+unfolding number
 up-four {x} h =
-    let m : ℕ = cat (cat x.l2 x.l1) x.l0 in
+    let m : ℕ = cat (cat (get_or x 2 0) (get_or x 1 0)) (get_or x 0 0) in
     let l : m < 2 ^ 192 = digits_lt {m = 2 ^ 128} {c = 2 ^ 64} (digits_lt {m = 2 ^ 64} {c = 2 ^ 64} h.b2 h.b1) h.b0 in
     add-zero (m * 2 ^ 64)
     ∙ sym (mod-eq_of_lt (mul-lt-mul_of_pos_right {n = 2 ^ 192} {k = 2 ^ 64} l (pow_pos 64)))
-    ∙ sym (mul-add-mod_self_right x.l3 (2 ^ 256) (m * 2 ^ 64))
-    ∙ ap (λ (n : ℕ). n % 2 ^ 256) (ap (λ (n : ℕ). n + m * 2 ^ 64) (sym (mul_assoc x.l3 (2 ^ 192) (2 ^ 64))) ∙ sym (add-mul (x.l3 * 2 ^ 192) m (2 ^ 64))
-    ∙ ap (λ (n : ℕ). n * 2 ^ 64) (sym (cat-top (2 ^ 64) x.l3 x.l2 x.l1 x.l0)))
+    ∙ sym (mul-add-mod_self_right (get_or x 3 0) (2 ^ 256) (m * 2 ^ 64))
+    ∙ ap (λ (n : ℕ). n % 2 ^ 256) (ap (λ (n : ℕ). n + m * 2 ^ 64) (sym (mul_assoc (get_or x 3 0) (2 ^ 192) (2 ^ 64))) ∙ sym (add-mul (get_or x 3 0 * 2 ^ 192) m (2 ^ 64))
+    ∙ ap (λ (n : ℕ). n * 2 ^ 64) (sym (cat-top (2 ^ 64) (get_or x 3 0) (get_or x 2 0) (get_or x 1 0) (get_or x 0 0))))
 
-pub down-four : {x : Four} → Below x → cat (cat (cat 0 x.l3) x.l2) x.l1 ≡ four x / 2 ^ 64
-unfolding four
-down-four {x} h = ap (λ (n : ℕ). cat (cat n x.l2) x.l1) (zero-add x.l3) ∙ sym (high (cat (cat x.l3 x.l2) x.l1) 64 h.b0)
+pub down-four : {x : List ℕ} → Below x → cat (cat (cat 0 (get_or x 3 0)) (get_or x 2 0)) (get_or x 1 0) ≡ number x / 2 ^ 64
+unfolding number
+down-four {x} h = ap (λ (n : ℕ). cat (cat n (get_or x 2 0)) (get_or x 1 0)) (zero-add (get_or x 3 0)) ∙ sym (high (cat (cat (get_or x 3 0) (get_or x 2 0)) (get_or x 1 0)) 64 h.b0)
 
 pub times_mod : (n y M : ℕ) → (n % M) * y % M ≡ n * y % M
 times_mod n y M =
@@ -183,23 +200,32 @@ times_mod n y M =
 pub left-left : (n a b M : ℕ) → (n * 2 ^ a % M) * 2 ^ b % M ≡ n * 2 ^ (a + b) % M
 left-left n a b M = times_mod (n * 2 ^ a) (2 ^ b) M ∙ ap (λ (k : ℕ). k % M) (mul_assoc n (2 ^ a) (2 ^ b) ∙ ap (λ (k : ℕ). n * k) (sym (pow-add 2 a b)))
 
--- Shifted left by the rest of a limb, the upper limbs are those shifted right.
-pub right-four : (n s : ℕ) {x : Four} {out : ℕ} → s ≤ 64 → Below x → four x ≡ n * 2 ^ (64 - s) % 2 ^ 256 → out ≡ n * 2 ^ (64 - s) / 2 ^ 256
-    → cat (cat (cat out x.l3) x.l2) x.l1 ≡ n / 2 ^ s
-unfolding four
-right-four n s {x} {out} l h e f =
-    let whole : out * 2 ^ 256 + four x ≡ n * 2 ^ (64 - s) = ap₂ (λ (u v : ℕ). u * 2 ^ 256 + v) f e ∙ div-add-mod' (n * 2 ^ (64 - s)) (2 ^ 256) in
-    sym (high (cat (cat (cat out x.l3) x.l2) x.l1) 64 h.b0)
-    ∙ ap (λ (k : ℕ). k / 2 ^ 64) (cat-top-five (2 ^ 64) out x.l3 x.l2 x.l1 x.l0 ∙ whole)
+-- The lowest four of five limbs are what is left below 2 to the 256.
+pub lowest-four : (l₀ l₁ l₂ l₃ l₄ n : ℕ) → l₀ < 2 ^ 64 → l₁ < 2 ^ 64 → l₂ < 2 ^ 64 → l₃ < 2 ^ 64 → cat (cat (cat (cat l₄ l₃) l₂) l₁) l₀ ≡ n
+    → cat (cat (cat l₃ l₂) l₁) l₀ ≡ n % 2 ^ 256
+lowest-four l₀ l₁ l₂ l₃ l₄ n h₀ h₁ h₂ h₃ e = sym (digits_mod l₄ (cat-lt h₀ h₁ h₂ h₃)) ∙ ap (λ (k : ℕ). k % 2 ^ 256) (sym (cat-top-five (2 ^ 64) l₄ l₃ l₂ l₁ l₀) ∙ e)
+
+-- Shifted left by the rest of a limb, the highest four are those shifted right.
+pub right-four : (n s X l₀ : ℕ) → s ≤ 64 → l₀ < 2 ^ 64 → cat X l₀ ≡ n * 2 ^ (64 - s) → X ≡ n / 2 ^ s
+right-four n s X l₀ l h e =
+    sym (high X 64 h)
+    ∙ ap (λ (k : ℕ). k / 2 ^ 64) e
     ∙ ap (λ (k : ℕ). n * 2 ^ (64 - s) / k) (ap (λ (k : ℕ). 2 ^ k) (sym (add-sub_of_le l)) ∙ pow-add 2 s (64 - s))
     ∙ mul-div-mul_right n (2 ^ s) (pow_pos (64 - s))
 
 -- ---- Differences: x and a borrow are the sum of r and y.
 
-pub borrow-four : (r y x : Four) {c₁ c₂ c₃ c₄ : ℕ} → Carry (2 ^ 64) (r.l0 + y.l0) 0 x.l0 c₁ → Carry (2 ^ 64) (r.l1 + y.l1) c₁ x.l1 c₂ → Carry (2 ^ 64) (r.l2 + y.l2) c₂ x.l2 c₃ → Carry (2 ^ 64) (r.l3 + y.l3) c₃ x.l3 c₄
-    → Carry (2 ^ 256) (four r + four y) 0 (four x) c₄
-unfolding four
-borrow-four r y x e₀ e₁ e₂ e₃ = carry-of (sum-four r y) (carry-four e₀ e₁ e₂ e₃)
+-- As `borrowing_sub` says it of each limb.
+pub borrow-four : (x y r : List ℕ) (b₀ b₁ b₂ b₃ : Bool)
+    → get_or r 0 0 + get_or y 0 0 + 0 ≡ get_or x 0 0 + from_bool b₀ * 2 ^ 64
+    → get_or r 1 0 + get_or y 1 0 + from_bool b₀ ≡ get_or x 1 0 + from_bool b₁ * 2 ^ 64
+    → get_or r 2 0 + get_or y 2 0 + from_bool b₁ ≡ get_or x 2 0 + from_bool b₂ * 2 ^ 64
+    → get_or r 3 0 + get_or y 3 0 + from_bool b₂ ≡ get_or x 3 0 + from_bool b₃ * 2 ^ 64
+    → Carry (2 ^ 256) (number r + number y) 0 (number x) (from_bool b₃)
+unfolding number
+borrow-four x y r b₀ b₁ b₂ b₃ e₀ e₁ e₂ e₃ =
+    carry-of (sum-four r y)
+    (carry-four {c₁ = from_bool b₀} {c₂ = from_bool b₁} {c₃ = from_bool b₂} (record { sum = omega arith }) (record { sum = omega arith }) (record { sum = omega arith }) (record { sum = omega arith }))
 
 pub borrow-difference : {B r y x out : ℕ} → Carry B (r + y) 0 x out → r < B → y < B → r ≡ (x + (B - y)) % B
 borrow-difference {B} {r} {y} {x} {out} e h k =
@@ -207,33 +233,17 @@ borrow-difference {B} {r} {y} {x} {out} e h k =
     let g : 1 * B + r ≡ out * B + (x + (B - y)) = omega arith in
     sym (digits_mod 1 h) ∙ ap (λ (n : ℕ). n % B) g ∙ mul-add-mod_self_right out B (x + (B - y))
 
-pub borrow-less : (out : ℕ) {B r y x : ℕ} → Carry B (r + y) 0 x out → r < B → y < B → out ≡ bit (ltb x y)
-borrow-less zero {B} {r} {y} {x} e h k =
+pub borrow-less : (out : Bool) {B r y x : ℕ} → Carry B (r + y) 0 x (from_bool out) → r < B → y < B → out ≡ ltb x y
+borrow-less false {B} {r} {y} {x} e h k =
     let s = rw (zero-mul B) at e.sum in
-    sym (ap bit (le-ltb x y (omega arith)))
-borrow-less (suc zero) {B} {r} {y} {x} e h k =
+    sym (le-ltb x y (omega arith))
+borrow-less true {B} {r} {y} {x} e h k =
     let s = rw (one-mul B) at e.sum in
-    sym (ap bit (lt-ltb x y (omega arith)))
-borrow-less (suc (suc o)) {B} {r} {y} {x} e h k =
-    let s = rw (suc-mul (suc o) B, suc-mul o B) at e.sum in
-    absurd (omega arith)
+    sym (lt-ltb x y (omega arith))
 
--- ---- Tests.
+-- ---- A number has its limbs.
 
-pub bit-set : (b : Bool) → eqb (bit b) 1 ≡ b
-bit-set true = refl
-bit-set false = refl
-
--- Two numbers are equal where neither is the smaller.
-pub neither-less : (x y : ℕ) → eqb (bit (ltb x y)) (bit (ltb y x)) ≡ eqb x y
-neither-less x y =
-    ⊎_elim
-    (λ e. ⊎_elim
-    (λ f. tests (le-ltb x y (omega arith)) (le-ltb y x (omega arith)) ∙ sym (eq-eqb x y (omega arith)))
-    (λ f. tests (le-ltb x y (omega arith)) (lt-ltb y x (omega arith)) ∙ sym (ne_eqb x y (λ g. omega arith)))
-    (eq-zero-or-pos (x - y)))
-    (λ e. tests (lt-ltb x y (omega arith)) (le-ltb y x (omega arith)) ∙ sym (ne_eqb x y (λ g. omega arith)))
-    (eq-zero-or-pos (y - x))
-  where
-    tests : {a b : Bool} → ltb x y ≡ a → ltb y x ≡ b → eqb (bit (ltb x y)) (bit (ltb y x)) ≡ eqb (bit a) (bit b)
-    tests p q = ap₂ (λ (a b : Bool). eqb (bit a) (bit b)) p q
+-- A number in two parts has its parts.
+pub two-parts : (X Y : ℕ) {x y : ℕ} → x < 2 ^ 64 → y < 2 ^ 64 → cat X x ≡ cat Y y → (X ≡ Y) × (x ≡ y)
+two-parts X Y hx hy e =
+    (sym (high X 64 hx) ∙ ap (λ (n : ℕ). n / 2 ^ 64) e ∙ high Y 64 hy, sym (low X 64 hx) ∙ ap (λ (n : ℕ). n % 2 ^ 64) e ∙ low Y 64 hy)

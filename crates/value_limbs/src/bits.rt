@@ -8,33 +8,26 @@ ghost use Rattle.value_limbs.specs.Limbs.{number};
 pub fn and(x: [u64; 4], y: [u64; 4]) -> [u64; 4]
     ensures { number result ≡ bit_and (number x) (number y) }
 {
-    let a = crate::taken(x);
-    let b = crate::taken(y);
-    [a.l0 & b.l0, a.l1 & b.l1, a.l2 & b.l2, a.l3 & b.l3]
+    [x[0] & y[0], x[1] & y[1], x[2] & y[2], x[3] & y[3]]
 }
 
 // The bits that one or both have.
 pub fn or(x: [u64; 4], y: [u64; 4]) -> [u64; 4]
     ensures { number result ≡ bit_or (number x) (number y) }
 {
-    let a = crate::taken(x);
-    let b = crate::taken(y);
-    [a.l0 | b.l0, a.l1 | b.l1, a.l2 | b.l2, a.l3 | b.l3]
+    [x[0] | y[0], x[1] | y[1], x[2] | y[2], x[3] | y[3]]
 }
 
 // The bits that one alone has.
 pub fn xor(x: [u64; 4], y: [u64; 4]) -> [u64; 4]
     ensures { number result ≡ bit_xor (number x) (number y) }
 {
-    let a = crate::taken(x);
-    let b = crate::taken(y);
-    [a.l0 ^ b.l0, a.l1 ^ b.l1, a.l2 ^ b.l2, a.l3 ^ b.l3]
+    [x[0] ^ y[0], x[1] ^ y[1], x[2] ^ y[2], x[3] ^ y[3]]
 }
 
 // The number of one bits.
 pub fn count(x: [u64; 4]) -> u32
     ensures { result ≡ ones (number x) }
 {
-    let a = crate::taken(x);
-    u64::count_ones(a.l3) + u64::count_ones(a.l2) + u64::count_ones(a.l1) + u64::count_ones(a.l0)
+    x[3].count_ones() + x[2].count_ones() + x[1].count_ones() + x[0].count_ones()
 }

@@ -11,21 +11,22 @@ use borrow.Author.Tests.{lt-ltb, lt-leb, le-leb, ltb-true, leb-true}
 use Rattle.language.specs.Value as L
 use Rattle.language.specs.Value.{fit, made, none, value, difference_number, complement_number, repeated}
 use Rattle.language.specs.Ceilings.{longest}
-use Rattle.value_operators.specs.Meaning.{Means, allowed, blank, valued}
-use Rattle.value_operators.specs.declared.Made.{Made}
+use Rattle.value_operators.specs.Meaning.{Means, allowed}
+use Rattle.std.specs.Prelude.{Option, None}
+use Rattle.value_operators.specs.declared.Value.{Value}
 use Rattle.value_limbs.proofs.Laws.{times_mod}
 
 -- ---- Answers.
 
 -- The same answer, said otherwise.
-pub means-of : {r : Made} {m n : L.Made} → Means r m → m ≡ n → Means r n
-means-of e p = record { meaning = e.meaning ∙ p; rest = e.rest }
+pub means-of : {r : Option Value} {m n : L.Made} → Means r m → m ≡ n → Means r n
+means-of e p = record { meaning = e.meaning ∙ p }
 
-pub means-fit : {r : Made} {l m n k : ℕ} → Means r (fit l n) → l ≡ m → n ≡ k → Means r (fit m k)
+pub means-fit : {r : Option Value} {l m n k : ℕ} → Means r (fit l n) → l ≡ m → n ≡ k → Means r (fit m k)
 means-fit e p q = means-of e (ap₂ fit p q)
 
-pub means-none : {r : Made} {m : L.Made} → (r.fits ≡ false) × (r.value ≡ blank) → m ≡ none → Means r m
-means-none {r} e p = record { meaning = ap (λ (b : Bool). cond b (made (valued r.value)) none) e.0 ∙ sym p; rest = λ f. e.1 }
+pub none_means : {m : L.Made} → m ≡ none → Means None m
+none_means p = record { meaning = sym p }
 
 -- ---- The lengths that a value may have.
 
@@ -80,7 +81,7 @@ low-low l n h = ap (λ (k : ℕ). n % 2 ^ k % 2 ^ l) (sym (sub-add_cancel h)) �
 pub fit-wrap : (l n : ℕ) → fit l (n % 2 ^ 256) ≡ fit l n
 fit-wrap l n = fit_same l (n % 2 ^ 256) n (low-low l n)
 
-pub means-wrap : {r : Made} {l m n : ℕ} (k : ℕ) → Means r (fit l n) → l ≡ m → n ≡ k % 2 ^ 256 → Means r (fit m k)
+pub means-wrap : {r : Option Value} {l m n : ℕ} (k : ℕ) → Means r (fit l n) → l ≡ m → n ≡ k % 2 ^ 256 → Means r (fit m k)
 means-wrap {m = m} k e p q = means-of e (ap₂ fit p q ∙ fit-wrap m k)
 
 -- 2 to the 256 in parts of l bits.

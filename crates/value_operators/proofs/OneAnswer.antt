@@ -1,27 +1,21 @@
 -- A contract `Means r m` leaves one answer: two answers of four limbs that mean the same are the same.
-use mathlib.Core.Bool.{Bool, true, false, cond}
 use mathlib.Core.List.{List}
 use mathlib.Core.Path.{◌≡◌, refl, sym, ap, ap₂, ◌∙◌}
-use Prim.Native.Nat.{ℕ, zero, suc, ◌/◌, ◌%◌, ◌^◌, ◌<◌}
+use Prim.Native.Nat.{ℕ, zero, suc, ◌^◌, ◌<◌}
 use native.Mathlib.Omega.{arith}
 use lib.ListN.{length, get_or}
-use lib.Pow.{high, low}
 use lib.Seq.{ext_get_or}
+use Rattle.std.specs.Prelude.{Option, None, Some}
 use Rattle.language.specs.Value as L
 use Rattle.value_limbs.specs.Limbs.{number, cat}
+use Rattle.value_limbs.proofs.Laws.{two-parts}
 use Rattle.value_operators.specs.Meaning.{Means, valued}
-use Rattle.value_operators.specs.declared.Made.{Made}
 use Rattle.value_operators.specs.declared.Value.{Value}
 
 -- Four limbs, each of 64 bits, as the type says.
 pub record Sound (x : List ℕ) : Type 0 where
   pub size : length x ≡ 4
   pub below : (i : ℕ) → get_or x i 0 < 2 ^ 64
-
--- A number in two parts has its parts.
-two-parts : (X Y : ℕ) {x y : ℕ} → x < 2 ^ 64 → y < 2 ^ 64 → cat X x ≡ cat Y y → (X ≡ Y) × (x ≡ y)
-two-parts X Y hx hy e =
-    (sym (high X 64 hx) ∙ ap (λ (n : ℕ). n / 2 ^ 64) e ∙ high Y 64 hy, sym (low X 64 hx) ∙ ap (λ (n : ℕ). n % 2 ^ 64) e ∙ low Y 64 hy)
 
 -- A number has its limbs.
 pub number-one : (x y : List ℕ) → Sound x → Sound y → number x ≡ number y → x ≡ y
@@ -53,17 +47,13 @@ made_none e =
     let z : ◌≡◌ {A = ℕ} 0 1 = cc in
     omega arith
 
-pub one_answer : (r s : Made) (m : L.Made) → Sound r.value.limbs → Sound s.value.limbs → Means r m → Means s m → r ≡ s
-one_answer r s m hr hs a b = by r.fits s.fits refl refl
-  where
-    both : r.fits ≡ s.fits → r.value ≡ s.value → r ≡ s
-    both p q = ap₂ (λ (f : Bool) (v : Value). record { fits = f; value = v }) p q
+-- The limbs of an answer, where there is one.
+abbrev pub SoundIn : Option Value → Type 0
+SoundIn (Some v) = Sound v.limbs
+SoundIn None = Unit {0}
 
-    means : {t : Bool} (u : Made) → u.fits ≡ t → Means u m → cond t (L.made (valued u.value)) L.none ≡ m
-    means u p c = sym (ap (λ (t : Bool). cond t (L.made (valued u.value)) L.none) p) ∙ c.meaning
-
-    by : (t u : Bool) → r.fits ≡ t → s.fits ≡ u → r ≡ s
-    by true true p q = both (p ∙ sym q) (value-one r.value s.value hr hs (ap inner (means r p a ∙ sym (means s q b))))
-    by false false p q = both (p ∙ sym q) (a.rest p ∙ sym (b.rest q))
-    by true false p q = absurd (made_none (means r p a ∙ sym (means s q b)))
-    by false true p q = absurd (made_none (means s q b ∙ sym (means r p a)))
+pub one_answer : (r s : Option Value) (m : L.Made) → SoundIn r → SoundIn s → Means r m → Means s m → r ≡ s
+one_answer (Some x) (Some y) m hr hs a b = ap Some (value-one x y hr hs (ap inner (a.meaning ∙ sym b.meaning)))
+one_answer None None m hr hs a b = refl
+one_answer (Some x) None m hr hs a b = absurd (made_none (a.meaning ∙ sym b.meaning))
+one_answer None (Some y) m hr hs a b = absurd (made_none (b.meaning ∙ sym a.meaning))

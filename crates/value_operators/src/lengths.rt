@@ -1,5 +1,7 @@
 // The rules for lengths, one function each. A length is a u16, and what a rule gives is a u32, where nothing overflows.
-ghost use Rattle.std.specs.Prelude.{◌≡◌, max, ◌-◌, ◌<◌};
+#![tactic(auto, using(std::proofs::lemmas::Bool::Decides::nat_tests), unfolding(language::specs::Value::sum_length, language::specs::Value::difference_length, language::specs::Value::negation_length, language::specs::Value::relation_length, language::specs::Value::complement_length, language::specs::Value::logical_length, language::specs::Value::join_length, language::specs::Value::repeat_length, language::specs::Value::cut_length, language::specs::Value::reduction_length, language::specs::Value::count_length, language::specs::Value::part_length, language::specs::Constants::bare_length, language::specs::Ceilings::longest, crate::specs::Meaning::allowed))]
+
+ghost use Rattle.std.specs.Prelude.{◌≡◌, max, ◌<◌};
 ghost use Rattle.language.specs.Value.{sum_length, difference_length, negation_length, relation_length, complement_length, logical_length, join_length, repeat_length, cut_length, reduction_length, count_length, part_length};
 ghost use Rattle.language.specs.Constants.{bare_length};
 ghost use Rattle.value_operators.specs.Meaning.{allowed as Allowed};
@@ -15,28 +17,14 @@ const SIGN: u32 = 1;
 pub fn allowed(length: u32) -> bool
     ensures { result ≡ Allowed length }
 {
-    if 0 < length { length <= LONGEST } else { false }
+    0 < length && length <= LONGEST
 }
 
 // The longer of two lengths.
 fn longer(m: u16, n: u16) -> u32
     ensures { (result ≡ max m n) × (result < 65536) }
 {
-    if m < n { n as u32 } else { m as u32 }
-}
-
-// A length as the rules give it.
-fn wide(m: u16) -> u32
-    ensures { (result ≡ m) × (result < 65536) }
-{
-    m as u32
-}
-
-// m - n, or 0 where n is the larger.
-pub fn minus(m: u32, n: u32) -> u32
-    ensures { result ≡ m - n }
-{
-    if m < n { 0 } else { m - n }
+    m.max(n) as u32
 }
 
 // (+): one bit more than the longer operand.
@@ -57,7 +45,7 @@ pub fn difference_length(m: u16, n: u16) -> u32
 pub fn negation_length(m: u16) -> u32
     ensures { result ≡ negation_length m }
 {
-    wide(m) + SIGN
+    m as u32 + SIGN
 }
 
 // A relation is one bit.
@@ -85,14 +73,14 @@ pub fn logical_length(m: u16, n: u16) -> u32
 pub fn join_length(m: u16, n: u16) -> u32
     ensures { result ≡ join_length m n }
 {
-    wide(m) + wide(n)
+    m as u32 + n as u32
 }
 
 // EXT c.
 pub fn repeat_length(m: u16, c: u16) -> u32
     ensures { result ≡ repeat_length m c }
 {
-    wide(m) * wide(c)
+    m as u32 * c as u32
 }
 
 // HEAD c and TAIL c.
@@ -127,7 +115,7 @@ pub fn bare_length() -> u32
 pub fn part_length(m: u16, from: u16, count: u16) -> u32
     ensures { result ≡ part_length m from count }
 {
-    if wide(from) + wide(count) <= wide(m) {
+    if from as u32 + count as u32 <= m as u32 {
         count as u32
     } else {
         0

@@ -18,10 +18,3 @@ pub struct Value {
     pub limbs: [u64; 4],
     pub length: u16,
 }
-
-// What an operator gives: a value, or that none fits, beside the blank value.
-#[derive(Clone, Copy)]
-pub struct Made {
-    pub fits: bool,
-    pub value: Value,
-}

@@ -3,97 +3,82 @@ ghost use Rattle.std.specs.Prelude.{◌≡◌};
 ghost use Rattle.language.specs.Operators.{binary_length, binary_of, cut_length_of, cut_of, is_binary, is_cut, is_prefix, is_relation, prefix_length, prefix_of};
 ghost use Rattle.value_operators.specs.Meaning.{Means, valued};
 
-use crate::{
-    Made, Value, arithmetic, fitting, lengths, logical, reductions, relations, substrings,
-};
+use crate::{Value, arithmetic, lengths, logical, reductions, relations, substrings};
+use language::kinds;
 
 // ---- The operators of which a level has several.
 
-pub const SUM_SIGNS: [u8; 2] = [language::kinds::SUM, language::kinds::DIFFERENCE];
+pub const SUM_SIGNS: [u8; 2] = [kinds::SUM, kinds::DIFFERENCE];
 
 pub const RELATION_SIGNS: [u8; 6] = [
-    language::kinds::SAME,
-    language::kinds::HASH,
-    language::kinds::LESS,
-    language::kinds::GREATER,
-    language::kinds::AT_MOST,
-    language::kinds::AT_LEAST,
+    kinds::SAME,
+    kinds::HASH,
+    kinds::LESS,
+    kinds::GREATER,
+    kinds::AT_MOST,
+    kinds::AT_LEAST,
 ];
 
-pub const CUT_WORDS: [u8; 3] = [
-    language::kinds::HEAD,
-    language::kinds::TAIL,
-    language::kinds::EXT,
-];
+pub const CUT_WORDS: [u8; 3] = [kinds::HEAD, kinds::TAIL, kinds::EXT];
 
 // The signs that stand before RED.
-pub const REDUCTION_SIGNS: [u8; 4] = [
-    language::kinds::PLUS,
-    language::kinds::STAR,
-    language::kinds::EXCLUSIVE,
-    language::kinds::SUM,
-];
+pub const REDUCTION_SIGNS: [u8; 4] = [kinds::PLUS, kinds::STAR, kinds::EXCLUSIVE, kinds::SUM];
 
 // ---- How long a result is; 0 stands for a broken rule.
 
 // Whether a word is one of the relations: # < > (=) >= <=.
+#[tactic(auto, using(std::proofs::lemmas::Bool::Decides::nat_tests))]
 fn is_relation(kind: u8) -> bool
     ensures { result ≡ is_relation kind }
 {
     match kind {
-        language::kinds::SAME => true,
-        language::kinds::HASH => true,
-        language::kinds::LESS => true,
-        language::kinds::GREATER => true,
-        language::kinds::AT_MOST => true,
-        language::kinds::AT_LEAST => true,
+        kinds::SAME
+        | kinds::HASH
+        | kinds::LESS
+        | kinds::GREATER
+        | kinds::AT_MOST
+        | kinds::AT_LEAST => true,
         _ => false,
     }
 }
 
 // An operator with two operands.
+#[tactic(auto, using(std::proofs::lemmas::Bool::Decides::nat_tests), unfolding(language::specs::Operators::binary_length))]
 pub fn binary_length(kind: u8, m: u16, n: u16) -> u32
     ensures { result ≡ binary_length kind m n }
 {
     match kind {
-        language::kinds::SUM => lengths::sum_length(m, n),
-        language::kinds::DIFFERENCE => lengths::difference_length(m, n),
-        language::kinds::CON => lengths::join_length(m, n),
-        language::kinds::PLUS => lengths::logical_length(m, n),
-        language::kinds::STAR => lengths::logical_length(m, n),
-        language::kinds::EXCLUSIVE => lengths::logical_length(m, n),
-        _ => {
-            if is_relation(kind) {
-                return lengths::relation_length();
-            }
-            0
-        }
+        kinds::SUM => lengths::sum_length(m, n),
+        kinds::DIFFERENCE => lengths::difference_length(m, n),
+        kinds::CON => lengths::join_length(m, n),
+        kinds::PLUS | kinds::STAR | kinds::EXCLUSIVE => { lengths::logical_length(m, n) }
+        _ if is_relation(kind) => lengths::relation_length(),
+        _ => 0,
     }
 }
 
 // An operator before its operand.
+#[tactic(auto, using(std::proofs::lemmas::Bool::Decides::nat_tests), unfolding(language::specs::Operators::prefix_length))]
 pub fn prefix_length(kind: u8, m: u16) -> u32
     ensures { result ≡ prefix_length kind m }
 {
     match kind {
-        language::kinds::MINUS => lengths::complement_length(m),
-        language::kinds::DIFFERENCE => lengths::negation_length(m),
-        language::kinds::SUM => lengths::count_length(),
-        language::kinds::PLUS => lengths::reduction_length(),
-        language::kinds::STAR => lengths::reduction_length(),
-        language::kinds::EXCLUSIVE => lengths::reduction_length(),
+        kinds::MINUS => lengths::complement_length(m),
+        kinds::DIFFERENCE => lengths::negation_length(m),
+        kinds::SUM => lengths::count_length(),
+        kinds::PLUS | kinds::STAR | kinds::EXCLUSIVE => { lengths::reduction_length() }
         _ => 0,
     }
 }
 
 // HEAD, TAIL and EXT with a count.
+#[tactic(auto, using(std::proofs::lemmas::Bool::Decides::nat_tests), unfolding(language::specs::Operators::cut_length_of))]
 pub fn cut_length(kind: u8, m: u16, c: u16) -> u32
     ensures { result ≡ cut_length_of kind m c }
 {
     match kind {
-        language::kinds::HEAD => lengths::cut_length(m, c),
-        language::kinds::TAIL => lengths::cut_length(m, c),
-        language::kinds::EXT => lengths::repeat_length(m, c),
+        kinds::HEAD | kinds::TAIL => lengths::cut_length(m, c),
+        kinds::EXT => lengths::repeat_length(m, c),
         _ => 0,
     }
 }
@@ -121,49 +106,52 @@ pub fn is_cut(kind: u8) -> bool
 // ---- What it is.
 
 // An operator between two operands; no value where a kind is none.
-pub fn binary(kind: u8, x: Value, y: Value) -> Made
+#[tactic(auto, using(std::proofs::lemmas::Bool::Decides::nat_tests, crate::proofs::Fits::none_means), unfolding(language::specs::Operators::binary_of))]
+pub fn binary(kind: u8, x: Value, y: Value) -> Option<Value>
     ensures { Means result (binary_of kind (valued x) (valued y)) }
 {
     match kind {
-        language::kinds::SUM => arithmetic::sum(x, y),
-        language::kinds::DIFFERENCE => arithmetic::difference(x, y),
-        language::kinds::CON => substrings::join(x, y),
-        language::kinds::PLUS => logical::disjunction(x, y),
-        language::kinds::STAR => logical::conjunction(x, y),
-        language::kinds::EXCLUSIVE => logical::exclusive(x, y),
-        language::kinds::SAME => relations::equal(x, y),
-        language::kinds::HASH => relations::unequal(x, y),
-        language::kinds::LESS => relations::less(x, y),
-        language::kinds::GREATER => relations::greater(x, y),
-        language::kinds::AT_MOST => relations::at_most(x, y),
-        language::kinds::AT_LEAST => relations::at_least(x, y),
-        _ => fitting::none(),
+        kinds::SUM => arithmetic::sum(x, y),
+        kinds::DIFFERENCE => arithmetic::difference(x, y),
+        kinds::CON => substrings::join(x, y),
+        kinds::PLUS => logical::disjunction(x, y),
+        kinds::STAR => logical::conjunction(x, y),
+        kinds::EXCLUSIVE => logical::exclusive(x, y),
+        kinds::SAME => relations::equal(x, y),
+        kinds::HASH => relations::unequal(x, y),
+        kinds::LESS => relations::less(x, y),
+        kinds::GREATER => relations::greater(x, y),
+        kinds::AT_MOST => relations::at_most(x, y),
+        kinds::AT_LEAST => relations::at_least(x, y),
+        _ => None,
     }
 }
 
 // An operator before its operand; the signs of RED are by themselves.
-pub fn prefix(kind: u8, x: Value) -> Made
+#[tactic(auto, using(std::proofs::lemmas::Bool::Decides::nat_tests, crate::proofs::Fits::none_means), unfolding(language::specs::Operators::prefix_of))]
+pub fn prefix(kind: u8, x: Value) -> Option<Value>
     ensures { Means result (prefix_of kind (valued x)) }
 {
     match kind {
-        language::kinds::MINUS => logical::complement(x),
-        language::kinds::DIFFERENCE => arithmetic::negation(x),
-        language::kinds::PLUS => reductions::or_reduction(x),
-        language::kinds::STAR => reductions::and_reduction(x),
-        language::kinds::EXCLUSIVE => reductions::exclusive_reduction(x),
-        language::kinds::SUM => reductions::sum_reduction(x),
-        _ => fitting::none(),
+        kinds::MINUS => logical::complement(x),
+        kinds::DIFFERENCE => arithmetic::negation(x),
+        kinds::PLUS => reductions::or_reduction(x),
+        kinds::STAR => reductions::and_reduction(x),
+        kinds::EXCLUSIVE => reductions::exclusive_reduction(x),
+        kinds::SUM => reductions::sum_reduction(x),
+        _ => None,
     }
 }
 
 // HEAD, TAIL and EXT with their count.
-pub fn cut(kind: u8, x: Value, c: u16) -> Made
+#[tactic(auto, using(std::proofs::lemmas::Bool::Decides::nat_tests, crate::proofs::Fits::none_means), unfolding(language::specs::Operators::cut_of))]
+pub fn cut(kind: u8, x: Value, c: u16) -> Option<Value>
     ensures { Means result (cut_of kind (valued x) c) }
 {
     match kind {
-        language::kinds::HEAD => substrings::head(x, c),
-        language::kinds::TAIL => substrings::tail(x, c),
-        language::kinds::EXT => substrings::extended(x, c),
-        _ => fitting::none(),
+        kinds::HEAD => substrings::head(x, c),
+        kinds::TAIL => substrings::tail(x, c),
+        kinds::EXT => substrings::extended(x, c),
+        _ => None,
     }
 }

@@ -24,9 +24,8 @@ pub fn sequencing_length(work: &Work, n: u16) -> u16
     let s: &[u8] = work;
     let fs = body::rows_of(s, Table::Facilities, n);
     let fp = body::rows_of(s, Table::FacilityPlaces, n);
-    let l = wanted::sequencing_length(fs, fp);
-    if LONGEST < l {
-        return 0;
+    match wanted::sequencing_length(fs, fp) {
+        Some(l) if l <= LONGEST => l as u16,
+        _ => 0,
     }
-    l as u16
 }

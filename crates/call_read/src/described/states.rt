@@ -18,11 +18,7 @@ pub fn states_of(text: &[u8], work: &mut Work, w: Word, s: State, l: u16) -> Ans
         operations: s.operations,
         waiting: true,
     };
-    let read = reading::states(s, text, w, work, names, l);
-    if parse_step::unread(read) {
-        return read;
-    }
-    let end = read.state;
-    gotos::resolve(text, work, s.actions, end.actions, end.states);
-    read
+    let read = reading::states(s, text, w, work, names, l)?;
+    gotos::resolve(text, work, s.actions, read.state.actions, read.state.states);
+    Ok(read)
 }

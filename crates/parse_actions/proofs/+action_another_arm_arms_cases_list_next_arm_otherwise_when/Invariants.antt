@@ -1,5 +1,6 @@
+use Rattle.std.specs.Prelude.{Ok}
 use mathlib.Core.List.{List}
-use Prim.Native.Nat.{◌+◌, ◌-◌, ◌*◌, ◌≤◌}
+use Prim.Native.Nat.{◌+◌, ◌-◌, ◌*◌}
 use Rattle.text_words.specs.declared.Word.{Word}
 use Rattle.parse_actions.proofs.ArmLaws.{Arming}
 use Rattle.parse_actions.proofs.ListLaws.{Going}
@@ -34,13 +35,7 @@ abbrev pub decreases-when : goal.decreases-when
 decreases-when l = (24 - l.s.nesting) * 16 + 4
 
 abbrev pub invariant-arms-loop-count : goal.invariant-arms-loop-count
-invariant-arms-loop-count l = ((w : Word) (v : List ℕ) → Arming l.in_state l.text l.n w l.s v l.initial.count l.initial.read l.initial.work → Arming l.in_state l.text l.n w l.s v l.count l.read l.work) × (l.count ≤ 2049)
+invariant-arms-loop-count l = (w : Word) (v : List ℕ) → Arming l.in_state l.text l.n w l.s v 1 (Ok l.initial.reached) l.initial.work → Arming l.in_state l.text l.n w l.s v l.count (Ok l.reached) l.work
 
-abbrev pub decreases-arms-loop-count : goal.decreases-arms-loop-count
-decreases-arms-loop-count l = 2049 - l.count
-
-abbrev pub invariant-list-loop-count : goal.invariant-list-loop-count
-invariant-list-loop-count l = ((w : Word) (v : List ℕ) → Going l.in_state l.text l.n w l.s v l.initial.count l.initial.read l.initial.work → Going l.in_state l.text l.n w l.s v l.count l.read l.work) × (l.count ≤ 2049)
-
-abbrev pub decreases-list-loop-count : goal.decreases-list-loop-count
-decreases-list-loop-count l = 2049 - l.count
+abbrev pub invariant-list-loop : goal.invariant-list-loop
+invariant-list-loop l = (w : Word) (v : List ℕ) → Going l.in_state l.text l.n w l.s v 1 (Ok l.initial.read) l.initial.work → Going l.in_state l.text l.n w l.s v l.counter (Ok l.read) l.work

@@ -63,14 +63,8 @@ decreases-term l = (24 - l.s.nesting) * 1024 + 211
 abbrev pub decreases-whole : goal.decreases-whole
 decreases-whole l = (24 - l.s.nesting) * 1024 + 16 * top_no l.level + 214
 
-abbrev pub invariant-more_arms-loop-left : goal.invariant-more_arms-loop-left
-invariant-more_arms-loop-left l = Armings l.case l.text l.initial.next l.s l.initial.work l.n l.next l.state l.work l.count l.left × (Seen l.text l.initial.next → Comes l.text 0 0 l.s l.next l.state)
+abbrev pub invariant-more_arms-loop : goal.invariant-more_arms-loop
+invariant-more_arms-loop l = Armings l.case l.text l.initial.next l.s l.initial.work l.n l.next l.state l.work l.count l.counter × (Seen l.text l.initial.next → Comes l.text 0 0 l.s l.next l.state)
 
-abbrev pub decreases-more_arms-loop-left : goal.decreases-more_arms-loop-left
-decreases-more_arms-loop-left l = l.left
-
-abbrev pub invariant-rest-loop-s : goal.invariant-rest-loop-s
-invariant-rest-loop-s l = Walks l.initial.from l.level l.text l.initial.next l.s l.initial.work l.from l.next l.state l.work l.left × (Seen l.text l.initial.next → Comes l.text 0 0 l.s l.next l.state)
-
-abbrev pub decreases-rest-loop-s : goal.decreases-rest-loop-s
-decreases-rest-loop-s l = 16 * l.left + (8 - rank_no l.from)
+abbrev pub invariant-rest-loop : goal.invariant-rest-loop
+invariant-rest-loop l = Walks l.initial.from l.level l.text l.initial.next l.s l.initial.work l.from l.next l.state l.work l.counter × (Seen l.text l.initial.next → Comes l.text 0 0 l.s l.next l.state)

@@ -5,7 +5,7 @@ use Rattle.parse_sections.proofs.preamble.Goals as goal
 
 pub registers-requires : goal.registers-requires
 registers-requires c =
-    starts c.next_word-w.ensures c.start-s.ensures c.requires registers _ (sym c.number-k.ensures ∙ c.if-k-eq-REGISTER.true)
+    starts c.next_word-w.ensures c.start-s.ensures c.requires registers _ (sym c.kind_of-k.ensures ∙ c.if-k-eq-REGISTER.true)
 
 pub returns-then-k-eq-REGISTER : goal.returns-then-k-eq-REGISTER
 returns-then-k-eq-REGISTER c =
@@ -13,7 +13,7 @@ returns-then-k-eq-REGISTER c =
 
 pub memories-requires : goal.memories-requires
 memories-requires c =
-    starts c.next_word-w.ensures c.start-s.ensures c.requires memories _ (sym c.number-k.ensures ∙ c.if-k-eq-MEMORY.true)
+    starts c.next_word-w.ensures c.start-s.ensures c.requires memories _ (sym c.kind_of-k.ensures ∙ c.if-k-eq-MEMORY.true)
 
 pub returns-then-k-eq-MEMORY : goal.returns-then-k-eq-MEMORY
 returns-then-k-eq-MEMORY c =
@@ -21,7 +21,7 @@ returns-then-k-eq-MEMORY c =
 
 pub terminals-requires : goal.terminals-requires
 terminals-requires c =
-    starts c.next_word-w.ensures c.start-s.ensures c.requires terminals _ (sym c.number-k.ensures ∙ c.if-k-eq-TERMINAL.true)
+    starts c.next_word-w.ensures c.start-s.ensures c.requires terminals _ (sym c.kind_of-k.ensures ∙ c.if-k-eq-TERMINAL.true)
 
 pub returns-then-k-eq-TERMINAL : goal.returns-then-k-eq-TERMINAL
 returns-then-k-eq-TERMINAL c =
@@ -29,4 +29,4 @@ returns-then-k-eq-TERMINAL c =
 
 pub returns : goal.returns
 returns c =
-    not_opened c.next_word-w.ensures c.start-s.ensures c.requires (λ e. c.if-k-eq-REGISTER.false (c.number-k.ensures ∙ e)) (λ e. c.if-k-eq-MEMORY.false (c.number-k.ensures ∙ e)) (λ e. c.if-k-eq-TERMINAL.false (c.number-k.ensures ∙ e)) c.refuse.ensures
+    not_opened c.next_word-w.ensures c.start-s.ensures c.requires (λ e. c.if-k-eq-REGISTER.false (c.kind_of-k.ensures ∙ e)) (λ e. c.if-k-eq-MEMORY.false (c.kind_of-k.ensures ∙ e)) (λ e. c.if-k-eq-TERMINAL.false (c.kind_of-k.ensures ∙ e)) c.refuse.ensures

@@ -1,5 +1,4 @@
 // One operation: what it begins with, its body, and its record.
-ghost use Rattle.std.specs.Prelude.{◌≡◌, ◌-◌, ◌<◌};
 ghost use Rattle.parse_sections.specs.Heads.{Body};
 ghost use Rattle.parse_sections.specs.Lists.{One};
 
@@ -15,10 +14,7 @@ use text_words::Word;
 fn body(s: State, text: &[u8], w: Word, work: &mut Work, n: KnownNames) -> Answer
     ensures { Body text.now n w s work.old work.new result }
 {
-    let list = parse_actions::list(s, false, text, w, work, n);
-    if parse_step::unread(list) {
-        return list;
-    }
+    let list = parse_actions::list(s, false, text, w, work, n)?;
     taking::expect(
         text,
         list.next,
@@ -28,35 +24,21 @@ fn body(s: State, text: &[u8], w: Word, work: &mut Work, n: KnownNames) -> Answe
     )
 }
 
-// How many of `count` records stand from record n on.
-fn since(n: u16, count: u16) -> u16
-    ensures { result ≡ count - n }
-{
-    if count < n { 0 } else { count - n }
-}
-
 // Reads an operation. It knows the operations before it, and not itself.
 pub fn operation(text: &[u8], w: Word, work: &mut Work, s: State) -> Answer
     ensures { One text.now w s work.old work.new result }
 {
-    let head = heads::head(text, w, s);
-    if parse_step::unread(head) {
-        return head;
-    }
-    let n = KnownNames {
+    let head = heads::head(text, w, s)?;
+    let known = KnownNames {
         facilities: s.known,
         operations: s.operations,
         waiting: false,
     };
-    let read = body(head.state, text, head.next, work, n);
-    if parse_step::unread(read) {
-        return read;
-    }
-    let at = w.at;
+    let read = body(head.state, text, head.next, work, known)?;
     let run = Run {
         first: s.actions,
-        count: since(s.actions, read.state.actions),
+        count: read.state.actions.saturating_sub(s.actions),
     };
-    operations::add_operation(work, s.operations, at, w.size, run);
-    read
+    operations::add_operation(work, s.operations, w.at, w.size, run);
+    Ok(read)
 }

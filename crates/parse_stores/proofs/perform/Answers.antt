@@ -1,10 +1,12 @@
 use Rattle.parse_stores.proofs.SignLaws.{performs, unperformed}
+use Rattle.parse_step.proofs.Answers.{err-came}
+use mathlib.Core.Path.{refl}
 use Rattle.parse_stores.proofs.perform.Goals as goal
 
-pub returns-then-unread : goal.returns-then-unread
-returns-then-unread c =
-    unperformed c.pass-counted.ensures (c.unread.ensures.1 c.if-unread.true)
+pub returns-in_err-counted : goal.returns-in_err-counted
+returns-in_err-counted c =
+    rw (err-came c.from_residual.ensures.1) (unperformed c.in_err-counted.ensures refl)
 
 pub returns : goal.returns
 returns c =
-    performs c.pass-counted.ensures (c.unread.ensures.0 c.if-unread.false) c.meaning-m.result c.meaning-m.ensures c.performing.ensures c.put.ensures
+    performs c.in_ok-counted.ensures refl c.meaning-m.result c.meaning-m.ensures c.performing.ensures c.put.ensures

@@ -19,36 +19,20 @@ returns-then-x c =
 
 pub overflow_cast-result : goal.overflow_cast-result
 overflow_cast-result c =
-    let a = c.args in
-    let small' = c.small in
-    let less = c.less in
-    let if2 = c.if-less in
-    let taken = c.taken-l in
-    let n = number a.x.limbs in
-    let small : n < 65536 = ltb-true n 65536 (sym (less.ensures ∙ ap (ltb n) small'.ensures) ∙ if2.true) in
-    omega (arith, four-small taken.result (search rules) (omega (arith, taken.ensures)), taken.ensures)
+    let n = number c.args.x.limbs in
+    let small : n < 65536 = ltb-true n 65536 (sym (c.less.ensures ∙ ap (ltb n) c.small.ensures) ∙ c.if-less.true) in
+    omega (arith, four-small c.args.x.limbs (search rules) (omega arith))
 
 pub returns-then-less : goal.returns-then-less
 unfolding counting bare_largest
 returns-then-less c =
-    let a = c.args in
-    let if1 = c.if-x in
-    let small' = c.small in
-    let less = c.less in
-    let if2 = c.if-less in
-    let taken = c.taken-l in
-    let n = number a.x.limbs in
-    let small : n < 65536 = ltb-true n 65536 (sym (less.ensures ∙ ap (ltb n) small'.ensures) ∙ if2.true) in
-    four-small taken.result (search rules) (omega (arith, taken.ensures)) ∙ taken.ensures ∙ sym (min-eq_left (le_of_lt small)) ∙ sym (ap (λ (b : Bool). cond b 65536 (min (number a.x.limbs) 65536)) if1.false)
+    let n = number c.args.x.limbs in
+    let small : n < 65536 = ltb-true n 65536 (sym (c.less.ensures ∙ ap (ltb n) c.small.ensures) ∙ c.if-less.true) in
+    four-small c.args.x.limbs (search rules) (omega arith) ∙ sym (min-eq_left (le_of_lt small)) ∙ sym (ap (λ (b : Bool). cond b 65536 (min n 65536)) c.if-x.false)
 
 pub returns-else-less : goal.returns-else-less
 unfolding counting bare_largest
 returns-else-less c =
-    let a = c.args in
-    let if1 = c.if-x in
-    let small = c.small in
-    let less = c.less in
-    let if2 = c.if-less in
-    let n = number a.x.limbs in
-    let large : 65536 ≤ n = ltb-false n 65536 (sym (less.ensures ∙ ap (ltb n) small.ensures) ∙ if2.false) in
-    sym (min-eq_right large) ∙ sym (ap (λ (b : Bool). cond b 65536 (min (number a.x.limbs) 65536)) if1.false)
+    let n = number c.args.x.limbs in
+    let large : 65536 ≤ n = ltb-false n 65536 (sym (c.less.ensures ∙ ap (ltb n) c.small.ensures) ∙ c.if-less.false) in
+    sym (min-eq_right large) ∙ sym (ap (λ (b : Bool). cond b 65536 (min n 65536)) c.if-x.false)

@@ -7,10 +7,10 @@ use Rattle.value_constants.proofs.decimal_digit.Goals as goal
 pub returns : goal.returns
 unfolding by_doubling
 returns c =
-    let added4 = c.added-e in
-    let added3 = c.added-c in
-    let added2 = c.added-b in
-    let added = c.added-a in
+    let added4 = c.added-ten in
+    let added3 = c.added-five in
+    let added2 = c.added-four in
+    let added = c.added-twice in
     let args = c.args in
     let x = held args.x in
     let four = added2.ensures ∙ ap twice added.ensures in

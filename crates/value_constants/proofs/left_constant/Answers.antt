@@ -6,4 +6,4 @@ use Rattle.value_constants.proofs.left_constant.Goals as goal
 
 pub returns : goal.returns
 returns c =
-    means-fit c.fit.ensures refl (c.right.ensures ∙ ap (λ (k : ℕ). number c.args.x.limbs / 2 ^ k) c.minus-below.ensures)
+    means-fit c.fit.ensures refl (c.right.ensures ∙ ap (λ (k : ℕ). number c.args.x.limbs / 2 ^ k) c.saturating_sub-below.ensures)

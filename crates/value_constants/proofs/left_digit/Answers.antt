@@ -14,6 +14,6 @@ returns c =
     let k = c.args.k in
     let d = c.args.d in
     written_of
-    (c.sum-s.ensures.0 ∙ ap (λ (m : ℕ). (n + m) % 2 ^ 256) (c.placed.ensures ∙ ap (λ (l : ℕ). (left_justified l k d).number % 2 ^ 256) c.minus-room.ensures)
+    (c.sum.ensures.0 ∙ ap (λ (m : ℕ). (n + m) % 2 ^ 256) (c.placed.ensures ∙ ap (λ (l : ℕ). (left_justified l k d).number % 2 ^ 256) c.saturating_sub-room.ensures)
     ∙ add-mod-mod n (left_justified (256 - c.args.x.bits) k d).number (2 ^ 256))
     c.more_bits.ensures

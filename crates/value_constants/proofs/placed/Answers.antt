@@ -14,7 +14,7 @@ unfolding left_justified
 returns-then-k-room c =
     let d = c.args.d in
     let j = c.args.room - c.args.k in
-    c.left.ensures ∙ ap (λ (n : ℕ). n * 2 ^ j % 2 ^ 256) c.small-a.ensures
+    c.left.ensures ∙ ap (λ (n : ℕ). n * 2 ^ j % 2 ^ 256) c.small-digit.ensures
     ∙ sym (ap (λ (b : Bool). cond b (d * 2 ^ j) (d / 2 ^ (c.args.k - c.args.room)) % 2 ^ 256) (le-leb c.args.k c.args.room c.if-k-room.true))
 
 pub returns-else-k-room : goal.returns-else-k-room
@@ -22,5 +22,5 @@ unfolding left_justified
 returns-else-k-room c =
     let d = c.args.d in
     let j = c.args.k - c.args.room in
-    c.right.ensures ∙ ap (λ (n : ℕ). n / 2 ^ j) c.small-a.ensures ∙ sym (mod-eq_of_lt (lt_of_le_of_lt (shr_le d j) (byte-lt (search rules))))
+    c.right.ensures ∙ ap (λ (n : ℕ). n / 2 ^ j) c.small-digit.ensures ∙ sym (mod-eq_of_lt (lt_of_le_of_lt (shr_le d j) (byte-lt (search rules))))
     ∙ sym (ap (λ (b : Bool). cond b (d * 2 ^ (c.args.room - c.args.k)) (d / 2 ^ j) % 2 ^ 256) (lt-leb c.args.k c.args.room c.if-k-room.false))

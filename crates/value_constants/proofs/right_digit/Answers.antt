@@ -8,4 +8,4 @@ use Rattle.value_constants.proofs.right_digit.Goals as goal
 pub returns : goal.returns
 unfolding right_more
 returns c =
-    written_of (c.joined-limbs.ensures ∙ ap (λ (n : ℕ). (number c.args.x.limbs * 2 ^ c.args.k + n) % 2 ^ 256) c.small.ensures) c.more_bits.ensures
+    written_of (c.joined.ensures ∙ ap (λ (n : ℕ). (number c.args.x.limbs * 2 ^ c.args.k + n) % 2 ^ 256) c.small.ensures) c.more_bits.ensures

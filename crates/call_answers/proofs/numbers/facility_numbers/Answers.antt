@@ -1,7 +1,7 @@
 use Rattle.call_answers.proofs.numbers.facility_numbers.Goals as goal
 
-pub returns-in-Declared : goal.returns-in-Declared
-returns-in-Declared c = λ name. rw c.in-Declared.is (c.declared.ensures name)
+pub returns-in-Ok : goal.returns-in-Ok
+returns-in-Ok c = λ name. rw c.in-Ok.is (c.declared.ensures name)
 
-pub returns-in-Refused : goal.returns-in-Refused
-returns-in-Refused c = λ name. rw c.in-Refused.is (c.unknown.ensures name)
+pub returns-in-Err : goal.returns-in-Err
+returns-in-Err c = λ name. rw c.in-Err.is (c.unknown.ensures name)

@@ -7,8 +7,8 @@ use Rattle.call_run.proofs.cycle.cycle.Goals as goal
 
 pub single-requires : goal.single-requires
 single-requires c =
-    rw (ap (λ (x : L.RunCall). x.answer) c.run-answer.ensures) (one-counted c.args.image.now c.args.store.now c.args.«record».now c.args.stimulus.now (length c.args.scratch.now))
+    rw (ap (λ (x : L.RunCall). x.answer) c.run.ensures) (one-counted c.args.image.now c.args.store.now c.args.«record».now c.args.stimulus.now (length c.args.scratch.now))
 
 pub returns : goal.returns
 returns c =
-    from-run c.args.image.now c.args.store.now c.args.«record».now c.args.stimulus.now (length c.args.scratch.now) c.run-answer.result c.single.result c.single.ensures c.run-answer.ensures
+    from-run c.args.image.now c.args.store.now c.args.«record».now c.args.stimulus.now (length c.args.scratch.now) c.run.result c.single.result c.single.ensures c.run.ensures

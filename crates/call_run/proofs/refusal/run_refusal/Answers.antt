@@ -8,6 +8,7 @@ use Rattle.run_soundness.proofs.PassedLaws.{passed-described, passed-facilities,
 use Rattle.call_run.proofs.RefusalLaws.{no-image, no-refusal, no_room, no-trace-room, not-formed, not_sound, room_store}
 use Rattle.language.specs.Encode.{expressions_section, node_size}
 use Rattle.call_run.proofs.refusal.run_refusal.Goals as goal
+use Rattle.call_run.proofs.refusal.run_refusal.Goals.{then-not-roomy-via-then-not-roomy, then-not-roomy-via-else-not-roomy+then-not-trace_roomy}
 
 pub returns-then-not-passed : goal.returns-then-not-passed
 returns-then-not-passed c =
@@ -21,24 +22,21 @@ returns-then-not-roomy c =
     let k = c.args.«record».now in
     let p = sym c.requires ∙ not-false c.args.passed c.if-not-passed.false-raw in
     let size = c.store_size-size.ensures (decode c.args.image.now) (section_at expressions_section node_size c.args.image.now) (rw c.section-facilities.ensures (passed-described c.args.image.now p)) (passed-size c.args.image.now p) in
-    let r = sym (c.roomy.ensures (decode c.args.image.now) size) ∙ not-true c.roomy.result c.if-not-roomy.true-raw in
-    no_room c.args.image.now c.args.store.now k c.args.stimuli.now c.args.cycles c.args.scratch c.args.trace p r
+    elim c.then-not-roomy.branch [
+      | then-not-roomy-via-then-not-roomy w ↦
+          let r = sym (c.roomy.ensures (decode c.args.image.now) size) ∙ not-true c.roomy.result w.if-not-roomy.true-raw in
+          no_room c.args.image.now c.args.store.now k c.args.stimuli.now c.args.cycles c.args.scratch c.args.trace p r
+      | then-not-roomy-via-else-not-roomy+then-not-trace_roomy w ↦
+          let r = sym (c.roomy.ensures (decode c.args.image.now) size) ∙ not-false c.roomy.result w.if-not-roomy.false-raw in
+          let q = sym (w.trace_roomy.ensures (decode c.args.image.now) size) ∙ not-true w.trace_roomy.result w.if-not-trace_roomy.true-raw in
+          no-trace-room c.args.image.now c.args.store.now k c.args.stimuli.now c.args.cycles c.args.scratch c.args.trace p r q
+    ]
 
 pub trace_roomy-requires : goal.trace_roomy-requires
 trace_roomy-requires c =
     let p = sym c.requires ∙ not-false c.args.passed c.if-not-passed.false-raw in
     let size = c.store_size-size.ensures (decode c.args.image.now) (section_at expressions_section node_size c.args.image.now) (rw c.section-facilities.ensures (passed-described c.args.image.now p)) (passed-size c.args.image.now p) in
     omega (arith, size, passed-size c.args.image.now p)
-
-pub returns-then-not-trace_roomy : goal.returns-then-not-trace_roomy
-unfolding store_size
-returns-then-not-trace_roomy c =
-    let k = c.args.«record».now in
-    let p = sym c.requires ∙ not-false c.args.passed c.if-not-passed.false-raw in
-    let size = c.store_size-size.ensures (decode c.args.image.now) (section_at expressions_section node_size c.args.image.now) (rw c.section-facilities.ensures (passed-described c.args.image.now p)) (passed-size c.args.image.now p) in
-    let r = sym (c.roomy.ensures (decode c.args.image.now) size) ∙ not-false c.roomy.result c.if-not-roomy.false-raw in
-    let q = sym (c.trace_roomy.ensures (decode c.args.image.now) size) ∙ not-true c.trace_roomy.result c.if-not-trace_roomy.true-raw in
-    no-trace-room c.args.image.now c.args.store.now k c.args.stimuli.now c.args.cycles c.args.scratch c.args.trace p r q
 
 pub sound-requires : goal.sound-requires
 sound-requires c =

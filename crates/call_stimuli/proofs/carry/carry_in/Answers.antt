@@ -24,7 +24,7 @@ carry_on-a-requires c =
     let copy = length-take-le (c.args.n - 0) c.args.scratch.now (omega (arith, c.requires.2, run-scratch c.args.image.now c.args.stimuli.now c.args.cycles m c.args.store.now k t c.requires.0)) in
     let waiting = length-take-le (c.args.n - 0) c.args.pending.now (omega (arith, c.requires.3)) in
     let masked = length-take-le (c.args.n - 0) c.args.mask.now (omega (arith, c.requires.4)) in
-    record { image = c.args.image.now; kept = k; scratch = m; lent = record { sliced = record { facilities-are = c.section.ensures; operations-are = c.section-2.ensures; expressions-are = c.section-3.ensures; actions-are = c.section-4.ensures; states-are = c.section-5.ensures }; read = sym c.record_at.ensures; free = c.requires.0; copy = omega (arith, copy, c.requires.2); waiting = omega (arith, waiting, c.requires.2); masked = omega (arith, masked, c.requires.2); clear = c.requires.1 } }
+    record { image = c.args.image.now; kept = k; scratch = m; lent = record { sliced = record { facilities-are = c.of.ensures.facilities; operations-are = c.of.ensures.operations; expressions-are = c.of.ensures.expressions; actions-are = c.of.ensures.actions; states-are = c.of.ensures.states }; read = sym c.record_at.ensures; free = c.requires.0; copy = omega (arith, copy, c.requires.2); waiting = omega (arith, waiting, c.requires.2); masked = omega (arith, masked, c.requires.2); clear = c.requires.1 } }
 
 pub returns : goal.returns
 unfolding store_size
@@ -36,4 +36,4 @@ returns c =
     let waiting = length-take-le (c.args.n - 0) c.args.pending.now (omega (arith, c.requires.3)) in
     let masked = length-take-le (c.args.n - 0) c.args.mask.now (omega (arith, c.requires.4)) in
     rw (c.zero.ensures, c.scratch-1.given.1, c.note.ensures (run-record c.args.image.now c.args.stimuli.now c.args.cycles m c.args.store.now k t c.requires.0))
-    (c.carry_on-a.ensures c.args.image.now k m (record { sliced = record { facilities-are = c.section.ensures; operations-are = c.section-2.ensures; expressions-are = c.section-3.ensures; actions-are = c.section-4.ensures; states-are = c.section-5.ensures }; read = sym c.record_at.ensures; free = c.requires.0; copy = omega (arith, copy, c.requires.2); waiting = omega (arith, waiting, c.requires.2); masked = omega (arith, masked, c.requires.2); clear = c.requires.1 }))
+    (c.carry_on-a.ensures c.args.image.now k m (record { sliced = record { facilities-are = c.of.ensures.facilities; operations-are = c.of.ensures.operations; expressions-are = c.of.ensures.expressions; actions-are = c.of.ensures.actions; states-are = c.of.ensures.states }; read = sym c.record_at.ensures; free = c.requires.0; copy = omega (arith, copy, c.requires.2); waiting = omega (arith, waiting, c.requires.2); masked = omega (arith, masked, c.requires.2); clear = c.requires.1 }))

@@ -1,14 +1,10 @@
 use mathlib.Core.Path.{◌≡◌}
-use Prim.Native.Nat.{◌+◌, ◌/◌, ◌-◌, ◌≤◌}
-use lib.ListN.{drop, length}
+use Prim.Native.Nat.{◌+◌, ◌≤◌}
+use lib.ListN.{drop}
 use Rattle.language.specs.Canonical.{node_count, total}
 use Rattle.language.specs.Description.{Description}
-use Rattle.language.specs.Encode.{node_size}
 use Rattle.image_order.specs.Holds.{Nodes}
 use Rattle.image_form.proofs.counts.nodes_count.Given as goal
 
 abbrev pub invariant-loop-n : goal.invariant-loop-n
-invariant-loop-n l = (l.n ≤ length l.exprs / node_size) × (l.sum ≤ l.n) × ((d : Description) → Nodes d l.exprs → l.sum + total node_count (drop l.n d.expressions) ≡ total node_count d.expressions)
-
-abbrev pub decreases-loop-n : goal.decreases-loop-n
-decreases-loop-n l = length l.exprs / node_size - l.n
+invariant-loop-n l = (l.sum ≤ l.n) × ((d : Description) → Nodes d l.exprs → l.sum + total node_count (drop l.n d.expressions) ≡ total node_count d.expressions)

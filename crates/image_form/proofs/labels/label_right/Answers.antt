@@ -7,9 +7,9 @@ pub returns-then-name-gt0 : goal.returns-then-name-gt0
 returns-then-name-gt0 c =
     c.name_right.ensures ∙ sym (label-name c.args.name.now _ c.if-name-gt0.true)
 
-pub returns-in-At : goal.returns-in-At
-returns-in-At c =
-    rw c.in-At.is (sym (label-value-alone c.args.name.now _ (omega (arith, c.if-name-gt0.false))))
+pub returns-in-Some : goal.returns-in-Some
+returns-in-Some c =
+    rw c.in-Some.is (sym (label-value-alone c.args.name.now _ (omega (arith, c.if-name-gt0.false))))
 
 pub returns-in-None : goal.returns-in-None
 returns-in-None c =

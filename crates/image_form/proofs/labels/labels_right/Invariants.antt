@@ -7,7 +7,4 @@ use Rattle.language.specs.Encode.{state_size}
 use Rattle.image_form.proofs.labels.labels_right.Given as goal
 
 abbrev pub invariant-loop-n : goal.invariant-loop-n
-invariant-loop-n l = (l.n ≤ length l.states / state_size) × (l.from ≤ 255 * l.n) × (all_labels (length l.states / state_size - l.n) (state_size * l.n) l.states (drop l.from l.names) ≡ labels_right l.states l.names)
-
-abbrev pub decreases-loop-n : goal.decreases-loop-n
-decreases-loop-n l = length l.states / state_size - l.n
+invariant-loop-n l = (l.from ≤ 255 * l.n) × (all_labels (length l.states / state_size - l.n) (state_size * l.n) l.states (drop l.from l.names) ≡ labels_right l.states l.names)

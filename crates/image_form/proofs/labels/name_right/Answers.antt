@@ -1,6 +1,9 @@
-use mathlib.Core.Path.{sym, ◌∙◌}
+use mathlib.Core.Path.{ap, sym, ◌∙◌}
 use native.Mathlib.Omega.{arith}
 use borrow.Author.Tests.{not-false, not-true}
+use Rattle.language.specs.Scan.{reserved_kind}
+use Rattle.text_items.proofs.Lookup.{zero-is-none}
+use Rattle.text_items.specs.Tables.{unless_zero}
 use Rattle.image_form.proofs.LabelLaws.{name-empty, name-folded, name-kind, name-long, name-parts, name-small}
 use Rattle.image_form.proofs.labels.name_right.Goals as goal
 
@@ -23,4 +26,5 @@ returns-then-not-parts_right c =
 pub returns : goal.returns
 returns c =
     let p = sym c.parts_right.ensures ∙ not-false _ c.if-not-parts_right.false-raw in
-    rw (c.kind_of.ensures, name-folded c.args.name.now p) (sym (name-kind c.args.name.now (omega (arith, c.if-name-eq0.false)) (omega (arith, c.if-name-gt-NAME.false)) (sym c.within.ensures ∙ not-false _ c.if-not-within.false-raw) p))
+    zero-is-none c.is_none.result _ (c.kind_of.ensures ∙ ap unless_zero (ap reserved_kind (name-folded c.args.name.now p))) c.is_none.ensures
+    ∙ sym (name-kind c.args.name.now (omega (arith, c.if-name-eq0.false)) (omega (arith, c.if-name-gt-NAME.false)) (sym c.within.ensures ∙ not-false _ c.if-not-within.false-raw) p)

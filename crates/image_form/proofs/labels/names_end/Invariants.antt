@@ -7,8 +7,5 @@ use Rattle.image_form.proofs.labels.names_end.Given as goal
 
 abbrev pub invariant-loop-i : goal.invariant-loop-i
 invariant-loop-i l =
-    (l.i ≤ l.n) × (l.at ≤ 255 + 255 * l.i) × (l.from ≤ 255 * l.i) × (names_right (l.n - l.i) l.at l.size l.s (drop l.from l.names) ≡ names_right l.n l.inside l.size l.s l.names)
-    × (l.from + names_length (l.n - l.i) l.at l.size l.s ≡ names_length l.n l.inside l.size l.s)
-
-abbrev pub decreases-loop-i : goal.decreases-loop-i
-decreases-loop-i l = l.n - l.i
+    (l.from ≤ 255 * l.i) × (names_right (l.n - l.i) (l.inside + l.size * l.i) l.size l.s (drop l.from l.names) ≡ names_right l.n l.inside l.size l.s l.names)
+    × (l.from + names_length (l.n - l.i) (l.inside + l.size * l.i) l.size l.s ≡ names_length l.n l.inside l.size l.s)

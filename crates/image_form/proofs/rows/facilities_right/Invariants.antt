@@ -1,6 +1,6 @@
 use mathlib.Core.Path.{◌≡◌}
-use Prim.Native.Nat.{ℕ, ◌*◌, ◌/◌, ◌%◌, ◌-◌, ◌<◌, ◌≤◌}
-use lib.ListN.{drop, length, take}
+use Prim.Native.Nat.{ℕ, ◌*◌, ◌%◌, ◌<◌}
+use lib.ListN.{drop, take}
 use Rattle.language.specs.Description.{Description, facility_at}
 use Rattle.language.specs.Encode.{facility_record, facility_size}
 use Rattle.language.specs.Layout.{place_in}
@@ -9,7 +9,4 @@ use Rattle.image_form.specs.Form.{NamesLong}
 use Rattle.image_form.proofs.rows.facilities_right.Given as goal
 
 abbrev pub invariant-loop-n : goal.invariant-loop-n
-invariant-loop-n l = (l.n ≤ length l.facilities / facility_size) × ((d : Description) → Facilities d l.facilities → NamesLong d l.facilities → (l.place ≡ place_in d.facilities l.n % 65536) × ((k : ℕ) → k < l.n → take facility_size (drop (facility_size * k) l.facilities) ≡ facility_record (place_in d.facilities k) (facility_at d k)))
-
-abbrev pub decreases-loop-n : goal.decreases-loop-n
-decreases-loop-n l = length l.facilities / facility_size - l.n
+invariant-loop-n l = (d : Description) → Facilities d l.facilities → NamesLong d l.facilities → (l.place ≡ place_in d.facilities l.n % 65536) × ((k : ℕ) → k < l.n → take facility_size (drop (facility_size * k) l.facilities) ≡ facility_record (place_in d.facilities k) (facility_at d k))

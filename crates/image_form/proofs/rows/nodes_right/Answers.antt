@@ -1,24 +1,21 @@
-use mathlib.Core.Path.{sym, ◌∙◌}
+use mathlib.Core.Path.{refl}
+use Prim.Native.Nat.{ℕ, ◌*◌, ◌/◌}
 use native.Mathlib.Omega.{arith}
-use borrow.Author.Count.{below_more}
-use borrow.Author.Tests.{not-false, not-true}
+use lib.ListN.{drop, length, take}
+use Rattle.std.proofs.Common.{rules, tests}
+use Rattle.std.proofs.lemmas.Iterator.{YieldsList-from_range}
+use Rattle.std.proofs.lemmas.Iterator.Search.{all_from_yields_List}
+use Rattle.language.specs.Decode.{node_of}
+use Rattle.language.specs.Encode.{node_bytes, node_size}
+use Rattle.language.specs.Scan.{same}
 use Rattle.image_records.proofs.ByteLaws.{same_true}
-use Rattle.image_form.proofs.RowLaws.{nodes-differ, nodes-same}
-use borrow.Author.Rules.{rules}
+use Rattle.image_form.proofs.RowLaws.{all_rows, nodes-differ, nodes-same}
 use Rattle.image_form.proofs.rows.nodes_right.Goals as goal
-
-pub loop-n-init : goal.loop-n-init
-loop-n-init c =
-    (search rules, λ k g. absurd (omega arith))
-
-pub returns-then-not-node_right : goal.returns-then-not-node_right
-returns-then-not-node_right c =
-    λ d h. sym (nodes-differ d c.args.exprs.now h c.loop-n.n c.loop-n-test.true (sym c.node_right.ensures ∙ not-true _ c.if-not-node_right.true-raw))
-
-pub loop-n-preserved : goal.loop-n-preserved
-loop-n-preserved c =
-    (search rules, below_more _ _ c.loop-n.invariant.1 (same_true _ _ (sym c.node_right.ensures ∙ not-false _ c.if-not-node_right.false-raw)))
 
 pub returns : goal.returns
 returns c =
-    λ d h. sym (nodes-same d c.args.exprs.now h c.requires (λ k g. c.loop-n.invariant.1 k (omega (arith, c.loop-n-test.false))))
+    let s = c.args.exprs.now in
+    let n : ℕ = length s / node_size in
+    let right = λ (k : ℕ). same (take node_size (drop (node_size * k) s)) (node_bytes (node_of s k)) in
+    let all = all_from_yields_List right _ _ c.all.result c.all.ensures.ran (YieldsList-from_range 0 n n refl (omega arith)) (λ x b q k. search (rules, tests)) in
+    λ d h. all_rows right n all (λ f. nodes-same d s h c.requires (λ i l. same_true _ _ (f i l))) (nodes-differ d s h)

@@ -17,15 +17,15 @@ before-returns t c =
 
 pub walked-constant_start-requires : goal.walked-constant_start-requires
 walked-constant_start-requires t c =
-    constant-at c.args.exprs.now c.args.n _ c.node_at.result c.node_at.ensures (sym c.parts_of-parts.ensures ∙ c.in-Digits.is)
+    constant-at c.args.exprs.now c.args.n _ c.node_at.result c.node_at.ensures (sym c.parts_of.ensures ∙ c.in-Digits.is)
 
 pub walked-returns-in-No : goal.walked-returns-in-No
 walked-returns-in-No t c =
-    λ d h. sym (starts d c.args.exprs.now h c.args.n c.node_at.result c.node_at.ensures (sym c.parts_of-parts.ensures ∙ c.in-No.is))
+    λ d h. sym (starts d c.args.exprs.now h c.args.n c.node_at.result c.node_at.ensures (sym c.parts_of.ensures ∙ c.in-No.is))
 
 pub walked-returns-in-Leaf : goal.walked-returns-in-Leaf
 walked-returns-in-Leaf t c =
-    λ d h. edge-some _ ∙ sym (starts d c.args.exprs.now h c.args.n c.node_at.result c.node_at.ensures (sym c.parts_of-parts.ensures ∙ c.in-Leaf.is))
+    λ d h. edge-some _ ∙ sym (starts d c.args.exprs.now h c.args.n c.node_at.result c.node_at.ensures (sym c.parts_of.ensures ∙ c.in-Leaf.is))
 
 pub walked-returns-in-Digits : goal.walked-returns-in-Digits
 walked-returns-in-Digits t c =
@@ -33,11 +33,11 @@ walked-returns-in-Digits t c =
 
 pub walked-returns-in-One : goal.walked-returns-in-One
 walked-returns-in-One t c =
-    λ d h. c.before-in-One.ensures d h ∙ sym (starts d c.args.exprs.now h c.args.n c.node_at.result c.node_at.ensures (sym c.parts_of-parts.ensures ∙ c.in-One.is))
+    λ d h. c.before-in-One.ensures d h ∙ sym (starts d c.args.exprs.now h c.args.n c.node_at.result c.node_at.ensures (sym c.parts_of.ensures ∙ c.in-One.is))
 
 pub walked-returns-in-Two : goal.walked-returns-in-Two
 walked-returns-in-Two t c =
-    λ d h. c.two_before.ensures d h ∙ sym (starts d c.args.exprs.now h c.args.n c.node_at.result c.node_at.ensures (sym c.parts_of-parts.ensures ∙ c.in-Two.is))
+    λ d h. c.two_before.ensures d h ∙ sym (starts d c.args.exprs.now h c.args.n c.node_at.result c.node_at.ensures (sym c.parts_of.ensures ∙ c.in-Two.is))
 
 pub two_before-returns-then-second-eq-NONE : goal.two_before-returns-then-second-eq-NONE
 two_before-returns-then-second-eq-NONE t c =

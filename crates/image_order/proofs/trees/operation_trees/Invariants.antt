@@ -1,15 +1,10 @@
 use mathlib.Core.Path.{◌≡◌}
-use Prim.Native.Nat.{◌-◌, ◌/◌, ◌≤◌}
-use lib.ListN.{drop, length}
+use lib.ListN.{drop}
 use Rattle.language.specs.Description.{Description}
 use Rattle.language.specs.Order.{operation_roots}
 use Rattle.image_order.specs.Edges.{after, edge}
 use Rattle.image_order.specs.Holds.{Actions, Nodes, Operations}
-use Rattle.language.specs.Encode.{operation_size}
 use Rattle.image_order.proofs.trees.operation_trees.Given as goal
 
 abbrev pub invariant-loop-n : goal.invariant-loop-n
-invariant-loop-n l = (l.n ≤ length l.operations / operation_size) × ((d : Description) → Nodes d l.exprs → Actions d l.acts → Operations d l.operations → after d (edge l.end) (operation_roots d (drop l.n d.operations)) ≡ after d (edge l.at) (operation_roots d d.operations))
-
-abbrev pub decreases-loop-n : goal.decreases-loop-n
-decreases-loop-n l = length l.operations / operation_size - l.n
+invariant-loop-n l = (d : Description) → Nodes d l.exprs → Actions d l.acts → Operations d l.operations → after d (edge l.end) (operation_roots d (drop l.n d.operations)) ≡ after d (edge l.at) (operation_roots d d.operations)

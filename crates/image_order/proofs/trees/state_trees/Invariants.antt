@@ -1,15 +1,10 @@
 use mathlib.Core.Path.{◌≡◌}
-use Prim.Native.Nat.{◌-◌, ◌/◌, ◌≤◌}
-use lib.ListN.{drop, length}
+use lib.ListN.{drop}
 use Rattle.language.specs.Description.{Description}
 use Rattle.language.specs.Order.{state_roots}
 use Rattle.image_order.specs.Edges.{after, edge}
 use Rattle.image_order.specs.Holds.{Actions, Nodes, States}
-use Rattle.language.specs.Encode.{state_size}
 use Rattle.image_order.proofs.trees.state_trees.Given as goal
 
 abbrev pub invariant-loop-n : goal.invariant-loop-n
-invariant-loop-n l = (l.n ≤ length l.states / state_size) × ((d : Description) → Nodes d l.exprs → Actions d l.acts → States d l.states → after d (edge l.end) (state_roots d (drop l.n d.states)) ≡ after d (edge l.at) (state_roots d d.states))
-
-abbrev pub decreases-loop-n : goal.decreases-loop-n
-decreases-loop-n l = length l.states / state_size - l.n
+invariant-loop-n l = (d : Description) → Nodes d l.exprs → Actions d l.acts → States d l.states → after d (edge l.end) (state_roots d (drop l.n d.states)) ≡ after d (edge l.at) (state_roots d d.states)

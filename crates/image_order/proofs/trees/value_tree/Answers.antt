@@ -2,9 +2,9 @@ use mathlib.Core.Path.{sym}
 use Rattle.image_order.proofs.TreeLaws.{after-nil}
 use Rattle.image_order.proofs.trees.value_tree.Goals as goal
 
-pub returns-in-At : goal.returns-in-At
-returns-in-At c =
-    λ d h. rw c.in-At.is (c.tree.ensures d h)
+pub returns-in-Some : goal.returns-in-Some
+returns-in-Some c =
+    λ d h. rw c.in-Some.is (c.tree.ensures d h)
 
 pub returns-in-None : goal.returns-in-None
 returns-in-None c =

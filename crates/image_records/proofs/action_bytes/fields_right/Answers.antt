@@ -7,11 +7,11 @@ use Rattle.image_records.proofs.ByteLaws.{same_refl}
 use Rattle.image_records.proofs.FieldLaws.{action-none, action-one, action-two, action-zero}
 use Rattle.image_records.proofs.action_bytes.fields_right.Goals as goal
 
-pub returns-then-mark-ne0 : goal.returns-then-mark-ne0
+pub returns-else-mark-eq0 : goal.returns-else-mark-eq0
 unfolding action_with action_bytes
-returns-then-mark-ne0 c =
+returns-else-mark-eq0 c =
     let s = c.before.before in
-    simp (ne_eqb _ _ c.in_default.in_default-own.rest.1, ne_eqb _ _ c.in_default.in_default-own.rest.0.1, ne_eqb _ _ c.in_default.in_default-own.rest.0.0.1, ne_eqb _ _ c.in_default.in_default-own.rest.0.0.0.1, ne_eqb _ _ c.in_default.in_default-own.rest.0.0.0.0.1, ne_eqb _ _ c.in_default.in_default-own.rest.0.0.0.0.0.1, ne_eqb _ _ c.in_default.in_default-own.rest.0.0.0.0.0.0.1, ne_eqb _ _ c.in_default.in_default-own.rest.0.0.0.0.0.0.0.1, ne_eqb _ _ c.in_default.in_default-own.rest.0.0.0.0.0.0.0.0.1, ne_eqb _ _ c.in_default.in_default-own.rest.0.0.0.0.0.0.0.0.0.1, ne_eqb _ _ c.in_default.in_default-own.rest.0.0.0.0.0.0.0.0.0.0.1, ne_eqb _ _ c.in_default.in_default-own.rest.0.0.0.0.0.0.0.0.0.0.0.1) (sym (action-zero s.args.mark s.args.a s.args.b s.args.c (omega (arith, s.ranges)) (omega (arith, s.ranges)) (omega (arith, s.ranges)) ∙ rw (ne_eqb _ _ c.if-mark-ne0.true)))
+    simp (ne_eqb _ _ c.in_default.in_default-own.rest.1, ne_eqb _ _ c.in_default.in_default-own.rest.0.1, ne_eqb _ _ c.in_default.in_default-own.rest.0.0.1, ne_eqb _ _ c.in_default.in_default-own.rest.0.0.0.1, ne_eqb _ _ c.in_default.in_default-own.rest.0.0.0.0.1, ne_eqb _ _ c.in_default.in_default-own.rest.0.0.0.0.0.1, ne_eqb _ _ c.in_default.in_default-own.rest.0.0.0.0.0.0.1, ne_eqb _ _ c.in_default.in_default-own.rest.0.0.0.0.0.0.0.1, ne_eqb _ _ c.in_default.in_default-own.rest.0.0.0.0.0.0.0.0.1, ne_eqb _ _ c.in_default.in_default-own.rest.0.0.0.0.0.0.0.0.0.1, ne_eqb _ _ c.in_default.in_default-own.rest.0.0.0.0.0.0.0.0.0.0.1, ne_eqb _ _ c.in_default.in_default-own.rest.0.0.0.0.0.0.0.0.0.0.0.1) (sym (action-zero s.args.mark s.args.a s.args.b s.args.c (omega (arith, s.ranges)) (omega (arith, s.ranges)) (omega (arith, s.ranges)) ∙ rw (ne_eqb _ _ c.if-mark-eq0.false)))
 
 pub returns-in-1 : goal.returns-in-1
 unfolding action_with action_bytes
@@ -85,8 +85,8 @@ returns-in-12 c =
     let s = c.before.before in
     rw c.in-12.is (c.two_zero-in-12.ensures ∙ sym (action-one 12 s.args.a s.args.b s.args.c (omega (arith, s.ranges)) (omega (arith, s.ranges)) (omega (arith, s.ranges))))
 
-pub returns-else-mark-ne0 : goal.returns-else-mark-ne0
+pub returns-then-mark-eq0 : goal.returns-then-mark-eq0
 unfolding action_with action_bytes
-returns-else-mark-ne0 c =
+returns-then-mark-eq0 c =
     let s = c.before.before.before in
-    simp (ne_eqb _ _ c.in_default.in_default-own.rest.1, ne_eqb _ _ c.in_default.in_default-own.rest.0.1, ne_eqb _ _ c.in_default.in_default-own.rest.0.0.1, ne_eqb _ _ c.in_default.in_default-own.rest.0.0.0.1, ne_eqb _ _ c.in_default.in_default-own.rest.0.0.0.0.1, ne_eqb _ _ c.in_default.in_default-own.rest.0.0.0.0.0.1, ne_eqb _ _ c.in_default.in_default-own.rest.0.0.0.0.0.0.1, ne_eqb _ _ c.in_default.in_default-own.rest.0.0.0.0.0.0.0.1, ne_eqb _ _ c.in_default.in_default-own.rest.0.0.0.0.0.0.0.0.1, ne_eqb _ _ c.in_default.in_default-own.rest.0.0.0.0.0.0.0.0.0.1, ne_eqb _ _ c.in_default.in_default-own.rest.0.0.0.0.0.0.0.0.0.0.1, ne_eqb _ _ c.in_default.in_default-own.rest.0.0.0.0.0.0.0.0.0.0.0.1) (c.three_zero-in_default.ensures ∙ sym (action-zero s.args.mark s.args.a s.args.b s.args.c (omega (arith, s.ranges)) (omega (arith, s.ranges)) (omega (arith, s.ranges)) ∙ rw (eq-eqb _ _ c.if-mark-ne0.false)))
+    simp (ne_eqb _ _ c.in_default.in_default-own.rest.1, ne_eqb _ _ c.in_default.in_default-own.rest.0.1, ne_eqb _ _ c.in_default.in_default-own.rest.0.0.1, ne_eqb _ _ c.in_default.in_default-own.rest.0.0.0.1, ne_eqb _ _ c.in_default.in_default-own.rest.0.0.0.0.1, ne_eqb _ _ c.in_default.in_default-own.rest.0.0.0.0.0.1, ne_eqb _ _ c.in_default.in_default-own.rest.0.0.0.0.0.0.1, ne_eqb _ _ c.in_default.in_default-own.rest.0.0.0.0.0.0.0.1, ne_eqb _ _ c.in_default.in_default-own.rest.0.0.0.0.0.0.0.0.1, ne_eqb _ _ c.in_default.in_default-own.rest.0.0.0.0.0.0.0.0.0.1, ne_eqb _ _ c.in_default.in_default-own.rest.0.0.0.0.0.0.0.0.0.0.1, ne_eqb _ _ c.in_default.in_default-own.rest.0.0.0.0.0.0.0.0.0.0.0.1) (c.three_zero-then-mark-eq0.ensures ∙ sym (action-zero s.args.mark s.args.a s.args.b s.args.c (omega (arith, s.ranges)) (omega (arith, s.ranges)) (omega (arith, s.ranges)) ∙ rw (eq-eqb _ _ c.if-mark-eq0.true)))

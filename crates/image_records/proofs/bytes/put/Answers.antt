@@ -1,39 +1,20 @@
-use mathlib.Core.Path.{◌≡◌}
-use Prim.Native.Nat.{◌≤◌, ◌+◌}
+use Prim.Native.Nat.{◌+◌, ◌≤◌}
 use native.Mathlib.Omega.{arith}
 use lib.ListN.{length}
-use lib.Seq.{paste-zero}
-use Rattle.image_records.proofs.ByteLaws.{pasted-more, pasted_length, pasted-all, placed-nothing}
+use borrow.Author.Tests.{le-leb}
+use Rattle.std.proofs.lemmas.Grind.{common_steps}
+use Rattle.image_records.specs.Placed.{placed}
+use Rattle.image_records.proofs.ByteLaws.{placed-nothing}
 use Rattle.image_records.proofs.bytes.put.Goals as goal
+use Rattle.image_records.proofs.bytes.put.Goals.{else-at-s-via-then-at-s+else-bytes-s, else-at-s-via-else-at-s}
 
-pub returns-then-s-at : goal.returns-then-s-at
-returns-then-s-at c =
-    placed-nothing _ _ _ (omega arith)
-
-pub returns-then-s-at-2 : goal.returns-then-s-at-2
-returns-then-s-at-2 c =
-    placed-nothing _ _ _ (omega arith)
-
-pub loop-i-init : goal.loop-i-init
-loop-i-init c =
-    (omega arith, paste-zero c.args.s.now c.args.at c.args.bytes.now)
-
-pub overflow_add-s : goal.overflow_add-s
-overflow_add-s c =
-    omega (arith, c.loop-i-test.true, c.if-s-at.false, c.if-s-at-2.false, c.well_formed)
-
-pub bounds-s-at : goal.bounds-s-at
-bounds-s-at c =
+pub returns-then-bytes-s : goal.returns-then-bytes-s
+unfolding placed
+returns-then-bytes-s c =
     let h : c.args.at + length c.args.bytes.now ≤ length c.args.s.now = omega arith in
-    omega (arith, c.loop-i-test.true, pasted_length _ _ _ _ c.loop-i.invariant.1 h c.loop-i.invariant.0)
+    let a = c.copy_from_slice.ensures.after in
+    rw (le-leb _ _ h, a) (grind (arith, common_steps))
 
-pub loop-i-preserved : goal.loop-i-preserved
-loop-i-preserved c =
-    let h : c.args.at + length c.args.bytes.now ≤ length c.args.s.now = omega arith in
-    (omega arith, pasted-more _ _ _ _ c.loop-i.invariant.1 h c.loop-i-test.true)
-
-pub returns : goal.returns
-returns c =
-    let h : c.args.at + length c.args.bytes.now ≤ length c.args.s.now = omega arith in
-    let e : c.loop-i.i ≡ length c.args.bytes.now = omega arith in
-    pasted-all _ _ _ _ c.loop-i.invariant.1 h e
+pub returns-else-at-s : goal.returns-else-at-s
+returns-else-at-s c =
+    placed-nothing _ _ _ (elim c.else-at-s.branch [ else-at-s-via-then-at-s+else-bytes-s w ↦ omega arith | else-at-s-via-else-at-s w ↦ omega arith ])

@@ -1,43 +1,26 @@
-use mathlib.Core.Path.{refl, sym, ◌∙◌}
-use Prim.Native.Nat.{◌<◌}
+use mathlib.Core.Path.{sym, ap₂, ◌∙◌}
+use Prim.Native.Nat.{ℕ, ◌-◌}
 use native.Mathlib.Omega.{arith}
+use Rattle.language.specs.Decode.{digits_marked}
 use Rattle.image_records.proofs.DigitLaws.{marked-here, marked-not, marked-none, marked_all}
 use Rattle.image_records.proofs.constants.digits_marked.Goals as goal
+use Rattle.image_records.proofs.constants.digits_marked.Goals.{then-n-i-via-then-n-i, then-n-i-via-else-n-i+then-exprs-n-ne-MORE}
 
-pub loop-left-init : goal.loop-left-init
-loop-left-init c =
-    (omega arith, refl)
+pub returns-then-n-i : goal.returns-then-n-i
+returns-then-n-i c =
+    let k : ℕ = c.args.k - c.loop-i.i in
+    let n : ℕ = c.args.n - c.loop-i.i in
+    elim c.then-n-i.branch [
+      | then-n-i-via-then-n-i w ↦ sym (marked-none k n c.args.exprs.now (omega arith) (omega arith)) ∙ c.loop-i.invariant
+      | then-n-i-via-else-n-i+then-exprs-n-ne-MORE w ↦ sym (marked-not k n c.args.exprs.now (omega arith) (omega arith) w.if-exprs-n-ne-MORE.true) ∙ c.loop-i.invariant
+    ]
 
-pub returns-then-m-eq0 : goal.returns-then-m-eq0
-returns-then-m-eq0 c =
-    sym (marked-none c.loop-left.left c.loop-left.m c.args.exprs.now c.loop-left-test.true c.if-m-eq0.true) ∙ c.loop-left.invariant.1
-
-pub overflow_sub-m : goal.overflow_sub-m
-overflow_sub-m c =
-    omega (arith, c.if-m-eq0.false)
-
-pub overflow_sub-left : goal.overflow_sub-left
-overflow_sub-left c =
-    omega (arith, c.loop-left-test.true)
-
-pub bounds-exprs-m : goal.bounds-exprs-m
-bounds-exprs-m c =
-    omega (arith, c.if-m-eq0.false, c.loop-left.invariant.0, c.requires)
-
-pub returns-then-exprs-m-ne-MORE : goal.returns-then-exprs-m-ne-MORE
-returns-then-exprs-m-ne-MORE c =
-    let h : 0 < c.loop-left.m = omega (arith, c.if-m-eq0.false) in
-    sym (marked-not c.loop-left.left c.loop-left.m c.args.exprs.now c.loop-left-test.true h c.if-exprs-m-ne-MORE.true) ∙ c.loop-left.invariant.1
-
-pub loop-left-smaller : goal.loop-left-smaller
-loop-left-smaller c =
-    omega (arith, c.loop-left-test.true)
-
-pub loop-left-preserved : goal.loop-left-preserved
-loop-left-preserved c =
-    let h : 0 < c.loop-left.m = omega (arith, c.if-m-eq0.false) in
-    (omega (arith, c.loop-left.invariant.0), sym (marked-here c.loop-left.left c.loop-left.m c.args.exprs.now c.loop-left-test.true h c.if-exprs-m-ne-MORE.false) ∙ c.loop-left.invariant.1)
+pub loop-i-preserved : goal.loop-i-preserved
+loop-i-preserved c =
+    let k : ℕ = c.args.k - c.loop-i.i in
+    let n : ℕ = c.args.n - c.loop-i.i in
+    let m = marked-here k n c.args.exprs.now (omega arith) (omega arith) c.if-exprs-n-ne-MORE.false in
+    ap₂ (λ (a b : ℕ). digits_marked a b c.args.exprs.now) (omega arith) (omega arith) ∙ sym m ∙ c.loop-i.invariant
 
 pub returns : goal.returns
-returns c =
-    sym (marked_all c.loop-left.left c.loop-left.m c.args.exprs.now c.loop-left-test.false) ∙ c.loop-left.invariant.1
+returns c = sym (marked_all (c.args.k - c.loop-i.i) (c.args.n - c.loop-i.i) c.args.exprs.now (omega arith)) ∙ c.loop-i.invariant

@@ -12,7 +12,7 @@ returns-in-One c =
 
 pub returns-in-Part : goal.returns-in-Part
 returns-in-Part c =
-    λ v. rw (c.in-Part.is, c.joined.ensures, c.joined-in-Part.ensures)
+    λ v. rw (c.in-Part.is, c.ends.ensures)
 
 pub returns-in-Two : goal.returns-in-Two
 returns-in-Two c =
@@ -20,7 +20,7 @@ returns-in-Two c =
 
 pub returns-in-WordPart : goal.returns-in-WordPart
 returns-in-WordPart c =
-    λ v. rw (c.in-WordPart.is, c.joined-in-WordPart.ensures, c.joined-in-WordPart-2.ensures)
+    λ v. rw (c.in-WordPart.is, c.ends-in-WordPart.ensures)
 
 pub returns-in_default : goal.returns-in_default
 returns-in_default c =

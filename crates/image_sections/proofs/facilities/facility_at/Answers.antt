@@ -16,7 +16,7 @@ pub returns : goal.returns
 returns c =
     record {
       name = sym (name-whole facility_size 2 c.args.facilities.now c.args.n (omega (arith, c.if-facilities-n.false)));
-      place = c.two_there-place.ensures ∙ sym (place-whole c.args.facilities.now c.args.n (omega (arith, c.if-facilities-n.false)));
-      meaning = λ name. facility-fields c.args.facilities.now c.args.n name c.kind_of-kind.ensures refl c.bounds_at-words.ensures c.bounds_at-bits.ensures c.two_there-place.ensures
+      place = c.two_there.ensures ∙ sym (place-whole c.args.facilities.now c.args.n (omega (arith, c.if-facilities-n.false)));
+      meaning = λ name. facility-fields c.args.facilities.now c.args.n name c.from.ensures refl c.bounds_at.ensures c.bounds_at-2.ensures c.two_there.ensures
           ∙ sym (facility-whole c.args.facilities.now c.args.n name c.if-facilities-n.false);
     }

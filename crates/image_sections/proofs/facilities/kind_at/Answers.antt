@@ -13,4 +13,4 @@ unfolding facility_of
 returns c =
     λ name.
     let a = c.args in
-    c.kind_of.ensures ∙ ap (λ (f : D.Facility). f.kind) (sym (facility-whole a.facilities.now a.n name c.if-facilities-n.false))
+    c.from.ensures ∙ ap (λ (f : D.Facility). f.kind) (sym (facility-whole a.facilities.now a.n name c.if-facilities-n.false))

@@ -14,41 +14,23 @@ use Rattle.image_sections.proofs.header.header_bytes.Goals as goal
 pub loop-i-init : goal.loop-i-init
 unfolding fours placed
 loop-i-init c =
-    (omega arith, refl)
-
-pub bounds-all-i : goal.bounds-all-i
-bounds-all-i c =
-    omega (arith, c.loop-i-test.true)
+    refl
 
 pub slice_bounds-put-end : goal.slice_bounds-put-end
 slice_bounds-put-end c =
-    sym (ap length c.loop-i.invariant.1 ∙ placed-length (replicate header_size 0) (fours (take c.loop-i.i c.header_numbers-all.result)) 0)
-
-pub overflow_mul-i : goal.overflow_mul-i
-overflow_mul-i c =
-    omega (arith, c.loop-i-test.true)
-
-pub overflow_add-i : goal.overflow_add-i
-overflow_add-i c =
-    omega (arith, c.loop-i-test.true)
-
-pub loop-i-smaller : goal.loop-i-smaller
-loop-i-smaller c =
-    omega (arith, c.loop-i-test.true)
+    sym (ap length c.loop-i.invariant ∙ placed-length (replicate header_size 0) (fours (take c.loop-i.i c.header_numbers-all.result)) 0)
 
 pub loop-i-preserved : goal.loop-i-preserved
 loop-i-preserved c =
     let all = c.header_numbers-all.result in
-    let l : length all ≡ 13 = ap length c.header_numbers-all.ensures ∙ header-length c.args.c in (
-      omega (arith, c.loop-i-test.true),
-      c.put.ensures ∙ ap₂ (λ (h w : List ℕ). placed h (4 * c.loop-i.i) w) c.loop-i.invariant.1 c.four_bytes-written.ensures
-          ∙ fours-next (replicate header_size 0) all c.loop-i.i (omega (arith, c.loop-i-test.true)) (omega arith),
-    )
+    let l : length all ≡ 13 = ap length c.header_numbers-all.ensures ∙ header-length c.args.c in
+    c.put.ensures ∙ ap₂ (λ (h w : List ℕ). placed h (4 * c.loop-i.i) w) c.loop-i.invariant c.four_bytes.ensures
+    ∙ fours-next (replicate header_size 0) all c.loop-i.i (omega (arith, c.loop-i-test.true)) (omega arith)
 
 pub returns : goal.returns
 returns c =
     let all = c.header_numbers-all.result in
     let l : length all ≡ 13 = ap length c.header_numbers-all.ensures ∙ header-length c.args.c in
     let e : length (fours all) ≡ header_size = fours-length all ∙ omega arith in
-    c.loop-i.invariant.1 ∙ ap (λ (x : List ℕ). placed (replicate header_size 0) 0 (fours x)) (take_all c.loop-i.i all (omega (arith, c.loop-i-test.false)))
+    c.loop-i.invariant ∙ ap (λ (x : List ℕ). placed (replicate header_size 0) 0 (fours x)) (take_all c.loop-i.i all (omega (arith, c.loop-i-test.false)))
     ∙ placed-all (replicate header_size 0) (fours all) e ∙ ap fours c.header_numbers-all.ensures

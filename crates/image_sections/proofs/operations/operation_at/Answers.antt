@@ -15,5 +15,5 @@ pub returns : goal.returns
 returns c =
     record {
       name = sym (name-first 5 c.args.operations.now c.args.n (omega (arith, c.if-operations-n.false)));
-      meaning = λ name. rw (operation-whole c.args.operations.now c.args.n name c.if-operations-n.false) (ap (λ (r : D.Run). record { name = name; body = r }) c.run_at-body.ensures);
+      meaning = λ name. rw (operation-whole c.args.operations.now c.args.n name c.if-operations-n.false) (ap (λ (r : D.Run). record { name = name; body = r }) c.run_at.ensures);
     }

@@ -19,5 +19,5 @@ returns c =
     record {
       name = sym (name-first 7 c.args.states.now c.args.n (omega (arith, c.if-states-n.false)));
       meaning = λ name. rw (state-whole c.args.states.now c.args.n name c.if-states-n.false)
-          (ap₂ (λ (v : Option ℕ) (r : D.Run). record { name = name; value = v; actions = r }) (c.value_of-value.ensures ∙ ap value_of c.two_there.ensures) c.run_at-actions.ensures);
+          (ap₂ (λ (v : Option ℕ) (r : D.Run). record { name = name; value = v; actions = r }) (c.value_of.ensures ∙ ap value_of c.two_there.ensures) c.run_at.ensures);
     }

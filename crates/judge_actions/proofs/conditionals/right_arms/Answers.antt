@@ -18,8 +18,8 @@ returns-then-selects c =
 pub returns-else-v-eq1 : goal.returns-else-v-eq1
 returns-else-v-eq1 c =
     λ x y m n. let a : eqb x.length 1 ≡ false = ne_eqb _ 1 (λ z. c.if-v-eq1.false (ap (λ (v : Worth). v.length) m ∙ z)) in
-    rw (c.in-One.is, a)
+    ne_eqb _ 1 c.if-v-eq1.false ∙ rw (c.in-One.is, a)
 
 pub returns-else-selects : goal.returns-else-selects
 returns-else-selects c =
-    λ x y m n. rw (c.in-Several.is, ← ap (λ (v : Worth). v.length) m, sym c.selects.ensures ∙ c.if-selects.false)
+    λ x y m n. c.if-selects.false ∙ rw (c.in-Several.is, ← ap (λ (v : Worth). v.length) m, sym c.selects.ensures ∙ c.if-selects.false)

@@ -1,9 +1,5 @@
-use Rattle.judge_verdicts.proofs.VerdictLaws.{worth-seen}
-use Rattle.judge_verdicts.proofs.CappedLaws.{capped_small}
-use native.Mathlib.Omega.{arith}
-use mathlib.Core.Path.{refl, sym}
 use Rattle.judge_actions.proofs.simple.alone.Goals as goal
 
 pub returns : goal.returns
 returns c =
-    worth-seen 1 0 _ refl (sym (capped_small 0 (omega arith))) c.own.ensures
+    c.only.ensures.shown _ c.own.ensures

@@ -5,11 +5,11 @@ use mathlib.Core.Path.{sym, ap, ◌∙◌}
 use mathlib.Core.List.{[]}
 use Rattle.judge_actions.proofs.stores.kind_at.Goals as goal
 
-pub returns-in-To : goal.returns-in-To
+pub returns-in-Some : goal.returns-in-Some
 unfolding kind_at
-returns-in-To c =
+returns-in-Some c =
     record {
-      kind = λ d p t marks memo known sh. rw (sym (ap reference_meant (sym c.in-To.is) ∙ c.reference_at.ensures d p sh.records))
+      kind = λ d p t marks memo known sh. rw (sym (ap reference_meant (sym c.in-Some.is) ∙ c.reference_at.ensures d p sh.records))
           (ap (λ (x : D.Facility). x.kind) (c.facility_at-x.ensures.meaning []) ∙ sym (sh.kind _));
     }
 

@@ -3,10 +3,10 @@ use native.Mathlib.Omega.{arith}
 use borrow.Author.Rules.{rules}
 use Rattle.judge_actions.proofs.stores.length_of.Goals as goal
 
-pub returns-in-Fine : goal.returns-in-Fine
-returns-in-Fine c =
-    (λ w e. fine-length w c.in-Fine.is e, search rules)
+pub returns-in-Ok : goal.returns-in-Ok
+returns-in-Ok c =
+    (λ w e. fine-length w c.in-Ok.is e, search rules)
 
-pub returns-in-Faulty : goal.returns-in-Faulty
-returns-in-Faulty c =
-    (λ w e. no_length w c.in-Faulty.is e, omega arith)
+pub returns-in-Err : goal.returns-in-Err
+returns-in-Err c =
+    (λ w e. no_length w c.in-Err.is e, omega arith)

@@ -1,5 +1,5 @@
 use Rattle.judge_all.proofs.FacilityLaws.{same-faulty}
-use Rattle.judge_verdicts.proofs.VerdictLaws.{is-fine}
+use Rattle.judge_verdicts.proofs.VerdictLaws.{is-fine, passed-on}
 use mathlib.Core.Path.{◌≡◌, ap, ap₂, sym, ◌∙◌}
 use Rattle.language.specs.declared.refusals.Refusal.TheVariants.{BadLength}
 use Rattle.text_words.specs.Meaning.{judged}
@@ -12,11 +12,11 @@ use lib.Dec.{eqb}
 use Prim.Native.Nat.{ℕ}
 use Rattle.judge_all.proofs.bounds.same_length.Goals as goal
 
-pub returns-in-Fine : goal.returns-in-Fine
-returns-in-Fine c =
-    λ d p q j z e. is-fine j _ (λ k. judged c.unless.result ≡ least (same_length d p c.args.length q k)) (sym c.in-Fine.is ∙ e)
+pub returns : goal.returns
+returns c =
+    λ d p q j z e. is-fine j _ (λ k. judged c.unless.result ≡ least (same_length d p c.args.length q k)) (sym c.in_ok-w.was ∙ e)
     (λ x m. c.unless.ensures ∙ ap₂ (λ (l : ℕ) (u : W.Position). least (L.unless (eqb c.args.length l) u BadLength)) (ap (λ (v : Worth). v.length) m) z)
 
-pub returns-in-Faulty : goal.returns-in-Faulty
-returns-in-Faulty c =
-    λ d p q j z e. same-faulty d p _ q j _ (sym c.in-Faulty.is ∙ e)
+pub returns-in_err-w : goal.returns-in_err-w
+returns-in_err-w c =
+    λ d p q j z e. rw (passed-on _ _ c.from_residual.ensures.1) (same-faulty d p _ q j _ (sym c.in_err-w.was ∙ e))

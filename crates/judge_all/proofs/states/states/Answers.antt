@@ -5,32 +5,25 @@ use Rattle.language.specs.Rules.{sequencing_length}
 use Rattle.judge_verdicts.specs.Meaning.{seen}
 use Rattle.text_words.specs.Meaning.{judged}
 use mathlib.Core.Option.{Option}
-use native.Mathlib.Omega.{arith}
 use Prim.Native.Nat.{ℕ}
 use mathlib.Core.Path.{ap, ◌∙◌}
 use Rattle.judge_all.proofs.states.states.Goals as goal
 
 pub loop-n-init : goal.loop-n-init
 loop-n-init c =
-    (omega arith, λ d p s r. start-state d p (sequencing_length d p))
+    λ d p s r. start-state d p (sequencing_length d p)
 
 pub actions-v-requires : goal.actions-v-requires
 actions-v-requires c =
     c.requires
 
-pub loop-n-smaller : goal.loop-n-smaller
-loop-n-smaller c =
-    omega (arith, c.loop-n-test.true)
-
 pub loop-n-preserved : goal.loop-n-preserved
-loop-n-preserved c = (
-  omega (arith, c.loop-n-test.true),
-  λ d p s r. step-state d p (sequencing_length d p) _ c.loop-n.n s.count (judged c.loop-n.all) (c.loop-n.invariant.1 d p s r) c.loop-n-test.true c.earlier-all.ensures
-      (let m = s.state c.loop-n.n c.state_at-s.result c.state_at-s.ensures in
-      c.state-one.ensures d p (valued-of s) (s.spot _) m (c.actions-v.ensures d p _ s.acting r s.operations ∙ ap (λ (x : State). seen (state_judged d p x.actions)) m)
-      ∙ ap (λ (l : Option ℕ). state_here d p l c.loop-n.n) (c.sequencing_length-wanted.ensures _ _ d p s.acting.declared)),
-)
+loop-n-preserved c =
+    λ d p s r. step-state d p (sequencing_length d p) _ c.loop-n.n s.count (judged c.loop-n.all) (c.loop-n.invariant d p s r) c.loop-n-test.true c.earlier-all.ensures
+    (let m = s.state c.loop-n.n c.state_at-s.result c.state_at-s.ensures in
+    c.state-one.ensures d p (valued-of s) (s.spot _) m (c.actions-v.ensures d p _ s.acting r s.operations ∙ ap (λ (x : State). seen (state_judged d p x.actions)) m)
+    ∙ ap (λ (l : Option ℕ). state_here d p l c.loop-n.n) (c.sequencing_length-wanted.ensures _ _ d p s.acting.declared))
 
 pub returns : goal.returns
 returns c =
-    λ d p s r. stop-state d p (sequencing_length d p) _ c.loop-n.n s.count (judged c.loop-n.all) (c.loop-n.invariant.1 d p s r) c.loop-n-test.false
+    λ d p s r. stop-state d p (sequencing_length d p) _ c.loop-n.n s.count (judged c.loop-n.all) (c.loop-n.invariant d p s r) c.loop-n-test.false

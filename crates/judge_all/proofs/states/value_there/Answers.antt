@@ -1,16 +1,12 @@
-use Rattle.judge_all.proofs.StateLaws.{there-none, there-some, there-unwanted}
-use Rattle.image_sections.specs.Declarations.{value_meant}
-use mathlib.Core.Path.{ap, sym}
+use Rattle.judge_all.proofs.StateLaws.{there-unwanted, there-wanted}
+use mathlib.Core.Bool.{not}
+use mathlib.Core.Path.{ap, ◌∙◌}
 use Rattle.judge_all.proofs.states.value_there.Goals as goal
 
-pub returns-then-wanted-eq0 : goal.returns-then-wanted-eq0
-returns-then-wanted-eq0 c =
-    λ d p. there-unwanted d p c.args.wanted _ c.if-wanted-eq0.true
+pub returns-then-is_none : goal.returns-then-is_none
+returns-then-is_none c =
+    λ d p. c.if-is_none.true ∙ there-unwanted d p _ _ (c.is_none.ensures ∙ ap not c.if-is_none.true)
 
-pub returns-in-At : goal.returns-in-At
-returns-in-At c =
-    λ d p. there-some d p c.args.wanted _ c.if-wanted-eq0.false _ (ap value_meant (sym c.in-At.is))
-
-pub returns-in-None : goal.returns-in-None
-returns-in-None c =
-    λ d p. there-none d p c.args.wanted _ c.if-wanted-eq0.false (ap value_meant (sym c.in-None.is))
+pub returns-else-is_none : goal.returns-else-is_none
+returns-else-is_none c =
+    λ d p. c.is_some.ensures ∙ there-wanted d p _ _ (c.is_none.ensures ∙ ap not c.if-is_none.false)

@@ -3,10 +3,10 @@ use Rattle.text_words.specs.Meaning.{judged}
 use mathlib.Core.Path.{ap, sym, ◌∙◌}
 use Rattle.judge_all.proofs.states.with_value.Goals as goal
 
-pub returns-in-Passed : goal.returns-in-Passed
-returns-in-Passed c =
-    λ x y z e f g. value-passed x y z (ap judged (sym c.in-Passed.is) ∙ e) f
+pub returns-in-Ok : goal.returns-in-Ok
+returns-in-Ok c =
+    λ x y z e f g. value-passed x y z (ap judged (sym c.in-Ok.is) ∙ e) f
 
-pub returns-in-Refused : goal.returns-in-Refused
-returns-in-Refused c =
-    λ x y z e f g. value-refused x y z _ c.in-Refused.is e (c.also.ensures x z e g)
+pub returns-in-Err : goal.returns-in-Err
+returns-in-Err c =
+    λ x y z e f g. value-refused x y z _ (ap judged (sym c.in-Err.is) ∙ e) (c.also.ensures x z e g)

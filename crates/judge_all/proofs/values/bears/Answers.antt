@@ -6,9 +6,9 @@ use lib.Dec.{eqb}
 use mathlib.Core.Path.{ap, ap₂, sym, ◌∙◌}
 use Rattle.judge_all.proofs.values.bears.Goals as goal
 
-pub returns-in-At : goal.returns-in-At
-returns-in-At c =
-    λ d p s. bears-some d p _ c.args.n _ c.same_value.result (ap value_meant (sym c.in-At.is) ∙ ap (λ (x : State). x.value) (s.state c.args.n c.state_at-s.result c.state_at-s.ensures)) (c.same_value.ensures ∙ ap₂ (λ (x y : Value). eqb x.number y.number) (sym (s.constant _)) (sym (s.constant _)))
+pub returns-in-Some : goal.returns-in-Some
+returns-in-Some c =
+    λ d p s. bears-some d p _ c.args.n _ c.same_value.result (ap value_meant (sym c.in-Some.is) ∙ ap (λ (x : State). x.value) (s.state c.args.n c.state_at-s.result c.state_at-s.ensures)) (c.same_value.ensures ∙ ap₂ (λ (x y : Value). eqb x.number y.number) (sym (s.constant _)) (sym (s.constant _)))
 
 pub returns-in-None : goal.returns-in-None
 returns-in-None c =

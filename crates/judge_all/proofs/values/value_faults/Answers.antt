@@ -19,4 +19,4 @@ returns-in_default c =
 
 pub returns : goal.returns
 returns c =
-    λ d p q s e. c.unless.ensures ∙ ap₂ (λ (b : Bool) (u : W.Position). least (L.unless b u BadSequencing)) (c.right_value.ensures d p s) e ∙ ap least (value-faults-are d p (values_before d p c.args.n) q (wanted_length c.args.wanted) _) ∙ ap (λ (x : Option ℕ). least (R.value_faults d p (wanted_length c.args.wanted) (values_before d p c.args.n) q x)) (ap value_meant (sym c.in-At.is))
+    λ d p q s e. c.unless.ensures ∙ ap₂ (λ (b : Bool) (u : W.Position). least (L.unless b u BadSequencing)) (c.right_value.ensures d p s) e ∙ ap least (value-faults-are d p (values_before d p c.args.n) q (wanted_length c.args.wanted) _) ∙ ap (λ (x : Option ℕ). least (R.value_faults d p (wanted_length c.args.wanted) (values_before d p c.args.n) q x)) (ap value_meant (sym c.in-Some.is))

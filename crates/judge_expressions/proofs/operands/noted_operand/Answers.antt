@@ -1,7 +1,7 @@
 use mathlib.Core.Path.{◌≡◌, ap, sym, ◌∙◌}
 use Rattle.language.specs.Judging as L
 use Rattle.judge_verdicts.specs.Meaning.{seen}
-use Rattle.judge_verdicts.specs.declared.Verdict.{Verdict}
+use Rattle.judge_verdicts.specs.Meaning.{Verdict}
 use Rattle.judge_terms.specs.Shown.{with_own}
 use borrow.Author.Rules.{rules}
 use Rattle.judge_expressions.proofs.operands.noted_operand.Goals as goal

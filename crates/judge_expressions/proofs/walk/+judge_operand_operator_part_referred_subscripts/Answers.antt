@@ -1,7 +1,7 @@
 use Rattle.language.specs.Description.{facility_at, is_computed}
 use Rattle.image_records.specs.References.{reference_meant}
 use Rattle.judge_terms.specs.Shown as Shown
-use Rattle.judge_expressions.proofs.WalkLaws.{broken-is, judge-is, part-ge, part-lt, reference-is, right-reference, unknown-reference, wrong-reference}
+use Rattle.judge_expressions.proofs.WalkLaws.{broken-is, judge-is, noted-at, part-ge, part-lt, reference-is, right-reference, unknown-reference, wrong-reference}
 use Rattle.judge_terms.proofs.RecordLaws.{at-is, node-is}
 use Rattle.language.specs.declared.refusals.Refusal.TheVariants.{BadName, NoContinuation}
 use Rattle.judge_verdicts.specs.Meaning.{seen}
@@ -11,12 +11,13 @@ use Rattle.language.specs.References.{reference_of}
 use Rattle.language.specs.Expressions.{judge_at, judge_node}
 use native.Mathlib.Omega.{arith}
 use Prim.Native.Nat.{ℕ}
+use mathlib.Core.Logic.{inl, inr}
 use mathlib.Core.Path.{refl, sym, ap, ◌∙◌}
 use Rattle.judge_expressions.proofs.walk.+judge_operand_operator_part_referred_subscripts.Goals as goal
 
-pub judge-returns-in-To : goal.judge-returns-in-To
-judge-returns-in-To t c =
-    λ d p w sh. c.with_own.ensures _ (c.referred.ensures d p w sh) ∙ ap seen (reference-is d p w _ _ _ (ap reference_meant (sym c.in-To.is) ∙ c.reference_at.ensures d p sh.records))
+pub judge-returns-in-Some : goal.judge-returns-in-Some
+judge-returns-in-Some t c =
+    λ d p w sh. c.with_own.ensures _ (c.referred.ensures d p w sh) ∙ ap seen (reference-is d p w _ _ _ (ap reference_meant (sym c.in-Some.is) ∙ c.reference_at.ensures d p sh.records))
 
 pub judge-returns-in-None : goal.judge-returns-in-None
 judge-returns-in-None t c =
@@ -76,15 +77,14 @@ pub part-returns-then-n-a : goal.part-returns-then-n-a
 part-returns-then-n-a t c =
     λ d p w sh. c.refused.ensures ∙ refuse-same NoContinuation c.nowhere.ensures ∙ ap seen (sym (part-ge d p w _ _ _ c.if-n-a.true))
 
-pub part-returns-then-i-memo : goal.part-returns-then-i-memo
-part-returns-then-i-memo t c =
+pub part-returns-in-Some : goal.part-returns-in-Some
+part-returns-in-Some t c =
     λ d p w sh.
-    let f = c.find-i.ensures c.if-i-memo.true in
-    c.noted_operand.ensures d p w _ (sh.noted _ f.0 c.if-i-memo.true)
-    ∙ ap (λ (m : ℕ). seen (judge_at d p w c.args.known m)) f.1 ∙ ap seen (sym (part-lt d p w _ _ _ c.if-n-a.false))
+    c.noted_operand.ensures d p w _ (noted-at sh c.in-Some.ensures)
+    ∙ ap (λ (m : ℕ). seen (judge_at d p w c.args.known m)) c.in-Some.ensures.4 ∙ ap seen (sym (part-lt d p w _ _ _ c.if-n-a.false))
 
-pub part-returns : goal.part-returns
-part-returns t c =
+pub part-returns-in-None : goal.part-returns-in-None
+part-returns-in-None t c =
     λ d p w sh. c.judge.ensures d p w sh ∙ ap seen (sym (part-lt d p w _ _ _ c.if-n-a.false))
 
 pub referred-returns-then-known-f : goal.referred-returns-then-known-f
@@ -109,24 +109,14 @@ referred-returns t c =
 pub subscripts-returns-in-Whole : goal.subscripts-returns-in-Whole
 unfolding subscripts_judged
 subscripts-returns-in-Whole t c =
-    λ d p w sh. rw c.in-Whole.is c.nothing.ensures
+    λ d p w sh. elim c.in-Whole.is [ inl e ↦ rw e c.nothing.ensures | inr e ↦ rw e.1 c.nothing.ensures ]
 
 pub subscripts-returns-in-One : goal.subscripts-returns-in-One
 unfolding subscripts_judged
 subscripts-returns-in-One t c =
-    λ d p w sh. rw c.in-One.is (c.operand.ensures d p w sh)
-
-pub subscripts-returns-in-Part : goal.subscripts-returns-in-Part
-unfolding subscripts_judged
-subscripts-returns-in-Part t c =
-    λ d p w sh. rw c.in-Part.is c.nothing-in-Part.ensures
+    λ d p w sh. elim c.in-One.is [ inl e ↦ rw e (c.operand-in-One.ensures d p w sh) | inr e ↦ rw e.1 (c.operand-in-One.ensures d p w sh) ]
 
 pub subscripts-returns-in-Two : goal.subscripts-returns-in-Two
 unfolding subscripts_judged
 subscripts-returns-in-Two t c =
-    λ d p w sh. rw c.in-Two.is (c.together.ensures _ _ (c.operand-x.ensures d p w sh) (c.operand-in-Two.ensures d p w sh))
-
-pub subscripts-returns-in-WordPart : goal.subscripts-returns-in-WordPart
-unfolding subscripts_judged
-subscripts-returns-in-WordPart t c =
-    λ d p w sh. rw c.in-WordPart.is (c.operand-in-WordPart.ensures d p w sh)
+    λ d p w sh. rw c.in-Two.is (c.together.ensures _ _ (c.operand-x.ensures d p w sh) (c.operand.ensures d p w sh))

@@ -13,10 +13,7 @@ use Rattle.judge_names.proofs.judged.names.Given as goal
 
 abbrev pub invariant-loop-k : goal.invariant-loop-k
 invariant-loop-k l =
-    (l.k ≤ l.count) × (l.offset ≤ length l.ns) × (drop l.offset l.ns ≡ drop (offset_of l.k (lengths_of l.fs l.os l.ss)) l.ns)
+    (l.offset ≤ length l.ns) × (drop l.offset l.ns ≡ drop (offset_of l.k (lengths_of l.fs l.os l.ss)) l.ns)
     × (length l.marks ≡ 1024) × AllMarked l.marks (earlier (lengths_of l.fs l.os l.ss) l.ns l.k)
     × (lesser (judged l.all) (left (lengths_of l.fs l.os l.ss) l.ns (places_of l.fp l.op l.sp) (l.count - l.k) l.k)
     ≡ least (name_faults [] (up_to (name_no (lengths_of l.fs l.os l.ss) l.ns) 0 (length (lengths_of l.fs l.os l.ss))) (places_of l.fp l.op l.sp)))
-
-abbrev pub decreases-loop-k : goal.decreases-loop-k
-decreases-loop-k l = l.count - l.k

@@ -13,5 +13,5 @@ pub returns : goal.returns
 returns c =
     record {
       kind = ap (λ (f : D.Facility). f.kind) (c.facility_at-f.ensures.meaning []);
-      meaning = λ h name. widened-fields _ c.args.n c.facility_at-f.result c.widened_at-words.result c.widened_at-bits.result (c.facility_at-f.ensures.meaning name) c.widened_at-words.ensures c.widened_at-bits.ensures;
+      meaning = λ h name. widened-fields _ c.args.n c.facility_at-f.result c.widened_at.result c.widened_at-2.result (c.facility_at-f.ensures.meaning name) c.widened_at.ensures c.widened_at-2.ensures;
     }

@@ -1,37 +1,19 @@
-use Rattle.judge_terms.proofs.ConstantLaws.{zero-all, zero-here, zero-none, zero-not}
-use native.Mathlib.Omega.{arith}
-use Prim.Native.Nat.{◌<◌}
-use mathlib.Core.Path.{refl, sym, ◌∙◌}
+use mathlib.Core.Path.{refl, ◌∙◌}
+use Prim.Native.Nat.{ℕ, ◌+◌, ◌-◌, ◌*◌}
+use lib.Dec.{eqb}
+use Rattle.std.proofs.Common.{rules, tests}
+use Rattle.std.proofs.lemmas.Iterator.{YieldsList-from_range}
+use Rattle.std.proofs.lemmas.Iterator.Search.{all_from_yields_List}
+use Rattle.language.specs.Decode.{number_at}
+use Rattle.language.specs.Encode.{node_size}
+use Rattle.judge_terms.proofs.ConstantLaws.{zero-each}
 use Rattle.judge_terms.proofs.constants.digits_zero.Goals as goal
-
-pub loop-left-init : goal.loop-left-init
-loop-left-init c =
-    (omega arith, refl)
-
-pub returns-then-m-eq0 : goal.returns-then-m-eq0
-returns-then-m-eq0 c =
-    zero-none _ c.loop-left.left _ c.if-m-eq0.true ∙ c.loop-left.invariant.1
-
-pub overflow_sub-m : goal.overflow_sub-m
-overflow_sub-m c =
-    omega (arith, c.if-m-eq0.false)
-
-pub overflow_sub-left : goal.overflow_sub-left
-overflow_sub-left c =
-    omega (arith, c.loop-left-test.true)
-
-pub returns-then-six-ne0 : goal.returns-then-six-ne0
-returns-then-six-ne0 c =
-    let h : 0 < c.loop-left.m = omega (arith, c.if-m-eq0.false) in zero-not _ c.loop-left.left c.loop-left.m c.loop-left-test.true h (λ e. c.if-six-ne0.true (c.six.ensures.0 ∙ e)) ∙ c.loop-left.invariant.1
-
-pub loop-left-smaller : goal.loop-left-smaller
-loop-left-smaller c =
-    omega (arith, c.loop-left-test.true)
-
-pub loop-left-preserved : goal.loop-left-preserved
-loop-left-preserved c =
-    let h : 0 < c.loop-left.m = omega (arith, c.if-m-eq0.false) in (omega (arith, c.loop-left.invariant.0), zero-here _ c.loop-left.left c.loop-left.m c.loop-left-test.true h (sym c.six.ensures.0 ∙ c.if-six-ne0.false) ∙ c.loop-left.invariant.1)
 
 pub returns : goal.returns
 returns c =
-    zero-all _ c.loop-left.left c.loop-left.m c.loop-left-test.false ∙ c.loop-left.invariant.1
+    let s = c.args.exprs.now in
+    let n = c.args.n in
+    let from : ℕ = n - c.args.k in
+    let zero = λ (m : ℕ). eqb (number_at 6 (node_size * m + 2) s) 0 in
+    all_from_yields_List zero _ _ c.all.result c.all.ensures.ran (YieldsList-from_range from n (n - from) (search rules) refl) (λ x b q k. search (rules, tests))
+    ∙ zero-each s c.args.k n

@@ -8,8 +8,8 @@ use Rattle.judge_terms.proofs.constants.within.Goals as goal
 
 pub returns-then-digits_zero : goal.returns-then-digits_zero
 returns-then-digits_zero c =
-    λ v e. c.in_bounds.ensures ∙ ap (in_bounds (bounds_meant c.args.b)) (c.six.ensures.0 ∙ number-own _ c.args.n (c.byte-more.result / 48) v e (ap (λ (x : ℕ). x / 48) c.byte-more.ensures) (sym c.digits_zero.ensures ∙ c.if-digits_zero.true))
+    λ v e. c.in_bounds.ensures ∙ ap (in_bounds (bounds_meant c.args.b)) (c.digit.ensures.0 ∙ number-own _ c.args.n c.from.result v e (c.from.ensures ∙ ap (λ (x : ℕ). x / 48) c.byte-more.ensures) (sym c.digits_zero.ensures ∙ c.if-digits_zero.true))
 
-pub returns : goal.returns
-returns c =
-    λ v e. out-of-bounds _ c.args.n (c.byte-more.result / 48) v (bounds_meant c.args.b) e (ap (λ (x : ℕ). x / 48) c.byte-more.ensures) (sym c.digits_zero.ensures ∙ c.if-digits_zero.false) (search rules) (search rules)
+pub returns-else-digits_zero : goal.returns-else-digits_zero
+returns-else-digits_zero c =
+    λ v e. c.if-digits_zero.false ∙ out-of-bounds _ c.args.n c.from.result v (bounds_meant c.args.b) e (c.from.ensures ∙ ap (λ (x : ℕ). x / 48) c.byte-more.ensures) (sym c.digits_zero.ensures ∙ c.if-digits_zero.false) (search rules) (search rules)

@@ -1,22 +1,24 @@
 use Rattle.language.specs.WordStage.{least}
 use Rattle.language.specs.ReferenceRules.{bound_faults}
+use mathlib.Core.Path.{◌∙◌}
 use borrow.Author.Tests.{eq-eqb, ne_eqb}
 use Rattle.judge_terms.proofs.references.bound_faults.Goals as goal
-
-pub returns-then-f-eq1 : goal.returns-then-f-eq1
-unfolding bound_faults
-returns-then-f-eq1 c =
-    λ d p t name s. rw (c.in-One.is, eq-eqb _ _ c.if-f-eq1.true) (c.subscript_faults.ensures d p t s)
+use Rattle.judge_terms.proofs.references.bound_faults.Goals.{then-f-eq1, else-f-eq1}
 
 pub returns-in-Whole : goal.returns-in-Whole
 unfolding bound_faults least
 returns-in-Whole c =
     λ d p t name s. rw c.in-Whole.is
 
-pub returns-else-f-eq1 : goal.returns-else-f-eq1
+pub returns-after-f-eq1 : goal.returns-after-f-eq1
 unfolding bound_faults
-returns-else-f-eq1 c =
-    λ d p t name s. rw (c.in-One.is, ne_eqb _ _ c.if-f-eq1.false) (c.subscript_faults-in-One.ensures d p t s)
+returns-after-f-eq1 c =
+    λ d p t name s. rw c.in-One.is
+    (c.subscript_faults.ensures d p t s
+    ∙ elim c.if-f-eq1.branch [
+      | then-f-eq1 w ↦ rw (w.taken-is, eq-eqb _ _ w.if-f-eq1.true)
+      | else-f-eq1 w ↦ rw (w.taken-is, ne_eqb _ _ w.if-f-eq1.false)
+    ])
 
 pub returns-in-Part : goal.returns-in-Part
 unfolding bound_faults

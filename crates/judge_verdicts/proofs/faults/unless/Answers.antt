@@ -6,7 +6,7 @@ unfolding least
 returns-then-right c =
     rw c.if-right.true
 
-pub returns : goal.returns
+pub returns-else-right : goal.returns-else-right
 unfolding least
-returns c =
+returns-else-right c =
     rw c.if-right.false

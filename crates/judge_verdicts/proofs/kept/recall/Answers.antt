@@ -1,4 +1,4 @@
-use Rattle.judge_verdicts.specs.declared.Verdict.TheVariants.{Faulty}
+use Rattle.std.specs.Prelude.{Err}
 use Rattle.language.specs.Words.{Position}
 use Prim.Native.Nat.{ℕ}
 use Rattle.judge_verdicts.specs.Meaning.{recalled}
@@ -10,9 +10,10 @@ pub returns-then-mark-eq0 : goal.returns-then-mark-eq0
 unfolding recalled
 returns-then-mark-eq0 c =
     rw (← c.number-mark.ensures, eq-eqb _ 0 c.if-mark-eq0.true, ← c.number-value.ensures)
+    c.only.ensures.same
 
 pub returns : goal.returns
 unfolding recalled
 returns c =
-    rw (← c.number-mark.ensures, ne_eqb _ 0 c.if-mark-eq0.false, ← c.number-value.ensures, ← c.numbered-refusal.ensures)
-    (ap (λ (x : ℕ). Faulty (record { at = record { place = x }; refusal = c.numbered-refusal.result })) (ap (λ (p : Position). p.place) c.position-place.ensures))
+    rw (← c.number-mark.ensures, ne_eqb _ 0 c.if-mark-eq0.false, ← c.number-value.ensures, ← c.numbered.ensures)
+    (ap (λ (x : ℕ). Err (record { at = record { place = x }; refusal = c.numbered.result })) (ap (λ (p : Position). p.place) c.position.ensures))

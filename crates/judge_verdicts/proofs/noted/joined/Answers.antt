@@ -1,11 +1,9 @@
 use native.Mathlib.Omega.{arith}
 use Rattle.judge_verdicts.specs.Noted.{joined}
 use Rattle.judge_verdicts.proofs.noted.joined.Goals as goal
-
-pub returns-then-reference : goal.returns-then-reference
-unfolding joined
-returns-then-reference c = λ h. (omega arith, rw c.if-reference.true (omega arith))
+use Rattle.judge_verdicts.proofs.noted.joined.Goals.{then-reference, else-reference}
 
 pub returns : goal.returns
 unfolding joined
-returns c = λ h. (omega arith, rw c.if-reference.false (omega arith))
+returns c =
+    (omega arith, elim c.if-reference.branch [ then-reference w ↦ rw w.if-reference.true (omega arith) | else-reference w ↦ rw w.if-reference.false (omega arith) ])

@@ -13,6 +13,3 @@ abbrev pub invariant-loop-i : goal.invariant-loop-i
 invariant-loop-i l =
     (l.k + l.i ≡ l.n + further_digits l.v.length)
     × ((p : Position) → fields l.beside ≡ plain_places (node_places p) → with_nodes (held l.n l.initial.work) (constant_nodes (valued l.v) p) ≡ with_nodes (held l.k l.work) (digits_from (valued l.v) p l.i))
-
-abbrev pub decreases-loop-i : goal.decreases-loop-i
-decreases-loop-i l = l.i

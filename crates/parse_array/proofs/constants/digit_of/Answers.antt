@@ -1,17 +1,16 @@
 use mathlib.Core.Path.{◌≡◌, sym, ap, ◌∙◌}
-use Prim.Native.Nat.{ℕ, ◌%◌, ◌^◌}
-use native.Mathlib.Nat.{dvd-mul_right, mod-mod_of_dvd}
-use lib.Pow.{low}
-use Rattle.value_limbs.specs.Limbs.{cat, four, number}
-use borrow.Author.Rules.{rules}
+use Prim.Native.Nat.{ℕ, ◌+◌, ◌*◌, ◌%◌, ◌^◌}
+use native.Mathlib.Nat.{mul-add-mod_self_right, mul_assoc}
+use lib.ListN.{get_or}
+use Rattle.value_limbs.specs.Limbs.{cat, number}
 use Rattle.parse_array.proofs.constants.digit_of.Goals as goal
 
--- The low 48 bits of a limb are those of the whole.
-low_digit : (n : ℕ) → n % 2 ^ 64 % 2 ^ 48 ≡ n % 2 ^ 48
-low_digit n = mod-mod_of_dvd (2 ^ 48) n (dvd-mul_right (2 ^ 48) (2 ^ 16))
+-- The low 48 bits of the lowest limb are those of the whole.
+low_digit : (X a : ℕ) → a % 2 ^ 48 ≡ cat X a % 2 ^ 48
+low_digit X a = sym (ap (λ (n : ℕ). (n + a) % 2 ^ 48) (sym (mul_assoc X (2 ^ 16) (2 ^ 48))) ∙ mul-add-mod_self_right (X * 2 ^ 16) (2 ^ 48) a)
 
 pub returns : goal.returns
-unfolding four
+unfolding number
 returns c =
-    ap (λ (n : ℕ). n % 2 ^ 48) (sym (low (cat (cat c.taken-low.result.l3 c.taken-low.result.l2) c.taken-low.result.l1) 64 (search rules)) ∙ ap (λ (n : ℕ). n % 2 ^ 64) c.taken-low.ensures)
-    ∙ low_digit (number c.right-above.result) ∙ ap (λ (n : ℕ). n % 2 ^ 48) c.right-above.ensures
+    let x = c.right-above.result in
+    low_digit (cat (cat (get_or x 3 0) (get_or x 2 0)) (get_or x 1 0)) (get_or x 0 0) ∙ ap (λ (n : ℕ). n % 2 ^ 48) c.right-above.ensures

@@ -3,4 +3,4 @@ use Rattle.parse_bounds.proofs.extents.row.Goals as goal
 
 pub returns : goal.returns
 returns c =
-    λ x b. row_sized c.nothing-words.ensures b
+    λ x b. row_sized c.nothing.ensures b

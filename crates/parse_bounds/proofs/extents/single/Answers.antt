@@ -3,4 +3,4 @@ use Rattle.parse_bounds.proofs.extents.single.Goals as goal
 
 pub returns : goal.returns
 returns c =
-    none-sized c.nothing-words.ensures c.nothing-bits.ensures
+    none-sized c.nothing.ensures c.nothing-2.ensures

@@ -4,4 +4,4 @@ use Rattle.parse_bounds.proofs.ranges.from_one.Goals as goal
 
 pub returns : goal.returns
 returns c =
-    last-bounded c.args.last refl c.bound-b.ensures refl refl
+    last-bounded c.args.last refl c.bound.ensures refl refl

@@ -1,19 +1,24 @@
 use mathlib.Core.Path.{sym, ◌∙◌}
-use Rattle.parse_bounds.proofs.RangeLaws.{range-both, range-ended, range-no-colon, range-not}
+use Rattle.parse_step.proofs.Answers.{err-came}
+use Rattle.parse_bounds.proofs.RangeLaws.{range-both, range-ended, range-half, range-no-colon, range-not}
 use Rattle.parse_bounds.proofs.ranges.range.Goals as goal
 
-pub returns-then-unread : goal.returns-then-unread
-returns-then-unread c =
-    range-not c.keep_constant-first.ensures (c.unread.ensures.1 c.if-unread.true)
+pub returns-in_err-first : goal.returns-in_err-first
+returns-in_err-first c =
+    rw (err-came c.from_residual.ensures.1) (range-not c.in_err-first.ensures)
 
-pub returns-then-number-ne-COLON : goal.returns-then-number-ne-COLON
-returns-then-number-ne-COLON c =
-    range-ended c.keep_constant-first.ensures (c.unread.ensures.0 c.if-unread.false) c.from_one-ends.ensures (λ e. c.if-number-ne-COLON.true (c.number.ensures ∙ e))
+pub returns-then-kind_of-ne-COLON : goal.returns-then-kind_of-ne-COLON
+returns-then-kind_of-ne-COLON c =
+    range-ended c.in_ok-first.ensures c.from_one-ends.ensures (λ e. c.if-kind_of-ne-COLON.true (c.kind_of.ensures ∙ e))
 
-pub returns-then-unread-2 : goal.returns-then-unread-2
-returns-then-unread-2 c =
-    range-no-colon c.keep_constant-first.ensures (c.unread.ensures.0 c.if-unread.false) (sym c.number.ensures ∙ c.if-number-ne-COLON.false) c.take-colon.ensures (c.unread-2.ensures.1 c.if-unread-2.true)
+pub returns-in_err-colon : goal.returns-in_err-colon
+returns-in_err-colon c =
+    rw (err-came c.from_residual-in_err-colon.ensures.1) (range-no-colon c.in_ok-first.ensures (sym c.kind_of.ensures ∙ c.if-kind_of-ne-COLON.false) c.in_err-colon.ensures)
+
+pub returns-in_err-reached : goal.returns-in_err-reached
+returns-in_err-reached c =
+    rw (err-came c.from_residual-in_err-reached.ensures.1) (range-half c.in_ok-first.ensures (sym c.kind_of.ensures ∙ c.if-kind_of-ne-COLON.false) c.in_ok-colon.ensures c.in_err-reached.ensures)
 
 pub returns : goal.returns
 returns c =
-    range-both c.keep_constant-first.ensures (c.unread.ensures.0 c.if-unread.false) (sym c.number.ensures ∙ c.if-number-ne-COLON.false) c.take-colon.ensures (c.unread-2.ensures.0 c.if-unread-2.false) c.keep_constant-last.ensures c.both-ends.ensures
+    range-both c.in_ok-first.ensures (sym c.kind_of.ensures ∙ c.if-kind_of-ne-COLON.false) c.in_ok-colon.ensures c.in_ok-reached.ensures c.both-ends.ensures

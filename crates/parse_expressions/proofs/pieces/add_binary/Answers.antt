@@ -5,4 +5,4 @@ use Rattle.parse_expressions.proofs.pieces.add_binary.Goals as goal
 
 pub returns : goal.returns
 returns c =
-    gained-as c.add.ensures (binary-as c.number.ensures refl c.last.ensures) c.plain-beside.ensures
+    gained-as c.add.ensures (binary-as c.kind_of.ensures refl c.last.ensures) c.plain-beside.ensures

@@ -3,4 +3,4 @@ use Rattle.parse_expressions.proofs.pieces.add_prefix.Goals as goal
 
 pub returns : goal.returns
 returns c =
-    gained-at c.add.ensures c.eased.ensures (prefix-as c.number.ensures c.last.ensures) c.plain-beside.ensures
+    gained-at c.add.ensures c.eased.ensures (prefix-as c.kind_of.ensures c.last.ensures) c.plain-beside.ensures

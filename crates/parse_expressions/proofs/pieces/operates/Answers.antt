@@ -6,4 +6,4 @@ use Rattle.parse_expressions.proofs.pieces.operates.Goals as goal
 
 pub returns : goal.returns
 returns c =
-    c.operates.ensures ∙ ap (λ (k : ℕ). among k (operators_of c.args.rank)) c.number.ensures
+    c.operates.ensures ∙ ap (λ (k : ℕ). among k (operators_of c.args.rank)) c.kind_of.ensures

@@ -1,3 +1,4 @@
+use mathlib.Core.Logic.{⊎_elim}
 use native.Mathlib.Omega.{arith}
 use Rattle.parse_step.proofs.Paying.{expected-spends, stays-spends}
 use Rattle.parse_levels.specs.declared.Lead.TheVariants as H
@@ -7,16 +8,8 @@ use Rattle.parse_expressions.proofs.pieces.reducing.Goals as goal
 
 pub returns-in-Plain : goal.returns-in-Plain
 returns-in-Plain c =
-    (rw c.in-Plain.is (unprefixed H.Plain c.stay.ensures (λ K. refl)), stays-spends c.stay.ensures)
-
-pub returns-in-Negation : goal.returns-in-Negation
-returns-in-Negation c =
-    (rw c.in-Negation.is (unprefixed H.Negation c.stay-in-Negation.ensures (λ K. refl)), stays-spends c.stay-in-Negation.ensures)
+    (⊎_elim (λ e. rw e (unprefixed H.Plain (λ K. refl))) (⊎_elim (λ e. rw e (unprefixed H.Negation (λ K. refl))) (λ e. rw e (unprefixed H.Complement (λ K. refl)))) c.in-Plain.is, stays-spends refl)
 
 pub returns-in-Reduction : goal.returns-in-Reduction
 returns-in-Reduction c =
     (rw c.in-Reduction.is (red-prefixed c.expect.ensures), expected-spends c.expect.ensures (omega arith))
-
-pub returns-in-Complement : goal.returns-in-Complement
-returns-in-Complement c =
-    (rw c.in-Complement.is (unprefixed H.Complement c.stay-in-Complement.ensures (λ K. refl)), stays-spends c.stay-in-Complement.ensures)

@@ -1,28 +1,31 @@
-use Rattle.parse_facilities.specs.Lists.{listing}
 use mathlib.Core.Path.{sym, ◌∙◌}
+use Rattle.parse_step.proofs.Answers.{err-came}
 use Rattle.parse_facilities.proofs.ListLaws.{another, another-not, comma-not, list-ended, none_yet, one_fewer}
 use Rattle.parse_facilities.proofs.lists.more.Goals as goal
 
-pub loop-list-init : goal.loop-list-init
-loop-list-init c =
-    λ ds st. none_yet c.args.text.now ds (listing c.args.list) c.args.w c.args.s st
+pub loop-at-init : goal.loop-at-init
+loop-at-init g c = λ ds st. none_yet c.args.text.now ds g.L.List.listing c.args.first.reached.next c.args.first.reached.state st
 
-pub returns-then-number-ne-COMMA : goal.returns-then-number-ne-COMMA
-returns-then-number-ne-COMMA c =
-    λ ds st. list-ended c.args.text.now ds (listing c.args.list) c.args.w c.args.s (c.loop-list.invariant ds st) (λ e. c.if-number-ne-COMMA.true (c.number.ensures ∙ e)) c.ended.ensures
+pub returns-in_err-comma : goal.returns-in_err-comma
+returns-in_err-comma g c =
+    rw (err-came c.from_residual.ensures.1)
+    (λ ds st. comma-not c.args.text.now ds g.L.List.listing c.args.first.reached.next c.args.first.reached.state (c.loop-at.invariant ds st) (sym c.kind_of.ensures ∙ c.loop-at-test.true) c.in_err-comma.ensures)
 
-pub returns-then-unread : goal.returns-then-unread
-returns-then-unread c =
-    λ ds st. comma-not c.args.text.now ds (listing c.args.list) c.args.w c.args.s (c.loop-list.invariant ds st) (sym c.number.ensures ∙ c.if-number-ne-COMMA.false) c.take-comma.ensures (c.unread.ensures.1 c.if-unread.true)
+pub returns-in_err-last : goal.returns-in_err-last
+returns-in_err-last g c =
+    rw (err-came c.from_residual-in_err-last.ensures.1)
+    (λ ds st. another-not c.args.text.now ds g.L.List.listing c.args.first.reached.next c.args.first.reached.state (c.loop-at.invariant ds st) (sym c.kind_of.ensures ∙ c.loop-at-test.true) c.in_ok-comma.ensures c.in_err-last.ensures)
 
-pub returns-then-unread-2 : goal.returns-then-unread-2
-returns-then-unread-2 c =
-    λ ds st. another-not c.args.text.now ds (listing c.args.list) c.args.w c.args.s (c.loop-list.invariant ds st) (sym c.number.ensures ∙ c.if-number-ne-COMMA.false) c.take-comma.ensures (c.unread.ensures.0 c.if-unread.false) c.one-another.ensures (c.unread-in-loop-list.ensures.1 c.if-unread-2.true)
+pub loop-at-smaller : goal.loop-at-smaller
+loop-at-smaller g c =
+    let ds = c.requires.declared in
+    let st = c.requires.standing in
+    one_fewer c.args.text.now ds g.L.List.listing c.args.first.reached.next c.args.first.reached.state (c.loop-at.invariant ds st) (sym c.kind_of.ensures ∙ c.loop-at-test.true) c.in_ok-comma.ensures c.in_ok-last.ensures
 
-pub loop-list-smaller : goal.loop-list-smaller
-loop-list-smaller c =
-    one_fewer c.args.text.now c.requires.declared (listing c.args.list) c.args.w c.args.s (c.loop-list.invariant c.requires.declared c.requires.standing) (sym c.number.ensures ∙ c.if-number-ne-COMMA.false) c.take-comma.ensures (c.unread.ensures.0 c.if-unread.false) c.one-another.ensures (c.unread-in-loop-list.ensures.0 c.if-unread-2.false)
+pub loop-at-preserved : goal.loop-at-preserved
+loop-at-preserved g c =
+    λ ds st. another c.args.text.now ds g.L.List.listing c.args.first.reached.next c.args.first.reached.state (c.loop-at.invariant ds st) (sym c.kind_of.ensures ∙ c.loop-at-test.true) c.in_ok-comma.ensures c.in_ok-last.ensures
 
-pub loop-list-preserved : goal.loop-list-preserved
-loop-list-preserved c =
-    λ ds st. another c.args.text.now ds (listing c.args.list) c.args.w c.args.s (c.loop-list.invariant ds st) (sym c.number.ensures ∙ c.if-number-ne-COMMA.false) c.take-comma.ensures (c.unread.ensures.0 c.if-unread.false) c.one-another.ensures (c.unread-in-loop-list.ensures.0 c.if-unread-2.false)
+pub returns : goal.returns
+returns g c =
+    λ ds st. list-ended c.args.text.now ds g.L.List.listing c.args.first.reached.next c.args.first.reached.state (c.loop-at.invariant ds st) (λ e. c.loop-at-test.false (c.kind_of.ensures ∙ e)) c.ended.ensures

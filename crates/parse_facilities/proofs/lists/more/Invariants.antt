@@ -1,13 +1,14 @@
-use Rattle.parse_facilities.specs.Lists.{listing}
 use mathlib.Core.List.{List}
 use Prim.Native.Nat.{◌-◌}
-use Rattle.language.specs.Tree.{Declaration}
-use Rattle.parse_facilities.specs.Declares.{Standing}
 use Rattle.parse_facilities.proofs.ListLaws.{Here}
+use Rattle.parse_facilities.specs.Declares.{Standing}
+use Rattle.language.specs.Tree.{Declaration}
 use Rattle.parse_facilities.proofs.lists.more.Given as goal
 
-abbrev pub invariant-loop-list : goal.invariant-loop-list
-invariant-loop-list l = (ds : List Declaration) → Standing l.text ds l.initial.after l.initial.next l.initial.state l.initial.work → Here l.text ds (listing l.list) l.initial.next l.initial.state l.next l.state l.after l.work
+abbrev pub invariant-loop-at : goal.invariant-loop-at
+invariant-loop-at g l =
+    (ds : List Declaration) → Standing l.text ds l.initial.last.place l.initial.last.reached.next l.initial.last.reached.state l.initial.work
+    → Here l.text ds g.L.List.listing l.initial.last.reached.next l.initial.last.reached.state l.last.reached.next l.last.reached.state l.last.place l.work
 
-abbrev pub decreases-loop-list : goal.decreases-loop-list
-decreases-loop-list l = 257 - l.state.facilities
+abbrev pub decreases-loop-at : goal.decreases-loop-at
+decreases-loop-at g l = 257 - l.last.reached.state.facilities

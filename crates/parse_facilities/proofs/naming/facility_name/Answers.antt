@@ -1,11 +1,8 @@
-use mathlib.Core.Path.{sym, ◌∙◌}
-use Rattle.parse_facilities.proofs.NameWords.{named, not_named}
+use mathlib.Core.Path.{◌≡◌}
+use Prim.Native.Nat.{suc}
+use native.Mathlib.Omega.{arith}
+use Rattle.parse_facilities.proofs.NameWords.{name-told}
 use Rattle.parse_facilities.proofs.naming.facility_name.Goals as goal
 
-pub returns-then-number-ne-NAME : goal.returns-then-number-ne-NAME
-returns-then-number-ne-NAME c =
-    not_named (λ e. c.if-number-ne-NAME.true (c.number.ensures ∙ e)) c.refuse.ensures
-
 pub returns : goal.returns
-returns c =
-    named (sym c.number.ensures ∙ c.if-number-ne-NAME.false) c.one_more-more.ensures c.take.ensures
+returns c = name-told (λ h. let e : c.saturating_add.result ≡ suc c.args.s.facilities = omega arith in rw e) c.expect.ensures

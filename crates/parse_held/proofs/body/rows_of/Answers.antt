@@ -13,4 +13,4 @@ overflow_mul-bytes_of c =
 pub returns : goal.returns
 unfolding rows
 returns c =
-    c.part.ensures ∙ ap₂ (λ (a b : ℕ). take (a * c.args.n) (drop b c.args.work.now)) c.bytes_of.ensures.0 c.begin-from.ensures.0
+    c.part.ensures ∙ ap₂ (λ (a b : ℕ). take (a * c.args.n) (drop b c.args.work.now)) c.bytes_of.ensures.0 c.begin.ensures.0

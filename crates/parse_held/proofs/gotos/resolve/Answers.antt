@@ -1,23 +1,10 @@
 use mathlib.Core.Path.{refl}
-use native.Mathlib.Omega.{arith}
 use Rattle.parse_held.proofs.GotoLaws.{at_first, at_last, one_more}
 use Rattle.parse_held.proofs.gotos.resolve.Goals as goal
 
 pub loop-k-init : goal.loop-k-init
 loop-k-init c =
     λ xs a. at_first a
-
-pub resolve_one-requires : goal.resolve_one-requires
-resolve_one-requires c =
-    omega arith
-
-pub overflow_add-k : goal.overflow_add-k
-overflow_add-k c =
-    omega arith
-
-pub loop-k-smaller : goal.loop-k-smaller
-loop-k-smaller c =
-    omega arith
 
 pub loop-k-preserved : goal.loop-k-preserved
 loop-k-preserved c =

@@ -7,12 +7,12 @@ use Rattle.parse_held.proofs.gotos.resolve_one.Goals as goal
 
 pub returns-in-Goto : goal.returns-in-Goto
 returns-in-Goto c =
-    one-led c.args.text.now c.args.k c.args.n c.requires c.action_of-action.result c.action_of-action.ensures D.goto (goto-resolved c.args.text.now _) _ (ap meant c.in-Goto.is) c.state_named-state.result c.state_named-state.ensures c.goto.result c.goto.ensures c.rewrite_action.ensures
+    one-led c.args.text.now c.args.k c.args.n c.requires c.action_of.result c.action_of.ensures D.goto (goto-resolved c.args.text.now _) _ (ap meant c.in-Goto.is) c.state_named-state.result c.state_named-state.ensures c.goto.result c.goto.ensures c.rewrite_action.ensures
 
 pub returns-in-Call : goal.returns-in-Call
 returns-in-Call c =
-    one-led c.args.text.now c.args.k c.args.n c.requires c.action_of-action.result c.action_of-action.ensures D.call (call-resolved c.args.text.now _) _ (ap meant c.in-Call.is) c.state_named-state-in-Call.result c.state_named-state-in-Call.ensures c.call.result c.call.ensures c.rewrite_action-in-Call.ensures
+    one-led c.args.text.now c.args.k c.args.n c.requires c.action_of.result c.action_of.ensures D.call (call-resolved c.args.text.now _) _ (ap meant c.in-Call.is) c.state_named-state-in-Call.result c.state_named-state-in-Call.ensures c.call.result c.call.ensures c.rewrite_action-in-Call.ensures
 
 pub returns-in_default : goal.returns-in_default
 returns-in_default c =
-    one-stays c.args.text.now c.args.k c.args.n c.requires c.action_of-action.result c.action_of-action.ensures (opened c.in_default.in_default-own.keys3)
+    one-stays c.args.text.now c.args.k c.args.n c.requires c.action_of.result c.action_of.ensures (opened c.in_default.in_default-own.keys3)

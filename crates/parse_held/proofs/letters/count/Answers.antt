@@ -11,7 +11,7 @@ loop-k-init c =
 
 pub loop-k-preserved : goal.loop-k-preserved
 loop-k-preserved c =
-    (omega arith, omega (arith, c.word-word.ensures.1), λ e. omega (arith, c.loop-k.invariant.2 e, counted-more c.args.text.now c.args.table c.args.n c.args.work.now c.loop-k.k c.word-word.result.now (c.word-word.ensures.0 c.args.n e c.loop-k-test.true)))
+    (omega arith, omega (arith, c.word.ensures.1), λ e. omega (arith, c.loop-k.invariant.2 e, counted-more c.args.text.now c.args.table c.args.n c.args.work.now c.loop-k.k c.word.result.now (c.word.ensures.0 c.args.n e c.loop-k-test.true)))
 
 pub returns : goal.returns
 returns c =

@@ -1,5 +1,5 @@
 use mathlib.Core.Path.{◌≡◌}
-use Prim.Native.Nat.{◌-◌, ◌*◌, ◌≤◌}
+use Prim.Native.Nat.{◌*◌, ◌≤◌}
 use lib.ListN.{length}
 use Rattle.parse_tables.specs.Rows.{size}
 use Rattle.parse_held.proofs.LetterLaws.{letters_to}
@@ -7,6 +7,3 @@ use Rattle.parse_held.proofs.letters.count.Given as goal
 
 abbrev pub invariant-loop-k : goal.invariant-loop-k
 invariant-loop-k l = (l.k ≤ l.n) × (l.sum ≤ 65535 * l.k) × (size l.table ≡ 4 → l.sum ≡ length (letters_to l.text l.table l.n l.work l.k))
-
-abbrev pub decreases-loop-k : goal.decreases-loop-k
-decreases-loop-k l = l.n - l.k

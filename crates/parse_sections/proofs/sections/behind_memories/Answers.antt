@@ -4,10 +4,10 @@ use Rattle.parse_sections.proofs.sections.behind_memories.Goals as goal
 
 pub terminals-requires : goal.terminals-requires
 terminals-requires c =
-    record { word = sym c.number.ensures ∙ c.if-number-eq-TERMINAL.true; somewhere = c.requires }
+    record { word = sym c.kind_of.ensures ∙ c.if-kind_of-eq-TERMINAL.true; somewhere = c.requires }
 
-pub returns-then-number-eq-TERMINAL : goal.returns-then-number-eq-TERMINAL
-returns-then-number-eq-TERMINAL c =
+pub returns-then-kind_of-eq-TERMINAL : goal.returns-then-kind_of-eq-TERMINAL
+returns-then-kind_of-eq-TERMINAL c =
     with-terminals c.terminals.ensures
 
 pub behind_terminals-requires : goal.behind_terminals-requires
@@ -16,4 +16,4 @@ behind_terminals-requires c =
 
 pub returns : goal.returns
 returns c =
-    without-terminals (λ e. c.if-number-eq-TERMINAL.false (c.number.ensures ∙ e)) c.behind_terminals.ensures
+    without-terminals (λ e. c.if-kind_of-eq-TERMINAL.false (c.kind_of.ensures ∙ e)) c.behind_terminals.ensures

@@ -4,10 +4,10 @@ use Rattle.parse_sections.proofs.sections.behind_registers.Goals as goal
 
 pub memories-requires : goal.memories-requires
 memories-requires c =
-    record { word = sym c.number.ensures ∙ c.if-number-eq-MEMORY.true; somewhere = c.requires }
+    record { word = sym c.kind_of.ensures ∙ c.if-kind_of-eq-MEMORY.true; somewhere = c.requires }
 
-pub returns-then-number-eq-MEMORY : goal.returns-then-number-eq-MEMORY
-returns-then-number-eq-MEMORY c =
+pub returns-then-kind_of-eq-MEMORY : goal.returns-then-kind_of-eq-MEMORY
+returns-then-kind_of-eq-MEMORY c =
     with-memories c.memories.ensures
 
 pub behind_memories-requires : goal.behind_memories-requires
@@ -16,4 +16,4 @@ behind_memories-requires c =
 
 pub returns : goal.returns
 returns c =
-    without-memories (λ e. c.if-number-eq-MEMORY.false (c.number.ensures ∙ e)) c.behind_memories.ensures
+    without-memories (λ e. c.if-kind_of-eq-MEMORY.false (c.kind_of.ensures ∙ e)) c.behind_memories.ensures

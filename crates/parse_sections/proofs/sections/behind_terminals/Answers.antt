@@ -8,12 +8,12 @@ operations-requires c =
 
 pub returns-then-k-eq-OPERATION : goal.returns-then-k-eq-OPERATION
 returns-then-k-eq-OPERATION c =
-    c.operations.ensures (sym c.number-k.ensures ∙ c.if-k-eq-OPERATION.true)
+    c.operations.ensures (sym c.kind_of-k.ensures ∙ c.if-k-eq-OPERATION.true)
 
 pub returns-then-k-eq-CONTROL : goal.returns-then-k-eq-CONTROL
 returns-then-k-eq-CONTROL c =
-    control-read c.whole.ensures (sym c.number-k.ensures ∙ c.if-k-eq-CONTROL.true) c.take.ensures
+    control-read c.whole.ensures (sym c.kind_of-k.ensures ∙ c.if-k-eq-CONTROL.true) c.take.ensures
 
 pub returns : goal.returns
 returns c =
-    no-section (λ e. c.if-k-eq-OPERATION.false (c.number-k.ensures ∙ e)) (λ e. c.if-k-eq-CONTROL.false (c.number-k.ensures ∙ e)) c.refuse.ensures
+    no-section (λ e. c.if-k-eq-OPERATION.false (c.kind_of-k.ensures ∙ e)) (λ e. c.if-k-eq-CONTROL.false (c.kind_of-k.ensures ∙ e)) c.refuse.ensures

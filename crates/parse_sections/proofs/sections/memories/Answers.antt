@@ -1,19 +1,16 @@
+use Rattle.parse_step.proofs.Answers.{err-came}
 use Rattle.parse_facilities.specs.Lists.{memories}
 use Rattle.parse_sections.proofs.SectionLaws.{from-not, from-read, from-stands}
 use Rattle.parse_sections.proofs.sections.memories.Goals as goal
 
-pub stored-read-requires : goal.stored-read-requires
-stored-read-requires c =
-    c.requires
+pub section-requires : goal.section-requires
+section-requires c = c.requires
 
-pub returns-then-unread : goal.returns-then-unread
-returns-then-unread c =
-    from-not memories c.stored-read.ensures (c.unread.ensures.1 c.if-unread.true)
+pub returns-in_err-read : goal.returns-in_err-read
+returns-in_err-read c = rw (err-came c.from_residual.ensures.1) (from-not memories c.in_err-read.ensures)
 
 pub behind_memories-requires : goal.behind_memories-requires
-behind_memories-requires c =
-    from-stands memories c.stored-read.ensures (c.unread.ensures.0 c.if-unread.false) c.requires
+behind_memories-requires c = from-stands memories c.in_ok-read.ensures c.requires
 
 pub returns : goal.returns
-returns c =
-    from-read memories c.stored-read.ensures (c.unread.ensures.0 c.if-unread.false) c.behind_memories.ensures
+returns c = from-read memories c.in_ok-read.ensures c.behind_memories.ensures

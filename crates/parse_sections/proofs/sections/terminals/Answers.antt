@@ -1,19 +1,16 @@
+use Rattle.parse_step.proofs.Answers.{err-came}
 use Rattle.parse_facilities.specs.Lists.{terminals}
 use Rattle.parse_sections.proofs.SectionLaws.{from-not, from-read, from-stands}
 use Rattle.parse_sections.proofs.sections.terminals.Goals as goal
 
-pub defined-read-requires : goal.defined-read-requires
-defined-read-requires c =
-    c.requires
+pub section-requires : goal.section-requires
+section-requires c = c.requires
 
-pub returns-then-unread : goal.returns-then-unread
-returns-then-unread c =
-    from-not terminals c.defined-read.ensures (c.unread.ensures.1 c.if-unread.true)
+pub returns-in_err-read : goal.returns-in_err-read
+returns-in_err-read c = rw (err-came c.from_residual.ensures.1) (from-not terminals c.in_err-read.ensures)
 
 pub behind_terminals-requires : goal.behind_terminals-requires
-behind_terminals-requires c =
-    from-stands terminals c.defined-read.ensures (c.unread.ensures.0 c.if-unread.false) c.requires
+behind_terminals-requires c = from-stands terminals c.in_ok-read.ensures c.requires
 
 pub returns : goal.returns
-returns c =
-    from-read terminals c.defined-read.ensures (c.unread.ensures.0 c.if-unread.false) c.behind_terminals.ensures
+returns c = from-read terminals c.in_ok-read.ensures c.behind_terminals.ensures

@@ -10,9 +10,9 @@ pub returns-then-named : goal.returns-then-named
 returns-then-named c =
     body-named c.args.name c.if-named.true c.list.ensures
 
-pub returns-then-number-eq-SLASH : goal.returns-then-number-eq-SLASH
-returns-then-number-eq-SLASH c =
-    body-empty c.args.name c.if-named.false (sym c.number.ensures ∙ c.if-number-eq-SLASH.true) c.take.ensures
+pub returns-then-kind_of-eq-SLASH : goal.returns-then-kind_of-eq-SLASH
+returns-then-kind_of-eq-SLASH c =
+    body-empty c.args.name c.if-named.false (sym c.kind_of.ensures ∙ c.if-kind_of-eq-SLASH.true) c.take.ensures
 
 pub list-requires-2 : goal.list-requires-2
 list-requires-2 c =
@@ -20,4 +20,4 @@ list-requires-2 c =
 
 pub returns : goal.returns
 returns c =
-    body-listed c.args.name c.if-named.false (λ e. c.if-number-eq-SLASH.false (c.number.ensures ∙ e)) c.list-2.ensures
+    body-listed c.args.name c.if-named.false (λ e. c.if-kind_of-eq-SLASH.false (c.kind_of.ensures ∙ e)) c.list-2.ensures

@@ -1,14 +1,9 @@
 use mathlib.Core.Path.{ap, refl, sym, ◌∙◌}
 use Prim.Native.Nat.{ℕ}
-use native.Mathlib.Omega.{arith}
 use Rattle.about_grammar.specs.Following.{among}
 use Rattle.parse_states.specs.Heads.{state_kinds}
 use Rattle.parse_states.proofs.CountLaws.{none-begins, one_more, one-over}
 use Rattle.parse_states.proofs.heads.count.Goals as goal
-
-pub overflow_add-state : goal.overflow_add-state
-overflow_add-state c =
-    omega (arith, c.if-s-lt-STATES.true)
 
 pub returns-then-s-lt-STATES : goal.returns-then-s-lt-STATES
 returns-then-s-lt-STATES c =
@@ -16,8 +11,8 @@ returns-then-s-lt-STATES c =
 
 pub returns-then-begins : goal.returns-then-begins
 returns-then-begins c =
-    one-over c.if-s-lt-STATES.false (sym (c.begins.ensures ∙ ap (λ (k : ℕ). among k state_kinds) c.number.ensures) ∙ c.if-begins.true) c.refuse.ensures
+    one-over c.if-s-lt-STATES.false (sym (c.begins.ensures ∙ ap (λ (k : ℕ). among k state_kinds) c.kind_of.ensures) ∙ c.if-begins.true) c.refuse.ensures
 
 pub returns : goal.returns
 returns c =
-    none-begins (sym (c.begins.ensures ∙ ap (λ (k : ℕ). among k state_kinds) c.number.ensures) ∙ c.if-begins.false) c.refuse-2.ensures
+    none-begins (sym (c.begins.ensures ∙ ap (λ (k : ℕ). among k state_kinds) c.kind_of.ensures) ∙ c.if-begins.false) c.refuse-2.ensures

@@ -1,19 +1,20 @@
 use mathlib.Core.Path.{sym, ◌∙◌}
 use Rattle.parse_states.proofs.HeadLaws.{head-named, head-not, head_plain, name-not}
+use Rattle.parse_step.proofs.Answers.{err-came}
 use Rattle.parse_states.proofs.heads.head.Goals as goal
 
-pub returns-then-unread : goal.returns-then-unread
-returns-then-unread c =
-    head-not c.count-counted.ensures (c.unread.ensures.1 c.if-unread.true)
+pub returns-in_err-counted : goal.returns-in_err-counted
+returns-in_err-counted c =
+    rw (err-came c.from_residual.ensures.1) (head-not c.in_err-counted.ensures)
 
-pub returns-then-number-ne-NAME : goal.returns-then-number-ne-NAME
-returns-then-number-ne-NAME c =
-    head_plain c.count-counted.ensures (c.unread.ensures.0 c.if-unread.false) (λ e. c.if-number-ne-NAME.true (c.number.ensures ∙ e)) c.plain-head.ensures
+pub returns-then-kind_of-ne-NAME : goal.returns-then-kind_of-ne-NAME
+returns-then-kind_of-ne-NAME c =
+    head_plain c.in_ok-counted.ensures (λ e. c.if-kind_of-ne-NAME.true (c.kind_of.ensures ∙ e)) c.plain.ensures
 
-pub returns-then-unread-2 : goal.returns-then-unread-2
-returns-then-unread-2 c =
-    name-not c.count-counted.ensures (c.unread.ensures.0 c.if-unread.false) (sym c.number.ensures ∙ c.if-number-ne-NAME.false) c.take-name.ensures (c.unread-2.ensures.1 c.if-unread-2.true)
+pub returns-in_err-name : goal.returns-in_err-name
+returns-in_err-name c =
+    rw (err-came c.from_residual-in_err-name.ensures.1) (name-not c.in_ok-counted.ensures (sym c.kind_of.ensures ∙ c.if-kind_of-ne-NAME.false) c.in_err-name.ensures)
 
 pub returns : goal.returns
 returns c =
-    head-named c.count-counted.ensures (c.unread.ensures.0 c.if-unread.false) (sym c.number.ensures ∙ c.if-number-ne-NAME.false) c.take-name.ensures (c.unread-2.ensures.0 c.if-unread-2.false) c.after_name.ensures
+    head-named c.in_ok-counted.ensures (sym c.kind_of.ensures ∙ c.if-kind_of-ne-NAME.false) c.in_ok-name.ensures c.after_name.ensures

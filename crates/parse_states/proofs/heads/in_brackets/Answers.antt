@@ -1,18 +1,23 @@
-use Rattle.parse_states.proofs.BracketLaws.{brackets-read, close-not, constant-not, open-not}
+use Rattle.parse_states.proofs.BracketLaws.{brackets-read, close-not, colon-not, constant-not, open-not}
+use Rattle.parse_step.proofs.Answers.{err-came}
 use Rattle.parse_states.proofs.heads.in_brackets.Goals as goal
 
-pub returns-then-unread : goal.returns-then-unread
-returns-then-unread c =
-    open-not c.take-open.ensures (c.unread.ensures.1 c.if-unread.true)
+pub returns-in_err-open : goal.returns-in_err-open
+returns-in_err-open c =
+    rw (err-came c.from_residual.ensures.1) (open-not c.in_err-open.ensures)
 
-pub returns-then-unread-2 : goal.returns-then-unread-2
-returns-then-unread-2 c =
-    constant-not c.take-open.ensures (c.unread.ensures.0 c.if-unread.false) c.keep_constant-kept.ensures (c.unread-2.ensures.1 c.if-unread-2.true)
+pub returns-in_err-kept : goal.returns-in_err-kept
+returns-in_err-kept c =
+    rw (err-came c.from_residual-in_err-kept.ensures.1) (constant-not c.in_ok-open.ensures c.in_err-kept.ensures)
 
-pub returns-then-unread-3 : goal.returns-then-unread-3
-returns-then-unread-3 c =
-    close-not c.take-open.ensures (c.unread.ensures.0 c.if-unread.false) c.keep_constant-kept.ensures (c.unread-2.ensures.0 c.if-unread-2.false) c.expect-close.ensures (c.unread-3.ensures.1 c.if-unread-3.true)
+pub returns-in_err-close : goal.returns-in_err-close
+returns-in_err-close c =
+    rw (err-came c.from_residual-in_err-close.ensures.1) (close-not c.in_ok-open.ensures c.in_ok-kept.ensures c.in_err-close.ensures)
+
+pub returns-in_err-reached : goal.returns-in_err-reached
+returns-in_err-reached c =
+    rw (err-came c.from_residual-in_err-reached.ensures.1) (colon-not c.in_ok-open.ensures c.in_ok-kept.ensures c.in_ok-close.ensures c.in_err-reached.ensures)
 
 pub returns : goal.returns
 returns c =
-    brackets-read c.take-open.ensures (c.unread.ensures.0 c.if-unread.false) c.keep_constant-kept.ensures (c.unread-2.ensures.0 c.if-unread-2.false) c.expect-close.ensures (c.unread-3.ensures.0 c.if-unread-3.false) c.expect-answer.ensures
+    brackets-read c.in_ok-open.ensures c.in_ok-kept.ensures c.in_ok-close.ensures c.in_ok-reached.ensures

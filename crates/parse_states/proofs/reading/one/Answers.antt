@@ -1,18 +1,20 @@
 use Rattle.parse_states.proofs.StateLaws.{body-not, head-stands, not-begun, one-read}
+use Rattle.parse_step.proofs.Answers.{err-came}
+use mathlib.Core.Path.{refl}
 use Rattle.parse_states.proofs.reading.one.Goals as goal
 
-pub returns-then-unread : goal.returns-then-unread
-returns-then-unread c =
-    not-begun c.head-begun.ensures (c.unread.ensures.1 c.if-unread.true)
+pub returns-in_err-begun : goal.returns-in_err-begun
+returns-in_err-begun c =
+    rw (err-came c.from_residual.ensures.1) (not-begun c.in_err-begun.ensures)
 
-pub body-read-requires : goal.body-read-requires
-body-read-requires c =
-    head-stands c.head-begun.ensures (c.unread.ensures.0 c.if-unread.false) c.requires
+pub body-requires : goal.body-requires
+body-requires c =
+    head-stands c.in_ok-begun.ensures c.requires
 
-pub returns-then-unread-2 : goal.returns-then-unread-2
-returns-then-unread-2 c =
-    body-not c.head-begun.ensures (c.unread.ensures.0 c.if-unread.false) c.body-read.ensures (c.unread-2.ensures.1 c.if-unread-2.true)
+pub returns-in_err-read : goal.returns-in_err-read
+returns-in_err-read c =
+    rw (err-came c.from_residual-in_err-read.ensures.1) (body-not c.in_ok-begun.ensures c.in_err-read.ensures refl)
 
 pub returns : goal.returns
 returns c =
-    one-read c.head-begun.ensures (c.unread.ensures.0 c.if-unread.false) c.body-read.ensures (c.unread-2.ensures.0 c.if-unread-2.false) c.run-actions.ensures c.close.ensures
+    one-read c.in_ok-begun.ensures c.in_ok-read.ensures refl c.run-actions.ensures c.close.ensures

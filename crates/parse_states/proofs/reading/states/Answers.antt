@@ -1,18 +1,16 @@
 use Rattle.parse_states.proofs.StateLaws.{all-states, first-not, first-stands}
+use Rattle.parse_step.proofs.Answers.{err-came}
+use mathlib.Core.Path.{refl}
 use Rattle.parse_states.proofs.reading.states.Goals as goal
 
-pub one-first-requires : goal.one-first-requires
-one-first-requires c =
-    c.requires
-
-pub returns-then-unread : goal.returns-then-unread
-returns-then-unread c =
-    first-not c.one-first.ensures (c.unread.ensures.1 c.if-unread.true)
+pub returns-in_err-first : goal.returns-in_err-first
+returns-in_err-first c =
+    rw (err-came c.from_residual.ensures.1) (first-not c.in_err-first.ensures refl)
 
 pub more-requires : goal.more-requires
 more-requires c =
-    first-stands c.one-first.ensures (c.unread.ensures.0 c.if-unread.false) c.requires
+    first-stands c.in_ok-first.ensures refl c.requires
 
 pub returns : goal.returns
 returns c =
-    all-states c.one-first.ensures (c.unread.ensures.0 c.if-unread.false) c.more.ensures
+    all-states c.in_ok-first.ensures refl c.more.ensures

@@ -1,21 +1,17 @@
 use mathlib.Core.Path.{sym, ◌∙◌}
-use borrow.Author.Tests.{not-false, not-true}
 use Rattle.value_operators.specs.Meaning.{valued}
 use Rattle.parse_states.proofs.ValueLaws.{length_taken, no_length, not-bare, too_large}
 use Rattle.parse_states.proofs.values.state_value.Goals as goal
-
-pub returns-then-not-bare : goal.returns-then-not-bare
-returns-then-not-bare c =
-    not-bare c.args.l (valued c.args.v) (not-true _ c.if-not-bare.true-raw)
-
-pub returns-then-not-allowed : goal.returns-then-not-allowed
-returns-then-not-allowed c =
-    no_length c.args.l (valued c.args.v) c.args.bare (sym c.allowed.ensures ∙ not-true _ c.if-not-allowed.true-raw)
+use Rattle.parse_states.proofs.values.state_value.Goals.{else-bare-via-then-bare+then-allowed+else-same, else-bare-via-then-bare+else-allowed, else-bare-via-else-bare}
 
 pub returns-then-same : goal.returns-then-same
 returns-then-same c =
-    length_taken c.args.l (valued c.args.v) (not-false _ c.if-not-bare.false-raw) (sym c.allowed.ensures ∙ not-false _ c.if-not-allowed.false-raw) c.low.ensures (sym c.same.ensures ∙ c.if-same.true)
+    length_taken c.args.l (valued c.args.v) c.if-bare.true (sym c.allowed.ensures ∙ c.if-allowed.true) c.low.ensures (sym c.same.ensures ∙ c.if-same.true)
 
 pub returns : goal.returns
 returns c =
-    too_large c.args.l (valued c.args.v) (not-false _ c.if-not-bare.false-raw) (sym c.allowed.ensures ∙ not-false _ c.if-not-allowed.false-raw) c.low.ensures (sym c.same.ensures ∙ c.if-same.false)
+    elim c.else-bare.branch [
+      | else-bare-via-then-bare+then-allowed+else-same w ↦ too_large c.args.l (valued c.args.v) w.if-bare.true (sym w.allowed.ensures ∙ w.if-allowed.true) w.low.ensures (sym w.same.ensures ∙ w.if-same.false)
+      | else-bare-via-then-bare+else-allowed w ↦ no_length c.args.l (valued c.args.v) c.args.bare (sym w.allowed.ensures ∙ w.if-allowed.false)
+      | else-bare-via-else-bare w ↦ not-bare c.args.l (valued c.args.v) w.if-bare.false
+    ]

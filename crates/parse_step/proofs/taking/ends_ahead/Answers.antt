@@ -1,13 +1,14 @@
+use borrow.Author.Tests.{ne_eqb}
 use lib.Dec.{eqb}
 use Rattle.parse_step.proofs.TakenWords.{ends-come, ends-not}
 use mathlib.Core.Path.{sym, ap, ◌∙◌}
 use Prim.Native.Nat.{ℕ}
 use Rattle.parse_step.proofs.taking.ends_ahead.Goals as goal
 
-pub returns-then-number-eq-CONSTANT : goal.returns-then-number-eq-CONSTANT
-returns-then-number-eq-CONSTANT c =
-    λ z. ap (λ (n : ℕ). eqb n 13) c.number-then-number-eq-CONSTANT.ensures ∙ ends-come _ c.args.w c.following-next.result (sym c.number.ensures ∙ c.if-number-eq-CONSTANT.true) c.following-next.ensures z
+pub returns-then-kind_of-eq-CONSTANT : goal.returns-then-kind_of-eq-CONSTANT
+returns-then-kind_of-eq-CONSTANT c =
+    λ z. ap (λ (n : ℕ). eqb n 13) c.kind_of-then-kind_of-eq-CONSTANT.ensures ∙ ends-come _ c.args.w c.following.result (sym c.kind_of.ensures ∙ c.if-kind_of-eq-CONSTANT.true) c.following.ensures z
 
-pub returns : goal.returns
-returns c =
-    λ z. ends-not _ c.args.w (λ e. c.if-number-eq-CONSTANT.false (c.number.ensures ∙ e)) z
+pub returns-else-kind_of-eq-CONSTANT : goal.returns-else-kind_of-eq-CONSTANT
+returns-else-kind_of-eq-CONSTANT c =
+    λ z. ne_eqb c.kind_of.result 2 c.if-kind_of-eq-CONSTANT.false ∙ ends-not _ c.args.w (λ e. c.if-kind_of-eq-CONSTANT.false (c.kind_of.ensures ∙ e)) z

@@ -2,5 +2,5 @@ use mathlib.Core.Path.{refl}
 use Rattle.parse_step.proofs.taking.refuse.Goals as goal
 
 pub returns : goal.returns
-returns c =
-    record { fault = _; verdict = refl; is = refl }
+returns t c =
+    record { fault = _; refused = refl; is = refl }

@@ -1,10 +1,5 @@
-use native.Mathlib.Omega.{arith}
 use Rattle.parse_stores.proofs.LeafLaws.{put-done, put_full}
 use Rattle.parse_stores.proofs.leaves.put.Goals as goal
-
-pub overflow_add-s : goal.overflow_add-s
-overflow_add-s c =
-    let h = c.add_action-room.ensures.room c.if-room.true in omega (arith, h)
 
 pub returns-then-room : goal.returns-then-room
 returns-then-room c =

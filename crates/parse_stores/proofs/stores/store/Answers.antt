@@ -4,20 +4,22 @@ use Prim.Native.Nat.{ℕ}
 use mathlib.Core.List.{[], ◌∷◌}
 use mathlib.Core.Path.{sym, ap, ◌∙◌}
 use Rattle.parse_stores.proofs.StoreLaws.{right-unread, sign-untaken, stores, unstored}
+use Rattle.parse_step.proofs.Answers.{err-came}
+use mathlib.Core.Path.{refl}
 use Rattle.parse_stores.proofs.stores.store.Goals as goal
 
-pub returns-then-unread : goal.returns-then-unread
-returns-then-unread c =
-    sign-untaken c.args.left (ap (λ (j : ℕ). among j (delayed_sign ∷ equal_sign ∷ [])) (sym c.number-kind.ensures) ∙ sym c.signs.ensures ∙ c.if-signs.true) c.take-taken.ensures (c.unread.ensures.1 c.if-unread.true)
+pub returns-in_err-taken : goal.returns-in_err-taken
+returns-in_err-taken c =
+    rw (err-came c.from_residual.ensures.1) (sign-untaken c.args.left (ap (λ (j : ℕ). among j (delayed_sign ∷ equal_sign ∷ [])) (sym c.kind_of-kind.ensures) ∙ sym c.signs.ensures ∙ c.if-signs.true) c.in_err-taken.ensures refl)
 
-pub returns-then-unread-2 : goal.returns-then-unread-2
-returns-then-unread-2 c =
-    right-unread c.args.left (ap (λ (j : ℕ). among j (delayed_sign ∷ equal_sign ∷ [])) (sym c.number-kind.ensures) ∙ sym c.signs.ensures ∙ c.if-signs.true) c.take-taken.ensures (c.unread.ensures.0 c.if-unread.false) c.start-right.ensures.0 c.start-right.ensures.1 (c.unread-then-signs.ensures.1 c.if-unread-2.true)
+pub returns-in_err-right : goal.returns-in_err-right
+returns-in_err-right c =
+    rw (err-came c.from_residual-in_err-right.ensures.1) (right-unread c.args.left (ap (λ (j : ℕ). among j (delayed_sign ∷ equal_sign ∷ [])) (sym c.kind_of-kind.ensures) ∙ sym c.signs.ensures ∙ c.if-signs.true) c.in_ok-taken.ensures refl c.in_err-right.ensures.0 c.in_err-right.ensures.1 refl)
 
 pub returns-then-signs : goal.returns-then-signs
 returns-then-signs c =
-    stores c.args.left (ap (λ (j : ℕ). among j (delayed_sign ∷ equal_sign ∷ [])) (sym c.number-kind.ensures) ∙ sym c.signs.ensures ∙ c.if-signs.true) c.take-taken.ensures (c.unread.ensures.0 c.if-unread.false) c.start-right.ensures.0 c.start-right.ensures.1 (c.unread-then-signs.ensures.0 c.if-unread-2.false) c.number-kind.ensures c.last.ensures c.storing-action.ensures c.put.ensures
+    stores c.args.left (ap (λ (j : ℕ). among j (delayed_sign ∷ equal_sign ∷ [])) (sym c.kind_of-kind.ensures) ∙ sym c.signs.ensures ∙ c.if-signs.true) c.in_ok-taken.ensures refl c.in_ok-right.ensures.0 c.in_ok-right.ensures.1 refl c.kind_of-kind.ensures c.last.ensures c.storing-action.ensures c.put.ensures
 
 pub returns : goal.returns
 returns c =
-    unstored c.args.left (ap (λ (j : ℕ). among j (delayed_sign ∷ equal_sign ∷ [])) (sym c.number-kind.ensures) ∙ sym c.signs.ensures ∙ c.if-signs.false) c.refuse.ensures
+    unstored c.args.left (ap (λ (j : ℕ). among j (delayed_sign ∷ equal_sign ∷ [])) (sym c.kind_of-kind.ensures) ∙ sym c.signs.ensures ∙ c.if-signs.false) c.refuse.ensures

@@ -2,7 +2,7 @@ use mathlib.Core.Path.{refl}
 use Prim.Native.Nat.{◌<◌, min}
 use native.Mathlib.Omega.{arith}
 use Rattle.parse_array.specs.Names.{letters}
-use Rattle.parse_tables.proofs.FirstFound.{all_left, few-rows, found_here, none_left, not-here, row-there}
+use Rattle.parse_tables.proofs.FirstFound.{all_left, found_here, none_left, not-here}
 use Rattle.parse_tables.proofs.NameLaws.{letters-of}
 use Rattle.parse_tables.proofs.NamesGrown.{word-there}
 use Rattle.parse_tables.specs.Rows.{most}
@@ -10,38 +10,22 @@ use Rattle.parse_tables.proofs.finding.find.Goals as goal
 
 pub loop-k-init : goal.loop-k-init
 loop-k-init c =
-    λ t e o h. all_left c.args.text.now t c.args.n c.args.work.now (letters c.args.text.now c.args.place c.args.length)
-
-pub overflow_cast-k : goal.overflow_cast-k
-overflow_cast-k c = omega (arith, few-rows c.args.table c.requires, c.held-count.ensures, c.loop-k-test.true)
-
-pub overflow_mul-k : goal.overflow_mul-k
-overflow_mul-k c = omega (arith, few-rows c.args.table c.requires, c.held-count.ensures, c.loop-k-test.true)
-
-pub overflow_add-base : goal.overflow_add-base
-overflow_add-base c = omega (arith, few-rows c.args.table c.requires, c.held-count.ensures, c.loop-k-test.true, c.begin-base.ensures.1)
-
-pub word_at-requires : goal.word_at-requires
-word_at-requires c = row-there c.args.table c.requires c.begin-base.ensures.0 (omega (arith, c.held-count.ensures, c.loop-k-test.true))
-
-pub overflow_cast-result : goal.overflow_cast-result
-overflow_cast-result c = omega (arith, few-rows c.args.table c.requires, c.held-count.ensures, c.loop-k-test.true)
+    all_left c.args.text.now c.args.table c.args.n c.args.work.now (letters c.args.text.now c.args.place c.args.length)
 
 pub returns-then-matches : goal.returns-then-matches
 returns-then-matches c =
     let name = letters c.args.text.now c.args.place c.args.length in
-    let h : c.loop-k.k < min c.args.n (most c.args.table) = omega (arith, c.held-count.ensures, c.loop-k-test.true) in
-    found_here c.args.text.now c.args.table c.args.n c.args.work.now name c.part-name.result.now c.word_at.result.now (c.loop-k.invariant c.args.table c.requires c.begin-base.ensures.0 c.held-count.ensures) (letters-of c.args.text.now c.args.place c.args.length c.part-name.ensures)
+    let h : c.loop-k.k < min c.args.n (most c.args.table) = omega (arith, c.held-k-end.ensures, c.loop-k-test.true) in
+    found_here c.args.text.now c.args.table c.args.n c.args.work.now name c.part-name.result.now c.word_at.result.now c.loop-k.invariant (letters-of c.args.text.now c.args.place c.args.length c.part-name.ensures)
     (word-there c.args.text.now c.args.work.now c.args.table c.loop-k.k (min c.args.n (most c.args.table)) c.requires h c.begin-base.ensures.0 refl refl c.word_at.ensures) c.matches.ensures h c.if-matches.true
 
 pub loop-k-preserved : goal.loop-k-preserved
 loop-k-preserved c =
     let name = letters c.args.text.now c.args.place c.args.length in
-    λ t e o g. let h : c.loop-k.k < min c.args.n (most t) = omega (arith, g, c.loop-k-test.true) in
-    not-here c.args.text.now t c.args.n c.args.work.now name c.part-name.result.now c.word_at.result.now (c.loop-k.invariant t e o g) (letters-of c.args.text.now c.args.place c.args.length c.part-name.ensures)
-    (word-there c.args.text.now c.args.work.now t c.loop-k.k (min c.args.n (most t)) e h o refl refl c.word_at.ensures) c.matches.ensures h c.if-matches.false
+    let h : c.loop-k.k < min c.args.n (most c.args.table) = omega (arith, c.held-k-end.ensures, c.loop-k-test.true) in
+    not-here c.args.text.now c.args.table c.args.n c.args.work.now name c.part-name.result.now c.word_at.result.now c.loop-k.invariant (letters-of c.args.text.now c.args.place c.args.length c.part-name.ensures)
+    (word-there c.args.text.now c.args.work.now c.args.table c.loop-k.k (min c.args.n (most c.args.table)) c.requires h c.begin-base.ensures.0 refl refl c.word_at.ensures) c.matches.ensures h c.if-matches.false
 
 pub returns : goal.returns
 returns c =
-    none_left c.args.text.now c.args.table c.args.n c.args.work.now (letters c.args.text.now c.args.place c.args.length) c.loop-k.k
-    (c.loop-k.invariant c.args.table c.requires c.begin-base.ensures.0 c.held-count.ensures) (omega (arith, c.held-count.ensures, c.loop-k-test.false))
+    none_left c.args.text.now c.args.table c.args.n c.args.work.now (letters c.args.text.now c.args.place c.args.length) c.loop-k.k c.loop-k.invariant (omega (arith, c.held-k-end.ensures, c.loop-k-test.false))

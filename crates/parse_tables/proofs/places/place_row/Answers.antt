@@ -1,6 +1,8 @@
+use mathlib.Core.Path.{◌∙◌}
+use Rattle.language.specs.Encode.{little}
 use Rattle.parse_tables.proofs.OtherRecords.{place-said}
 use Rattle.parse_tables.proofs.places.place_row.Goals as goal
 
 pub returns : goal.returns
-returns c =
-    place-said c.args.at c.plain-p.result c.plain-p.ensures c.low-p0.ensures c.high-p1.ensures
+unfolding little
+returns c = c.to_le_bytes.ensures ∙ place-said c.args.at c.plain.result c.plain.ensures

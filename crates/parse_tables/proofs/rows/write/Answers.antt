@@ -1,3 +1,4 @@
+use borrow.Author.Rules.{rules}
 use native.Mathlib.Nat.{mul-le-mul}
 use native.Mathlib.Omega.{arith}
 use Rattle.parse_tables.proofs.RowLaws.{row_written}
@@ -15,4 +16,4 @@ overflow_add-at c =
 
 pub returns : goal.returns
 returns c =
-    λ b h. row_written c.args.table c.args.n c.s-1.given.0.1 b h c.begin.ensures.0 c.bytes_of.ensures.0 c.put.ensures
+    λ b h. row_written c.args.table c.args.n (search rules) b h c.begin.ensures.0 c.bytes_of.ensures.0 c.put.ensures

@@ -1,7 +1,7 @@
-use Rattle.text_words.specs.Meaning.{positioned}
-use Rattle.parse_tables.proofs.OtherRecords.{beside-said}
+use Rattle.language.specs.Encode.{little}
+use Rattle.judge_records.specs.Noted.{place_bytes, state_beside_bytes}
 use Rattle.parse_tables.proofs.states.state_beside.Goals as goal
 
 pub returns : goal.returns
-returns c =
-    beside-said (positioned c.args.at) (positioned c.args.value) c.place_row-p.ensures c.place_row-q.ensures
+unfolding state_beside_bytes place_bytes little
+returns c = rw (c.place_row.ensures, c.place_row-2.ensures)

@@ -1,18 +1,16 @@
+use Rattle.parse_step.proofs.Answers.{err-came}
 use Rattle.parse_terminals.proofs.TerminalLaws.{terminal-read, terminal-undefined, terminal-unmeasured, terminal-unnamed}
 use Rattle.parse_terminals.proofs.declaring.terminal.Goals as goal
 
-pub returns-then-unread : goal.returns-then-unread
-returns-then-unread c =
-    terminal-unnamed c.facility_name-named.ensures (c.unread.ensures.1 c.if-unread.true)
+pub returns-in_err-named : goal.returns-in_err-named
+returns-in_err-named c = rw (err-came c.from_residual.ensures.1) (terminal-unnamed c.in_err-named.ensures)
 
-pub returns-then-unread-2 : goal.returns-then-unread-2
-returns-then-unread-2 c =
-    terminal-unmeasured c.facility_name-named.ensures (c.unread.ensures.0 c.if-unread.false) c.dimensions-measured.ensures (c.unread-2.ensures.1 c.if-unread-2.true)
+pub returns-in_err-measured : goal.returns-in_err-measured
+returns-in_err-measured c = rw (err-came c.from_residual-in_err-measured.ensures.1) (terminal-unmeasured c.in_ok-named.ensures c.in_err-measured.ensures)
 
-pub returns-then-unread-3 : goal.returns-then-unread-3
-returns-then-unread-3 c =
-    terminal-undefined c.facility_name-named.ensures (c.unread.ensures.0 c.if-unread.false) c.dimensions-measured.ensures (c.unread-2.ensures.0 c.if-unread-2.false) c.function-defined.ensures (c.unread-3.ensures.1 c.if-unread-3.true)
+pub returns-in_err-defined : goal.returns-in_err-defined
+returns-in_err-defined c =
+    rw (err-came c.from_residual-in_err-defined.ensures.1) (terminal-undefined c.in_ok-named.ensures c.in_ok-measured.ensures c.in_err-defined.ensures)
 
 pub returns : goal.returns
-returns c =
-    terminal-read c.facility_name-named.ensures (c.unread.ensures.0 c.if-unread.false) c.dimensions-measured.ensures (c.unread-2.ensures.0 c.if-unread-2.false) c.function-defined.ensures (c.unread-3.ensures.0 c.if-unread-3.false) c.declare.ensures
+returns c = terminal-read c.in_ok-named.ensures c.in_ok-measured.ensures c.in_ok-defined.ensures c.declare.ensures

@@ -4,22 +4,10 @@ use Rattle.run_expressions.specs.Sides.{side_meant}
 use Rattle.run_stores.proofs.StoreLaws.{bytes-seen}
 use Rattle.run_actions.proofs.sides.set_at.Goals as goal
 
-pub returns-in-At : goal.returns-in-At
-returns-in-At c =
+pub returns : goal.returns
+returns c =
     λ P M d x h e.
     let b = bytes-seen d x c.args.g c.args.store.now P M e in
     let l = c.left_side.ensures d x.store h b in
-    let t : There d c.args.section.now c.in-At.p.facility c.in-At.f = rw c.in-At.is at l.1 in
-    rw (sym l.0 ∙ ap side_meant c.in-At.is) (c.set_bit.ensures c.args.section.now c.args.expressions.now P M d x h e t)
-
-pub returns-in-Stops : goal.returns-in-Stops
-returns-in-Stops c =
-    λ P M d x h e.
-    let b = bytes-seen d x c.args.g c.args.store.now P M e in
-    rw (sym (c.left_side.ensures d x.store h b).0 ∙ ap side_meant c.in-Stops.is)
-
-pub returns-in-Stuck : goal.returns-in-Stuck
-returns-in-Stuck c =
-    λ P M d x h e.
-    let b = bytes-seen d x c.args.g c.args.store.now P M e in
-    rw (sym (c.left_side.ensures d x.store h b).0 ∙ ap side_meant c.in-Stuck.is)
+    let t : There d c.args.image.now.facilities.now c.in_ok-f.p.facility c.in_ok-f.f = rw c.in_ok-f.was at l.1 in
+    rw (sym l.0 ∙ ap side_meant c.in_ok-f.was) (c.set_bit.ensures c.args.image.now.facilities.now c.args.image.now.expressions.now P M d x h e t)

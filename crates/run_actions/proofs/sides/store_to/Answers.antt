@@ -1,37 +1,14 @@
 use mathlib.Core.Path.{sym, ap, ◌∙◌}
 use Rattle.run_references.specs.Described.{There}
+use Rattle.run_references.specs.Worth.{answered}
 use Rattle.run_expressions.specs.Sides.{side_meant}
 use Rattle.run_stores.proofs.StoreLaws.{bytes-seen}
 use Rattle.run_actions.proofs.sides.store_to.Goals as goal
 
-pub returns-in-Is : goal.returns-in-Is
-returns-in-Is c =
+pub returns : goal.returns
+returns c =
     λ d x h e.
     let b = bytes-seen d x c.args.g c.args.store.now c.args.pending.now c.args.mask.now e in
     let l = c.left_side.ensures d x.store h b in
-    let t : There d c.args.section.now c.in-At.p.facility c.in-At.f = rw c.in-At.is at l.1 in
-    rw (sym l.0 ∙ ap side_meant c.in-At.is, ← (c.eval-w.ensures d x.store h b), c.in-Is.is) (c.store_one.ensures c.args.section.now c.args.expressions.now d x h e t)
-
-pub returns-in-Stops-outcome : goal.returns-in-Stops-outcome
-returns-in-Stops-outcome c =
-    λ d x h e.
-    let b = bytes-seen d x c.args.g c.args.store.now c.args.pending.now c.args.mask.now e in
-    rw (sym (c.left_side.ensures d x.store h b).0 ∙ ap side_meant c.in-At.is, ← (c.eval-w.ensures d x.store h b), c.in-Stops-outcome.is)
-
-pub returns-in-Stuck-outcome : goal.returns-in-Stuck-outcome
-returns-in-Stuck-outcome c =
-    λ d x h e.
-    let b = bytes-seen d x c.args.g c.args.store.now c.args.pending.now c.args.mask.now e in
-    rw (sym (c.left_side.ensures d x.store h b).0 ∙ ap side_meant c.in-At.is, ← (c.eval-w.ensures d x.store h b), c.in-Stuck-outcome.is)
-
-pub returns-in-Stops : goal.returns-in-Stops
-returns-in-Stops c =
-    λ d x h e.
-    let b = bytes-seen d x c.args.g c.args.store.now c.args.pending.now c.args.mask.now e in
-    rw (sym (c.left_side.ensures d x.store h b).0 ∙ ap side_meant c.in-Stops.is)
-
-pub returns-in-Stuck : goal.returns-in-Stuck
-returns-in-Stuck c =
-    λ d x h e.
-    let b = bytes-seen d x c.args.g c.args.store.now c.args.pending.now c.args.mask.now e in
-    rw (sym (c.left_side.ensures d x.store h b).0 ∙ ap side_meant c.in-Stuck.is)
+    let t : There d c.args.image.now.facilities.now c.in_ok-f.p.facility c.in_ok-f.f = rw c.in_ok-f.was at l.1 in
+    rw (sym l.0 ∙ ap side_meant c.in_ok-f.was, sym (c.eval.ensures d x.store h b) ∙ ap answered c.in_ok-v.was) (c.store_one.ensures c.args.image.now.facilities.now c.args.image.now.expressions.now d x h e t)

@@ -14,6 +14,6 @@ pub returns : goal.returns
 returns c = (
   omega (arith, c.if-limit-number.false),
   λ d x o.
-      let q = ap (λ (y : D.Operation). y.body) (o.is ∙ sym (c.operation_at-operation.ensures.meaning o.name)) in
+      let q = ap (λ (y : D.Operation). y.body) (o.is ∙ sym (c.operation_at.ensures.meaning o.name)) in
       sym (operation-known (bytes d) d c.args.limit c.args.o x c.if-limit-number.false ∙ ap (λ (r : D.Run). T.run_list (bytes d) d (T.operation_below (bytes d) d c.args.o) r x) q),
 )

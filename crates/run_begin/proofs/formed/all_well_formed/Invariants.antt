@@ -7,8 +7,5 @@ use Rattle.language.specs.Description.{Description}
 use Rattle.run_references.specs.Described.{Describes}
 use Rattle.run_begin.proofs.formed.all_well_formed.Given as goal
 
-abbrev pub invariant-loop-n : goal.invariant-loop-n
-invariant-loop-n l = (l.n ≤ l.cycles) × (l.at ≤ length l.stimuli) × ((d : Description) (E : List ℕ) → Describes d l.section E → all_well_formed d (l.cycles - l.n) (drop l.at l.stimuli) ≡ all_well_formed d l.cycles l.stimuli)
-
-abbrev pub decreases-loop-n : goal.decreases-loop-n
-decreases-loop-n l = l.cycles - l.n
+abbrev pub invariant-loop : goal.invariant-loop
+invariant-loop l = (l.at ≤ length l.stimuli) × ((d : Description) (E : List ℕ) → Describes d l.section E → all_well_formed d (l.cycles - l.counter) (drop l.at l.stimuli) ≡ all_well_formed d l.cycles l.stimuli)

@@ -9,10 +9,6 @@ pub returns-then-s-at : goal.returns-then-s-at
 returns-then-s-at c =
     placed-nothing _ _ _ (omega (arith, length-replicate {A = ℕ} c.args.n 0))
 
-pub returns-then-s-at-2 : goal.returns-then-s-at-2
-returns-then-s-at-2 c =
-    placed-nothing _ _ _ (omega (arith, length-replicate {A = ℕ} c.args.n 0))
-
 pub returns : goal.returns
 returns c =
     cleared c.args.s.now c.args.at c.args.n _ (omega arith) c.zero.ensures

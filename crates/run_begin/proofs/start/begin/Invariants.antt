@@ -1,6 +1,6 @@
 use mathlib.Core.List.{List}
 use mathlib.Core.Path.{◌≡◌}
-use Prim.Native.Nat.{ℕ, ◌-◌, ◌*◌, ◌≤◌}
+use Prim.Native.Nat.{ℕ, ◌*◌, ◌≤◌}
 use lib.ListN.{length}
 use Rattle.language.specs.Calls.{stimulus_size}
 use Rattle.language.specs.Description.{Description}
@@ -11,8 +11,5 @@ use Rattle.run_begin.proofs.start.begin.Given as goal
 
 abbrev pub invariant-loop-n : goal.invariant-loop-n
 invariant-loop-n l =
-    (l.n ≤ l.count) × (l.at ≤ l.n * 536870912) × (length l.store ≡ length l.initial.store)
+    (l.at ≤ l.n * 536870912) × (length l.store ≡ length l.initial.store)
     × ((d : Description) (E : List ℕ) → Describes d l.section E → store_size_of d.facilities ≤ length l.initial.store → stimulus_size d ≤ length l.stimulus → Left d l.initial.store l.stimulus l.store l.n l.at)
-
-abbrev pub decreases-loop-n : goal.decreases-loop-n
-decreases-loop-n l = l.count - l.n

@@ -2,7 +2,6 @@ use mathlib.Core.Bool.{false}
 use mathlib.Core.Path.{◌≡◌, sym, ap, ap₂, ◌∙◌}
 use Prim.Native.Nat.{ℕ}
 use native.Mathlib.Omega.{arith}
-use borrow.Author.Tests.{not-true}
 use Rattle.language.specs.Description.{Facility}
 use Rattle.image_sections.specs.Declarations.{facility_in, place_field_in}
 use Rattle.run_begin.specs.InBytes.{begins, begun_at, input_bytes}
@@ -15,7 +14,7 @@ returns-then-not-changes c = (
   omega arith,
   λ name.
       let f = facility_in c.args.section.now c.args.n name in
-      let e : begins f.kind ≡ false = ap begins (sym (c.kind_at-kind.ensures name)) ∙ (sym c.changes.ensures ∙ not-true c.changes.result c.if-not-changes.true-raw) in
+      let e : begins f.kind ≡ false = ap begins (sym (c.kind_at.ensures name)) ∙ (sym c.changes.ensures ∙ c.if-not-changes.true) in
       (input-not f (kept-no-input f.kind e), begun_kept f (place_field_in c.args.section.now c.args.n) c.args.store.now c.args.stimulus.now c.args.at e),
 )
 

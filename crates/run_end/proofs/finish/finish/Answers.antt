@@ -11,13 +11,13 @@ use Rattle.run_next.specs.Seen.{record_meant}
 use Rattle.run_end.proofs.FinishLaws.{finished-so, stop-so}
 use Rattle.run_end.proofs.finish.finish.Goals as goal
 
-pub returns-in-At : goal.returns-in-At
-returns-in-At c =
+pub returns-in-Some : goal.returns-in-Some
+returns-in-Some c =
     λ d x h room l.
     let B = landed c.args.store.now c.args.pending.now c.args.mask.now in
     let k = rw c.land.ensures at (c.borne-found.ensures d h (omega (arith, room, c.store-1.given))) in
-    let s = rw (c.in-At.is, ← h.states) at c.stop_after.ensures in
-    rw (c.without.ensures, finished-so d (record_meant c.args.r) x c.args.g B l (s ∙ stop-so d (record_meant c.args.r) x c.args.g B l (found_meant c.borne-found.result) (λ e. k (l.sees.sequenced ∙ e)))) refl
+    let s = rw (c.in-Some.is, ← h.states) at c.stop_after.ensures in
+    rw (finished-so d (record_meant c.args.r) x c.args.g B l (s ∙ stop-so d (record_meant c.args.r) x c.args.g B l (found_meant c.borne-found.result) (λ e. k (l.sees.sequenced ∙ e)))) refl
 
 pub returns-in-None : goal.returns-in-None
 returns-in-None c =

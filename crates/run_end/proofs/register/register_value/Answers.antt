@@ -13,7 +13,7 @@ returns-in_default c =
 pub returns : goal.returns
 returns c =
     λ d E h k room.
-    let q = rw c.in-At.is at (c.sequencing.ensures d E h) in
+    let q = rw c.in-Some.is at (c.sequencing.ensures d E h) in
     rw (← q)
-    (ap (λ (v : Value). v.number) (c.first_word.ensures (name_of h c.in-At.f c.facility_at-facility.result c.facility_at-facility.ensures) (short-read h k c.in-At.f (sym q) c.facility_at-facility.result c.facility_at-facility.ensures))
-    ∙ register-found h k c.in-At.f (sym q) c.facility_at-facility.result c.facility_at-facility.ensures c.args.store.now (λ i. (c.shared_slice_known-2-1.given i).fits) room)
+    (ap (λ (v : Value). v.number) (c.first_word.ensures (name_of h c.in-Some.f c.facility_at.result c.facility_at.ensures) (short-read h k c.in-Some.f (sym q) c.facility_at.result c.facility_at.ensures))
+    ∙ register-found h k c.in-Some.f (sym q) c.facility_at.result c.facility_at.ensures c.args.store.now (λ i. (c.shared_slice_known-2-1.given i).fits) room)

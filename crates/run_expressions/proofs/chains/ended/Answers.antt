@@ -1,23 +1,29 @@
-use mathlib.Core.Path.{refl, sym, ap, ◌∙◌}
+use mathlib.Core.Path.{◌≡◌, sym, ap, ◌∙◌}
 use native.Mathlib.Omega.{arith}
-use Rattle.language.specs.Decode.{node_of}
+use Rattle.language.specs.Description as D
 use Rattle.language.specs.Meaning.{Answer}
+use Rattle.language.specs.Value.{Value}
+use Rattle.image_records.specs.Nodes.{constant_number}
+use Rattle.value_operators.specs.Meaning.{valued}
+use Rattle.std.proofs.lemmas.Result.{err_from_is_err_and}
 use Rattle.run_expressions.specs.Chains.{operated_on}
-use Rattle.run_expressions.proofs.ChainLaws.{stays}
+use Rattle.run_expressions.proofs.ChainLaws.{halt-stays, stays}
 use Rattle.run_expressions.proofs.chains.ended.Goals as goal
 
-pub returns-in-Is : goal.returns-in-Is
-returns-in-Is c =
-    λ worth h f e.
-    let m = operated_on (node_of c.args.expressions.now c.args.b) in
-    c.climbed.ensures worth h f (ap m c.anew.ensures ∙ (rw c.in-Is.is at e))
+-- What a record makes of what is in hand is the worth of the record that was read.
+in-hand : {a b : Answer} {m n : D.Node} (v : Value) → a ≡ operated_on m v → m ≡ n → operated_on n v ≡ b → a ≡ b
+in-hand v p q r = p ∙ (ap (λ (k : D.Node). operated_on k v) q ∙ r)
 
-pub returns-in-Stops : goal.returns-in-Stops
-returns-in-Stops c =
+pub returns-in_err-v : goal.returns-in_err-v
+returns-in_err-v c =
     λ worth h f e.
-    c.stops.ensures ∙ sym (stays c.args.expressions.now worth c.args.b c.args.n c.args.b f (omega arith) (Answer.stops _) (λ g. refl) (sym (rw c.in-Stops.is at e)) h)
+    let r = err_from_is_err_and c.from_residual.result c.from_residual.ensures.1 in
+    rw (r.1, r.2) (stays c.args.expressions.now worth c.args.b c.args.n c.args.b f (omega arith) _ (sym (halt-stays _ _) ∙ (rw c.in_err-v.was at e)) h)
 
-pub returns-in-Stuck : goal.returns-in-Stuck
-returns-in-Stuck c =
+pub returns-in_err-v-2 : goal.returns-in_err-v-2
+returns-in_err-v-2 c =
     λ worth h f e.
-    c.sticks.ensures ∙ sym (stays c.args.expressions.now worth c.args.b c.args.n c.args.b f (omega arith) (Answer.stuck _) (λ g. refl) (sym (rw c.in-Stuck.is at e)) h)
+    let E = c.args.expressions.now in
+    let r = err_from_is_err_and c.from_residual-in_err-v-2.result c.from_residual-in_err-v-2.ensures.1 in
+    let held = c.loop-i.invariant worth h f (rw c.in_ok-v.was at e) in
+    rw (r.1, r.2) (stays E worth c.args.b c.args.n c.loop-i.i f c.loop-i.auto.i _ (in-hand (valued c.loop-i.v) (c.in_err-v-2.ensures (constant_number c.loop-i.i E)) c.node_at.ensures held) (omega arith))

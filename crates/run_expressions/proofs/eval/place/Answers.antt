@@ -1,6 +1,7 @@
 use mathlib.Core.Path.{sym, ap, ◌∙◌}
 use Rattle.run_references.specs.Places.{located_meant}
 use Rattle.run_references.proofs.PlaceLaws.{counted, miscounted, name_of, none_read}
+use Rattle.std.proofs.lemmas.Result.{err_from_is_err_and}
 use Rattle.run_expressions.proofs.eval.place.Goals as goal
 
 pub returns-then-section-number : goal.returns-then-section-number
@@ -17,32 +18,24 @@ returns-then-not-right_count c = (
       sym (miscounted h c.args.number c.facility_at-f.result c.facility_at-f.ensures ev c.args.s c.if-section-number.false (sym c.right_count.ensures ∙ c.if-not-right_count.true)),
 )
 
-pub returns-in-At : goal.returns-in-At
-returns-in-At c = (
+pub returns-in_err-located : goal.returns-in_err-located
+returns-in_err-located c =
+    let r = err_from_is_err_and c.from_residual.result c.from_residual.ensures.1 in
+    rw (r.1, r.2) (
+      tt,
+      λ d E h ev w.
+          let f = c.facility_at-f in
+          let z = w f.result f.ensures in
+          let p = counted h c.args.number f.result f.ensures ev c.args.s c.if-section-number.false (sym c.right_count.ensures ∙ c.if-not-right_count.false) in
+          sym (p ∙ (sym (c.located.ensures ev (name_of h c.args.number f.result f.ensures) z.0 z.1) ∙ ap located_meant c.in_err-located.was)),
+    )
+
+pub returns : goal.returns
+returns c = (
   c.facility_at-f.ensures,
   λ d E h ev w.
       let f = c.facility_at-f in
       let z = w f.result f.ensures in
       let p = counted h c.args.number f.result f.ensures ev c.args.s c.if-section-number.false (sym c.right_count.ensures ∙ c.if-not-right_count.false) in
-      sym (p ∙ (sym (c.located.ensures ev (name_of h c.args.number f.result f.ensures) z.0 z.1) ∙ ap located_meant c.in-At.is)),
-)
-
-pub returns-in-Stops : goal.returns-in-Stops
-returns-in-Stops c = (
-  tt,
-  λ d E h ev w.
-      let f = c.facility_at-f in
-      let z = w f.result f.ensures in
-      let p = counted h c.args.number f.result f.ensures ev c.args.s c.if-section-number.false (sym c.right_count.ensures ∙ c.if-not-right_count.false) in
-      sym (p ∙ (sym (c.located.ensures ev (name_of h c.args.number f.result f.ensures) z.0 z.1) ∙ ap located_meant c.in-Stops.is)),
-)
-
-pub returns-in-Stuck : goal.returns-in-Stuck
-returns-in-Stuck c = (
-  tt,
-  λ d E h ev w.
-      let f = c.facility_at-f in
-      let z = w f.result f.ensures in
-      let p = counted h c.args.number f.result f.ensures ev c.args.s c.if-section-number.false (sym c.right_count.ensures ∙ c.if-not-right_count.false) in
-      sym (p ∙ (sym (c.located.ensures ev (name_of h c.args.number f.result f.ensures) z.0 z.1) ∙ ap located_meant c.in-Stuck.is)),
+      sym (p ∙ (sym (c.located.ensures ev (name_of h c.args.number f.result f.ensures) z.0 z.1) ∙ ap located_meant c.in_ok-located.was)),
 )

@@ -6,5 +6,5 @@ pub returns-in-Whole : goal.returns-in-Whole
 returns-in-Whole c = (
   c.place.ensures.0,
   λ d x h e.
-      c.place.ensures.1 d c.args.expressions.now h (eval_below (bytes d) d x c.args.n) (λ f g. rw c.in-Whole.is (tt, tt)),
+      c.place.ensures.1 d c.args.image.now.expressions.now h (eval_below (bytes d) d x c.args.n) (λ f g. rw c.in-Whole.is (tt, tt)),
 )

@@ -12,11 +12,7 @@ use Rattle.run_next.proofs.bearer.bearer.Goals as goal
 
 pub loop-n-init : goal.loop-n-init
 loop-n-init c =
-    (omega arith, λ d h. let k : ℕ = length c.args.section.now / state_size in let e : k - 0 ≡ k = omega arith in rw e)
-
-pub overflow_cast-result : goal.overflow_cast-result
-overflow_cast-result c =
-    omega arith
+    (λ d h. let k : ℕ = length c.args.section.now / state_size in let e : k - 0 ≡ k = omega arith in rw e)
 
 pub returns-then-bears : goal.returns-then-bears
 returns-then-bears c =
@@ -24,31 +20,21 @@ returns-then-bears c =
     let k : ℕ = length c.args.section.now / state_size in
     let e : k - c.loop-n.n ≡ suc (k - c.loop-n.n - 1) = omega arith in
     let s = h.states c.loop-n.n in
-    let v = ap (λ (y : D.State). y.value) (s.is ∙ sym (c.state_at-s.ensures.meaning s.name)) in
+    let v = ap (λ (y : D.State). y.value) (s.is ∙ sym (c.state_at.ensures.meaning s.name)) in
     let b = sym (c.bears.ensures d c.args.section.now c.loop-n.n h v) ∙ c.if-bears.true in
-    bearer-here d (number c.args.x.limbs) c.loop-n.n (k - c.loop-n.n) (k - c.loop-n.n - 1) e b ∙ c.loop-n.invariant.1 d h
-
-pub overflow_add-n : goal.overflow_add-n
-overflow_add-n c =
-    omega arith
-
-pub loop-n-smaller : goal.loop-n-smaller
-loop-n-smaller c =
-    omega arith
+    bearer-here d (number c.args.x.limbs) c.loop-n.n (k - c.loop-n.n) (k - c.loop-n.n - 1) e b ∙ c.loop-n.invariant d h
 
 pub loop-n-preserved : goal.loop-n-preserved
-loop-n-preserved c = (
-  omega arith,
-  λ d h.
-      let k : ℕ = length c.args.section.now / state_size in
-      let e : k - c.loop-n.n ≡ suc (k - c.loop-n.n - 1) = omega arith in
-      let m : k - (c.loop-n.n + 1) ≡ k - c.loop-n.n - 1 = omega arith in
-      let p : c.loop-n.n + 1 ≡ suc c.loop-n.n = omega arith in
-      let s = h.states c.loop-n.n in
-      let v = ap (λ (y : D.State). y.value) (s.is ∙ sym (c.state_at-s.ensures.meaning s.name)) in
-      let b = sym (c.bears.ensures d c.args.section.now c.loop-n.n h v) ∙ c.if-bears.false in
-      rw (m, p) (sym (bearer-later d (number c.args.x.limbs) c.loop-n.n (k - c.loop-n.n) (k - c.loop-n.n - 1) e b) ∙ c.loop-n.invariant.1 d h),
-)
+loop-n-preserved c =
+    λ d h.
+    let k : ℕ = length c.args.section.now / state_size in
+    let e : k - c.loop-n.n ≡ suc (k - c.loop-n.n - 1) = omega arith in
+    let m : k - (c.loop-n.n + 1) ≡ k - c.loop-n.n - 1 = omega arith in
+    let p : c.loop-n.n + 1 ≡ suc c.loop-n.n = omega arith in
+    let s = h.states c.loop-n.n in
+    let v = ap (λ (y : D.State). y.value) (s.is ∙ sym (c.state_at.ensures.meaning s.name)) in
+    let b = sym (c.bears.ensures d c.args.section.now c.loop-n.n h v) ∙ c.if-bears.false in
+    rw (m, p) (sym (bearer-later d (number c.args.x.limbs) c.loop-n.n (k - c.loop-n.n) (k - c.loop-n.n - 1) e b) ∙ c.loop-n.invariant d h)
 
 pub returns : goal.returns
 unfolding S.bearer
@@ -56,4 +42,4 @@ returns c =
     λ d h.
     let k : ℕ = length c.args.section.now / state_size in
     let e : 0 ≡ k - c.loop-n.n = omega arith in
-    ap (λ (i : ℕ). S.bearer d i c.loop-n.n (number c.args.x.limbs)) e ∙ c.loop-n.invariant.1 d h
+    ap (λ (i : ℕ). S.bearer d i c.loop-n.n (number c.args.x.limbs)) e ∙ c.loop-n.invariant d h

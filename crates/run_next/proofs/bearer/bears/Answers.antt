@@ -9,11 +9,11 @@ use Rattle.image_records.specs.Nodes.{held}
 use Rattle.run_references.proofs.EvalLaws.{held_whole}
 use Rattle.run_next.proofs.bearer.bears.Goals as goal
 
-pub returns-in-At : goal.returns-in-At
-returns-in-At c =
+pub returns-in-Some : goal.returns-in-Some
+returns-in-Some c =
     λ d T s h e.
-    let v = ap (λ (z : D.Node). held (constant_value z)) (sym (h.nodes c.in-At.n)) ∙ held_whole _ (h.fit c.in-At.n) in
-    rw (h.constants s c.in-At.n (rw c.in-At.is at e)) (c.same.ensures ∙ ap (eqb (number c.args.x.limbs)) (ap (λ (z : Value). z.number) (c.constant_at-y.ensures ∙ v)))
+    let v = ap (λ (z : D.Node). held (constant_value z)) (sym (h.nodes c.in-Some.n)) ∙ held_whole _ (h.fit c.in-Some.n) in
+    rw (h.constants s c.in-Some.n (rw c.in-Some.is at e)) (c.same.ensures ∙ ap (eqb (number c.args.x.limbs)) (ap (λ (z : Value). z.number) (c.constant_at.ensures ∙ v)))
 
 pub returns-in-None : goal.returns-in-None
 unfolding S.state_number

@@ -10,39 +10,25 @@ use Rattle.run_next.proofs.register.sequencing.Goals as goal
 pub loop-n-init : goal.loop-n-init
 unfolding sequencing_of
 loop-n-init c =
-    (omega arith, λ d E h. refl)
-
-pub overflow_cast-result : goal.overflow_cast-result
-overflow_cast-result c =
-    omega arith
+    (λ d E h. refl)
 
 pub returns-then-is_sequencing : goal.returns-then-is_sequencing
 returns-then-is_sequencing c =
     λ d E h.
     let n : c.loop-n.n < length d.facilities = rw h.count c.loop-n-test.true in
-    let k = ap (λ (y : D.Facility). is_sequencing y.kind) (h.facilities c.loop-n.n).is ∙ (ap is_sequencing (sym (c.kind_at-kind.ensures (h.facilities c.loop-n.n).name)) ∙ (sym c.is_sequencing.ensures ∙ c.if-is_sequencing.true)) in
-    sym (register-here d c.loop-n.n n k) ∙ c.loop-n.invariant.1 d E h
-
-pub overflow_add-n : goal.overflow_add-n
-overflow_add-n c =
-    omega arith
-
-pub loop-n-smaller : goal.loop-n-smaller
-loop-n-smaller c =
-    omega arith
+    let k = ap (λ (y : D.Facility). is_sequencing y.kind) (h.facilities c.loop-n.n).is ∙ (ap is_sequencing (sym (c.kind_at.ensures (h.facilities c.loop-n.n).name)) ∙ (sym c.is_sequencing.ensures ∙ c.if-is_sequencing.true)) in
+    sym (register-here d c.loop-n.n n k) ∙ c.loop-n.invariant d E h
 
 pub loop-n-preserved : goal.loop-n-preserved
-loop-n-preserved c = (
-  omega arith,
-  λ d E h.
-      let n : c.loop-n.n < length d.facilities = rw h.count c.loop-n-test.true in
-      let p : c.loop-n.n + 1 ≡ suc c.loop-n.n = omega arith in
-      let k = ap (λ (y : D.Facility). is_sequencing y.kind) (h.facilities c.loop-n.n).is ∙ (ap is_sequencing (sym (c.kind_at-kind.ensures (h.facilities c.loop-n.n).name)) ∙ (sym c.is_sequencing.ensures ∙ c.if-is_sequencing.false)) in
-      rw p (sym (register-later d c.loop-n.n n k) ∙ c.loop-n.invariant.1 d E h),
-)
+loop-n-preserved c =
+    λ d E h.
+    let n : c.loop-n.n < length d.facilities = rw h.count c.loop-n-test.true in
+    let p : c.loop-n.n + 1 ≡ suc c.loop-n.n = omega arith in
+    let k = ap (λ (y : D.Facility). is_sequencing y.kind) (h.facilities c.loop-n.n).is ∙ (ap is_sequencing (sym (c.kind_at.ensures (h.facilities c.loop-n.n).name)) ∙ (sym c.is_sequencing.ensures ∙ c.if-is_sequencing.false)) in
+    rw p (sym (register-later d c.loop-n.n n k) ∙ c.loop-n.invariant d E h)
 
 pub returns : goal.returns
 returns c =
     λ d E h.
     let n : length d.facilities ≤ c.loop-n.n = rw h.count c.loop-n-test.false in
-    sym (register-none d c.loop-n.n n) ∙ c.loop-n.invariant.1 d E h
+    sym (register-none d c.loop-n.n n) ∙ c.loop-n.invariant d E h

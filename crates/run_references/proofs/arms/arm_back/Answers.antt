@@ -1,5 +1,5 @@
-use mathlib.Core.Path.{◌≡◌, refl, sym, ap, ◌∙◌}
-use Prim.Native.Nat.{ℕ, suc, ◌-◌}
+use mathlib.Core.Path.{◌≡◌, sym, ap, ◌∙◌}
+use Prim.Native.Nat.{ℕ, suc, ◌+◌, ◌-◌}
 use native.Mathlib.Omega.{arith}
 use Rattle.language.specs.Meaning.{arm_back}
 use Rattle.image_records.specs.Nodes.{constant_number}
@@ -7,25 +7,28 @@ use Rattle.run_references.proofs.ArmLaws.{arm-before, arm-here, arm-nowhere}
 use borrow.Enum.Refused.{opened}
 use Rattle.run_references.proofs.arms.arm_back.Goals as goal
 
-pub loop-left-init : goal.loop-left-init
-loop-left-init c =
-    (omega arith, λ d h. refl)
+pub loop-init : goal.loop-init
+loop-init c =
+    let e : c.args.back - 0 ≡ c.args.back = omega arith in
+    λ d h. ap (λ (k : ℕ). arm_back d k c.args.a) e
 
 pub returns-in_default : goal.returns-in_default
 returns-in_default c =
-    let e : c.loop-left.left ≡ suc (c.loop-left.left - 1) = omega arith in
-    λ d h. sym (ap (λ (k : ℕ). arm_back d k c.loop-left.at) e ∙ arm-nowhere d (constant_number c.loop-left.at c.args.expressions.now) c.loop-left.at c.node_at.result (h c.loop-left.at ∙ sym c.node_at.ensures) (opened c.in_default.in_default-own.keys2) (c.loop-left.left - 1)) ∙ c.loop-left.invariant.1 d h
+    let at = c.loop.at in
+    let e : c.args.back - c.loop.counter ≡ suc (c.args.back - c.loop.counter - 1) = omega arith in
+    λ d h.
+    sym (ap (λ (k : ℕ). arm_back d k at) e ∙ arm-nowhere d (constant_number at c.args.expressions.now) at c.node_at.result (h at ∙ sym c.node_at.ensures) (opened c.in_default.in_default-own.keys2) (c.args.back - c.loop.counter - 1)) ∙ c.loop.invariant d h
 
-pub loop-left-smaller : goal.loop-left-smaller
-loop-left-smaller c =
-    omega arith
-
-pub loop-left-preserved : goal.loop-left-preserved
-loop-left-preserved c =
-    let e : suc (c.loop-left.left - 1) ≡ c.loop-left.left = omega arith in
-    (omega arith, λ d h. sym (arm-before d (constant_number c.loop-left.at c.args.expressions.now) c.loop-left.at c.node_at.result (h c.loop-left.at ∙ sym c.node_at.ensures) c.in-NextArm.is (c.loop-left.left - 1)) ∙ (ap (λ (k : ℕ). arm_back d k c.loop-left.at) e ∙ c.loop-left.invariant.1 d h))
+pub loop-preserved : goal.loop-preserved
+loop-preserved c =
+    let at = c.loop.at in
+    let left = c.args.back - (c.loop.counter + 1) in
+    let e : suc left ≡ c.args.back - c.loop.counter = omega arith in
+    λ d h.
+    sym (arm-before d (constant_number at c.args.expressions.now) at c.node_at.result (h at ∙ sym c.node_at.ensures) c.in-NextArm.is left) ∙ (ap (λ (k : ℕ). arm_back d k at) e ∙ c.loop.invariant d h)
 
 pub returns : goal.returns
 returns c =
-    let e : 0 ≡ c.loop-left.left = omega arith in
-    λ d h. c.expression_of.ensures ∙ (sym (arm-here d (constant_number c.loop-left.at c.args.expressions.now) c.loop-left.at c.node_at-2.result (h c.loop-left.at ∙ sym c.node_at-2.ensures)) ∙ (ap (λ (k : ℕ). arm_back d k c.loop-left.at) e ∙ c.loop-left.invariant.1 d h))
+    let at = c.loop.at in
+    let e : 0 ≡ c.args.back - c.loop.counter = omega arith in
+    λ d h. c.expression_of.ensures ∙ (sym (arm-here d (constant_number at c.args.expressions.now) at c.node_at-2.result (h at ∙ sym c.node_at-2.ensures)) ∙ (ap (λ (k : ℕ). arm_back d k at) e ∙ c.loop.invariant d h))

@@ -2,14 +2,6 @@ use mathlib.Core.Path.{◌∙◌}
 use Rattle.run_references.proofs.PlaceLaws.{first-once}
 use Rattle.run_references.proofs.distances.first.Goals as goal
 
-pub returns-in-Whole : goal.returns-in-Whole
-returns-in-Whole c =
-    λ f g. rw c.in-Whole.is
-
-pub returns-in-Part : goal.returns-in-Part
-returns-in-Part c =
-    λ f g. rw c.in-Part.is
-
 pub returns-in_default : goal.returns-in_default
 returns-in_default c =
     λ f g.

@@ -1,13 +1,24 @@
+use Rattle.run_references.proofs.BoundLaws.{distance-in, distance-out, from-first-lt}
+use Rattle.language.specs.Description as D
+use native.Mathlib.Omega.{arith}
+use mathlib.Core.Path.{ap, sym, ◌∙◌}
 use Rattle.run_references.proofs.places.subscript.Goals as goal
 
-pub returns-in-Is : goal.returns-in-Is
-returns-in-Is c =
-    λ on. rw c.in-Is.is (c.distance_of.ensures on)
+pub overflow_cast-result : goal.overflow_cast-result
+overflow_cast-result c =
+    let f = ap (λ (x : D.Bounds). x.first) c.bounds_of-x.ensures in
+    let l = ap (λ (x : D.Bounds). x.last) c.bounds_of-x.ensures in
+    let h = from-first-lt _ (omega (arith, f)) (omega (arith, l)) _ (sym c.in_bounds.ensures ∙ c.if-not-in_bounds.false) in
+    omega (arith, c.from_first.ensures)
 
-pub returns-in-Stops : goal.returns-in-Stops
-returns-in-Stops c =
-    λ on. rw c.in-Stops.is
+pub returns-then-not-in_bounds : goal.returns-then-not-in_bounds
+returns-then-not-in_bounds c =
+    let f = ap (λ (x : D.Bounds). x.first) c.bounds_of-x.ensures in
+    let l = ap (λ (x : D.Bounds). x.last) c.bounds_of-x.ensures in
+    λ on. rw (← c.bounds_of-x.ensures, c.in_ok-w.was) (distance-out _ (omega (arith, f)) (omega (arith, l)) _ _ c.small-n.ensures on _ (sym c.in_bounds.ensures ∙ c.if-not-in_bounds.true))
 
-pub returns-in-Stuck : goal.returns-in-Stuck
-returns-in-Stuck c =
-    λ on. rw c.in-Stuck.is
+pub returns : goal.returns
+returns c =
+    let f = ap (λ (x : D.Bounds). x.first) c.bounds_of-x.ensures in
+    let l = ap (λ (x : D.Bounds). x.last) c.bounds_of-x.ensures in
+    λ on. rw (← c.bounds_of-x.ensures, c.in_ok-w.was) (ap on c.from_first.ensures ∙ distance-in _ (omega (arith, f)) (omega (arith, l)) _ _ c.small-n.ensures on _ (sym c.in_bounds.ensures ∙ c.if-not-in_bounds.false))

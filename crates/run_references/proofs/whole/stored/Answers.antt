@@ -1,4 +1,3 @@
-use mathlib.Core.Bool.{true≢false}
 use mathlib.Core.List.{List}
 use mathlib.Core.Path.{◌≡◌, sym, ap, ◌∙◌}
 use Prim.Native.Nat.{ℕ, ◌<◌}
@@ -12,31 +11,16 @@ use Rattle.store_layout.specs.InBytes.{load_bytes}
 use Rattle.run_references.proofs.PlaceLaws.{facility-known, name_of, stored-load, stored-read, whole-place}
 use Rattle.run_references.proofs.whole.stored.Goals as goal
 
-pub returns-then-section-number : goal.returns-then-section-number
-returns-then-section-number c =
-    λ E d x h e ev t. absurd (true≢false (sym t ∙ c.later.ensures))
-
-pub returns-then-f-gt1 : goal.returns-then-f-gt1
-returns-then-f-gt1 c =
-    λ E d x h e ev t. absurd (true≢false (sym t ∙ c.later-then-f-gt1.ensures))
-
-pub returns-then-is_computed : goal.returns-then-is_computed
-returns-then-is_computed c =
-    λ E d x h e ev t. absurd (true≢false (sym t ∙ c.later-then-is_computed.ensures))
-
-pub returns-then-length-gt-LONGEST : goal.returns-then-length-gt-LONGEST
-returns-then-length-gt-LONGEST c =
-    λ E d x h e ev t. absurd (true≢false (sym t ∙ c.later-then-length-gt-LONGEST.ensures))
-
 pub returns : goal.returns
 returns c =
-    λ E d x h e ev t.
-    let k = name_of h c.args.number c.facility_at-f.result c.facility_at-f.ensures in
-    let w : c.word_length-length.result ≡ word_length (facility_meant k c.facility_at-f.result) = c.word_length-length.ensures.1 k in
+    λ E d x h e ev.
+    let f = c.facility_at-f in
+    let k = name_of h c.args.number f.result f.ensures in
+    let w : c.word_length-length.result ≡ word_length (facility_meant k f.result) = c.word_length-length.ensures.1 k in
     let n : c.args.number < length d.facilities = rw h.count c.if-section-number.false in
-    let q = whole-place h c.args.number c.facility_at-f.result c.facility_at-f.ensures ev c.if-section-number.false (omega arith) (omega (arith, w, c.if-length-gt-LONGEST.false)) in
+    let q = whole-place h c.args.number f.result f.ensures ev c.if-section-number.false (omega arith) (omega (arith, w, c.if-length-gt-LONGEST.false)) in
     let z = sym c.is_computed.ensures ∙ c.if-is_computed.false in
-    let p : M.Place = M.place c.args.number 0 0 (word_length (facility_meant k c.facility_at-f.result)) in
+    let p : M.Place = M.place c.args.number 0 0 (word_length (facility_meant k f.result)) in
     let load : ℕ → M.Answer = λ m. M.Answer.is (L.value p.count m) in
-    rw (facility-known h c.args.number c.facility_at-f.result c.facility_at-f.ensures, q)
-    (rw w at (c.of_stored.ensures k) ∙ (ap load (stored-load h c.args.number c.facility_at-f.result c.facility_at-f.ensures n z c.args.store.now 0 0 p.count ∙ ap (λ (B : List ℕ). load_bytes d B p) (sym e)) ∙ sym (stored-read d x ev k c.facility_at-f.result p z)))
+    rw (facility-known h c.args.number f.result f.ensures, q)
+    (rw w at (ap M.Answer.is (c.of_stored.ensures k)) ∙ (ap load (stored-load h c.args.number f.result f.ensures n z c.args.store.now 0 0 p.count ∙ ap (λ (B : List ℕ). load_bytes d B p) (sym e)) ∙ sym (stored-read d x ev k f.result p z)))

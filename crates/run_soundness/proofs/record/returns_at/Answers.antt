@@ -7,15 +7,14 @@ use Rattle.run_soundness.proofs.record.returns_at.Goals as goal
 
 pub loop-i-init : goal.loop-i-init
 loop-i-init c =
-    (omega arith, search rules, λ k h. absurd (omega arith))
+    (search rules, λ k h. absurd (omega arith))
 
 pub loop-i-preserved : goal.loop-i-preserved
 loop-i-preserved c = (
-  omega arith,
-  length-set c.loop-i.returns c.loop-i.i c.four.result ∙ c.loop-i.invariant.1,
-  as-far-more c.loop-i.returns 16 _ c.loop-i.i c.four.result (omega arith) c.loop-i.invariant.2 c.four.ensures,
+  length-set c.loop-i.x-items c.loop-i.i c.four.result ∙ c.loop-i.invariant.0,
+  as-far-more c.loop-i.x-items 16 _ c.loop-i.i c.four.result (omega arith) c.loop-i.invariant.1 c.four.ensures,
 )
 
 pub returns : goal.returns
 returns c =
-    as-far-all c.loop-i.returns 16 _ 16 c.loop-i.invariant.1 (λ k h. c.loop-i.invariant.2 k (omega arith))
+    as-far-all c.loop-i.x-items 16 _ 16 c.loop-i.invariant.0 (λ k h. c.loop-i.invariant.1 k (omega arith))

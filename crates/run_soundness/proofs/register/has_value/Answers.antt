@@ -10,12 +10,12 @@ use Rattle.run_references.proofs.PlaceLaws.{name_of}
 use Rattle.run_soundness.proofs.RegisterLaws.{few_bits, register-word}
 use Rattle.run_soundness.proofs.register.has_value.Goals as goal
 
-pub returns-in-At : goal.returns-in-At
-returns-in-At c =
+pub returns-in-Some : goal.returns-in-Some
+returns-in-Some c =
     λ d T s h q e room.
-    let v = ap (λ (z : D.Node). held (constant_value z)) (sym (h.valued.nodes c.in-At.k)) ∙ held_whole _ (h.valued.fit c.in-At.k) in
+    let v = ap (λ (z : D.Node). held (constant_value z)) (sym (h.valued.nodes c.in-Some.k)) ∙ held_whole _ (h.valued.fit c.in-Some.k) in
     let w = register-word h c.args.n c.facility_at-f.result c.facility_at-f.ensures q c.args.store.now (λ i. (c.shared_slice_known-3-1.given i).fits) room (c.first_word-x.ensures (name_of h.described c.args.n c.facility_at-f.result c.facility_at-f.ensures) (few_bits h c.args.n c.facility_at-f.result c.facility_at-f.ensures q)) in
-    rw (h.valued.constants s c.in-At.k (rw c.in-At.is at e)) (c.same.ensures ∙ ap₂ eqb w (ap (λ (z : Value). z.number) (c.constant_at.ensures ∙ v)))
+    rw (h.valued.constants s c.in-Some.k (rw c.in-Some.is at e)) (c.same.ensures ∙ ap₂ eqb w (ap (λ (z : Value). z.number) (c.constant_at.ensures ∙ v)))
 
 pub returns-in-None : goal.returns-in-None
 unfolding S.state_number

@@ -12,19 +12,18 @@ use Rattle.run_soundness.proofs.sizes.store_size.Goals as goal
 
 pub loop-n-init : goal.loop-n-init
 loop-n-init c =
-    (omega arith, omega arith, λ d E h small. omega arith)
+    (omega arith, λ d E h small. omega arith)
 
 pub loop-n-preserved : goal.loop-n-preserved
 unfolding facility_at
 loop-n-preserved c = (
-  omega arith,
   rw c.cap-size.ensures (capped-most c.place_after.result),
   λ d E h small.
       let x = facility_meant (name_of h c.loop-n.n c.facility_at.result c.facility_at.ensures) c.facility_at.result in
       let n : c.loop-n.n < length d.facilities = rw h.count c.loop-n-test.true in
       let p : c.loop-n.n + 1 ≡ suc c.loop-n.n = omega arith in
       let s = size-here d.facilities c.loop-n.n x n (facility-known h c.loop-n.n c.facility_at.result c.facility_at.ensures) in
-      let i = c.loop-n.invariant.2 d E h small in
+      let i = c.loop-n.invariant.1 d E h small in
       let z : c.cap-size.result ≡ c.loop-n.size + facility_bytes x =
       c.cap-size.ensures ∙ ap capped (c.place_after.ensures x (c.shape_of-shape.ensures (name_of h c.loop-n.n c.facility_at.result c.facility_at.ensures))) ∙ capped-below (c.loop-n.size + facility_bytes x) (omega (arith, s, i)) in
       rw p (omega (arith, s, i, z)),
@@ -35,4 +34,4 @@ unfolding store_size_of
 returns c =
     λ d E h small.
     let n : length d.facilities ≤ c.loop-n.n = rw h.count c.loop-n-test.false in
-    omega (arith, ap store_size_of (drop_of_length-le d.facilities n), c.loop-n.invariant.2 d E h small)
+    omega (arith, ap store_size_of (drop_of_length-le d.facilities n), c.loop-n.invariant.1 d E h small)

@@ -1,7 +1,6 @@
 use mathlib.Core.Path.{◌≡◌, sym, ◌∙◌}
 use Prim.Native.Nat.{suc, ◌+◌, ◌≤◌, ◌<◌}
 use native.Mathlib.Omega.{arith}
-use borrow.Author.Tests.{not-false, not-true}
 use lib.ListN.{length}
 use Rattle.language.specs.Description.{facility_at}
 use Rattle.image_sections.specs.Declarations.{facility_meant}
@@ -11,29 +10,27 @@ use Rattle.run_soundness.proofs.words.narrow.Goals as goal
 
 pub loop-n-init : goal.loop-n-init
 loop-n-init c =
-    (omega arith, λ d E h room. narrow-all d.facilities _)
+    λ d E h room. narrow-all d.facilities _
 
 pub returns-then-not-narrow_in : goal.returns-then-not-narrow_in
 unfolding facility_at
 returns-then-not-narrow_in c =
     λ d E h room.
     let n : c.loop-n.n < length d.facilities = rw h.count c.loop-n-test.true in
-    let s = narrow-stop d.facilities c.loop-n.n (facility_meant (name_of h c.loop-n.n c.facility_at-f.result c.facility_at-f.ensures) c.facility_at-f.result) (facility-known h c.loop-n.n c.facility_at-f.result c.facility_at-f.ensures) n _ room c.facility_at-f.result.place (stored-place h c.loop-n.n c.facility_at-f.result c.facility_at-f.ensures n) in
-    sym (sym (c.loop-n.invariant.1 d E h room) ∙ s (sym (c.narrow_in.ensures _) ∙ not-true _ c.if-not-narrow_in.true-raw))
+    let s = narrow-stop d.facilities c.loop-n.n (facility_meant (name_of h c.loop-n.n c.facility_at.result c.facility_at.ensures) c.facility_at.result) (facility-known h c.loop-n.n c.facility_at.result c.facility_at.ensures) n _ room c.facility_at.result.place (stored-place h c.loop-n.n c.facility_at.result c.facility_at.ensures n) in
+    sym (sym (c.loop-n.invariant d E h room) ∙ s (sym (c.narrow_in.ensures _) ∙ c.if-not-narrow_in.true))
 
 pub loop-n-preserved : goal.loop-n-preserved
 unfolding facility_at
-loop-n-preserved c = (
-  omega arith,
-  λ d E h room.
-      let n : c.loop-n.n < length d.facilities = rw h.count c.loop-n-test.true in
-      let p : c.loop-n.n + 1 ≡ suc c.loop-n.n = omega arith in
-      let s = narrow-more d.facilities c.loop-n.n (facility_meant (name_of h c.loop-n.n c.facility_at-f.result c.facility_at-f.ensures) c.facility_at-f.result) (facility-known h c.loop-n.n c.facility_at-f.result c.facility_at-f.ensures) n _ room c.facility_at-f.result.place (stored-place h c.loop-n.n c.facility_at-f.result c.facility_at-f.ensures n) in
-      rw p (sym (s (sym (c.narrow_in.ensures _) ∙ not-false _ c.if-not-narrow_in.false-raw)) ∙ c.loop-n.invariant.1 d E h room),
-)
+loop-n-preserved c =
+    λ d E h room.
+    let n : c.loop-n.n < length d.facilities = rw h.count c.loop-n-test.true in
+    let p : c.loop-n.n + 1 ≡ suc c.loop-n.n = omega arith in
+    let s = narrow-more d.facilities c.loop-n.n (facility_meant (name_of h c.loop-n.n c.facility_at.result c.facility_at.ensures) c.facility_at.result) (facility-known h c.loop-n.n c.facility_at.result c.facility_at.ensures) n _ room c.facility_at.result.place (stored-place h c.loop-n.n c.facility_at.result c.facility_at.ensures n) in
+    rw p (sym (s (sym (c.narrow_in.ensures _) ∙ c.if-not-narrow_in.false)) ∙ c.loop-n.invariant d E h room)
 
 pub returns : goal.returns
 returns c =
     λ d E h room.
     let n : length d.facilities ≤ c.loop-n.n = rw h.count c.loop-n-test.false in
-    sym (narrow-none d.facilities c.loop-n.n _ n) ∙ c.loop-n.invariant.1 d E h room
+    sym (narrow-none d.facilities c.loop-n.n _ n) ∙ c.loop-n.invariant d E h room

@@ -5,10 +5,10 @@ use Rattle.run_soundness.proofs.words.narrow_in.Goals as goal
 
 pub returns-then-is_computed : goal.returns-then-is_computed
 returns-then-is_computed c =
-    λ name. sym (narrow-computed _ _ _ (sym c.is_computed.ensures ∙ c.if-is_computed.true))
+    λ name. c.if-is_computed.true ∙ sym (narrow-computed _ _ _ (sym c.is_computed.ensures ∙ c.if-is_computed.true))
 
-pub returns : goal.returns
-returns c =
+pub returns-else-is_computed : goal.returns-else-is_computed
+returns-else-is_computed c =
     λ name.
     c.no_spare_bits.ensures
     ∙ (ap₂ (narrow_at c.args.store.now c.args.f.place) (c.word_count.ensures.1 name) (c.word_length.ensures.1 name)

@@ -6,5 +6,5 @@ pub returns : goal.returns
 returns c =
     λ d h k v room enough.
     let run = h.described in
-    let e = rw (← (c.state_at-state.ensures.meaning (v.states c.args.number).name)) at (v.states c.args.number).is in
-    rw (e) (c.run_actions.ensures d (nothing_in _ c.args.pending.now c.args.mask.now) h (rw (c.nothing-g.ensures, c.begin.ensures d _ run room enough) refl) k)
+    let e = rw (← (c.state_at.ensures.meaning (v.states c.args.number).name)) at (v.states c.args.number).is in
+    rw (e) (c.run_actions.ensures d (nothing_in _ c.args.pending.now c.args.mask.now) h (rw (c.nothing.ensures, c.begin.ensures d _ run room enough) refl) k)

@@ -25,5 +25,5 @@ returns c =
     λ F E P M d x h e t.
     let y = sym c.is_plain.ensures ∙ not-false _ c.if-not-is_plain.false-raw in
     let k = plain-stored (kind_meant c.args.f.kind) y in
-    let q = c.put.ensures ∙ (spot-put h c.args.p c.args.f t k c.spot_of.result (c.spot_of.ensures (name_of h c.args.p.facility c.args.f t.read)) c.args.store.now _ ∙ (ap (λ (n : ℕ). put_bytes d c.args.store.now (T.write (bytes d) d (place_meant c.args.p) n)) c.small-one.ensures ∙ ap (λ (Z : List ℕ). put_bytes d Z (T.write (bytes d) d (place_meant c.args.p) 1)) (sym (bytes-seen d x c.args.g c.args.store.now P M e)))) in
+    let q = c.put.ensures ∙ (spot-put h c.args.p c.args.f t k c.spot_of.result (c.spot_of.ensures (name_of h c.args.p.facility c.args.f t.read)) c.args.store.now _ ∙ (ap (λ (n : ℕ). put_bytes d c.args.store.now (T.write (bytes d) d (place_meant c.args.p) n)) c.small-limbs.ensures ∙ ap (λ (Z : List ℕ). put_bytes d Z (T.write (bytes d) d (place_meant c.args.p) 1)) (sym (bytes-seen d x c.args.g c.args.store.now P M e)))) in
     rw (ap is_plain (kind-known h c.args.p c.args.f t) ∙ y, eq-eqb _ _ c.if-p-ne1.false) (ap went (seen-now d x c.args.g c.args.store.now P M e _ _ q))

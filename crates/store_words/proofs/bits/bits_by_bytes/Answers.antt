@@ -24,13 +24,13 @@ pub position_of-requires : goal.position_of-requires
 position_of-requires c =
     omega (arith, c.uppermost-c.ensures.place, c.uppermost-c.ensures.some)
 
-pub overflow_add-i : goal.overflow_add-i
-overflow_add-i c =
+pub overflow_add-b : goal.overflow_add-b
+overflow_add-b c =
     let q = position-lt c.args.length c.uppermost-c.result.byte (omega (arith, c.uppermost-c.ensures.place, c.uppermost-c.ensures.some)) in
     omega arith
 
-pub bounds-s-i : goal.bounds-s-i
-bounds-s-i c =
+pub bounds-s-at : goal.bounds-s-at
+bounds-s-at c =
     let q = position-lt c.args.length c.uppermost-c.result.byte (omega (arith, c.uppermost-c.ensures.place, c.uppermost-c.ensures.some)) in
     omega arith
 
@@ -42,7 +42,7 @@ pub join-acc-requires : goal.join-acc-requires
 join-acc-requires c =
     let n : ℕ = c.uppermost-c.result.bits in
     let e : c.loop-left.acc * 2 ^ n ≡ part_in c.args.s.now c.args.at c.args.length (c.args.low + c.loop-left.left) (c.args.count - c.loop-left.left) * 2 ^ n = ap (λ (x : ℕ). x * 2 ^ n) c.loop-left.invariant.1 in
-    let t = load-turn c.args.s.now c.args.at c.args.length c.requires.0 (λ i. (c.shared_slice_known-in-loop-left-1.given i).fits) c.args.low c.loop-left.left c.uppermost-c.ensures (omega arith) c.args.count c.loop-left.invariant.0 in
+    let t = load-turn c.args.s.now c.args.at c.args.length c.requires.0 (λ i. (c.type_inv.s i).fits) c.args.low c.loop-left.left c.uppermost-c.ensures (omega arith) c.args.count c.loop-left.invariant.0 in
     let p = part-lt c.args.s.now c.args.at c.args.length (c.args.low + (c.loop-left.left - n)) (c.args.count - (c.loop-left.left - n)) in
     let q : 2 ^ (c.args.count - (c.loop-left.left - n)) ≤ 2 ^ 64 = pow_mono {i = c.args.count - (c.loop-left.left - n)} {j = 64} (omega arith) in
     (omega (arith, c.uppermost-c.ensures.in-byte), rw c.field.ensures (mod-lt (get_or c.args.s.now (c.args.at + c.position_of.result) 0 / 2 ^ c.uppermost-c.result.shift) (pow_pos n)), omega arith)
@@ -57,7 +57,7 @@ loop-left-smaller c =
 
 pub loop-left-preserved : goal.loop-left-preserved
 loop-left-preserved c =
-    let t = load-turn c.args.s.now c.args.at c.args.length c.requires.0 (λ i. (c.shared_slice_known-in-loop-left-1.given i).fits) c.args.low c.loop-left.left c.uppermost-c.ensures (omega arith) c.args.count c.loop-left.invariant.0 in
+    let t = load-turn c.args.s.now c.args.at c.args.length c.requires.0 (λ i. (c.type_inv.s i).fits) c.args.low c.loop-left.left c.uppermost-c.ensures (omega arith) c.args.count c.loop-left.invariant.0 in
     let f = c.field.ensures ∙ ap (λ (p : ℕ). get_or c.args.s.now (c.args.at + p) 0 / 2 ^ c.uppermost-c.result.shift % 2 ^ c.uppermost-c.result.bits) c.position_of.ensures in
     (omega arith, c.join-acc.ensures ∙ ap₂ (λ (x y : ℕ). x * 2 ^ c.uppermost-c.result.bits + y) c.loop-left.invariant.1 f ∙ sym t)
 

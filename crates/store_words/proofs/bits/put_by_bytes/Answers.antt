@@ -12,7 +12,7 @@ use Rattle.store_words.proofs.bits.put_by_bytes.Goals as goal
 
 pub loop-left-init : goal.loop-left-init
 loop-left-init c =
-    (omega arith, refl, λ i. (c.slice_known-1.given i).fits, refl)
+    (omega arith, refl, λ i. (c.type_inv.s i).fits, refl)
 
 pub uppermost-c-requires : goal.uppermost-c-requires
 uppermost-c-requires c =

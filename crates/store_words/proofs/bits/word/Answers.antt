@@ -1,68 +1,69 @@
 use mathlib.Core.Path.{◌≡◌, sym, ap, ap₂, ◌∙◌}
+use mathlib.Core.List.{List}
 use Prim.Native.Nat.{ℕ, ◌+◌, ◌-◌, ◌*◌, ◌/◌, ◌^◌, ◌≤◌, ◌<◌}
 use native.Mathlib.Nat.{div-eq_of_lt, div-one}
 use native.Mathlib.Omega.{arith}
-use lib.ListN.{get_or}
+use lib.ListN.{drop, get_or, length as size, take}
 use lib.Pow.{pow_mono, shr_le}
+use lib.Seq.{get_or-drop, get_or-take, length-take-le}
+use Rattle.std.proofs.Common.{length-drop}
 use Rattle.language.specs.Layout.{word_bytes}
-use Rattle.store_layout.specs.Layout.{Bytes, word_in}
-use Rattle.store_layout.proofs.ByteOrder.{position-lt}
+use Rattle.store_layout.specs.Layout.{Bytes, position, word_in}
 use Rattle.store_layout.proofs.Words.{word_lt}
 use Rattle.store_words.proofs.PartLaws.{word-turn}
 use Rattle.store_words.proofs.bits.word.Goals as goal
 
-pub loop-j-init : goal.loop-j-init
-loop-j-init c =
-    let lt : word_in c.args.s.now c.args.at c.args.length < 2 ^ (8 * c.word_bytes-j.result) = rw c.word_bytes-j.ensures (word_lt c.args.s.now c.args.at c.args.length c.requires.0 (λ i. (c.shared_slice_known-1.given i).fits)) in
-    (omega arith, sym (div-eq_of_lt lt))
+-- One byte more of those of a word, the most significant first.
+module _ (B : List ℕ) (at l n : ℕ) (room : at + word_bytes l ≤ size B) (bytes : Bytes B) (all : n ≡ word_bytes l) where
+  abbrev own : List ℕ
+  own = take (at + n - at) (drop at B)
 
-pub overflow_sub-j : goal.overflow_sub-j
-overflow_sub-j c =
-    omega arith
+  many : size own ≡ n
+  many = length-take-le (at + n - at) (drop at B) (omega (arith, length-drop at B)) ∙ omega arith
 
-pub position_of-requires : goal.position_of-requires
-position_of-requires c =
-    omega arith
+  module _ (i : ℕ) (h : i < size own) where
+    byte : get_or own i 0 ≡ get_or B (at + i) 0
+    byte = get_or-take (at + n - at) (drop at B) i 0 (omega (arith, many)) ∙ get_or-drop at B i 0
 
-pub overflow_add-i : goal.overflow_add-i
-overflow_add-i c =
-    let q = position-lt c.args.length (c.loop-j.j - 1) (omega arith) in
-    omega arith
+    turn : word_in B at l / 2 ^ (8 * (word_bytes l - (i + 1))) ≡ word_in B at l / 2 ^ (8 * (word_bytes l - i)) * 256 + get_or own i 0
+    unfolding position
+    turn =
+        let j : ℕ = word_bytes l - (i + 1) in
+        let e : j + 1 ≡ word_bytes l - i = omega (arith, many) in
+        let p : word_bytes l - 1 - j ≡ i = omega (arith, many) in
+        word-turn B at l room bytes j (omega (arith, many))
+        ∙ ap₂ (λ (m k : ℕ). word_in B at l / 2 ^ (8 * m) * 256 + get_or B (at + k) 0) e p
+        ∙ ap (λ (b : ℕ). word_in B at l / 2 ^ (8 * (word_bytes l - i)) * 256 + b) (sym byte)
 
-pub bounds-s-i : goal.bounds-s-i
-bounds-s-i c =
-    let q = position-lt c.args.length (c.loop-j.j - 1) (omega arith) in
-    omega arith
+    small : word_bytes l ≤ 8 → word_in B at l / 2 ^ (8 * (word_bytes l - i)) * 256 < 2 ^ 64
+    small few =
+        let p = shr_le (word_in B at l) (8 * (word_bytes l - (i + 1))) in
+        let q = word_lt B at l room bytes in
+        let r : 2 ^ (8 * word_bytes l) ≤ 2 ^ 64 = pow_mono {i = 8 * word_bytes l} {j = 64} (omega arith) in
+        omega (arith, turn)
+
+pub loop-b-init : goal.loop-b-init
+loop-b-init c =
+    let e : word_bytes c.args.length - 0 ≡ word_bytes c.args.length = omega arith in
+    rw e (sym (div-eq_of_lt (word_lt c.args.s.now c.args.at c.args.length c.requires.0 (λ i. (c.type_inv.s i).fits))))
 
 pub join-acc-requires : goal.join-acc-requires
 join-acc-requires c =
-    let W : ℕ = word_in c.args.s.now c.args.at c.args.length in
-    let bytes : Bytes c.args.s.now = λ i. (c.shared_slice_known-in-loop-j-1.given i).fits in
-    let e : c.loop-j.j - 1 + 1 ≡ c.loop-j.j = omega arith in
-    let t = word-turn c.args.s.now c.args.at c.args.length c.requires.0 bytes (c.loop-j.j - 1) (omega arith) in
-    let u : W / 2 ^ (8 * (c.loop-j.j - 1 + 1)) * 2 ^ 8 ≡ c.loop-j.acc * 2 ^ 8 = ap (λ (x : ℕ). x * 2 ^ 8) (ap (λ (m : ℕ). W / 2 ^ (8 * m)) e ∙ sym c.loop-j.invariant.1) in
-    let p = shr_le W (8 * (c.loop-j.j - 1)) in
-    let q = word_lt c.args.s.now c.args.at c.args.length c.requires.0 bytes in
-    let r : 2 ^ (8 * word_bytes c.args.length) ≤ 2 ^ 64 = pow_mono {i = 8 * word_bytes c.args.length} {j = 64} (omega arith) in
-    let b = bytes (c.args.at + c.position_of.result) in
-    (omega arith, omega (arith, c.wide.ensures), omega arith)
+    let bytes : Bytes c.args.s.now = λ i. (c.type_inv.s i).fits in
+    let b = byte c.args.s.now c.args.at c.args.length c.word_bytes.result c.requires.0 bytes c.word_bytes.ensures c.loop-b.b-index c.loop-b-test.true in
+    let s = small c.args.s.now c.args.at c.args.length c.word_bytes.result c.requires.0 bytes c.word_bytes.ensures c.loop-b.b-index c.loop-b-test.true c.requires.1 in
+    (omega arith, omega (arith, b, bytes (c.args.at + c.loop-b.b-index)), rw (← c.loop-b.invariant) at s)
 
-pub loop-j-smaller : goal.loop-j-smaller
-loop-j-smaller c =
-    omega arith
-
-pub loop-j-preserved : goal.loop-j-preserved
-loop-j-preserved c =
-    let W : ℕ = word_in c.args.s.now c.args.at c.args.length in
-    let bytes : Bytes c.args.s.now = λ i. (c.shared_slice_known-in-loop-j-1.given i).fits in
-    let e : c.loop-j.j - 1 + 1 ≡ c.loop-j.j = omega arith in
-    let t = word-turn c.args.s.now c.args.at c.args.length c.requires.0 bytes (c.loop-j.j - 1) (omega arith) in
-    let u : W / 2 ^ (8 * (c.loop-j.j - 1 + 1)) * 2 ^ 8 ≡ c.loop-j.acc * 2 ^ 8 = ap (λ (x : ℕ). x * 2 ^ 8) (ap (λ (m : ℕ). W / 2 ^ (8 * m)) e ∙ sym c.loop-j.invariant.1) in
-    let d = c.wide.ensures ∙ ap (λ (p : ℕ). get_or c.args.s.now (c.args.at + p) 0) c.position_of.ensures in
-    (omega arith, c.join-acc.ensures ∙ ap₂ ◌+◌ (sym u) d ∙ sym t)
+pub loop-b-preserved : goal.loop-b-preserved
+loop-b-preserved c =
+    let bytes : Bytes c.args.s.now = λ i. (c.type_inv.s i).fits in
+    let t = turn c.args.s.now c.args.at c.args.length c.word_bytes.result c.requires.0 bytes c.word_bytes.ensures c.loop-b.b-index c.loop-b-test.true in
+    let b = get_or (take (c.args.at + c.word_bytes.result - c.args.at) (drop c.args.at c.args.s.now)) c.loop-b.b-index 0 in
+    c.join-acc.ensures ∙ ap (λ (x : ℕ). x * 256 + b) c.loop-b.invariant ∙ sym t
 
 pub returns : goal.returns
 returns c =
-    let z : c.loop-j.j ≡ 0 = omega arith in
     let W : ℕ = word_in c.args.s.now c.args.at c.args.length in
-    c.loop-j.invariant.1 ∙ ap (λ (m : ℕ). W / 2 ^ (8 * m)) z ∙ div-one W
+    let m = many c.args.s.now c.args.at c.args.length c.word_bytes.result c.requires.0 (λ i. (c.type_inv.s i).fits) c.word_bytes.ensures in
+    let z : word_bytes c.args.length - c.loop-b.b-index ≡ 0 = omega (arith, m, c.word_bytes.ensures) in
+    c.loop-b.invariant ∙ ap (λ (m : ℕ). W / 2 ^ (8 * m)) z ∙ div-one W

@@ -1,11 +1,7 @@
 use mathlib.Core.Path.{◌≡◌}
-use Prim.Native.Nat.{◌-◌, ◌≤◌}
 use Rattle.store_layout.specs.Slices.{landed}
 use Rattle.store_layout.proofs.Writing.{written}
 use Rattle.store_words.proofs.delayed.land.Given as goal
 
 abbrev pub invariant-loop-i : goal.invariant-loop-i
-invariant-loop-i l = (l.i ≤ l.n) × (l.store ≡ written (landed l.initial.store l.pending l.mask) l.i l.initial.store)
-
-abbrev pub decreases-loop-i : goal.decreases-loop-i
-decreases-loop-i l = l.n - l.i
+invariant-loop-i l = l.store ≡ written (landed l.initial.store l.pending l.mask) l.i l.initial.store

@@ -16,8 +16,8 @@ pub overflow_sub-low-then-inside : goal.overflow_sub-low-then-inside
 overflow_sub-low-then-inside c =
     let i = inside-true _ _ _ _ _ c.inside.ensures c.if-inside.true in omega arith
 
-pub load_limbs-part-requires : goal.load_limbs-part-requires
-load_limbs-part-requires c =
+pub load_limbs-requires : goal.load_limbs-requires
+load_limbs-requires c =
     let i = inside-true _ _ _ _ _ c.inside.ensures c.if-inside.true in
     let r = word_room c.args.length in
     (i.0, omega arith, i.2)
@@ -30,7 +30,7 @@ pub returns-then-inside : goal.returns-then-inside
 returns-then-inside c =
     let i = inside-true _ _ _ _ _ c.inside.ensures c.if-inside.true in
     let e : c.args.length - c.args.count - c.args.from ≡ c.args.length - (c.args.from + c.args.count) = omega arith in
-    ap (value c.args.count) (c.load_limbs-part.ensures ∙ ap (λ (n : ℕ). part_in c.args.s.now c.args.at c.args.length n c.args.count) e)
+    ap (value c.args.count) (c.load_limbs.ensures ∙ ap (λ (n : ℕ). part_in c.args.s.now c.args.at c.args.length n c.args.count) e)
     ∙ sym (loaded-inside c.args.s.now c.args.at c.args.length c.args.from c.args.count (sym c.inside.ensures ∙ c.if-inside.true))
 
 pub returns-else-inside : goal.returns-else-inside

@@ -1,6 +1,4 @@
-use mathlib.Core.Path.{ap, ◌∙◌}
 use native.Mathlib.Omega.{arith}
-use Rattle.store_layout.specs.Parts.{with_part}
 use Rattle.value_limbs.proofs.Laws.{Below}
 use Rattle.store_layout.proofs.ByteOrder.{few-spare}
 use Rattle.store_words.proofs.PartLaws.{save-four}
@@ -13,7 +11,6 @@ in_runs-r-requires c =
 
 pub returns : goal.returns
 returns c =
-    let below : Below c.taken-x.result = (search rules) in
-    save-four c.args.s.now c.args.at c.args.length c.args.low c.args.count c.in_runs-r.result c.in_runs-r.ensures c.taken-x.result c.requires.0 (λ i. (c.slice_known-1.given i).fits) c.requires.1 below
+    let below : Below c.args.v = (search rules) in
+    save-four c.args.s.now c.args.at c.args.length c.args.low c.args.count c.in_runs-r.result c.in_runs-r.ensures c.args.v c.requires.0 (λ i. (c.slice_known-1.given i).fits) c.requires.1 below
     c.put.ensures c.put-2.ensures c.put-3.ensures c.put-4.ensures
-    ∙ ap (with_part c.args.s.now c.args.at c.args.length c.args.low c.args.count) c.taken-x.ensures

@@ -1,40 +1,31 @@
 use mathlib.Core.List.{List, map}
-use mathlib.Core.Path.{ap, ◌∙◌}
+use mathlib.Core.Path.{ap, refl, sym, ◌∙◌}
 use Prim.Native.Nat.{ℕ}
 use Rattle.language.specs.Characters.{folded}
 use Rattle.language.specs.Scan.{reserved_kind}
 use Rattle.text_items.specs.Meaning.{meant}
+use Rattle.text_items.specs.Tables.{unless_zero}
 use Rattle.text_items.proofs.Begin.{name-long, name-short, name-sign}
+use Rattle.text_items.proofs.Lookup.{none-unless, some-unless}
 use Rattle.text_items.proofs.items.name.Goals as goal
 
-pub returns-then-kind-ne0 : goal.returns-then-kind-ne0
-returns-then-kind-ne0 c =
-    let args = c.args in
-    let length-of = c.length_of-size in
-    let kind-of = c.kind_of-kind in
-    let first = c.first in
-    let if1 = c.if-kind-ne0 in
-    ap (meant args.text.now) c.plain.ensures
-    ∙ name-sign args.text.now length-of.result kind-of.result length-of.ensures (kind-of.ensures ∙ ap (λ (l : List ℕ). reserved_kind (map folded l)) first.ensures) if1.true
+pub returns-in-Some : goal.returns-in-Some
+returns-in-Some c =
+    let text = c.args.text.now in
+    let k = some-unless c.in-Some.kind (sym c.in-Some.is ∙ c.kind_of.ensures ∙ ap (λ (l : List ℕ). unless_zero (reserved_kind (map folded l))) c.first.ensures) in
+    ap (meant text) c.plain.ensures
+    ∙ name-sign text _ _ c.length_of-size.ensures k.0 k.1
 
 pub returns-then-size-le-NAME : goal.returns-then-size-le-NAME
 returns-then-size-le-NAME c =
-    let args = c.args in
-    let length-of = c.length_of-size in
-    let kind-of = c.kind_of-kind in
-    let first = c.first in
-    let if1 = c.if-kind-ne0 in
-    let if2 = c.if-size-le-NAME in
-    ap (meant args.text.now) c.plain-then-size-le-NAME.ensures
-    ∙ name-short args.text.now length-of.result kind-of.result length-of.ensures (kind-of.ensures ∙ ap (λ (l : List ℕ). reserved_kind (map folded l)) first.ensures) if1.false if2.true
+    let text = c.args.text.now in
+    let none = none-unless (sym c.in_default.is ∙ c.kind_of.ensures ∙ ap (λ (l : List ℕ). unless_zero (reserved_kind (map folded l))) c.first.ensures) in
+    ap (meant text) c.plain-then-size-le-NAME.ensures
+    ∙ name-short text _ _ c.length_of-size.ensures none refl c.if-size-le-NAME.true
 
 pub returns-else-size-le-NAME : goal.returns-else-size-le-NAME
 returns-else-size-le-NAME c =
-    let args = c.args in
-    let length-of = c.length_of-size in
-    let kind-of = c.kind_of-kind in
-    let first = c.first in
-    let if1 = c.if-kind-ne0 in
-    let if2 = c.if-size-le-NAME in
-    ap (meant args.text.now) c.plain-else-size-le-NAME.ensures
-    ∙ name-long args.text.now length-of.result kind-of.result length-of.ensures (kind-of.ensures ∙ ap (λ (l : List ℕ). reserved_kind (map folded l)) first.ensures) if1.false if2.false
+    let text = c.args.text.now in
+    let none = none-unless (sym c.in_default.is ∙ c.kind_of.ensures ∙ ap (λ (l : List ℕ). unless_zero (reserved_kind (map folded l))) c.first.ensures) in
+    ap (meant text) c.plain-else-size-le-NAME.ensures
+    ∙ name-long text _ _ c.length_of-size.ensures none refl c.if-size-le-NAME.false

@@ -1,4 +1,4 @@
-use mathlib.Core.Path.{sym, ◌∙◌}
+use mathlib.Core.Path.{refl, sym, ◌∙◌}
 use Rattle.language.specs.Characters.{folded}
 use Rattle.language.specs.Scan.{bytes, reserved_words}
 use Rattle.text_items.specs.Tables.{beginning, kind_with}
@@ -15,4 +15,4 @@ returns-then-matches-2 c = among_next _ _ _ _ (sym c.matches.ensures ∙ c.if-ma
 
 pub returns : goal.returns
 unfolding kind_with beginning reserved_words bytes folded
-returns c = among_next _ _ _ _ (sym c.matches.ensures ∙ c.if-matches.false) (among_next _ _ _ _ (sym c.matches-2.ensures ∙ c.if-matches-2.false) (among-last _ _ _ c.only.ensures))
+returns c = among_next _ _ _ _ (sym c.matches.ensures ∙ c.if-matches.false) (among_next _ _ _ _ (sym c.matches-2.ensures ∙ c.if-matches-2.false) (among-last _ _ _ refl c.only.ensures))

@@ -1,5 +1,5 @@
 use mathlib.Core.List.{[], ◌∷◌}
-use mathlib.Core.Path.{ap, sym, refl, ◌∙◌}
+use mathlib.Core.Path.{ap, sym, ◌∙◌}
 use Prim.Native.Nat.{ℕ}
 use lib.ListN.{get_or}
 use Rattle.language.specs.Columns.{width_after}
@@ -7,30 +7,15 @@ use Rattle.text_words.proofs.Widths.{line-long, line-next, lines_end}
 use native.Mathlib.Omega.{arith}
 use Rattle.text_words.proofs.lines.first_long.Goals as goal
 
-pub loop-at-init : goal.loop-at-init
-loop-at-init c = (omega arith, omega arith, refl)
-
-pub bounds-text-at : goal.bounds-text-at
-bounds-text-at c = omega arith
-
-pub overflow_add-at : goal.overflow_add-at
-overflow_add-at c = omega arith
-
 pub returns-then-width-gt-LINE : goal.returns-then-width-gt-LINE
 returns-then-width-gt-LINE c =
     c.refused.ensures
     ∙ line-long c.args.text.now c.loop-at.width c.loop-at.at c.width_after-width.result (omega arith) (omega arith) (c.width_after-width.ensures ∙ ap (λ (n : ℕ). width_after c.loop-at.width (get_or c.args.text.now c.loop-at.at 0) (n ∷ [])) c.byte.ensures) c.if-width-gt-LINE.true
-    ∙ sym c.loop-at.invariant.2
-
-pub overflow_add-at-in-loop-at : goal.overflow_add-at-in-loop-at
-overflow_add-at-in-loop-at c = omega arith
-
-pub loop-at-smaller : goal.loop-at-smaller
-loop-at-smaller c = omega arith
+    ∙ sym c.loop-at.invariant.1
 
 pub loop-at-preserved : goal.loop-at-preserved
 loop-at-preserved c =
-    (omega arith, c.if-width-gt-LINE.false, c.loop-at.invariant.2 ∙ line-next c.args.text.now c.loop-at.width c.loop-at.at c.width_after-width.result (omega arith) (omega arith) (c.width_after-width.ensures ∙ ap (λ (n : ℕ). width_after c.loop-at.width (get_or c.args.text.now c.loop-at.at 0) (n ∷ [])) c.byte.ensures) c.if-width-gt-LINE.false)
+    (c.if-width-gt-LINE.false, c.loop-at.invariant.1 ∙ line-next c.args.text.now c.loop-at.width c.loop-at.at c.width_after-width.result (omega arith) (omega arith) (c.width_after-width.ensures ∙ ap (λ (n : ℕ). width_after c.loop-at.width (get_or c.args.text.now c.loop-at.at 0) (n ∷ [])) c.byte.ensures) c.if-width-gt-LINE.false)
 
 pub returns : goal.returns
-returns c = lines_end c.loop-at.width c.loop-at.at c.args.text.now (omega arith) ∙ sym c.loop-at.invariant.2
+returns c = lines_end c.loop-at.width c.loop-at.at c.args.text.now (omega arith) ∙ sym c.loop-at.invariant.1

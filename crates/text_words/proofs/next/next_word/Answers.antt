@@ -19,11 +19,11 @@ loop-at-smaller c =
 
 pub loop-at-preserved : goal.loop-at-preserved
 loop-at-preserved c =
-    (omega arith, c.loop-at.invariant.1 ∙ word_next c.args.text.now c.loop-at.at c.item_at-item.result (omega arith) c.item_at-item.ensures (ap (λ (w : Word). is_end w.kind) (sym c.word_of-word.ensures) ∙ sym c.is_end.ensures ∙ c.if-is_end.true))
+    (omega arith, c.loop-at.invariant.1 ∙ word_next c.args.text.now c.loop-at.at c.item_at-item.result (omega arith) c.item_at-item.ensures (ap (λ (w : Word). is_end w.kind) (sym c.word_of-word.ensures) ∙ sym c.is_end.ensures ∙ c.if-not-is_end.false))
 
-pub returns-else-is_end : goal.returns-else-is_end
-returns-else-is_end c =
-    subst (Next c.args.text.now c.args.from) (sym c.word_of-word.ensures) (word-here c.args.text.now c.loop-at.at c.item_at-item.result (omega arith) c.item_at-item.ensures c.args.from (omega arith) c.loop-at.invariant.1 (ap (λ (w : Word). is_end w.kind) (sym c.word_of-word.ensures) ∙ sym c.is_end.ensures ∙ c.if-is_end.false))
+pub returns-then-not-is_end : goal.returns-then-not-is_end
+returns-then-not-is_end c =
+    subst (Next c.args.text.now c.args.from) (sym c.word_of-word.ensures) (word-here c.args.text.now c.loop-at.at c.item_at-item.result (omega arith) c.item_at-item.ensures c.args.from (omega arith) c.loop-at.invariant.1 (ap (λ (w : Word). is_end w.kind) (sym c.word_of-word.ensures) ∙ sym c.is_end.ensures ∙ c.if-not-is_end.true))
 
 pub returns : goal.returns
 returns c =

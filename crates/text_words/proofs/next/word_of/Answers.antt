@@ -5,4 +5,4 @@ use Rattle.text_words.proofs.next.word_of.Goals as goal
 
 pub returns : goal.returns
 returns c = ap₂ (λ (k : WordKind) (p : L.Position). record { kind = k; at = record { place = p.place }; size = c.args.item.size; bare = c.args.item.bare; value = c.args.item.value })
-    c.kind_of-kind.ensures c.position-at.ensures
+    c.from.ensures c.position.ensures

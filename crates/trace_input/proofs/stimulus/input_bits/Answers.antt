@@ -6,6 +6,6 @@ pub returns-then-is_input : goal.returns-then-is_input
 returns-then-is_input c =
     λ name. bits-input _ _ (sym c.is_input.ensures ∙ c.if-is_input.true) (c.word_length.ensures.1 name)
 
-pub returns : goal.returns
-returns c =
+pub returns-else-is_input : goal.returns-else-is_input
+returns-else-is_input c =
     λ name. bits-other _ (sym c.is_input.ensures ∙ c.if-is_input.false)

@@ -8,23 +8,23 @@ use lib.ListN.{length, length-replicate}
 use Rattle.image_sections.specs.Declarations.{facility_meant}
 use Rattle.run_references.proofs.PlaceLaws.{facility-known, name_of}
 use Rattle.trace_input.specs.Stimulus.{Worded, took_meant}
-use Rattle.trace_input.specs.declared.stimulus.Taken.TheVariants as T
+use Rattle.std.specs.Prelude.{None}
 use Rattle.trace_input.proofs.LineWord.{words_long}
 use Rattle.trace_input.proofs.LineTaken.{laid-all, laid-first, laid_more, laid-over, laid_stop, took-none}
 use Rattle.trace_input.proofs.stimulus.stimulus_of.Goals as goal
 
 pub loop-n-init : goal.loop-n-init
 loop-n-init c =
-    (omega arith, omega arith, omega arith, refl, λ d E h r. laid-first d _ _ r)
+    (omega arith, omega arith, refl, λ d E h r. laid-first d _ _ r)
 
 pub word-requires : goal.word-requires
 word-requires c =
-    (c.loop-n.invariant.1, c.loop-n.invariant.2)
+    (c.loop-n.invariant.0, c.loop-n.invariant.1)
 
 pub shape_of-stimulus-then-not-word : goal.shape_of-stimulus-then-not-word
 shape_of-stimulus-then-not-word c =
     let w : Worded c.input_bits-length.result _ c.loop-n.at c.loop-n.stimulus c.loop-n.place false c.word.new.stimulus = rw (not-true c.word.result c.if-not-word.true-raw) at c.word.ensures in
-    ap length c.zero.ensures ∙ (length-replicate {A = ℕ} _ 0 ∙ (w.0 ∙ c.loop-n.invariant.3))
+    ap length c.zero.ensures ∙ (length-replicate {A = ℕ} _ 0 ∙ (w.0 ∙ c.loop-n.invariant.2))
 
 pub returns-then-not-word : goal.returns-then-not-word
 returns-then-not-word c =
@@ -32,7 +32,7 @@ returns-then-not-word c =
     let k = name_of h c.loop-n.n c.facility_at.result c.facility_at.ensures in
     let n : c.loop-n.n < length d.facilities = rw h.count c.loop-n-test.true in
     let w : Worded c.input_bits-length.result _ c.loop-n.at c.loop-n.stimulus c.loop-n.place false c.word.new.stimulus = rw (not-true c.word.result c.if-not-word.true-raw) at c.word.ensures in
-    ap (λ (X : List ℕ). took_meant T.None X) c.zero.ensures ∙ took-none _ _ (w.0 ∙ c.loop-n.invariant.3) (laid_stop (c.loop-n.invariant.4 d E h r) (facility_meant k c.facility_at.result) n (facility-known h c.loop-n.n c.facility_at.result c.facility_at.ensures) c.input_bits-length.result (c.input_bits-length.ensures k) c.word.new.stimulus w)
+    ap (λ (X : List ℕ). took_meant None X) c.zero.ensures ∙ took-none _ _ (w.0 ∙ c.loop-n.invariant.2) (laid_stop (c.loop-n.invariant.3 d E h r) (facility_meant k c.facility_at.result) n (facility-known h c.loop-n.n c.facility_at.result c.facility_at.ensures) c.input_bits-length.result (c.input_bits-length.ensures k) c.word.new.stimulus w)
 
 pub overflow_add-at : goal.overflow_add-at
 overflow_add-at c =
@@ -42,45 +42,36 @@ pub overflow_add-place : goal.overflow_add-place
 overflow_add-place c =
     let w : Worded c.input_bits-length.result _ c.loop-n.at c.loop-n.stimulus c.loop-n.place true _ = rw (not-false c.word.result c.if-not-word.false-raw) at c.word.ensures in omega (arith, w.room, c.word_bytes-place.ensures)
 
-pub overflow_add-n : goal.overflow_add-n
-overflow_add-n c =
-    omega arith
-
-pub loop-n-smaller : goal.loop-n-smaller
-loop-n-smaller c =
-    omega arith
-
 pub loop-n-preserved : goal.loop-n-preserved
 loop-n-preserved c =
     let w : Worded c.input_bits-length.result _ c.loop-n.at c.loop-n.stimulus c.loop-n.place true _ = rw (not-false c.word.result c.if-not-word.false-raw) at c.word.ensures in
     let s = words_long w in
     let u : c.loop-n.n + 1 ≡ suc c.loop-n.n = omega arith in (
-      omega arith,
       omega (arith, w.in-line),
       omega (arith, w.room, s, c.word_bytes-place.ensures),
-      s ∙ c.loop-n.invariant.3,
+      s ∙ c.loop-n.invariant.2,
       λ d E h r.
           let k = name_of h c.loop-n.n c.facility_at.result c.facility_at.ensures in
           let n : c.loop-n.n < length d.facilities = rw h.count c.loop-n-test.true in
-          rw (u, c.word_bytes-place.ensures) (laid_more (c.loop-n.invariant.4 d E h r) (facility_meant k c.facility_at.result) n (facility-known h c.loop-n.n c.facility_at.result c.facility_at.ensures) c.input_bits-length.result (c.input_bits-length.ensures k) w),
+          rw (u, c.word_bytes-place.ensures) (laid_more (c.loop-n.invariant.3 d E h r) (facility_meant k c.facility_at.result) n (facility-known h c.loop-n.n c.facility_at.result c.facility_at.ensures) c.input_bits-length.result (c.input_bits-length.ensures k) w),
     )
 
 pub shape_of-stimulus-then-at-line : goal.shape_of-stimulus-then-at-line
 shape_of-stimulus-then-at-line c =
-    c.loop-n.invariant.3
+    c.loop-n.invariant.2
 
 pub returns-then-at-line : goal.returns-then-at-line
 returns-then-at-line c =
     λ d E h r.
     let n : length d.facilities ≤ c.loop-n.n = rw h.count c.loop-n-test.false in
-    laid-all (c.loop-n.invariant.4 d E h r) n c.if-at-line.true
+    laid-all (c.loop-n.invariant.3 d E h r) n c.if-at-line.true
 
 pub shape_of-stimulus : goal.shape_of-stimulus
 shape_of-stimulus c =
-    ap length c.zero-2.ensures ∙ (length-replicate {A = ℕ} _ 0 ∙ c.loop-n.invariant.3)
+    ap length c.zero-2.ensures ∙ (length-replicate {A = ℕ} _ 0 ∙ c.loop-n.invariant.2)
 
 pub returns : goal.returns
 returns c =
     λ d E h r.
     let n : length d.facilities ≤ c.loop-n.n = rw h.count c.loop-n-test.false in
-    ap (λ (X : List ℕ). took_meant T.None X) c.zero-2.ensures ∙ took-none _ _ c.loop-n.invariant.3 (laid-over (c.loop-n.invariant.4 d E h r) n (omega arith))
+    ap (λ (X : List ℕ). took_meant None X) c.zero-2.ensures ∙ took-none _ _ c.loop-n.invariant.2 (laid-over (c.loop-n.invariant.3 d E h r) n (omega arith))

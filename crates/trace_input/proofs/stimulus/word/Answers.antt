@@ -11,15 +11,11 @@ overflow_sub-stimulus c =
 
 pub returns-then-stimulus-place : goal.returns-then-stimulus-place
 returns-then-stimulus-place c =
-    (refl, λ h. absurd (omega (arith, h, c.if-stimulus-place.true, c.word_bytes-rest.ensures)))
+    (refl, λ h. absurd (omega (arith, h, c.if-stimulus-place.true, c.word_bytes-bytes.ensures)))
 
 pub loop-rest-init : goal.loop-rest-init
 loop-rest-init c =
-    rw c.word_bytes-rest.ensures (put_first c.args.length c.args.line.now c.args.at c.args.stimulus.now c.args.place c.requires.0 (omega (arith, c.word_bytes-rest.ensures, c.if-stimulus-place.false, c.requires.1)))
-
-pub overflow_sub-rest : goal.overflow_sub-rest
-overflow_sub-rest c =
-    omega arith
+    rw c.word_bytes-bytes.ensures (put_first c.args.length c.args.line.now c.args.at c.args.stimulus.now c.args.place c.requires.0 (omega (arith, c.word_bytes-bytes.ensures, c.if-stimulus-place.false, c.requires.1)))
 
 pub overflow_mul-count : goal.overflow_mul-count
 overflow_mul-count c =
@@ -47,7 +43,7 @@ bounds-stimulus-to c =
 
 pub overflow_add-from : goal.overflow_add-from
 overflow_add-from c =
-    omega (arith, put-in-line _ _ _ _ _ c.loop-rest.invariant c.loop-rest-test.true _ (sym (ap octet_meant c.in-Bits.is) ∙ c.octet_at.ensures) (search rules))
+    omega (arith, put-in-line _ _ _ _ _ c.loop-rest.invariant c.loop-rest-test.true _ (sym (ap octet_meant c.in-Some.is) ∙ c.octet_at.ensures) (search rules))
 
 pub overflow_add-to : goal.overflow_add-to
 overflow_add-to c =
@@ -57,13 +53,9 @@ pub overflow_mul-left : goal.overflow_mul-left
 overflow_mul-left c =
     omega (arith, c.loop-rest.invariant.little, c.loop-rest-test.true)
 
-pub loop-rest-smaller : goal.loop-rest-smaller
-loop-rest-smaller c =
-    omega arith
-
 pub loop-rest-preserved : goal.loop-rest-preserved
 loop-rest-preserved c =
-    put-more _ _ _ _ _ c.loop-rest.invariant c.loop-rest-test.true _ (sym (ap octet_meant c.in-Bits.is) ∙ c.octet_at.ensures) (search rules)
+    put-more _ _ _ _ _ c.loop-rest.invariant c.loop-rest-test.true _ (sym (ap octet_meant c.in-Some.is) ∙ c.octet_at.ensures) (search rules)
 
 pub shape_of-stimulus : goal.shape_of-stimulus
 shape_of-stimulus c =

@@ -5,4 +5,4 @@ use Rattle.trace_line.proofs.told.not_taken.Goals as goal
 pub returns : goal.returns
 unfolding bytes
 returns c =
-    (refl, rw c.refusal_number.ensures at c.numbered.ensures)
+    (refl, rw c.from.ensures at c.numbered.ensures)

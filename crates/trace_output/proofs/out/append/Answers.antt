@@ -6,26 +6,17 @@ use lib.Seq.{take_all, take-suc}
 use Rattle.trace_output.proofs.AddsLaws.{adds-as, adds-both, adds_none}
 use Rattle.trace_output.proofs.out.append.Goals as goal
 
-pub loop-i-init : goal.loop-i-init
-loop-i-init c = (omega arith, adds_none _ _)
+pub loop-b-init : goal.loop-b-init
+loop-b-init c = adds_none _ _
 
-pub bounds-bytes-i : goal.bounds-bytes-i
-bounds-bytes-i c = omega arith
-
-pub overflow_add-i : goal.overflow_add-i
-overflow_add-i c = omega arith
-
-pub loop-i-smaller : goal.loop-i-smaller
-loop-i-smaller c = omega arith
-
-pub loop-i-preserved : goal.loop-i-preserved
-loop-i-preserved c =
-    let e : c.loop-i.i + 1 ≡ suc c.loop-i.i = omega arith in
-    (omega arith, adds-as (adds-both c.loop-i.invariant.1 c.push-place.ensures) (sym (ap (λ (n : ℕ). take n c.args.bytes.now) e ∙ take-suc c.args.bytes.now c.loop-i.i 0 (omega arith))))
+pub loop-b-preserved : goal.loop-b-preserved
+loop-b-preserved c =
+    let e : c.loop-b.b-index + 1 ≡ suc c.loop-b.b-index = omega arith in
+    adds-as (adds-both c.loop-b.invariant c.push-end.ensures) (sym (ap (λ (n : ℕ). take n c.args.bytes.now) e ∙ take-suc c.args.bytes.now c.loop-b.b-index 0 (omega arith)))
 
 pub shape_of-out : goal.shape_of-out
-shape_of-out c = c.loop-i.invariant.1.long
+shape_of-out c = c.loop-b.invariant.long
 
 pub returns : goal.returns
 returns c =
-    adds-as c.loop-i.invariant.1 (take_all c.loop-i.i c.args.bytes.now (omega arith))
+    adds-as c.loop-b.invariant (take_all c.loop-b.b-index c.args.bytes.now (omega arith))

@@ -8,22 +8,16 @@ use Rattle.trace_output.proofs.BitLaws.{bits-more, length-bits}
 use Rattle.trace_output.proofs.shown.bits.Goals as goal
 
 pub loop-k-init : goal.loop-k-init
-loop-k-init c = (omega arith, adds_none _ _)
-
-pub overflow_add-k : goal.overflow_add-k
-overflow_add-k c = omega arith
-
-pub loop-k-smaller : goal.loop-k-smaller
-loop-k-smaller c = omega arith
+loop-k-init c = adds_none _ _
 
 pub loop-k-preserved : goal.loop-k-preserved
 loop-k-preserved c =
-    (omega arith, adds-as (adds-both c.loop-k.invariant.1 c.push-end.ensures) (bits-more c.args.length (word_in c.args.store.now c.args.place c.args.length) c.loop-k.k c.loop-k-test.true c.bit.ensures))
+    adds-as (adds-both c.loop-k.invariant c.push-end.ensures) (bits-more c.args.length (word_in c.args.store.now c.args.place c.args.length) c.loop-k.k c.loop-k-test.true c.bit.ensures)
 
 pub shape_of-out : goal.shape_of-out
-shape_of-out c = c.loop-k.invariant.1.long
+shape_of-out c = c.loop-k.invariant.long
 
 pub returns : goal.returns
 returns c =
     let w : ℕ = word_in c.args.store.now c.args.place c.args.length in
-    adds-as c.loop-k.invariant.1 (take_all c.loop-k.k (T.bits c.args.length w) (omega (arith, length-bits c.args.length w, c.loop-k-test.false)))
+    adds-as c.loop-k.invariant (take_all c.loop-k.k (T.bits c.args.length w) (omega (arith, length-bits c.args.length w, c.loop-k-test.false)))

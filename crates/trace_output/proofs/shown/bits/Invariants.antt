@@ -1,4 +1,3 @@
-use Prim.Native.Nat.{◌-◌, ◌≤◌}
 use lib.ListN.{take}
 use Rattle.language.specs.Trace as T
 use Rattle.store_layout.specs.Layout.{word_in}
@@ -6,7 +5,4 @@ use Rattle.trace_output.specs.Adds.{Adds}
 use Rattle.trace_output.proofs.shown.bits.Given as goal
 
 abbrev pub invariant-loop-k : goal.invariant-loop-k
-invariant-loop-k l = (l.k ≤ l.length) × Adds (take l.k (T.bits l.length (word_in l.store l.place l.length))) l.initial.out l.at l.out l.end
-
-abbrev pub decreases-loop-k : goal.decreases-loop-k
-decreases-loop-k l = l.length - l.k
+invariant-loop-k l = Adds (take l.k (T.bits l.length (word_in l.store l.place l.length))) l.initial.out l.at l.out l.end

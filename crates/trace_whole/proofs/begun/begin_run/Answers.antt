@@ -7,22 +7,22 @@ use Rattle.trace_whole.proofs.begun.begin_run.Goals as goal
 
 pub slice_bounds-opened-end : goal.slice_bounds-opened-end
 slice_bounds-opened-end c =
-    let f = found c.args.text.now c.read.new.image c.read.result c.in-Accepted.n _ c.in-Accepted.is c.read.ensures.image_after in
-    let h : c.in-Accepted.n ≤ length c.read.new.image = f.inside in
+    let f = found c.args.text.now c.read.new.image c.read.result c.in-Ok.n _ c.in-Ok.is c.read.ensures.image_after in
+    let h : c.in-Ok.n ≤ length c.read.new.image = f.inside in
     search rules
 
 pub opened-size-requires : goal.opened-size-requires
 opened-size-requires c =
-    let f = found c.args.text.now c.read.new.image c.read.result c.in-Accepted.n _ c.in-Accepted.is c.read.ensures.image_after in
-    let z : c.in-Accepted.n - 0 ≡ c.in-Accepted.n = omega arith in
+    let f = found c.args.text.now c.read.new.image c.read.result c.in-Ok.n _ c.in-Ok.is c.read.ensures.image_after in
+    let z : c.in-Ok.n - 0 ≡ c.in-Ok.n = omega arith in
     (ap (λ (m : ℕ). passes (take m c.read.new.image)) z ∙ found-passes f, c.requires.1)
 
-pub returns-in-Refused : goal.returns-in-Refused
-returns-in-Refused c =
-    refuses c.args.text.now c.read.new.image c.read.result _ _ _ (omega (arith, c.refusal_number.ensures)) (omega arith) c.in-Refused.is c.read.ensures.image_after (rw c.refusal_number.ensures at c.refusal.ensures) (λ d e. omega (arith, read_fits c.args.text.now d e, largest-image, c.requires.0))
+pub returns-in-Err : goal.returns-in-Err
+returns-in-Err c =
+    refuses c.args.text.now c.read.new.image c.read.result _ _ _ (omega (arith, c.from.ensures)) (omega arith) c.in-Err.is c.read.ensures.image_after (rw c.from.ensures at c.refusal.ensures) (λ d e. omega (arith, read_fits c.args.text.now d e, largest-image, c.requires.0))
 
-pub returns-in-Accepted : goal.returns-in-Accepted
-returns-in-Accepted c =
-    let f = found c.args.text.now c.read.new.image c.read.result c.in-Accepted.n _ c.in-Accepted.is c.read.ensures.image_after in
-    let z : c.in-Accepted.n - 0 ≡ c.in-Accepted.n = omega arith in
+pub returns-in-Ok : goal.returns-in-Ok
+returns-in-Ok c =
+    let f = found c.args.text.now c.read.new.image c.read.result c.in-Ok.n _ c.in-Ok.is c.read.ensures.image_after in
+    let z : c.in-Ok.n - 0 ≡ c.in-Ok.n = omega arith in
     runs f z c.requires.2 c.opened-size.ensures

@@ -3,10 +3,10 @@ use Rattle.language.specs.Scan.{bytes}
 use Rattle.trace_whole.proofs.FedLaws.{ended-last, ended-none, ended-on}
 use Rattle.trace_whole.proofs.input.finish.Goals as goal
 
-pub returns-then-held-eq0 : goal.returns-then-held-eq0
+pub returns-then-s-eq0 : goal.returns-then-s-eq0
 unfolding bytes
-returns-then-held-eq0 c =
-    λ l e. ended-none c.args.s e c.if-held-eq0.true c.requires.2 (omega arith) c.numbered.ensures
+returns-then-s-eq0 c =
+    λ l e. ended-none c.args.s e c.if-s-eq0.true c.requires.2 (omega arith) c.numbered.ensures
 
 pub returns-then-last : goal.returns-then-last
 unfolding bytes

@@ -1,4 +1,3 @@
-use mathlib.Core.Path.{ap₂, ◌∙◌}
 use lib.Bits.{bit_xor, xor_block}
 use Rattle.value_limbs.specs.Limbs.{number}
 use Rattle.value_limbs.proofs.Laws.{op-four}
@@ -7,7 +6,4 @@ use Rattle.value_limbs.proofs.bits.xor.Goals as goal
 
 pub returns : goal.returns
 unfolding number
-returns c =
-    let taken = c.taken-a in
-    let taken2 = c.taken-b in
-    op-four bit_xor xor_block {x = taken.result} {y = taken2.result} (search rules) (search rules) ∙ ap₂ bit_xor taken.ensures taken2.ensures
+returns c = op-four bit_xor xor_block {x = c.args.x} {y = c.args.y} (search rules) (search rules)

@@ -1,35 +1,21 @@
-use mathlib.Core.Path.{◌≡◌, refl, ap, ◌∙◌}
+use mathlib.Core.Path.{◌≡◌, ap, ◌∙◌}
 use Prim.Native.Nat.{ℕ, ◌+◌, ◌-◌, ◌*◌, ◌%◌, ◌^◌}
 use native.Mathlib.Omega.{arith}
-use Rattle.value_limbs.specs.Limbs.{four}
-use Rattle.value_limbs.proofs.Laws.{left-left}
+use Rattle.value_limbs.specs.Limbs.{number}
+use Rattle.value_limbs.proofs.Laws.{left-left, lowest-four}
+use borrow.Author.Rules.{rules}
 use Rattle.value_limbs.proofs.shifts.left.Goals as goal
 
-pub loop-s-init : goal.loop-s-init
-loop-s-init c =
-    refl
-
-pub loop-s-smaller : goal.loop-s-smaller
-loop-s-smaller c =
-    omega arith
-
-pub loop-s-preserved : goal.loop-s-preserved
-loop-s-preserved c =
-    let loop = c.loop-s in
-    let limb-up = c.limb_up-a in
-    let s = loop.s in
-    let n = four loop.a in
-    let e : 64 + (s - 64) ≡ s = omega arith in
-    ap (λ (m : ℕ). m * 2 ^ (s - 64) % 2 ^ 256) limb-up.ensures ∙ left-left n 64 (s - 64) (2 ^ 256) ∙ ap (λ (m : ℕ). n * 2 ^ m % 2 ^ 256) e ∙ loop.invariant
-
-pub left_within-t-requires : goal.left_within-t-requires
-left_within-t-requires c =
-    omega arith
+pub loop-preserved : goal.loop-preserved
+loop-preserved c =
+    let n = number c.loop.a in
+    let s = c.args.k - 64 * (c.loop.counter + 1) in
+    let e : 64 + s ≡ c.args.k - 64 * c.loop.counter = omega arith in
+    ap (λ (m : ℕ). m * 2 ^ s % 2 ^ 256) c.limb_up-up.ensures ∙ left-left n 64 s (2 ^ 256) ∙ ap (λ (m : ℕ). n * 2 ^ m % 2 ^ 256) e ∙ c.loop.invariant
 
 pub returns : goal.returns
+unfolding number
 returns c =
-    let a = c.args in
-    let taken = c.taken-a in
-    let loop = c.loop-s in
-    let left-within = c.left_within-t in
-    left-within.ensures.0 ∙ loop.invariant ∙ ap (λ (n : ℕ). n * 2 ^ a.k % 2 ^ 256) taken.ensures
+    let r = c.left_within-l0.result in
+    let e : c.args.k % 64 ≡ c.args.k - 64 * c.loop.counter = omega arith in
+    lowest-four r.0 r.1 r.2 r.3 r.4 _ (search rules) (search rules) (search rules) (search rules) c.left_within-l0.ensures ∙ ap (λ (m : ℕ). number c.loop.a * 2 ^ m % 2 ^ 256) e ∙ c.loop.invariant

@@ -1,52 +1,30 @@
-use mathlib.Core.Path.{◌≡◌, refl, sym, ap, ◌∙◌}
-use Prim.Native.Nat.{ℕ, ◌+◌, ◌-◌, ◌/◌, ◌^◌}
+use mathlib.Core.Path.{◌≡◌, sym, ap, ◌∙◌}
+use Prim.Native.Nat.{ℕ, ◌+◌, ◌-◌, ◌*◌, ◌/◌, ◌%◌, ◌^◌}
 use native.Mathlib.Nat.{div-one}
 use native.Mathlib.Omega.{arith}
 use lib.Pow.{shr-shr}
-use Rattle.value_limbs.specs.Limbs.{four, number}
+use Rattle.value_limbs.specs.Limbs.{number}
 use Rattle.value_limbs.proofs.Laws.{right-four}
 use borrow.Author.Rules.{rules}
 use Rattle.value_limbs.proofs.shifts.right.Goals as goal
 
-pub loop-s-init : goal.loop-s-init
-loop-s-init c =
-    refl
-
-pub loop-s-smaller : goal.loop-s-smaller
-loop-s-smaller c =
-    omega arith
-
-pub loop-s-preserved : goal.loop-s-preserved
-loop-s-preserved c =
-    let s = c.loop-s.s in
-    let n = four c.loop-s.a in
-    let e : 64 + (s - 64) ≡ s = omega arith in
-    ap (λ (m : ℕ). m / 2 ^ (s - 64)) c.limb_down-a.ensures ∙ shr-shr n 64 (s - 64) ∙ ap (λ (m : ℕ). n / 2 ^ m) e ∙ c.loop-s.invariant
+pub loop-preserved : goal.loop-preserved
+loop-preserved c =
+    let n = number c.loop.a in
+    let s = c.args.k - 64 * (c.loop.counter + 1) in
+    let e : 64 + s ≡ c.args.k - 64 * c.loop.counter = omega arith in
+    ap (λ (m : ℕ). m / 2 ^ s) c.limb_down-down.ensures ∙ shr-shr n 64 s ∙ ap (λ (m : ℕ). n / 2 ^ m) e ∙ c.loop.invariant
 
 pub returns-then-s-eq0 : goal.returns-then-s-eq0
-unfolding number four
 returns-then-s-eq0 c =
-    let a = c.args in
-    let taken = c.taken-a in
-    let loop = c.loop-s in
-    let if1 = c.if-s-eq0 in
-    let n = four loop.a in
-    sym (div-one n) ∙ ap (λ (m : ℕ). n / 2 ^ m) (sym if1.true) ∙ loop.invariant ∙ ap (λ (m : ℕ). m / 2 ^ a.k) taken.ensures
-
-pub overflow_sub-s-2 : goal.overflow_sub-s-2
-overflow_sub-s-2 c =
-    omega arith
-
-pub left_within-t-requires : goal.left_within-t-requires
-left_within-t-requires c =
-    omega arith
+    let n = number c.loop.a in
+    let e : 0 ≡ c.args.k - 64 * c.loop.counter = omega arith in
+    sym (div-one n) ∙ ap (λ (m : ℕ). n / 2 ^ m) e ∙ c.loop.invariant
 
 pub returns : goal.returns
 unfolding number
 returns c =
-    let a = c.args in
-    let taken = c.taken-a in
-    let loop = c.loop-s in
-    let left-within = c.left_within-t in
-    let taken2 = c.taken-b in
-    right-four (four loop.a) loop.s {x = taken2.result} (omega arith) (search rules) (taken2.ensures ∙ left-within.ensures.0) left-within.ensures.1 ∙ loop.invariant ∙ ap (λ (m : ℕ). m / 2 ^ a.k) taken.ensures
+    let n = number c.loop.a in
+    let r = c.left_within-l1.result in
+    let e : c.args.k % 64 ≡ c.args.k - 64 * c.loop.counter = omega arith in
+    right-four n (c.args.k % 64) _ r.0 (omega arith) (search rules) c.left_within-l1.ensures ∙ ap (λ (m : ℕ). n / 2 ^ m) e ∙ c.loop.invariant

@@ -1,10 +1,7 @@
 use mathlib.Core.Path.{◌≡◌}
-use Prim.Native.Nat.{◌/◌, ◌^◌}
-use Rattle.value_limbs.specs.Limbs.{four}
+use Prim.Native.Nat.{◌*◌, ◌-◌, ◌/◌, ◌^◌}
+use Rattle.value_limbs.specs.Limbs.{number}
 use Rattle.value_limbs.proofs.shifts.right.Given as goal
 
-abbrev pub invariant-loop-s : goal.invariant-loop-s
-invariant-loop-s l = four l.a / 2 ^ l.s ≡ four l.initial.a / 2 ^ l.k
-
-abbrev pub decreases-loop-s : goal.decreases-loop-s
-decreases-loop-s l = l.s
+abbrev pub invariant-loop : goal.invariant-loop
+invariant-loop l = number l.a / 2 ^ (l.k - 64 * l.counter) ≡ number l.fn.x / 2 ^ l.k

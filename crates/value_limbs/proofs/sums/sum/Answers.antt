@@ -1,18 +1,14 @@
-use mathlib.Core.Path.{ap₂, ◌∙◌}
-use Prim.Native.Nat.{◌+◌}
+use Prim.Native.Nat.{◌^◌, ◌<◌}
+use mathlib.Core.List.{[], ◌∷◌}
 use Rattle.value_limbs.specs.Limbs.{number}
-use Rattle.value_limbs.proofs.Laws.{carry-four, carry-of, carry-parts, sum-four, cat-lt}
+use Rattle.value_limbs.proofs.Laws.{add-four, carry-parts, carry-passes, cat-lt}
 use borrow.Author.Rules.{rules}
 use Rattle.value_limbs.proofs.sums.sum.Goals as goal
 
 pub returns : goal.returns
 unfolding number
 returns c =
-    let taken = c.taken-a in
-    let taken2 = c.taken-b in
-    let limb-sum = c.limb_sum-s0 in
-    let limb-sum2 = c.limb_sum-s1 in
-    let limb-sum3 = c.limb_sum-s2 in
-    let limb-sum4 = c.limb_sum-s3 in
-    let whole = sum-four taken.result taken2.result ∙ ap₂ ◌+◌ taken.ensures taken2.ensures in
-    carry-parts (carry-of whole (carry-four limb-sum.ensures limb-sum2.ensures limb-sum3.ensures limb-sum4.ensures)) (cat-lt (search rules) (search rules) (search rules) (search rules))
+    let r = c.carrying_add-s0.result.0 ∷ c.carrying_add-s1.result.0 ∷ c.carrying_add-s2.result.0 ∷ c.carrying_add-s3.result.0 ∷ [] in
+    let whole = add-four c.args.x c.args.y r _ _ _ _ c.carrying_add-s0.ensures c.carrying_add-s1.ensures c.carrying_add-s2.ensures c.carrying_add-s3.ensures in
+    let below : number r < 2 ^ 256 = cat-lt (search rules) (search rules) (search rules) (search rules) in
+    ((carry-parts whole below).0, carry-passes _ whole below)

@@ -8,7 +8,7 @@ pub returns : goal.returns
 unfolding difference
 returns c =
     let a = c.args in
-    let difference' = c.difference-d in
+    let difference' = c.difference in
     let difference-length = c.difference_length in
     let fit' = c.fit in
     let l = difference_length a.x.length a.y.length in

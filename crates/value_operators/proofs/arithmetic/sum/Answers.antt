@@ -8,7 +8,7 @@ pub returns : goal.returns
 unfolding sum
 returns c =
     let a = c.args in
-    let sum' = c.sum-s in
+    let sum' = c.sum in
     let sum-length = c.sum_length in
     let fit = c.fit in
     means-wrap (number a.x.limbs + number a.y.limbs) fit.ensures sum-length.ensures sum'.ensures.0

@@ -1,31 +1,21 @@
-use mathlib.Core.Bool.{true≢false}
 use mathlib.Core.Path.{sym, ap, ◌∙◌}
 use Prim.Native.Nat.{ℕ}
 use native.Mathlib.Omega.{arith}
 use Rattle.language.specs.Value.{made, value}
 use Rattle.value_limbs.specs.Limbs.{number}
-use Rattle.value_operators.proofs.Fits.{fit-allowed, fit_refused, allowed-le, means-none}
+use Rattle.value_operators.proofs.Fits.{fit-allowed, fit_refused, allowed-le, none_means}
 use Rattle.value_operators.proofs.fitting.fit.Goals as goal
 
-pub overflow_cast-value : goal.overflow_cast-value
-overflow_cast-value c =
-    omega (arith, allowed-le c.args.length (sym c.allowed.ensures ∙ c.if-allowed.true))
+pub overflow_cast-result : goal.overflow_cast-result
+overflow_cast-result c =
+    omega (arith, allowed-le c.args.length (sym c.allowed.ensures ∙ c.if-not-allowed.false))
 
-pub returns-then-allowed : goal.returns-then-allowed
-returns-then-allowed c =
+pub returns : goal.returns
+returns c =
     let a = c.args in
-    let allowed = c.allowed in
-    let if1 = c.if-allowed in
-    let low = c.low-low in
-    record {
-      meaning = ap (λ (n : ℕ). made (value a.length n)) low.ensures ∙ sym (fit-allowed a.length (number a.limbs) (sym allowed.ensures ∙ if1.true));
-      rest = λ e. absurd (true≢false e);
-    }
+    record { meaning = ap (λ (n : ℕ). made (value a.length n)) c.low.ensures ∙ sym (fit-allowed a.length (number a.limbs) (sym c.allowed.ensures ∙ c.if-not-allowed.false)) }
 
-pub returns-else-allowed : goal.returns-else-allowed
-returns-else-allowed c =
+pub returns-then-not-allowed : goal.returns-then-not-allowed
+returns-then-not-allowed c =
     let a = c.args in
-    let allowed = c.allowed in
-    let if1 = c.if-allowed in
-    let none = c.none in
-    means-none none.ensures (fit_refused a.length (number a.limbs) (sym allowed.ensures ∙ if1.false))
+    none_means (fit_refused a.length (number a.limbs) (sym c.allowed.ensures ∙ c.if-not-allowed.true))

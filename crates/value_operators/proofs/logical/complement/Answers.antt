@@ -10,7 +10,7 @@ unfolding complement complement_length
 returns c =
     let a = c.args in
     let full = c.full in
-    let difference = c.difference-d in
+    let difference = c.difference in
     let complement-length = c.complement_length in
     let fit' = c.fit in
     let x = number a.x.limbs in

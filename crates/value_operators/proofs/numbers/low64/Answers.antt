@@ -1,12 +1,12 @@
-use mathlib.Core.Path.{sym, ap, ◌∙◌}
-use Prim.Native.Nat.{ℕ, ◌%◌, ◌^◌}
+use mathlib.Core.Path.{sym}
+use lib.ListN.{get_or}
 use lib.Pow.{low}
-use Rattle.value_limbs.specs.Limbs.{four, cat}
+use Rattle.value_limbs.specs.Limbs.{cat, number}
 use borrow.Author.Rules.{rules}
 use Rattle.value_operators.proofs.numbers.low64.Goals as goal
 
 pub returns : goal.returns
-unfolding four
+unfolding number
 returns c =
-    let a = c.taken-l.result in
-    sym (low (cat (cat a.l3 a.l2) a.l1) 64 (search rules)) ∙ ap (λ (n : ℕ). n % 2 ^ 64) c.taken-l.ensures
+    let x = c.args.x.limbs in
+    sym (low (cat (cat (get_or x 3 0) (get_or x 2 0)) (get_or x 1 0)) 64 (search rules))

@@ -9,7 +9,7 @@ pub returns : goal.returns
 unfolding part part_length
 returns c =
     let a = c.args in
-    let minus = c.minus-below in
+    let minus = c.saturating_sub-below in
     let part_length_call = c.part_length in
     let right = c.right in
     let fit = c.fit in

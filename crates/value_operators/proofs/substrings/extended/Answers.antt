@@ -2,28 +2,18 @@ use mathlib.Core.Path.{sym, ap, ◌∙◌}
 use Rattle.language.specs.Value.{extended, repeat_length, repeated}
 use Rattle.value_limbs.specs.Limbs.{number}
 use Rattle.value_operators.specs.Meaning.{allowed}
-use Rattle.value_operators.proofs.Fits.{means-wrap, means-none, fit_refused}
+use Rattle.value_operators.proofs.Fits.{means-wrap, none_means, fit_refused}
 use Rattle.value_operators.proofs.substrings.extended.Goals as goal
 
-pub returns-then-allowed : goal.returns-then-allowed
+pub returns : goal.returns
 unfolding extended
-returns-then-allowed c =
-    let repeat-length = c.repeat_length-length in
-    let a = c.args in
-    let repeated' = c.repeated in
-    let fit = c.fit in
-    let x = a.x in
-    means-wrap (repeated x.length (number x.limbs) a.c) fit.ensures repeat-length.ensures repeated'.ensures
+returns c =
+    let x = c.args.x in
+    means-wrap (repeated x.length (number x.limbs) c.args.c) c.fit.ensures c.repeat_length-length.ensures c.repeated.ensures
 
-pub returns-else-allowed : goal.returns-else-allowed
+pub returns-then-not-allowed : goal.returns-then-not-allowed
 unfolding extended
-returns-else-allowed c =
-    let repeat-length = c.repeat_length-length in
-    let a = c.args in
-    let allowed' = c.allowed in
-    let if1 = c.if-allowed in
-    let none = c.none in
-    let x = a.x in
-    means-none none.ensures
-    (fit_refused (repeat_length x.length a.c) (repeated x.length (number x.limbs) a.c)
-    (sym (ap allowed repeat-length.ensures) ∙ sym allowed'.ensures ∙ if1.false))
+returns-then-not-allowed c =
+    let x = c.args.x in
+    none_means
+    (fit_refused (repeat_length x.length c.args.c) (repeated x.length (number x.limbs) c.args.c) (sym (ap allowed c.repeat_length-length.ensures) ∙ sym c.allowed.ensures ∙ c.if-not-allowed.true))

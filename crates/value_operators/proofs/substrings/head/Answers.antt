@@ -9,7 +9,7 @@ pub returns : goal.returns
 unfolding head
 returns c =
     let a = c.args in
-    let minus = c.minus-below in
+    let minus = c.saturating_sub-below in
     let cut-length = c.cut_length in
     let right = c.right in
     let fit = c.fit in

@@ -5,35 +5,21 @@ use native.Mathlib.Numerals.{add-one}
 use Rattle.language.specs.Value.{repeated}
 use Rattle.value_limbs.specs.Limbs.{number}
 use Rattle.value_operators.proofs.Fits.{repeated-more}
-use borrow.Author.Rules.{rules}
 use Rattle.value_operators.proofs.substrings.repeated.Goals as goal
 
-pub loop-i-init : goal.loop-i-init
+pub loop-init : goal.loop-init
 unfolding number repeated
-loop-i-init c =
-    (search rules, refl)
+loop-init c = refl
 
-pub overflow_add-i : goal.overflow_add-i
-overflow_add-i c =
-    omega arith
-
-pub loop-i-smaller : goal.loop-i-smaller
-loop-i-smaller c =
-    omega arith
-
-pub loop-i-preserved : goal.loop-i-preserved
-loop-i-preserved c =
-    let joined = c.joined-more in
-    let l = c.loop-i in
-    let a = c.args in (
-      omega arith,
-      joined.ensures ∙ ap (λ (n : ℕ). (n * 2 ^ a.m + number a.x) % 2 ^ 256) l.invariant.1 ∙ repeated-more a.m (number a.x) l.i (2 ^ 256)
-          ∙ ap (λ (k : ℕ). repeated a.m (number a.x) k % 2 ^ 256) (sym (add-one l.i)),
-    )
+pub loop-preserved : goal.loop-preserved
+loop-preserved c =
+    let l = c.loop in
+    let m = c.args.m in
+    let x = number c.args.x in
+    c.joined-more.ensures ∙ ap (λ (n : ℕ). (n * 2 ^ m + x) % 2 ^ 256) l.invariant ∙ repeated-more m x l.counter (2 ^ 256)
+    ∙ ap (λ (k : ℕ). repeated m x k % 2 ^ 256) (sym (add-one l.counter))
 
 pub returns : goal.returns
 returns c =
-    let l = c.loop-i in
-    let a = c.args in
-    let e : l.i ≡ a.c = omega arith in
-    l.invariant.1 ∙ ap (λ (k : ℕ). repeated a.m (number a.x) k % 2 ^ 256) e
+    let e : c.loop.counter ≡ c.args.c = omega arith in
+    c.loop.invariant ∙ ap (λ (k : ℕ). repeated c.args.m (number c.args.x) k % 2 ^ 256) e

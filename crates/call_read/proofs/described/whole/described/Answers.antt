@@ -1,22 +1,22 @@
-use Rattle.parse_step.proofs.Answers.{not_done}
+use mathlib.Core.Path.{refl}
+use Rattle.parse_step.proofs.Answers.{err-came}
 use Rattle.call_read.proofs.DescribedLaws.{behind, opening-refused, states-refused, text-described}
-use borrow.Enum.Refused.{opened}
 use Rattle.call_read.proofs.described.whole.described.Goals as goal
 
-pub returns-in_default : goal.returns-in_default
-returns-in_default c =
-    opening-refused c.preamble-opened.ensures (not_done (opened c.in_default.in_default-own.keys2)) c.stopped.ensures
+pub returns-in_err-opened : goal.returns-in_err-opened
+returns-in_err-opened c =
+    rw (err-came c.from_residual.ensures.1) (opening-refused c.in_err-opened.ensures)
 
-pub states_of-read-requires : goal.states_of-read-requires
-states_of-read-requires c =
-    behind (c.preamble-opened.ensures.done c.in-Done.is)
+pub states_of-requires : goal.states_of-requires
+states_of-requires c =
+    behind (c.in_ok-opened.ensures.done refl)
 
-pub returns-in_default-verdict : goal.returns-in_default-verdict
-returns-in_default-verdict c =
-    let x = c.preamble-opened.ensures.done c.in-Done.is in
-    states-refused c.requires x (c.states_of-read.ensures _ x.operations x.ready) (not_done (opened c.in_default-verdict.in_default-verdict-own.keys2)) c.stopped-in_default-verdict.ensures
+pub returns-in_err-end : goal.returns-in_err-end
+returns-in_err-end c =
+    let x = c.in_ok-opened.ensures.done refl in
+    rw (err-came c.from_residual-in_err-end.ensures.1) (states-refused c.requires x (c.in_err-end.ensures _ x.operations x.ready))
 
 pub returns : goal.returns
 returns c =
-    let x = c.preamble-opened.ensures.done c.in-Done.is in
-    text-described c.requires x c.sequencing_length-l.result (c.states_of-read.ensures _ x.operations x.ready) c.sequencing_length-l.ensures c.in-Done-verdict.is
+    let x = c.in_ok-opened.ensures.done refl in
+    text-described c.requires x c.sequencing_length-l.result (c.in_ok-end.ensures _ x.operations x.ready) c.sequencing_length-l.ensures

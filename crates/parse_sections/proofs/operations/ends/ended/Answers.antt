@@ -1,20 +1,18 @@
 use mathlib.Core.Path.{sym, ◌∙◌}
+use Rattle.std.proofs.Common.{inl, inr}
 use Rattle.parse_sections.proofs.HeadLaws.{ends-at-once, ends-shut, no_end}
-use Rattle.parse_sections.specs.Heads.{at_end, at_period}
 use Rattle.parse_sections.proofs.operations.ends.ended.Goals as goal
+use Rattle.parse_sections.proofs.operations.ends.ended.Goals.{else-kind-ne-PERIOD-via-then-kind-ne-PERIOD+else-kind-ne-END, else-kind-ne-PERIOD-via-else-kind-ne-PERIOD}
 
-pub returns-then-k-eq-CONTROL : goal.returns-then-k-eq-CONTROL
-returns-then-k-eq-CONTROL c =
-    ends-at-once (sym c.number-k.ensures ∙ c.if-k-eq-CONTROL.true) c.take.ensures
+pub returns-then-kind-eq-CONTROL : goal.returns-then-kind-eq-CONTROL
+returns-then-kind-eq-CONTROL c = ends-at-once (sym c.kind_of-kind.ensures ∙ c.if-kind-eq-CONTROL.true) c.take.ensures
 
-pub returns-then-k-eq-PERIOD : goal.returns-then-k-eq-PERIOD
-returns-then-k-eq-PERIOD c =
-    ends-shut at_period (sym c.number-k.ensures ∙ c.if-k-eq-PERIOD.true) c.closed.ensures
-
-pub returns-then-k-eq-END : goal.returns-then-k-eq-END
-returns-then-k-eq-END c =
-    ends-shut at_end (sym c.number-k.ensures ∙ c.if-k-eq-END.true) c.closed-then-k-eq-END.ensures
+pub returns-then-kind-ne-END : goal.returns-then-kind-ne-END
+returns-then-kind-ne-END c =
+    no_end (λ e. c.if-kind-eq-CONTROL.false (c.kind_of-kind.ensures ∙ e)) (λ e. c.if-kind-ne-PERIOD.true (c.kind_of-kind.ensures ∙ e)) (λ e. c.if-kind-ne-END.true (c.kind_of-kind.ensures ∙ e)) c.refuse.ensures
 
 pub returns : goal.returns
 returns c =
-    no_end (λ e. c.if-k-eq-CONTROL.false (c.number-k.ensures ∙ e)) (λ e. c.if-k-eq-PERIOD.false (c.number-k.ensures ∙ e)) (λ e. c.if-k-eq-END.false (c.number-k.ensures ∙ e)) c.refuse.ensures
+    ends-shut
+    (elim c.else-kind-ne-PERIOD.branch [ else-kind-ne-PERIOD-via-then-kind-ne-PERIOD+else-kind-ne-END w ↦ inr (sym c.kind_of-kind.ensures ∙ w.if-kind-ne-END.false) | else-kind-ne-PERIOD-via-else-kind-ne-PERIOD w ↦ inl (sym c.kind_of-kind.ensures ∙ w.if-kind-ne-PERIOD.false) ])
+    c.closed.ensures

@@ -1,14 +1,20 @@
+use mathlib.Core.Path.{◌≡◌}
+use Prim.Native.Nat.{suc}
+use native.Mathlib.Omega.{arith}
+use Rattle.parse_step.proofs.Answers.{err-came}
 use Rattle.parse_sections.proofs.HeadLaws.{head_read, head-unequal, head-unnamed}
 use Rattle.parse_sections.proofs.operations.heads.head.Goals as goal
 
-pub returns-then-unread : goal.returns-then-unread
-returns-then-unread c =
-    head-unnamed c.name-named.ensures (c.unread.ensures.1 c.if-unread.true)
+pub returns-in_err-named : goal.returns-in_err-named
+returns-in_err-named c =
+    rw (err-came c.from_residual.ensures.1)
+    (head-unnamed (λ h. let e : c.saturating_add.result ≡ suc c.args.s.operations = omega arith in rw e) c.in_err-named.ensures)
 
-pub returns-then-unread-2 : goal.returns-then-unread-2
-returns-then-unread-2 c =
-    head-unequal c.name-named.ensures (c.unread.ensures.0 c.if-unread.false) c.expect-equal.ensures (c.unread-2.ensures.1 c.if-unread-2.true)
+pub returns-in_err-equal : goal.returns-in_err-equal
+returns-in_err-equal c =
+    rw (err-came c.from_residual-in_err-equal.ensures.1)
+    (head-unequal (λ h. let e : c.saturating_add.result ≡ suc c.args.s.operations = omega arith in rw e) c.in_ok-named.ensures c.in_err-equal.ensures)
 
 pub returns : goal.returns
 returns c =
-    head_read c.name-named.ensures (c.unread.ensures.0 c.if-unread.false) c.expect-equal.ensures (c.unread-2.ensures.0 c.if-unread-2.false) c.expect.ensures
+    head_read (λ h. let e : c.saturating_add.result ≡ suc c.args.s.operations = omega arith in rw e) c.in_ok-named.ensures c.in_ok-equal.ensures c.expect-3.ensures

@@ -1,10 +1,9 @@
+use Rattle.parse_step.proofs.Answers.{err-came}
 use Rattle.parse_sections.proofs.HeadLaws.{body-not, body-read}
 use Rattle.parse_sections.proofs.operations.one.body.Goals as goal
 
-pub returns-then-unread : goal.returns-then-unread
-returns-then-unread c =
-    body-not c.list-list.ensures (c.unread.ensures.1 c.if-unread.true)
+pub returns-in_err-list : goal.returns-in_err-list
+returns-in_err-list c = rw (err-came c.from_residual.ensures.1) (body-not c.in_err-list.ensures)
 
 pub returns : goal.returns
-returns c =
-    body-read c.list-list.ensures (c.unread.ensures.0 c.if-unread.false) c.expect.ensures
+returns c = body-read c.in_ok-list.ensures c.expect.ensures

@@ -1,14 +1,12 @@
+use Rattle.parse_step.proofs.Answers.{err-came}
 use Rattle.parse_sections.proofs.OneLaws.{one-bodiless, one-read, one-unheaded}
 use Rattle.parse_sections.proofs.operations.one.operation.Goals as goal
 
-pub returns-then-unread : goal.returns-then-unread
-returns-then-unread c =
-    one-unheaded c.head-head.ensures (c.unread.ensures.1 c.if-unread.true)
+pub returns-in_err-head : goal.returns-in_err-head
+returns-in_err-head c = rw (err-came c.from_residual.ensures.1) (one-unheaded c.in_err-head.ensures)
 
-pub returns-then-unread-2 : goal.returns-then-unread-2
-returns-then-unread-2 c =
-    one-bodiless c.head-head.ensures (c.unread.ensures.0 c.if-unread.false) c.body-read.ensures (c.unread-2.ensures.1 c.if-unread-2.true)
+pub returns-in_err-read : goal.returns-in_err-read
+returns-in_err-read c = rw (err-came c.from_residual-in_err-read.ensures.1) (one-bodiless c.in_ok-head.ensures c.in_err-read.ensures)
 
 pub returns : goal.returns
-returns c =
-    one-read c.head-head.ensures (c.unread.ensures.0 c.if-unread.false) c.body-read.ensures (c.unread-2.ensures.0 c.if-unread-2.false) c.since.ensures c.add_operation.ensures
+returns c = one-read c.in_ok-head.ensures c.in_ok-read.ensures c.saturating_sub.ensures c.add_operation.ensures

@@ -1,8 +1,0 @@
-// What opening answers.
-use language::refusals::Refusal;
-
-#[derive(Clone, Copy)]
-pub enum OpenReply {
-    Opened,
-    Refused(Refusal),
-}

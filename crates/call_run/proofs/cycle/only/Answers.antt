@@ -1,8 +1,0 @@
-use mathlib.Core.Path.{refl}
-use Rattle.call_run.proofs.cycle.only.Goals as goal
-
-pub returns-in-None : goal.returns-in-None
-returns-in-None c = rw c.in-None.is refl
-
-pub returns-in-At : goal.returns-in-At
-returns-in-At c = rw c.in-At.is refl

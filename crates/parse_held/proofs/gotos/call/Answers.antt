@@ -1,5 +1,0 @@
-use Rattle.parse_held.proofs.gotos.call.Goals as goal
-
-pub returns-in-At : goal.returns-in-At
-returns-in-At c =
-    rw c.in-At.is

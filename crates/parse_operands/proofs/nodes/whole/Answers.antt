@@ -1,9 +1,0 @@
-use Rattle.parse_operands.proofs.nodes.whole.Goals as goal
-
-pub returns-in-At : goal.returns-in-At
-returns-in-At c =
-    λ v. rw c.in-At.is
-
-pub returns-in-Nothing : goal.returns-in-Nothing
-returns-in-Nothing c =
-    λ v. rw c.in-Nothing.is
