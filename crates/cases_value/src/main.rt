@@ -17,13 +17,13 @@ enum Outcome {
     End,
 }
 
-// Whether an answer is the expected one: none stands as zeroes of length 0.
-fn same(answer: Option<Value>, expected: Value) -> bool {
-    let x = answer.unwrap_or(Value {
-        limbs: [0; 4],
-        length: 0,
-    });
-    x.length == expected.length && numbers::same(x, expected)
+// Whether two answers are the same.
+fn same(a: Option<Value>, b: Option<Value>) -> bool {
+    match (a, b) {
+        (Some(x), Some(y)) => x.length == y.length && numbers::same(x, y),
+        (None, None) => true,
+        _ => false,
+    }
 }
 
 // What the line's operator gives.
