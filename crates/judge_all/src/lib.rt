@@ -97,13 +97,8 @@ fn least_in(described: &Described<'_>, memo: &mut [usize]) -> Judged
     };
     let two = facilities::facilities(&records, memo);
     let known = described.facilities.len() / record_sizes::FACILITY;
-    let end = filled::fill(
-        &records,
-        memo,
-        known,
-        two.next,
-        expressions(described.expressions),
-    );
+    let count = expressions(described.expressions);
+    let end = filled::fill(&records, memo, known, two.next, count);
     let sections = Sections {
         records,
         memo: &memo[0..end],
