@@ -6,7 +6,16 @@ ghost use Rattle.language.specs.Expressions as E;
 pub fn selects(length: u16, n: u16) -> bool
     ensures { result ≡ E.selects length n }
 {
-    length <= 6 && n == 1 << length
+    match length {
+        0 => n == 1,
+        1 => n == 2,
+        2 => n == 4,
+        3 => n == 8,
+        4 => n == 16,
+        5 => n == 32,
+        6 => n == 64,
+        _ => false,
+    }
 }
 
 // The length of arms together.
