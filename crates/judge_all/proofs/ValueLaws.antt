@@ -7,7 +7,7 @@ use Rattle.std.specs.Prelude as C
 use mathlib.Core.Path.{◌≡◌, refl, sym, ap, ◌∙◌}
 use native.Mathlib.Numerals.{add-one}
 use native.Mathlib.Omega.{arith}
-use Prim.Native.Nat.{ℕ, zero, suc, ◌+◌, ◌*◌, ◌/◌, ◌≤◌}
+use Prim.Native.Nat.{ℕ, zero, suc, ◌+◌, ◌-◌, ◌*◌, ◌/◌, ◌<◌, ◌≤◌}
 use borrow.Author.Tests.{eq-eqb, eqb-false, eqb-true, ne_eqb}
 use lib.Dec.{eqb}
 use lib.ListN.{get_or}
@@ -78,10 +78,6 @@ zero-second a b e = ap (eqb a) (sym e)
 
 -- ---- Values borne before.
 
-or-true : (b : Bool) → (b || true) ≡ true
-or-true true = refl
-or-true false = refl
-
 module _ (d : Description) (p : Places) (v n : ℕ) where
   pub bears-some : (b : ℕ) (r : Bool) → some b ≡ (state_at d n).value → r ≡ eqb v (constant_value (node_at d b)).number
       → R.repeated d p v (values_before d p (n + 1)) ≡ (r || R.repeated d p v (values_before d p n))
@@ -92,26 +88,19 @@ module _ (d : Description) (p : Places) (v n : ℕ) where
   unfolding values_before R.repeated
   bears-none e = rw (add-one n, ← e)
 
--- A number that is borne stays so, whatever states follow.
-module _ (d : Description) (p : Places) (v : ℕ) where
-  abbrev pub borne_by : ℕ → Bool
-  borne_by n = R.repeated d p v (values_before d p n)
+-- Whether one of the first n states bears a number.
+abbrev pub borne_by : Description → Places → ℕ → ℕ → Bool
+borne_by d p v n = R.repeated d p v (values_before d p n)
 
-  one-more : (n : ℕ) (o : Option ℕ) → o ≡ (state_at d n).value → borne_by n ≡ true → borne_by (n + 1) ≡ true
-  one-more n none q e = bears-none d p v n q ∙ e
-  one-more n (some b) q e = bears-some d p v n b _ q refl ∙ rw (e, or-true (eqb v (constant_value (node_at d b)).number))
+pub one_less : (f : ℕ → Bool) (n : ℕ) {r b whole : Bool} → 0 < n → f (n - 1 + 1) ≡ (r || f (n - 1)) → r ≡ b → f n ≡ whole → (b || f (n - 1)) ≡ whole
+one_less f n h e q w =
+    let z : n - 1 + 1 ≡ n = omega arith in
+    sym (ap (λ (t : Bool). t || f (n - 1)) q) ∙ sym e ∙ ap f z ∙ w
 
-  pub still-borne : (n m : ℕ) → m ≤ n → borne_by m ≡ true → borne_by n ≡ true
-  still-borne zero m h e = let z : m ≡ 0 = omega arith in rw z at e
-  still-borne (suc n) m h e = by-test (eqb m (suc n)) refl (λ g. still-borne n m g e)
-    where
-      by-test : (b : Bool) → eqb m (suc n) ≡ b → (m ≤ n → borne_by n ≡ true) → borne_by (suc n) ≡ true
-      by-test true t more = let z : m ≡ suc n = eqb-true m (suc n) t in rw z at e
-      by-test false t more = rw (add-one n) at (one-more n (state_at d n).value refl (more (omega (arith, eqb-false m (suc n) t))))
-
-  pub none-borne : borne_by 0 ≡ false
-  unfolding values_before R.repeated
-  none-borne = refl
+pub none_left : (d : Description) (p : Places) (v n : ℕ) {whole : Bool} → n ≤ 0 → borne_by d p v n ≡ whole → false ≡ whole
+unfolding values_before R.repeated
+none_left d p v zero h w = w
+none_left d p v (suc n) h w = absurd (omega arith)
 
 -- ---- The length that is wanted.
 

@@ -72,7 +72,7 @@ fn bears(es: &[u8], ss: &[u8], n: usize, a: u16) -> bool
 fn repeats(es: &[u8], ss: &[u8], n: usize, a: u16) -> bool
     ensures { (d : Description) (p : Places) → Valued es.now ss.now d → result ≡ R.repeated d p (constant_value (node_at d a)).number (values_before d p n) }
 {
-    for m in 0..n {
+    for m in (0..n).rev() {
         if bears(es, ss, m, a) {
             return true;
         }
