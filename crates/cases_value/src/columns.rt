@@ -64,14 +64,10 @@ pub fn count(line: &[u8; 213]) -> u16 {
     small(line[140], line[141], line[142])
 }
 
-// The value that is expected, if one is: a length of 0 stands for none.
-pub fn expected(line: &[u8; 213]) -> Option<Value> {
-    let length = small(line[144], line[145], line[146]);
-    if length == 0 {
-        return None;
-    }
-    Some(Value {
+// The value that is expected, of length 0 where none is.
+pub fn expected(line: &[u8; 213]) -> Value {
+    Value {
         limbs: number(line, 148),
-        length,
-    })
+        length: small(line[144], line[145], line[146]),
+    }
 }
