@@ -17,6 +17,7 @@ pub trait List {
 }
 
 // Registers, and the sequencing register.
+#[derive(Clone, Copy)]
 pub struct RegisterList;
 
 impl List for RegisterList {
@@ -33,6 +34,7 @@ impl List for RegisterList {
     }
 }
 
+#[derive(Clone, Copy)]
 pub struct MemoryList;
 
 impl List for MemoryList {

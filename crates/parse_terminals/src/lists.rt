@@ -8,6 +8,7 @@ use parse_facilities::lists::List;
 use parse_step::{State, Unread};
 use text_words::Word;
 
+#[derive(Clone, Copy)]
 pub struct TerminalList;
 
 impl List for TerminalList {
