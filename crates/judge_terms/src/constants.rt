@@ -44,6 +44,10 @@ pub fn number_zero(exprs: &[u8], n: u16, k: u8) -> bool
 pub fn same_number(exprs: &[u8], n: u16, k: u8, m: u16, j: u8) -> bool
     ensures { result ≡ eqb (number_at 6 (node_size * n + 2) exprs.now + digits_before k n exprs.now) (number_at 6 (node_size * m + 2) exprs.now + digits_before j m exprs.now) }
 {
+    // Most numbers differ in their lowest digit.
+    if digit(exprs, n) != digit(exprs, m) {
+        return false;
+    }
     let (k, j) = (u16::from(k), u16::from(j));
     let shared = k.min(n).min(j).min(m);
     for d in 0..=shared {
