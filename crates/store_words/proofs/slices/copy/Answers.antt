@@ -1,22 +1,28 @@
-use mathlib.Core.List.{List, [], ◌∷◌}
-use mathlib.Core.Path.{◌≡◌, refl, ap, ◌∙◌}
-use Prim.Native.Nat.{ℕ, min, zero, suc}
+use lib.ListN.{get_or, length, set}
+use mathlib.Core.Path.{◌≡◌, refl, sym, ap, ◌∙◌}
+use mathlib.Core.List.{List}
+use Prim.Native.Nat.{ℕ, min}
 use native.Mathlib.Omega.{arith}
-use Rattle.std.proofs.Common.{◌++◌}
-use lib.ListN.{drop, length, take}
 use Rattle.store_layout.specs.Slices.{copied}
+use Rattle.store_layout.proofs.Writing.{copied_at, copied-rest, length-copied, written, written_all, written-more}
 use Rattle.store_words.proofs.slices.copy.Goals as goal
 
-in_parts : (B from : List ℕ) (n : ℕ) → n ≡ min (length B) (length from) → take n from ++ drop n B ≡ copied B from
-unfolding copied
-in_parts [] from zero e = refl
-in_parts [] from (suc n) e = absurd (omega arith)
-in_parts (b ∷ bs) [] zero e = refl
-in_parts (b ∷ bs) [] (suc n) e = absurd (omega arith)
-in_parts (b ∷ bs) (x ∷ xs) zero e = absurd (omega arith)
-in_parts (b ∷ bs) (x ∷ xs) (suc n) e = ap (λ (L : List ℕ). x ∷ L) (in_parts bs xs n (omega arith))
+pub loop-i-init : goal.loop-i-init
+unfolding written
+loop-i-init c =
+    refl
+
+pub loop-i-preserved : goal.loop-i-preserved
+loop-i-preserved c =
+    let s = c.args.s.now in
+    let t = c.args.source.now in
+    ap (λ (X : List ℕ). set X c.loop-i.i (get_or t c.loop-i.i 0)) c.loop-i.invariant
+    ∙ ap (set (written (copied s t) c.loop-i.i s) c.loop-i.i) (sym (copied_at s t c.loop-i.i (omega arith) (omega arith)))
+    ∙ written-more (copied s t) s (length-copied s t) c.loop-i.i (omega arith)
 
 pub returns : goal.returns
 returns c =
-    ap (λ (L : List ℕ). L ++ drop c.min-n.result c.args.s.now) c.copy_from_slice.ensures.after
-    ∙ in_parts c.args.s.now c.args.source.now c.min-n.result c.min-n.ensures
+    let s = c.args.s.now in
+    let t = c.args.source.now in
+    let z : c.loop-i.i ≡ min (length s) (length t) = omega arith in
+    c.loop-i.invariant ∙ written_all (copied s t) s (length-copied s t) c.loop-i.i (omega arith) (λ k g. copied-rest s t k (omega arith))
