@@ -46,13 +46,17 @@ pub record Acts (d : Description) (F O E S : List ℕ) (states : ℕ) : Type 0 w
   pub operations : (n : ℕ) → OperationOf d O n
   pub state_count : length d.states ≡ states
 
--- The sections of an image describe d.
-abbrev pub ActsIn : Description → Sections → Type 0
-ActsIn d x = Acts d x.facilities.now x.operations.now x.expressions.now x.actions.now (length x.states.now / state_size)
+-- The sections of an image, but for its states, describe d, which has so many states.
+abbrev pub ActsOf : Description → Sections → ℕ → Type 0
+ActsOf d x states = Acts d x.facilities.now x.operations.now x.expressions.now x.actions.now states
 
--- A claim about each description by the sections of an image, and each doing that is seen as this view.
-abbrev pub ForActs : Sections → View → (Description → T.Doing InBytes → Type 0) → Type 0
-ForActs x v claim = (d : Description) (c : T.Doing InBytes) → ActsIn d x → v ≡ seen c → claim d c
+-- The same, with as many states as the image's section has.
+abbrev pub ActsIn : Description → Sections → Type 0
+ActsIn d x = ActsOf d x (length x.states.now / state_size)
+
+-- A claim about each description with so many states by the sections of an image, and each doing that is seen as this view.
+abbrev pub ForActs : Sections → ℕ → View → (Description → T.Doing InBytes → Type 0) → Type 0
+ForActs x states v claim = (d : Description) (c : T.Doing InBytes) → ActsOf d x states → v ≡ seen c → claim d c
 
 -- The same, where no more than the sections of facilities and expressions has to be known.
 abbrev pub ForStores : Sections → View → (Description → T.Doing InBytes → Type 0) → Type 0

@@ -56,19 +56,20 @@ fn one(
     pending: &mut [u8],
     mask: &mut [u8],
     limit: usize,
+    states: usize,
     i: usize,
     m: u16,
     a: Action,
     g: Doing,
 ) -> Result<Came, Halted>
     requires { i < length image.now.actions.now / action_size }
-    ensures { IfOk result (CameFalls limit m) × ForActs image.now (viewed g store.old pending.old mask.old) (λ d c. MatchResult result (λ k. Comes d g c k store.new pending.new mask.new (one_done (bytes d) d (T.operation_below (bytes d) d limit) (T.list_below (bytes d) d (T.operation_below (bytes d) d limit) (suc m)) i (meant a) c)) (λ h. halted h ≡ ran_seen (one_done (bytes d) d (T.operation_below (bytes d) d limit) (T.list_below (bytes d) d (T.operation_below (bytes d) d limit) (suc m)) i (meant a) c))) }
+    ensures { IfOk result (CameFalls limit m) × ForActs image.now states (viewed g store.old pending.old mask.old) (λ d c. MatchResult result (λ k. Comes d g c k store.new pending.new mask.new (one_done (bytes d) d (T.operation_below (bytes d) d limit) (T.list_below (bytes d) d (T.operation_below (bytes d) d limit) (suc m)) i (meant a) c)) (λ h. halted h ≡ ran_seen (one_done (bytes d) d (T.operation_below (bytes d) d limit) (T.list_below (bytes d) d (T.operation_below (bytes d) d limit) (suc m)) i (meant a) c))) }
 {
     match a {
         Action::Perform(o) => Ok(along(ways::perform(image.operations, limit, m, o)?, g)),
         Action::When(e, x) => Ok(along(ways::when(image, store, limit, i, m, e, x)?, g)),
         Action::Choose(e, n, x) => Ok(along(ways::choose(image, store, limit, i, m, e, n, x)?, g)),
-        _ => Ok(Came::Done(simple::simple(image, store, pending, mask, a, g)?)),
+        _ => Ok(Came::Done(simple::simple(image, store, pending, mask, states, a, g)?)),
     }
 }
 
@@ -80,18 +81,20 @@ pub fn reach(
     pending: &mut [u8],
     mask: &mut [u8],
     limit: usize,
+    states: usize,
     first: usize,
     count: u16,
     over: u16,
     g: Doing,
 ) -> Result<Reached, Halted>
     requires { first + over < 2 ^ 64 }
-    ensures { IfOk result (λ r. (left_of r ≤ count) × HeldFalls limit r) × ForActs image.now (viewed g store.old pending.old mask.old) (λ d c. MatchResult result (λ r. Reaches d limit r store.new pending.new mask.new (ran_seen (over_done d limit first count over c))) (λ h. halted h ≡ ran_seen (over_done d limit first count over c))) }
+    ensures { IfOk result (λ r. (left_of r ≤ count) × HeldFalls limit r) × ForActs image.now states (viewed g store.old pending.old mask.old) (λ d c. MatchResult result (λ r. Reaches d limit r store.new pending.new mask.new (ran_seen (over_done d limit first count over c))) (λ h. halted h ≡ ran_seen (over_done d limit first count over c))) }
 {
     if count < over {
         return Err(Halted::Stuck(Stuck::RunsOver));
     }
-    let all = image.actions.len() / record_sizes::ACTION;
+    let actions = image.actions;
+    let all = actions.len() / record_sizes::ACTION;
     let mut i = first + over as usize;
     let mut left = count - over;
     let mut h = g;
@@ -99,10 +102,10 @@ pub fn reach(
         if all <= i {
             return Err(Halted::Stuck(Stuck::WrongRecord));
         }
-        let a = image_records::actions::action_at(image.actions, i);
+        let a = image_records::actions::action_at(actions, i);
         left -= 1;
         let x = arms::passed(a);
-        let came = one(image, store, pending, mask, limit, i, left, a, h)?;
+        let came = one(image, store, pending, mask, limit, states, i, left, a, h)?;
         match came {
             Came::Into(list) => {
                 return Ok(Reached::Inside(Held {

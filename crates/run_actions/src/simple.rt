@@ -1,6 +1,5 @@
 // Actions that hold no others.
-ghost use Rattle.std.specs.Prelude.{◌≡◌, ◌/◌, length};
-ghost use Rattle.language.specs.Encode.{state_size};
+ghost use Rattle.std.specs.Prelude.{◌≡◌, length};
 ghost use Rattle.image_records.specs.Actions.{meant};
 ghost use Rattle.store_layout.specs.InBytes.{bytes};
 ghost use Rattle.run_stores.specs.Seen.{did, ran_seen, viewed};
@@ -8,7 +7,6 @@ ghost use Rattle.run_actions.specs.Acts.{ForStores, simple_done};
 
 use crate::sides;
 use image_records::actions::Action;
-use image_records::record_sizes;
 use image_sections::sections::Sections;
 use run_references::worth::{Halted, Stuck};
 use run_stores::doing::{Did, Doing};
@@ -19,10 +17,11 @@ pub fn simple(
     store: &mut [u8],
     pending: &mut [u8],
     mask: &mut [u8],
+    states: usize,
     a: Action,
     g: Doing,
 ) -> Did
-    ensures { ForStores image.now (viewed g store.old pending.old mask.old) (λ d c. (length d.states ≡ length image.now.states.now / state_size → did result store.new pending.new mask.new ≡ ran_seen (simple_done (bytes d) d (meant a) c))) }
+    ensures { ForStores image.now (viewed g store.old pending.old mask.old) (λ d c. (length d.states ≡ states → did result store.new pending.new mask.new ≡ ran_seen (simple_done (bytes d) d (meant a) c))) }
 {
     match a {
         Action::Store(k, l, r) => sides::store_to(image, store, pending, mask, k, l, r, g),
@@ -31,13 +30,13 @@ pub fn simple(
         ),
         Action::Set(l) => sides::set_at(image, store, l, g),
         Action::Goto(s) => {
-            if image.states.len() / record_sizes::STATE <= s as usize {
+            if states <= s as usize {
                 return Err(Halted::Stuck(Stuck::NoState));
             }
             Ok(g.going_to(s))
         }
         Action::Call(s) => {
-            if image.states.len() / record_sizes::STATE <= s as usize {
+            if states <= s as usize {
                 return Err(Halted::Stuck(Stuck::NoState));
             }
             Ok(g.calling(s))

@@ -12,6 +12,7 @@ ghost use Rattle.run_actions.specs.Acts.{ActsIn};
 ghost use Rattle.run_next.specs.Values.{Valued};
 ghost use Rattle.run_end.specs.Stepped.{nothing_in, nothing_seen};
 
+use image_records::record_sizes;
 use image_sections::sections::Sections;
 use image_sections::states;
 use run_actions::run;
@@ -51,6 +52,7 @@ pub fn acted(
         store,
         pending,
         mask,
+        image.states.len() / record_sizes::STATE,
         list.first,
         list.count,
         nothing(),

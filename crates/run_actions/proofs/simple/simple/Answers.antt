@@ -6,15 +6,15 @@ use Rattle.run_actions.specs.Acts.{simple_done}
 use Rattle.run_actions.proofs.ActionLaws.{not-simple}
 use Rattle.run_actions.proofs.simple.simple.Goals as goal
 
-pub returns-then-image-s : goal.returns-then-image-s
+pub returns-then-states-s : goal.returns-then-states-s
 unfolding simple_done
-returns-then-image-s c =
-    λ d x h e k. rw (c.in-Goto.is, k, le-ltb _ _ c.if-image-s.true)
+returns-then-states-s c =
+    λ d x h e k. rw (c.in-Goto.is, k, le-ltb _ _ c.if-states-s.true)
 
-pub returns-then-image-s-2 : goal.returns-then-image-s-2
+pub returns-then-states-s-2 : goal.returns-then-states-s-2
 unfolding simple_done
-returns-then-image-s-2 c =
-    λ d x h e k. rw (c.in-Call.is, k, le-ltb _ _ c.if-image-s-2.true)
+returns-then-states-s-2 c =
+    λ d x h e k. rw (c.in-Call.is, k, le-ltb _ _ c.if-states-s-2.true)
 
 pub returns-in-Store : goal.returns-in-Store
 unfolding simple_done
@@ -31,15 +31,15 @@ unfolding simple_done
 returns-in-Set c =
     λ d x h e k. rw c.in-Set.is (c.set_at.ensures c.args.pending.now c.args.mask.now d x h e)
 
-pub returns-else-image-s : goal.returns-else-image-s
+pub returns-else-states-s : goal.returns-else-states-s
 unfolding simple_done
-returns-else-image-s c =
-    λ d x h e k. rw (c.in-Goto.is, k, lt-ltb _ _ c.if-image-s.false) (ap went (c.going_to.ensures d x c.args.store.now c.args.pending.now c.args.mask.now e))
+returns-else-states-s c =
+    λ d x h e k. rw (c.in-Goto.is, k, lt-ltb _ _ c.if-states-s.false) (ap went (c.going_to.ensures d x c.args.store.now c.args.pending.now c.args.mask.now e))
 
-pub returns-else-image-s-2 : goal.returns-else-image-s-2
+pub returns-else-states-s-2 : goal.returns-else-states-s-2
 unfolding simple_done
-returns-else-image-s-2 c =
-    λ d x h e k. rw (c.in-Call.is, k, lt-ltb _ _ c.if-image-s-2.false) (ap went (c.calling.ensures d x c.args.store.now c.args.pending.now c.args.mask.now e))
+returns-else-states-s-2 c =
+    λ d x h e k. rw (c.in-Call.is, k, lt-ltb _ _ c.if-states-s-2.false) (ap went (c.calling.ensures d x c.args.store.now c.args.pending.now c.args.mask.now e))
 
 pub returns-in-Return : goal.returns-in-Return
 unfolding simple_done
