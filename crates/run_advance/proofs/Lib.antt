@@ -1,3 +1,4 @@
 pub mod CarryLaws
 pub mod CopyLaws
+pub mod SettledLaws
 pub mod WorkLaws

@@ -5,7 +5,7 @@ ghost use Rattle.run_left.specs.Kept.{kept};
 ghost use Rattle.run_advance.specs.Settled.{Settled};
 
 use image_sections::sections::Sections;
-use run_end::outcome::{Ended, Stepped};
+use run_end::outcome::Ended;
 use run_next::record::Record;
 
 // A cycle from the record lent, which is advanced where it stands, or left as found if the cycle does not complete.
@@ -25,7 +25,7 @@ fn advance(
     ended
 }
 
-// A cycle from a record by value, which is lent to be advanced where it stands; the answer has what then stands there.
+// A cycle from a record by value, which is lent to be advanced where it stands: what then stands there, on a stop too, and what the cycle came to.
 pub fn lent(
     image: &Sections,
     r: Record,
@@ -33,14 +33,11 @@ pub fn lent(
     store: &mut [u8],
     pending: &mut [u8],
     mask: &mut [u8],
-) -> Ended
+) -> (Record, Ended)
     requires { (length image.now.facilities.now / facility_size ≤ 65536) × (length image.now.states.now / state_size ≤ 65536) × (r.held ≤ 16) }
-    ensures { Settled image.now r stimulus.now store.old pending.old mask.old result store.new }
+    ensures { Settled image.now r stimulus.now store.old pending.old mask.old result.1 store.new × (result.0 ≡ kept result.1 r) }
 {
     let mut record = r;
-    let s = advance(image, &mut record, stimulus, store, pending, mask)?;
-    Ok(Stepped {
-        record,
-        conflicts: s.conflicts,
-    })
+    let ended = advance(image, &mut record, stimulus, store, pending, mask);
+    (record, ended)
 }

@@ -12,11 +12,11 @@ ghost use Rattle.language.specs.Encode.{facility_size, state_size};
 
 use crate::advance;
 use image_sections::sections::Sections;
-use run_end::outcome::Ended;
+use run_end::outcome::{Ended, Stepped};
 use run_next::record::Record;
 use store_words::slices;
 
-// The cycle on a working copy, with as many bytes as the store has for the copy, for delayed stores that wait, and for their mask.
+// The cycle on a working copy, with as many bytes as the store has for the copy, for delayed stores that wait, and for their mask. A completed cycle's answer has the record that stands where it was lent.
 pub fn carried(
     image: &Sections,
     r: Record,
@@ -31,7 +31,11 @@ pub fn carried(
 {
     slices::copy(work, store);
     slices::zero(mask);
-    let ended = advance::lent(image, r, stimulus, work, pending, mask);
+    let (record, ended) = advance::lent(image, r, stimulus, work, pending, mask);
     run_left::keep_store(&ended, work, store);
-    ended
+    let s = ended?;
+    Ok(Stepped {
+        record,
+        conflicts: s.conflicts,
+    })
 }
