@@ -8,8 +8,9 @@ ghost use Rattle.language.specs.Value as L;
 
 use crate::{marks, numbers, record_sizes};
 
-// Whether the k records before record n are marked as further digits.
-pub fn digits_marked(exprs: &[u8], n: usize, k: u8) -> bool
+// The same of some records, compiled by itself, so that a constant's record is looked at where it stands.
+#[inline(never)]
+fn all_marked(exprs: &[u8], n: usize, k: u8) -> bool
     requires { node_size * n ≤ length exprs.now }
     ensures { result ≡ digits_marked k n exprs.now }
 {
@@ -19,6 +20,14 @@ pub fn digits_marked(exprs: &[u8], n: usize, k: u8) -> bool
         }
     }
     true
+}
+
+// Whether the k records before record n are marked as further digits. Most constants have none.
+pub fn digits_marked(exprs: &[u8], n: usize, k: u8) -> bool
+    requires { node_size * n ≤ length exprs.now }
+    ensures { result ≡ digits_marked k n exprs.now }
+{
+    k == 0 || all_marked(exprs, n, k)
 }
 
 // How many records a constant of l bits has before its own.
