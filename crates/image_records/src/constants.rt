@@ -8,7 +8,7 @@ ghost use Rattle.language.specs.Value as L;
 
 use crate::{marks, numbers, record_sizes};
 
-// The same of some records, compiled by itself, so that a constant's record is looked at where it stands.
+// Whether the k records before record n are marked as further digits. It is compiled by itself, so that a record is read where it is used.
 #[inline(never)]
 fn all_marked(exprs: &[u8], n: usize, k: u8) -> bool
     requires { node_size * n ≤ length exprs.now }
@@ -22,7 +22,7 @@ fn all_marked(exprs: &[u8], n: usize, k: u8) -> bool
     true
 }
 
-// Whether the k records before record n are marked as further digits. Most constants have none.
+// The same: most constants have none.
 pub fn digits_marked(exprs: &[u8], n: usize, k: u8) -> bool
     requires { node_size * n ≤ length exprs.now }
     ensures { result ≡ digits_marked k n exprs.now }

@@ -11,7 +11,7 @@ use image_sections::sections::Sections;
 use run_references::worth::{Halted, Stuck};
 use run_stores::doing::{Did, Doing};
 
-// What such an action does.
+// What such an action does; states are named by numbers below `states`.
 pub fn simple(
     image: &Sections,
     store: &mut [u8],

@@ -13,7 +13,7 @@ pub fn zero(s: &mut [u8])
 pub fn copy(s: &mut [u8], source: &[u8])
     ensures { s.new ≡ copied s.old source.now }
 {
-    // Byte by byte: copied whole, it would be a call of memmove, which no archive for C needs otherwise.
+    // Byte by byte: copied whole, it would be a call of memmove, which the archive for C needs for nothing else.
     for i in 0..s.len().min(source.len()) {
         s[i] = source[i];
     }
