@@ -45,13 +45,24 @@ fn operated(node: Node, v: Value) -> Worth
     }
 }
 
+// The same value, made anew from its numbers: handed on whole it takes along the gap at its end, which is moved through memory at each step.
+fn anew(v: Value) -> Value
+    ensures { valued result ≡ valued v }
+{
+    let limbs = v.limbs;
+    Value {
+        limbs,
+        length: v.length,
+    }
+}
+
 // The worth of record n, which ends a chain from record b, from the worth of b's operand.
 pub fn ended(expressions: &[u8], b: usize, n: usize, w: Worth) -> Worth
     ensures { Climbed expressions.now b n (answered w) (answered result) }
 {
-    let mut v = w?;
+    let mut v = anew(w?);
     for i in b..=n {
-        v = operated(nodes::node_at(expressions, i), v)?;
+        v = anew(operated(nodes::node_at(expressions, i), v)?);
     }
     Ok(v)
 }

@@ -55,15 +55,23 @@ fn limb_down(x: [u64; 4]) -> [u64; 4]
     [x[1], x[2], x[3], 0]
 }
 
-// Shifted to the left by any number of bits, modulo 2 to the 256.
-pub fn left(x: [u64; 4], k: u32) -> [u64; 4]
-    ensures { number result ≡ number x * 2 ^ k % 2 ^ 256 }
+// Some limbs to the left.
+fn limbs_up(x: [u64; 4], n: u32) -> [u64; 4]
+    ensures { number result ≡ number x * 2 ^ (64 * n) % 2 ^ 256 }
 {
     let mut a = x;
-    for _ in 0..k / 64 {
+    for _ in 0..n {
         let up = limb_up(a);
         a = up;
     }
+    a
+}
+
+// Shifted to the left by any number of bits, modulo 2 to the 256. By less than a limb, as most are shifted, there is nothing to count.
+pub fn left(x: [u64; 4], k: u32) -> [u64; 4]
+    ensures { number result ≡ number x * 2 ^ k % 2 ^ 256 }
+{
+    let a = if k < 64 { x } else { limbs_up(x, k / 64) };
     let (l0, l1, l2, l3, _) = left_within(a, k % 64);
     [l0, l1, l2, l3]
 }
