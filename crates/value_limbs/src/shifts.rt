@@ -76,15 +76,23 @@ pub fn left(x: [u64; 4], k: u32) -> [u64; 4]
     [l0, l1, l2, l3]
 }
 
+// Some limbs to the right.
+fn limbs_down(x: [u64; 4], n: u32) -> [u64; 4]
+    ensures { number result ≡ number x / 2 ^ (64 * n) }
+{
+    let mut a = x;
+    for _ in 0..n {
+        let down = limb_down(a);
+        a = down;
+    }
+    a
+}
+
 // Shifted to the right by any number of bits: to the left by the rest of a limb, and a limb down.
 pub fn right(x: [u64; 4], k: u32) -> [u64; 4]
     ensures { number result ≡ number x / 2 ^ k }
 {
-    let mut a = x;
-    for _ in 0..k / 64 {
-        let down = limb_down(a);
-        a = down;
-    }
+    let a = if k < 64 { x } else { limbs_down(x, k / 64) };
     let s = k % 64;
     if s == 0 {
         return a;
