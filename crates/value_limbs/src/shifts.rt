@@ -67,7 +67,7 @@ fn limbs_up(x: [u64; 4], n: u32) -> [u64; 4]
     a
 }
 
-// Shifted to the left by any number of bits, modulo 2 to the 256. By less than a limb, as most are shifted, there is nothing to count.
+// Shifted to the left by any number of bits, modulo 2 to the 256. By less than a limb there is nothing to count.
 pub fn left(x: [u64; 4], k: u32) -> [u64; 4]
     ensures { number result ≡ number x * 2 ^ k % 2 ^ 256 }
 {
